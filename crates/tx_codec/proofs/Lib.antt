@@ -1,0 +1,11 @@
+pub mod Lists
+pub mod Groups
+pub mod KeyReading
+pub mod Numbers
+pub mod Ordered
+pub mod Words
+pub mod Versions
+pub mod Numerals
+pub mod Parts
+pub mod KeyLists
+pub mod LockParts

@@ -1,0 +1,149 @@
+-- What holds of every history, by induction.
+use Rattle.std.proofs.Common.{◌≡◌, ℕ, ◌≤◌, inl, inr, List, [], ◌∷◌, Option, Some, None, refl, sym, ap, subst, ◌∙◌, arith}
+use Rattle.std.specs.Prelude.{Contains}
+use Rattle.tx_types.specs.declared.key.Key.{Key}
+use Rattle.tx_types.specs.declared.mutation.Fate.{Fate}
+use Rattle.tx_types.specs.declared.mutation.Fate.TheVariants as fate
+use Rattle.tx_machine.specs.Machine.{State, Open, Done, Row, Table, table_of, IsRun}
+use Rattle.tx_plan.specs.declared.body.Body.{Body}
+use Rattle.tx_plan.specs.declared.body.Body.TheVariants.{Get, Scan, Prewrite, Commit, BatchRollback, TxnHeartBeat, CheckTxnStatus, CheckSecondaryLocks, ResolveLock, RaiseSafe, LocksBelow, Collect}
+use Rattle.tx_plan.specs.declared.answer.Answer.{Answer}
+use Rattle.tx_plan.specs.declared.answer.Answer.TheVariants.{Committed, AlreadyCommitted, RolledBack, Missing, AlreadyRolledBack}
+use Rattle.tx_plan.specs.Answers.{Answers, start_in}
+use Rattle.tx_core.specs.declared.event.Taken.{Taken}
+use Rattle.tx_core.specs.declared.event.Event.{Event}
+use Rattle.tx_core.specs.declared.event.Event.TheVariants.{Drawn, Began, Declared, Answered, Stopped, Took}
+use Rattle.tx_core.specs.Histories.{History, last, set_at, left}
+use Rattle.tx_core.specs.Decisions.{effect_in, accepted, decision, first_decided, decided}
+use Rattle.tx_core.specs.Allowed.{MayRead, Allowed}
+use Rattle.tx_core.specs.Worlds.{Holds, TellsCommit, TellsAbort, MayTake, MayCome, IsWorldRun}
+use Rattle.tx_core.specs.Shadow.{shadow}
+use Rattle.tx_core.specs.Truth.{HasEnded, EndsBy, IsTrueAnswer, IsTrue, AllTrue}
+use Rattle.tx_core.proofs.Basics.{chosen, some_same}
+use Rattle.tx_core.proofs.View.{View, IsCommitted, IsAborted}
+use Rattle.tx_core.proofs.Reading.{Passes}
+use Rattle.tx_core.proofs.Tables.{Shows, changes_of}
+use Rattle.tx_core.proofs.HistoryView.{shown_in, view}
+use Rattle.tx_core.proofs.Good.{Good, Next, took}
+use Rattle.tx_core.proofs.Gets.{next_get}
+use Rattle.tx_core.proofs.Scans.{next_scan}
+use Rattle.tx_core.proofs.Prewrites.{next_prewrite}
+use Rattle.tx_core.proofs.Commits.{next_commit}
+use Rattle.tx_core.proofs.Rollbacks.{next_rollback}
+use Rattle.tx_core.proofs.HeartBeats.{next_heart_beat}
+use Rattle.tx_core.proofs.StatusChecks.{next_check_status}
+use Rattle.tx_core.proofs.SecondaryChecks.{next_check_secondary}
+use Rattle.tx_core.proofs.Resolves.{next_resolve}
+use Rattle.tx_core.proofs.SafePoints.{next_raise_safe, next_locks_below, next_collect}
+use Rattle.tx_core.proofs.Shown.{ToldShown, told_first, told_next, shown_above}
+use Rattle.tx_core.proofs.Events.{good_first, good_drawn, good_began, good_declared, good_answered, good_stopped, true_outcome}
+
+-- ---- an answer that tells of an end tells what is decided
+
+module _ (table : Table) (w : View) (t : ℕ) (s : Shows table w) where
+  is_decided : (e : Fate) → HasEnded table t e → w.decided t ≡ Done e
+  is_decided e ended =
+      elim (chosen (w.began t) (Some record { changes = changes_of (w.declared t); state = w.decided t }) None (Some record { changes = ended.0; state = Done e }) (sym (s.row t) ∙ ended.1)) [
+        | inl x ↦ ap (λ (r : Row). r.state) (some_same record { changes = changes_of (w.declared t); state = w.decided t } record { changes = ended.0; state = Done e } x.1)
+        | inr x ↦ absurd (cc (x.1))
+      ]
+
+  named_end : (named : Option ℕ) (e : Fate) → named ≡ Some t → EndsBy table named e → w.decided t ≡ Done e
+  named_end named e is ended = is_decided e (subst (λ o. EndsBy table o e) is ended)
+
+  told_commit : (body : Body) (a : Answer) (c : ℕ) → start_in body ≡ Some t → IsTrueAnswer table body a → TellsCommit c a → IsCommitted w.decided t c
+  told_commit body (Committed d) c is truth tells = named_end (start_in body) (fate.Committed d) is truth ∙ ap (λ n. Done (fate.Committed n)) tells
+  told_commit body (AlreadyCommitted d) c is truth tells = named_end (start_in body) (fate.Committed d) is truth ∙ ap (λ n. Done (fate.Committed n)) tells
+  told_commit body _ c is truth tells = absurd tells
+
+  told_end : (body : Body) (a : Answer) → start_in body ≡ Some t → IsTrueAnswer table body a → TellsAbort a → IsAborted w.decided t
+  told_end body RolledBack is truth tells = named_end (start_in body) fate.Aborted is truth
+  told_end body Missing is truth tells = named_end (start_in body) fate.Aborted is truth
+  told_end body AlreadyRolledBack is truth tells = named_end (start_in body) fate.Aborted is truth
+  told_end body _ is truth tells = absurd tells
+
+-- what was decided stays so
+still_decided : (h : History) (x : Taken) (t : ℕ) (e : Fate) → decided h t ≡ Done e → decided (Took x ∷ h) t ≡ Done e
+still_decided h x t e end = ap (first_decided (decision (set_at h t) (accepted (Took x ∷ h) t) (effect_in h x) t)) end ∙ go (decision (set_at h t) (accepted (Took x ∷ h) t) (effect_in h x) t)
+  where
+    go : (s : State) → first_decided s (Done e) ≡ Done e
+    go Open = refl
+    go (Done y) = refl
+
+-- ---- what a region takes
+
+module _ (bounds : List Key) (h : History) (good : Good bounds h) (told : ToldShown bounds h) where
+  -- a read passes by the transactions that it may pass by
+  passes : (r : ℕ) (bypass : List ℕ) → MayRead h r bypass → (t : ℕ) → Contains bypass t → Passes (decided h) (shown_in h) r t
+  passes r bypass may t named = elim (may t named) [ inl gone ↦ inl gone | inr rest ↦ elim rest [ inl done ↦ inr (inl done) | inr shown ↦ inr (inr (shown_above bounds h told t r shown)) ] ]
+
+  next_taken : (n : ℕ) (body : Body) (l : ℕ) (a : Answer) → l ≤ last h → Allowed h body → Holds bounds n body → Answers (left h n) l (last h) body a → Next bounds h (took n body l a)
+  next_taken n (Get b) l a upto allowed holds answers = subst (λ m. Next bounds h (took m (Get b) l a)) holds (next_get bounds h good b l a (passes b.at b.bypass allowed) upto (subst (λ m. Answers (left h m) l (last h) (Get b) a) (sym holds) answers))
+  next_taken n (Scan b) l a upto allowed holds answers = next_scan bounds h good n b l a holds (passes b.at b.bypass allowed) upto answers
+  next_taken n (Prewrite b) l a upto allowed holds answers = subst (λ m. Next bounds h (took m (Prewrite b) l a)) holds (next_prewrite bounds h good b l a allowed upto (subst (λ m. Answers (left h m) l (last h) (Prewrite b) a) (sym holds) answers))
+  next_taken n (Commit b) l a upto allowed holds answers = subst (λ m. Next bounds h (took m (Commit b) l a)) holds (next_commit bounds h good b l a allowed (subst (λ m. Answers (left h m) l (last h) (Commit b) a) (sym holds) answers))
+  next_taken n (BatchRollback b) l a upto allowed holds answers = subst (λ m. Next bounds h (took m (BatchRollback b) l a)) holds (next_rollback bounds h good b l a allowed (subst (λ m. Answers (left h m) l (last h) (BatchRollback b) a) (sym holds) answers))
+  next_taken n (TxnHeartBeat b) l a upto allowed holds answers = subst (λ m. Next bounds h (took m (TxnHeartBeat b) l a)) holds (next_heart_beat bounds h good b l a allowed (subst (λ m. Answers (left h m) l (last h) (TxnHeartBeat b) a) (sym holds) answers))
+  next_taken n (CheckTxnStatus b) l a upto allowed holds answers = subst (λ m. Next bounds h (took m (CheckTxnStatus b) l a)) holds (next_check_status bounds h good b l a allowed (subst (λ m. Answers (left h m) l (last h) (CheckTxnStatus b) a) (sym holds) answers))
+  next_taken n (CheckSecondaryLocks b) l a upto allowed holds answers = subst (λ m. Next bounds h (took m (CheckSecondaryLocks b) l a)) holds (next_check_secondary bounds h good b l a allowed (subst (λ m. Answers (left h m) l (last h) (CheckSecondaryLocks b) a) (sym holds) answers))
+  next_taken n (ResolveLock b) l a upto allowed holds answers = subst (λ m. Next bounds h (took m (ResolveLock b) l a)) holds (next_resolve bounds h good b l a allowed (subst (λ m. Answers (left h m) l (last h) (ResolveLock b) a) (sym holds) answers))
+  next_taken n (RaiseSafe b) l a upto allowed holds answers = next_raise_safe bounds h good n l b a answers
+  next_taken n (LocksBelow b) l a upto allowed holds answers = next_locks_below bounds h good n l b a answers
+  next_taken n (Collect b) l a upto allowed holds answers = next_collect bounds h good n l b a answers
+
+  next : (x : Taken) → MayTake bounds h x → Next bounds h x
+  next x may = next_taken x.region x.body x.loaded x.answer (good.upto x.loaded may.loaded) may.allowed may.holds may.answers
+
+  good_took : (x : Taken) → Next bounds h x → Good bounds (Took x ∷ h)
+  good_took x n =
+      record {
+        sound = n.sound;
+        ends = n.ends;
+        told = λ y among t of c tells.
+            elim among [
+              | inl now ↦ (let same : x ≡ y = cc (now) in told_commit (table_of (shadow (Took x ∷ h))) (view bounds (Took x ∷ h)) t n.sound.shows x.body x.answer c (ap (λ (z : Taken). start_in z.body) same ∙ of) n.truth (subst (λ (z : Taken). TellsCommit c z.answer) (sym same) tells))
+              | inr before ↦ still_decided h x t (fate.Committed c) (good.told y before t of c tells)
+            ];
+        told_abort = λ y among t of tells.
+            elim among [
+              | inl now ↦ (let same : x ≡ y = cc (now) in told_end (table_of (shadow (Took x ∷ h))) (view bounds (Took x ∷ h)) t n.sound.shows x.body x.answer (ap (λ (z : Taken). start_in z.body) same ∙ of) n.truth (subst (λ (z : Taken). TellsAbort z.answer) (sym same) tells))
+              | inr before ↦ still_decided h x t fate.Aborted (good.told_abort y before t of tells)
+            ];
+        upto = λ l e. elim e [ inl now ↦ omega (arith, now) | inr before ↦ good.upto l before ];
+      }
+
+  -- ---- every event
+
+  good_next : (e : Event) → MayCome bounds h e → Good bounds (e ∷ h)
+  good_next (Drawn seat n) may = good_drawn bounds h good seat n may
+  good_next (Began t) may = good_began bounds h good t may.0 may.1
+  good_next (Declared d) may = good_declared bounds h good d may
+  good_next (Answered t o) may = good_answered bounds h good t o may.2
+  good_next (Stopped seat) may = good_stopped bounds h good seat
+  good_next (Took x) may = good_took x (next x may)
+
+  true_next : (e : Event) → MayCome bounds h e → IsTrue (table_of (shadow (e ∷ h))) e
+  true_next (Took x) may = (next x may).truth
+  true_next (Answered t o) may = true_outcome bounds h good t o may.2
+  true_next (Drawn seat n) may = tt
+  true_next (Began t) may = tt
+  true_next (Declared d) may = tt
+  true_next (Stopped seat) may = tt
+
+-- ---- every history
+
+-- what holds of a history, and of what was shown in it
+run_told : (bounds : List Key) (h : History) → IsWorldRun bounds h → Good bounds h × ToldShown bounds h
+run_told bounds [] run = (good_first bounds, told_first bounds)
+run_told bounds (e ∷ h) run =
+    let before = run_told bounds h run.0 in
+    (good_next bounds h before.0 before.1 e run.1, told_next bounds h before.0 before.1 e run.1)
+
+pub shadow_runs : (bounds : List Key) (h : History) → IsWorldRun bounds h → IsRun (shadow h)
+shadow_runs bounds h run = (run_told bounds h run).0.sound.run
+
+pub all_true : (bounds : List Key) (h : History) → IsWorldRun bounds h → AllTrue h
+all_true bounds [] run = tt
+all_true bounds (e ∷ h) run =
+    let before = run_told bounds h run.0 in
+    (all_true bounds h run.0, true_next bounds h before.0 before.1 e run.1)

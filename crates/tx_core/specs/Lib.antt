@@ -1,0 +1,6 @@
+pub mod Histories
+pub mod Decisions
+pub mod Allowed
+pub mod Worlds
+pub mod Shadow
+pub mod Truth

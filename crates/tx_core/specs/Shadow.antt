@@ -1,0 +1,59 @@
+-- The steps of the one-step machine that are read off a history.
+use Rattle.std.specs.Prelude.{ℕ, List, [], ◌∷◌, ◌++◌, Option, Some, None}
+use Rattle.tx_types.specs.declared.mutation.KeyValue.{KeyValue}
+use Rattle.tx_types.specs.declared.mutation.Fate.TheVariants.{Committed, Aborted}
+use Rattle.tx_plan.specs.declared.body.Scan.{Scan}
+use Rattle.tx_plan.specs.declared.body.Body.{Body}
+use Rattle.tx_plan.specs.declared.body.Body.TheVariants as body
+use Rattle.tx_plan.specs.declared.answer.Answer.{Answer}
+use Rattle.tx_plan.specs.declared.answer.Answer.TheVariants.{Found, Nothing, Rows}
+use Rattle.tx_plan.specs.Answers.{start_in}
+use Rattle.tx_machine.specs.declared.step.ScanRead.{ScanRead}
+use Rattle.tx_machine.specs.declared.step.Step.{Step}
+use Rattle.tx_machine.specs.declared.step.Step.TheVariants as step
+use Rattle.tx_machine.specs.Machine.{State, Open, Done}
+use Rattle.tx_core.specs.declared.event.Outcome.{Outcome}
+use Rattle.tx_core.specs.declared.event.Outcome.TheVariants as outcome
+use Rattle.tx_core.specs.declared.event.Taken.{Taken}
+use Rattle.tx_core.specs.declared.event.Event.TheVariants.{Drawn, Began, Declared, Answered, Stopped, Took}
+use Rattle.tx_core.specs.Histories.{History}
+use Rattle.tx_core.specs.Decisions.{decided}
+
+-- the step at which a transaction is decided: what was decided of it before, and what is now
+abbrev pub deciding : ℕ → State → State → List Step
+deciding t Open (Done (Committed c)) = step.Commit t c ∷ []
+deciding t Open (Done Aborted) = step.Abort t ∷ []
+deciding t _ _ = []
+
+abbrev pub deciding_in : History → Taken → Option ℕ → List Step
+deciding_in h x None = []
+deciding_in h x (Some t) = deciding t (decided h t) (decided (Took x ∷ h) t)
+
+-- a scan and its rows, as the machine reads them
+abbrev pub scan_read : Scan → List KeyValue → ScanRead
+scan_read b rows = record { from = b.from; to = b.to; at = b.at; limit = b.limit; rows = rows }
+
+-- the read of an answer that gave a value, none or rows
+abbrev pub reading : Body → Answer → List Step
+reading (body.Get b) (Found v) = step.Read b.key b.at (Some v) ∷ []
+reading (body.Get b) Nothing = step.Read b.key b.at None ∷ []
+reading (body.Scan b) (Rows rows) = step.Scan (scan_read b rows) ∷ []
+reading _ _ = []
+
+-- the answer of a session that knows the fate of its transaction
+abbrev pub answering : ℕ → Outcome → List Step
+answering t (outcome.Committed c) = step.Answer t (Committed c) ∷ []
+answering t outcome.Aborted = step.Answer t Aborted ∷ []
+answering t (outcome.Unknown cause) = []
+answering t outcome.ReadOnly = []
+
+-- the machine's steps, newest first: a draw, a begin, a declaration and an answer where they stand, a commit or an abort at the event
+-- that decides it, and each answered read
+abbrev pub shadow : History → List Step
+shadow [] = []
+shadow (Drawn seat n ∷ h) = step.Draw n ∷ shadow h
+shadow (Began t ∷ h) = step.Begin t ∷ shadow h
+shadow (Declared d ∷ h) = step.Declare d.start d.changes ∷ shadow h
+shadow (Answered t o ∷ h) = answering t o ++ shadow h
+shadow (Stopped seat ∷ h) = shadow h
+shadow (Took x ∷ h) = reading x.body x.answer ++ (deciding_in h x (start_in x.body) ++ shadow h)

@@ -1,0 +1,103 @@
+-- The histories that may happen.
+use Rattle.std.specs.Prelude.{◌≡◌, ◌≢◌, ◌⊎◌, ℕ, ◌<◌, ◌≤◌, true, false, List, [], ◌∷◌, length, Some, None, count_by, IsTrue}
+use Rattle.tx_types.specs.declared.key.Key.{Key}
+use Rattle.tx_plan.specs.declared.body.Body.{Body}
+use Rattle.tx_plan.specs.declared.body.Body.TheVariants.{Get, Scan, Prewrite, Commit, BatchRollback, TxnHeartBeat, CheckTxnStatus, CheckSecondaryLocks, ResolveLock, RaiseSafe, LocksBelow, Collect}
+use Rattle.tx_plan.specs.declared.answer.Answer.{Answer}
+use Rattle.tx_plan.specs.declared.answer.Answer.TheVariants.{Committed, AlreadyCommitted, RolledBack, Missing, AlreadyRolledBack}
+use Rattle.tx_plan.specs.Keys.{key_le}
+use Rattle.tx_plan.specs.Reads.{in_range}
+use Rattle.tx_plan.specs.Answers.{Answers, start_in}
+use Rattle.tx_machine.specs.Keys.{IsDistinct}
+use Rattle.tx_core.specs.declared.event.Declaration.{Declaration}
+use Rattle.tx_core.specs.declared.event.Outcome.{Outcome}
+use Rattle.tx_core.specs.declared.event.Outcome.TheVariants as outcome
+use Rattle.tx_core.specs.declared.event.Taken.{Taken}
+use Rattle.tx_core.specs.declared.event.Event.{Event}
+use Rattle.tx_core.specs.declared.event.Event.TheVariants.{Drawn, Began, Declared, Answered, Stopped, Took}
+use Rattle.tx_core.specs.Histories.{History, last, drawer, began, declared, answered, set_at, left, Among, WasLast}
+use Rattle.tx_core.specs.Decisions.{accepted, greatest}
+use Rattle.tx_core.specs.Allowed.{Allowed}
+
+-- ---- where requests go
+
+-- the region of a key, where these are the bounds between the regions: as many bounds as lie at or below it
+abbrev pub route : List Key → Key → ℕ
+route bounds k = count_by (λ bound. key_le bound k) bounds
+
+-- the region n holds what a request speaks of: its key, or the whole range of a scan, or the request names it
+abbrev pub Holds : List Key → ℕ → Body → Type 0
+Holds bounds n (Get b) = route bounds b.key ≡ n
+Holds bounds n (Scan b) = (k : Key) → IsTrue (in_range b k) → route bounds k ≡ n
+Holds bounds n (Prewrite b) = route bounds b.key ≡ n
+Holds bounds n (Commit b) = route bounds b.key ≡ n
+Holds bounds n (BatchRollback b) = route bounds b.key ≡ n
+Holds bounds n (TxnHeartBeat b) = route bounds b.key ≡ n
+Holds bounds n (CheckTxnStatus b) = route bounds b.key ≡ n
+Holds bounds n (CheckSecondaryLocks b) = route bounds b.key ≡ n
+Holds bounds n (ResolveLock b) = route bounds b.key ≡ n
+Holds bounds n (RaiseSafe b) = b.region ≡ n
+Holds bounds n (LocksBelow b) = b.region ≡ n
+Holds bounds n (Collect b) = b.region ≡ n
+
+-- ---- what a session may answer
+
+-- an answer that says that its transaction is committed at c
+abbrev pub TellsCommit : ℕ → Answer → Type 0
+TellsCommit c (Committed d) = d ≡ c
+TellsCommit c (AlreadyCommitted d) = d ≡ c
+TellsCommit c _ = ⊥
+
+-- an answer that says that its transaction is aborted
+abbrev pub TellsAbort : Answer → Type 0
+TellsAbort RolledBack = Unit {0}
+TellsAbort Missing = Unit {0}
+TellsAbort AlreadyRolledBack = Unit {0}
+TellsAbort _ = ⊥
+
+-- a request of the transaction that started at t was answered so
+pub record WasTold (h : History) (t : ℕ) (Tells : Answer → Type 0) : Type 0 where
+  pub by : Taken
+  pub among : Among h (Took by)
+  pub of : start_in by.body ≡ Some t
+  pub tells : Tells by.answer
+
+-- An answered outcome was told; a commit may also be known from the acceptances of all keys, at the greatest minimum.
+abbrev pub MayAnswer : History → ℕ → Outcome → Type 0
+MayAnswer h t (outcome.Committed c) = WasTold h t (TellsCommit c) ⊎ (greatest (accepted h t) (set_at h t) ≡ Some c)
+MayAnswer h t outcome.Aborted = WasTold h t TellsAbort
+MayAnswer h t (outcome.Unknown cause) = Unit {0}
+MayAnswer h t outcome.ReadOnly = Unit {0}
+
+-- ---- what may come next
+
+-- A transaction declares once, after it began: at least one key, and each once.
+pub record MayDeclare (h : History) (d : Declaration) : Type 0 where
+  pub begun : began h d.start ≡ true
+  pub once : declared h d.start ≡ None
+  pub some : d.changes ≢ []
+  pub distinct : IsDistinct d.changes
+
+-- A region takes a request that is allowed and that it holds, having loaded the last number of some beginning, and answers by the
+-- case tables from what its own events left.
+pub record MayTake (bounds : List Key) (h : History) (x : Taken) : Type 0 where
+  pub region : x.region ≤ length bounds
+  pub allowed : Allowed h x.body
+  pub holds : Holds bounds x.region x.body
+  pub loaded : WasLast h x.loaded
+  pub answers : Answers (left h x.region) x.loaded (last h) x.body x.answer
+
+-- What may come after a history, over regions with these bounds. A draw gives a number above the last; a transaction begins once, at
+-- a number that was drawn; it declares once and its session answers once, after it began.
+abbrev pub MayCome : List Key → History → Event → Type 0
+MayCome bounds h (Drawn seat n) = last h < n
+MayCome bounds h (Began t) = (drawer h t ≢ None) × (began h t ≡ false)
+MayCome bounds h (Declared d) = MayDeclare h d
+MayCome bounds h (Answered t o) = (began h t ≡ true) × (answered h t ≡ false) × MayAnswer h t o
+MayCome bounds h (Stopped seat) = Unit {0}
+MayCome bounds h (Took x) = MayTake bounds h x
+
+-- A world run: each event may come after those before it.
+abbrev pub IsWorldRun : List Key → History → Type 0
+IsWorldRun bounds [] = Unit {0}
+IsWorldRun bounds (e ∷ h) = IsWorldRun bounds h × MayCome bounds h e

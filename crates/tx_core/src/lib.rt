@@ -1,0 +1,20 @@
+//! The events of the whole protocol: what seats and regions do, one atomic step each. Over lists of them stand the
+//! definitions of what has happened, what may happen and what each answer means (specs/), which docs/PROTOCOL.md tells in
+//! words.
+#![tactic(auto)]
+
+mod event;
+mod headline;
+mod seat_no;
+mod stays;
+#[cfg(test)]
+mod tests;
+
+pub use event::{Declaration, Event, Outcome, Taken, UnknownCause};
+pub use headline::every_run;
+pub use seat_no::SeatNo;
+pub use stays::allowed_stays;
+pub use tx_plan::{
+    Answer, BatchRollback, Body, CheckSecondaryLocks, CheckTxnStatus, Collect, Commit, Get, Infos,
+    LocksBelow, Prewrite, RaiseSafe, RegionNo, ResolveLock, Scan, Starts, TxnHeartBeat,
+};

@@ -1,0 +1,14 @@
+pub mod Lists
+pub mod Granted
+pub mod Links
+pub mod Last
+pub mod Ahead
+pub mod Freed
+pub mod Places
+pub mod Join
+pub mod Leave
+pub mod Steps
+pub mod Read
+pub mod Ends
+pub mod Taken
+pub mod Compact

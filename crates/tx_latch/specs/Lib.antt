@@ -1,0 +1,3 @@
+pub mod Slots
+pub mod Asked
+pub mod Queues

@@ -1,0 +1,388 @@
+//! The queues of the slots, linked through the commands: each slot knows the last command in it, and each command knows
+//! those that stand directly behind it in one of its slots, and how many it stands directly behind.
+//!
+//! A command is granted exactly where it stands directly behind none: an earlier one that shares a slot with it has,
+//! at the end of the way through that slot's queue, one directly before it. So the release of a command can grant only
+//! those directly behind it, and they stand in its list in asking order, since each was added as it was asked.
+//!
+//! At most one command stands directly behind another in each of its slots. So a command takes, before it joins, the room
+//! for one number a slot in its own list, and no later one needs memory of it: a release hands out that list, and takes
+//! none.
+//!
+//! A call looks at the commands directly before or behind one in its slots, each by its number, and never at the others
+//! that wait. The places of those that left are dropped once they are more than those that are taken, which costs each
+//! command that left a constant share. So `add` and `remove` cost O(slots of the command), amortised.
+ghost use Rattle.std.specs.Prelude.{◌≡◌, ℕ, ◌+◌, ◌-◌, ◌<◌, ◌≤◌, ◌++◌, ◌∷◌, [], ◌↔◌, ◌&&◌, true, false, IsTrue, IfOk, IfErr, OnErr, map, cond, length, Option, None, Some, slice_index_or, nat_eq};
+ghost use Rattle.std.specs.Option.{option_map, is_some};
+ghost use Rattle.std.specs.List.{list_any, All, slice_get, filter};
+ghost use Rattle.tx_latch.specs.Asked.{contains, cids, is_asked, is_granted, newly_granted, without};
+ghost use Rattle.tx_latch.specs.Queues.{Joinable, Kept, HasRoom, links, link_of, room_of, asked_of, place_of, last_of, room_at, at_place, link_at, followed, lowered, adds, joined, count_links, lowered_in, is_number, has_none_before, Placed, after_slot, adds_slot, replaced};
+
+use crate::cid::Cid;
+use crate::slot::Slot;
+use std::alloc::Global;
+use std::collections::HashMap;
+use tx_types::Fault;
+
+/// A command that stands in the list.
+#[derive(Debug, Drop)]
+pub struct Entry {
+    pub cid: Cid,
+    pub slots: Vec<Slot>,
+    /// How many commands it stands directly behind in one of its slots.
+    pub ahead: usize,
+    /// The commands that stand directly behind it in one of its slots, in asking order.
+    pub behind: Vec<Cid>,
+}
+
+/// The commands that were asked, and the queues of the slots.
+#[derive(Debug, Drop)]
+pub struct Queues {
+    /// The commands by place, in asking order. A place is empty once its command has left.
+    pub asked: Vec<Option<Entry>>,
+    /// The place of each command, by its number.
+    pub places: HashMap<u64, usize>,
+    /// The last command in each slot.
+    pub last: [Option<Cid>; 256],
+}
+
+impl Queues {
+    /// No command.
+    pub fn new(alloc: Global) -> Queues
+        ensures kept { Kept result }
+        ensures empty { asked_of result ≡ [] }
+    {
+        Queues {
+            asked: Vec::new(alloc),
+            places: HashMap::new(alloc),
+            last: [None; 256],
+        }
+    }
+
+    /// Whether a command of this number stands in the list.
+    pub fn is_asked(&self, cid: Cid) -> bool
+        requires { Kept self.now }
+        ensures { result ≡ is_asked (asked_of self.now) cid }
+    {
+        self.places.contains_key(&cid.get())
+    }
+
+    /// Whether a command of this number is granted.
+    pub fn is_granted(&self, cid: Cid) -> bool
+        requires { Kept self.now }
+        ensures { result ≡ is_granted (asked_of self.now) cid }
+    {
+        match self.places.get(&cid.get()).copied() {
+            Some(place) if place < self.asked.len() => is_first(&self.asked[place]),
+            _ => false,
+        }
+    }
+
+    /// Puts a command directly behind another, unless it was put there just now. Says whether it did.
+    fn stand_behind(&mut self, before: Cid, cid: Cid) -> bool
+        requires { (i : ℕ) → place_of self.old before ≡ Some i → HasRoom cid (slice_index_or (links self.old.asked.items) i None) (room_at self.old.asked.items i) }
+        ensures followed { links self.new.asked.items ≡ at_place (place_of self.old before) (followed cid) (links self.old.asked.items) }
+        ensures told { result ≡ adds cid (link_at (place_of self.old before) (links self.old.asked.items)) }
+        ensures places { (c : ℕ) → place_of self.new c ≡ place_of self.old c }
+        ensures last { self.new.last ≡ self.old.last }
+        ensures room { (i : ℕ) → room_at self.old.asked.items i ≤ room_at self.new.asked.items i }
+    {
+        match self.places.get(&before.get()).copied() {
+            Some(place) if place < self.asked.len() => follow(&mut self.asked[place], cid),
+            _ => false,
+        }
+    }
+
+    /// The last command in a slot.
+    fn last(&self, slot: Slot) -> Option<Cid>
+        ensures value { result ≡ last_of self.now slot }
+        ensures small { slot < 256 }
+    {
+        self.last[usize::from(slot.get())]
+    }
+
+    /// Makes a command the last in a slot.
+    fn set_last(&mut self, slot: Slot, cid: Cid)
+        ensures last { (s : ℕ) → last_of self.new s ≡ cond (nat_eq s slot) (Some cid) (last_of self.old s) }
+        ensures asked { self.new.asked ≡ self.old.asked }
+        ensures places { self.new.places ≡ self.old.places }
+    {
+        self.last[usize::from(slot.get())] = Some(cid);
+    }
+
+    /// Puts a command at the end of the queue of a slot. Says whether it then stands directly behind one more.
+    fn join_slot(&mut self, slot: Slot, cid: Cid) -> bool
+        requires { (b i : ℕ) → last_of self.old slot ≡ Some b → place_of self.old b ≡ Some i → HasRoom cid (slice_index_or (links self.old.asked.items) i None) (room_at self.old.asked.items i) }
+        ensures links { links self.new.asked.items ≡ after_slot (last_of self.old slot) (place_of self.old) cid (links self.old.asked.items) }
+        ensures told { result ≡ adds_slot (last_of self.old slot) (place_of self.old) cid (links self.old.asked.items) }
+        ensures last { (s : ℕ) → last_of self.new s ≡ cond (nat_eq s slot) (Some cid) (last_of self.old s) }
+        ensures places { (c : ℕ) → place_of self.new c ≡ place_of self.old c }
+        ensures room { (i : ℕ) → room_at self.old.asked.items i ≤ room_at self.new.asked.items i }
+    {
+        let joined = match self.last(slot) {
+            Some(before) => self.stand_behind(before, cid),
+            None => false,
+        };
+        self.set_last(slot, cid);
+        joined
+    }
+
+    /// Puts a command at the end of the queue of each of its slots. Says how many it then stands directly behind.
+    fn join(&mut self, cid: Cid, slots: &[Slot]) -> usize
+        requires joinable { Joinable self.old }
+        requires absent { is_asked (asked_of self.old) cid ≡ false }
+        requires small { All (λ s. s < 256) slots.now }
+        ensures joined { links self.new.asked.items ≡ map (option_map (joined cid (last_of self.old) slots.now)) (links self.old.asked.items) }
+        ensures ahead { result ≡ count_links (λ l. list_any (λ s. is_number l.cid (last_of self.old s)) slots.now) (links self.old.asked.items) }
+        ensures last { (s : ℕ) → last_of self.new s ≡ cond (contains s slots.now) (Some cid) (last_of self.old s) }
+        ensures places { (c : ℕ) → place_of self.new c ≡ place_of self.old c }
+        ensures room { (i : ℕ) → room_at self.old.asked.items i ≤ room_at self.new.asked.items i }
+    {
+        let mut ahead: usize = 0;
+        for slot in slots {
+            ahead += usize::from(self.join_slot(*slot, cid));
+        }
+        ahead
+    }
+
+    /// Adds a command at the end of the list, and says whether it is granted.
+    pub fn add(&mut self, cid: Cid, slots: &[Slot]) -> Result<bool, Fault>
+        requires kept { Kept self.old }
+        requires absent { is_asked (asked_of self.old) cid ≡ false }
+        ensures kept { Kept self.new }
+        ensures ok { IfOk result (λ now. asked_of self.new ≡ asked_of self.old ++ record { cid = cid; slots = slots.now } ∷ []) }
+        ensures granted { IfOk result (λ now. now ≡ is_granted (asked_of self.new) cid) }
+        ensures same { OnErr result (asked_of self.new ≡ asked_of self.old) }
+        ensures err { IfErr result (λ e. e ≡ Fault.OutOfMemory) }
+    {
+        let alloc = *self.asked.allocator();
+        let own = Vec::from_slice(alloc, slots)?;
+        let behind = Vec::with_capacity(alloc, slots.len())?;
+        let place = self.asked.len();
+        self.asked.push(None)?;
+        self.places.insert(cid.get(), place)?;
+        know_small(slots);
+        let ahead = self.join(cid, slots);
+        self.asked[place] = Some(Entry {
+            cid,
+            slots: own,
+            ahead,
+            behind,
+        });
+        Ok(ahead == 0)
+    }
+
+    /// One stands less before the command of this number.
+    fn lower(&mut self, cid: Cid)
+        ensures lowered { links self.new.asked.items ≡ at_place (place_of self.old cid) lowered (links self.old.asked.items) }
+        ensures places { (c : ℕ) → place_of self.new c ≡ place_of self.old c }
+        ensures last { self.new.last ≡ self.old.last }
+        ensures room { (i : ℕ) → room_at self.old.asked.items i ≤ room_at self.new.asked.items i }
+    {
+        if let Some(place) = self.places.get(&cid.get()).copied()
+            && place < self.asked.len()
+        {
+            lower(&mut self.asked[place]);
+        }
+    }
+
+    /// One stands less before each of these commands.
+    fn lower_all(&mut self, cids: &[Cid])
+        requires { Placed (links self.old.asked.items) (place_of self.old) }
+        ensures lowered { links self.new.asked.items ≡ map (option_map (lowered_in cids.now)) (links self.old.asked.items) }
+        ensures places { (c : ℕ) → place_of self.new c ≡ place_of self.old c }
+        ensures last { self.new.last ≡ self.old.last }
+        ensures room { (i : ℕ) → room_at self.old.asked.items i ≤ room_at self.new.asked.items i }
+    {
+        for cid in cids {
+            self.lower(*cid);
+        }
+    }
+
+    /// Frees those of these slots in which a command is the last.
+    fn free(&mut self, cid: Cid, slots: &[Slot])
+        ensures last { (s : ℕ) → s < 256 → last_of self.new s ≡ cond (contains s slots.now && is_number cid (last_of self.old s)) None (last_of self.old s) }
+        ensures asked { self.new.asked ≡ self.old.asked }
+        ensures places { self.new.places ≡ self.old.places }
+    {
+        for slot in slots {
+            let number = usize::from(slot.get());
+            if is_cid(self.last[number], cid) {
+                self.last[number] = None;
+            }
+        }
+    }
+
+    /// Takes a granted command out of the list, and gives those that stood directly behind it.
+    fn take_out(&mut self, cid: Cid) -> Vec<Cid>
+        requires kept { Kept self.old }
+        requires granted { is_granted (asked_of self.old) cid ≡ true }
+        ensures kept { Kept self.new }
+        ensures left { asked_of self.new ≡ without cid (asked_of self.old) }
+        ensures freed { filter (is_granted (asked_of self.new)) result.items ≡ newly_granted (asked_of self.old) (asked_of self.new) }
+    {
+        let Some(place) = self.places.remove(&cid.get()) else {
+            unreachable!()
+        };
+        let Some(entry) = self.asked[place].take() else {
+            unreachable!()
+        };
+        let Entry {
+            cid: _,
+            slots,
+            ahead: _,
+            behind,
+        } = entry;
+        self.free(cid, slots.as_slice());
+        self.lower_all(behind.as_slice());
+        behind
+    }
+
+    /// Takes a granted command out of the list. Gives those that become granted by it, in asking order.
+    pub fn remove(&mut self, cid: Cid) -> Vec<Cid>
+        requires kept { Kept self.old }
+        requires granted { is_granted (asked_of self.old) cid ≡ true }
+        ensures kept { Kept self.new }
+        ensures left { asked_of self.new ≡ without cid (asked_of self.old) }
+        ensures freed { result.items ≡ newly_granted (asked_of self.old) (asked_of self.new) }
+    {
+        let mut freed = self.take_out(cid);
+        self.compact_when_sparse();
+        freed.retain(|next| self.is_granted(*next));
+        freed
+    }
+
+    /// Drops the empty places where they are more than the others: as many commands have left since the last time, so
+    /// that each leaves for a constant cost.
+    fn compact_when_sparse(&mut self)
+        requires { Kept self.old }
+        ensures kept { Kept self.new }
+        ensures same { asked_of self.new ≡ asked_of self.old }
+    {
+        if self.asked.len() / 2 > self.places.len() {
+            self.compact();
+        }
+    }
+
+    /// Drops the empty places.
+    fn compact(&mut self)
+        requires { Kept self.old }
+        ensures kept { Kept self.new }
+        ensures same { asked_of self.new ≡ asked_of self.old }
+    {
+        self.asked.retain(|place| place.is_some());
+        self.place_all();
+    }
+
+    /// Gives each command the place at which it stands.
+    fn place_all(&mut self)
+        ensures asked { self.new.asked ≡ self.old.asked }
+        ensures last { self.new.last ≡ self.old.last }
+        ensures placed { (c : ℕ) → place_of self.new c ≡ replaced (links self.old.asked.items) 0 c (place_of self.old c) }
+    {
+        for place in 0..self.asked.len() {
+            self.place_one(place);
+        }
+    }
+
+    /// Gives the command in a place that place.
+    fn place_one(&mut self, place: usize)
+        requires { place < length self.old.asked.items }
+        ensures asked { self.new.asked ≡ self.old.asked }
+        ensures last { self.new.last ≡ self.old.last }
+        ensures placed { (c : ℕ) → place_of self.new c ≡ replaced (slice_index_or (links self.old.asked.items) place None ∷ []) place c (place_of self.old c) }
+    {
+        if let Some(cid) = cid_in(&self.asked[place]) {
+            self.set_place(cid, place);
+        }
+    }
+
+    /// Gives a number another place, where it has one.
+    fn set_place(&mut self, cid: Cid, place: usize)
+        ensures asked { self.new.asked ≡ self.old.asked }
+        ensures last { self.new.last ≡ self.old.last }
+        ensures places { (c : ℕ) → place_of self.new c ≡ cond (nat_eq cid c && is_some (place_of self.old c)) (Some place) (place_of self.old c) }
+    {
+        if let Some(found) = self.places.get_mut(&cid.get()) {
+            *found = place;
+        }
+    }
+}
+
+/// The number of the command in a place.
+fn cid_in(place: &Option<Entry>) -> Option<Cid>
+    ensures { result ≡ option_map (λ l. l.cid) (option_map link_of place.now) }
+{
+    match place {
+        Some(entry) => Some(entry.cid),
+        None => None,
+    }
+}
+
+/// Whether this is the number.
+fn is_cid(found: Option<Cid>, cid: Cid) -> bool
+    ensures { result ≡ is_number cid found }
+{
+    match found {
+        Some(found) => cid.get() == found.get(),
+        None => false,
+    }
+}
+
+/// Whether a command stands in this place with none before it.
+fn is_first(place: &Option<Entry>) -> bool
+    ensures { result ≡ has_none_before (option_map link_of place.now) }
+{
+    match place {
+        Some(entry) => entry.ahead == 0,
+        None => false,
+    }
+}
+
+/// Puts a command directly behind that in this place, unless it was put there just now. Says whether it did.
+fn follow(place: &mut Option<Entry>, cid: Cid) -> bool
+    requires { HasRoom cid (option_map link_of place.old) (room_of place.old) }
+    ensures followed { option_map link_of place.new ≡ option_map (followed cid) (option_map link_of place.old) }
+    ensures told { result ≡ adds cid (option_map link_of place.old) }
+    ensures room { room_of place.old ≤ room_of place.new }
+{
+    let Some(entry) = place else {
+        return false;
+    };
+    if ends_with(entry.behind.as_slice(), cid) {
+        return false;
+    }
+    let Ok(()) = entry.behind.push(cid) else {
+        unreachable!()
+    };
+    true
+}
+
+/// One stands less before the command in this place.
+fn lower(place: &mut Option<Entry>)
+    ensures lowered { option_map link_of place.new ≡ option_map lowered (option_map link_of place.old) }
+    ensures room { room_of place.old ≤ room_of place.new }
+{
+    if let Some(entry) = place {
+        entry.ahead = entry.ahead.saturating_sub(1);
+    }
+}
+
+/// Whether this is the last of the numbers.
+fn ends_with(cids: &[Cid], cid: Cid) -> bool
+    ensures { result ≡ is_number cid (slice_get cids.now (length cids.now - 1)) }
+{
+    match cids.last() {
+        Some(last) => cid.get() == last.get(),
+        None => false,
+    }
+}
+
+/// That each number of a slot is below 256.
+fn know_small(slots: &[Slot])
+    ensures { All (λ s. s < 256) slots.now }
+{
+    for slot in slots {
+        let _number = slot.get();
+    }
+}

@@ -1,0 +1,11 @@
+pub mod Basics
+pub mod Marks
+pub mod Commits
+pub mod Distinct
+pub mod Spans
+pub mod Steps
+pub mod CommitSteps
+pub mod CommitEnds
+pub mod Scans
+pub mod ReadSteps
+pub mod Runs

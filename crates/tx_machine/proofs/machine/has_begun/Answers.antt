@@ -1,0 +1,9 @@
+use Rattle.std.proofs.Common.{sym, ap, ◌∙◌, Some, Option}
+use Rattle.tx_machine.specs.declared.machine.Stage.{Stage}
+use Rattle.tx_machine.specs.declared.machine.Stage.TheVariants.{Declared}
+use Rattle.tx_machine.specs.Stands.{row_of}
+use Rattle.tx_machine.proofs.machine.has_begun.Goals as goal
+
+pub returns-in-Some-Declared-clause-some : goal.returns-in-Some-Declared-clause-some
+returns-in-Some-Declared-clause-some c e =
+    (Some c.in-Some-Declared.field-0-0, λ fate. ap (λ (s : Option Stage). row_of s fate) (sym c.in-Some-Declared.ensures.value ∙ ap (λ (s : Stage). Some s) c.in-Some-Declared.field-0-is))

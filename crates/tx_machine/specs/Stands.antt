@@ -1,0 +1,112 @@
+-- What the machine's maps stand for.
+use Rattle.std.specs.Prelude.{◌≡◌, ◌≢◌, ◌⊎◌, ℕ, ◌<◌, ◌≤◌, Bool, true, cond, ◌==◌, bytes_eq, List, [], ◌∷◌, Option, Some, None, is_some}
+use Rattle.std.specs.Cmp.Lexicographic.{slice_cmp}
+use Rattle.std.specs.Ordering.{nat_cmp}
+use Rattle.std.specs.BTreeMap as tree
+use Rattle.std.specs.BTreeMap.{BTreeMap}
+use Rattle.tx_types.specs.declared.key.Key.{Key}
+use Rattle.tx_types.specs.declared.mutation.Change.{Change}
+use Rattle.tx_types.specs.declared.mutation.Mutation.{Mutation}
+use Rattle.tx_types.specs.declared.mutation.Fate.{Fate}
+use Rattle.tx_machine.specs.declared.history.Version.{Version}
+use Rattle.tx_machine.specs.declared.machine.Stage.{Stage}
+use Rattle.tx_machine.specs.declared.machine.Stage.TheVariants.{Drawn, Begun, Declared}
+use Rattle.tx_machine.specs.declared.machine.Machine.{Machine}
+use Rattle.tx_machine.specs.declared.reads.Reads.{Reads}
+use Rattle.tx_machine.specs.declared.step.Step.{Step}
+use Rattle.tx_machine.specs.Keys.{mutation_at, IsVisible, IsDistinct}
+use Rattle.tx_machine.specs.Machine.{State, Open, Done, Row, Rows, Reading, Table, Commits, Overlap, IsRead, Admits, after}
+use Rattle.tx_machine.specs.Histories.{Fates, History, Listed, IsOrderly}
+use Rattle.tx_machine.specs.Noted.{IsNoted}
+use Rattle.tx_machine.specs.Shown.{Index, history_of}
+
+-- the state of a transaction that may have ended
+abbrev pub state_of : Option Fate → State
+state_of None = Open
+state_of (Some fate) = Done fate
+
+-- the row of a transaction that has come so far
+abbrev pub row_of : Option Stage → Option Fate → Option Row
+row_of None fate = None
+row_of (Some Drawn) fate = None
+row_of (Some Begun) fate = Some record { changes = None; state = state_of fate }
+row_of (Some (Declared set)) fate = Some record { changes = Some set; state = state_of fate }
+
+-- the version of a key at a timestamp, if one is listed
+abbrev pub version_in : Option History → ℕ → Option Version
+version_in None c = None
+version_in (Some history) c = tree.get nat_cmp history c
+
+abbrev pub version_of : Index → Key → ℕ → Option Version
+version_of index k c = version_in (history_of index k) c
+
+-- each commit is listed, each version listed is what its transaction declared, and no two commits overlap
+pub record ListsCommits (rows : Rows) (versions : Key → ℕ → Option Version) : Type 0 where
+  pub listed : (k : Key) (u c : ℕ) (m : Mutation) → Commits rows k u c m → versions k c ≡ Some record { start = u; mutation = m }
+  pub declared : (k : Key) (c : ℕ) (v : Version) → versions k c ≡ Some v
+      → (set : List Change) × (state : State) × (rows v.start ≡ Some record { changes = Some set; state = state }) × (mutation_at set k ≡ Some v.mutation)
+  pub above : (k : Key) (u c : ℕ) (m : Mutation) → Commits rows k u c m → u < c
+  pub apart : (k : Key) (u c v d : ℕ) (m n : Mutation) → Commits rows k u c m → Commits rows k v d n → u ≢ v → Overlap u c v d → ⊥
+
+-- the reads that are kept are those that were made, and of each key the greatest
+pub record KeepsReads (reads : List Reading) (noted : Key → ℕ → Type 0) : Type 0 where
+  pub made : (k : Key) (r : ℕ) → noted k r → IsRead reads k r
+  pub kept : (k : Key) (r : ℕ) → IsRead reads k r → (s : ℕ) × (r ≤ s) × noted k s
+
+-- what the maps say is what a table says
+pub record Tells (last : ℕ) (stages : ℕ → Option Stage) (fates : ℕ → Option Fate) (versions : Key → ℕ → Option Version) (noted : Key → ℕ → Type 0) (table : Table) : Type 0 where
+  pub last_is : table.last ≡ last
+  pub drawn : (t : ℕ) → table.drawn t ≡ is_some (stages t)
+  pub range : (t : ℕ) → table.drawn t ≡ true → t ≤ table.last
+  pub row : (t : ℕ) → table.row t ≡ row_of (stages t) (fates t)
+  pub ended : (t : ℕ) (fate : Fate) → fates t ≡ Some fate → table.row t ≢ None
+  pub distinct : (t : ℕ) (set : List Change) (state : State) → table.row t ≡ Some record { changes = Some set; state = state } → IsDistinct set
+  pub commits : ListsCommits table.row versions
+  pub reads : KeepsReads table.reads noted
+
+-- The machine stands for a table.
+abbrev pub StandsFor : Machine → Table → Type 0
+StandsFor machine table = Tells machine.last (tree.get nat_cmp machine.stages) (tree.get nat_cmp machine.fates) (version_of machine.index) (IsNoted machine.reads) table
+
+-- the machine makes the step: its table admits it, and it stands for the table after
+abbrev pub Makes : Machine → Machine → Step → Type 0
+Makes old new step = (table : Table) → StandsFor old table → Admits table step × StandsFor new (after table step)
+
+-- its table does not admit the step
+abbrev pub Refuses : Machine → Step → Type 0
+Refuses old step = (table : Table) → StandsFor old table → Admits table step → ⊥
+
+-- the machine stands for what it stood for
+abbrev pub Keeps : Machine → Machine → Type 0
+Keeps old new = (table : Table) → StandsFor old table → StandsFor new table
+
+-- ---- parts of a step
+
+-- all commits listed are in order on each key
+abbrev pub InOrder : Index → Fates → Type 0
+InOrder index fates = (k : Key) (history : History) → history_of index k ≡ Some history → IsOrderly history fates
+
+-- a commit is listed on a key
+abbrev pub ListedOn : Option History → Fates → ℕ → ℕ → Mutation → Type 0
+ListedOn None fates u c m = ⊥
+ListedOn (Some history) fates u c m = Listed history fates u c m
+
+-- nothing forbids that a change is committed: no listed commit would overlap, and no read at or above covers what it puts or deletes
+pub record IsFree (index : Index) (fates : Fates) (reads : Reads) (t c : ℕ) (change : Change) : Type 0 where
+  pub apart : (u d : ℕ) (m : Mutation) → ListedOn (history_of index change.key) fates u d m → Overlap t c u d → ⊥
+  pub unread : IsVisible change.mutation → (r : ℕ) → IsNoted reads change.key r → r < c
+
+-- a listed commit would overlap, or a read at or above covers what it puts or deletes
+abbrev pub IsBlocked : Index → Fates → Reads → ℕ → ℕ → Change → Type 0
+IsBlocked index fates reads t c change =
+    ((u : ℕ) × (d : ℕ) × (m : Mutation) × ListedOn (history_of index change.key) fates u d m × Overlap t c u d)
+    ⊎ (IsVisible change.mutation × ((r : ℕ) × (c ≤ r) × IsNoted reads change.key r))
+
+-- the versions of all keys, with one more
+abbrev pub put_version : ℕ → ℕ → Change → (Key → ℕ → Option Version) → Key → ℕ → Option Version
+put_version t c x f k q = cond (bytes_eq x.key k) (cond (c == q) (Some record { start = t; mutation = x.mutation }) (f k q)) (f k q)
+
+-- with those of a write set
+abbrev pub puts : ℕ → ℕ → List Change → (Key → ℕ → Option Version) → Key → ℕ → Option Version
+puts t c [] f = f
+puts t c (x ∷ xs) f = puts t c xs (put_version t c x f)

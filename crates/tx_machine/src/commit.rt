@@ -1,0 +1,110 @@
+//! What forbids a commit, and the versions that it lists.
+ghost use Rattle.std.specs.Prelude.{◌≡◌, ℕ, ◌==◌, true, false, cond, Some, take, OnOk, OnErr, IfErr, Contains, IsTrue, ◌↔◌};
+ghost use Rattle.std.specs.Prelude.{bytes_eq};
+ghost use Rattle.tx_types.specs.declared.key.Key.{Key};
+ghost use Rattle.tx_types.specs.declared.mutation.Change.{Change};
+ghost use Rattle.tx_types.specs.declared.mutation.Mutation.{Mutation};
+ghost use Rattle.tx_machine.specs.Keys.{IsVisible, mutation_at};
+ghost use Rattle.tx_machine.specs.Machine.{Overlap};
+ghost use Rattle.tx_machine.specs.Shown.{history_of};
+ghost use Rattle.tx_machine.specs.Stands.{InOrder, IsFree, IsBlocked, ListedOn, version_of, puts};
+
+use crate::history::{Fates, Version, overlaps};
+use crate::machine::Refused;
+use crate::reads::Reads;
+use crate::scan::Index;
+use std::alloc::Global;
+use std::collections::BTreeMap;
+use tx_types::{Change, Key, Mutation, Ts};
+
+fn is_visible(mutation: &Mutation) -> bool
+    ensures { IsTrue result ↔ IsVisible mutation.now }
+{
+    match mutation {
+        Mutation::Put(_) | Mutation::Delete => true,
+        Mutation::Lock => false,
+    }
+}
+
+// Whether a listed commit of the key would overlap.
+fn is_overlapped(index: &Index, fates: &Fates, t: Ts, c: Ts, key: &Key) -> bool
+    ensures some { result ≡ true → (u : ℕ) × (d : ℕ) × (m : Mutation) × ListedOn (history_of index.now key.now) fates.now u d m × Overlap t c u d }
+    ensures none { result ≡ false → InOrder index.now fates.now → (u d : ℕ) (m : Mutation) → ListedOn (history_of index.now key.now) fates.now u d m
+        → Overlap t c u d → ⊥ }
+{
+    match index.get(key) {
+        None => false,
+        Some(history) => overlaps(history, fates, t, c),
+    }
+}
+
+// Whether nothing forbids that the change is committed.
+fn is_free(index: &Index, fates: &Fates, reads: &Reads, t: Ts, c: Ts, change: &Change) -> bool
+    ensures free { result ≡ true → InOrder index.now fates.now → IsFree index.now fates.now reads.now t c change.now }
+    ensures blocked { result ≡ false → IsBlocked index.now fates.now reads.now t c change.now }
+{
+    if is_overlapped(index, fates, t, c, &change.key) {
+        return false;
+    }
+    if !is_visible(&change.mutation) {
+        return true;
+    }
+    !reads.covers_from(&change.key, c)
+}
+
+// Whether nothing forbids that the changes are committed.
+pub(crate) fn are_free(
+    index: &Index,
+    fates: &Fates,
+    reads: &Reads,
+    t: Ts,
+    c: Ts,
+    set: &[Change],
+) -> bool
+    ensures free { result ≡ true → InOrder index.now fates.now
+        → (k : Key) (m : Mutation) → mutation_at set.now k ≡ Some m → IsFree index.now fates.now reads.now t c record { key = k; mutation = m } }
+    ensures blocked { result ≡ false → (change : Change) × Contains set.now change × IsBlocked index.now fates.now reads.now t c change }
+{
+    for change in set {
+        if !is_free(index, fates, reads, t, c, change) {
+            return false;
+        }
+    }
+    true
+}
+
+// Lists a version of a key at a timestamp.
+fn list(alloc: Global, index: &mut Index, key: &Key, c: Ts, version: Version) -> Result<(), Refused>
+    ensures ok { OnOk result ((k : Key) (q : ℕ) → version_of index.new k q
+        ≡ cond (bytes_eq key.now k) (cond (c == q) (Some version) (version_of index.old k q)) (version_of index.old k q)) }
+    ensures same { OnErr result ((k : Key) (q : ℕ) → version_of index.new k q ≡ version_of index.old k q) }
+    ensures err { IfErr result (λ e. e ≡ Refused.Memory) }
+{
+    if let Some(history) = index.get_mut(key) {
+        history.insert(c, version)?;
+        return Ok(());
+    }
+    let mut history = BTreeMap::new(alloc);
+    history.insert(c, version)?;
+    index.insert(key.clone()?, history)?;
+    Ok(())
+}
+
+// Lists the versions of a write set. Where memory is refused, those of its beginning are listed.
+pub(crate) fn list_all(
+    alloc: Global,
+    index: &mut Index,
+    t: Ts,
+    c: Ts,
+    set: &[Change],
+) -> Result<(), Refused>
+    ensures all { OnOk result ((k : Key) (q : ℕ) → version_of index.new k q ≡ puts t c set.now (version_of index.old) k q) }
+    ensures some { OnErr result ((n : ℕ) × ((k : Key) (q : ℕ) → version_of index.new k q ≡ puts t c (take n set.now) (version_of index.old) k q)) }
+    ensures err { IfErr result (λ e. e ≡ Refused.Memory) }
+{
+    for change in set {
+        let mutation = change.mutation.clone()?;
+        list(alloc, index, &change.key, c, Version { start: t, mutation })?;
+    }
+    Ok(())
+}

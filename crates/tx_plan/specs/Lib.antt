@@ -1,0 +1,17 @@
+pub mod Keys
+pub mod Cells
+pub mod Reads
+pub mod Traces
+pub mod Stored
+pub mod Owned
+pub mod Tables
+pub mod cases
+pub mod Answers
+pub mod Changes
+pub mod Settling
+pub mod Blocking
+pub mod Locking
+pub mod Walks
+pub mod Whole
+pub mod Plain
+pub mod Collecting

@@ -1,0 +1,41 @@
+-- Scan: the first keys of a range that have a value at a timestamp.
+use Rattle.std.specs.Prelude.{◌≡◌, ◌⊎◌, ℕ, ◌<◌, ◌≤◌, ◌&&◌, List, length, IsTrue}
+use Rattle.tx_types.specs.declared.key.Key.{Key}
+use Rattle.tx_types.specs.declared.mutation.KeyValue.{KeyValue}
+use Rattle.tx_plan.specs.declared.body.Scan.{Scan}
+use Rattle.tx_plan.specs.declared.answer.Answer.{Answer}
+use Rattle.tx_plan.specs.declared.answer.Answer.TheVariants.{Rows, KeyIsLocked, BelowSafePoint, FutureTimestamp}
+use Rattle.tx_plan.specs.Tables.{Case}
+use Rattle.tx_plan.specs.Keys.{key_le, key_lt}
+use Rattle.tx_plan.specs.Cells.{Lock, Cells, Region, info_of, with_max_read}
+use Rattle.tx_plan.specs.Reads.{Blocks, in_range, covered, Walked, raised}
+
+-- The walk ends well: at the end of the range, or with `limit` rows.
+pub record GivesRows (cells : Key → Cells) (b : Scan) (a : Answer) : Type 0 where
+  pub rows : List KeyValue
+  pub answer : a ≡ Rows rows
+  pub upto : length rows ≤ b.limit
+  pub walked : Walked cells b.at b.bypass (covered b rows) rows
+
+-- The walk ends at a key whose lock blocks it: the keys before it are free and give fewer than `limit` rows.
+pub record MeetsLock (cells : Key → Cells) (b : Scan) (a : Answer) : Type 0 where
+  pub key : Key
+  pub lock : Lock
+  pub rows : List KeyValue
+  pub answer : a ≡ KeyIsLocked (info_of key lock)
+  pub inside : IsTrue (in_range b key)
+  pub blocks : Blocks (cells key).lock b.at b.bypass lock
+  pub before : Walked cells b.at b.bypass (λ k. key_le b.from k && key_lt k key) rows
+  pub below : length rows < b.limit
+
+-- A scan below the safe point or above the last number loaded is refused; else the keys of its range are walked in rising order:
+-- a lock that blocks the read ends the walk and there are no rows, a key with a value gives a row, `limit` rows end the walk.
+abbrev pub AnswersScan : (Key → Cells) → ℕ → ℕ → Scan → Answer → Type 0
+AnswersScan cells safe loaded b a =
+    Case (b.at < safe) (a ≡ BelowSafePoint safe)
+    (Case (loaded < b.at) (a ≡ FutureTimestamp loaded)
+    (MeetsLock cells b a ⊎ GivesRows cells b a))
+
+-- It raises the greatest timestamp read, also where a lock stopped it.
+abbrev pub leaves_scan : Region → Scan → Answer → Region
+leaves_scan region b a = with_max_read region (raised a b.at region.max_read)

@@ -1,0 +1,309 @@
+//! What is asked of a region: one struct a command, and `Body`, which is any of them.
+ghost use Rattle.std.specs.Prelude.{◌≡◌, IfOk, IfErr};
+
+use crate::lists::Starts;
+use crate::region_no::RegionNo;
+use tx_types::{Fate, Fault, Key, Mode, Mutation, Secondaries, Ts};
+
+/// Asks for the value of a key at a timestamp.
+#[derive(Debug, Drop)]
+pub struct Get {
+    pub key: Key,
+    pub at: Ts,
+    /// The transactions whose locks do not stop this read.
+    pub bypass: Starts,
+}
+
+impl Get {
+    /// The same.
+    pub fn clone(&self) -> Result<Get, Fault>
+        ensures ok { IfOk result (λ copy. copy ≡ self.now) }
+        ensures err { IfErr result (λ e. e ≡ Fault.OutOfMemory) }
+    {
+        let key = self.key.clone()?;
+        let bypass = self.bypass.clone()?;
+        Ok(Get {
+            key,
+            at: self.at,
+            bypass,
+        })
+    }
+}
+
+/// Asks for the first `limit` keys with a value at a timestamp, from `from` up to but not including `to`.
+#[derive(Debug, Drop)]
+pub struct Scan {
+    pub from: Key,
+    pub to: Key,
+    pub at: Ts,
+    pub limit: u32,
+    /// The transactions whose locks do not stop this read.
+    pub bypass: Starts,
+}
+
+impl Scan {
+    /// The same.
+    pub fn clone(&self) -> Result<Scan, Fault>
+        ensures ok { IfOk result (λ copy. copy ≡ self.now) }
+        ensures err { IfErr result (λ e. e ≡ Fault.OutOfMemory) }
+    {
+        let from = self.from.clone()?;
+        let to = self.to.clone()?;
+        let bypass = self.bypass.clone()?;
+        Ok(Scan {
+            from,
+            to,
+            at: self.at,
+            limit: self.limit,
+            bypass,
+        })
+    }
+}
+
+/// Asks for a lock on a key, as the first phase of a commit.
+#[derive(Debug, Drop)]
+pub struct Prewrite {
+    pub key: Key,
+    pub mutation: Mutation,
+    /// The start timestamp of the transaction.
+    pub start: Ts,
+    pub primary: Key,
+    pub mode: Mode,
+    /// The greatest commit timestamp that an async lock may promise; none is no bound.
+    pub max_commit: Option<Ts>,
+    /// How long after its start the lock is live, in ticks.
+    pub ttl: u32,
+    /// On the primary of an async transaction its other keys, elsewhere empty.
+    pub others: Secondaries,
+}
+
+impl Prewrite {
+    /// The same.
+    pub fn clone(&self) -> Result<Prewrite, Fault>
+        ensures ok { IfOk result (λ copy. copy ≡ self.now) }
+        ensures err { IfErr result (λ e. e ≡ Fault.OutOfMemory) }
+    {
+        let key = self.key.clone()?;
+        let mutation = self.mutation.clone()?;
+        let primary = self.primary.clone()?;
+        let others = self.others.clone()?;
+        Ok(Prewrite {
+            key,
+            mutation,
+            start: self.start,
+            primary,
+            mode: self.mode,
+            max_commit: self.max_commit,
+            ttl: self.ttl,
+            others,
+        })
+    }
+}
+
+/// Asks that a transaction's lock on a key become a commit record.
+#[derive(Debug, Drop)]
+pub struct Commit {
+    pub key: Key,
+    pub start: Ts,
+    pub commit: Ts,
+}
+
+impl Commit {
+    /// The same.
+    pub fn clone(&self) -> Result<Commit, Fault>
+        ensures ok { IfOk result (λ copy. copy ≡ self.now) }
+        ensures err { IfErr result (λ e. e ≡ Fault.OutOfMemory) }
+    {
+        let key = self.key.clone()?;
+        Ok(Commit {
+            key,
+            start: self.start,
+            commit: self.commit,
+        })
+    }
+}
+
+/// Asks that a transaction be rolled back on a key.
+#[derive(Debug, Drop)]
+pub struct BatchRollback {
+    pub key: Key,
+    pub start: Ts,
+}
+
+impl BatchRollback {
+    /// The same.
+    pub fn clone(&self) -> Result<BatchRollback, Fault>
+        ensures ok { IfOk result (λ copy. copy ≡ self.now) }
+        ensures err { IfErr result (λ e. e ≡ Fault.OutOfMemory) }
+    {
+        let key = self.key.clone()?;
+        Ok(BatchRollback {
+            key,
+            start: self.start,
+        })
+    }
+}
+
+/// Asks that a transaction's lock on its primary live at least so long.
+#[derive(Debug, Drop)]
+pub struct TxnHeartBeat {
+    pub key: Key,
+    pub start: Ts,
+    /// How long after its start the lock is to be live, in ticks.
+    pub ttl: u32,
+}
+
+impl TxnHeartBeat {
+    /// The same.
+    pub fn clone(&self) -> Result<TxnHeartBeat, Fault>
+        ensures ok { IfOk result (λ copy. copy ≡ self.now) }
+        ensures err { IfErr result (λ e. e ≡ Fault.OutOfMemory) }
+    {
+        let key = self.key.clone()?;
+        Ok(TxnHeartBeat {
+            key,
+            start: self.start,
+            ttl: self.ttl,
+        })
+    }
+}
+
+/// Asks the primary what has become of its transaction, and pushes or rolls back its lock where that is due.
+#[derive(Debug, Drop)]
+pub struct CheckTxnStatus {
+    pub key: Key,
+    pub start: Ts,
+    /// The timestamp of the read that was stopped.
+    pub caller: Ts,
+    /// The time against which the lock's time to live is held.
+    pub current: Ts,
+    /// Whether a rollback is left where nothing of the transaction stands.
+    pub rollback_if_not_exist: bool,
+    /// Whether an async lock is treated as a two-phase one.
+    pub force_sync_commit: bool,
+}
+
+impl CheckTxnStatus {
+    /// The same.
+    pub fn clone(&self) -> Result<CheckTxnStatus, Fault>
+        ensures ok { IfOk result (λ copy. copy ≡ self.now) }
+        ensures err { IfErr result (λ e. e ≡ Fault.OutOfMemory) }
+    {
+        let key = self.key.clone()?;
+        Ok(CheckTxnStatus {
+            key,
+            start: self.start,
+            caller: self.caller,
+            current: self.current,
+            rollback_if_not_exist: self.rollback_if_not_exist,
+            force_sync_commit: self.force_sync_commit,
+        })
+    }
+}
+
+/// Asks what stands of an async transaction on a key, and leaves a rollback where nothing does.
+#[derive(Debug, Drop)]
+pub struct CheckSecondaryLocks {
+    pub key: Key,
+    pub start: Ts,
+}
+
+impl CheckSecondaryLocks {
+    /// The same.
+    pub fn clone(&self) -> Result<CheckSecondaryLocks, Fault>
+        ensures ok { IfOk result (λ copy. copy ≡ self.now) }
+        ensures err { IfErr result (λ e. e ≡ Fault.OutOfMemory) }
+    {
+        let key = self.key.clone()?;
+        Ok(CheckSecondaryLocks {
+            key,
+            start: self.start,
+        })
+    }
+}
+
+/// Asks that the lock of a transaction whose fate is known be committed or rolled back.
+#[derive(Debug, Drop)]
+pub struct ResolveLock {
+    pub key: Key,
+    pub start: Ts,
+    pub fate: Fate,
+}
+
+impl ResolveLock {
+    /// The same.
+    pub fn clone(&self) -> Result<ResolveLock, Fault>
+        ensures ok { IfOk result (λ copy. copy ≡ self.now) }
+        ensures err { IfErr result (λ e. e ≡ Fault.OutOfMemory) }
+    {
+        let key = self.key.clone()?;
+        Ok(ResolveLock {
+            key,
+            start: self.start,
+            fate: self.fate,
+        })
+    }
+}
+
+/// Asks a region to raise its safe point.
+#[derive(Clone, Copy, Debug)]
+pub struct RaiseSafe {
+    pub region: RegionNo,
+    /// The safe point that is wanted.
+    pub safe: Ts,
+}
+
+/// Asks a region for its locks that started below a safe point.
+#[derive(Clone, Copy, Debug)]
+pub struct LocksBelow {
+    pub region: RegionNo,
+    pub safe: Ts,
+}
+
+/// Asks a region to drop the records below its safe point that no read needs any more.
+#[derive(Clone, Copy, Debug)]
+pub struct Collect {
+    pub region: RegionNo,
+    /// The region's safe point.
+    pub safe: Ts,
+}
+
+/// What is asked of a region, of any command.
+#[derive(Debug, Drop)]
+pub enum Body {
+    Get(Get),
+    Scan(Scan),
+    Prewrite(Prewrite),
+    Commit(Commit),
+    BatchRollback(BatchRollback),
+    TxnHeartBeat(TxnHeartBeat),
+    CheckTxnStatus(CheckTxnStatus),
+    CheckSecondaryLocks(CheckSecondaryLocks),
+    ResolveLock(ResolveLock),
+    RaiseSafe(RaiseSafe),
+    LocksBelow(LocksBelow),
+    Collect(Collect),
+}
+
+impl Body {
+    /// The same.
+    pub fn clone(&self) -> Result<Body, Fault>
+        ensures ok { IfOk result (λ copy. copy ≡ self.now) }
+        ensures err { IfErr result (λ e. e ≡ Fault.OutOfMemory) }
+    {
+        match self {
+            Body::Get(body) => Ok(Body::Get(body.clone()?)),
+            Body::Scan(body) => Ok(Body::Scan(body.clone()?)),
+            Body::Prewrite(body) => Ok(Body::Prewrite(body.clone()?)),
+            Body::Commit(body) => Ok(Body::Commit(body.clone()?)),
+            Body::BatchRollback(body) => Ok(Body::BatchRollback(body.clone()?)),
+            Body::TxnHeartBeat(body) => Ok(Body::TxnHeartBeat(body.clone()?)),
+            Body::CheckTxnStatus(body) => Ok(Body::CheckTxnStatus(body.clone()?)),
+            Body::CheckSecondaryLocks(body) => Ok(Body::CheckSecondaryLocks(body.clone()?)),
+            Body::ResolveLock(body) => Ok(Body::ResolveLock(body.clone()?)),
+            Body::RaiseSafe(body) => Ok(Body::RaiseSafe(*body)),
+            Body::LocksBelow(body) => Ok(Body::LocksBelow(*body)),
+            Body::Collect(body) => Ok(Body::Collect(*body)),
+        }
+    }
+}

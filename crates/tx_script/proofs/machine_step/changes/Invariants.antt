@@ -1,0 +1,6 @@
+use Rattle.tx_script.specs.MachineSteps.{change_of}
+use Rattle.tx_script.proofs.Members.{ReadSoFar}
+use Rattle.tx_script.proofs.machine_step.changes.Given as goal
+
+abbrev pub invariant-loop-item : goal.invariant-loop-item
+invariant-loop-item l = ReadSoFar change_of l.item-items l.item-index l.changes

@@ -1,0 +1,28 @@
+-- The lines of a text.
+use Rattle.std.specs.Prelude.{◌≡◌, ℕ, ◌<◌, ◌≤◌, ◌==◌, List, [], ◌∷◌, length, if◌then◌else◌, Option, Some}
+use Rattle.tx_script.specs.declared.lines.Found.{Found}
+use Rattle.tx_script.specs.declared.lines.Found.TheVariants.{Line, Long, End}
+
+-- the lines, with the byte at the front of the first
+abbrev pub onto_first : ℕ → List (List ℕ) → List (List ℕ)
+onto_first x [] = (x ∷ []) ∷ []
+onto_first x (line ∷ lines) = (x ∷ line) ∷ lines
+
+-- the lines of a text, each ended by a newline or by the end: the last newline begins no line
+abbrev pub lines_of : List ℕ → List (List ℕ)
+lines_of [] = []
+lines_of (x ∷ xs) = if x == 10 then [] ∷ lines_of xs else onto_first x (lines_of xs)
+
+-- the most bytes of a line, without its newline
+abbrev pub max_line : ℕ
+max_line = 524288
+
+-- the most lines of a text
+abbrev pub max_lines : ℕ
+max_lines = 1000000
+
+-- what stands first in the bytes, and what is left of them
+abbrev pub Reads : List ℕ → Option (List ℕ) → Found → List ℕ → Type 0
+Reads bytes left Line line = (rest : List ℕ) × (left ≡ Some rest) × (length line ≤ max_line) × (lines_of bytes ≡ line ∷ lines_of rest)
+Reads bytes left Long line = (first : List ℕ) × (more : List (List ℕ)) × (max_line < length first) × (lines_of bytes ≡ first ∷ more)
+Reads bytes left End line = bytes ≡ []

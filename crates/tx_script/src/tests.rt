@@ -1,0 +1,260 @@
+//! Traces with their verdicts, on readers and writers in memory, and on some that fail.
+ghost use Rattle.std.specs.Prelude.{Some};
+
+use crate::checker::line_step;
+use crate::{Broken, End, check};
+use std::alloc::Global;
+use std::io;
+use std::io::{ErrorKind, Read, Write};
+use std::process::Abort;
+use std::test::Fail;
+use tx_types::Cause;
+use tx_types::limits::{MAX_KEY_BYTES, MAX_LINE_BYTES, MAX_LINES, MAX_VALUE_BYTES};
+
+static COMMIT_THEN_READ: &str =
+    "[\"draw\",3]\n[\"begin\",3]\n[\"declare\",3,[[\"a\",\"put\",\"x\"]]]\n[\"commit\",3,4]\n[\"draw\",4]\n[\"read\",4,\"a\",\"x\"]\n[\"read\",4,\"b\",null]\n";
+
+// Checks that the trace ends so, and that this alone is written.
+fn says<R: Abort + AllocGlobal>(rt: &R, trace: &[u8], end: End, text: &str) -> Result<(), Fail> {
+    let mut reader = trace;
+    let mut writer = Vec::new(rt.alloc());
+    let ended = check(rt.alloc(), &mut reader, &mut writer)?;
+    assert_eq!(rt; writer.as_slice(), text.as_bytes());
+    assert_eq!(rt; ended, end);
+    Ok(())
+}
+
+#[test]
+fn empty_trace_is_a_run(rt: HostRuntime) -> Result<(), Fail> {
+    says(&rt, b"", End::Well, "[\"check\",\"yes\"]\n")
+}
+
+#[test]
+fn refused_read_is_named(rt: HostRuntime) -> Result<(), Fail> {
+    let trace = "[\"draw\",1]\n[\"begin\",1]\n[\"read\",1,\"a\",\"x\"]\n";
+    says(&rt, trace.as_bytes(), End::No, "[\"check\",\"no\",3]\n")
+}
+
+#[test]
+fn commit_then_read(rt: HostRuntime) -> Result<(), Fail> {
+    says(
+        &rt,
+        COMMIT_THEN_READ.as_bytes(),
+        End::Well,
+        "[\"check\",\"yes\"]\n",
+    )
+}
+
+#[test]
+fn lost_update_is_refused(rt: HostRuntime) -> Result<(), Fail> {
+    let trace =
+        "[\"draw\",1]\n[\"begin\",1]\n[\"draw\",2]\n[\"begin\",2]\n[\"declare\",1,[[\"a\",\"put\",\"x\"]]]\n[\"declare\",2,[[\"a\",\"lock\"]]]\n[\"draw\",3]\n[\"commit\",2,3]\n[\"draw\",4]\n[\"commit\",1,4]\n";
+    says(&rt, trace.as_bytes(), End::No, "[\"check\",\"no\",10]\n")
+}
+
+#[test]
+fn commit_below_a_read_is_refused(rt: HostRuntime) -> Result<(), Fail> {
+    let trace =
+        "[\"draw\",1]\n[\"begin\",1]\n[\"declare\",1,[[\"a\",\"put\",\"x\"]]]\n[\"draw\",2]\n[\"read\",2,\"a\",null]\n[\"commit\",1,2]\n";
+    says(&rt, trace.as_bytes(), End::No, "[\"check\",\"no\",6]\n")
+}
+
+#[test]
+fn lock_commits_below_a_read(rt: HostRuntime) -> Result<(), Fail> {
+    let trace =
+        "[\"draw\",1]\n[\"begin\",1]\n[\"declare\",1,[[\"a\",\"lock\"]]]\n[\"draw\",2]\n[\"read\",2,\"a\",null]\n[\"commit\",1,2]\n";
+    says(&rt, trace.as_bytes(), End::Well, "[\"check\",\"yes\"]\n")
+}
+
+// Every kind of step, some with white space, and no newline at the end.
+#[test]
+fn every_step_is_read(rt: HostRuntime) -> Result<(), Fail> {
+    let trace =
+        " [ \"draw\" , 1 ]\r\n[\"begin\",1]\n[\"declare\",1,[[\"\\u00e9\",\"put\",\"\"],[\"b\",\"delete\"],[\"c\",\"lock\"]]]\n[\"commit\",1,2]\n[\"answer\",1,\"committed\",2]\n[\"draw\",5]\n[\"begin\",5]\n[\"abort\",5]\n[\"answer\",5,\"aborted\"]\n[\"scan\",5,\"a\",\"\u{ff}\",1024,[[\"é\",\"\"]]]";
+    says(&rt, trace.as_bytes(), End::Well, "[\"check\",\"yes\"]\n")
+}
+
+#[test]
+fn broken_json_is_named(rt: HostRuntime) -> Result<(), Fail> {
+    for trace in [
+        "[\"draw\",1]\n[\"draw\",2\n",
+        "[\"draw\",1]\n\n",
+        "[\"draw\",1]\n[\"draw\",2] 3",
+    ] {
+        says(
+            &rt,
+            trace.as_bytes(),
+            End::Faulted,
+            "[2,\"E16\",\"json\"]\n",
+        )?;
+    }
+    says(
+        &rt,
+        b"[\"read\",1,\"\xff\",null]\n",
+        End::Faulted,
+        "[1,\"E16\",\"json\"]\n",
+    )
+}
+
+#[test]
+fn value_that_is_no_step_is_named(rt: HostRuntime) -> Result<(), Fail> {
+    for line in [
+        "{\"draw\":1}",
+        "[]",
+        "[1,2]",
+        "[\"draw\"]",
+        "[\"draw\",1,2]",
+        "[\"draw\",-1]",
+        "[\"draw\",1.0]",
+        "[\"draw\",18446744073709551616]",
+        "[\"draw\",\"1\"]",
+        "[\"commit\",1]",
+        "[\"answer\",1,\"open\"]",
+        "[\"answer\",1,\"aborted\",2]",
+        "[\"answer\",1,\"committed\"]",
+        "[\"declare\",1,[\"a\"]]",
+        "[\"declare\",1,[[\"a\",\"put\"]]]",
+        "[\"declare\",1,[[\"a\",\"lock\",\"x\"]]]",
+        "[\"declare\",1,[[\"\",\"lock\"]]]",
+        "[\"read\",1,\"\",null]",
+        "[\"read\",1,\"a\",false]",
+        "[\"read\",1,\"a\"]",
+        "[\"scan\",1,\"a\",\"b\",0,[]]",
+        "[\"scan\",1,\"a\",\"b\",1025,[]]",
+        "[\"scan\",1,\"a\",\"b\",1,[[\"a\"]]]",
+        "[\"Draw\",1]",
+    ] {
+        says(&rt, line.as_bytes(), End::Faulted, "[1,\"E16\",\"form\"]\n")?;
+    }
+    Ok(())
+}
+
+// A read of a key of so many bytes, which finds a value of so many.
+fn read_of(alloc: Global, key: usize, value: usize) -> Result<String, Fail> {
+    let key = "k".repeat(alloc, key)?;
+    let value = "v".repeat(alloc, value)?;
+    Ok(format!(in alloc; "[\"read\",0,\"{key}\",\"{value}\"]")?)
+}
+
+#[test]
+fn keys_and_values_have_limits(rt: HostRuntime) -> Result<(), Fail> {
+    let within = read_of(rt.alloc(), MAX_KEY_BYTES, MAX_VALUE_BYTES)?;
+    says(&rt, within.as_bytes(), End::No, "[\"check\",\"no\",1]\n")?;
+    let long_key = read_of(rt.alloc(), MAX_KEY_BYTES + 1, 0)?;
+    says(
+        &rt,
+        long_key.as_bytes(),
+        End::Faulted,
+        "[1,\"E16\",\"form\"]\n",
+    )?;
+    let long_value = read_of(rt.alloc(), 1, MAX_VALUE_BYTES + 1)?;
+    says(
+        &rt,
+        long_value.as_bytes(),
+        End::Faulted,
+        "[1,\"E16\",\"form\"]\n",
+    )
+}
+
+#[test]
+fn long_line_is_named(rt: HostRuntime) -> Result<(), Fail> {
+    let step = "[\"draw\",1]";
+    let mut line = " ".repeat(rt.alloc(), MAX_LINE_BYTES - step.len())?;
+    line.push_str(step)?;
+    says(&rt, line.as_bytes(), End::Well, "[\"check\",\"yes\"]\n")?;
+    line.push(' ')?;
+    says(&rt, line.as_bytes(), End::Faulted, "[1,\"E16\",\"long\"]\n")?;
+    line.push_str("\n[\"draw\",2]\n")?;
+    says(&rt, line.as_bytes(), End::Faulted, "[1,\"E16\",\"long\"]\n")
+}
+
+#[test]
+fn line_after_the_last_is_named(rt: HostRuntime) -> Result<(), Fail> {
+    let last = line_step(rt.alloc(), MAX_LINES, b"[\"draw\",1]")?;
+    assert!(rt; last.is_ok());
+    for line in ["[\"draw\",1]", "no step"] {
+        let after = line_step(rt.alloc(), MAX_LINES + 1, line.as_bytes())?;
+        assert!(rt; matches!(after, Err(Cause::Lines)));
+    }
+    Ok(())
+}
+
+// A writer that takes a byte a write, and fails once it has no room.
+#[derive(Drop)]
+struct Drip {
+    held: Vec<u8>,
+    room: usize,
+}
+
+impl Write for Drip {
+    ghost contents = { λ w. Some w.held.items };
+
+    fn write(&mut self, buf: &[u8]) -> io::Result<usize> {
+        if buf.is_empty() {
+            return Ok(0);
+        }
+        if self.room == 0 {
+            return Err(io::Error::from(ErrorKind::WouldBlock));
+        }
+        self.held.push(buf[0])?;
+        self.room -= 1;
+        Ok(1)
+    }
+
+    fn flush(&mut self) -> io::Result<()> {
+        if self.room == 0 {
+            return Err(io::Error::from(ErrorKind::WouldBlock));
+        }
+        Ok(())
+    }
+}
+
+#[test]
+fn failing_writer_has_a_beginning(rt: HostRuntime) -> Result<(), Fail> {
+    let text = "[\"check\",\"yes\"]\n";
+    for room in 0..=text.len() {
+        let mut reader = COMMIT_THEN_READ.as_bytes();
+        let mut writer = Drip {
+            held: Vec::new(rt.alloc()),
+            room,
+        };
+        let ended = check(rt.alloc(), &mut reader, &mut writer);
+        assert_eq!(rt; ended, Err(Broken::Output), "with room for {room}");
+        assert_eq!(rt; writer.held.as_slice(), &text.as_bytes()[..room]);
+    }
+    Ok(())
+}
+
+// A reader that fails once it has made some reads.
+#[derive(Drop)]
+struct Torn<'a> {
+    bytes: &'a [u8],
+    good: usize,
+}
+
+impl Read for Torn<'_> {
+    ghost remaining = { λ r. Some r.bytes.now };
+
+    fn read(&mut self, buf: &mut [u8]) -> io::Result<usize> {
+        if self.good == 0 {
+            return Err(io::Error::from(ErrorKind::WouldBlock));
+        }
+        self.good -= 1;
+        self.bytes.read(buf)
+    }
+}
+
+#[test]
+fn failing_reader_ends_without_a_verdict(rt: HostRuntime) -> Result<(), Fail> {
+    for good in 0..=COMMIT_THEN_READ.len() {
+        let mut reader = Torn {
+            bytes: COMMIT_THEN_READ.as_bytes(),
+            good,
+        };
+        let mut writer = Vec::new(rt.alloc());
+        let ended = check(rt.alloc(), &mut reader, &mut writer);
+        assert_eq!(rt; ended, Err(Broken::Input), "after {good} reads");
+        assert_eq!(rt; writer.len(), 0);
+    }
+    Ok(())
+}

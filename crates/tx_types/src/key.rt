@@ -1,0 +1,123 @@
+//! Keys.
+ghost use Rattle.std.specs.Prelude.{◌≡◌, ◌⊎◌, ◌<◌, ◌≤◌, ◌↔◌, length, Some, nat_eq, refl, IfOk, IfErr, IsErrOf};
+ghost use Rattle.std.specs.Ordering.{nat_cmp};
+ghost use Rattle.std.specs.Hash as fed;
+ghost use Rattle.std.specs.Cmp.Lexicographic.{pointwise, slice_cmp, nat_list_eq_equiv, nat_list_cmp_total, texts_ties, texts_po};
+ghost use Rattle.std.specs.Cmp.{partial_equiv_from_equiv};
+ghost use Rattle.std.specs.Cmp.Rules.{hashing};
+ghost use Rattle.std.proofs.Common.{rules};
+
+use crate::fault::Fault;
+use crate::fields::escape;
+use crate::limits::{MAX_KEY_BYTES, MIN_KEY_BYTES};
+use bytes::Bytes;
+use std::alloc::Global;
+use std::cmp::Ordering;
+use std::fmt;
+use std::hash::{Hash, Hasher};
+use std::marker::Model;
+
+/// A key of 1 to 512 bytes, ordered as its bytes are. A copy shares them. Contracts see the bytes.
+#[derive(Debug, Drop)]
+pub struct Key {
+    bytes: Bytes,
+}
+
+impl Model for Key {
+    ghost use Rattle.std.specs.Prelude.{List, ℕ, ◌≤◌, length};
+
+    ghost Value = { List ℕ };
+
+    ghost view = { λ k. k.bytes };
+
+    ghost invariant = { λ k. (1 ≤ length k.bytes) × (length k.bytes ≤ 512) };
+
+    ghost inverse = { λ bs. record { bytes = bs } };
+}
+
+impl Key {
+    /// The key of these bytes. `KeyLength` where they are fewer than 1 or more than 512, `OutOfMemory` where there is no
+    /// room for a copy of them.
+    pub fn new(alloc: Global, bytes: &[u8]) -> Result<Key, Fault>
+        ensures ok { IfOk result (λ key. key ≡ bytes.now) }
+        ensures length { IsErrOf result Fault.KeyLength ↔ ((length bytes.now < MIN_KEY_BYTES) ⊎ (MAX_KEY_BYTES < length bytes.now)) }
+        ensures err { IfErr result (λ e. (e ≡ Fault.KeyLength) ⊎ (e ≡ Fault.OutOfMemory)) }
+    {
+        if bytes.len() < MIN_KEY_BYTES || bytes.len() > MAX_KEY_BYTES {
+            return Err(Fault::KeyLength);
+        }
+        let bytes = Bytes::copy_from_slice(alloc, bytes)?;
+        Ok(Key { bytes })
+    }
+
+    /// Its bytes.
+    pub fn as_bytes(&self) -> &[u8]
+        ensures value { result.now ≡ self.now }
+        ensures within { (1 ≤ length result.now) × (length result.now ≤ 512) }
+    {
+        self.bytes.as_slice()
+    }
+
+    /// The same key, which shares its bytes.
+    pub fn clone(&self) -> Result<Key, Fault>
+        ensures ok { IfOk result (λ copy. copy ≡ self.now) }
+        ensures err { IfErr result (λ e. e ≡ Fault.OutOfMemory) }
+    {
+        let bytes = self.bytes.clone()?;
+        Ok(Key { bytes })
+    }
+}
+
+impl fmt::Display for Key {
+    fn fmt<W: fmt::Write>(&self, f: &mut fmt::Formatter<W>) -> fmt::Result {
+        escape(self.as_bytes(), f)
+    }
+}
+
+impl PartialEq for Key {
+    ghost eq = { pointwise nat_eq };
+
+    ghost laws = { partial_equiv_from_equiv nat_list_eq_equiv };
+
+    fn eq(&self, other: &Key) -> bool {
+        self.bytes == other.bytes
+    }
+}
+
+impl Eq for Key {
+    ghost laws = { nat_list_eq_equiv };
+}
+
+impl PartialOrd for Key {
+    ghost partial_cmp = { λ x y. Some (slice_cmp nat_cmp x y) };
+
+    ghost laws = { texts_po };
+
+    fn partial_cmp(&self, other: &Key) -> Option<Ordering> {
+        Some(self.cmp(other))
+    }
+}
+
+impl Ord for Key {
+    ghost cmp = { slice_cmp nat_cmp };
+
+    ghost total = { nat_list_cmp_total };
+
+    ghost matches_partial_cmp = { λ x y. refl };
+
+    ghost matches_eq = { texts_ties };
+
+    fn cmp(&self, other: &Key) -> Ordering {
+        self.bytes.cmp(&other.bytes)
+    }
+}
+
+impl Hash for Key {
+    ghost hash_input = { fed.slice fed.u8 };
+
+    ghost respects_eq = { Prim.search (hashing, rules) };
+
+    fn hash<H: Hasher>(&self, state: &mut H) {
+        self.bytes.hash(state);
+    }
+}

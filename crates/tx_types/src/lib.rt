@@ -1,0 +1,24 @@
+//! Keys, values, timestamps, the records that a store keeps of them, and every refusal.
+#![tactic(auto)]
+
+mod fault;
+mod fields;
+mod key;
+pub mod limits;
+mod lists;
+mod lock;
+mod mutation;
+#[cfg(test)]
+mod tests;
+mod ts;
+mod value;
+mod write;
+
+pub use fault::{Cause, Fault};
+pub use key::Key;
+pub use lists::{Changes, KeyValues, Secondaries};
+pub use lock::{LockInfo, LockMode, LockRec};
+pub use mutation::{Change, Fate, KeyValue, LockKind, Mode, Mutation, StoredMutation, WriteKind};
+pub use ts::Ts;
+pub use value::{StoredValue, Value};
+pub use write::{CommitRec, WriteRec};

@@ -1,0 +1,146 @@
+//! Locks, and what is told of them.
+ghost use Rattle.std.specs.Prelude.{◌≡◌, IfOk, IfErr};
+ghost use Rattle.tx_types.specs.Locks.{mode_of, info_of};
+
+use crate::fault::Fault;
+use crate::key::Key;
+use crate::lists::Secondaries;
+use crate::mutation::{LockKind, Mode, StoredMutation};
+use crate::ts::Ts;
+use std::alloc::Global;
+use std::fmt;
+
+/// How a lock's transaction commits. The async lock of the primary lists the transaction's other keys.
+#[derive(Debug, Drop)]
+pub enum LockMode {
+    TwoPhase,
+    Async(Secondaries),
+}
+
+impl LockMode {
+    /// The mode alone.
+    pub fn mode(&self) -> Mode
+        ensures { result ≡ mode_of self.now }
+    {
+        match self {
+            LockMode::TwoPhase => Mode::TwoPhase,
+            LockMode::Async(_) => Mode::Async,
+        }
+    }
+
+    /// The same.
+    pub fn clone(&self) -> Result<LockMode, Fault>
+        ensures ok { IfOk result (λ copy. copy ≡ self.now) }
+        ensures err { IfErr result (λ e. e ≡ Fault.OutOfMemory) }
+    {
+        match self {
+            LockMode::TwoPhase => Ok(LockMode::TwoPhase),
+            LockMode::Async(secondaries) => Ok(LockMode::Async(secondaries.clone()?)),
+        }
+    }
+}
+
+/// The lock record of a key, as the `lock` family keeps it.
+#[derive(Debug, Drop)]
+pub struct LockRec {
+    /// What the transaction does to the key.
+    pub mutation: StoredMutation,
+    pub mode: LockMode,
+    /// The start timestamp of the transaction.
+    pub start: Ts,
+    /// The least timestamp at which the transaction may commit.
+    pub min: Ts,
+    /// How long after its start the lock is live, in ticks.
+    pub ttl: u32,
+    /// The key whose lock or record decides the transaction.
+    pub primary: Key,
+}
+
+impl LockRec {
+    /// What is told of the lock, which stands on this key.
+    pub fn info(&self, alloc: Global, key: &Key) -> Result<LockInfo, Fault>
+        ensures ok { IfOk result (λ info. info ≡ info_of key.now self.now) }
+        ensures err { IfErr result (λ e. e ≡ Fault.OutOfMemory) }
+    {
+        let key = key.clone()?;
+        let primary = self.primary.clone()?;
+        let secondaries = match &self.mode {
+            LockMode::TwoPhase => Secondaries::new(alloc),
+            LockMode::Async(others) => others.clone()?,
+        };
+        Ok(LockInfo {
+            key,
+            start: self.start,
+            primary,
+            min: self.min,
+            ttl: self.ttl,
+            kind: self.mutation.kind(),
+            mode: self.mode.mode(),
+            secondaries,
+        })
+    }
+
+    /// The same.
+    pub fn clone(&self) -> Result<LockRec, Fault>
+        ensures ok { IfOk result (λ copy. copy ≡ self.now) }
+        ensures err { IfErr result (λ e. e ≡ Fault.OutOfMemory) }
+    {
+        let mutation = self.mutation.clone()?;
+        let mode = self.mode.clone()?;
+        let primary = self.primary.clone()?;
+        Ok(LockRec {
+            mutation,
+            mode,
+            start: self.start,
+            min: self.min,
+            ttl: self.ttl,
+            primary,
+        })
+    }
+}
+
+/// What is told of a lock to those whom it stops.
+#[derive(Debug, Drop)]
+pub struct LockInfo {
+    pub key: Key,
+    pub start: Ts,
+    pub primary: Key,
+    pub min: Ts,
+    pub ttl: u32,
+    pub kind: LockKind,
+    pub mode: Mode,
+    /// The transaction's other keys, where this is the async lock of its primary.
+    pub secondaries: Secondaries,
+}
+
+impl LockInfo {
+    /// The same.
+    pub fn clone(&self) -> Result<LockInfo, Fault>
+        ensures ok { IfOk result (λ copy. copy ≡ self.now) }
+        ensures err { IfErr result (λ e. e ≡ Fault.OutOfMemory) }
+    {
+        let key = self.key.clone()?;
+        let primary = self.primary.clone()?;
+        let secondaries = self.secondaries.clone()?;
+        Ok(LockInfo {
+            key,
+            start: self.start,
+            primary,
+            min: self.min,
+            ttl: self.ttl,
+            kind: self.kind,
+            mode: self.mode,
+            secondaries,
+        })
+    }
+}
+
+impl fmt::Display for LockInfo {
+    fn fmt<W: fmt::Write>(&self, f: &mut fmt::Formatter<W>) -> fmt::Result {
+        write!(
+            f,
+            "key {} is locked by the transaction that started at {} with the primary {}",
+            self.key, self.start, self.primary
+        )
+    }
+}

@@ -1,0 +1,149 @@
+//! What transactions do to keys, and the kinds of locks and records.
+ghost use Rattle.std.specs.Prelude.{◌≡◌, IfOk, IfErr};
+ghost use Rattle.tx_types.specs.Kinds.{kind_of, stored_kind};
+
+use crate::fault::Fault;
+use crate::key::Key;
+use crate::ts::Ts;
+use crate::value::{StoredValue, Value};
+
+/// What a transaction does to a key.
+#[derive(Debug, Drop, PartialEq, Eq)]
+pub enum Mutation {
+    /// Writes the value.
+    Put(Value),
+    /// Removes the value.
+    Delete,
+    /// Leaves the value, and conflicts with those that change it.
+    Lock,
+}
+
+impl Mutation {
+    /// The kind of the lock that it takes.
+    pub fn kind(&self) -> LockKind
+        ensures { result ≡ kind_of self.now }
+    {
+        match self {
+            Mutation::Put(_) => LockKind::Put,
+            Mutation::Delete => LockKind::Delete,
+            Mutation::Lock => LockKind::Lock,
+        }
+    }
+
+    /// The same.
+    pub fn clone(&self) -> Result<Mutation, Fault>
+        ensures ok { IfOk result (λ copy. copy ≡ self.now) }
+        ensures err { IfErr result (λ e. e ≡ Fault.OutOfMemory) }
+    {
+        match self {
+            Mutation::Put(value) => Ok(Mutation::Put(value.clone()?)),
+            Mutation::Delete => Ok(Mutation::Delete),
+            Mutation::Lock => Ok(Mutation::Lock),
+        }
+    }
+}
+
+/// A mutation as a lock or a commit record keeps it.
+#[derive(Debug, Drop, PartialEq, Eq)]
+pub enum StoredMutation {
+    Put(StoredValue),
+    Delete,
+    Lock,
+}
+
+impl StoredMutation {
+    /// Its kind.
+    pub fn kind(&self) -> LockKind
+        ensures { result ≡ stored_kind self.now }
+    {
+        match self {
+            StoredMutation::Put(_) => LockKind::Put,
+            StoredMutation::Delete => LockKind::Delete,
+            StoredMutation::Lock => LockKind::Lock,
+        }
+    }
+
+    /// The same.
+    pub fn clone(&self) -> Result<StoredMutation, Fault>
+        ensures ok { IfOk result (λ copy. copy ≡ self.now) }
+        ensures err { IfErr result (λ e. e ≡ Fault.OutOfMemory) }
+    {
+        match self {
+            StoredMutation::Put(value) => Ok(StoredMutation::Put(value.clone()?)),
+            StoredMutation::Delete => Ok(StoredMutation::Delete),
+            StoredMutation::Lock => Ok(StoredMutation::Lock),
+        }
+    }
+}
+
+/// One entry of a write set: a key, and what is done to it.
+#[derive(Debug, Drop, PartialEq, Eq)]
+pub struct Change {
+    pub key: Key,
+    pub mutation: Mutation,
+}
+
+impl Change {
+    /// The same.
+    pub fn clone(&self) -> Result<Change, Fault>
+        ensures ok { IfOk result (λ copy. copy ≡ self.now) }
+        ensures err { IfErr result (λ e. e ≡ Fault.OutOfMemory) }
+    {
+        let key = self.key.clone()?;
+        let mutation = self.mutation.clone()?;
+        Ok(Change { key, mutation })
+    }
+}
+
+/// A row of a scan: a key and its value.
+#[derive(Debug, Drop, PartialEq, Eq)]
+pub struct KeyValue {
+    pub key: Key,
+    pub value: Value,
+}
+
+impl KeyValue {
+    /// The same.
+    pub fn clone(&self) -> Result<KeyValue, Fault>
+        ensures ok { IfOk result (λ copy. copy ≡ self.now) }
+        ensures err { IfErr result (λ e. e ≡ Fault.OutOfMemory) }
+    {
+        let key = self.key.clone()?;
+        let value = self.value.clone()?;
+        Ok(KeyValue { key, value })
+    }
+}
+
+/// The kinds of locks.
+#[derive(Clone, Copy, Debug, PartialEq, Eq)]
+pub enum LockKind {
+    Put,
+    Delete,
+    Lock,
+}
+
+/// The kinds of write records.
+#[derive(Clone, Copy, Debug, PartialEq, Eq)]
+pub enum WriteKind {
+    Put,
+    Delete,
+    Lock,
+    Rollback,
+}
+
+/// How a transaction commits, and so a lock.
+#[derive(Clone, Copy, Debug, PartialEq, Eq)]
+pub enum Mode {
+    /// By the commit of its primary.
+    TwoPhase,
+    /// Once every key is locked.
+    Async,
+}
+
+/// What has become of a transaction that ended.
+#[derive(Clone, Copy, Debug, PartialEq, Eq)]
+pub enum Fate {
+    /// Committed at this timestamp.
+    Committed(Ts),
+    Aborted,
+}

@@ -1,0 +1,54 @@
+//! The commands of the program, and their help.
+use clap::{ArgMatches, Command, Error};
+use std::alloc::Global;
+use std::env::Env;
+use std::{env, io};
+
+static ABOUT: &str = "The transaction layer of a key-value store, in one process";
+
+static EXAMPLES: &str = "Examples:
+  txkv check < examples/commit_then_read.trace   Check a trace of machine steps
+  txkv check --help                              Show the steps of a trace
+
+Status: 0 well, 2 a fault of the input or the command line, 3 the verdict no, 4 a read, a write or a growth failed.";
+
+static CHECK_ABOUT: &str =
+    "Check a trace: is it a run of the machine that commits each transaction in one step?";
+
+static CHECK_HELP: &str = "A trace has one step a line, each a JSON array:
+  [\"draw\",3]                         The oracle gives the number 3, above all before
+  [\"begin\",3]                        A transaction starts at 3
+  [\"declare\",3,[[\"a\",\"put\",\"x\"]]]    It fixes its write set, also by [\"b\",\"delete\"] and [\"c\",\"lock\"]
+  [\"commit\",3,4]                     It commits at 4
+  [\"abort\",3]                        It is aborted
+  [\"read\",4,\"a\",\"x\"]                 A read of a at 4 finds x, or null for nothing
+  [\"scan\",4,\"a\",\"m\",9,[[\"a\",\"x\"]]]   A read of the keys from a up to m, of at most 9 rows
+  [\"answer\",3,\"committed\",4]         It is told what became of it, also by [\"answer\",3,\"aborted\"]
+
+Examples:
+  txkv check < examples/commit_then_read.trace   [\"check\",\"yes\"], status 0
+  txkv check < examples/lost_update.trace        [\"check\",\"no\",10], the first line refused, status 3
+  echo '[\"draw\"]' | txkv check                   [1,\"E16\",\"form\"], the first line that is no step, status 2";
+
+/// The words of the command line.
+pub fn words<R: Env + AllocGlobal>(rt: &R) -> io::Result<Vec<String>> {
+    let mut words = Vec::new(rt.alloc());
+    for word in env::args(rt)? {
+        words.push(word)?;
+    }
+    Ok(words)
+}
+
+/// The command that the words ask for; `Err` also where they ask for help or the version.
+pub fn parse<'a>(alloc: Global, words: &'a [String]) -> Result<ArgMatches<'a>, Error> {
+    let check = Command::new(alloc, "check")
+        .about(CHECK_ABOUT)
+        .after_help(CHECK_HELP);
+    let command = Command::new(alloc, "txkv")
+        .about(ABOUT)
+        .version("0.1.0")
+        .after_help(EXAMPLES)
+        .subcommand_required(true)
+        .subcommand(check)?;
+    command.try_get_matches_from(words)
+}
