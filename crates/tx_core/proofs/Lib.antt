@@ -38,3 +38,11 @@ pub mod Resolves
 pub mod SafePoints
 pub mod Shown
 pub mod Told
+pub mod Beginnings
+pub mod Parts
+pub mod Staying
+pub mod StaysDecided
+pub mod Numbers
+pub mod Answering
+pub mod Recording
+pub mod Counting

@@ -4,3 +4,4 @@ pub mod Allowed
 pub mod Worlds
 pub mod Shadow
 pub mod Truth
+pub mod Recording

@@ -5,6 +5,7 @@
 
 mod event;
 mod headline;
+mod laws;
 mod seat_no;
 mod stays;
 #[cfg(test)]
@@ -12,6 +13,7 @@ mod tests;
 
 pub use event::{Declaration, Event, Outcome, Taken, UnknownCause};
 pub use headline::every_run;
+pub use laws::parts_make_the_whole;
 pub use seat_no::SeatNo;
 pub use stays::allowed_stays;
 pub use tx_plan::{
