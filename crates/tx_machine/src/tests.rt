@@ -99,3 +99,39 @@ fn a_scan_sees_its_rows(rt: HostRuntime) -> Result<(), Fail> {
     }
     Ok(())
 }
+
+// A scan at a timestamp of the keys from a up to c, which finds none.
+fn empty_scan(rt: &HostRuntime, at: u64) -> Result<Step, Fault> {
+    Ok(Step::Scan(ScanRead {
+        from: key(rt, b"a")?,
+        to: key(rt, b"c")?,
+        at: Ts::new(at),
+        limit: 9,
+        rows: KeyValues::new(rt.alloc()),
+    }))
+}
+
+#[test]
+fn a_commit_stays_above_the_reads_of_its_keys(rt: HostRuntime) -> Result<(), Fail> {
+    for (name, commit, goes) in [(b"b", 2, false), (b"b", 3, true), (b"c", 2, true)] {
+        for is_scan in [false, true] {
+            let mut steps = Vec::new(rt.alloc());
+            steps.push(Step::Draw(Ts::new(1)))?;
+            steps.push(Step::Begin(Ts::new(1)))?;
+            steps.push(declare(&rt, 1, put(&rt, name, b"x")?)?)?;
+            steps.push(Step::Draw(Ts::new(2)))?;
+            if is_scan {
+                steps.push(empty_scan(&rt, 2)?)?;
+            } else {
+                steps.push(read(&rt, 2, b"b", None)?)?;
+            }
+            steps.push(Step::Commit(Ts::new(1), Ts::new(commit)))?;
+            assert_eq!(rt;
+                check_trace(rt.alloc(), steps.as_slice()).is_some(),
+                goes,
+                "{name:?} at {commit}, scanned: {is_scan}"
+            );
+        }
+    }
+    Ok(())
+}
