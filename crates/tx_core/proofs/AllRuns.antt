@@ -133,7 +133,7 @@ module _ (bounds : List Key) (h : History) (good : Good bounds h) (told : ToldSh
 -- ---- every history
 
 -- what holds of a history, and of what was shown in it
-run_told : (bounds : List Key) (h : History) → IsWorldRun bounds h → Good bounds h × ToldShown bounds h
+pub run_told : (bounds : List Key) (h : History) → IsWorldRun bounds h → Good bounds h × ToldShown bounds h
 run_told bounds [] run = (good_first bounds, told_first bounds)
 run_told bounds (e ∷ h) run =
     let before = run_told bounds h run.0 in

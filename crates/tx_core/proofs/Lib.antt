@@ -46,3 +46,4 @@ pub mod Numbers
 pub mod Answering
 pub mod Recording
 pub mod Counting
+pub mod Consequences

@@ -4,3 +4,13 @@ pub mod Arity
 pub mod LineSteps
 pub mod Verdicts
 pub mod Traces
+pub mod AllLead
+pub mod Scenes
+pub mod Steps
+pub mod OneAnswer
+pub mod OnePlay
+pub mod Plays
+pub mod Scripts
+pub mod ScriptArity
+pub mod Engines
+pub mod SessionSteps

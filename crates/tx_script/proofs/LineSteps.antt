@@ -11,10 +11,10 @@ use Rattle.tx_script.specs.Lines.{max_line, max_lines}
 use Rattle.tx_script.specs.MachineSteps.{step_of}
 use Rattle.tx_script.specs.Check.{json_of, step_of_json, step_in}
 
-json_some : (line : List ℕ) (d : Data) → IsUtf8 line × (read line ≡ Some d) → json_of line ≡ Some d
+pub json_some : (line : List ℕ) (d : Data) → IsUtf8 line × (read line ≡ Some d) → json_of line ≡ Some d
 json_some line d e = rw (is_utf8-from_IsUtf8 line e.0) e.1
 
-json_none : (line : List ℕ) → (IsUtf8 line → read line ≡ None) → json_of line ≡ None
+pub json_none : (line : List ℕ) → (IsUtf8 line → read line ≡ None) → json_of line ≡ None
 json_none line never = elim (cases_Bool (is_utf8 line)) [ inl e ↦ rw e (never (IsUtf8-from_is_utf8 line e)) | inr e ↦ rw e refl ]
 
 module _ (number : ℕ) (line : List ℕ) (short : length line ≤ max_line) (early : number ≤ max_lines) where

@@ -4,3 +4,8 @@ pub mod Words
 pub mod MachineSteps
 pub mod Check
 pub mod Turns
+pub mod Steps
+pub mod Replies
+pub mod Scenes
+pub mod Play
+pub mod Stands

@@ -181,9 +181,9 @@ fn line_after_the_last_is_named(rt: HostRuntime) -> Result<(), Fail> {
 
 // A writer that takes a byte a write, and fails once it has no room.
 #[derive(Drop)]
-struct Drip {
-    held: Vec<u8>,
-    room: usize,
+pub(crate) struct Drip {
+    pub held: Vec<u8>,
+    pub room: usize,
 }
 
 impl Write for Drip {
@@ -227,9 +227,9 @@ fn failing_writer_has_a_beginning(rt: HostRuntime) -> Result<(), Fail> {
 
 // A reader that fails once it has made some reads.
 #[derive(Drop)]
-struct Torn<'a> {
-    bytes: &'a [u8],
-    good: usize,
+pub(crate) struct Torn<'a> {
+    pub bytes: &'a [u8],
+    pub good: usize,
 }
 
 impl Read for Torn<'_> {

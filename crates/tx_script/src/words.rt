@@ -20,7 +20,8 @@ pub(crate) enum Verdict {
     Fault(u64, Cause),
 }
 
-fn cause_word(cause: Cause) -> &'static str
+/// The word of a cause.
+pub(crate) fn cause_word(cause: Cause) -> &'static str
     ensures { result.now ≡ word_of cause }
 {
     match cause {

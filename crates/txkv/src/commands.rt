@@ -7,10 +7,32 @@ use std::{env, io};
 static ABOUT: &str = "The transaction layer of a key-value store, in one process";
 
 static EXAMPLES: &str = "Examples:
-  txkv check < examples/commit_then_read.trace   Check a trace of machine steps
-  txkv check --help                              Show the steps of a trace
+  txkv simulate < examples/commit_then_read.script   Run a script of sessions
+  txkv check < examples/commit_then_read.trace       Check a trace of machine steps
+  txkv simulate --help                               Show the steps of a script
+  txkv check --help                                  Show the steps of a trace
 
 Status: 0 well, 2 a fault of the input or the command line, 3 the verdict no, 4 a read, a write or a growth failed.";
+
+static SIMULATE_ABOUT: &str =
+    "Run a script of sessions in one thread, and write one reply line a step";
+
+static SIMULATE_HELP: &str = "A script has one step a line, each a JSON array; s names a session:
+  [\"begin\",s]                      Begins a transaction at a new timestamp
+  [\"put\",s,key,value]              Enters a put into its write buffer
+  [\"get\",s,key]                    Reads a key, from its buffer or at its start
+  [\"declare\",s,\"two-phase\",ttl]    Fixes its write set; its locks live ttl ticks
+  [\"prewrite\",s]                   Locks the next key
+  [\"draw\",s]                       Draws its commit timestamp
+  [\"commit\",s]                     Commits the primary, and then each other key
+  [\"finish\",s]                     Tells its outcome, and ends the session
+
+Each reply is the number of the line and the step's words; docs/SCRIPT.md has all replies, refusals and causes.
+
+Examples:
+  txkv simulate < examples/commit_then_read.script   One transaction and a reader
+  echo '[\"begin\",\"A\"]' | txkv simulate           [1,\"start\",1], status 0
+  echo '[\"get\",\"A\",\"a\"]' | txkv simulate         [1,\"E16\",\"name\"], no session is live, status 2";
 
 static CHECK_ABOUT: &str =
     "Check a trace: is it a run of the machine that commits each transaction in one step?";
@@ -30,6 +52,21 @@ Examples:
   txkv check < examples/lost_update.trace        [\"check\",\"no\",10], the first line refused, status 3
   echo '[\"draw\"]' | txkv check                   [1,\"E16\",\"form\"], the first line that is no step, status 2";
 
+/// What the command line asks for.
+#[derive(Clone, Copy, Debug, PartialEq, Eq)]
+pub enum Job {
+    Simulate,
+    Check,
+}
+
+/// The job of a command line that was read.
+pub fn job_of(matches: &ArgMatches<'_>) -> Job {
+    match matches.subcommand_name() {
+        Some("simulate") => Job::Simulate,
+        _ => Job::Check,
+    }
+}
+
 /// The words of the command line.
 pub fn words<R: Env + AllocGlobal>(rt: &R) -> io::Result<Vec<String>> {
     let mut words = Vec::new(rt.alloc());
@@ -44,11 +81,15 @@ pub fn parse<'a>(alloc: Global, words: &'a [String]) -> Result<ArgMatches<'a>, E
     let check = Command::new(alloc, "check")
         .about(CHECK_ABOUT)
         .after_help(CHECK_HELP);
+    let simulate = Command::new(alloc, "simulate")
+        .about(SIMULATE_ABOUT)
+        .after_help(SIMULATE_HELP);
     let command = Command::new(alloc, "txkv")
         .about(ABOUT)
         .version("0.1.0")
         .after_help(EXAMPLES)
         .subcommand_required(true)
+        .subcommand(simulate)?
         .subcommand(check)?;
     command.try_get_matches_from(words)
 }

@@ -6,24 +6,27 @@ mod commands;
 mod status;
 
 use clap::error::ErrorKind;
-use commands::{parse, words};
+use commands::{Job, job_of, parse, words};
 use log::sink::Console;
 use log::{LevelFilter, Log, Logged, warn};
 use status::{message_of, status_of};
 use std::io;
 use std::io::{BufReader, BufWriter};
 use std::process::ExitCode;
-use tx_script::{Broken, End, check};
+use tx_script::{Broken, End, check, simulate};
 
-// Both streams are buffered; `check` flushes what it writes.
-fn check_streams<R: Input + Print + AllocGlobal>(rt: &R) -> Result<End, Broken> {
+// Both streams are buffered; each job flushes what it writes.
+fn run<R: Input + Print + AllocGlobal>(rt: &R, job: Job) -> Result<End, Broken> {
     let Ok(mut reader) = BufReader::new(rt.alloc(), rt.reader()) else {
         return Err(Broken::Memory);
     };
     let Ok(mut writer) = BufWriter::new(rt.alloc(), io::writer(rt)) else {
         return Err(Broken::Memory);
     };
-    check(rt.alloc(), &mut reader, &mut writer)
+    match job {
+        Job::Simulate => simulate(rt.alloc(), &mut reader, &mut writer),
+        Job::Check => check(rt.alloc(), &mut reader, &mut writer),
+    }
 }
 
 // A request for help or the version ends well, on standard output; a fault of the command line is told on standard error.
@@ -39,12 +42,23 @@ fn tell<R: Print + Eprint>(rt: &R, error: &clap::Error) -> Result<End, Broken> {
     }
 }
 
+// The words of the command line could not be read: there was no room for them, or one of them is not UTF-8.
+fn unread<R: Eprint>(rt: &R, error: &io::Error) -> Result<End, Broken> {
+    if error.kind() == io::ErrorKind::OutOfMemory {
+        return Err(Broken::Memory);
+    }
+    match eprintln!(rt; "error: a word of the command line is not UTF-8") {
+        Ok(()) => Ok(End::Faulted),
+        Err(_) => Err(Broken::Output),
+    }
+}
+
 fn main(rt: HostRuntime) -> ExitCode {
     let logger = Logged::new(rt, LevelFilter::Warn, Console(rt));
     let end = match words(&rt) {
-        Err(_) => Err(Broken::Memory),
+        Err(error) => unread(&rt, &error),
         Ok(words) => match parse(rt.alloc(), words.as_slice()) {
-            Ok(_) => check_streams(&rt),
+            Ok(matches) => run(&rt, job_of(&matches)),
             Err(error) => tell(&rt, &error),
         },
     };

@@ -1,0 +1,169 @@
+//! A journal is made in two calls: the first opens it, the second gives it the name that all its seats have in their type, and
+//! deals the seats.
+ghost use Rattle.std.specs.Prelude.{◌≡◌, ℕ, ◌+◌, ◌<◌, ◌≤◌, [], IfOk, IfErr, vec_len, slice_get, Some, length};
+ghost use Rattle.tx_types.specs.declared.fault.Fault.TheVariants as fault;
+ghost use Rattle.tx_journal.specs.Known.{known, AreRising};
+
+use crate::seat::Seat;
+use crate::view::{Deal, Law, Layout, Naming, Token, View, Words};
+use atomic_table::Table;
+use std::alloc::Global;
+use std::marker::{Model, PhantomData};
+use tx_core::SeatNo;
+use tx_types::{Fault, Key};
+
+/// A journal with no event, which has no name yet. Contracts see its table, the keys between its regions, and how many seats it
+/// has.
+#[derive(Drop)]
+pub struct Opened {
+    bounds: &'static [Key],
+    seats: u32,
+    words: &'static Words,
+    token: Token,
+}
+
+impl Model for Opened {
+    ghost use Rattle.std.specs.Prelude.{◌≡◌, ◌≤◌, []};
+    ghost use Rattle.tx_journal.specs.Known.{Opening, AreRising};
+    ghost use Rattle.tx_journal.specs.Rules.{founder};
+
+    ghost Value = { Opening };
+
+    ghost view = { λ o. record { table = o.words.now.table_id; bounds = o.bounds.now; seats = o.seats } };
+
+    ghost invariant = { λ o. (o.token.table_id ≡ o.words.now.table_id) × (o.words.now.table_id.words ≡ 2) × (o.words.now.key.bounds.items ≡ o.bounds.now) × (o.words.now.key.seats ≡ o.seats) × (o.token.me ≡ (founder o.words.now.key, [])) × AreRising o.bounds.now × (o.seats ≤ 1024) };
+}
+
+impl Opened {
+    /// Opens a journal over regions with these keys between them: it has a seat for each region, and so many for sessions. Its
+    /// two words and the keys are never freed. `OutOfMemory` drops what was handed in.
+    pub fn new(alloc: Global, bounds: Vec<Key>, sessions: usize) -> Result<Opened, Fault>
+        requires rising { AreRising bounds.items }
+        requires few { length bounds.items + 1 + sessions ≤ 1024 }
+        ensures ok { IfOk result (λ o. (o.bounds ≡ bounds.items) × (o.seats ≡ length bounds.items + 1 + sessions)) }
+        ensures err { IfErr result (λ e. e ≡ fault.OutOfMemory) }
+    {
+        let seats = (bounds.len() + 1 + sessions) as u32;
+        let layout = Layout { bounds, seats };
+        let (table, token) = Table::<u8, View, Layout, Law, Global>::of_words(
+            alloc,
+            &[0, 0],
+            &layout,
+        )?;
+        let table = Box::leak(Box::new(alloc, table)?);
+        let Layout { bounds, seats } = layout;
+        Ok(Opened {
+            bounds: bounds.leak(),
+            seats,
+            words: &table.shared,
+            token,
+        })
+    }
+}
+
+// The seats that nobody has taken yet, from `next` on.
+#[derive(Drop)]
+struct Dealer<J: Naming> {
+    next: u32,
+    words: &'static Words,
+    token: Token,
+    of: PhantomData<J>,
+}
+
+impl<J: Naming> Model for Dealer<J> {
+    ghost use Rattle.std.specs.Prelude.{◌≡◌, ℕ, ◌+◌, ◌*◌, ◌≤◌, []};
+    ghost use Rattle.tx_journal.specs.Rules.{Belongs, unseated};
+
+    ghost Value = { ℕ };
+
+    ghost view = { λ d. d.next };
+
+    ghost invariant = { λ d. Belongs J.table J.bounds d.words.now.table_id d.words.now.key d.token.table_id × (d.token.me ≡ (unseated J.bounds J.seats d.next d.token.me.0.ticks, [])) × (J.seats * 4294967296 ≤ d.token.me.0.ticks + d.next * 4294967296) × (J.seats ≤ 1024) };
+}
+
+impl<J: Naming> Dealer<J> {
+    // The next seat.
+    fn seat(&mut self) -> Seat<J>
+        requires { self.old < J.seats }
+        ensures seat { result ≡ known self.old 4294967296 [] }
+        ensures next { self.new ≡ self.old + 1 }
+    {
+        let number = SeatNo::new(self.next);
+        let token = self.words.split_seat::<Deal>(&mut self.token);
+        self.next += 1;
+        Seat::of(number, 1 << 32, self.words, token)
+    }
+
+    // All seats.
+    fn seats(mut self, alloc: Global, count: u32) -> Result<Vec<Seat<J>>, Fault>
+        requires { (self ≡ 0) × (count ≡ J.seats) }
+        ensures count { IfOk result (λ seats. vec_len seats ≡ count) }
+        ensures seats { IfOk result (λ seats. (k : ℕ) → k < count → slice_get seats.items k ≡ Some (known k 4294967296 [])) }
+        ensures err { IfErr result (λ e. e ≡ fault.OutOfMemory) }
+    {
+        let mut seats = Vec::with_capacity(alloc, count as usize)?;
+        for _i in 0..count {
+            seats.push(self.seat())?;
+        }
+        Ok(seats)
+    }
+}
+
+/// The journal `J`, whose seats are dealt. Contracts see the keys between its regions.
+#[derive(Drop)]
+pub struct Journal<J: Naming> {
+    bounds: &'static [Key],
+    of: PhantomData<J>,
+}
+
+impl<J: Naming> Model for Journal<J> {
+    ghost use Rattle.std.specs.Prelude.{◌≡◌, List};
+    ghost use Rattle.tx_types.specs.declared.key.Key.{Key};
+    ghost use Rattle.tx_journal.specs.Known.{AreRising};
+
+    ghost Value = { List Key };
+
+    ghost view = { λ j. j.bounds.now };
+
+    ghost invariant = { λ j. (j.bounds.now ≡ J.bounds) × AreRising J.bounds };
+}
+
+impl<J: Naming> Journal<J> {
+    /// The keys between its regions, rising.
+    pub fn bounds(&self) -> &'static [Key]
+        ensures value { result.now ≡ J.bounds }
+        ensures rising { AreRising J.bounds }
+    {
+        self.bounds
+    }
+}
+
+impl Opened {
+    /// The journal under its name, and its seats: those of the regions first, in their order, then those for sessions. Each
+    /// knows of no event, and may draw 2^32 ticks.
+    pub fn named<J: Naming>(self, alloc: Global) -> Result<(Journal<J>, Vec<Seat<J>>), Fault>
+        requires { (self.table ≡ J.table) × (self.bounds ≡ J.bounds) × (self.seats ≡ J.seats) }
+        ensures count { IfOk result (λ r. vec_len r.1 ≡ J.seats) }
+        ensures seats { IfOk result (λ r. (k : ℕ) → k < J.seats → slice_get r.1.items k ≡ Some (known k 4294967296 [])) }
+        ensures err { IfErr result (λ e. e ≡ fault.OutOfMemory) }
+    {
+        let Opened {
+            bounds,
+            seats,
+            words,
+            token,
+        } = self;
+        let dealer: Dealer<J> = Dealer {
+            next: 0,
+            words,
+            token,
+            of: PhantomData,
+        };
+        let seats = dealer.seats(alloc, seats)?;
+        let journal = Journal {
+            bounds,
+            of: PhantomData,
+        };
+        Ok((journal, seats))
+    }
+}

@@ -1,0 +1,142 @@
+//! Seats of a journal. Who makes events has a seat: it draws timestamps and records events with it, each by one atomic add, and
+//! it knows a beginning of the one history that has all of its own events. None of a seat's calls waits, allocates or loops.
+ghost use Rattle.std.specs.Prelude.{◌≡◌, ℕ, ◌+◌, ◌<◌, ◌≤◌, ◌⊎◌, [], IfOk, IfErr};
+ghost use mathlib.Core.Option.{none};
+ghost use Rattle.atomic_table.specs.Table.{step};
+ghost use Rattle.tx_types.specs.declared.fault.Fault.TheVariants as fault;
+ghost use Rattle.tx_core.specs.Histories.{last, Begins};
+ghost use Rattle.tx_core.specs.Recording.{MayRecord, part, AllOfSeats};
+ghost use Rattle.tx_core.specs.Worlds.{IsWorldRun};
+ghost use Rattle.tx_journal.specs.Known.{known, greatest_ts, DrawsNothing, HasSeen, HasRecorded, HasDrawn};
+ghost use Rattle.tx_journal.specs.Rules.{Belongs, Owns, Adds, seated};
+
+use crate::told::Told;
+use crate::view::{Add, Advance, Hear, Learn, Look, Naming, Said, Tell, Token, Words};
+use std::marker::{Brand, Model, PhantomData};
+use tx_core::{Event, SeatNo};
+use tx_types::{Fault, Ts};
+
+/// A seat of the journal `J`. Contracts see its number, the ticks that it may still draw, and the events that it knows: these
+/// are a world run, newest first, and have just the events of this seat that it has recorded. No list is kept.
+#[derive(Drop)]
+pub struct Seat<J: Naming> {
+    number: SeatNo,
+    left: u64,
+    words: &'static Words,
+    token: Token,
+    of: PhantomData<J>,
+}
+
+impl<J: Naming> Model for Seat<J> {
+    ghost use Rattle.std.specs.Prelude.{◌≡◌, []};
+    ghost use Rattle.tx_core.specs.Recording.{AllOfSeats};
+    ghost use Rattle.tx_core.specs.Worlds.{IsWorldRun};
+    ghost use Rattle.tx_journal.specs.Known.{Known, known};
+    ghost use Rattle.tx_journal.specs.Rules.{Belongs, seated};
+
+    ghost Value = { Known };
+
+    ghost view = { λ s. known s.number s.left s.token.me.0.seen };
+
+    ghost invariant = { λ s. Belongs J.table J.bounds s.words.now.table_id s.words.now.key s.token.table_id × (s.token.me ≡ (seated J.bounds J.seats s.number s.left s.token.me.0.seen, [])) × IsWorldRun J.bounds s.token.me.0.seen × AllOfSeats J.seats s.token.me.0.seen };
+}
+
+// Adds the event that the call picks.
+fn add<E: Said>(words: &Words, token: &mut Token, event: &Event)
+    requires table { (token.old.table_id ≡ words.now.table_id) × (words.now.table_id.words ≡ 2) }
+    requires owns { Owns token.old.me.0 token.old.me.0.from }
+    requires is { event.now ≡ E.event }
+    requires right { DrawsNothing E.event × MayRecord words.now.key.bounds.items token.old.me.0.from token.old.me.0.seen E.event }
+    ensures { (token.new.table_id ≡ token.old.table_id) × ((n : ℕ) × Adds E.event (step words.now.table_id.slots 1 1 0 none) token.old.me n token.new.me) }
+{
+    let _ = event;
+    words.fetch_add::<Add<E>>(token, 1, 1);
+}
+
+impl<J: Naming> Seat<J> {
+    // The seat of a token.
+    pub(crate) fn of(number: SeatNo, left: u64, words: &'static Words, token: Token) -> Seat<J>
+        requires table { Belongs J.table J.bounds words.now.table_id words.now.key token.table_id }
+        requires token { token.me ≡ (seated J.bounds J.seats number left token.me.0.seen, []) }
+        requires run { IsWorldRun J.bounds token.me.0.seen × AllOfSeats J.seats token.me.0.seen }
+        ensures { result ≡ known number left token.me.0.seen }
+    {
+        Seat {
+            number,
+            left,
+            words,
+            token,
+            of: PhantomData,
+        }
+    }
+
+    /// Its number.
+    pub fn number(&self) -> SeatNo
+        ensures number { result ≡ self.now.seat }
+        ensures run { IsWorldRun J.bounds self.now.events × AllOfSeats J.seats self.now.events }
+    {
+        self.number
+    }
+
+    /// Draws a timestamp, so many ticks above the last one of the whole history, by one atomic add. `OracleSpent` where this
+    /// seat would then have drawn more than 2^32 ticks: nothing is drawn then, and the seat is as it was.
+    pub fn draw(&mut self, ticks: u32) -> Result<Ts, Fault>
+        requires { 0 < ticks }
+        ensures seat { self.new.seat ≡ self.old.seat }
+        ensures drawn { IfOk result (λ ts. HasDrawn J.bounds self.old.seat self.old.events ticks ts self.new.events) }
+        ensures ticks { IfOk result (λ ts. self.old.ticks ≡ self.new.ticks + ticks) }
+        ensures last { IfOk result (λ ts. (last self.new.events ≡ ts) × (ts ≤ greatest_ts)) }
+        ensures spent { IfErr result (λ e. (e ≡ fault.OracleSpent) × (self.old.ticks < ticks) × (self.new ≡ self.old)) }
+    {
+        let ticks = u64::from(ticks);
+        if self.left < ticks {
+            return Err(Fault::OracleSpent);
+        }
+        let found = self.words.fetch_add::<Advance>(&mut self.token, 0, ticks);
+        self.left -= ticks;
+        Ok(Ts::new(found + ticks))
+    }
+
+    /// The last timestamp that was drawn, by one load: this seat then knows the whole history.
+    pub fn last(&mut self) -> Ts
+        ensures same { (self.new.seat ≡ self.old.seat) × (self.new.ticks ≡ self.old.ticks) }
+        ensures seen { HasSeen J.bounds self.old.seat self.old.events self.new.events }
+        ensures last { (result ≡ last self.new.events) × (result ≤ greatest_ts) }
+    {
+        Ts::new(self.words.load::<Look>(&mut self.token, 0))
+    }
+
+    /// Records an event of this seat that is right after whatever other seats may have done since, by one atomic add.
+    pub fn record(&mut self, event: &Event)
+        requires quiet { DrawsNothing event.now }
+        requires right { MayRecord J.bounds self.old.seat self.old.events event.now }
+        ensures same { (self.new.seat ≡ self.old.seat) × (self.new.ticks ≡ self.old.ticks) }
+        ensures added { HasRecorded J.bounds self.old.seat self.old.events event.now self.new.events }
+    {
+        add::<Brand>(self.words, &mut self.token, event);
+    }
+
+    /// What this seat knows, to be handed to others.
+    pub fn tell(&mut self) -> Told<J>
+        ensures same { self.new ≡ self.old }
+        ensures told { result ≡ self.old.events }
+        ensures run { IsWorldRun J.bounds self.old.events × AllOfSeats J.seats self.old.events }
+    {
+        let token = self.words.split_seat::<Tell>(&mut self.token);
+        Told::of(self.words, token)
+    }
+
+    /// Knows the longer of two lists, what this seat knows and what was told, one of which is a beginning of the other. Its own
+    /// events stay what they are.
+    pub fn learn(&mut self, told: Told<J>)
+        ensures same { (self.new.seat ≡ self.old.seat) × (self.new.ticks ≡ self.old.ticks) }
+        ensures seen { HasSeen J.bounds self.old.seat self.old.events self.new.events }
+        ensures told { Begins told self.new.events }
+        ensures which { (self.new.events ≡ self.old.events) ⊎ (self.new.events ≡ told) }
+        ensures own { part self.old.seat self.new.events ≡ part self.old.seat self.old.events }
+    {
+        let token = told.into_token();
+        self.words.join_seat::<Hear>(&mut self.token, token);
+        self.words.load::<Learn>(&mut self.token, 0);
+    }
+}

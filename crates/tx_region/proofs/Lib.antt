@@ -1,0 +1,5 @@
+pub mod Basics
+pub mod KeySearches
+pub mod MapChanges
+pub mod Settles
+pub mod RegionCells

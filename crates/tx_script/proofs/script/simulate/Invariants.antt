@@ -1,0 +1,10 @@
+use Rattle.std.proofs.Common.{◌-◌, IfSome}
+use Rattle.tx_script.proofs.Scripts.{Counts, SoFar}
+use Rattle.tx_script.proofs.script.simulate.Given as goal
+
+abbrev pub invariant-lines : goal.invariant-lines
+invariant-lines g l = Counts l.engine l.number
+    × IfSome (g.R.Read.remaining l.fn.reader) (λ input. SoFar input (g.R.Read.remaining l.reader) (g.W.Write.contents l.fn.writer) (g.W.Write.contents l.writer) l.engine l.number)
+
+abbrev pub decreases-lines : goal.decreases-lines
+decreases-lines g l = 1000001 - l.number

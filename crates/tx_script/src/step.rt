@@ -1,0 +1,107 @@
+//! The steps of a script, read from the JSON value of a line.
+ghost use Rattle.std.specs.Prelude.{◌≡◌, option_map};
+ghost use Rattle.serde_json.specs.View.{view, items_view};
+ghost use Rattle.tx_script.specs.Steps.{asked, ttl_of, step_two, step_three, put_step, declare_step, step_four, script_step_of, script_step_of_items};
+
+use serde_json::Value;
+
+/// A step, over the text of its line: the name of its session first.
+#[derive(Clone, Copy, Debug)]
+pub(crate) enum Step<'a> {
+    Begin(&'a str),
+    Put(&'a str, &'a str, &'a str),
+    Get(&'a str, &'a str),
+    /// Two-phase, with this time to live in ticks.
+    Declare(&'a str, u32),
+    Prewrite(&'a str),
+    Draw(&'a str),
+    Commit(&'a str),
+    Finish(&'a str),
+}
+
+/// The step that a line's value says, if it is one.
+pub(crate) fn script_step(value: &Value) -> Option<Step<'_>>
+    ensures { option_map asked result ≡ script_step_of (view value.now) }
+{
+    let members = value.as_array()?;
+    members_step(members.as_slice())
+}
+
+fn members_step(members: &[Value]) -> Option<Step<'_>>
+    ensures { option_map asked result ≡ script_step_of_items (items_view members.now) }
+{
+    match members {
+        [word, name] => two(word.as_str()?, name),
+        [word, name, second] => three(word.as_str()?, name, second),
+        [word, name, second, third] => four(word.as_str()?, name, second, third),
+        _ => None,
+    }
+}
+
+fn two<'a>(word: &'a str, name: &'a Value) -> Option<Step<'a>>
+    ensures { option_map asked result ≡ step_two word.now (view name.now) }
+{
+    if word == "begin" {
+        Some(Step::Begin(name.as_str()?))
+    } else if word == "prewrite" {
+        Some(Step::Prewrite(name.as_str()?))
+    } else if word == "draw" {
+        Some(Step::Draw(name.as_str()?))
+    } else if word == "commit" {
+        Some(Step::Commit(name.as_str()?))
+    } else if word == "finish" {
+        Some(Step::Finish(name.as_str()?))
+    } else {
+        None
+    }
+}
+
+fn three<'a>(word: &'a str, name: &'a Value, key: &'a Value) -> Option<Step<'a>>
+    ensures { option_map asked result ≡ step_three word.now (view name.now) (view key.now) }
+{
+    if word == "get" {
+        Some(Step::Get(name.as_str()?, key.as_str()?))
+    } else {
+        None
+    }
+}
+
+fn four<'a>(word: &'a str, name: &'a Value, second: &'a Value, third: &'a Value) -> Option<Step<'a>>
+    ensures { option_map asked result ≡ step_four word.now (view name.now) (view second.now) (view third.now) }
+{
+    if word == "put" {
+        put(name, second, third)
+    } else if word == "declare" {
+        declare(name, second, third)
+    } else {
+        None
+    }
+}
+
+fn put<'a>(name: &'a Value, key: &'a Value, value: &'a Value) -> Option<Step<'a>>
+    ensures { option_map asked result ≡ put_step (view name.now) (view key.now) (view value.now) }
+{
+    Some(Step::Put(name.as_str()?, key.as_str()?, value.as_str()?))
+}
+
+fn declare<'a>(name: &'a Value, mode: &'a Value, ttl: &'a Value) -> Option<Step<'a>>
+    ensures { option_map asked result ≡ declare_step (view name.now) (view mode.now) (view ttl.now) }
+{
+    let name = name.as_str()?;
+    if mode.as_str()? == "two-phase" {
+        Some(Step::Declare(name, time_to_live(ttl)?))
+    } else {
+        None
+    }
+}
+
+fn time_to_live(value: &Value) -> Option<u32>
+    ensures { result ≡ ttl_of (view value.now) }
+{
+    let ticks = value.as_u64()?;
+    if ticks <= u64::from(u32::MAX) {
+        Some(ticks as u32)
+    } else {
+        None
+    }
+}
