@@ -1,5 +1,5 @@
 -- What a step of the engine makes of the scene that it holds.
-use Rattle.std.proofs.Common.{◌≡◌, ℕ, ◌+◌, ◌-◌, List, [], ◌∷◌, ◌++◌, Bool, true, false, length, cond, Option, Some, None, is_some, bytes_eq, refl, sym, ap, subst, ◌∙◌, arith, ◌<◌, codes, String, Global}
+use Rattle.std.proofs.Common.{◌≡◌, ℕ, ◌+◌, List, [], ◌∷◌, ◌++◌, Bool, true, false, length, cond, Option, Some, None, is_some, bytes_eq, refl, sym, ap, subst, ◌∙◌, arith, ◌<◌, codes, String, Global}
 use Rattle.std.specs.Map.{update}
 use Rattle.std.specs.BTreeMap.{BTreeMap, get_by_text}
 use Rattle.std.proofs.lemmas.Bool.{lt-leb}
@@ -14,7 +14,7 @@ use Rattle.tx_script.specs.declared.reply.Reply.{Reply}
 use Rattle.tx_script.specs.declared.reply.Reply.TheVariants as reply
 use Rattle.tx_script.specs.Steps.{Asked, begin, put, get, declare, prewrite, draw, commit, finish}
 use Rattle.tx_script.specs.Replies.{reply_words, with_number}
-use Rattle.tx_script.specs.Scenes.{Scene, Turn, goes, stops, began, finished, begins, finishes, finishes_by, calls, in_session, session_of, session_turn, puts, gets, declares, prewrites, draws, commits, turn, is_name}
+use Rattle.tx_script.specs.Scenes.{Scene, Turn, goes, began, finished, begins, finishes, finishes_by, calls, in_session, session_of, session_turn, puts, gets, declares, prewrites, draws, commits, turn, is_name}
 use Rattle.tx_script.specs.Play.{Leads}
 use Rattle.tx_script.specs.Stands.{Holds, Stands, EngineGoes, EngineStops, SessionGoes, SessionStops}
 

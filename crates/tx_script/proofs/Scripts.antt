@@ -6,7 +6,6 @@ use Rattle.std.proofs.KnownBytes.{Appends-nil, Appends-trans, Appends-kept}
 use Rattle.serde_json.specs.Data.{Data, Items}
 use Rattle.tx_types.specs.declared.fault.Cause.{Cause}
 use Rattle.tx_types.specs.declared.fault.Cause.TheVariants as cause
-use Rattle.tx_plan.specs.declared.answer.Answer.{Answer}
 use Rattle.tx_script.specs.declared.end.End.TheVariants.{Well, Faulted}
 use Rattle.tx_script.specs.declared.script.Turned.{Turned}
 use Rattle.tx_script.specs.declared.reply.Reply.{Reply}

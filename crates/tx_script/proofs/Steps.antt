@@ -23,7 +23,7 @@ use Rattle.tx_client.proofs.Due.{IsFor, prewrite_allowed, commit_allowed}
 use Rattle.tx_client.proofs.Heard.{heard_ok, missed_ok}
 use Rattle.tx_client.proofs.Events.{begun_ok, touched_ok, declared_none, may_declare, declared_owner, declared_ok, drew_ok, may_finish}
 use Rattle.tx_script.specs.Steps.{Asked, begin, put, get, declare, prewrite, draw, commit, finish}
-use Rattle.tx_script.specs.Scenes.{Scene, Turn, goes, asks, stops, is_refused, later_of, with_session, declared_in, began, declared, drew, took, begins, is_name, is_key, is_value, is_full, puts, read_of, gets_by, gets, declares, requests, sends, prewrites, commits, draws, finishes_by, finishes, in_session, turn}
+use Rattle.tx_script.specs.Scenes.{Scene, Turn, is_refused, later_of, with_session, declared_in, began, declared, drew, took, begins, is_name, is_key, is_value, is_full, puts, read_of, gets_by, gets, declares, requests, sends, prewrites, commits, draws, finishes_by, finishes, in_session, turn}
 use Rattle.tx_script.proofs.AllLead.{IsAsked, AllLead}
 use Rattle.tx_script.proofs.Scenes.{IsScene, Fits, changed, quiet, acts, goes_with, took_ok}
 

@@ -1,6 +1,6 @@
 use Rattle.std.proofs.Common.{arith}
 use Rattle.std.proofs.KnownBytes.{Keeps-refl}
-use Rattle.tx_script.proofs.Scripts.{SoFar, so_far, if_some, on_err, breaks, ends_well, ends_faulted, breaks_fault, breaks_last, goes_on, breaks_reply}
+use Rattle.tx_script.proofs.Scripts.{so_far, if_some, on_err, breaks, ends_well, ends_faulted, breaks_fault, breaks_last, goes_on, breaks_reply}
 use Rattle.tx_script.proofs.script.simulate.Goals as goal
 
 pub lines-init : goal.lines-init
