@@ -1,17 +1,16 @@
 -- Collection of one key, record by record from the safe point down.
-use Rattle.std.proofs.Common.{◌≡◌, ◌≢◌, ◌⊎◌, ◌↔◌, inl, inr, refl, sym, ap, ◌∙◌, subst, Bool, true, false, cond, not, List, [], ◌∷◌, length, ℕ, zero, suc, ◌+◌, ◌-◌, ◌<◌, ◌≤◌, add-one, arith, Option, Some, None}
-use Rattle.std.specs.Prelude.{◌&&◌, ◌||◌, nat_lt, AllPairs, Contains, slice_index_or}
+use Rattle.std.proofs.Common.{◌≡◌, ◌≢◌, ◌⊎◌, ◌↔◌, inl, inr, refl, sym, ap, ◌∙◌, subst, Bool, true, false, cond, not, List, [], ◌∷◌, length, ℕ, zero, suc, ◌+◌, ◌-◌, ◌<◌, ◌≤◌, arith, Option, Some, None}
+use Rattle.std.specs.Prelude.{◌&&◌, ◌||◌, AllPairs, Contains, slice_index_or}
 use Rattle.std.proofs.lemmas.Bool.{cases_Bool, and_parts, and_from, and_cases, and_left, and_right, or_cases, or_parts, lt-ltb, le-ltb, cases_lt, cases_order, not-true}
 use Rattle.std.proofs.lemmas.List.{get_or_default}
 use Rattle.tx_types.specs.declared.mutation.Mutation.{Mutation}
 use Rattle.tx_types.specs.declared.mutation.Mutation.TheVariants.{Put, Delete, Lock}
 use Rattle.tx_types.specs.declared.mutation.StoredMutation.{StoredMutation}
 use Rattle.tx_types.specs.declared.write.WriteRec.{WriteRec}
-use Rattle.tx_types.specs.declared.value.StoredValue.TheVariants.{Inline, InDefault}
 use Rattle.tx_plan.specs.Cells.{Write, CommitOf, Rollback, Writes, is_long}
 use Rattle.tx_plan.specs.Stored.{HasWrite, kept, kept_write}
 use Rattle.tx_plan.specs.cases.Collect.{is_visible, is_put, commit_is, none_above, keeps}
-use Rattle.tx_plan.specs.Collecting.{NewestBelow, DroppedOn, long_among, stored_put, stored_visible, stored_long, stands_apart, recorded}
+use Rattle.tx_plan.specs.Collecting.{NewestBelow, DroppedOn, long_among, stored_put, stored_visible, stored_long, recorded}
 use Rattle.tx_plan.proofs.LockRows.{contains_next, contains_first, contains_cases, contains_none}
 
 -- ---- what a record says
@@ -168,7 +167,8 @@ drops_once write safe (suc n) =
       | inr stays ↦ (rw stays (drops_once write safe n))
     ]
 
-keeps_above : (write : Writes) (safe q : ℕ) → safe ≤ q → keeps write safe q ≡ true
+-- a record from the safe point on stays
+pub keeps_above : (write : Writes) (safe q : ℕ) → safe ≤ q → keeps write safe q ≡ true
 keeps_above write safe q le = (rw (le-ltb q safe le) refl)
 
 -- these are all that go

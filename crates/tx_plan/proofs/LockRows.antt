@@ -1,6 +1,6 @@
 -- The locks of a region that started below a timestamp, from a walk over its locks.
-use Rattle.std.proofs.Common.{◌≡◌, ◌⊎◌, inl, inr, refl, sym, ap, ◌∙◌, subst, Bool, true, false, cond, List, [], ◌∷◌, ◌++◌, append_assoc, append-nil, length, ℕ, zero, suc, ◌<◌, ◌≤◌, arith, Option, Some, None}
-use Rattle.std.specs.Prelude.{IsTrue, bytes_eq, nat_lt, Contains, slice_index_or}
+use Rattle.std.proofs.Common.{◌≡◌, ◌⊎◌, inl, inr, refl, sym, ap, ◌∙◌, subst, cond, List, [], ◌∷◌, ◌++◌, append_assoc, append-nil, ℕ, zero, suc, ◌<◌, ◌≤◌, arith, Some}
+use Rattle.std.specs.Prelude.{IsTrue, bytes_eq, nat_lt, Contains}
 use Rattle.std.proofs.lemmas.Bool.{cases_Bool, lt-ltb, le-ltb, ltb-true}
 use Rattle.tx_types.specs.declared.key.Key.{Key}
 use Rattle.tx_types.specs.declared.lock.LockInfo.{LockInfo}
@@ -9,7 +9,7 @@ use Rattle.tx_plan.specs.Cells.{Lock, Cells, info_of}
 use Rattle.tx_plan.specs.Walks.{LockRow, LocksInOrder, lock_by, IsLockWalk}
 use Rattle.tx_plan.specs.cases.LocksBelow.{IsLockBelow, AreRising, AllBelow}
 use Rattle.tx_plan.specs.cases.Collect.{SomeLockBelow, IsFirstBelow}
-use Rattle.tx_plan.proofs.KeyOrder.{lt_trans, lt_other, lt_itself, lt_back, key_same, same_key, other_key}
+use Rattle.tx_plan.proofs.KeyOrder.{lt_trans, lt_other, lt_itself, key_same, same_key}
 
 -- what is told of the rows whose locks started below s
 abbrev pub told_below : ℕ → List LockRow → List LockInfo

@@ -1,7 +1,7 @@
 -- What searches in a plain list find, in the words of the tables.
-use Rattle.std.proofs.Common.{◌≡◌, ◌≢◌, ℕ, ◌==◌, ◌&&◌, ◌⊎◌, inl, inr, Bool, true, false, cond, List, [], ◌∷◌, Option, Some, None, refl, sym, ap, subst, ◌∙◌, ◌<◌, ◌≤◌, arith}
+use Rattle.std.proofs.Common.{◌≡◌, ℕ, ◌==◌, ◌&&◌, ◌⊎◌, inl, inr, Bool, true, false, cond, List, [], ◌∷◌, Option, Some, None, refl, sym, ap, subst, ◌∙◌, ◌<◌, ◌≤◌, arith}
 use Rattle.std.specs.Prelude.{nat_le, nat_lt, option_map}
-use Rattle.std.proofs.lemmas.Bool.{and_from, and_parts, leb-true, le-leb, ltb-true, eqb-true, eq-eqb, cases_Bool, cases_order}
+use Rattle.std.proofs.lemmas.Bool.{and_from, and_parts, leb-true, le-leb, ltb-true, lt-ltb, eqb-true, eq-eqb, cases_Bool, cases_order}
 use Rattle.tx_types.specs.declared.write.CommitRec.{CommitRec}
 use Rattle.tx_types.specs.declared.write.WriteRec.{WriteRec}
 use Rattle.tx_types.specs.declared.write.WriteRec.TheVariants as stored
@@ -13,13 +13,14 @@ use Rattle.tx_plan.specs.declared.plain.records.PlainLock.{PlainLock}
 use Rattle.tx_plan.specs.declared.plain.records.PlainWrite.{PlainWrite}
 use Rattle.tx_plan.specs.Cells as cells
 use Rattle.tx_plan.specs.Cells.{CommitRecord, CommitOf, Write, IsVisible}
-use Rattle.tx_plan.specs.Whole.{whole_write, whole_commit}
-use Rattle.tx_plan.specs.Plain.{first, is_at, is_commit, is_own, is_seen, falls_below, is_falling, plain_cells}
+use Rattle.tx_plan.specs.Whole.{whole_write}
+use Rattle.tx_plan.specs.Plain.{first, is_at, is_commit, is_own, is_seen, falls_below, is_below, is_falling, plain_cells}
 use Rattle.tx_plan.specs.cases.Collect.{is_visible}
 use Rattle.tx_plan.specs.cases.Prewrite.{SomeAbove, NewestAbove}
+use Rattle.tx_plan.specs.Collecting.{NewestBelow}
 use Rattle.tx_plan.specs.Traces.{OwnCommit}
 use Rattle.tx_plan.specs.Stored.{HasWrite, kept_write}
-use Rattle.tx_plan.specs.Reads.{Finds, Reads}
+use Rattle.tx_plan.specs.Reads.{Finds}
 
 -- which way a choice went
 chosen : {X : Type 0} (b : Bool) (x y z : X) → cond b x y ≡ z → ((b ≡ true) × (x ≡ z)) ⊎ ((b ≡ false) × (y ≡ z))
@@ -233,3 +234,28 @@ record_absent lock xs c e = ap (option_map (λ (y : PlainWrite). whole_write y.r
 
 pub commit_passes : (xs : List PlainWrite) (x : PlainWrite) → first is_commit xs ≡ Some x → (rec : CommitRec) × (x.rec ≡ stored.Commit rec)
 commit_passes xs x e = commit_rec x.rec (passes is_commit xs x e)
+
+-- ---- its history
+
+pub below_found : (lock : Option PlainLock) (xs : List PlainWrite) (at : ℕ) (x : PlainWrite) → is_falling xs ≡ true → first (is_below at) xs ≡ Some x → NewestBelow (plain_cells lock xs).write at x.at
+below_found lock xs at x f e = record {
+  below = ltb-true x.at at (passes (is_below at) xs x e);
+  stands = λ none. (cc (none, holds lock xs x.at x (stands (is_below at) 18446744073709551615 xs x f e)));
+  newest = λ q low high. none_between q low high (first (is_at q) xs) refl;
+}
+  where
+    none_between : (q : ℕ) → x.at < q → q < at → (o : Option PlainWrite) → first (is_at q) xs ≡ o → (plain_cells lock xs).write q ≡ None
+    none_between q low high None found = ap (option_map (λ (y : PlainWrite). whole_write y.rec y.whole)) found
+    none_between q low high (Some y) found =
+        let mark : y.at ≡ q = eqb-true y.at q (passes (is_at q) xs y found) in
+        let upto : q ≤ x.at = newest (is_below at) 18446744073709551615 xs q x y f e found (lt-ltb y.at at (omega (arith, mark, high))) in
+        absurd (omega (arith, upto, low))
+
+pub below_absent : (lock : Option PlainLock) (xs : List PlainWrite) (at : ℕ) → first (is_below at) xs ≡ None → (q : ℕ) → q < at → (plain_cells lock xs).write q ≡ None
+below_absent lock xs at e q lt = go (first (is_at q) xs) refl
+  where
+    go : (o : Option PlainWrite) → first (is_at q) xs ≡ o → (plain_cells lock xs).write q ≡ None
+    go None found = ap (option_map (λ (y : PlainWrite). whole_write y.rec y.whole)) found
+    go (Some y) found =
+        let mark : y.at ≡ q = eqb-true y.at q (passes (is_at q) xs y found) in
+        absurd (none_passes (is_below at) xs q y e found (lt-ltb y.at at (omega (arith, mark, lt))))

@@ -1,6 +1,5 @@
 -- What a read finds on a key, from the records that a store keeps.
-use Rattle.std.proofs.Common.{◌≡◌, ℕ, ◌<◌, inl, inr, List, Option, Some, None, refl, sym, ap, ◌∙◌}
-use Rattle.std.specs.Prelude.{Bool, true, false, cond}
+use Rattle.std.proofs.Common.{◌≡◌, inl, inr, Option, refl, ap, ◌∙◌}
 use Rattle.tx_types.specs.declared.key.Key.{Key}
 use Rattle.tx_types.specs.declared.value.Value.{Value}
 use Rattle.tx_types.specs.declared.mutation.Mutation.{Mutation}
@@ -17,7 +16,7 @@ use Rattle.tx_plan.specs.Cells.{Cells, info_of}
 use Rattle.tx_plan.specs.Reads.{Blocks, Reads, read_answer}
 use Rattle.tx_plan.specs.Stored.{KeepsLock, kept}
 use Rattle.tx_plan.specs.Blocking.{HasBlocking}
-use Rattle.tx_plan.specs.Tables.{Case, CaseOf}
+use Rattle.tx_plan.specs.Tables.{CaseOf}
 
 kept_kind : (m : Mutation) → stored_kind (kept m) ≡ kind_of m
 kept_kind (Put v) = refl

@@ -1,7 +1,7 @@
 -- A scan that walks the rows of a region: what it has found so far, at each row, and where it ends.
-use Rattle.std.proofs.Common.{◌≡◌, ◌⊎◌, inl, inr, refl, sym, ap, ◌∙◌, subst, Bool, true, false, cond, List, [], ◌∷◌, ◌++◌, length, length-append, ℕ, ◌+◌, ◌<◌, ◌≤◌, arith, Option, Some, None}
+use Rattle.std.proofs.Common.{◌≡◌, ◌⊎◌, inl, inr, refl, sym, ap, ◌∙◌, subst, Bool, true, false, cond, List, [], ◌∷◌, ◌++◌, length, length-append, ℕ, ◌<◌, ◌≤◌, arith, Some, None}
 use Rattle.std.specs.Prelude.{IsTrue, bytes_eq, ◌&&◌, ◌||◌, nat_lt, max}
-use Rattle.std.proofs.lemmas.Bool.{and_parts, and_from, or_cases, or_right, or_left, cases_Bool, lt-ltb, le-ltb}
+use Rattle.std.proofs.lemmas.Bool.{and_parts, and_from, or_cases, or_right, or_left, cases_Bool, le-ltb}
 use Rattle.tx_types.specs.declared.key.Key.{Key}
 use Rattle.tx_types.specs.declared.value.Value.{Value}
 use Rattle.tx_types.specs.declared.mutation.KeyValue.{KeyValue}

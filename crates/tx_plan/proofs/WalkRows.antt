@@ -1,11 +1,11 @@
 -- Rows in the order of their keys, taken one after another.
-use Rattle.std.proofs.Common.{◌≡◌, ◌⊎◌, inl, inr, refl, sym, ap, ◌∙◌, subst, Bool, true, false, cond, List, [], ◌∷◌}
-use Rattle.std.specs.Prelude.{IsTrue, bytes_eq}
+use Rattle.std.proofs.Common.{◌≡◌, refl, ◌∙◌, subst, Bool, true, false, List, [], ◌∷◌}
+use Rattle.std.specs.Prelude.{IsTrue}
 use Rattle.tx_types.specs.declared.key.Key.{Key}
-use Rattle.tx_plan.specs.Keys.{key_lt, key_le}
+use Rattle.tx_plan.specs.Keys.{key_lt}
 use Rattle.tx_plan.specs.Cells.{Cells, no_cells}
 use Rattle.tx_plan.specs.Walks.{KeyRow, AreInOrder, KeysPass, cells_by, IsWalk}
-use Rattle.tx_plan.proofs.KeyOrder.{lt_trans, lt_other, key_same, other_key, lt_back, lt_itself}
+use Rattle.tx_plan.proofs.KeyOrder.{lt_trans, key_same, other_key, lt_itself}
 
 -- whether a key comes before all of the rows
 abbrev pub comes_before : List KeyRow → Key → Bool

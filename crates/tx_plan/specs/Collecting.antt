@@ -1,5 +1,5 @@
 -- What collection drops of one key, in the words of its write records.
-use Rattle.std.specs.Prelude.{◌≡◌, ◌≢◌, ◌↔◌, ℕ, suc, ◌<◌, Bool, true, false, cond, List, [], ◌∷◌, AllPairs, Contains, Option, Some, None}
+use Rattle.std.specs.Prelude.{◌≡◌, ◌≢◌, ◌↔◌, ℕ, suc, ◌<◌, Bool, true, false, cond, List, [], ◌∷◌, AllPairs, Contains, None}
 use Rattle.tx_types.specs.declared.write.WriteRec.{WriteRec}
 use Rattle.tx_types.specs.declared.write.WriteRec.TheVariants.{Commit, Rollback}
 use Rattle.tx_types.specs.declared.mutation.StoredMutation.{StoredMutation}

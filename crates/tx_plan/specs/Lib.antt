@@ -14,4 +14,6 @@ pub mod Locking
 pub mod Walks
 pub mod Whole
 pub mod Plain
+pub mod PlainRegions
 pub mod Collecting
+pub mod RegionDrops

@@ -1,8 +1,6 @@
 -- What a plain list of write records says, newest first.
 use Rattle.std.specs.Prelude.{◌==◌, ◌&&◌, ℕ, nat_le, nat_lt, Bool, true, false, cond, List, [], ◌∷◌, Option, Some, None, option_map}
 use Rattle.tx_types.specs.declared.write.WriteRec.TheVariants as stored
-use Rattle.tx_types.specs.declared.mutation.Mutation.{Mutation}
-use Rattle.tx_types.specs.declared.mutation.Mutation.TheVariants as mutation
 use Rattle.tx_plan.specs.declared.plain.records.PlainLock.{PlainLock}
 use Rattle.tx_plan.specs.declared.plain.records.PlainWrite.{PlainWrite}
 use Rattle.tx_plan.specs.Cells.{Cells}
@@ -17,6 +15,10 @@ first test (x ∷ xs) = cond (test x) (Some x) (first test xs)
 -- it stands at c
 abbrev pub is_at : ℕ → PlainWrite → Bool
 is_at c x = x.at == c
+
+-- it stands below n
+abbrev pub is_below : ℕ → PlainWrite → Bool
+is_below n x = nat_lt x.at n
 
 -- it is a commit record
 abbrev pub is_commit : PlainWrite → Bool

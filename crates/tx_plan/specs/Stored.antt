@@ -9,7 +9,7 @@ use Rattle.tx_types.specs.declared.lock.LockRec.{LockRec}
 use Rattle.tx_types.specs.declared.write.WriteRec.{WriteRec}
 use Rattle.tx_types.specs.declared.write.WriteRec.TheVariants as write_rec
 use Rattle.tx_types.specs.Locks.{mode_of, secondaries_of}
-use Rattle.tx_plan.specs.Cells.{Lock, CommitRecord, Write, CommitOf, Rollback, Writes, is_long}
+use Rattle.tx_plan.specs.Cells.{Lock, Write, CommitOf, Rollback, Writes, is_long}
 
 -- a mutation as its record keeps it
 abbrev pub kept : Mutation → StoredMutation

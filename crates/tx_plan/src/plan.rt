@@ -3,6 +3,7 @@ pub mod batch_rollback;
 pub mod check_secondary_locks;
 pub mod check_txn_status;
 pub mod collect;
+pub mod collect_region;
 pub mod commit;
 pub mod get;
 pub mod locks_below;

@@ -1,16 +1,17 @@
 //! The cells of one key in a plain list.
-ghost use Rattle.std.specs.Prelude.{◌≡◌, ◌↔◌, true, IsSome, IfSome};
+ghost use Rattle.std.specs.Prelude.{◌≡◌, ◌↔◌, length, true, IsSome, IfSome};
 ghost use Rattle.tx_plan.specs.Plain.{is_falling, plain_cells};
 
 use crate::cells::{CommitAt, KeyCells};
+use crate::history::KeyHistory;
 use crate::plain::records::{PlainLock, PlainWrite};
-use crate::plain::searches::{falls, find_at, find_commit, find_own, find_seen};
+use crate::plain::searches::{falls, find_at, find_below, find_commit, find_own, find_seen};
 use tx_types::{LockRec, Mutation, Ts, Value, WriteRec};
 
 /// The cells of one key, write records newest first.
 #[derive(Debug, Drop)]
 pub struct PlainCells {
-    lock: Option<PlainLock>,
+    pub(crate) lock: Option<PlainLock>,
     writes: Vec<PlainWrite>,
     ghost falling: { is_falling writes.items ≡ true },
 }
@@ -27,6 +28,13 @@ impl PlainCells {
         } else {
             None
         }
+    }
+
+    /// How many write records it has.
+    pub fn record_count(&self) -> u64
+        ensures { result ≡ length self.now.writes.items }
+    {
+        self.writes.len() as u64
     }
 }
 
@@ -76,6 +84,15 @@ impl KeyCells for PlainCells {
                 Mutation::Put(value) => Some(value),
                 _ => None,
             },
+            None => None,
+        }
+    }
+}
+
+impl KeyHistory for PlainCells {
+    fn record_below(&self, at: Ts) -> Option<Ts> {
+        match find_below(&self.writes, at) {
+            Some(write) => Some(write.at),
             None => None,
         }
     }

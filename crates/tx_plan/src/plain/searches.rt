@@ -1,6 +1,6 @@
 //! Searches in write records, newest first.
 ghost use Rattle.std.specs.Prelude.{◌≡◌, option_map};
-ghost use Rattle.tx_plan.specs.Plain.{first, is_at, is_commit, is_own, is_seen, is_falling};
+ghost use Rattle.tx_plan.specs.Plain.{first, is_at, is_below, is_commit, is_own, is_seen, is_falling};
 ghost use Rattle.tx_plan.specs.cases.Collect.{is_visible};
 
 use crate::plain::records::PlainWrite;
@@ -27,6 +27,18 @@ pub fn find_at(writes: &[PlainWrite], at: Ts) -> Option<&PlainWrite>
 {
     for write in writes {
         if write.at == at {
+            return Some(write);
+        }
+    }
+    None
+}
+
+/// The newest write record below a timestamp.
+pub fn find_below(writes: &[PlainWrite], at: Ts) -> Option<&PlainWrite>
+    ensures { option_map (λ write. write.now) result ≡ first (is_below at) writes.now }
+{
+    for write in writes {
+        if write.at < at {
             return Some(write);
         }
     }

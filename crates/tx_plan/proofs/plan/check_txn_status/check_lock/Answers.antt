@@ -4,7 +4,7 @@ use Rattle.tx_types.specs.declared.lock.LockInfo.{LockInfo}
 use Rattle.tx_plan.specs.declared.answer.Answer.TheVariants.{Locked, RolledBack}
 use Rattle.tx_plan.specs.Cells.{info_of}
 use Rattle.tx_plan.specs.cases.CheckTxnStatus.{with_minimum}
-use Rattle.tx_plan.proofs.Orders.{not_below, is_below, not_true}
+use Rattle.tx_plan.proofs.Orders.{is_below, not_true}
 use Rattle.tx_plan.proofs.ReadPlans.{info_kept}
 use Rattle.tx_plan.proofs.Checking.{of_own, told_stays, pushed_leaves, told_minimum}
 use Rattle.tx_plan.proofs.plan.check_txn_status.check_lock.Goals as goal

@@ -1,4 +1,4 @@
-use Rattle.std.proofs.Common.{◌≡◌, ◌≤◌, ◌<◌, inl, inr, refl, sym, arith}
+use Rattle.std.proofs.Common.{◌≤◌, inl, inr, refl, sym, arith}
 use Rattle.std.proofs.lemmas.Map.Keys.{ge_from_not_lt}
 use Rattle.tx_plan.specs.declared.planned.Planned.{Planned}
 use Rattle.tx_plan.specs.Cells.{Lock}

@@ -1,5 +1,4 @@
-use Rattle.std.proofs.Common.{rules, ◌≡◌, ◌<◌, ◌∙◌, sym, subst, ap, drop, ◌∷◌}
-use Rattle.tx_plan.specs.Cells.{info_of}
+use Rattle.std.proofs.Common.{rules, ◌≡◌, ◌<◌, ◌∙◌, sym, subst, drop, ◌∷◌}
 use Rattle.tx_plan.specs.Walks.{LockRow}
 use Rattle.tx_plan.specs.cases.Collect.{IsFirstBelow}
 use Rattle.tx_plan.proofs.ReadPlans.{info_kept}

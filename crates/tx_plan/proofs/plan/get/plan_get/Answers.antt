@@ -1,4 +1,4 @@
-use Rattle.std.proofs.Common.{rules, ◌≡◌, ◌<◌, inl, inr, refl, Some, None, ap, sym, ◌∙◌, subst}
+use Rattle.std.proofs.Common.{rules, ◌<◌, inr, Some, None, ap, ◌∙◌}
 use Rattle.tx_plan.specs.declared.answer.Answer.TheVariants.{Found}
 use Rattle.tx_plan.proofs.ReadPlans.{answers_lock, answers_value}
 use Rattle.tx_plan.proofs.plan.get.plan_get.Goals as goal

@@ -1,7 +1,6 @@
-use Rattle.std.proofs.Common.{rules, ◌≡◌, ◌<◌, inr, sym, ap, ◌∙◌}
+use Rattle.std.proofs.Common.{rules, ◌<◌, inr, sym, ap, ◌∙◌}
 use Rattle.std.specs.Prelude.{max}
 use Rattle.tx_plan.specs.Cells.{with_max_read}
-use Rattle.tx_plan.specs.Reads.{raised}
 use Rattle.tx_plan.proofs.Scans.{scan_raises}
 use Rattle.tx_plan.proofs.plan.scan.plan_scan.Goals as goal
 

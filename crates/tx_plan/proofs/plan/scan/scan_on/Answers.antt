@@ -1,6 +1,5 @@
-use Rattle.std.proofs.Common.{arith, ◌≡◌, ◌<◌, ◌≤◌, ◌++◌, sym, subst, ap, ◌∙◌, inl, inr, length, drop, refl, List, [], ◌∷◌}
+use Rattle.std.proofs.Common.{◌≡◌, ◌<◌, ◌≤◌, ◌++◌, sym, subst, ap, ◌∙◌, inl, inr, length, drop, refl, [], ◌∷◌}
 use Rattle.tx_plan.specs.declared.answer.Answer.TheVariants.{KeyIsLocked}
-use Rattle.tx_plan.specs.Cells.{info_of}
 use Rattle.tx_plan.specs.Walks.{KeyRow}
 use Rattle.tx_plan.proofs.KeyOrder.{ge_false, ge_true}
 use Rattle.tx_plan.proofs.ReadPlans.{info_kept}

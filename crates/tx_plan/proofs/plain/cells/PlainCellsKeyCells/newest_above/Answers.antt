@@ -1,7 +1,6 @@
-use Rattle.std.proofs.Common.{◌≡◌, ◌≤◌, ◌<◌, Some, None, sym, ap, ◌∙◌, Bor, true}
+use Rattle.std.proofs.Common.{◌≡◌, Some, None, sym, ap, ◌∙◌, Bor}
 use Rattle.std.specs.Prelude.{option_map}
 use Rattle.std.proofs.lemmas.Map.Keys.{le_from_is_le}
-use Rattle.tx_types.specs.declared.write.WriteRec.{WriteRec}
 use Rattle.tx_plan.specs.declared.plain.records.PlainWrite.{PlainWrite}
 use Rattle.tx_plan.specs.Plain.{first, is_commit}
 use Rattle.tx_plan.proofs.PlainLists.{newest_found, newest_low, newest_absent, commit_passes}

@@ -2,7 +2,6 @@ use Rattle.std.proofs.Common.{◌≡◌, Some, None, sym, ap, ◌∙◌, Bor}
 use Rattle.std.specs.Prelude.{option_map}
 use Rattle.tx_plan.specs.declared.plain.records.PlainWrite.{PlainWrite}
 use Rattle.tx_plan.specs.Plain.{first, is_at}
-use Rattle.tx_plan.specs.Whole.{whole_write}
 use Rattle.tx_plan.proofs.PlainLists.{record_found, record_absent}
 use Rattle.tx_plan.proofs.plain.cells.PlainCellsKeyCells.record_at.Goals as goal
 
