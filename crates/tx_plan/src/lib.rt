@@ -14,6 +14,8 @@ mod plan;
 #[cfg(test)]
 mod plan_tests;
 mod planned;
+#[cfg(test)]
+mod read_tests;
 mod region_no;
 #[cfg(test)]
 mod tests;
