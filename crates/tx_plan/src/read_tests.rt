@@ -5,4 +5,5 @@ mod collect;
 mod get;
 mod locks_below;
 mod raise_safe;
+mod scan;
 mod shown;
