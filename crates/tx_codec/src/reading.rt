@@ -11,6 +11,7 @@ ghost use Rattle.tx_codec.specs.Readers.{Reads};
 use crate::marks::{ASYNC, DELETE, ELSEWHERE, INLINE, LOCK, PUT, TWO_PHASE};
 use byteorder::{BigEndian, ByteOrder};
 use std::alloc::Global;
+use std::cmp::min;
 use tx_types::limits::{MAX_KEY_BYTES, MAX_SECONDARIES, MIN_KEY_BYTES};
 use tx_types::{
     Fault, Key, LockKind, LockMode, Mode, Secondaries, StoredMutation, StoredValue, Value,
@@ -120,7 +121,10 @@ pub(crate) fn take_key(alloc: Global, bytes: &[u8]) -> Result<(Key, &[u8]), Unre
     Ok((Key::new(alloc, key)?, rest))
 }
 
-/// Keys behind their number.
+/// The fewest bytes that a key takes behind its length.
+const SHORTEST: usize = 3;
+
+/// Keys behind their number. No more room is taken than the bytes can fill.
 fn take_keys(alloc: Global, bytes: &[u8]) -> Result<(Secondaries, &[u8]), Unread>
     ensures { Reads AreOthers keys_bytes bytes.now result }
 {
@@ -128,7 +132,7 @@ fn take_keys(alloc: Global, bytes: &[u8]) -> Result<(Secondaries, &[u8]), Unread
     if count as usize > MAX_SECONDARIES {
         return Err(Unread::Malformed);
     }
-    let mut keys = Secondaries::new(alloc);
+    let mut keys = Secondaries::with_capacity(alloc, min(count as usize, start.len() / SHORTEST))?;
     let mut rest = start;
     for _ in 0..count {
         let (key, after) = take_key(alloc, rest)?;

@@ -139,6 +139,11 @@ fn write_records_have_one_spelling(rt: HostRuntime) -> Result<(), Fail> {
         assert_eq!(rt; shown(&rt, &bytes)?.as_str(), want);
         assert!(rt; decode_write(rt.alloc(), &bytes)? == Some(rec));
     }
+    Ok(())
+}
+
+#[test]
+fn other_bytes_are_no_write_record(rt: HostRuntime) -> Result<(), Fail> {
     for text in [
         "",
         "52010000000000000002",
@@ -167,20 +172,24 @@ fn long_values_are_not_inline(rt: HostRuntime) -> Result<(), Fail> {
     Ok(())
 }
 
-#[test]
-fn lock_records_have_one_spelling(rt: HostRuntime) -> Result<(), Fail> {
-    let want = "5001000000000000000100000000000000020000000a0001610001000162010178";
-    let mut others = Secondaries::new(rt.alloc());
-    assert!(rt; others.as_slice().is_empty());
+/// An async lock of the key `a` with the other key `b`.
+fn async_lock(rt: &HostRuntime) -> Result<LockRec, Fail> {
+    let mut others = Secondaries::with_capacity(rt.alloc(), 1)?;
     others.push(Key::new(rt.alloc(), b"b")?)?;
-    let lock = LockRec {
-        mutation: put(&rt, b"x")?,
+    Ok(LockRec {
+        mutation: put(rt, b"x")?,
         mode: LockMode::Async(others),
         start: Ts::new(1),
         min: Ts::new(2),
         ttl: 10,
         primary: Key::new(rt.alloc(), b"a")?,
-    };
+    })
+}
+
+#[test]
+fn lock_records_have_one_spelling(rt: HostRuntime) -> Result<(), Fail> {
+    let want = "5001000000000000000100000000000000020000000a0001610001000162010178";
+    let lock = async_lock(&rt)?;
     assert!(rt; is_storable(&lock.mutation));
     let bytes = encode_lock(rt.alloc(), &lock)?;
     assert_eq!(rt; shown(&rt, &bytes)?.as_str(), want);
@@ -190,29 +199,39 @@ fn lock_records_have_one_spelling(rt: HostRuntime) -> Result<(), Fail> {
         format!(in rt.alloc(); "{again:?}")?,
         format!(in rt.alloc(); "{lock:?}")?
     );
+    Ok(())
+}
 
-    let plain = "4c0000000000000000010000000000000000000000000001";
-    for (text, whole) in [
-        ("4c00000000000000000100000000000000000000000a000161", true),
-        (
-            "4c00000000000000000100000000000000000000000a00016100",
-            false,
-        ),
-        ("4c00000000000000000100000000000000000000000a0000", false),
-        (
-            "4c01000000000000000100000000000000000000000a0001610000",
-            true,
-        ),
-        ("4c01000000000000000100000000000000000000000a000161", false),
-        (
-            "4c01000000000000000100000000000000000000000a0001610001",
-            false,
-        ),
-        ("4c02000000000000000100000000000000000000000a000161", false),
-        ("5200000000000000000100000000000000000000000a000161", false),
-        ("", false),
-        (plain, false),
-    ] {
+/// Bytes, and whether they are a lock record.
+const LOCKS: [(&str, bool); 11] = [
+    ("4c00000000000000000100000000000000000000000a000161", true),
+    (
+        "4c00000000000000000100000000000000000000000a00016100",
+        false,
+    ),
+    ("4c00000000000000000100000000000000000000000a0000", false),
+    (
+        "4c01000000000000000100000000000000000000000a0001610000",
+        true,
+    ),
+    ("4c01000000000000000100000000000000000000000a000161", false),
+    (
+        "4c01000000000000000100000000000000000000000a0001610001",
+        false,
+    ),
+    (
+        "4c01000000000000000100000000000000000000000a0001610100",
+        false,
+    ),
+    ("4c02000000000000000100000000000000000000000a000161", false),
+    ("5200000000000000000100000000000000000000000a000161", false),
+    ("4c0000000000000000010000000000000000000000000001", false),
+    ("", false),
+];
+
+#[test]
+fn other_bytes_are_no_lock_record(rt: HostRuntime) -> Result<(), Fail> {
+    for (text, whole) in LOCKS {
         let bytes = bytes_of(&rt, text)?;
         let found = decode_lock(rt.alloc(), &bytes)?;
         assert_eq!(rt; found.is_some(), whole, "{text}");

@@ -11,12 +11,10 @@ mod laws;
 mod lists;
 mod plain;
 mod plan;
-#[cfg(test)]
-mod plan_tests;
 mod planned;
-#[cfg(test)]
-mod read_tests;
 mod region_no;
+#[cfg(test)]
+mod table_tests;
 #[cfg(test)]
 mod tests;
 mod walk;

@@ -1,4 +1,5 @@
 pub mod TextLines
+pub mod Refusals
 pub mod Members
 pub mod Arity
 pub mod LineSteps

@@ -1,5 +1,5 @@
 //! The replies of a script, and the lines that tell them.
-ghost use Rattle.std.specs.Prelude.{◌≡◌, false, [], ◌∷◌, ◌++◌, IfOk, string_bytes};
+ghost use Rattle.std.specs.Prelude.{◌≡◌, false, [], ◌∷◌, ◌++◌, IfOk, OnOk, string_bytes};
 ghost use Rattle.serde_json.specs.Data.{number as numeral, unsigned, array, item};
 ghost use Rattle.serde_json.specs.View.{view};
 ghost use Rattle.serde_json.specs.Written.{has_float, compact_text};
@@ -9,6 +9,7 @@ use crate::answer_text::answer_value;
 use crate::words::cause_word;
 use serde_json::{Value, json};
 use std::alloc::{AllocError, Global};
+use std::fmt::Write;
 use tx_core::{Answer, Outcome, UnknownCause};
 use tx_types::{Cause, Ts};
 
@@ -86,6 +87,17 @@ pub(crate) fn reply_line(alloc: Global, number: u64, reply: &Reply) -> Result<St
 {
     let value = reply_value(alloc, number, reply)?;
     line_of(alloc, &value)
+}
+
+/// The bytes that the line of E12 takes at most, with any number.
+pub(crate) const REFUSAL_BYTES: usize = 32;
+
+/// The line of E12, with its newline. It is written where `REFUSAL_BYTES` were kept for it, since memory was just refused.
+pub(crate) fn refusal_line(room: &mut String, number: u64) -> Result<(), AllocError>
+    ensures { OnOk result (string_bytes room.new ≡ reply_text (number, reply_words Reply.OutOfMemory)) }
+{
+    room.clear();
+    write!(room, "[{number},\"E12\"]\n")
 }
 
 /// The line that ends a script with its fault, with its newline.

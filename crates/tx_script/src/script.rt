@@ -9,7 +9,7 @@ ghost use Rattle.tx_script.specs.Stands.{EngineGoes, EngineStops, PlaysLine};
 use crate::engine::Engine;
 use crate::lines::{Found, read_line};
 use crate::output::{finish, send};
-use crate::reply::{Reply, fault_line, reply_line};
+use crate::reply::{REFUSAL_BYTES, Reply, fault_line, refusal_line, reply_line};
 use crate::step::script_step;
 use crate::{Broken, End};
 use serde_json::Value;
@@ -87,11 +87,30 @@ fn next<R: Read>(
     }
 }
 
-// Writes the line of a reply, or the first few bytes of it before a failure.
-fn tell<W: Write>(alloc: Global, writer: &mut W, number: u64, reply: Reply) -> Result<(), Broken>
+// Writes the line of E12, or the first few bytes of it before a failure.
+fn tell_refusal<W: Write>(writer: &mut W, room: &mut String, number: u64) -> Result<(), Broken>
+    ensures all { OnOk result (Appends (W.contents writer.old) (W.contents writer.new) (reply_text (number, reply_words Reply.OutOfMemory))) }
+    ensures part { OnErr result (AppendsPart (W.contents writer.old) (W.contents writer.new) (reply_text (number, reply_words Reply.OutOfMemory))) }
+{
+    refusal_line(room, number)?;
+    send(writer, room.as_bytes())
+}
+
+// Writes the line of a reply, or the first few bytes of it before a failure. The line of E12 takes the room that is kept
+// for it.
+fn tell<W: Write>(
+    alloc: Global,
+    writer: &mut W,
+    room: &mut String,
+    number: u64,
+    reply: Reply,
+) -> Result<(), Broken>
     ensures all { OnOk result (Appends (W.contents writer.old) (W.contents writer.new) (reply_text (number, reply_words reply))) }
     ensures part { OnErr result (AppendsPart (W.contents writer.old) (W.contents writer.new) (reply_text (number, reply_words reply))) }
 {
+    if let Reply::OutOfMemory = reply {
+        return tell_refusal(writer, room, number);
+    }
     let text = owned_line(alloc, number, reply)?;
     send(writer, text.as_bytes())
 }
@@ -137,6 +156,7 @@ pub fn simulate<R: Read, W: Write>(
 {
     let mut engine = Engine::new(alloc);
     let mut line = Vec::new(alloc);
+    let mut room = String::with_capacity(alloc, REFUSAL_BYTES)?;
     let mut number = 0;
     'lines: loop {
         match next(alloc, reader, &mut line, &mut engine, number + 1)? {
@@ -146,7 +166,7 @@ pub fn simulate<R: Read, W: Write>(
             }
             Turned::Goes(reply) => {
                 number += 1;
-                tell(alloc, writer, number, reply)?;
+                tell(alloc, writer, &mut room, number, reply)?;
             }
             Turned::Stops(cause) => {
                 tell_fault(alloc, writer, number + 1, cause)?;

@@ -34,6 +34,15 @@ impl Secondaries {
         }
     }
 
+    /// The empty list, with room for so many keys. `OutOfMemory` where there is none.
+    pub fn with_capacity(alloc: Global, count: usize) -> Result<Secondaries, Fault>
+        ensures ok { IfOk result (λ list. list ≡ []) }
+        ensures err { IfErr result (λ e. e ≡ Fault.OutOfMemory) }
+    {
+        let items = Vec::with_capacity(alloc, count)?;
+        Ok(Secondaries { items })
+    }
+
     /// Adds one at the end. `OutOfMemory` leaves the list as it was.
     pub fn push(&mut self, item: Key) -> Result<(), Fault>
         requires { length self.old < MAX_SECONDARIES }

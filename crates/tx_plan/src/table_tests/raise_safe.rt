@@ -1,5 +1,5 @@
 //! The rows of RaiseSafe.
-use crate::read_tests::shown::{same, told};
+use crate::table_tests::shown::{same, told};
 use crate::{RaiseSafe, RegionNo, plan_raise_safe};
 use std::test::Fail;
 use tx_types::Ts;
@@ -17,9 +17,13 @@ fn raises(rt: &HostRuntime, safe: u64, wanted: &str) -> Result<(), Fail> {
 
 #[test]
 fn rows_of_raise_safe(rt: HostRuntime) -> Result<(), Fail> {
-    raises(&rt, 21, "FutureTimestamp 20, safe 3")?;
-    raises(&rt, 2, "BelowSafePoint 3, safe 3")?;
-    raises(&rt, 3, "Raised, safe 3")?;
-    raises(&rt, 20, "Raised, safe 20")?;
+    for (safe, wanted) in [
+        (21, "FutureTimestamp 20, safe 3"),
+        (2, "BelowSafePoint 3, safe 3"),
+        (3, "Raised, safe 3"),
+        (20, "Raised, safe 20"),
+    ] {
+        raises(&rt, safe, wanted)?;
+    }
     Ok(())
 }

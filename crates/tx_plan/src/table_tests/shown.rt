@@ -1,5 +1,5 @@
 //! Answers and changes as text, for the tests of the plans.
-use crate::{Answer, Infos, KeyChange, Planned, ReadPlan};
+use crate::{Answer, Infos, KeyChange, LockPlanned, Planned, ReadPlan};
 use std::test::Fail;
 use tx_types::{Key, KeyValues};
 
@@ -107,6 +107,15 @@ pub fn shown(rt: &HostRuntime, planned: &Planned) -> Result<String, Fail> {
             removed,
             left,
         } => format!(in alloc; "{answer}, roll back {start} {removed:?} {left:?}")?,
+    };
+    Ok(text)
+}
+
+pub fn new_lock(rt: &HostRuntime, planned: &LockPlanned) -> Result<String, Fail> {
+    let answer = told(rt, &planned.answer)?;
+    let text = match &planned.lock {
+        None => answer,
+        Some(lock) => format!(in rt.alloc(); "{answer}, lock {:?} {}", lock.mode, lock.min)?,
     };
     Ok(text)
 }
