@@ -43,6 +43,10 @@ kept_commit : (r : WriteRec) (m : Mutation) (rec : CommitRecord) → whole_write
 kept_commit (stored.Commit of) m rec e = (of, refl, ap start_of e, ap mutation_of e)
 kept_commit (stored.Rollback start) m rec e = absurd (cc e)
 
+-- a record that keeps a commit record has its start
+pub kept_start : (r : WriteRec) (m : Mutation) (rec : CommitRecord) (of : CommitRec) → whole_write r m ≡ CommitOf rec → r ≡ stored.Commit of → of.start ≡ rec.start
+kept_start r m rec of e is = ap start_of (ap (λ (x : WriteRec). whole_write x m) (sym is) ∙ e)
+
 module _ (f : ℕ → Option PlainWrite) where
   -- no record stands at the bound or below but at `at` and lower
   abbrev pub Nearest : ℕ → ℕ → Type 0
@@ -51,6 +55,10 @@ module _ (f : ℕ → Option PlainWrite) where
   -- no record stands at the bound or below
   abbrev pub NoneUpto : ℕ → Type 0
   NoneUpto bound = (q : ℕ) → q ≤ bound → f q ≡ None
+
+  -- each commit record stands above its transaction's start
+  abbrev pub DatesCommits : Type 0
+  DatesCommits = (c : ℕ) (x : PlainWrite) (of : CommitRec) → f c ≡ Some x → x.rec ≡ stored.Commit of → of.start < c
 
   -- what stands is kept
   held : (c : ℕ) (w : Write) → writes f c ≡ Some w → (x : PlainWrite) × (f c ≡ Some x) × (whole_write x.rec x.whole ≡ w)
@@ -113,6 +121,16 @@ module _ (f : ℕ → Option PlainWrite) where
       | inl same ↦ other (same.1.0, same.1.1, same.1.2 ∙ own.own)
       | inr over ↦ clear c over own
     ]
+
+    -- where commits stand above their starts, none stands at the start or below
+    pub own_upto : (bound at : ℕ) → NoOwn bound → Nearest bound at → at ≤ t → DatesCommits → (c : ℕ) → OwnCommit (writes f) t c → ⊥
+    own_upto bound at clear near upto dated c own =
+        let x = held c (CommitOf own.rec) own.stands in
+        let is = kept_commit x.0.rec x.0.whole own.rec x.2 in
+        let lt : is.0.start < c = dated c x.0 is.0 x.1 is.1 in
+        let own_start : is.0.start ≡ t = is.2 ∙ own.own in
+        let over : at < c = omega (arith, upto, lt, own_start) in
+        clear c (beyond bound at c (CommitOf own.rec) near own.stands over) own
 
   -- ---- the newest commit record
 

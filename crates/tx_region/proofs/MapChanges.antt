@@ -1,5 +1,5 @@
 -- What a change of the maps makes of the cells of a key, and of a region.
-use Rattle.std.proofs.Common.{◌≡◌, ℕ, ◌==◌, inl, inr, Bool, true, false, cond, Option, Some, None, bytes_eq, refl, sym, ap, ◌∙◌}
+use Rattle.std.proofs.Common.{◌≡◌, ℕ, ◌<◌, ◌==◌, inl, inr, Bool, true, false, cond, Option, Some, None, bytes_eq, refl, sym, ap, subst, ◌∙◌}
 use Rattle.std.specs.Prelude.{option_map}
 use Rattle.std.proofs.lemmas.Bool.{cases_Bool, eqb-true}
 use Rattle.std.proofs.lemmas.Map.Text.{is_eq-slice_cmp}
@@ -7,6 +7,8 @@ use Rattle.std.specs.Cmp.{unsigned_ties}
 use Rattle.std.specs.Cmp.Lexicographic.{slice_cmp}
 use Rattle.std.specs.Ordering.{nat_cmp, is_eq}
 use Rattle.tx_types.specs.declared.key.Key.{Key}
+use Rattle.tx_types.specs.declared.write.CommitRec.{CommitRec}
+use Rattle.tx_types.specs.declared.write.WriteRec.TheVariants as stored
 use Rattle.tx_plan.specs.declared.plain.records.PlainLock.{PlainLock}
 use Rattle.tx_plan.specs.declared.plain.records.PlainWrite.{PlainWrite}
 use Rattle.tx_plan.specs.declared.key_change.KeyChange.TheVariants as change
@@ -15,7 +17,7 @@ use Rattle.tx_plan.specs.Changes.{changed, committed}
 use Rattle.tx_plan.specs.Whole.{whole_lock, whole_write}
 use Rattle.tx_region.specs.declared.cells.OneKey.{OneKey}
 use Rattle.tx_region.specs.Regions.{cells_of, cells_at}
-use Rattle.tx_region.proofs.KeySearches.{writes}
+use Rattle.tx_region.proofs.KeySearches.{writes, DatesCommits}
 use Rattle.tx_region.proofs.Basics.{some_same, key_test, cond_true, cond_false}
 
 -- ---- the cells of a key
@@ -66,6 +68,20 @@ pub placed_put : (f g : ℕ → Option PlainWrite) (c : ℕ) (w : PlainWrite) �
 placed_put f g c w placed is here q x e = elim (cases_Bool (c == q)) [
   | inl same ↦ (let one : Some w ≡ Some x = sym (put_is ∙ cond_true _ _ _ same) ∙ e in ap (λ (y : PlainWrite). y.at) (sym (some_same w x one)) ∙ (here ∙ eqb-true c q same))
   | inr other ↦ placed q x (sym (put_is ∙ cond_false _ _ _ other) ∙ e)
+]
+  where
+    put_is : g q ≡ cond (c == q) (Some w) (f q)
+    put_is = is q ∙ ap (λ (b : Bool). cond b (Some w) (f q)) (sym (unsigned_ties c q))
+
+-- each commit record still stands above its transaction's start
+pub dated_put : (f g : ℕ → Option PlainWrite) (c : ℕ) (w : PlainWrite) → DatesCommits f
+    → ((q : ℕ) → g q ≡ cond (is_eq (nat_cmp c q)) (Some w) (f q)) → ((of : CommitRec) → w.rec ≡ stored.Commit of → of.start < c) → DatesCommits g
+dated_put f g c w dated is above q x of e commits = elim (cases_Bool (c == q)) [
+  | inl same ↦ (
+      let one : w ≡ x = some_same w x (sym (put_is ∙ cond_true _ _ _ same) ∙ e) in
+      subst (λ (n : ℕ). of.start < n) (eqb-true c q same) (above of (ap (λ (y : PlainWrite). y.rec) one ∙ commits))
+      )
+  | inr other ↦ dated q x of (sym (put_is ∙ cond_false _ _ _ other) ∙ e) commits
 ]
   where
     put_is : g q ≡ cond (c == q) (Some w) (f q)

@@ -10,6 +10,7 @@ ghost use Rattle.tx_plan.specs.declared.key_change.KeyChange.TheVariants as chan
 ghost use Rattle.tx_types.specs.declared.write.CommitRec.{CommitRec};
 ghost use Rattle.tx_types.specs.declared.write.WriteRec.TheVariants as stored;
 ghost use Rattle.tx_region.specs.Placed.{IsPlaced};
+ghost use Rattle.tx_region.specs.Dated.{IsLockDated, AreDated};
 
 use crate::locking::new_lock;
 use crate::searches::{last_of, last_upto};
@@ -27,6 +28,8 @@ pub(crate) struct OneKey {
     pub lock: Option<PlainLock>,
     pub writes: BTreeMap<Ts, PlainWrite>,
     ghost placed: { IsPlaced writes },
+    ghost lock_dated: { IsLockDated lock },
+    ghost writes_dated: { AreDated writes },
 }
 
 // Whether it is a commit record.
@@ -62,16 +65,18 @@ impl OneKey {
         }
     }
 
-    // Puts a lock.
+    // Puts a lock, which may be committed only above its start.
     fn put_lock(&mut self, lock: PlainLock)
+        requires { lock.rec.start < lock.rec.min }
         ensures { cells_of self.new ≡ with_lock (cells_of self.old) (Some (whole_lock lock.rec lock.whole)) }
     {
         self.lock = Some(lock);
     }
 
-    // Settles the lock that stands: its commit record stands at `commit` in place of what stood there, with or without
-    // the mark. `OutOfMemory` leaves the key as it was.
+    // Settles the lock that stands: its commit record stands at `commit`, at its minimum or above, in place of what stood
+    // there, with or without the mark. `OutOfMemory` leaves the key as it was.
     fn settle(&mut self, commit: Ts, overlapped_rollback: bool) -> Result<(), Fault>
+        requires { (lock : Lock) → (cells_of self.old).lock ≡ Some lock → lock.min ≤ commit }
         ensures ok { OnOk result (cells_of self.new ≡ changed (cells_of self.old) (change.Settle commit overlapped_rollback)) }
         ensures same { OnErr result (cells_of self.new ≡ cells_of self.old) }
         ensures err { IfErr result (λ e. e ≡ Fault.OutOfMemory) }
@@ -106,9 +111,10 @@ impl OneKey {
         }
     }
 
-    // Settles this transaction's lock, where it stands: its commit record stands at `commit`, with the mark where a
-    // rollback stood there. `OutOfMemory` leaves the key as it was.
+    // Settles this transaction's lock, where it stands: its commit record stands at `commit`, at its minimum or above, with
+    // the mark where a rollback stood there. `OutOfMemory` leaves the key as it was.
     fn settle_own(&mut self, start: Ts, commit: Ts) -> Result<(), Fault>
+        requires { (lock : Lock) → OwnLock (cells_of self.old).lock start lock → lock.min ≤ commit }
         ensures ok { OnOk result (cells_of self.new ≡ settle (cells_of self.old) start commit) }
         ensures same { OnErr result (cells_of self.new ≡ cells_of self.old) }
         ensures err { IfErr result (λ e. e ≡ Fault.OutOfMemory) }
@@ -182,6 +188,7 @@ impl KeyCells for OneKey {
         }
     }
 
+    // A transaction commits above its start, so the walk ends there.
     fn own_commit(&self, start: Ts) -> Option<Ts> {
         let mut bound = last_of(&self.writes)?.get();
         'records: loop {
@@ -189,11 +196,11 @@ impl KeyCells for OneKey {
                 return None;
             };
             let (at, write) = entry;
+            if at.get() <= start.get() {
+                return None;
+            }
             if is_commit_of(&write.rec, start) {
                 return Some(at);
-            }
-            if at.get() == 0 {
-                return None;
             }
             bound = at.get() - 1;
         }

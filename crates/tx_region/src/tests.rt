@@ -20,6 +20,7 @@ fn told(rt: &HostRuntime, answer: &Answer) -> Result<String, Fail> {
         Answer::Found(value) => format!(in alloc; "Found {} bytes", value.as_bytes().len())?,
         Answer::Prewritten(min) => format!(in alloc; "Prewritten {min}")?,
         Answer::Committed(commit) => format!(in alloc; "Committed {commit}")?,
+        Answer::AlreadyCommitted { commit } => format!(in alloc; "AlreadyCommitted {commit}")?,
         Answer::KeyIsLocked(info) => format!(in alloc; "KeyIsLocked {}", info.start)?,
         Answer::WriteConflict { start, commit } => {
             format!(in alloc; "WriteConflict {start} {commit}")?
@@ -76,6 +77,16 @@ fn commit(rt: &HostRuntime, region: &mut Region, start: u64, commit: u64) -> Res
         commit: Ts::new(commit),
     };
     told(rt, &region.commit(&body)?)
+}
+
+// A transaction that puts a value, from its start to its commit.
+fn write(rt: &HostRuntime, region: &mut Region, start: u64, commit_at: u64) -> Result<(), Fail>
+    requires { region.old.max_read ≤ 20 }
+    ensures { region.new.max_read ≤ 20 }
+{
+    prewrite(rt, region, start, put(rt, b"v")?)?;
+    commit(rt, region, start, commit_at)?;
+    Ok(())
 }
 
 #[test]
@@ -139,6 +150,30 @@ fn a_newer_commit_is_a_conflict(rt: HostRuntime) -> Result<(), Fail> {
     assert_eq!(rt;
         prewrite(&rt, &mut region, 10, put(&rt, b"w")?)?.as_str(),
         "Prewritten 11"
+    );
+    Ok(())
+}
+
+#[test]
+fn an_own_commit_is_found_below_later_ones(rt: HostRuntime) -> Result<(), Fail> {
+    let mut region = Region::new(rt.alloc());
+    write(&rt, &mut region, 4, 5)?;
+    write(&rt, &mut region, 6, 8)?;
+    write(&rt, &mut region, 9, 10)?;
+    write(&rt, &mut region, 11, 13)?;
+    write(&rt, &mut region, 14, 15)?;
+    write(&rt, &mut region, 16, 17)?;
+    assert_eq!(rt;
+        prewrite(&rt, &mut region, 4, put(&rt, b"v")?)?.as_str(),
+        "AlreadyCommitted 5"
+    );
+    assert_eq!(rt;
+        prewrite(&rt, &mut region, 6, put(&rt, b"v")?)?.as_str(),
+        "AlreadyCommitted 8"
+    );
+    assert_eq!(rt;
+        prewrite(&rt, &mut region, 5, put(&rt, b"v")?)?.as_str(),
+        "WriteConflict 16 17"
     );
     Ok(())
 }

@@ -1,17 +1,19 @@
 -- The loop over the lines of a script.
-use Rattle.std.proofs.Common.{◌≡◌, ℕ, ◌+◌, ◌≤◌, ◌<◌, List, [], ◌∷◌, ◌++◌, Bool, length, take, drop, Option, Some, None, IfSome, IfOk, IfErr, OnErr, Result, Ok, Err, refl, sym, ap, subst, ◌∙◌, append_assoc, append-nil, take-append-drop}
+use Rattle.std.proofs.Common.{◌≡◌, ◌⊎◌, inl, inr, ℕ, ◌+◌, ◌≤◌, ◌<◌, List, [], ◌∷◌, ◌++◌, Bool, length, take, drop, Option, Some, None, IfSome, IfOk, IfErr, IsErrAnd, Result, Ok, Err, refl, sym, ap, subst, ◌∙◌, append_assoc, append-nil, take-append-drop}
 use Rattle.std.proofs.lemmas.Bool.{le-ltb, lt-ltb}
 use Rattle.std.specs.Io.KnownBytes.{Appends, Keeps}
 use Rattle.std.proofs.KnownBytes.{Appends-nil, Appends-trans, Appends-kept}
 use Rattle.serde_json.specs.Data.{Data, Items}
 use Rattle.tx_types.specs.declared.fault.Cause.{Cause}
 use Rattle.tx_types.specs.declared.fault.Cause.TheVariants as cause
+use Rattle.tx_script.specs.declared.end.Broken.{Broken}
+use Rattle.tx_script.specs.declared.end.Broken.TheVariants.{Output}
 use Rattle.tx_script.specs.declared.end.End.TheVariants.{Well, Faulted}
 use Rattle.tx_script.specs.declared.script.Turned.{Turned}
 use Rattle.tx_script.specs.declared.reply.Reply.{Reply}
 use Rattle.tx_script.specs.declared.engine.Engine.{Engine}
 use Rattle.tx_script.specs.Lines.{lines_of, max_line, max_lines}
-use Rattle.tx_script.specs.Output.{AppendsPart}
+use Rattle.tx_script.specs.Output.{BreaksText}
 use Rattle.tx_script.specs.Check.{json_of}
 use Rattle.tx_script.specs.Steps.{Asked, script_step_of}
 use Rattle.tx_script.specs.Replies.{reply_words, fault_words, reply_text, render}
@@ -32,9 +34,13 @@ pub if_err : {T E : Type 0} {P Q : E → Type 0} (r : Result T E) → ((e : E) �
 if_err (Ok v) f h = tt
 if_err (Err e) f h = f e h
 
-pub on_err : {T E : Type 0} {P : Type 0} (r : Result T E) → P → OnErr r P
-on_err (Ok v) p = tt
-on_err (Err e) p = p
+pub if_err_is : {T E : Type 0} (P : E → Type 0) (r : Result T E) (e : E) → IsErrAnd r (λ y. y ≡ e) → P e → IfErr r P
+if_err_is P (Ok v) e is p = tt
+if_err_is P (Err y) e is p = subst P (sym is) p
+
+pub if_any_err : {T E : Type 0} {P : E → Type 0} (r : Result T E) → ((e : E) → P e) → IfErr r P
+if_any_err (Ok v) f = tt
+if_any_err (Err e) f = f e
 
 -- ---- one line
 
@@ -115,8 +121,8 @@ module _ {input : List ℕ} {left old new : Option (List ℕ)} {engine : Engine}
   till_now = is_play (soon.told ++ []) (soon.lines ++ []) (after soon.done (ending soon.scene)) (soon.goes_on [] [] (ending soon.scene) refl)
 
   -- before the next reply
-  pub breaks : (new' : Option (List ℕ)) → Keeps new new' → BreaksScript input old new'
-  breaks new' kept = (
+  pub breaks : (why : Broken) (new' : Option (List ℕ)) → Keeps new new' → BreaksScript why input old new'
+  breaks why new' kept = (
     soon.told ++ [],
     soon.lines ++ [],
     lines_of soon.rest,
@@ -127,6 +133,7 @@ module _ {input : List ℕ} {left old new : Option (List ℕ)} {engine : Engine}
     till_now,
     Appends-kept _ _ _ _ soon.wrote kept,
     ap render (append-nil soon.done) ∙ sym (append-nil (render soon.done)),
+    inr refl,
   )
 
   -- ---- at the end of the input
@@ -173,8 +180,8 @@ module _ {input : List ℕ} {left old new : Option (List ℕ)} {engine : Engine}
       refl,
     )
 
-    broken_fault : (new' : Option (List ℕ)) (written more : List ℕ) → Appends old new' written → render soon.done ++ reply_text (number + 1, fault_words why) ≡ written ++ more → BreaksScript input old new'
-    broken_fault new' written more appends is = (
+    broken_fault : (e : Broken) (new' : Option (List ℕ)) (written more : List ℕ) → Appends old new' written → render soon.done ++ reply_text (number + 1, fault_words why) ≡ written ++ more → (e ≡ Output) ⊎ (more ≡ []) → BreaksScript e input old new'
+    broken_fault e new' written more appends is whole = (
       soon.told ++ [],
       lines_of input,
       [],
@@ -185,19 +192,21 @@ module _ {input : List ℕ} {left old new : Option (List ℕ)} {engine : Engine}
       fault_play,
       appends,
       fault_text ∙ is,
+      whole,
     )
 
-    pub breaks_fault : (new' : Option (List ℕ)) → AppendsPart new new' (reply_text (number + 1, fault_words why)) → BreaksScript input old new'
-    breaks_fault new' part =
+    pub breaks_fault : (e : Broken) (new' : Option (List ℕ)) → BreaksText e new new' (reply_text (number + 1, fault_words why)) → BreaksScript e input old new'
+    breaks_fault e new' (inl (is, part)) =
         let text = reply_text (number + 1, fault_words why) in
-        broken_fault new' (render soon.done ++ take part.0 text) (drop part.0 text) (Appends-trans _ _ _ _ _ soon.wrote part.1)
-        (ap (λ t. render soon.done ++ t) (sym (take-append-drop part.0 text)) ∙ sym (append_assoc (render soon.done) (take part.0 text) (drop part.0 text)))
+        broken_fault e new' (render soon.done ++ take part.0 text) (drop part.0 text) (Appends-trans _ _ _ _ _ soon.wrote part.1)
+        (ap (λ t. render soon.done ++ t) (sym (take-append-drop part.0 text)) ∙ sym (append_assoc (render soon.done) (take part.0 text) (drop part.0 text))) (inl is)
+    breaks_fault e new' (inr kept) = breaks e new' kept
 
     -- after its line
-    pub breaks_last : (new' new'' : Option (List ℕ)) → Appends new new' (reply_text (number + 1, fault_words why)) → Keeps new' new'' → BreaksScript input old new''
-    breaks_last new' new'' sent kept =
+    pub breaks_last : (e : Broken) (new' new'' : Option (List ℕ)) → Appends new new' (reply_text (number + 1, fault_words why)) → Keeps new' new'' → BreaksScript e input old new''
+    breaks_last e new' new'' sent kept =
         let text = reply_text (number + 1, fault_words why) in
-        broken_fault new'' (render soon.done ++ text) [] (Appends-kept _ _ _ _ (Appends-trans _ _ _ _ _ soon.wrote sent) kept) (sym (append-nil (render soon.done ++ text)))
+        broken_fault e new'' (render soon.done ++ text) [] (Appends-kept _ _ _ _ (Appends-trans _ _ _ _ _ soon.wrote sent) kept) (sym (append-nil (render soon.done ++ text))) (inr refl)
 
   -- ---- at a reply
 
@@ -248,8 +257,8 @@ module _ {input : List ℕ} {left old new : Option (List ℕ)} {engine : Engine}
       goes_on = goes_more;
     }
 
-    pub breaks_reply : (new' : Option (List ℕ)) → AppendsPart new new' (reply_text (number + 1, reply_words reply)) → BreaksScript input old new'
-    breaks_reply new' part =
+    pub breaks_reply : (e : Broken) (new' : Option (List ℕ)) → BreaksText e new new' (reply_text (number + 1, reply_words reply)) → BreaksScript e input old new'
+    breaks_reply e new' (inl (is, part)) =
         let text = reply_text (number + 1, reply_words reply) in
         let q : Played = after told (ending follows.1) in
         let plays = goes_more [] [] (ending follows.1) refl in
@@ -264,7 +273,9 @@ module _ {input : List ℕ} {left old new : Option (List ℕ)} {engine : Engine}
           is_play ((soon.told ++ follows.0) ++ []) ls q plays,
           Appends-trans _ _ _ _ _ soon.wrote part.1,
           ap render (append-nil told) ∙ one_more ∙ ap (λ t. render soon.done ++ t) (sym (take-append-drop part.0 text)) ∙ sym (append_assoc (render soon.done) (take part.0 text) (drop part.0 text)),
+          inl is,
         )
+    breaks_reply e new' (inr kept) = breaks e new' kept
 
 -- ---- the engine's step as the line's
 

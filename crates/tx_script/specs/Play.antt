@@ -1,5 +1,5 @@
 -- What a script means, and what is written for it.
-use Rattle.std.specs.Prelude.{◌≡◌, ℕ, ◌+◌, List, [], ◌∷◌, ◌++◌, Bool, nat_lt, length, Option, Some, None, if◌then◌else◌}
+use Rattle.std.specs.Prelude.{◌≡◌, ◌⊎◌, ℕ, ◌+◌, List, [], ◌∷◌, ◌++◌, Bool, nat_lt, length, Option, Some, None, if◌then◌else◌}
 use Rattle.std.specs.Io.KnownBytes.{Appends}
 use Rattle.serde_json.specs.Data.{Data, Items}
 use Rattle.tx_types.specs.declared.fault.Cause.{Cause}
@@ -8,6 +8,8 @@ use Rattle.tx_plan.specs.declared.answer.Answer.{Answer}
 use Rattle.tx_plan.specs.Answers.{AnswersLeast}
 use Rattle.tx_core.specs.Histories.{History, last, left}
 use Rattle.tx_core.specs.Worlds.{IsWorldRun}
+use Rattle.tx_script.specs.declared.end.Broken.{Broken}
+use Rattle.tx_script.specs.declared.end.Broken.TheVariants.{Output}
 use Rattle.tx_script.specs.declared.end.End.{End}
 use Rattle.tx_script.specs.declared.end.End.TheVariants.{Well, Faulted}
 use Rattle.tx_script.specs.Lines.{lines_of, max_line, max_lines}
@@ -69,7 +71,8 @@ abbrev pub EndsScript : List ℕ → Option (List ℕ) → Option (List ℕ) →
 EndsScript input old new ended = (refused : List Bool) × (p : Played) × IsPlay refused (lines_of input) p
     × Appends old new (render p.replies) × (ended ≡ p.ended)
 
--- a script that was broken off has written a beginning of the text of its first lines
-abbrev pub BreaksScript : List ℕ → Option (List ℕ) → Option (List ℕ) → Type 0
-BreaksScript input old new = (refused : List Bool) × (lines rest : List (List ℕ)) × (p : Played) × (written more : List ℕ)
+-- a script that was broken off has written a beginning of the text of its first lines: whole replies, unless a write failed
+abbrev pub BreaksScript : Broken → List ℕ → Option (List ℕ) → Option (List ℕ) → Type 0
+BreaksScript why input old new = (refused : List Bool) × (lines rest : List (List ℕ)) × (p : Played) × (written more : List ℕ)
     × (lines_of input ≡ lines ++ rest) × IsPlay refused lines p × Appends old new written × (render p.replies ≡ written ++ more)
+    × ((why ≡ Output) ⊎ (more ≡ []))

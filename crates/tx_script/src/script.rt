@@ -1,7 +1,7 @@
 //! A script from its first byte to its last.
-ghost use Rattle.std.specs.Prelude.{◌≡◌, ◌<◌, ◌≤◌, length, string_bytes, OnOk, OnErr, IfOk, IfErr, IfSome};
+ghost use Rattle.std.specs.Prelude.{◌≡◌, ◌<◌, ◌≤◌, length, string_bytes, OnOk, IfOk, IfErr, IfSome};
 ghost use Rattle.std.specs.Io.KnownBytes.{Keeps, Appends};
-ghost use Rattle.tx_script.specs.Output.{AppendsPart};
+ghost use Rattle.tx_script.specs.Output.{BreaksText};
 ghost use Rattle.tx_script.specs.Replies.{reply_words, fault_words, reply_text};
 ghost use Rattle.tx_script.specs.Play.{line_turn, EndsScript, BreaksScript};
 ghost use Rattle.tx_script.specs.Stands.{EngineGoes, EngineStops, PlaysLine};
@@ -90,7 +90,7 @@ fn next<R: Read>(
 // Writes the line of E12, or the first few bytes of it before a failure.
 fn tell_refusal<W: Write>(writer: &mut W, room: &mut String, number: u64) -> Result<(), Broken>
     ensures all { OnOk result (Appends (W.contents writer.old) (W.contents writer.new) (reply_text (number, reply_words Reply.OutOfMemory))) }
-    ensures part { OnErr result (AppendsPart (W.contents writer.old) (W.contents writer.new) (reply_text (number, reply_words Reply.OutOfMemory))) }
+    ensures part { IfErr result (λ e. BreaksText e (W.contents writer.old) (W.contents writer.new) (reply_text (number, reply_words Reply.OutOfMemory))) }
 {
     refusal_line(room, number)?;
     send(writer, room.as_bytes())
@@ -106,7 +106,7 @@ fn tell<W: Write>(
     reply: Reply,
 ) -> Result<(), Broken>
     ensures all { OnOk result (Appends (W.contents writer.old) (W.contents writer.new) (reply_text (number, reply_words reply))) }
-    ensures part { OnErr result (AppendsPart (W.contents writer.old) (W.contents writer.new) (reply_text (number, reply_words reply))) }
+    ensures part { IfErr result (λ e. BreaksText e (W.contents writer.old) (W.contents writer.new) (reply_text (number, reply_words reply))) }
 {
     if let Reply::OutOfMemory = reply {
         return tell_refusal(writer, room, number);
@@ -130,7 +130,7 @@ fn tell_fault<W: Write>(
     cause: Cause,
 ) -> Result<(), Broken>
     ensures all { OnOk result (Appends (W.contents writer.old) (W.contents writer.new) (reply_text (number, fault_words cause))) }
-    ensures part { OnErr result (AppendsPart (W.contents writer.old) (W.contents writer.new) (reply_text (number, fault_words cause))) }
+    ensures part { IfErr result (λ e. BreaksText e (W.contents writer.old) (W.contents writer.new) (reply_text (number, fault_words cause))) }
 {
     let text = fault_line(alloc, number, cause)?;
     send(writer, text.as_bytes())
@@ -150,9 +150,9 @@ pub fn simulate<R: Read, W: Write>(
     // Not broken off, it has written the replies of what the script means, and nothing else.
     ensures ends { IfOk result (λ end. IfSome (R.remaining reader.old)
         (λ input. EndsScript input (W.contents writer.old) (W.contents writer.new) end)) }
-    // Broken off, it has written a beginning of them.
-    ensures breaks { OnErr result (IfSome (R.remaining reader.old)
-        (λ input. BreaksScript input (W.contents writer.old) (W.contents writer.new))) }
+    // Broken off, it has written a beginning of them: whole replies, unless a write failed.
+    ensures breaks { IfErr result (λ why. IfSome (R.remaining reader.old)
+        (λ input. BreaksScript why input (W.contents writer.old) (W.contents writer.new))) }
 {
     let mut engine = Engine::new(alloc);
     let mut line = Vec::new(alloc);
