@@ -121,7 +121,7 @@ pub(crate) fn take_key(alloc: Global, bytes: &[u8]) -> Result<(Key, &[u8]), Unre
     Ok((Key::new(alloc, key)?, rest))
 }
 
-/// The fewest bytes that a key takes behind its length.
+/// The fewest bytes that a key and its length take.
 const SHORTEST: usize = 3;
 
 /// Keys behind their number. No more room is taken than the bytes can fill.

@@ -1,4 +1,5 @@
 //! Scripts with their replies, on readers and writers in memory.
+use crate::reply::{REFUSAL_BYTES, refusal_line};
 use crate::tests::{Drip, Torn};
 use crate::{Broken, End, simulate};
 use std::process::Abort;
@@ -165,5 +166,19 @@ fn failing_reader_has_the_replies_before(rt: HostRuntime) -> Result<(), Fail> {
     let ended = simulate(rt.alloc(), &mut reader, &mut writer);
     assert_eq!(rt; ended, Err(Broken::Input));
     assert_eq!(rt; writer.as_slice(), "[1,\"start\",1]\n".as_bytes());
+    Ok(())
+}
+
+#[test]
+fn want_of_memory_has_a_line_of_its_own(rt: HostRuntime) -> Result<(), Fail> {
+    let mut room = String::with_capacity(rt.alloc(), REFUSAL_BYTES)?;
+    for (number, line) in [
+        (2, "[2,\"E12\"]\n"),
+        (u64::MAX, "[18446744073709551615,\"E12\"]\n"),
+    ] {
+        refusal_line(&mut room, number)?;
+        assert_eq!(rt; room.as_str(), line);
+        assert!(rt; line.len() <= REFUSAL_BYTES);
+    }
     Ok(())
 }
