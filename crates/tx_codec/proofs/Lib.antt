@@ -10,3 +10,4 @@ pub mod Parts
 pub mod KeyLists
 pub mod LockParts
 pub mod OneSpelling
+pub mod Spelling

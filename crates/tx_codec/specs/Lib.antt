@@ -1,3 +1,6 @@
 pub mod Keys
 pub mod Records
 pub mod Readers
+pub mod Spelt
+pub mod Recorded
+pub mod Heads
