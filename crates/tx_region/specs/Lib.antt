@@ -1,3 +1,2 @@
-pub mod Dated
-pub mod Placed
 pub mod Regions
+pub mod Calls

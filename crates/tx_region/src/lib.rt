@@ -1,12 +1,7 @@
-//! One region: what stands on its keys, in maps, and the calls by which requests are answered and change it, as the case
-//! tables of `tx_plan` have it.
+//! One region. Its records answer each request by its case table; they are over any families, and know no seat.
 #![tactic(auto)]
 
-mod cells;
-mod locking;
-mod region;
-mod searches;
-#[cfg(test)]
-mod tests;
+mod commands;
+mod records;
 
-pub use region::Region;
+pub use records::Records;
