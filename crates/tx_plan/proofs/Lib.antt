@@ -3,4 +3,6 @@ pub mod LeastMinimum
 pub mod KeyOrder
 pub mod WalkRows
 pub mod Putting
+pub mod LockCommits
+pub mod Seen
 mod Pictures

@@ -3,6 +3,7 @@ use Rattle.std.specs.Prelude.{◌≡◌, ◌≢◌, ℕ, List, ◌∷◌, Option
 use Rattle.tx_types.specs.Kinds.{kind_of}
 use Rattle.tx_types.specs.declared.key.Key.{Key}
 use Rattle.tx_types.specs.declared.lock.LockInfo.{LockInfo}
+use Rattle.tx_types.specs.declared.mutation.Mode.TheVariants.{TwoPhase, Async}
 use Rattle.tx_plan.specs.declared.view.RecordHead.{RecordHead}
 use Rattle.tx_plan.specs.declared.view.RecordHead.TheVariants as head
 use Rattle.tx_plan.specs.declared.view.LockHead.{LockHead}
@@ -10,7 +11,7 @@ use Rattle.tx_plan.specs.declared.view.CommitAt.{CommitAt}
 use Rattle.tx_plan.specs.declared.view.TxnView.{TxnView}
 use Rattle.tx_plan.specs.declared.view.ReadView.{ReadView}
 use Rattle.tx_plan.specs.Cells.{Lock, Write, CommitOf, Rollback, Cells, info_of}
-use Rattle.tx_plan.specs.Own.{OwnCommit}
+use Rattle.tx_plan.specs.Own.{OwnLock, OwnCommit}
 use Rattle.tx_plan.specs.Reads.{Reads}
 use Rattle.tx_plan.specs.Walks.{KeyRow, LockRow}
 use Rattle.tx_plan.specs.cases.Prewrite.{SomeAbove, NewestAbove}
@@ -22,6 +23,10 @@ head_of Rollback = head.Rollback
 
 abbrev pub lock_head_of : Lock → LockHead
 lock_head_of lock = record { start = lock.start; min = lock.min; ttl = lock.ttl; kind = kind_of lock.mutation; mode = lock.mode }
+
+-- the minimum that an answer names of a lock with this head: 0 of a two-phase one
+abbrev pub named_in : LockHead → ℕ
+named_in head = elim head.mode [ TwoPhase ↦ 0 | Async ↦ head.min ]
 
 -- a transaction that started at start, with a request that commits at commit, sees this of a key
 pub record Shows (cells : Cells) (start commit : ℕ) (view : TxnView) : Type 0 where
@@ -35,6 +40,12 @@ pub record Shows (cells : Cells) (start commit : ℕ) (view : TxnView) : Type 0 
 pub record ShowsRead (cells : Cells) (at : ℕ) (view : ReadView) : Type 0 where
   pub lock : view.lock ≡ option_map lock_head_of cells.lock
   pub value : Reads cells.write at view.value
+
+-- this is the head of the lock of the transaction that started at t
+pub record HasOwnHead (found : Option Lock) (t : ℕ) (head : LockHead) : Type 0 where
+  pub lock : Lock
+  pub stands : OwnLock found t lock
+  pub shown : head ≡ lock_head_of lock
 
 -- what is told of the lock on a key, where there is one
 abbrev pub info_on : Cells → Key → Option LockInfo

@@ -1,0 +1,12 @@
+//! What a region makes of each command, one file a command: functions of what the request sees of its key. They take no
+//! memory.
+pub mod batch_rollback;
+pub mod check_secondary_locks;
+pub mod check_txn_status;
+pub mod commit;
+pub mod committing;
+pub mod own;
+pub mod prewrite;
+pub mod resolve_lock;
+pub mod rolling;
+pub mod txn_heart_beat;
