@@ -10,6 +10,7 @@ pub mod Changes
 pub mod Walks
 pub mod Views
 pub mod Committing
+pub mod Refusals
 pub mod Locking
 pub mod Whole
 pub mod Collecting

@@ -3,6 +3,8 @@ use Rattle.std.specs.Prelude.{◌≡◌, ◌≢◌, ℕ, List, ◌∷◌, Option
 use Rattle.tx_types.specs.Kinds.{kind_of}
 use Rattle.tx_types.specs.declared.key.Key.{Key}
 use Rattle.tx_types.specs.declared.lock.LockInfo.{LockInfo}
+use Rattle.tx_types.specs.declared.mutation.LockKind.{LockKind}
+use Rattle.tx_types.specs.declared.mutation.LockKind.TheVariants as kind
 use Rattle.tx_types.specs.declared.mutation.Mode.TheVariants.{TwoPhase, Async}
 use Rattle.tx_plan.specs.declared.view.RecordHead.{RecordHead}
 use Rattle.tx_plan.specs.declared.view.RecordHead.TheVariants as head
@@ -12,7 +14,7 @@ use Rattle.tx_plan.specs.declared.view.TxnView.{TxnView}
 use Rattle.tx_plan.specs.declared.view.ReadView.{ReadView}
 use Rattle.tx_plan.specs.Cells.{Lock, Write, CommitOf, Rollback, Cells, info_of}
 use Rattle.tx_plan.specs.Own.{OwnLock, OwnCommit}
-use Rattle.tx_plan.specs.Reads.{Reads}
+use Rattle.tx_plan.specs.Reads.{Blocks, Reads}
 use Rattle.tx_plan.specs.Walks.{KeyRow, LockRow}
 use Rattle.tx_plan.specs.cases.Prewrite.{SomeAbove, NewestAbove}
 
@@ -46,6 +48,16 @@ pub record HasOwnHead (found : Option Lock) (t : ℕ) (head : LockHead) : Type 0
   pub lock : Lock
   pub stands : OwnLock found t lock
   pub shown : head ≡ lock_head_of lock
+
+-- reads see puts and deletes, and no locks
+abbrev pub IsSeenKind : LockKind → Type 0
+IsSeenKind kind.Put = Unit {0}
+IsSeenKind kind.Delete = Unit {0}
+IsSeenKind kind.Lock = ⊥
+
+-- a lock blocks a read at r that passes these transactions by
+abbrev pub IsBlocked : Option Lock → ℕ → List ℕ → Type 0
+IsBlocked found r bypass = (lock : Lock) × Blocks found r bypass lock
 
 -- what is told of the lock on a key, where there is one
 abbrev pub info_on : Cells → Key → Option LockInfo

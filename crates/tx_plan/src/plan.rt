@@ -3,10 +3,14 @@
 pub mod batch_rollback;
 pub mod check_secondary_locks;
 pub mod check_txn_status;
+pub mod collect;
 pub mod commit;
 pub mod committing;
+pub mod get;
 pub mod own;
 pub mod prewrite;
+pub mod raise_safe;
+pub mod reads;
 pub mod resolve_lock;
 pub mod rolling;
 pub mod txn_heart_beat;
