@@ -5,4 +5,6 @@ pub mod WalkRows
 pub mod Putting
 pub mod LockCommits
 pub mod Seen
+pub mod Scans
+pub mod LockRows
 mod Pictures
