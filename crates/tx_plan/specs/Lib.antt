@@ -9,5 +9,8 @@ pub mod Plans
 pub mod Changes
 pub mod Walks
 pub mod Views
+pub mod Committing
+pub mod Refusals
+pub mod Locking
 pub mod Whole
 pub mod Collecting

@@ -7,6 +7,7 @@ mod body;
 mod key_change;
 mod laws;
 mod lists;
+mod plan;
 mod planned;
 mod region_no;
 #[cfg(test)]
@@ -22,6 +23,18 @@ pub use body::{
 pub use key_change::{KeyChange, Left, NewLock};
 pub use laws::{least_minimum_is_free, rollback_left_again_stays};
 pub use lists::{Infos, Starts};
+pub use plan::batch_rollback::plan_batch_rollback;
+pub use plan::check_secondary_locks::plan_check_secondary_locks;
+pub use plan::check_txn_status::plan_check_txn_status;
+pub use plan::collect::{Dropped, collect_refusal};
+pub use plan::commit::plan_commit;
+pub use plan::get::plan_get;
+pub use plan::locks_below::{first_below, infos_below};
+pub use plan::prewrite::plan_prewrite;
+pub use plan::raise_safe::{SafePlan, plan_raise_safe};
+pub use plan::resolve_lock::plan_resolve_lock;
+pub use plan::scan::{plan_scan, scan_refusal, scan_walk};
+pub use plan::txn_heart_beat::plan_txn_heart_beat;
 pub use planned::{Planned, PlannedAnswer};
 pub use region_no::RegionNo;
 pub use view::{CommitAt, LockHead, ReadView, RecordHead, TxnView};
