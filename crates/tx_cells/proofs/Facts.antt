@@ -2,6 +2,7 @@
 use Rattle.std.proofs.Common.{◌≡◌, ℕ, ◌<◌, Result, Ok, Err, Option, Some, None, sym, ap, ◌∙◌}
 use Rattle.std.specs.Prelude.{IfOk, OnOk, OnErr}
 use mathlib.Core.Logic.{∥∥₁_elim}
+use Rattle.std.proofs.Math.Logic.{∥∥₁_map}
 use Rattle.std.specs.Coded.{le_prop, Unit-prop}
 use Rattle.tx_types.specs.declared.value.Value.{Value}
 use Rattle.tx_types.specs.declared.value.StoredValue.TheVariants.{Inline, InDefault}
@@ -36,3 +37,7 @@ write_kept x t c rec e = ∥∥₁_elim t (IsKept-prop (x.value rec.start) rec.m
 pub if_ok : {T E : Type 0} (r : Result T E) (P Q : T → Type 0) → ((x : T) → P x → Q x) → IfOk r P → IfOk r Q
 if_ok (Ok x) P Q step p = step x p
 if_ok (Err e) P Q step p = tt
+
+-- what all keys meet, one meets
+pub whole_at : {K : Type 0} (on : K → OnKey) → ∥ ((key : K) → IsWhole (on key)) ∥₁ → (key : K) → ∥ IsWhole (on key) ∥₁
+whole_at on t key = ∥∥₁_map t (λ w. w key)

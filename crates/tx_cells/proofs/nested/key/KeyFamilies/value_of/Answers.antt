@@ -17,8 +17,8 @@ returns-in-Put-clause-value c =
     let rec = c.in-Some-Commit.rec in
     let e : tree.get nat_cmp key.writes c.args.seen.commit ≡ Some (Commit rec) = cc (c.in-Some-Commit.ensures.value, c.in-Some-Commit.field-0-is) in
     if_ok c.stored_value.result (λ (found : Option Value). found ≡ value_kept (tree.get nat_cmp key.values rec.start) c.in-Put.value) (Reads (cells_of (held key)).write c.args.at)
-      (value_found (held key) c.args.at c.args.seen.commit c.args.seen.start c.args.seen.kind c.requires rec e c.in-Put.value c.in-Put.is (write_kept (held key) key.whole c.args.seen.commit rec e))
-      c.stored_value.ensures.value
+    (value_found (held key) c.args.at c.args.seen.commit c.args.seen.start c.args.seen.kind c.requires rec e c.in-Put.value c.in-Put.is (write_kept (held key) key.whole c.args.seen.commit rec e))
+    c.stored_value.ensures.value
 
 pub returns-in-Delete-clause-value : goal.returns-in-Delete-clause-value
 returns-in-Delete-clause-value c =
