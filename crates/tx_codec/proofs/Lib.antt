@@ -10,4 +10,3 @@ pub mod Parts
 pub mod KeyLists
 pub mod LockParts
 pub mod OneSpelling
-pub mod Spelling

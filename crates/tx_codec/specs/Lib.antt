@@ -1,6 +1,3 @@
 pub mod Keys
 pub mod Records
 pub mod Readers
-pub mod Spelt
-pub mod Recorded
-pub mod Heads

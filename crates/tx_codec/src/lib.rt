@@ -3,19 +3,15 @@
 //! Bytes that spell nothing are refused by `None`.
 #![tactic(auto)]
 
-mod heads;
 mod key;
 mod marks;
 mod order;
 mod reading;
 mod records;
-mod spelling;
 #[cfg(test)]
 mod tests;
 mod writing;
 
-pub use heads::{LockBytes, WriteBytes};
 pub use key::{decode_key, decode_version, encode_key, encode_version};
 pub use order::{key_order, version_order};
 pub use records::{decode_lock, decode_write, encode_lock, encode_write, is_storable};
-pub use spelling::{KeyBytes, VersionBytes};
