@@ -1,6 +1,6 @@
 -- Small facts on options, tests, results and keys.
-use Rattle.std.proofs.Common.{◌≡◌, ◌≢◌, ◌⊎◌, inl, inr, true, false, cond, Bool, Option, Some, None, Result, Ok, Err, bytes_eq, refl}
-use Rattle.std.specs.Prelude.{IfOk, IfSome}
+use Rattle.std.proofs.Common.{◌≡◌, ◌≢◌, ◌⊎◌, inl, inr, true, false, cond, Bool, Result, Ok, Err, bytes_eq, refl}
+use Rattle.std.specs.Prelude.{IfOk, OnOk}
 use Rattle.std.proofs.lemmas.Bool.{cases_Bool}
 use Rattle.std.proofs.lemmas.Slice.Eq.{bytes_eq-Decides}
 use Rattle.tx_types.specs.declared.key.Key.{Key}
@@ -24,3 +24,8 @@ cond_false b x y e = rw e refl
 pub if_ok : {T E : Type 0} (r : Result T E) (P Q : T → Type 0) → ((x : T) → P x → Q x) → IfOk r P → IfOk r Q
 if_ok (Ok x) P Q step p = step x p
 if_ok (Err e) P Q step p = tt
+
+-- what holds where a result is no error, by two things that are known there
+pub on_ok_both : {T E : Type 0} (r : Result T E) (P Q R : Type 0) → (P → Q → R) → OnOk r P → OnOk r Q → OnOk r R
+on_ok_both (Ok x) P Q R step p q = step p q
+on_ok_both (Err e) P Q R step p q = tt

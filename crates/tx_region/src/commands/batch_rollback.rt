@@ -12,7 +12,7 @@ use tx_types::Fault;
 impl<F: Families> Records<F> {
     /// Answers a BatchRollback. `OutOfMemory` leaves the region as it was.
     pub fn batch_rollback(&mut self, body: &BatchRollback) -> Result<Answer, Fault>
-        ensures ok { IfOk result (λ a. (loaded : ℕ) → Executes (region_of F.content self.old) loaded (request.BatchRollback body.now) a (region_of F.content self.new)) }
+        ensures ok { (loaded : ℕ) → IfOk result (λ a. Executes (region_of F.content self.old) loaded (request.BatchRollback body.now) a (region_of F.content self.new)) }
         ensures same { OnErr result (region_of F.content self.new ≡ region_of F.content self.old) }
         ensures err { IfErr result (λ e. e ≡ Fault.OutOfMemory) }
     {

@@ -10,9 +10,9 @@ use tx_plan::{Answer, Collect};
 use tx_types::Fault;
 
 impl<F: Families> Records<F> {
-    /// Answers a Collect. `OutOfMemory` leaves the region as it was; where it counts, it is asked for nothing more.
+    /// Answers a Collect. `OutOfMemory` leaves the region as it was: what is dropped is counted before the first drop.
     pub fn collect(&mut self, body: &Collect) -> Result<Answer, Fault>
-        ensures ok { IfOk result (λ a. (loaded : ℕ) → Executes (region_of F.content self.old) loaded (request.Collect body.now) a (region_of F.content self.new)) }
+        ensures ok { (loaded : ℕ) → IfOk result (λ a. Executes (region_of F.content self.old) loaded (request.Collect body.now) a (region_of F.content self.new)) }
         ensures same { OnErr result (region_of F.content self.new ≡ region_of F.content self.old) }
         ensures err { IfErr result (λ e. e ≡ Fault.OutOfMemory) }
     {

@@ -5,7 +5,7 @@ ghost use Rattle.tx_region.specs.Calls.{Executes};
 
 use crate::records::Records;
 use tx_cells::Families;
-use tx_plan::{Answer, RaiseSafe};
+use tx_plan::{Answer, RaiseSafe, SafePlan, plan_raise_safe};
 use tx_types::Ts;
 
 impl<F: Families> Records<F> {
@@ -13,13 +13,8 @@ impl<F: Families> Records<F> {
     pub fn raise_safe(&mut self, loaded: Ts, body: &RaiseSafe) -> Answer
         ensures { Executes (region_of F.content self.old) loaded (request.RaiseSafe body.now) result (region_of F.content self.new) }
     {
-        if loaded < body.safe {
-            return Answer::FutureTimestamp { last: loaded };
-        }
-        if body.safe < self.safe {
-            return Answer::BelowSafePoint { safe: self.safe };
-        }
-        self.safe = body.safe;
-        Answer::Raised
+        let SafePlan { answer, safe } = plan_raise_safe(self.safe, loaded, body);
+        self.safe = safe;
+        answer
     }
 }

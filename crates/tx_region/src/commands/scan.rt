@@ -1,5 +1,5 @@
 //! Scan: the first keys of a range that have a value at a timestamp.
-ghost use Rattle.std.specs.Prelude.{◌≡◌, ℕ, IfOk, IfErr, OnErr};
+ghost use Rattle.std.specs.Prelude.{◌≡◌, IfOk, IfErr, OnErr};
 ghost use Rattle.tx_plan.specs.declared.body.Body.TheVariants as request;
 ghost use Rattle.tx_region.specs.Regions.{region_of};
 ghost use Rattle.tx_region.specs.Calls.{Executes};
@@ -20,7 +20,7 @@ impl<F: Families> Records<F> {
         if body.at < self.safe {
             return Ok(Answer::BelowSafePoint { safe: self.safe });
         }
-        if loaded < body.at {
+        if body.at > loaded {
             return Ok(Answer::FutureTimestamp { last: loaded });
         }
         let answer = self.families.scan(self.alloc, body)?;

@@ -15,6 +15,6 @@ returns-clause-ok g c =
     let cells = before.cells b.key in
     let plan = c.plan_txn_heart_beat-planned.ensures in
     let shows = c.in_ok-view.ensures.shows in
-    if_ok c.carry_out.result _ _ (λ a out loaded.
+    λ loaded. if_ok c.carry_out.result _ _ (λ a out.
     let done = on_key before (region_of content c.carry_out.new.self) b.key c.plan_txn_heart_beat-planned.result a (λ x y. AnswersTxnHeartBeat x before.collected b y) (λ x y. leaves_txn_heart_beat x b y) out plan.unread (plan.answers cells c.args.body.now.start shows) (plan.leaves cells c.args.body.now.start shows) in
     record { answers = done.0; leaves = done.1 }) c.carry_out.ensures.ok
