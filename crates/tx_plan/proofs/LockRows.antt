@@ -4,7 +4,7 @@ use Rattle.std.specs.Prelude.{IsTrue, bytes_eq, nat_lt, Contains, Option, None, 
 use Rattle.std.proofs.lemmas.Bool.{cases_Bool, lt-ltb, le-ltb, ltb-true}
 use Rattle.tx_types.specs.declared.key.Key.{Key}
 use Rattle.tx_types.specs.declared.lock.LockInfo.{LockInfo}
-use Rattle.tx_plan.specs.Keys.{key_lt}
+use Rattle.tx_types.specs.Keys.{key_lt}
 use Rattle.tx_plan.specs.Cells.{Lock, Cells, info_of}
 use Rattle.tx_plan.specs.Walks.{LockRow, LocksInOrder, lock_by, IsLockWalk}
 use Rattle.tx_plan.specs.cases.LocksBelow.{IsLockBelow, AreRising, AllBelow}
@@ -221,3 +221,7 @@ step_first cells s rows rest all k head info walk there told next below is =
     let x : LockRow = record { key = k; lock = next.lock } in
     let first : IsFirstBelow cells s (info_of k next.lock) = first_of_walk cells s x rest all walk (ap (told_below s) (sym next.first) ∙ told) (subst (λ n. n < s) (same_start cells rows rest k head next there) below) in
     subst (λ (o : Option LockInfo). MatchOption o (SomeLockBelow cells s → ⊥) (λ i. IsFirstBelow cells s i)) (sym (is ∙ told_here cells rows rest k head next there)) first
+
+-- what is told of the lock that came next, where something is
+pub told_of_next : (cells now : Key → Cells) (rows rest : List LockRow) (k : Key) (head : LockHead) (info : Option LockInfo) (next : LockComesNext rows rest k head) → RowsStand cells rows → now ≡ cells → info ≡ info_on (now k) k → info ≡ Some (info_of k next.lock)
+told_of_next cells now rows rest k head info next there same is = is ∙ ap (λ (f : Key → Cells). info_on (f k) k) same ∙ told_here cells rows rest k head next there

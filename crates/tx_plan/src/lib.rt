@@ -9,7 +9,6 @@ mod laws;
 mod lists;
 mod plan;
 mod planned;
-mod region_no;
 #[cfg(test)]
 mod tests;
 mod view;
@@ -36,6 +35,6 @@ pub use plan::resolve_lock::plan_resolve_lock;
 pub use plan::scan::{plan_scan, scan_refusal, scan_walk};
 pub use plan::txn_heart_beat::plan_txn_heart_beat;
 pub use planned::{Planned, PlannedAnswer};
-pub use region_no::RegionNo;
+pub use tx_types::RegionNo;
 pub use view::{CommitAt, LockHead, ReadView, RecordHead, TxnView};
 pub use walk::{LockWalk, ReadWalk};

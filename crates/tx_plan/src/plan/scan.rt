@@ -1,7 +1,7 @@
 //! Scan: the first keys of a range that have a value at a timestamp, or the lock that stops the read.
 ghost use Rattle.std.specs.Prelude.{◌≡◌, ◌⊎◌, ℕ, None, MatchOption, IfOk, IfErr};
 ghost use Rattle.tx_types.specs.declared.key.Key.{Key};
-ghost use Rattle.tx_plan.specs.Keys.{key_le};
+ghost use Rattle.tx_types.specs.Keys.{key_le};
 ghost use Rattle.tx_plan.specs.Cells.{Cells, Region};
 ghost use Rattle.tx_plan.specs.Plans.{answer_with, with_read};
 ghost use Rattle.tx_plan.specs.Refusals.{MayRead, RefusesScan};
