@@ -68,9 +68,9 @@ module _ (x : OnKey) (rec new : LockRec) (w : IsWhole x) (e : x.lock ≡ Some re
   pub whole_relocked : IsWhole (with_lock x (Some new))
   whole_relocked = record {
     lock_kept = λ r f. (
-      let one : new ≡ r = cc f in
-      let mine : IsKept (x.value new.start) new.mutation = subst (λ s. IsKept (x.value s) new.mutation) (sym start) (subst (IsKept (x.value rec.start)) (sym same) (w.lock_kept rec e)) in
-      subst (λ (q : LockRec). IsKept (x.value q.start) q.mutation) one mine);
+        let one : new ≡ r = cc f in
+        let mine : IsKept (x.value new.start) new.mutation = subst (λ s. IsKept (x.value s) new.mutation) (sym start) (subst (IsKept (x.value rec.start)) (sym same) (w.lock_kept rec e)) in
+        subst (λ (q : LockRec). IsKept (x.value q.start) q.mutation) one mine);
     write_kept = w.write_kept;
     value_kept = λ t there. elim (w.value_kept t there) [ inl k ↦ inl (relocked_keeps t k) | inr k ↦ inr k ];
     write_fits = w.write_fits;
@@ -129,12 +129,12 @@ module _ (x : OnKey) (rec : LockRec) (c : ℕ) (o : Bool) (w : IsWhole x) (e : x
           }
           )
       | inr k ↦ record {
-          at = k.at;
-          rec = k.rec;
-          found = put_elsewhere x.write c k.at (Commit (commit_of rec o)) (λ same. none_here k.rec (ap x.write (sym same) ∙ k.found)) ∙ k.found;
-          of = k.of;
-          apart = k.apart;
-        }
+        at = k.at;
+        rec = k.rec;
+        found = put_elsewhere x.write c k.at (Commit (commit_of rec o)) (λ same. none_here k.rec (ap x.write (sym same) ∙ k.found)) ∙ k.found;
+        of = k.of;
+        apart = k.apart;
+      }
     ]);
     write_fits = λ q r f. elim (put_or_there c q (Commit (commit_of rec o)) r (x.write q) f) [
       | inl new ↦ subst (λ n. n < 2 ^ 64) new.0 fits
@@ -199,13 +199,13 @@ module _ (x : OnKey) (t : ℕ) (how : Left) (w : IsWhole x) (is : IsLeft (cells_
 
   write_on : (s : ℕ) → WriteKeeps x.write s → WriteKeeps (after_left x.write t how) s
   write_on s k = (
-    let n = left_on x t how w is k.at k.rec k.found in
-    record { at = k.at; rec = n.0; found = n.1; of = sym n.2.start ∙ k.of; apart = ap keeps_apart (sym n.2.mutation) ∙ k.apart })
+      let n = left_on x t how w is k.at k.rec k.found in
+      record { at = k.at; rec = n.0; found = n.1; of = sym n.2.start ∙ k.of; apart = ap keeps_apart (sym n.2.mutation) ∙ k.apart })
 
   kept_before : (q : ℕ) (r : CommitRec) → after_left x.write t how q ≡ Some (Commit r) → IsKept (x.value r.start) r.mutation
   kept_before q r e = (
-    let b = left_back x.write t how q r e in
-    subst (λ s. IsKept (x.value s) r.mutation) b.2.start (subst (IsKept (x.value b.0.start)) b.2.mutation (w.write_kept q b.0 b.1)))
+      let b = left_back x.write t how q r e in
+      subst (λ s. IsKept (x.value s) r.mutation) b.2.start (subst (IsKept (x.value b.0.start)) b.2.mutation (w.write_kept q b.0 b.1)))
 
   whole_left : IsSound (cells_of (Rolled x.lock x.value)) → IsWhole (Rolled x.lock x.value)
   whole_left sound = record {
@@ -220,19 +220,19 @@ module _ (x : OnKey) (t : ℕ) (how : Left) (w : IsWhole x) (is : IsLeft (cells_
   whole_removed removed sound = record {
     lock_kept = λ r f. absurd (cc f);
     write_kept = λ q r f. (
-      let b = left_back x.write t how q r f in
-      let apart = without_apart x.value t r.start (λ own. alone x t w removed q b.0 b.1 (b.2.start ∙ own)) in
-      subst (λ (v : Option Value). IsKept v r.mutation) (sym apart) (kept_before q r f));
+        let b = left_back x.write t how q r f in
+        let apart = without_apart x.value t r.start (λ own. alone x t w.sound.lock_alone removed q b.0 b.1 (b.2.start ∙ own)) in
+        subst (λ (v : Option Value). IsKept v r.mutation) (sym apart) (kept_before q r f));
     value_kept = λ s there. (
-      let other : s ≡ t → ⊥ = λ same. there (ap (λ b. cond b None (x.value s)) (eq-eqb t s (sym same))) in
-      elim (w.value_kept s (λ none. there (without_apart x.value t s other ∙ none))) [
-        | inl k ↦ (
-            let l = lock_there x removed.0 removed.1.stands in
-            let one : k.rec ≡ l.0 = cc (k.found, l.1) in
-            absurd (other (sym k.of ∙ ap (λ (r : LockRec). r.start) one ∙ ap (λ (y : tables.Lock). y.start) l.2 ∙ removed.1.own))
-            )
-        | inr k ↦ inr (write_on s k)
-      ]);
+        let other : s ≡ t → ⊥ = λ same. there (ap (λ b. cond b None (x.value s)) (eq-eqb t s (sym same))) in
+        elim (w.value_kept s (λ none. there (without_apart x.value t s other ∙ none))) [
+          | inl k ↦ (
+              let l = lock_there x removed.0 removed.1.stands in
+              let one : k.rec ≡ l.0 = cc (k.found, l.1) in
+              absurd (other (sym k.of ∙ ap (λ (r : LockRec). r.start) one ∙ ap (λ (y : tables.Lock). y.start) l.2 ∙ removed.1.own))
+              )
+          | inr k ↦ inr (write_on s k)
+        ]);
     write_fits = left_fits x.write t how lt w.write_fits;
     sound = sound;
   }
@@ -248,23 +248,23 @@ on_same : (x : OnKey) (rec : LockRec) (f : LockRec → OnKey) → x.lock ≡ Som
 on_same x rec f e = ap (λ (o : Option LockRec). elim o [ None ↦ x | Some r ↦ f r ]) e
 
 pub whole_after : (x : OnKey) (made : KeyChange) → IsWhole x → Applies (cells_of x) made → Fits made → IsWhole (after x made)
-whole_after x made w applies fits = go made applies fits (subst IsSound (sym (cells_after x made w applies)) (sound_after (cells_of x) made w.sound applies))
+whole_after x made w applies fits = go made applies fits (subst IsSound (sym (cells_after x made w.sound.lock_alone applies)) (sound_after (cells_of x) made w.sound applies))
   where
     go : (k : KeyChange) → Applies (cells_of x) k → Fits k → IsSound (cells_of (after x k)) → IsWhole (after x k)
     go change.Nothing applies fits sound = w
     go (change.Lock new) applies fits sound = w
     go (change.Ttl ttl) applies fits sound = (
-      let l = lock_there x applies.0 applies.1 in
-      let is = on_same x l.0 (λ rec. with_lock x (Some (with_ttl rec ttl))) l.1 in
-      subst IsWhole (sym is) (whole_relocked x l.0 (with_ttl l.0 ttl) w l.1 refl refl (subst (λ (y : OnKey). IsSound (cells_of y)) is sound)))
+        let l = lock_there x applies.0 applies.1 in
+        let is = on_same x l.0 (λ rec. with_lock x (Some (with_ttl rec ttl))) l.1 in
+        subst IsWhole (sym is) (whole_relocked x l.0 (with_ttl l.0 ttl) w l.1 refl refl (subst (λ (y : OnKey). IsSound (cells_of y)) is sound)))
     go (change.Minimum min) applies fits sound = (
-      let l = lock_there x applies.lock applies.stands in
-      let is = on_same x l.0 (λ rec. with_lock x (Some (with_min rec min))) l.1 in
-      subst IsWhole (sym is) (whole_relocked x l.0 (with_min l.0 min) w l.1 refl refl (subst (λ (y : OnKey). IsSound (cells_of y)) is sound)))
+        let l = lock_there x applies.lock applies.stands in
+        let is = on_same x l.0 (λ rec. with_lock x (Some (with_min rec min))) l.1 in
+        subst IsWhole (sym is) (whole_relocked x l.0 (with_min l.0 min) w l.1 refl refl (subst (λ (y : OnKey). IsSound (cells_of y)) is sound)))
     go (change.Commit c o) applies fits sound = (
-      let l = lock_there x applies.lock applies.stands in
-      let is = on_same x l.0 (λ rec. record { lock = None; write = with_record x.write c (Commit (commit_of rec o)); value = x.value }) l.1 in
-      subst IsWhole (sym is) (whole_committed x l.0 c o w l.1 applies fits (subst (λ (y : OnKey). IsSound (cells_of y)) is sound)))
+        let l = lock_there x applies.lock applies.stands in
+        let is = on_same x l.0 (λ rec. record { lock = None; write = with_record x.write c (Commit (commit_of rec o)); value = x.value }) l.1 in
+        subst IsWhole (sym is) (whole_committed x l.0 c o w l.1 applies fits (subst (λ (y : OnKey). IsSound (cells_of y)) is sound)))
     go (change.RollBack t removes how) applies fits sound = whole_rolled x t removes how w applies.0 applies.1 fits sound
 
 -- ---- a lock that is put
@@ -308,19 +308,19 @@ pub whole_put : (x : OnKey) (b : Prewrite) (new : NewLock) → IsWhole x → Can
 whole_put x b new w can = record {
   lock_kept = λ r f. (let one : lock_put b new ≡ r = cc f in subst (λ (q : LockRec). IsKept (with_value x.value b.start (apart_of b.mutation) q.start) q.mutation) one (kept_apart x.value b.start b.mutation));
   write_kept = λ q r f. (
-    let apart = with_apart x.value b.start (apart_of b.mutation) r.start (uncommitted x b new can q r f) in
-    subst (λ (v : Option Value). IsKept v r.mutation) (sym apart) (w.write_kept q r f));
+      let apart = with_apart x.value b.start (apart_of b.mutation) r.start (uncommitted x b new can q r f) in
+      subst (λ (v : Option Value). IsKept v r.mutation) (sym apart) (w.write_kept q r f));
   value_kept = λ s there. elim (cases_eq s b.start) [
     | inl same ↦ inl (record {
-        rec = lock_put b new;
-        found = refl;
-        of = sym same;
-        apart = apart_kept x.value b.start b.mutation (no_value x b new w can) (λ none. there (ap (with_value x.value b.start (apart_of b.mutation)) same ∙ none));
-      })
+      rec = lock_put b new;
+      found = refl;
+      of = sym same;
+      apart = apart_kept x.value b.start b.mutation (no_value x b new w can) (λ none. there (ap (with_value x.value b.start (apart_of b.mutation)) same ∙ none));
+    })
     | inr other ↦ elim (w.value_kept s (λ none. there (with_apart x.value b.start (apart_of b.mutation) s other ∙ none))) [
-        | inl k ↦ (let f = no_lock x can.free in let g = k.found in cc (f, g))
-        | inr k ↦ inr k
-      ]
+      | inl k ↦ (let f = no_lock x can.free in let g = k.found in cc (f, g))
+      | inr k ↦ inr k
+    ]
   ];
   write_fits = w.write_fits;
   sound = subst IsSound (sym (cells_put x b new can)) (sound_put (cells_of x) b new w.sound can);
