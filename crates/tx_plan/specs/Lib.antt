@@ -1,4 +1,3 @@
-pub mod Keys
 pub mod Cells
 pub mod Reads
 pub mod Own
@@ -9,5 +8,8 @@ pub mod Plans
 pub mod Changes
 pub mod Walks
 pub mod Views
+pub mod Committing
+pub mod Refusals
+pub mod Locking
 pub mod Whole
 pub mod Collecting

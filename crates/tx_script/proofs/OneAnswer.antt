@@ -14,7 +14,8 @@ use Rattle.tx_plan.specs.declared.body.Commit.{Commit}
 use Rattle.tx_plan.specs.declared.answer.Answer.{Answer}
 use Rattle.tx_plan.specs.declared.answer.Answer.TheVariants.{Prewritten, KeyIsLocked, WriteConflict, AlreadyCommitted, Committed}
 use Rattle.tx_plan.specs.Tables.{Case, CaseOf}
-use Rattle.tx_plan.specs.Cells.{Lock, CommitRecord, CommitOf, Writes, Cells, IsVisible, info_of}
+use Rattle.tx_types.specs.Keys.{IsVisible}
+use Rattle.tx_plan.specs.Cells.{Lock, CommitRecord, CommitOf, Writes, Cells, info_of}
 use Rattle.tx_plan.specs.Reads.{Finds, Reads, read_answer}
 use Rattle.tx_plan.specs.Traces.{OwnCommit}
 use Rattle.tx_plan.specs.cases.Get.{AnswersGet}

@@ -1,0 +1,81 @@
+use Rattle.std.proofs.Common.{inl, inr, refl, sym, ap, ◌∙◌}
+use Rattle.tx_plan.specs.declared.answer.Answer.TheVariants.{Prewritten}
+use Rattle.tx_plan.specs.Views.{named_in, info_on}
+use Rattle.tx_plan.proofs.Orders.{not_below, not_true}
+use Rattle.tx_plan.proofs.Seen.{own_commit, no_commit, newest, none_above, no_lock}
+use Rattle.tx_plan.proofs.plan.prewrite.plan_prewrite.Goals as goal
+
+pub returns-in-Some-clause-answers : goal.returns-in-Some-clause-answers
+returns-in-Some-clause-answers c cells commit shows =
+    let b = c.args.body.now in
+    let own = c.in-Some.ensures cells commit shows in
+    rw (c.given-in-Some.ensures, c.named_minimum.ensures) (inr (not_below b.start c.args.safe c.if-lt.ensures, inr (not_below c.args.loaded b.start c.if-lt-2.ensures, inl (own.lock, own.stands, ap Prewritten (ap named_in own.shown)))))
+
+pub returns-in-Some-own_commit-clause-answers : goal.returns-in-Some-own_commit-clause-answers
+returns-in-Some-own_commit-clause-answers c cells commit shows =
+    let b = c.args.body.now in
+    rw c.given-in-Some-own_commit.ensures (inr (
+      not_below b.start c.args.safe c.if-lt.ensures,
+      inr (
+        not_below c.args.loaded b.start c.if-lt-2.ensures,
+        inr (
+          c.in_default.ensures cells commit shows,
+          inr (
+            λ own. not_true c.is_rolled_back.result c.if-is_rolled_back.false ((c.is_rolled_back.ensures cells commit shows).1 own),
+            inl (c.in-Some-own_commit.commit, own_commit cells b.start commit c.args.view.now shows c.in-Some-own_commit.commit c.in-Some-own_commit.is, refl),
+          ),
+        ),
+      ),
+    ))
+
+pub returns-in-Some-newest_above-clause-answers : goal.returns-in-Some-newest_above-clause-answers
+returns-in-Some-newest_above-clause-answers c cells commit shows =
+    let b = c.args.body.now in
+    let view = c.args.view.now in
+    let at = c.in-Some-newest_above.newest in
+    let found = newest cells b.start commit view shows at c.in-Some-newest_above.is in
+    let free = no_lock cells b.start commit view shows (sym c.is_some.ensures ∙ c.if-is_some.false) in
+    rw c.given-in-Some-newest_above.ensures (inr (
+      not_below b.start c.args.safe c.if-lt.ensures,
+      inr (
+        not_below c.args.loaded b.start c.if-lt-2.ensures,
+        inr (
+          c.in_default.ensures cells commit shows,
+          inr (
+            λ own. not_true c.is_rolled_back.result c.if-is_rolled_back.false ((c.is_rolled_back.ensures cells commit shows).1 own),
+            inr (
+              no_commit cells b.start commit view shows c.in_default-own_commit.is,
+              inr (
+                λ lock stands. (cc (free, stands)),
+                inl (record { at = at.commit; rec = found.rec; stands = found.stands; above = found.above }, (at.start, at.commit, found, refl)),
+              ),
+            ),
+          ),
+        ),
+      ),
+    ))
+
+pub returns-clause-answers : goal.returns-clause-answers
+returns-clause-answers c cells commit shows =
+    let b = c.args.body.now in
+    let view = c.args.view.now in
+    let free = no_lock cells b.start commit view shows (sym c.is_some.ensures ∙ c.if-is_some.false) in
+    inr (
+      not_below b.start c.args.safe c.if-lt.ensures,
+      inr (
+        not_below c.args.loaded b.start c.if-lt-2.ensures,
+        inr (
+          c.in_default.ensures cells commit shows,
+          inr (
+            λ own. not_true c.is_rolled_back.result c.if-is_rolled_back.false ((c.is_rolled_back.ensures cells commit shows).1 own),
+            inr (
+              no_commit cells b.start commit view shows c.in_default-own_commit.is,
+              inr (
+                λ lock stands. (cc (free, stands)),
+                inr (none_above cells b.start commit view shows c.in_default-newest_above.is, c.lock_key.ensures.answers (info_on cells b.key)),
+              ),
+            ),
+          ),
+        ),
+      ),
+    )

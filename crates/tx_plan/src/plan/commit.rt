@@ -1,0 +1,43 @@
+//! Commit: a transaction's lock becomes its commit record.
+ghost use Rattle.std.specs.Prelude.{◌≡◌, None};
+ghost use Rattle.tx_plan.specs.Cells.{Cells};
+ghost use Rattle.tx_plan.specs.Changes.{changed, Applies};
+ghost use Rattle.tx_plan.specs.Plans.{answer_with};
+ghost use Rattle.tx_plan.specs.Views.{Shows, info_on};
+ghost use Rattle.tx_plan.specs.cases.Commit.{AnswersCommit, leaves_commit};
+
+use crate::answer::Answer;
+use crate::body::Commit;
+use crate::plan::committing::{commit_lock, commit_refusal};
+use crate::plan::own::{is_rolled_back, own_lock};
+use crate::planned::Planned;
+use crate::view::TxnView;
+use tx_types::Ts;
+
+/// The answer to a Commit
+pub fn plan_commit(view: &TxnView, collected: Ts, body: &Commit) -> Planned
+    ensures answers { (cells : Cells) → Shows cells body.now.start body.now.commit view.now → AnswersCommit cells collected body.now (answer_with (info_on cells body.now.key) result.answer) }
+    ensures leaves { (cells : Cells) → Shows cells body.now.start body.now.commit view.now → changed cells result.change ≡ leaves_commit cells body.now (answer_with (info_on cells body.now.key) result.answer) }
+    ensures applies { (cells : Cells) → Shows cells body.now.start body.now.commit view.now → Applies cells result.change }
+    ensures unread { result.read ≡ None }
+{
+    if body.start < collected {
+        return Planned::given(Answer::BelowSafePoint { safe: collected });
+    }
+    if let Some(lock) = own_lock(view, body.start) {
+        return match commit_refusal(view, &lock, body.start, body.commit) {
+            Some(refusal) => Planned::given(refusal),
+            None => Planned::changes(
+                Answer::Committed(body.commit),
+                commit_lock(view, body.commit),
+            ),
+        };
+    }
+    if let Some(commit) = view.own_commit {
+        return Planned::given(Answer::Committed(commit));
+    }
+    if is_rolled_back(view, body.start) {
+        return Planned::given(Answer::AlreadyRolledBack);
+    }
+    Planned::given(Answer::TxnLockNotFound)
+}
