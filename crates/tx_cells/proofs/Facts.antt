@@ -1,5 +1,5 @@
 -- What the facts that each key meets say of its records.
-use Rattle.std.proofs.Common.{◌≡◌, ℕ, ◌<◌, Result, Ok, Err, Option, Some, None, sym, ap, ◌∙◌}
+use Rattle.std.proofs.Common.{◌≡◌, ℕ, ◌<◌, Result, Ok, Err, Option, Some, None, sym, ap, subst, ◌∙◌}
 use Rattle.std.specs.Prelude.{IfOk, OnOk, OnErr}
 use mathlib.Core.Logic.{∥∥₁_elim}
 use Rattle.std.proofs.Math.Logic.{∥∥₁_map}
@@ -13,6 +13,7 @@ use Rattle.tx_types.specs.declared.write.WriteRec.TheVariants.{Commit}
 use Rattle.tx_cells.specs.Contents.{OnKey, cells_of, IsWhole, IsKept}
 use Rattle.tx_cells.specs.Histories.{AreDated, AreFitting}
 use Rattle.tx_cells.proofs.Showing.{stands_commit}
+use Rattle.tx_cells.proofs.CellsAfter.{LockAlone}
 
 pub dated_in : (x : OnKey) → IsWhole x → AreDated x.write
 dated_in x w c rec e = w.sound.write_dated c _ (stands_commit x c rec e)
@@ -41,3 +42,18 @@ if_ok (Err e) P Q step p = tt
 -- what all keys meet, one meets
 pub whole_at : {K : Type 0} (on : K → OnKey) → ∥ ((key : K) → IsWhole (on key)) ∥₁ → (key : K) → ∥ IsWhole (on key) ∥₁
 whole_at on t key = ∥∥₁_map t (λ w. w key)
+
+pub lock_alone : (x : OnKey) → ∥ IsWhole x ∥₁ → LockAlone x
+lock_alone x t lock c e own = ∥∥₁_elim t (λ a b. absurd a) (λ w. w.sound.lock_alone lock c e own)
+
+-- what is held of a key after a step that keeps what it meets
+pub stays_whole : (x y z : OnKey) → ∥ IsWhole x ∥₁ → (IsWhole x → IsWhole y) → z ≡ y → ∥ IsWhole z ∥₁
+stays_whole x y z t step e = ∥∥₁_map t (λ w. subst IsWhole (sym e) (step w))
+
+pub on_ok : {T E : Type 0} (r : Result T E) (P Q : Type 0) → (P → Q) → OnOk r P → OnOk r Q
+on_ok (Ok x) P Q step p = step p
+on_ok (Err e) P Q step p = tt
+
+pub on_err : {T E : Type 0} (r : Result T E) (P Q : Type 0) → (P → Q) → OnErr r P → OnErr r Q
+on_err (Ok x) P Q step p = tt
+on_err (Err e) P Q step p = step p

@@ -118,7 +118,7 @@ sound_after cells (change.Minimum min) s applies =
     subst IsSound (sym (on_same cells applies.lock (λ lock. with_lock cells (Some (with_minimum lock min))) applies.stands)) (relocked cells applies.lock (with_minimum applies.lock min) s applies.stands refl applies.raises)
 sound_after cells (change.Commit c o) s applies =
     subst IsSound (sym (on_same cells applies.lock (λ lock. record { lock = None; write = with_write cells.write c (CommitOf (committed lock o)) }) applies.stands))
-      (sound_committed cells applies.lock c o s applies.stands applies.upto)
+    (sound_committed cells applies.lock c o s applies.stands applies.upto)
 sound_after cells (change.RollBack t removes left) s applies = sound_fewer cells (cond removes None cells.lock) (after_left cells.write t left) s (gone_or_not removes cells.lock) (left_from cells.write t left)
 
 pub sound_put : (cells : Cells) (b : Prewrite) (new : NewLock) → IsSound cells → CanPut cells b new → IsSound (with_lock cells (Some (put b new)))

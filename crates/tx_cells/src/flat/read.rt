@@ -59,7 +59,9 @@ impl FlatCells {
             return Ok(None);
         };
         let CommitRec {
-            mutation, start, ..
+            mutation,
+            start,
+            ..
         } = rec;
         match mutation {
             StoredMutation::Put(value) => {

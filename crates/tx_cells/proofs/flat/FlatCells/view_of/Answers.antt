@@ -25,7 +25,7 @@ returns-clause-shows c =
     let records : List ℕ → Records = λ k q. tree.get version_cmp flat.writes (k, q) in
     let same = ap (λ (v : List ℕ × ℕ). records v.0) at_commit in
     shown (flat_content flat key) c.args.start c.args.commit _ c.in_ok-lock.ensures.ok
-      (c.head_at-at_start.ensures ∙ ap (λ (v : List ℕ × ℕ). option_map write_head (tree.get version_cmp flat.writes v)) ok)
-      (c.head_at-at_commit.ensures ∙ ap (λ (v : List ℕ × ℕ). option_map write_head (tree.get version_cmp flat.writes v)) at_commit)
-      (subst (λ (w : Records). MatchOption c.commits_above-own_commit.result.own_commit ((d : ℕ) → CommitsAt w c.args.start d → ⊥) (λ d. CommitsAt w c.args.start d)) same c.commits_above-own_commit.ensures.own)
-      (subst (λ (w : Records). MatchOption c.commits_above-own_commit.result.newest (CommitsAbove w c.args.start → ⊥) (λ (at : CommitAt). IsNewest w c.args.start at.start at.commit)) same c.commits_above-own_commit.ensures.newest)
+    (c.head_at-at_start.ensures ∙ ap (λ (v : List ℕ × ℕ). option_map write_head (tree.get version_cmp flat.writes v)) ok)
+    (c.head_at-at_commit.ensures ∙ ap (λ (v : List ℕ × ℕ). option_map write_head (tree.get version_cmp flat.writes v)) at_commit)
+    (subst (λ (w : Records). MatchOption c.commits_above-own_commit.result.own_commit ((d : ℕ) → CommitsAt w c.args.start d → ⊥) (λ d. CommitsAt w c.args.start d)) same c.commits_above-own_commit.ensures.own)
+    (subst (λ (w : Records). MatchOption c.commits_above-own_commit.result.newest (CommitsAbove w c.args.start → ⊥) (λ (at : CommitAt). IsNewest w c.args.start at.start at.commit)) same c.commits_above-own_commit.ensures.newest)

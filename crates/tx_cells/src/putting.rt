@@ -1,0 +1,71 @@
+//! The lock that a prewrite asks for.
+ghost use Rattle.std.specs.Prelude.{◌≡◌, IfOk, IfErr};
+ghost use Rattle.tx_cells.specs.Afterwards.{stored_of, apart_of, mode_put, lock_put};
+
+use tx_plan::{NewLock, Prewrite};
+use tx_types::{Fault, LockMode, LockRec, Mode, Mutation, StoredMutation, StoredValue, Value};
+
+/// What a record keeps of a mutation.
+fn stored(mutation: &Mutation) -> Result<StoredMutation, Fault>
+    ensures ok { IfOk result (λ stored. stored ≡ stored_of mutation.now) }
+    ensures err { IfErr result (λ e. e ≡ Fault.OutOfMemory) }
+{
+    match mutation {
+        Mutation::Put(value) => {
+            if value.is_inline() {
+                let value = value.clone()?;
+                return Ok(StoredMutation::Put(StoredValue::Inline(value)));
+            }
+            Ok(StoredMutation::Put(StoredValue::InDefault))
+        }
+        Mutation::Delete => Ok(StoredMutation::Delete),
+        Mutation::Lock => Ok(StoredMutation::Lock),
+    }
+}
+
+/// The value that is kept apart from the record.
+pub(crate) fn apart(mutation: &Mutation) -> Result<Option<Value>, Fault>
+    ensures ok { IfOk result (λ value. value ≡ apart_of mutation.now) }
+    ensures err { IfErr result (λ e. e ≡ Fault.OutOfMemory) }
+{
+    match mutation {
+        Mutation::Put(value) => {
+            if value.is_inline() {
+                return Ok(None);
+            }
+            Ok(Some(value.clone()?))
+        }
+        Mutation::Delete | Mutation::Lock => Ok(None),
+    }
+}
+
+/// How the lock's transaction commits.
+fn mode(body: &Prewrite, new: NewLock) -> Result<LockMode, Fault>
+    ensures ok { IfOk result (λ mode. mode ≡ mode_put body.now new) }
+    ensures err { IfErr result (λ e. e ≡ Fault.OutOfMemory) }
+{
+    match new.mode {
+        Mode::TwoPhase => Ok(LockMode::TwoPhase),
+        Mode::Async => Ok(LockMode::Async(body.others.clone()?)),
+    }
+}
+
+/// The record of the lock that a prewrite asks for.
+pub(crate) fn lock_record(body: &Prewrite, new: NewLock) -> Result<LockRec, Fault>
+    ensures ok { IfOk result (λ rec. rec ≡ lock_put body.now new) }
+    ensures err { IfErr result (λ e. e ≡ Fault.OutOfMemory) }
+{
+    let NewLock { min, .. } = new;
+    let (start, ttl) = (body.start, body.ttl);
+    let mutation = stored(&body.mutation)?;
+    let mode = mode(body, new)?;
+    let primary = body.primary.clone()?;
+    Ok(LockRec {
+        mutation,
+        mode,
+        start,
+        min,
+        ttl,
+        primary,
+    })
+}
