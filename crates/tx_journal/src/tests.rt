@@ -2,6 +2,7 @@
 ghost use Rattle.std.specs.Prelude.{◌≡◌, ◌<◌, [], true, IfSome, vec_len};
 ghost use Rattle.tx_plan.specs.declared.body.Body.TheVariants as asks;
 ghost use Rattle.tx_core.specs.Histories.{began};
+ghost use Rattle.tx_journal.specs.Known.{AreRising};
 
 use super::*;
 use std::alloc::Global;
@@ -247,7 +248,7 @@ fn reply_to_one<J: Naming>(alloc: Global, opened: Opened) -> Option<Unnamed>
 
 // The keys between two regions.
 fn one_bound(alloc: Global) -> Option<Vec<Key>>
-    ensures { IfSome result (λ keys. vec_len keys ≡ 1) }
+    ensures { IfSome result (λ keys. (vec_len keys ≡ 1) × AreRising keys.items) }
 {
     let Ok(key) = Key::new(alloc, b"m") else {
         return None;
@@ -263,9 +264,7 @@ fn one_bound(alloc: Global) -> Option<Vec<Key>>
 fn region_replies(rt: HostRuntime) -> Result<(), Fail> {
     let bounds = one_bound(rt.alloc()).ok_or("a key")?;
     let opened = Opened::new(rt.alloc(), bounds, 1)?;
-    match reply_to_one::<Brand>(rt.alloc(), opened) {
-        Some(seen) => seen.show(),
-        None => return Err(Fail::from("a reply")),
-    }
+    let seen = reply_to_one::<Brand>(rt.alloc(), opened);
+    assert!(rt; seen.is_some());
     Ok(())
 }
