@@ -24,16 +24,15 @@ pub struct Opened {
 }
 
 impl Model for Opened {
-    ghost use Rattle.std.specs.Prelude.{◌≡◌, ◌≤◌, []};
     ghost use Rattle.std.specs.Arc.{arc_value};
-    ghost use Rattle.tx_journal.specs.Known.{Opening, AreRising};
-    ghost use Rattle.tx_journal.specs.Rules.{founder};
+    ghost use Rattle.tx_journal.specs.Known.{Opening};
+    ghost use Rattle.tx_journal.specs.Rules.{IsFirstToken};
 
     ghost Value = { Opening };
 
     ghost view = { λ o. record { table = (arc_value o.words).shared.table_id; bounds = (arc_value o.bounds).items; seats = o.seats } };
 
-    ghost invariant = { λ o. (o.token.table_id ≡ (arc_value o.words).shared.table_id) × ((arc_value o.words).shared.table_id.words ≡ 2) × ((arc_value o.words).shared.key.bounds.items ≡ (arc_value o.bounds).items) × ((arc_value o.words).shared.key.seats ≡ o.seats) × (o.token.me ≡ (founder (arc_value o.words).shared.key, [])) × AreRising (arc_value o.bounds).items × (o.seats ≤ 1024) };
+    ghost invariant = { λ o. IsFirstToken (arc_value o.bounds).items o.seats (arc_value o.words).shared.table_id (arc_value o.words).shared.key o.token.table_id o.token.me };
 }
 
 impl Opened {
@@ -74,15 +73,15 @@ struct Dealer<J: Naming> {
 }
 
 impl<J: Naming> Model for Dealer<J> {
-    ghost use Rattle.std.specs.Prelude.{◌≡◌, ℕ, ◌+◌, ◌*◌, ◌≤◌, []};
+    ghost use Rattle.std.specs.Prelude.{ℕ};
     ghost use Rattle.std.specs.Arc.{arc_value};
-    ghost use Rattle.tx_journal.specs.Rules.{Belongs, unseated};
+    ghost use Rattle.tx_journal.specs.Rules.{Belongs, IsDealersToken};
 
     ghost Value = { ℕ };
 
     ghost view = { λ d. d.next };
 
-    ghost invariant = { λ d. Belongs J.table J.bounds (arc_value d.words).shared.table_id (arc_value d.words).shared.key d.token.table_id × (d.token.me ≡ (unseated J.bounds J.seats d.next d.token.me.0.ticks, [])) × (J.seats * 4294967296 ≤ d.token.me.0.ticks + d.next * 4294967296) × (J.seats ≤ 1024) };
+    ghost invariant = { λ d. Belongs J.table J.bounds (arc_value d.words).shared.table_id (arc_value d.words).shared.key d.token.table_id × IsDealersToken J.bounds J.seats d.next d.token.me };
 }
 
 impl<J: Naming> Dealer<J> {
@@ -146,6 +145,7 @@ impl<J: Naming> Journal<J> {
 
     /// The same journal.
     pub fn clone(&self) -> Result<Journal<J>, Fault>
+        ensures ok { IfOk result (λ copy. copy ≡ self.now) }
         ensures err { IfErr result (λ e. e ≡ fault.OutOfMemory) }
     {
         let bounds = self.bounds.clone()?;

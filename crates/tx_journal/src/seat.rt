@@ -1,6 +1,6 @@
 //! Seats of a journal. Who makes events has a seat: it draws timestamps and records events with it, each by one atomic add, and
 //! it knows a beginning of the one history that has all of its own events. None of a seat's calls waits, allocates or loops.
-ghost use Rattle.std.specs.Prelude.{◌≡◌, ℕ, ◌+◌, ◌<◌, ◌≤◌, ◌⊎◌, [], IfOk, IfErr};
+ghost use Rattle.std.specs.Prelude.{◌≡◌, ℕ, ◌+◌, ◌<◌, ◌≤◌, ◌⊎◌, IfOk, IfErr};
 ghost use Rattle.std.specs.Arc.{arc_value};
 ghost use mathlib.Core.Option.{none};
 ghost use Rattle.atomic_table.specs.Table.{step};
@@ -9,7 +9,7 @@ ghost use Rattle.tx_core.specs.Histories.{last, Begins};
 ghost use Rattle.tx_core.specs.Recording.{MayRecord, part, AllOfSeats};
 ghost use Rattle.tx_core.specs.Worlds.{IsWorldRun};
 ghost use Rattle.tx_journal.specs.Known.{known, greatest_ts, DrawsNothing, HasSeen, HasRecorded, HasDrawn};
-ghost use Rattle.tx_journal.specs.Rules.{Belongs, Owns, Adds, seated};
+ghost use Rattle.tx_journal.specs.Rules.{Belongs, Owns, Adds, IsSeatsToken};
 
 use crate::told::Told;
 use crate::view::{Add, Advance, Hear, Home, Learn, Look, Naming, Said, Tell, Token, Words};
@@ -30,18 +30,15 @@ pub struct Seat<J: Naming> {
 }
 
 impl<J: Naming> Model for Seat<J> {
-    ghost use Rattle.std.specs.Prelude.{◌≡◌, []};
     ghost use Rattle.std.specs.Arc.{arc_value};
-    ghost use Rattle.tx_core.specs.Recording.{AllOfSeats};
-    ghost use Rattle.tx_core.specs.Worlds.{IsWorldRun};
     ghost use Rattle.tx_journal.specs.Known.{Known, known};
-    ghost use Rattle.tx_journal.specs.Rules.{Belongs, seated};
+    ghost use Rattle.tx_journal.specs.Rules.{Belongs, IsSeatsToken};
 
     ghost Value = { Known };
 
     ghost view = { λ s. known s.number s.left s.token.me.0.seen };
 
-    ghost invariant = { λ s. Belongs J.table J.bounds (arc_value s.words).shared.table_id (arc_value s.words).shared.key s.token.table_id × (s.token.me ≡ (seated J.bounds J.seats s.number s.left s.token.me.0.seen, [])) × IsWorldRun J.bounds s.token.me.0.seen × AllOfSeats J.seats s.token.me.0.seen };
+    ghost invariant = { λ s. Belongs J.table J.bounds (arc_value s.words).shared.table_id (arc_value s.words).shared.key s.token.table_id × IsSeatsToken J.bounds J.seats s.number s.left s.token.me };
 }
 
 // Adds the event that the call picks.
@@ -60,8 +57,7 @@ impl<J: Naming> Seat<J> {
     // The seat of a token.
     pub(crate) fn of(number: SeatNo, left: u64, words: Arc<Home>, token: Token) -> Seat<J>
         requires table { Belongs J.table J.bounds (arc_value words).shared.table_id (arc_value words).shared.key token.table_id }
-        requires token { token.me ≡ (seated J.bounds J.seats number left token.me.0.seen, []) }
-        requires run { IsWorldRun J.bounds token.me.0.seen × AllOfSeats J.seats token.me.0.seen }
+        requires token { IsSeatsToken J.bounds J.seats number left token.me }
         ensures { result ≡ known number left token.me.0.seen }
     {
         Seat {
@@ -95,7 +91,10 @@ impl<J: Naming> Seat<J> {
         if self.left < ticks {
             return Err(Fault::OracleSpent);
         }
-        let found = self.words.shared.fetch_add::<Advance>(&mut self.token, 0, ticks);
+        let found = self
+            .words
+            .shared
+            .fetch_add::<Advance>(&mut self.token, 0, ticks);
         self.left -= ticks;
         Ok(Ts::new(found + ticks))
     }

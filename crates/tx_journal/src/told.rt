@@ -3,6 +3,7 @@ ghost use Rattle.std.specs.Prelude.{◌≡◌, []};
 ghost use Rattle.std.specs.Arc.{arc_value};
 ghost use Rattle.tx_core.specs.Recording.{AllOfSeats};
 ghost use Rattle.tx_core.specs.Worlds.{IsWorldRun};
+ghost use Rattle.tx_journal.specs.Rules.{IsToldsToken};
 
 use crate::seat::Seat;
 use crate::view::{Home, Naming, Tell, Token, Words};
@@ -18,23 +19,20 @@ pub struct Told<J: Naming> {
 }
 
 impl<J: Naming> Model for Told<J> {
-    ghost use Rattle.std.specs.Prelude.{◌≡◌, []};
     ghost use Rattle.tx_core.specs.Histories.{History};
-    ghost use Rattle.tx_core.specs.Recording.{AllOfSeats};
-    ghost use Rattle.tx_core.specs.Worlds.{IsWorldRun};
+    ghost use Rattle.tx_journal.specs.Rules.{IsToldsToken};
 
     ghost Value = { History };
 
     ghost view = { λ t. t.token.me.0.seen };
 
-    ghost invariant = { λ t. (t.token.table_id ≡ J.table) × (J.table.words ≡ 2) × (t.token.me.1 ≡ []) × IsWorldRun J.bounds t.token.me.0.seen × AllOfSeats J.seats t.token.me.0.seen };
+    ghost invariant = { λ t. IsToldsToken J.table J.bounds J.seats t.token.table_id t.token.me };
 }
 
 impl<J: Naming> Told<J> {
     // The `Told` of a token.
     pub(crate) fn of(token: Token) -> Told<J>
-        requires table { (token.table_id ≡ J.table) × (J.table.words ≡ 2) }
-        requires token { (token.me.1 ≡ []) × IsWorldRun J.bounds token.me.0.seen × AllOfSeats J.seats token.me.0.seen }
+        requires { IsToldsToken J.table J.bounds J.seats token.table_id token.me }
         ensures { result ≡ token.me.0.seen }
     {
         Told {
