@@ -27,7 +27,6 @@ good_first bounds =
       sound = sound_first bounds;
       ends = ends_first bounds;
       told = λ x among. absurd among;
-      told_abort = λ x among. absurd among;
       upto = λ l e. omega (arith, e);
     }
 
@@ -42,8 +41,7 @@ module _ (bounds : List Key) (h : History) (good : Good bounds h) where
       record {
         sound = sound;
         ends = ends;
-        told = λ x among t of c tells. ap (λ d. d t) same ∙ good.told x (before e other x among) t of c tells;
-        told_abort = λ x among t of tells. ap (λ d. d t) same ∙ good.told_abort x (before e other x among) t of tells;
+        told = λ x among t of end tells. ap (λ d. d t) same ∙ good.told x (before e other x among) t of end tells;
         upto = λ l was. elim was [ inl now ↦ omega (arith, now) | inr old ↦ omega (arith, good.upto l old, more) ];
       }
 
@@ -61,10 +59,10 @@ module _ (bounds : List Key) (h : History) (good : Good bounds h) where
 
   -- what a session knows of its transaction is decided
   known_commit : (t c : ℕ) → MayAnswer h t (outcome.Committed c) → IsCommitted (decided h) t c
-  known_commit t c may = elim may [ inl told ↦ good.told told.by told.among t told.of c told.tells | inr all ↦ good.ends.all_async t c all ]
+  known_commit t c may = elim may [ inl told ↦ good.told told.by told.among t told.of (fate.Committed c) told.tells | inr all ↦ good.ends.all_async t c all ]
 
   known_abort : (t : ℕ) → MayAnswer h t outcome.Aborted → IsAborted (decided h) t
-  known_abort t told = good.told_abort told.by told.among t told.of told.tells
+  known_abort t told = good.told told.by told.among t told.of fate.Aborted told.tells
 
   pub good_answered : (t : ℕ) (o : Outcome) → MayAnswer h t o → Good bounds (Answered t o ∷ h)
   good_answered t o may = quiet_event (Answered t o) (λ x e. (cc (e))) refl (omega arith) (sound o may) good.ends

@@ -1,8 +1,8 @@
 -- What stays so, however a world run goes on.
 use Rattle.std.proofs.Common.{◌≡◌, ◌≢◌, ◌≤◌, ℕ, inl, inr, Bool, true, false, cond, List, [], ◌∷◌, Some, None, refl, sym, ap, subst, ◌∙◌, arith}
 use Rattle.tx_types.specs.declared.key.Key.{Key}
+use Rattle.tx_types.specs.declared.mutation.Fate.{Fate}
 use Rattle.tx_plan.specs.declared.body.Body.{Body}
-use Rattle.tx_plan.specs.declared.answer.Answer.{Answer}
 use Rattle.tx_core.specs.declared.event.Declaration.{Declaration}
 use Rattle.tx_core.specs.declared.event.Event.{Event}
 use Rattle.tx_core.specs.declared.event.Event.TheVariants.{Drawn, Began, Declared, Answered, Stopped, Took}
@@ -206,8 +206,8 @@ owner_some bounds h run (Took x) may = λ none. cc (none)
 pub among_on : (l h : History) → Begins l h → (e : Event) → Among l e → Among h e
 among_on l h b e = kept_on (λ x. Among x e) (λ x y among. inr among) l h b
 
-pub told_on : (l h : History) → Begins l h → (t : ℕ) (Tells : Answer → Type 0) → WasTold l t Tells → WasTold h t Tells
-told_on l h b t Tells told = record { by = told.by; among = among_on l h b (Took told.by) told.among; of = told.of; tells = told.tells }
+pub told_on : (l h : History) → Begins l h → (t : ℕ) (end : Fate) → WasTold l t end → WasTold h t end
+told_on l h b t end told = record { by = told.by; among = among_on l h b (Took told.by) told.among; of = told.of; tells = told.tells }
 
 accepted_next : (h : History) (e : Event) (t : ℕ) (k : Key) (by : Acceptance) → accepted h t k ≡ Some by → accepted (e ∷ h) t k ≡ Some by
 accepted_next h (Took x) t k by is = ap (accepted_by (effect_in h x) (last h) t k) is ∙ stands (effect_in h x)
