@@ -47,3 +47,6 @@ pub mod Answering
 pub mod Recording
 pub mod Counting
 pub mod Consequences
+pub mod LocksSay
+pub mod ToldLocks
+pub mod AllAsync
