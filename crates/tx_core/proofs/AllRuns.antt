@@ -22,6 +22,7 @@ use Rattle.tx_core.proofs.View.{View}
 use Rattle.tx_core.proofs.Reading.{Passes}
 use Rattle.tx_core.proofs.Tables.{Shows, changes_of}
 use Rattle.tx_core.proofs.HistoryView.{shown_in, view}
+use Rattle.tx_core.proofs.Staying.{was_last_upto}
 use Rattle.tx_core.proofs.Good.{true_end, Good, Next, took}
 use Rattle.tx_core.proofs.Gets.{next_get}
 use Rattle.tx_core.proofs.Scans.{next_scan}
@@ -68,7 +69,7 @@ still_decided h x t e end = ap (first_decided (decision (set_at h t) (accepted (
 
 -- ---- what a region takes
 
-module _ (bounds : List Key) (h : History) (good : Good bounds h) (told : ToldShown bounds h) where
+module _ (bounds : List Key) (h : History) (run : IsWorldRun bounds h) (good : Good bounds h) (told : ToldShown bounds h) where
   -- a read passes by the transactions that it may pass by
   passes : (r : ℕ) (bypass : List ℕ) → MayRead h r bypass → (t : ℕ) → Contains bypass t → Passes (decided h) (shown_in h) r t
   passes r bypass may t named = elim (may t named) [ inl gone ↦ inl gone | inr rest ↦ elim rest [ inl done ↦ inr (inl done) | inr shown ↦ inr (inr (omega (arith, shown_above bounds h told t shown.0 shown.1, shown.2))) ] ]
@@ -88,7 +89,7 @@ module _ (bounds : List Key) (h : History) (good : Good bounds h) (told : ToldSh
   next_taken n (Collect b) l a upto allowed holds answers = next_collect bounds h good n l b a answers
 
   next : (x : Taken) → MayTake bounds h x → Next bounds h x
-  next x may = next_taken x.region x.body x.loaded x.answer (good.upto x.loaded may.loaded) may.allowed may.holds may.answers
+  next x may = next_taken x.region x.body x.loaded x.answer (was_last_upto bounds h run x.loaded may.loaded) may.allowed may.holds may.answers
 
   good_took : (x : Taken) → Next bounds h x → Good bounds (Took x ∷ h)
   good_took x n =
@@ -100,7 +101,6 @@ module _ (bounds : List Key) (h : History) (good : Good bounds h) (told : ToldSh
               | inl now ↦ (let same : x ≡ y = cc (now) in told_end (table_of (shadow (Took x ∷ h))) (view bounds (Took x ∷ h)) t n.sound.shows x.body x.answer end (ap (λ (z : Taken). start_in z.body) same ∙ of) n.truth (ap (λ (z : Taken). fate_in z.answer) same ∙ tells))
               | inr before ↦ still_decided h x t end (good.told y before t of end tells)
             ];
-        upto = λ l e. elim e [ inl now ↦ omega (arith, now) | inr before ↦ good.upto l before ];
       }
 
   -- ---- every event
@@ -128,7 +128,7 @@ pub run_told : (bounds : List Key) (h : History) → IsWorldRun bounds h → Goo
 run_told bounds [] run = (good_first bounds, told_first bounds)
 run_told bounds (e ∷ h) run =
     let before = run_told bounds h run.0 in
-    (good_next bounds h before.0 before.1 e run.1, told_next bounds h before.0 before.1 e run.1)
+    (good_next bounds h run.0 before.0 before.1 e run.1, told_next bounds h before.0 before.1 e run.1)
 
 pub shadow_runs : (bounds : List Key) (h : History) → IsWorldRun bounds h → IsRun (shadow h)
 shadow_runs bounds h run = (run_told bounds h run).0.sound.run
@@ -137,7 +137,7 @@ pub all_true : (bounds : List Key) (h : History) → IsWorldRun bounds h → All
 all_true bounds [] run = tt
 all_true bounds (e ∷ h) run =
     let before = run_told bounds h run.0 in
-    (all_true bounds h run.0, true_next bounds h before.0 before.1 e run.1)
+    (all_true bounds h run.0, true_next bounds h run.0 before.0 before.1 e run.1)
 
 -- what is decided is how the machine's transaction has ended
 pub decisions_true : (bounds : List Key) (h : History) → IsWorldRun bounds h → (t : ℕ) (end : Fate) → decided h t ≡ Done end → HasEnded (table_of (shadow h)) t end

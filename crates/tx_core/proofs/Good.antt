@@ -16,7 +16,7 @@ use Rattle.tx_plan.specs.Traces.{OwnCommit, OwnRollback}
 use Rattle.tx_plan.specs.Answers.{leaves, start_in}
 use Rattle.tx_core.specs.declared.event.Taken.{Taken}
 use Rattle.tx_core.specs.declared.event.Event.TheVariants.{Took}
-use Rattle.tx_core.specs.Histories.{History, last, set_at, left, Among, WasLast}
+use Rattle.tx_core.specs.Histories.{History, last, set_at, left, Among}
 use Rattle.tx_core.specs.Decisions.{Acceptance, Effect, NoEffect, is_own, effect, effect_in, accepted, accepted_by, decision, first_decided, decided, fate_in}
 use Rattle.tx_core.specs.Worlds.{route}
 use Rattle.tx_core.specs.Shadow.{deciding, deciding_in, reading, shadow}
@@ -29,13 +29,11 @@ use Rattle.tx_core.proofs.Sounds.{sound_raise}
 use Rattle.tx_core.proofs.Ends.{Ends}
 use Rattle.tx_core.proofs.HistoryView.{reads_by, reads_in, shown_put, shown_told, shown_in, view}
 
--- The machine's steps and the view are sound, the ends hold, an answer that told of an end told what is decided, and a loaded number is
--- at most the last one.
+-- The machine's steps and the view are sound, the ends hold, and an answer that told of an end told what is decided.
 pub record Good (bounds : List Key) (h : History) : Type 0 where
   pub sound : Sound (shadow h) (view bounds h)
   pub ends : Ends (view bounds h)
   pub told : (x : Taken) → Among h (Took x) → (t : ℕ) → start_in x.body ≡ Some t → (end : Fate) → fate_in x.answer ≡ Some end → decided h t ≡ Done end
-  pub upto : (l : ℕ) → WasLast h l → l ≤ last h
 
 abbrev pub took : ℕ → Body → ℕ → Answer → Taken
 took n body l a = record { region = n; body = body; loaded = l; answer = a }

@@ -1,4 +1,4 @@
-mod Examples
+mod examples
 pub mod Basics
 pub mod View
 pub mod Drawing
