@@ -7,8 +7,6 @@ mod event;
 mod headline;
 mod laws;
 mod seat_no;
-#[cfg(test)]
-mod tests;
 
 pub use event::{Declaration, Event, Outcome, Taken, UnknownCause};
 pub use headline::every_run;
