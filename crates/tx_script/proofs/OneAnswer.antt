@@ -25,8 +25,8 @@ use Rattle.tx_core.specs.Histories.{History, last, left}
 use Rattle.tx_core.specs.Decisions.{decided}
 use Rattle.tx_core.specs.Worlds.{IsWorldRun}
 use Rattle.tx_core.proofs.Basics.{some_same}
-use Rattle.tx_core.proofs.Good.{own_commit}
-use Rattle.tx_core.proofs.AllRuns.{run_told}
+use Rattle.tx_core.proofs.requests.Good.{own_commit}
+use Rattle.tx_core.proofs.runs.AllRuns.{run_told}
 use Rattle.tx_script.proofs.AllLead.{IsAsked}
 
 -- ---- case tables
