@@ -47,3 +47,9 @@ pub mod Answering
 pub mod Recording
 pub mod Counting
 pub mod Consequences
+pub mod OneCase
+pub mod OneKeyed
+pub mod OneLists
+pub mod OneScan
+pub mod OneLocks
+pub mod OneAnswer

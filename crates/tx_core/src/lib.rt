@@ -3,6 +3,7 @@
 //! words.
 #![tactic(auto)]
 
+mod answers;
 mod event;
 mod headline;
 mod laws;
@@ -11,6 +12,7 @@ mod stays;
 #[cfg(test)]
 mod tests;
 
+pub use answers::one_answer;
 pub use event::{Declaration, Event, Outcome, Taken, UnknownCause};
 pub use headline::every_run;
 pub use laws::parts_make_the_whole;
