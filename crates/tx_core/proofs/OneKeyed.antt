@@ -1,7 +1,7 @@
 -- The commands of one key have one answer each, and so has the rise of a safe point: in each case of their tables what the answer names
 -- is the only one of its kind.
 use Rattle.std.proofs.Common.{◌≡◌, ℕ, Option, Some, sym, subst, ◌∙◌, arith}
-use Rattle.std.specs.Prelude.{max, ◌+◌}
+use Rattle.std.specs.Prelude.{max}
 use Rattle.tx_types.specs.declared.mutation.Fate.{Fate}
 use Rattle.tx_types.specs.declared.mutation.Fate.TheVariants as fate
 use Rattle.tx_plan.specs.declared.body.Get.{Get}
@@ -24,7 +24,7 @@ use Rattle.tx_plan.specs.cases.Prewrite.{IsWithin, named_minimum, NewestAbove, A
 use Rattle.tx_plan.specs.cases.Commit.{SettlesLock, AnswersCommit}
 use Rattle.tx_plan.specs.cases.BatchRollback.{AnswersBatchRollback}
 use Rattle.tx_plan.specs.cases.TxnHeartBeat.{AnswersTxnHeartBeat}
-use Rattle.tx_plan.specs.cases.CheckTxnStatus.{with_minimum, ChecksLock, AnswersCheckTxnStatus}
+use Rattle.tx_plan.specs.cases.CheckTxnStatus.{ChecksLock, AnswersCheckTxnStatus}
 use Rattle.tx_plan.specs.cases.CheckSecondaryLocks.{AnswersCheckSecondaryLocks}
 use Rattle.tx_plan.specs.cases.ResolveLock.{ResolvesLock, AnswersResolveLock}
 use Rattle.tx_plan.specs.cases.RaiseSafe.{AnswersRaiseSafe}

@@ -1,7 +1,7 @@
 -- The locks below a timestamp are one list, the first of them is one lock, and what collection drops counts the same in whatever order
 -- it is listed.
-use Rattle.std.proofs.Common.{◌≡◌, ◌≢◌, inl, inr, ℕ, suc, ◌+◌, ◌≤◌, Bool, true, false, cond, List, [], ◌∷◌, length, Some, refl, sym, ap, subst, ◌∙◌, arith}
-use Rattle.std.specs.Prelude.{Contains, IsTrue}
+use Rattle.std.proofs.Common.{◌≡◌, ◌≢◌, inl, inr, ℕ, suc, ◌≤◌, Bool, true, List, [], ◌∷◌, length, Some, refl, sym, ap, subst, ◌∙◌, arith}
+use Rattle.std.specs.Prelude.{Contains}
 use Rattle.std.specs.List.{filter}
 use Rattle.std.proofs.lemmas.Bool.{cases_Bool}
 use Rattle.std.proofs.lemmas.List.Kept.{AllPairs-filter}
@@ -11,13 +11,12 @@ use Rattle.tx_plan.specs.declared.body.LocksBelow.{LocksBelow}
 use Rattle.tx_plan.specs.declared.body.Collect.{Collect}
 use Rattle.tx_plan.specs.declared.answer.Answer.{Answer}
 use Rattle.tx_plan.specs.declared.answer.Answer.TheVariants.{Locks, LocksRemain, Collected}
-use Rattle.tx_plan.specs.Keys.{key_lt}
 use Rattle.tx_plan.specs.Cells.{Cells, info_of, is_long}
 use Rattle.tx_plan.specs.cases.LocksBelow.{AnswersLocksBelow}
 use Rattle.tx_plan.specs.cases.Collect.{commit_is, AllDropped, long_values, IsFirstBelow, AnswersCollect}
 use Rattle.tx_plan.proofs.KeyOrder.{ordered}
 use Rattle.tx_plan.proofs.LockRows.{contains_next, contains_first, contains_cases, contains_none}
-use Rattle.tx_plan.proofs.OnceLists.{Once, fewer}
+use Rattle.tx_plan.proofs.OnceLists.{fewer}
 use Rattle.tx_core.proofs.OneCase.{one_case, same, alike, one_lock}
 use Rattle.tx_core.proofs.OneLists.{order_once, one_list, infos_in_order}
 

@@ -1,18 +1,17 @@
 -- A scan has one answer: it meets one lock, or gives one list of rows.
-use Rattle.std.proofs.Common.{◌≡◌, ◌⊎◌, inl, inr, ℕ, ◌<◌, ◌≤◌, Bool, true, false, List, [], ◌∷◌, length, Some, refl, sym, ap, subst, ◌∙◌, arith}
+use Rattle.std.proofs.Common.{◌≡◌, ◌⊎◌, inl, inr, ℕ, ◌<◌, ◌≤◌, Bool, false, List, [], ◌∷◌, length, Some, refl, sym, ap, subst, ◌∙◌, arith}
 use Rattle.std.specs.Prelude.{◌&&◌, ◌||◌, nat_lt, bytes_eq, Contains, IsTrue}
 use Rattle.std.proofs.lemmas.Bool.{cases_Bool, cases_lt, and_parts, and_from, or_left, or_right, lt-ltb, ltb-false}
 use Rattle.tx_types.specs.declared.key.Key.{Key}
-use Rattle.tx_types.specs.declared.value.Value.{Value}
 use Rattle.tx_types.specs.declared.mutation.KeyValue.{KeyValue}
 use Rattle.tx_plan.specs.declared.body.Scan.{Scan}
 use Rattle.tx_plan.specs.declared.answer.Answer.{Answer}
 use Rattle.tx_plan.specs.declared.answer.Answer.TheVariants.{Rows, KeyIsLocked}
 use Rattle.tx_plan.specs.Keys.{key_lt, key_le, value_in, reaches}
-use Rattle.tx_plan.specs.Cells.{Lock, Cells, info_of}
+use Rattle.tx_plan.specs.Cells.{Cells, info_of}
 use Rattle.tx_plan.specs.Reads.{Walked, in_range, covered}
 use Rattle.tx_plan.specs.cases.Scan.{GivesRows, MeetsLock, AnswersScan}
-use Rattle.tx_plan.proofs.KeyOrder.{ordered, lt_itself, lt_le, le_itself, lt_then_le, lt_other, same_key, key_same}
+use Rattle.tx_plan.proofs.KeyOrder.{ordered, lt_le, le_itself, lt_other, same_key, key_same}
 use Rattle.tx_plan.proofs.LockRows.{contains_next, contains_first, contains_cases, contains_none}
 use Rattle.tx_plan.proofs.OnceLists.{fewer}
 use Rattle.tx_core.proofs.Basics.{or_false, some_same}
