@@ -7,6 +7,7 @@ use Rattle.tx_plan.specs.declared.body.Body.{Body}
 use Rattle.tx_plan.specs.declared.body.Body.TheVariants.{Prewrite, Commit}
 use Rattle.tx_plan.specs.declared.answer.Answer.{Answer}
 use Rattle.tx_plan.specs.declared.answer.Answer.TheVariants.{Prewritten, Committed, RolledBack, Missing, AlreadyRolledBack, AlreadyCommitted, CommitTsExpired, BelowSafePoint}
+use Rattle.tx_core.specs.Decisions.{fate_in}
 use Rattle.tx_core.specs.declared.event.Declaration.{Declaration}
 use Rattle.tx_core.specs.declared.event.Outcome.{Outcome}
 use Rattle.tx_core.specs.declared.event.Outcome.TheVariants as outcome
@@ -136,15 +137,6 @@ can_commit s = can_commit_by s.decision s.drawn
 
 -- ---- what an answer does
 
--- what an answer tells of the transaction's fate
-abbrev pub settled_by : Answer → Option Fate
-settled_by (Committed c) = Some (fate.Committed c)
-settled_by (AlreadyCommitted c) = Some (fate.Committed c)
-settled_by RolledBack = Some fate.Aborted
-settled_by AlreadyRolledBack = Some fate.Aborted
-settled_by Missing = Some fate.Aborted
-settled_by _ = None
-
 -- what was known first stands
 abbrev pub first_settled : Option Fate → Option Fate → Option Fate
 first_settled None new = new
@@ -174,7 +166,7 @@ heard s x i a = record {
   buffer = with_progress s.buffer i (marked_by x a (progress_at s.buffer i));
   declared = s.declared;
   drawn = drawn_after a s.drawn;
-  decision = first_settled s.decision (settled_by a);
+  decision = first_settled s.decision (fate_in a);
   cause = cause_of a;
 }
 

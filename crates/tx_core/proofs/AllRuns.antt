@@ -3,28 +3,27 @@ use Rattle.std.proofs.Common.{◌≡◌, ℕ, ◌≤◌, inl, inr, List, [], ◌
 use Rattle.std.specs.Prelude.{Contains}
 use Rattle.tx_types.specs.declared.key.Key.{Key}
 use Rattle.tx_types.specs.declared.mutation.Fate.{Fate}
-use Rattle.tx_types.specs.declared.mutation.Fate.TheVariants as fate
 use Rattle.tx_machine.specs.Machine.{State, Open, Done, Row, Table, table_of, IsRun}
 use Rattle.tx_plan.specs.declared.body.Body.{Body}
 use Rattle.tx_plan.specs.declared.body.Body.TheVariants.{Get, Scan, Prewrite, Commit, BatchRollback, TxnHeartBeat, CheckTxnStatus, CheckSecondaryLocks, ResolveLock, RaiseSafe, LocksBelow, Collect}
 use Rattle.tx_plan.specs.declared.answer.Answer.{Answer}
-use Rattle.tx_plan.specs.declared.answer.Answer.TheVariants.{Committed, AlreadyCommitted, RolledBack, Missing, AlreadyRolledBack}
 use Rattle.tx_plan.specs.Answers.{Answers, start_in}
 use Rattle.tx_core.specs.declared.event.Taken.{Taken}
 use Rattle.tx_core.specs.declared.event.Event.{Event}
 use Rattle.tx_core.specs.declared.event.Event.TheVariants.{Drawn, Began, Declared, Answered, Stopped, Took}
 use Rattle.tx_core.specs.Histories.{History, last, set_at, left}
-use Rattle.tx_core.specs.Decisions.{effect_in, accepted, decision, first_decided, decided}
+use Rattle.tx_core.specs.Decisions.{effect_in, accepted, decision, first_decided, decided, fate_in}
 use Rattle.tx_core.specs.Allowed.{MayRead, Allowed}
-use Rattle.tx_core.specs.Worlds.{Holds, TellsCommit, TellsAbort, MayTake, MayCome, IsWorldRun}
+use Rattle.tx_core.specs.Worlds.{Holds, MayTake, MayCome, IsWorldRun}
 use Rattle.tx_core.specs.Shadow.{shadow}
 use Rattle.tx_core.specs.Truth.{HasEnded, EndsBy, IsTrueAnswer, IsTrue, AllTrue}
 use Rattle.tx_core.proofs.Basics.{chosen, some_same}
-use Rattle.tx_core.proofs.View.{View, IsCommitted, IsAborted}
+use Rattle.tx_core.proofs.View.{View}
 use Rattle.tx_core.proofs.Reading.{Passes}
 use Rattle.tx_core.proofs.Tables.{Shows, changes_of}
 use Rattle.tx_core.proofs.HistoryView.{shown_in, view}
-use Rattle.tx_core.proofs.Good.{Good, Next, took}
+use Rattle.tx_core.proofs.Staying.{was_last_upto}
+use Rattle.tx_core.proofs.Good.{true_end, Good, Next, took}
 use Rattle.tx_core.proofs.Gets.{next_get}
 use Rattle.tx_core.proofs.Scans.{next_scan}
 use Rattle.tx_core.proofs.Prewrites.{next_prewrite}
@@ -48,19 +47,17 @@ module _ (table : Table) (w : View) (t : ℕ) (s : Shows table w) where
         | inr x ↦ absurd (cc (x.1))
       ]
 
-  named_end : (named : Option ℕ) (e : Fate) → named ≡ Some t → EndsBy table named e → w.decided t ≡ Done e
-  named_end named e is ended = is_decided e (subst (λ o. EndsBy table o e) is ended)
+  named_end : (named : Option ℕ) (e : Fate) → named ≡ Some t → EndsBy table named (Some e) → w.decided t ≡ Done e
+  named_end named e is ended = is_decided e (subst (λ o. EndsBy table o (Some e)) is ended)
 
-  told_commit : (body : Body) (a : Answer) (c : ℕ) → start_in body ≡ Some t → IsTrueAnswer table body a → TellsCommit c a → IsCommitted w.decided t c
-  told_commit body (Committed d) c is truth tells = named_end (start_in body) (fate.Committed d) is truth ∙ ap (λ n. Done (fate.Committed n)) tells
-  told_commit body (AlreadyCommitted d) c is truth tells = named_end (start_in body) (fate.Committed d) is truth ∙ ap (λ n. Done (fate.Committed n)) tells
-  told_commit body _ c is truth tells = absurd tells
+  told_fate : (body : Body) (a : Answer) (end : Fate) → start_in body ≡ Some t → EndsBy table (start_in body) (fate_in a) → fate_in a ≡ Some end → w.decided t ≡ Done end
+  told_fate body a end is truth tells = named_end (start_in body) end is (subst (EndsBy table (start_in body)) tells truth)
 
-  told_end : (body : Body) (a : Answer) → start_in body ≡ Some t → IsTrueAnswer table body a → TellsAbort a → IsAborted w.decided t
-  told_end body RolledBack is truth tells = named_end (start_in body) fate.Aborted is truth
-  told_end body Missing is truth tells = named_end (start_in body) fate.Aborted is truth
-  told_end body AlreadyRolledBack is truth tells = named_end (start_in body) fate.Aborted is truth
-  told_end body _ is truth tells = absurd tells
+  -- an answer that tells a fate is no read
+  told_end : (body : Body) (a : Answer) (end : Fate) → start_in body ≡ Some t → IsTrueAnswer table body a → fate_in a ≡ Some end → w.decided t ≡ Done end
+  told_end (Get b) a end is truth tells = absurd (cc (is))
+  told_end (Scan b) a end is truth tells = absurd (cc (is))
+  told_end body a end is truth tells = told_fate body a end is truth tells
 
 -- what was decided stays so
 still_decided : (h : History) (x : Taken) (t : ℕ) (e : Fate) → decided h t ≡ Done e → decided (Took x ∷ h) t ≡ Done e
@@ -72,10 +69,10 @@ still_decided h x t e end = ap (first_decided (decision (set_at h t) (accepted (
 
 -- ---- what a region takes
 
-module _ (bounds : List Key) (h : History) (good : Good bounds h) (told : ToldShown bounds h) where
+module _ (bounds : List Key) (h : History) (run : IsWorldRun bounds h) (good : Good bounds h) (told : ToldShown bounds h) where
   -- a read passes by the transactions that it may pass by
   passes : (r : ℕ) (bypass : List ℕ) → MayRead h r bypass → (t : ℕ) → Contains bypass t → Passes (decided h) (shown_in h) r t
-  passes r bypass may t named = elim (may t named) [ inl gone ↦ inl gone | inr rest ↦ elim rest [ inl done ↦ inr (inl done) | inr shown ↦ inr (inr (shown_above bounds h told t r shown)) ] ]
+  passes r bypass may t named = elim (may t named) [ inl gone ↦ inl gone | inr rest ↦ elim rest [ inl done ↦ inr (inl done) | inr shown ↦ inr (inr (omega (arith, shown_above bounds h told t shown.0 shown.1, shown.2))) ] ]
 
   next_taken : (n : ℕ) (body : Body) (l : ℕ) (a : Answer) → l ≤ last h → Allowed h body → Holds bounds n body → Answers (left h n) l (last h) body a → Next bounds h (took n body l a)
   next_taken n (Get b) l a upto allowed holds answers = subst (λ m. Next bounds h (took m (Get b) l a)) holds (next_get bounds h good b l a (passes b.at b.bypass allowed) upto (subst (λ m. Answers (left h m) l (last h) (Get b) a) (sym holds) answers))
@@ -92,24 +89,18 @@ module _ (bounds : List Key) (h : History) (good : Good bounds h) (told : ToldSh
   next_taken n (Collect b) l a upto allowed holds answers = next_collect bounds h good n l b a answers
 
   next : (x : Taken) → MayTake bounds h x → Next bounds h x
-  next x may = next_taken x.region x.body x.loaded x.answer (good.upto x.loaded may.loaded) may.allowed may.holds may.answers
+  next x may = next_taken x.region x.body x.loaded x.answer (was_last_upto bounds h run x.loaded may.loaded) may.allowed may.holds may.answers
 
   good_took : (x : Taken) → Next bounds h x → Good bounds (Took x ∷ h)
   good_took x n =
       record {
         sound = n.sound;
         ends = n.ends;
-        told = λ y among t of c tells.
+        told = λ y among t of end tells.
             elim among [
-              | inl now ↦ (let same : x ≡ y = cc (now) in told_commit (table_of (shadow (Took x ∷ h))) (view bounds (Took x ∷ h)) t n.sound.shows x.body x.answer c (ap (λ (z : Taken). start_in z.body) same ∙ of) n.truth (subst (λ (z : Taken). TellsCommit c z.answer) (sym same) tells))
-              | inr before ↦ still_decided h x t (fate.Committed c) (good.told y before t of c tells)
+              | inl now ↦ (let same : x ≡ y = cc (now) in told_end (table_of (shadow (Took x ∷ h))) (view bounds (Took x ∷ h)) t n.sound.shows x.body x.answer end (ap (λ (z : Taken). start_in z.body) same ∙ of) n.truth (ap (λ (z : Taken). fate_in z.answer) same ∙ tells))
+              | inr before ↦ still_decided h x t end (good.told y before t of end tells)
             ];
-        told_abort = λ y among t of tells.
-            elim among [
-              | inl now ↦ (let same : x ≡ y = cc (now) in told_end (table_of (shadow (Took x ∷ h))) (view bounds (Took x ∷ h)) t n.sound.shows x.body x.answer (ap (λ (z : Taken). start_in z.body) same ∙ of) n.truth (subst (λ (z : Taken). TellsAbort z.answer) (sym same) tells))
-              | inr before ↦ still_decided h x t fate.Aborted (good.told_abort y before t of tells)
-            ];
-        upto = λ l e. elim e [ inl now ↦ omega (arith, now) | inr before ↦ good.upto l before ];
       }
 
   -- ---- every event
@@ -137,7 +128,7 @@ pub run_told : (bounds : List Key) (h : History) → IsWorldRun bounds h → Goo
 run_told bounds [] run = (good_first bounds, told_first bounds)
 run_told bounds (e ∷ h) run =
     let before = run_told bounds h run.0 in
-    (good_next bounds h before.0 before.1 e run.1, told_next bounds h before.0 before.1 e run.1)
+    (good_next bounds h run.0 before.0 before.1 e run.1, told_next bounds h before.0 before.1 e run.1)
 
 pub shadow_runs : (bounds : List Key) (h : History) → IsWorldRun bounds h → IsRun (shadow h)
 shadow_runs bounds h run = (run_told bounds h run).0.sound.run
@@ -146,4 +137,8 @@ pub all_true : (bounds : List Key) (h : History) → IsWorldRun bounds h → All
 all_true bounds [] run = tt
 all_true bounds (e ∷ h) run =
     let before = run_told bounds h run.0 in
-    (all_true bounds h run.0, true_next bounds h before.0 before.1 e run.1)
+    (all_true bounds h run.0, true_next bounds h run.0 before.0 before.1 e run.1)
+
+-- what is decided is how the machine's transaction has ended
+pub decisions_true : (bounds : List Key) (h : History) → IsWorldRun bounds h → (t : ℕ) (end : Fate) → decided h t ≡ Done end → HasEnded (table_of (shadow h)) t end
+decisions_true bounds h run t end is = true_end bounds h (run_told bounds h run).0 t end is

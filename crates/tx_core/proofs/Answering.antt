@@ -1,6 +1,7 @@
 -- A region's cells depend on its own events alone, and what it or a session may answer stays so.
 use Rattle.std.proofs.Common.{◌≡◌, ◌≢◌, ◌≤◌, ◌⊎◌, ℕ, max, inl, inr, List, [], ◌∷◌, Option, Some, None, refl, sym, ap, ◌∙◌, arith}
 use Rattle.tx_types.specs.declared.key.Key.{Key}
+use Rattle.tx_types.specs.declared.mutation.Fate.TheVariants as fate
 use Rattle.tx_types.specs.declared.mutation.Change.{Change}
 use Rattle.tx_plan.specs.declared.body.Body.{Body}
 use Rattle.tx_plan.specs.declared.body.Body.TheVariants as body
@@ -16,7 +17,7 @@ use Rattle.tx_core.specs.declared.event.Event.{Event}
 use Rattle.tx_core.specs.declared.event.Event.TheVariants.{Drawn, Began, Declared, Answered, Stopped, Took}
 use Rattle.tx_core.specs.Histories.{History, declared, set_of, set_at, left, owner, Begins, GoesOn}
 use Rattle.tx_core.specs.Decisions.{Acceptance, accepted, async_minimum, greater, greatest}
-use Rattle.tx_core.specs.Worlds.{IsWorldRun, TellsCommit, TellsAbort, MayAnswer}
+use Rattle.tx_core.specs.Worlds.{IsWorldRun, MayAnswer}
 use Rattle.tx_core.proofs.Basics.{nat_test}
 use Rattle.tx_core.proofs.Beginnings.{other_on}
 use Rattle.tx_core.proofs.Staying.{set_on, accepted_on, told_on}
@@ -97,9 +98,9 @@ greatest_declared l t c is none = (let empty : greatest (accepted l t) (set_of N
 pub may_answer_on : (bounds : List Key) (l h : History) → IsWorldRun bounds h → Begins l h → (t : ℕ) (o : Outcome) → MayAnswer l t o → MayAnswer h t o
 may_answer_on bounds l h run b t (outcome.Committed c) may =
     elim may [
-      | inl told ↦ inl (told_on l h b t (TellsCommit c) told)
+      | inl told ↦ inl (told_on l h b t (fate.Committed c) told)
       | inr all ↦ inr (ap (greatest (accepted h t)) (set_on bounds l h run b t (greatest_declared l t c all)) ∙ greatest_stays (accepted l t) (accepted h t) (accepted_on l h b t) (set_at l t) c all)
     ]
-may_answer_on bounds l h run b t outcome.Aborted may = told_on l h b t TellsAbort may
+may_answer_on bounds l h run b t outcome.Aborted may = told_on l h b t fate.Aborted may
 may_answer_on bounds l h run b t (outcome.Unknown cause) may = tt
 may_answer_on bounds l h run b t outcome.ReadOnly may = tt

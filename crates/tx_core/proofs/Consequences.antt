@@ -2,7 +2,6 @@
 use Rattle.std.proofs.Common.{◌≡◌, ◌≢◌, ◌≤◌, ℕ, inl, inr, true, false, cond, List, [], ◌∷◌, Option, Some, None, refl, sym, subst}
 use Rattle.tx_types.specs.declared.key.Key.{Key}
 use Rattle.tx_types.specs.declared.mutation.Fate.{Fate}
-use Rattle.tx_types.specs.declared.mutation.Fate.TheVariants as fate
 use Rattle.tx_types.specs.declared.mutation.Mode.TheVariants.{TwoPhase}
 use Rattle.tx_machine.specs.Machine.{Done}
 use Rattle.tx_plan.specs.declared.body.Prewrite.{Prewrite}
@@ -15,7 +14,7 @@ use Rattle.tx_core.specs.declared.event.Taken.{Taken}
 use Rattle.tx_core.specs.declared.event.Event.TheVariants.{Drawn, Began, Declared, Answered, Stopped, Took}
 use Rattle.tx_core.specs.Histories.{History, last, began, declared, answered, left}
 use Rattle.tx_core.specs.Decisions.{Effect, Puts, NoEffect, is_own, effect, effect_in, Acceptance, first_accepted, accepted_by, accepted, decided}
-use Rattle.tx_core.specs.Worlds.{route, TellsCommit, TellsAbort, WasTold, IsWorldRun}
+use Rattle.tx_core.specs.Worlds.{route, WasTold, IsWorldRun}
 use Rattle.tx_core.proofs.Basics.{nat_test, nat_same, key_same, none_is, is_some}
 use Rattle.tx_core.proofs.View.{Inv}
 use Rattle.tx_core.proofs.HistoryView.{view}
@@ -28,11 +27,8 @@ inv_of bounds h run = (run_told bounds h run).0.sound.inv
 -- ---- decisions
 
 -- what was told is decided
-pub told_committed : (bounds : List Key) (h : History) → IsWorldRun bounds h → (t c : ℕ) → WasTold h t (TellsCommit c) → decided h t ≡ Done (fate.Committed c)
-told_committed bounds h run t c told = (run_told bounds h run).0.told told.by told.among t told.of c told.tells
-
-pub told_aborted : (bounds : List Key) (h : History) → IsWorldRun bounds h → (t : ℕ) → WasTold h t TellsAbort → decided h t ≡ Done fate.Aborted
-told_aborted bounds h run t told = (run_told bounds h run).0.told_abort told.by told.among t told.of told.tells
+pub told_fate : (bounds : List Key) (h : History) → IsWorldRun bounds h → (t : ℕ) (end : Fate) → WasTold h t end → decided h t ≡ Done end
+told_fate bounds h run t end told = (run_told bounds h run).0.told told.by told.among t told.of end told.tells
 
 -- who is decided declared
 pub decided_declared : (bounds : List Key) (h : History) → IsWorldRun bounds h → (t : ℕ) (end : Fate) → decided h t ≡ Done end → declared h t ≢ None

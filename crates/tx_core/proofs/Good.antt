@@ -16,27 +16,24 @@ use Rattle.tx_plan.specs.Traces.{OwnCommit, OwnRollback}
 use Rattle.tx_plan.specs.Answers.{leaves, start_in}
 use Rattle.tx_core.specs.declared.event.Taken.{Taken}
 use Rattle.tx_core.specs.declared.event.Event.TheVariants.{Took}
-use Rattle.tx_core.specs.Histories.{History, last, set_at, left, Among, WasLast}
-use Rattle.tx_core.specs.Decisions.{Acceptance, Effect, NoEffect, is_own, effect, effect_in, accepted, accepted_by, decision, first_decided, decided}
-use Rattle.tx_core.specs.Worlds.{route, TellsCommit, TellsAbort}
+use Rattle.tx_core.specs.Histories.{History, last, set_at, left, Among}
+use Rattle.tx_core.specs.Decisions.{Acceptance, Effect, NoEffect, is_own, effect, effect_in, accepted, accepted_by, decision, first_decided, decided, fate_in}
+use Rattle.tx_core.specs.Worlds.{route}
 use Rattle.tx_core.specs.Shadow.{deciding, deciding_in, reading, shadow}
 use Rattle.tx_core.specs.Truth.{HasEnded, IsTrueAnswer}
 use Rattle.tx_core.proofs.Basics.{nat_test, nat_same, key_test, cond_true, cond_false}
-use Rattle.tx_core.proofs.View.{View, IsCommitted, IsAborted}
+use Rattle.tx_core.proofs.View.{View, IsCommitted}
 use Rattle.tx_core.proofs.Tables.{Sound, has_ended}
 use Rattle.tx_core.proofs.Raising.{raising}
 use Rattle.tx_core.proofs.Sounds.{sound_raise}
 use Rattle.tx_core.proofs.Ends.{Ends}
 use Rattle.tx_core.proofs.HistoryView.{reads_by, reads_in, shown_put, shown_told, shown_in, view}
 
--- The machine's steps and the view are sound, the ends hold, an answer that told of an end told what is decided, and a loaded number is
--- at most the last one.
+-- The machine's steps and the view are sound, the ends hold, and an answer that told of an end told what is decided.
 pub record Good (bounds : List Key) (h : History) : Type 0 where
   pub sound : Sound (shadow h) (view bounds h)
   pub ends : Ends (view bounds h)
-  pub told : (x : Taken) → Among h (Took x) → (t : ℕ) → start_in x.body ≡ Some t → (c : ℕ) → TellsCommit c x.answer → IsCommitted (decided h) t c
-  pub told_abort : (x : Taken) → Among h (Took x) → (t : ℕ) → start_in x.body ≡ Some t → TellsAbort x.answer → IsAborted (decided h) t
-  pub upto : (l : ℕ) → WasLast h l → l ≤ last h
+  pub told : (x : Taken) → Among h (Took x) → (t : ℕ) → start_in x.body ≡ Some t → (end : Fate) → fate_in x.answer ≡ Some end → decided h t ≡ Done end
 
 abbrev pub took : ℕ → Body → ℕ → Answer → Taken
 took n body l a = record { region = n; body = body; loaded = l; answer = a }
@@ -139,7 +136,7 @@ assemble bounds h k body l a t f on e is d acc shown new steps fates accepts sho
       collected = λ q. part_same h (route bounds k) (route bounds q) body l a (λ r. r.collected) (λ r. ap (λ (y : Region). y.collected) (on.does r));
       cells = λ q. cells_keyed bounds h k body l a f on.does q ∙ ap (λ c. cond (bytes_eq k q) c (cells_at bounds h q)) cells;
     } in
-    let made : shadow (Took x ∷ h) ≡ steps = ap (λ r. r ++ (deciding_in h x (start_in body) ++ shadow h)) on.unseen ∙ ap (λ o. deciding_in h x o ++ shadow h) on.named ∙ ap (λ s. deciding t (decided h t) s ++ shadow h) (now t) ∙ same in
+    let made : shadow (Took x ∷ h) ≡ steps = ap (λ r. deciding_in h x (start_in body) ++ (r ++ shadow h)) on.unseen ∙ ap (λ o. deciding_in h x o ++ shadow h) on.named ∙ ap (λ s. deciding t (decided h t) s ++ shadow h) (now t) ∙ same in
     record {
       sound = subst (λ s. Sound s (view bounds (Took x ∷ h))) (sym made) (subst (Sound steps) (sym w) sound);
       ends = subst Ends (sym w) ends;
@@ -236,7 +233,7 @@ assemble_read bounds h good n body l a at read sound truth =
       collected = λ q. part_same h n (route bounds q) body l a (λ r. r.collected) (λ r. ap (λ (y : Region). y.collected) (read.does r));
       cells = λ q. part_same h n (route bounds q) body l a (λ r. r.cells q) (λ r. ap (λ (y : Region). y.cells q) (read.does r));
     } in
-    let made : shadow (Took x ∷ h) ≡ reading body a ++ shadow h = ap (λ o. reading body a ++ (deciding_in h x o ++ shadow h)) read.unnamed in
+    let made : shadow (Took x ∷ h) ≡ reading body a ++ shadow h = ap (λ o. deciding_in h x o ++ (reading body a ++ shadow h)) read.unnamed in
     record {
       sound = subst (λ s. Sound s (view bounds (Took x ∷ h))) (sym made) (subst (Sound (reading body a ++ shadow h)) (sym w) sound);
       ends = subst Ends (sym w) good.ends;

@@ -1,4 +1,4 @@
-mod Examples
+mod examples
 pub mod Basics
 pub mod View
 pub mod Drawing
@@ -53,3 +53,6 @@ pub mod OneLists
 pub mod OneScan
 pub mod OneLocks
 pub mod OneAnswer
+pub mod LocksSay
+pub mod ToldLocks
+pub mod AllAsync

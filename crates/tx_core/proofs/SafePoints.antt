@@ -62,7 +62,7 @@ module _ (bounds : List Key) (h : History) (good : Good bounds h) (n : ℕ) (l :
         collected = collects;
         cells = stands;
       } in
-      let made : shadow (Took x ∷ h) ≡ shadow h = ap (λ r. r ++ (deciding_in h x (start_in body) ++ shadow h)) is.unseen ∙ ap (λ o. deciding_in h x o ++ shadow h) is.unnamed in
+      let made : shadow (Took x ∷ h) ≡ shadow h = ap (λ r. deciding_in h x (start_in body) ++ (r ++ shadow h)) is.unseen ∙ ap (λ o. deciding_in h x o ++ shadow h) is.unnamed in
       record {
         sound = subst (λ s. Sound s (view bounds (Took x ∷ h))) (sym made) (subst (Sound (shadow h)) (sym w) sound);
         ends = subst Ends (sym w) ends;

@@ -1,5 +1,5 @@
 -- What is shown of the minimum of a lock on its primary rises, and what answers tell of locks was shown.
-use Rattle.std.proofs.Common.{◌≡◌, ◌≢◌, ℕ, ◌+◌, ◌<◌, ◌≤◌, ◌==◌, ◌&&◌, inl, inr, Bool, true, false, cond, List, [], ◌∷◌, None, refl, sym, ap, subst, ◌∙◌, arith}
+use Rattle.std.proofs.Common.{◌≡◌, ◌≢◌, ℕ, ◌+◌, ◌≤◌, ◌==◌, ◌&&◌, inl, inr, Bool, true, false, cond, List, [], ◌∷◌, None, refl, sym, ap, subst, ◌∙◌, arith}
 use Rattle.std.specs.Prelude.{Contains}
 use Rattle.std.proofs.lemmas.Bool.{cases_Bool, cases_lt, and_parts, eqb-true, eq-eqb}
 use Rattle.tx_types.specs.declared.key.Key.{Key}
@@ -22,7 +22,7 @@ use Rattle.tx_core.specs.declared.event.Taken.{Taken}
 use Rattle.tx_core.specs.declared.event.Event.{Event}
 use Rattle.tx_core.specs.declared.event.Event.TheVariants.{Drawn, Began, Declared, Answered, Stopped, Took}
 use Rattle.tx_core.specs.Histories.{History, last, declared, set_of, set_at, is_first, left}
-use Rattle.tx_core.specs.Decisions.{Puts, NoEffect, is_own, effect, effect_in, infos_in, accepted, HasShown}
+use Rattle.tx_core.specs.Decisions.{Puts, NoEffect, is_own, effect, effect_in, infos_in, accepted, Shows as HasShown}
 use Rattle.tx_core.specs.Allowed.{Allowed, MayCheckStatus}
 use Rattle.tx_core.specs.Worlds.{route, Holds, MayTake, MayCome}
 use Rattle.tx_core.proofs.Basics.{nat_test, cond_true}
@@ -198,8 +198,8 @@ module _ (bounds : List Key) (h : History) (good : Good bounds h) (before : Told
   told_next (Stopped seat) may = record { routed = before.routed; told = λ by among info c. elim among [ inl now ↦ absurd (cc (now)) | inr old ↦ before.told by old info c ] }
 
 -- what was told above r was shown above it
-pub shown_above : (bounds : List Key) (h : History) → ToldShown bounds h → (t r : ℕ) → HasShown h t r → r < shown_in h t
-shown_above bounds h before t r has =
+pub shown_above : (bounds : List Key) (h : History) → ToldShown bounds h → (t m : ℕ) → HasShown h t m → m ≤ shown_in h t
+shown_above bounds h before t m has =
     let was = before.told has.by has.among has.info has.told in
     let first : is_first (set_at h has.info.start) has.info.key ≡ true = subst (λ u. is_first (set_at h u) has.info.key ≡ true) (sym has.own) has.primary in
-    omega (arith, has.above, was.1 first, ap (shown_in h) has.own)
+    omega (arith, has.min, was.1 first, ap (shown_in h) has.own)

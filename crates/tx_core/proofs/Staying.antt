@@ -1,8 +1,8 @@
 -- What stays so, however a world run goes on.
 use Rattle.std.proofs.Common.{◌≡◌, ◌≢◌, ◌≤◌, ℕ, inl, inr, Bool, true, false, cond, List, [], ◌∷◌, Some, None, refl, sym, ap, subst, ◌∙◌, arith}
 use Rattle.tx_types.specs.declared.key.Key.{Key}
+use Rattle.tx_types.specs.declared.mutation.Fate.{Fate}
 use Rattle.tx_plan.specs.declared.body.Body.{Body}
-use Rattle.tx_plan.specs.declared.answer.Answer.{Answer}
 use Rattle.tx_core.specs.declared.event.Declaration.{Declaration}
 use Rattle.tx_core.specs.declared.event.Event.{Event}
 use Rattle.tx_core.specs.declared.event.Event.TheVariants.{Drawn, Began, Declared, Answered, Stopped, Took}
@@ -12,7 +12,7 @@ use Rattle.tx_core.specs.Allowed.{Allowed}
 use Rattle.tx_core.specs.Worlds.{MayCome, IsWorldRun, WasTold}
 use Rattle.tx_core.proofs.Basics.{nat_test, nat_same, cond_same, some_same, some_of, is_some}
 use Rattle.tx_core.proofs.StaysAllowed.{allowed_later}
-use Rattle.tx_core.proofs.Beginnings.{begins_rest, kept_on, run_on}
+use Rattle.tx_core.proofs.Beginnings.{begins_all, begins_more, begins_rest, kept_on, run_on}
 
 -- ---- the last number
 
@@ -30,18 +30,16 @@ last_on bounds l h run b = run_on bounds (λ x. last l ≤ last x) (λ x e r may
 
 -- the last number of a beginning was the last
 pub last_was : (h : History) → WasLast h (last h)
-last_was [] = refl
-last_was (e ∷ h) = inl refl
+last_was h = (h, begins_all h, refl)
 
 pub was_last_on : (l h : History) → Begins l h → (n : ℕ) → WasLast l n → WasLast h n
-was_last_on l h b n = kept_on (λ x. WasLast x n) (λ x e was. inr was) l h b
+was_last_on l h b n was = (was.0, begins_more was.0 l h was.1 b, was.2)
 
 pub was_last_of : (l h : History) → Begins l h → WasLast h (last l)
-was_last_of l h b = was_last_on l h b (last l) (last_was l)
+was_last_of l h b = (l, b, refl)
 
 pub was_last_upto : (bounds : List Key) (h : History) → IsWorldRun bounds h → (n : ℕ) → WasLast h n → n ≤ last h
-was_last_upto bounds [] run n was = omega (arith, was)
-was_last_upto bounds (e ∷ h) run n was = elim was [ inl now ↦ omega (arith, now) | inr before ↦ omega (arith, was_last_upto bounds h run.0 n before, last_next bounds h e run.1) ]
+was_last_upto bounds h run n was = omega (arith, was.2, last_on bounds was.0 h run was.1)
 
 -- ---- what was drawn
 
@@ -206,8 +204,8 @@ owner_some bounds h run (Took x) may = λ none. cc (none)
 pub among_on : (l h : History) → Begins l h → (e : Event) → Among l e → Among h e
 among_on l h b e = kept_on (λ x. Among x e) (λ x y among. inr among) l h b
 
-pub told_on : (l h : History) → Begins l h → (t : ℕ) (Tells : Answer → Type 0) → WasTold l t Tells → WasTold h t Tells
-told_on l h b t Tells told = record { by = told.by; among = among_on l h b (Took told.by) told.among; of = told.of; tells = told.tells }
+pub told_on : (l h : History) → Begins l h → (t : ℕ) (end : Fate) → WasTold l t end → WasTold h t end
+told_on l h b t end told = record { by = told.by; among = among_on l h b (Took told.by) told.among; of = told.of; tells = told.tells }
 
 accepted_next : (h : History) (e : Event) (t : ℕ) (k : Key) (by : Acceptance) → accepted h t k ≡ Some by → accepted (e ∷ h) t k ≡ Some by
 accepted_next h (Took x) t k by is = ap (accepted_by (effect_in h x) (last h) t k) is ∙ stands (effect_in h x)

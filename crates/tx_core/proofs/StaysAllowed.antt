@@ -11,7 +11,7 @@ use Rattle.tx_core.specs.declared.event.Declaration.{Declaration}
 use Rattle.tx_core.specs.declared.event.Event.{Event}
 use Rattle.tx_core.specs.declared.event.Event.TheVariants.{Drawn, Began, Declared, Answered, Stopped, Took}
 use Rattle.tx_core.specs.Histories.{History, last, drawer, declared, set_of, set_at, is_first}
-use Rattle.tx_core.specs.Decisions.{Acceptance, Effect, Puts, Settles, RollsBack, NoEffect, effect_in, accepted_by, accepted, AllAccepted, HasTwoPhaseLock, decision, first_decided, decided, HasShown}
+use Rattle.tx_core.specs.Decisions.{Acceptance, Effect, Puts, Settles, RollsBack, NoEffect, effect_in, accepted_by, accepted, AllAccepted, HasTwoPhaseLock, decision, first_decided, decided, Shows}
 use Rattle.tx_core.specs.Allowed.{Allowed, MayPass, DrewAfterAll, MayDecide}
 use Rattle.tx_core.specs.Worlds.{MayCome, IsWorldRun}
 use Rattle.tx_core.proofs.Basics.{nat_test, cond_same, some_same, some_of}
@@ -105,7 +105,7 @@ module _ (bounds : List Key) (h : History) (run : IsWorldRun bounds h) where
   lock_stays : (e : Event) (t : ℕ) → HasTwoPhaseLock h t → HasTwoPhaseLock (e ∷ h) t
   lock_stays e t has = record { key = has.key; by = has.by; stands = accepted_stays e t has.key has.by has.stands; two_phase = has.two_phase }
 
-  shown_stays : (e : Event) → MayCome bounds h e → (t r : ℕ) → HasShown h t r → HasShown (e ∷ h) t r
+  shown_stays : (e : Event) → MayCome bounds h e → (t r : ℕ) → Shows h t r → Shows (e ∷ h) t r
   shown_stays e may t r has =
       record {
         by = has.by;
@@ -114,14 +114,14 @@ module _ (bounds : List Key) (h : History) (run : IsWorldRun bounds h) where
         told = has.told;
         primary = ap (λ s. is_first s has.info.key) (set_stays e may t (first_declared (declared h t) has.info.key has.primary)) ∙ has.primary;
         own = has.own;
-        above = has.above;
+        min = has.min;
       }
 
   pass_stays : (e : Event) → MayCome bounds h e → (r t : ℕ) → MayPass h r t → MayPass (e ∷ h) r t
   pass_stays e may r t p =
       elim p [
         | inl gone ↦ inl (decided_stays e t _ gone)
-        | inr rest ↦ elim rest [ inl done ↦ inr (inl (done.0, decided_stays e t _ done.1, done.2)) | inr shown ↦ inr (inr (shown_stays e may t r shown)) ]
+        | inr rest ↦ elim rest [ inl done ↦ inr (inl (done.0, decided_stays e t _ done.1, done.2)) | inr shown ↦ inr (inr (shown.0, shown_stays e may t shown.0 shown.1, shown.2)) ]
       ]
 
   -- a key within the set after an event was within it before

@@ -7,7 +7,7 @@ use Rattle.tx_machine.specs.Machine.{State, Open, Done}
 use Rattle.tx_core.specs.declared.event.Event.{Event}
 use Rattle.tx_core.specs.declared.event.Event.TheVariants.{Drawn, Began, Declared, Answered, Stopped, Took}
 use Rattle.tx_core.specs.Histories.{History, declared, set_of, set_at, is_first, Begins}
-use Rattle.tx_core.specs.Decisions.{Acceptance, effect_in, accepted, AllAccepted, HasTwoPhaseLock, decision, first_decided, decided, HasShown}
+use Rattle.tx_core.specs.Decisions.{Acceptance, effect_in, accepted, AllAccepted, HasTwoPhaseLock, decision, first_decided, decided, Shows}
 use Rattle.tx_core.specs.Allowed.{DrewAfterAll}
 use Rattle.tx_core.specs.Worlds.{IsWorldRun}
 use Rattle.tx_core.proofs.Basics.{some_of, some_same, is_some}
@@ -38,7 +38,7 @@ module _ (bounds : List Key) (l h : History) (run : IsWorldRun bounds h) (b : Be
   first_declared : (k : Key) → is_first (set_at l t) k ≡ true → declared l t ≢ None
   first_declared k is none = (let empty : is_first (set_of None) k ≡ true = ap (λ o. is_first (set_of o) k) (sym none) ∙ is in cc (empty))
 
-  pub shown_on : (r : ℕ) → HasShown l t r → HasShown h t r
+  pub shown_on : (r : ℕ) → Shows l t r → Shows h t r
   shown_on r has =
       record {
         by = has.by;
@@ -47,7 +47,7 @@ module _ (bounds : List Key) (l h : History) (run : IsWorldRun bounds h) (b : Be
         told = has.told;
         primary = ap (λ s. is_first s has.info.key) (set_on bounds l h run b t (first_declared has.info.key has.primary)) ∙ has.primary;
         own = has.own;
-        above = has.above;
+        min = has.min;
       }
 
   module _ (some : declared l t ≢ None) (all : AllAccepted l t) where

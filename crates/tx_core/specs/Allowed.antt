@@ -16,12 +16,12 @@ use Rattle.tx_machine.specs.Keys.{mutation_at}
 use Rattle.tx_machine.specs.Machine.{Done}
 use Rattle.tx_core.specs.declared.event.Declaration.{Declaration}
 use Rattle.tx_core.specs.Histories.{History, drawer, declared, set_at, is_first}
-use Rattle.tx_core.specs.Decisions.{Acceptance, accepted, AllAccepted, HasTwoPhaseLock, decided, HasShown}
+use Rattle.tx_core.specs.Decisions.{Acceptance, accepted, AllAccepted, HasTwoPhaseLock, decided, Shows}
 
 -- A read may pass by the locks of a transaction that is decided as aborted, or as committed above the read, or whose own lock on its
 -- primary was shown with a minimum above the read.
 abbrev pub MayPass : History → ℕ → ℕ → Type 0
-MayPass h r t = (decided h t ≡ Done Aborted) ⊎ ((c : ℕ) × (decided h t ≡ Done (Committed c)) × (r < c)) ⊎ HasShown h t r
+MayPass h r t = (decided h t ≡ Done Aborted) ⊎ ((c : ℕ) × (decided h t ≡ Done (Committed c)) × (r < c)) ⊎ ((m : ℕ) × Shows h t m × (r < m))
 
 -- A read is allowed where it may pass by each transaction that it names: without any, to anyone.
 abbrev pub MayRead : History → ℕ → List ℕ → Type 0

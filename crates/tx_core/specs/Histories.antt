@@ -74,15 +74,14 @@ abbrev pub Among : History → Event → Type 0
 Among [] e = ⊥
 Among (x ∷ h) e = (x ≡ e) ⊎ Among h e
 
--- l was the last number drawn at some beginning
-abbrev pub WasLast : History → ℕ → Type 0
-WasLast [] l = l ≡ 0
-WasLast (e ∷ h) l = (l ≡ last (e ∷ h)) ⊎ WasLast h l
-
 -- one history is a beginning of another
 abbrev pub Begins : History → History → Type 0
 Begins l [] = l ≡ []
 Begins l (e ∷ h) = (l ≡ e ∷ h) ⊎ Begins l h
+
+-- l was the last number drawn at some beginning
+abbrev pub WasLast : History → ℕ → Type 0
+WasLast h l = (b : History) × Begins b h × (l ≡ last b)
 
 -- the seat that makes an event after a history: who drew the start, for a transaction's events, and the region's, for what it takes
 abbrev pub owner : History → Event → Option ℕ
