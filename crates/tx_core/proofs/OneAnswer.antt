@@ -1,5 +1,5 @@
 -- A region of a world run has one answer to each request, with the least minimum.
-use Rattle.std.proofs.Common.{◌≡◌, ◌≢◌, ℕ, ◌==◌, inl, inr, List, [], ◌∷◌, bytes_eq, refl, sym, ap, subst, ◌∙◌}
+use Rattle.std.proofs.Common.{◌≡◌, ◌≢◌, ℕ, ◌==◌, inl, inr, List, [], ◌∷◌, None, bytes_eq, refl, sym, ap, subst, ◌∙◌}
 use Rattle.tx_types.specs.declared.key.Key.{Key}
 use Rattle.tx_types.specs.declared.mutation.Fate.TheVariants.{Committed}
 use Rattle.tx_machine.specs.Machine.{Done}
@@ -11,12 +11,12 @@ use Rattle.tx_plan.specs.Cells.{Cells, Region, no_cells, with_cells}
 use Rattle.tx_plan.specs.Traces.{OwnCommit}
 use Rattle.tx_plan.specs.Answers.{AnswersLeast, leaves}
 use Rattle.tx_plan.specs.cases.Prewrite.{least_minimum}
-use Rattle.tx_plan.proofs.RegionDrops.{kept_nothing}
+use Rattle.tx_plan.specs.cases.Collect.{keeps, kept}
 use Rattle.tx_core.specs.declared.event.Event.TheVariants.{Drawn, Began, Declared, Answered, Stopped, Took}
 use Rattle.tx_core.specs.Histories.{History, left}
 use Rattle.tx_core.specs.Decisions.{decided}
 use Rattle.tx_core.specs.Worlds.{route, Holds, IsWorldRun}
-use Rattle.tx_core.proofs.Basics.{nat_test, key_test, cond_true, cond_false}
+use Rattle.tx_core.proofs.Basics.{nat_test, key_test, cond_true, cond_false, cond_same}
 use Rattle.tx_core.proofs.Good.{own_commit}
 use Rattle.tx_core.proofs.AllRuns.{run_told}
 use Rattle.tx_core.proofs.OneKeyed.{OneCommit, one_get, one_prewrite, one_commit, one_rollback, one_heart_beat, one_check_status, one_check_secondary, one_resolve, one_raise}
@@ -34,6 +34,10 @@ module _ (bounds : List Key) where
         | inr x ↦ cond_false (bytes_eq key k) new (r.cells k) x.0 ∙ none
       ]
 
+  -- what collection leaves of nothing
+  kept_none : (safe : ℕ) → kept no_cells safe ≡ no_cells
+  kept_none safe = λ i. record { lock = None; write = λ q. cond_same (keeps no_cells.write safe q) None i }
+
   -- nothing comes to be on a key that the region does not hold
   none_left : (n : ℕ) (r : Region) (x : Body) (a : Answer) (k : Key) → Holds bounds n x → route bounds k ≢ n → r.cells k ≡ no_cells → (leaves r x a).cells k ≡ no_cells
   none_left n r (Get b) a k holds astray none = none
@@ -48,7 +52,7 @@ module _ (bounds : List Key) where
   none_left n r (RaiseSafe b) Raised k holds astray none = none
   none_left n r (RaiseSafe b) _ k holds astray none = none
   none_left n r (LocksBelow b) a k holds astray none = none
-  none_left n r (Collect b) (Collected records values) k holds astray none = kept_nothing (r.cells k) b.safe none ∙ none
+  none_left n r (Collect b) (Collected records values) k holds astray none = ap (λ c. kept c b.safe) none ∙ kept_none b.safe
   none_left n r (Collect b) _ k holds astray none = none
 
   none_astray : (h : History) → IsWorldRun bounds h → (n : ℕ) (k : Key) → route bounds k ≢ n → (left h n).cells k ≡ no_cells

@@ -1,10 +1,9 @@
 -- The locks below a timestamp are one list, the first of them is one lock, and what collection drops counts the same in whatever order
 -- it is listed.
-use Rattle.std.proofs.Common.{◌≡◌, ◌≢◌, inl, inr, ℕ, suc, ◌≤◌, Bool, true, List, [], ◌∷◌, length, Some, refl, sym, ap, subst, ◌∙◌, arith}
+use Rattle.std.proofs.Common.{◌≡◌, inl, inr, ℕ, suc, ◌≤◌, Bool, true, List, [], ◌∷◌, length, Some, refl, sym, ap, subst, ◌∙◌, arith}
 use Rattle.std.specs.Prelude.{Contains}
 use Rattle.std.specs.List.{filter}
 use Rattle.std.proofs.lemmas.Bool.{cases_Bool}
-use Rattle.std.proofs.lemmas.List.Kept.{AllPairs-filter}
 use Rattle.tx_types.specs.declared.key.Key.{Key}
 use Rattle.tx_types.specs.declared.lock.LockInfo.{LockInfo}
 use Rattle.tx_plan.specs.declared.body.LocksBelow.{LocksBelow}
@@ -15,34 +14,12 @@ use Rattle.tx_plan.specs.Cells.{Cells, info_of, is_long}
 use Rattle.tx_plan.specs.cases.LocksBelow.{AnswersLocksBelow}
 use Rattle.tx_plan.specs.cases.Collect.{commit_is, AllDropped, long_values, IsFirstBelow, AnswersCollect}
 use Rattle.tx_plan.proofs.KeyOrder.{ordered}
-use Rattle.tx_plan.proofs.LockRows.{contains_next, contains_first, contains_cases, contains_none}
-use Rattle.tx_plan.proofs.OnceLists.{fewer}
 use Rattle.tx_core.proofs.OneCase.{one_case, same, alike, one_lock}
-use Rattle.tx_core.proofs.OneLists.{order_once, one_list, infos_in_order}
-
--- ---- what passes a test
-
-contains_passing : {X : Type 0} (test : X → Bool) (xs : List X) (x : X) → Contains xs x → test x ≡ true → Contains (filter test xs) x
-contains_passing test [] x c e = absurd (contains_none x c)
-contains_passing test (y ∷ xs) x c e =
-    elim (cases_Bool (test y)) [
-      | inl passes ↦ (rw passes (elim (contains_cases y xs x c) [ inl is ↦ subst (Contains (y ∷ filter test xs)) is (contains_first y (filter test xs)) | inr later ↦ contains_next y (filter test xs) x (contains_passing test xs x later e) ]))
-      | inr fails ↦ (rw fails (elim (contains_cases y xs x c) [ inl is ↦ absurd (let passes : test y ≡ true = ap test is ∙ e in (cc (passes, fails))) | inr later ↦ contains_passing test xs x later e ]))
-    ]
-
-passing_contained : {X : Type 0} (test : X → Bool) (xs : List X) (x : X) → Contains (filter test xs) x → Contains xs x × (test x ≡ true)
-passing_contained test [] x c = absurd (contains_none x c)
-passing_contained test (y ∷ xs) x c =
-    elim (cases_Bool (test y)) [
-      | inl passes ↦ (let d : Contains (y ∷ filter test xs) x = rw passes at c in elim (contains_cases y (filter test xs) x d) [
-        | inl is ↦ (subst (Contains (y ∷ xs)) is (contains_first y xs), subst (λ z. test z ≡ true) is passes)
-        | inr later ↦ (let rest = passing_contained test xs x later in (contains_next y xs x rest.0, rest.1))
-      ])
-      | inr fails ↦ (let d : Contains (filter test xs) x = rw fails at c in let rest = passing_contained test xs x d in (contains_next y xs x rest.0, rest.1))
-    ]
+use Rattle.tx_core.proofs.OneLists.{contains_passing, passing_contained, Once, once_pairs, once_filter, fewer, order_once, one_list, infos_in_order}
 
 -- ---- locks
 
+-- the locks below a timestamp are one list
 pub one_locks : (cells : Key → Cells) (q : LocksBelow) (a b : Answer) → AnswersLocksBelow cells q a → AnswersLocksBelow cells q b → a ≡ b
 one_locks cells q a b (xs, x, is) (ys, y, also) =
     let within : (info : LockInfo) → Contains xs info → Contains ys info = λ info c. y.each info (x.stand info c) in
@@ -51,6 +28,7 @@ one_locks cells q a b (xs, x, is) (ys, y, also) =
     alike Locks xs ys a b (one_list (λ (i : LockInfo). i.key) xs ys (infos_in_order xs x.rising) right within (fewer ys xs (order_once (λ (i : LockInfo). i.key) ys right) around)) is also
 
 module _ (cells : Key → Cells) (safe : ℕ) where
+  -- one lock is the first
   one_first : (i j : LockInfo) → IsFirstBelow cells safe i → IsFirstBelow cells safe j → i ≡ j
   one_first i j x y =
       elim (ordered i.key j.key) [
@@ -79,10 +57,13 @@ module _ (cells : Key → Cells) (safe : ℕ) where
         | inr short ↦ (rw short (value_places places))
       ]
 
-  -- of two lists of what is dropped, neither is longer, nor has more values
+  -- of two lists of what is dropped neither is longer, nor has more values
   no_more : (xs ys : List (Key × ℕ)) → AllDropped cells safe xs → AllDropped cells safe ys → (length xs ≤ length ys) × (long_values cells xs ≤ long_values cells ys)
-  no_more xs ys x y = (fewer xs ys x.once within, omega (arith, value_places xs, value_places ys, fewer (filter has_value xs) (filter has_value ys) (AllPairs-filter (λ p q. p ≢ q) has_value xs x.once) passing))
+  no_more xs ys x y = (fewer xs ys once within, omega (arith, value_places xs, value_places ys, fewer (filter has_value xs) (filter has_value ys) (once_filter has_value xs once) passing))
     where
+      once : Once xs
+      once = once_pairs xs x.once
+
       within : (place : Key × ℕ) → Contains xs place → Contains ys place
       within place c = (y.each place).1 ((x.each place).0 c)
 

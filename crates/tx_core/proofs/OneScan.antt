@@ -12,11 +12,9 @@ use Rattle.tx_plan.specs.Cells.{Cells, info_of}
 use Rattle.tx_plan.specs.Reads.{Walked, in_range, covered}
 use Rattle.tx_plan.specs.cases.Scan.{GivesRows, MeetsLock, AnswersScan}
 use Rattle.tx_plan.proofs.KeyOrder.{ordered, lt_le, le_itself, lt_other, same_key, key_same}
-use Rattle.tx_plan.proofs.LockRows.{contains_next, contains_first, contains_cases, contains_none}
-use Rattle.tx_plan.proofs.OnceLists.{fewer}
 use Rattle.tx_core.proofs.Basics.{or_false, some_same}
 use Rattle.tx_core.proofs.OneCase.{one_case, same, alike, one_lock, one_read}
-use Rattle.tx_core.proofs.OneLists.{InOrder, order_once, one_list, rows_in_order}
+use Rattle.tx_core.proofs.OneLists.{contains_none, contains_first, contains_next, contains_cases, fewer, InOrder, order_once, one_list, rows_in_order}
 
 -- ---- rows by key
 
@@ -126,6 +124,7 @@ module _ (cells : Key → Cells) (b : Scan) where
   not_before : (a c : Answer) (x : MeetsLock cells b a) (y : MeetsLock cells b c) → IsTrue (key_lt x.key y.key) → ⊥
   not_before a c x y lt = y.before.free x.key x.lock (and_from (key_le b.from x.key) (key_lt x.key y.key) (and_parts (key_le b.from x.key) (key_lt x.key b.to) x.inside).0 lt) x.blocks
 
+  -- so it meets one lock
   one_met : (a c : Answer) → MeetsLock cells b a → MeetsLock cells b c → a ≡ c
   one_met a c x y =
       elim (ordered x.key y.key) [
