@@ -2,14 +2,13 @@
 use Rattle.std.proofs.Common.{◌≡◌, ◌≢◌, ℕ, inl, zero, suc, true, List, [], ◌∷◌, Option, Some, None, refl, sym, ap, subst, ◌∙◌}
 use Rattle.tx_types.specs.declared.key.Key.{Key}
 use Rattle.tx_types.specs.declared.mutation.Fate.{Fate}
-use Rattle.tx_types.specs.declared.mutation.Fate.TheVariants as fate
 use Rattle.tx_machine.specs.Keys.{IsDistinct}
 use Rattle.tx_plan.specs.declared.answer.Answer.{Answer}
-use Rattle.tx_plan.specs.declared.answer.Answer.TheVariants.{Prewritten, Committed, RolledBack, Missing, AlreadyRolledBack, AlreadyCommitted, CommitTsExpired}
+use Rattle.tx_plan.specs.declared.answer.Answer.TheVariants.{Prewritten, Committed, CommitTsExpired}
 use Rattle.tx_plan.specs.Answers.{start_in}
 use Rattle.tx_core.specs.declared.event.Taken.{Taken}
 use Rattle.tx_core.specs.declared.event.Event.TheVariants.{Took}
-use Rattle.tx_core.specs.Histories.{History, Among, Begins}
+use Rattle.tx_core.specs.Histories.{History, Begins}
 use Rattle.tx_core.specs.Decisions.{accepted, fate_in}
 use Rattle.tx_core.specs.Worlds.{route, Holds, WasTold, IsWorldRun}
 use Rattle.tx_core.proofs.Staying.{among_on}

@@ -2,15 +2,15 @@
 use Rattle.std.proofs.Common.{◌≡◌, ◌≢◌, ℕ, true, false, List, [], ◌∷◌, Option, Some, None}
 use Rattle.tx_types.specs.declared.key.Key.{Key}
 use Rattle.tx_types.specs.declared.mutation.Fate.{Fate}
-use Rattle.tx_types.specs.declared.mutation.Fate.TheVariants as fate
 use Rattle.tx_machine.specs.Keys.{IsDistinct}
 use Rattle.tx_core.specs.declared.event.Declaration.{Declaration}
-use Rattle.tx_core.specs.Histories.{History, drawer, began, declared, answered, Begins, GoesOn}
+use Rattle.tx_core.specs.Histories.{History, drawer, began, declared, answered, Begins}
+use Rattle.tx_core.specs.Recording.{Extends}
 use Rattle.tx_core.specs.Decisions.{accepted, AllAccepted, HasTwoPhaseLock}
 use Rattle.tx_core.specs.Allowed.{DrewAfterAll}
 use Rattle.tx_core.specs.Worlds.{WasTold, IsWorldRun}
 use Rattle.tx_core.proofs.Basics.{some_of, is_some}
-use Rattle.tx_core.proofs.Beginnings.{goes_begins}
+use Rattle.tx_core.proofs.Beginnings.{extends_begins}
 use Rattle.tx_core.proofs.Staying.{drawer_on, began_on, declared_on, accepted_on, told_on}
 use Rattle.tx_core.proofs.StaysDecided.{two_phase_on, all_accepted_on, drew_on}
 use Rattle.tx_core.proofs.Recording.{undeclared_on, unanswered_on}
@@ -66,7 +66,7 @@ ready_on bounds l h run b t c r =
     }
 
 -- others act
-pub others_act : (bounds : List Key) (l h : History) → IsWorldRun bounds h → (s : State) → GoesOn s.seat l h → IsSession l s → IsSession h s
+pub others_act : (bounds : List Key) (l h : History) → IsWorldRun bounds h → (s : State) → Extends s.seat l h → IsSession l s → IsSession h s
 others_act bounds l h run s goes is =
     record {
       drew_start = drawer_on bounds l h run b s.start s.seat is.drew_start;
@@ -80,7 +80,7 @@ others_act bounds l h run s goes is =
     }
   where
     b : Begins l h
-    b = goes_begins s.seat l h goes
+    b = extends_begins s.seat l h goes
 
     stands : (o : Option Declaration) → declared l s.start ≡ o → declared h s.start ≡ o
     stands None e = undeclared_on bounds s.seat s.start l h run goes is.drew_start e

@@ -13,7 +13,7 @@ use Rattle.tx_core.specs.declared.event.Event.{Event}
 use Rattle.tx_core.specs.declared.event.Event.TheVariants.{Drawn, Began, Declared, Answered, Stopped, Took}
 use Rattle.tx_core.specs.Histories.{History, last, set_at, left}
 use Rattle.tx_core.specs.Decisions.{effect_in, accepted, decision, first_decided, decided, fate_in}
-use Rattle.tx_core.specs.Allowed.{MayRead, Allowed}
+use Rattle.tx_core.specs.Allowed.{AllowsRead, Allowed}
 use Rattle.tx_core.specs.Worlds.{Holds, MayTake, MayCome, IsWorldRun}
 use Rattle.tx_core.specs.Shadow.{shadow}
 use Rattle.tx_core.specs.Truth.{HasEnded, EndsBy, IsTrueAnswer, IsTrue, AllTrue}
@@ -71,7 +71,7 @@ still_decided h x t e end = ap (first_decided (decision (set_at h t) (accepted (
 
 module _ (bounds : List Key) (h : History) (run : IsWorldRun bounds h) (good : Good bounds h) (told : ToldShown bounds h) where
   -- a read passes by the transactions that it may pass by
-  passes : (r : ℕ) (bypass : List ℕ) → MayRead h r bypass → (t : ℕ) → Contains bypass t → Passes (decided h) (shown_in h) r t
+  passes : (r : ℕ) (bypass : List ℕ) → AllowsRead h r bypass → (t : ℕ) → Contains bypass t → Passes (decided h) (shown_in h) r t
   passes r bypass may t named = elim (may t named) [ inl gone ↦ inl gone | inr rest ↦ elim rest [ inl done ↦ inr (inl done) | inr shown ↦ inr (inr (omega (arith, shown_above bounds h told t shown.0 shown.1, shown.2))) ] ]
 
   next_taken : (n : ℕ) (body : Body) (l : ℕ) (a : Answer) → l ≤ last h → Allowed h body → Holds bounds n body → Answers (left h n) l (last h) body a → Next bounds h (took n body l a)

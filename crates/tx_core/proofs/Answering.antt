@@ -15,7 +15,8 @@ use Rattle.tx_core.specs.declared.event.Outcome.TheVariants as outcome
 use Rattle.tx_core.specs.declared.event.Taken.{Taken}
 use Rattle.tx_core.specs.declared.event.Event.{Event}
 use Rattle.tx_core.specs.declared.event.Event.TheVariants.{Drawn, Began, Declared, Answered, Stopped, Took}
-use Rattle.tx_core.specs.Histories.{History, declared, set_of, set_at, left, owner, Begins, GoesOn}
+use Rattle.tx_core.specs.Histories.{History, declared, set_of, set_at, left, Begins}
+use Rattle.tx_core.specs.Recording.{owner, Extends}
 use Rattle.tx_core.specs.Decisions.{Acceptance, accepted, async_minimum, greater, greatest}
 use Rattle.tx_core.specs.Worlds.{IsWorldRun, MayAnswer}
 use Rattle.tx_core.proofs.Basics.{nat_test}
@@ -33,11 +34,11 @@ left_next r h (Declared d) other = refl
 left_next r h (Answered t o) other = refl
 left_next r h (Stopped s) other = refl
 
-pub left_on : (r : ℕ) (l h : History) → GoesOn r l h → left h r ≡ left l r
+pub left_on : (r : ℕ) (l h : History) → Extends r l h → left h r ≡ left l r
 left_on r l h g = other_on r (λ x. left x r ≡ left l r) (λ x e other same. left_next r x e other ∙ same) l h g refl
 
 -- what it takes then leaves what its answer leaves
-pub left_took : (r : ℕ) (l h : History) (x : Taken) → x.region ≡ r → GoesOn r l h → left (Took x ∷ h) r ≡ leaves (left l r) x.body x.answer
+pub left_took : (r : ℕ) (l h : History) (x : Taken) → x.region ≡ r → Extends r l h → left (Took x ∷ h) r ≡ leaves (left l r) x.body x.answer
 left_took r l h x own g =
     elim (nat_test x.region r) [
       | inl y ↦ rw y.0 (ap (λ region. leaves region x.body x.answer) (left_on r l h g))

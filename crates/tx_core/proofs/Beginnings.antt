@@ -2,7 +2,8 @@
 use Rattle.std.proofs.Common.{◌≡◌, ◌≢◌, ◌≤◌, ◌⊎◌, ℕ, ◌++◌, inl, inr, List, [], ◌∷◌, length, Some, refl, sym, ap, subst, ◌∙◌, arith}
 use Rattle.tx_types.specs.declared.key.Key.{Key}
 use Rattle.tx_core.specs.declared.event.Event.{Event}
-use Rattle.tx_core.specs.Histories.{History, owner, Begins, GoesOn}
+use Rattle.tx_core.specs.Histories.{History, Begins}
+use Rattle.tx_core.specs.Recording.{owner, Extends}
 use Rattle.tx_core.specs.Worlds.{MayCome, IsWorldRun}
 
 -- ---- beginnings
@@ -72,12 +73,12 @@ run_on bounds P step l [] run b p = subst P b p
 run_on bounds P step l (e ∷ h) run b p = elim b [ inl same ↦ subst P same p | inr more ↦ step h e run.0 run.1 (run_on bounds P step l h run.0 more p) ]
 
 -- a fact that each event of another seat keeps
-pub other_on : (i : ℕ) (P : History → Type 0) → ((h : History) (e : Event) → owner h e ≢ Some i → P h → P (e ∷ h)) → (l h : History) → GoesOn i l h → P l → P h
+pub other_on : (i : ℕ) (P : History → Type 0) → ((h : History) (e : Event) → owner h e ≢ Some i → P h → P (e ∷ h)) → (l h : History) → Extends i l h → P l → P h
 other_on i P step l [] g p = subst P g p
 other_on i P step l (e ∷ h) g p = elim g [ inl same ↦ subst P same p | inr more ↦ step h e more.1 (other_on i P step l h more.0 p) ]
 
 -- a fact that each event of another seat keeps in a world run
-pub other_run_on : (bounds : List Key) (i : ℕ) (P : History → Type 0) → ((h : History) (e : Event) → IsWorldRun bounds h → MayCome bounds h e → owner h e ≢ Some i → P h → P (e ∷ h)) → (l h : History) → IsWorldRun bounds h → GoesOn i l h → P l → P h
+pub other_run_on : (bounds : List Key) (i : ℕ) (P : History → Type 0) → ((h : History) (e : Event) → IsWorldRun bounds h → MayCome bounds h e → owner h e ≢ Some i → P h → P (e ∷ h)) → (l h : History) → IsWorldRun bounds h → Extends i l h → P l → P h
 other_run_on bounds i P step l [] run g p = subst P g p
 other_run_on bounds i P step l (e ∷ h) run g p = elim g [ inl same ↦ subst P same p | inr more ↦ step h e run.0 run.1 more.1 (other_run_on bounds i P step l h run.0 more.0 p) ]
 
@@ -88,31 +89,31 @@ run_beginning bounds l (e ∷ h) run b = elim b [ inl same ↦ subst (IsWorldRun
 
 -- ---- histories that go on
 
-pub goes_all : (i : ℕ) (h : History) → GoesOn i h h
-goes_all i [] = refl
-goes_all i (e ∷ h) = inl refl
+pub extends_all : (i : ℕ) (h : History) → Extends i h h
+extends_all i [] = refl
+extends_all i (e ∷ h) = inl refl
 
-pub goes_begins : (i : ℕ) (l h : History) → GoesOn i l h → Begins l h
-goes_begins i l [] g = g
-goes_begins i l (e ∷ h) g = elim g [ inl same ↦ inl same | inr more ↦ inr (goes_begins i l h more.0) ]
+pub extends_begins : (i : ℕ) (l h : History) → Extends i l h → Begins l h
+extends_begins i l [] g = g
+extends_begins i l (e ∷ h) g = elim g [ inl same ↦ inl same | inr more ↦ inr (extends_begins i l h more.0) ]
 
-pub goes_more : (i : ℕ) (l m h : History) → GoesOn i l m → GoesOn i m h → GoesOn i l h
-goes_more i l m [] p q = subst (λ x. GoesOn i l x) q p
-goes_more i l m (e ∷ h) p q = elim q [ inl same ↦ subst (λ x. GoesOn i l x) same p | inr more ↦ inr (goes_more i l m h p more.0, more.1) ]
+pub extends_more : (i : ℕ) (l m h : History) → Extends i l m → Extends i m h → Extends i l h
+extends_more i l m [] p q = subst (λ x. Extends i l x) q p
+extends_more i l m (e ∷ h) p q = elim q [ inl same ↦ subst (λ x. Extends i l x) same p | inr more ↦ inr (extends_more i l m h p more.0, more.1) ]
 
 -- an event of another seat
-pub goes_next : (i : ℕ) (l h : History) (e : Event) → GoesOn i l h → owner h e ≢ Some i → GoesOn i l (e ∷ h)
-goes_next i l h e g other = inr (g, other)
+pub extends_next : (i : ℕ) (l h : History) (e : Event) → Extends i l h → owner h e ≢ Some i → Extends i l (e ∷ h)
+extends_next i l h e g other = inr (g, other)
 
 -- what goes on from l, and goes on from a longer beginning m, had no event of the seat between them
-pub goes_between : (i : ℕ) (l m h : History) → GoesOn i l h → Begins l m → Begins m h → GoesOn i l m × GoesOn i m h
-goes_between i l m [] g p q = (subst (λ x. GoesOn i l x) (sym q) g, q)
-goes_between i l m (e ∷ h) g p q =
+pub extends_between : (i : ℕ) (l m h : History) → Extends i l h → Begins l m → Begins m h → Extends i l m × Extends i m h
+extends_between i l m [] g p q = (subst (λ x. Extends i l x) (sym q) g, q)
+extends_between i l m (e ∷ h) g p q =
     elim q [
-      | inl same ↦ (subst (λ x. GoesOn i l x) (sym same) g, inl same)
+      | inl same ↦ (subst (λ x. Extends i l x) (sym same) g, inl same)
       | inr more ↦
           elim g [
             | inl all ↦ absurd (omega (arith, ap length all, begins_length l m p, begins_length m h more))
-            | inr less ↦ (let both = goes_between i l m h less.0 p more in (both.0, inr (both.1, less.1)))
+            | inr less ↦ (let both = extends_between i l m h less.0 p more in (both.0, inr (both.1, less.1)))
           ]
     ]

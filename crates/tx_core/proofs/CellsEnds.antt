@@ -13,7 +13,7 @@ use Rattle.tx_core.proofs.Keyed.{keyed, keyed_same, keyed_to, own_cases, at_cell
 use Rattle.tx_core.proofs.HeartBeat.{lengthened, lengthening}
 use Rattle.tx_core.proofs.Settling.{settling, kept_rollback}
 use Rattle.tx_core.proofs.RollingBack.{rolled_with, rolling_back, leaving_rollback, resolving_back, own_rolled, kept_rolled, was_locked}
-use Rattle.tx_core.proofs.Deciding.{deciding, MayDecide, inv_decide, was_decided, still_decided}
+use Rattle.tx_core.proofs.Deciding.{deciding, CanDecide, inv_decide, was_decided, still_decided}
 use Rattle.tx_core.proofs.Aborting.{aborting, was_ended, still_ended}
 use Rattle.tx_core.proofs.Ends.{Refused, FirstCleared, Ends, ends_keyed}
 use Rattle.tx_plan.specs.cases.TxnHeartBeat.{with_ttl}
@@ -55,7 +55,7 @@ ends_resolve_back w k t ends =
 -- ---- of a transaction that this commits: its primary is settled
 
 -- it had a two-phase key and was open
-pub ends_finish : (w : View) (k : Key) (t c : ℕ) (lock : Lock) → Inv w → Ends w → MayDecide w t c → FellBack w.accepted t → IsPrimary w.declared t k → OwnLock (w.cells k).lock t lock → Ends (settling (deciding w t c) k t c)
+pub ends_finish : (w : View) (k : Key) (t c : ℕ) (lock : Lock) → Inv w → Ends w → CanDecide w t c → FellBack w.accepted t → IsPrimary w.declared t k → OwnLock (w.cells k).lock t lock → Ends (settling (deciding w t c) k t c)
 ends_finish w k t c lock i ends may fell first own =
     elim (own_cases (w.cells k) t (λ l. settled (w.cells k) c l)) [
       | inl x ↦ keyed_to (deciding w t c) k (settled (w.cells k) c x.0) (settle (w.cells k) t c) Ends (sym x.3) (done x.0 x.1 x.2)

@@ -14,7 +14,7 @@ use Rattle.tx_plan.specs.Traces.{OwnLock, OwnCommit, settled, settle}
 use Rattle.tx_plan.specs.cases.Commit.{AnswersCommit, leaves_commit}
 use Rattle.tx_core.specs.Histories.{History, declared, is_first, set_of, set_at, left}
 use Rattle.tx_core.specs.Decisions.{Settles, NoEffect, is_own, accepted, first_decided, decided}
-use Rattle.tx_core.specs.Allowed.{MayCommit, MayDecide}
+use Rattle.tx_core.specs.Allowed.{AllowsCommit, MayDecide}
 use Rattle.tx_core.specs.Worlds.{route}
 use Rattle.tx_core.specs.Shadow.{deciding, shadow}
 use Rattle.tx_core.proofs.Basics.{nat_test, nat_same, cond_true}
@@ -62,7 +62,7 @@ module _ (bounds : List Key) (h : History) (good : Good bounds h) (b : Commit) (
             ]
 
     -- of a transaction that this decides
-    decides : FellBack (accepted h) b.start → is_first (set_at h b.start) b.key ≡ true → decide.MayDecide (view bounds h) b.start b.commit → Next bounds h (took (route bounds b.key) (body.Commit b) l (Committed b.commit))
+    decides : FellBack (accepted h) b.start → is_first (set_at h b.start) b.key ≡ true → decide.CanDecide (view bounds h) b.start b.commit → Next bounds h (took (route bounds b.key) (body.Commit b) l (Committed b.commit))
     decides fell first may =
         let w = decide.deciding (view bounds h) b.start b.commit in
         let sound = sound_settle (step.Commit b.start b.commit ∷ shadow h) w b.key b.start b.commit (sound_decide (shadow h) (view bounds h) b.start b.commit good.sound may) now in
@@ -86,7 +86,7 @@ module _ (bounds : List Key) (h : History) (good : Good bounds h) (b : Commit) (
             ]
 
     -- the lock is settled by a commit that is allowed and not below its minimum
-    done : MayCommit h b → (b.commit < lock.min → ⊥) → Next bounds h (took (route bounds b.key) (body.Commit b) l (Committed b.commit))
+    done : AllowsCommit h b → (b.commit < lock.min → ⊥) → Next bounds h (took (route bounds b.key) (body.Commit b) l (Committed b.commit))
     done may high = elim may.may [ inl end ↦ follows end | inr new ↦ first_time new ]
       where
         first_time : MayDecide h may.of.changes b → Next bounds h (took (route bounds b.key) (body.Commit b) l (Committed b.commit))
@@ -111,7 +111,7 @@ module _ (bounds : List Key) (h : History) (good : Good bounds h) (b : Commit) (
       ])
       (true_commit bounds h good b.key b.start c own)
 
-  pub next_commit : (a : Answer) → MayCommit h b → AnswersCommit (cells_at bounds h b.key) (left h (route bounds b.key)).collected b a → Next bounds h (took (route bounds b.key) (body.Commit b) l a)
+  pub next_commit : (a : Answer) → AllowsCommit h b → AnswersCommit (cells_at bounds h b.key) (left h (route bounds b.key)).collected b a → Next bounds h (took (route bounds b.key) (body.Commit b) l a)
   next_commit a may (inl x) = silent a (BelowSafePoint (left h (route bounds b.key)).collected) x.1 (quiet bounds h good b.key (body.Commit b) l (BelowSafePoint (left h (route bounds b.key)).collected) b.start (λ c. leaves_commit c b (BelowSafePoint (left h (route bounds b.key)).collected)) (on_key (BelowSafePoint (left h (route bounds b.key)).collected)) refl (λ u n. refl) refl tt)
   next_commit a may (inr (no0, inl (lock, own, inl x))) = silent a (CommitTsExpired lock.min) x.1 (quiet bounds h good b.key (body.Commit b) l (CommitTsExpired lock.min) b.start (λ c. leaves_commit c b (CommitTsExpired lock.min)) (on_key (CommitTsExpired lock.min)) refl (λ u n. refl) refl tt)
   next_commit a may (inr (no0, inl (lock, own, inr (no1, inl (rec, x, e))))) = silent a (WriteConflict rec.start b.commit) e (quiet bounds h good b.key (body.Commit b) l (WriteConflict rec.start b.commit) b.start (λ c. leaves_commit c b (WriteConflict rec.start b.commit)) (on_key (WriteConflict rec.start b.commit)) refl (λ u n. refl) refl tt)

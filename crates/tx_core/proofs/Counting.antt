@@ -3,9 +3,9 @@ use Rattle.std.proofs.Common.{◌≡◌, ◌≢◌, ◌+◌, ◌<◌, ◌≤◌,
 use Rattle.std.proofs.lemmas.Bool.{cases_lt}
 use Rattle.tx_types.specs.declared.key.Key.{Key}
 use Rattle.tx_core.specs.declared.event.Event.{Event}
-use Rattle.tx_core.specs.Histories.{History, owner}
+use Rattle.tx_core.specs.Histories.{History}
 use Rattle.tx_core.specs.Worlds.{IsWorldRun}
-use Rattle.tx_core.specs.Recording.{part, events_of, AllOfSeats}
+use Rattle.tx_core.specs.Recording.{owner, part, events_of, AllOfSeats}
 use Rattle.tx_core.proofs.Basics.{some_of, some_same}
 use Rattle.tx_core.proofs.Parts.{seat_test, part_own, part_other}
 use Rattle.tx_core.proofs.Staying.{owner_some}

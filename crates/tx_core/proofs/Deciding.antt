@@ -19,7 +19,7 @@ use Rattle.tx_core.proofs.View.{View, Inv, Does, IsPrimary, IsCommitted, IsAbort
 
 -- An open transaction may be committed at c: each of its keys is accepted, with a bound of at most c; what was shown lies at or below c;
 -- c lies above its start and at most one above the last number.
-pub record MayDecide (w : View) (t c : ℕ) : Type 0 where
+pub record CanDecide (w : View) (t c : ℕ) : Type 0 where
   pub opened : w.decided t ≡ Open
   pub declared : w.declared t ≢ None
   pub above : t < c
@@ -29,7 +29,7 @@ pub record MayDecide (w : View) (t c : ℕ) : Type 0 where
   pub shown : w.shown t ≤ c
 
 -- a number that was drawn after all acceptances, at or above the minimum of the primary's lock
-pub decide_drawn : (w : View) (t c : ℕ) (p : Key) (first : Lock) → Inv w → w.decided t ≡ Open → Accepts w.declared w.accepted t → w.drawer c ≢ None → ((k : Key) (by : Acceptance) → w.accepted t k ≡ Some by → by.at < c) → IsPrimary w.declared t p → OwnLock (w.cells p).lock t first → first.min ≤ c → MayDecide w t c
+pub decide_drawn : (w : View) (t c : ℕ) (p : Key) (first : Lock) → Inv w → w.decided t ≡ Open → Accepts w.declared w.accepted t → w.drawer c ≢ None → ((k : Key) (by : Acceptance) → w.accepted t k ≡ Some by → by.at < c) → IsPrimary w.declared t p → OwnLock (w.cells p).lock t first → first.min ≤ c → CanDecide w t c
 decide_drawn w t c p first i o all drawn after is own low =
     let does = first_within w.declared t p is in
     let of = some_of (w.accepted t p) (all p (does_within w.declared t p does.0 does.1)) in
@@ -101,7 +101,7 @@ greatest_some accepted (x ∷ y ∷ ys) c e =
 abbrev pub deciding : View → ℕ → ℕ → View
 deciding w t c = record w { decided = λ q. cond (t == q) (Done (Committed c)) (w.decided q) }
 
-module _ (w : View) (t c : ℕ) (i : Inv w) (may : MayDecide w t c) where
+module _ (w : View) (t c : ℕ) (i : Inv w) (may : CanDecide w t c) where
   -- what is decided after it: the commit, or what was before
   pub was_decided : (q : ℕ) (s : State) → (deciding w t c).decided q ≡ s → ((t ≡ q) × (Done (Committed c) ≡ s)) ⊎ (w.decided q ≡ s)
   was_decided q s e =
@@ -189,7 +189,7 @@ module _ (w : View) (t c : ℕ) (i : Inv w) (may : MayDecide w t c) where
       }
 
 -- by the last acceptance, at the greatest minimum, where each key is accepted async
-pub decide_async : (w : View) (t c : ℕ) → Inv w → w.decided t ≡ Open → greatest (w.accepted t) (set_of (w.declared t)) ≡ Some c → MayDecide w t c
+pub decide_async : (w : View) (t c : ℕ) → Inv w → w.decided t ≡ Open → greatest (w.accepted t) (set_of (w.declared t)) ≡ Some c → CanDecide w t c
 decide_async w t c i o most =
     let some = greatest_some (w.accepted t) (set_of (w.declared t)) c most in
     let within = does_within w.declared t some.0 some.1.lock.mutation (i.accepted_does t some.0 some.1 some.2) in

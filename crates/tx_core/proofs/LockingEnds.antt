@@ -13,7 +13,7 @@ use Rattle.tx_core.proofs.Basics.{nat_test, cond_true, cond_false, some_same, no
 use Rattle.tx_core.proofs.View.{View, Inv, FellBack, does_within}
 use Rattle.tx_core.proofs.Keyed.{at_cells}
 use Rattle.tx_core.proofs.Locking.{locking, accepting, MayLock, inv_lock, was_accepted, now_accepted, still_accepted, more_accepted}
-use Rattle.tx_core.proofs.Deciding.{deciding, MayDecide, decide_async, greatest_each, was_decided, still_decided}
+use Rattle.tx_core.proofs.Deciding.{deciding, CanDecide, decide_async, greatest_each, was_decided, still_decided}
 use Rattle.tx_core.proofs.Ends.{Refused, FirstCleared, Ends}
 
 module _ (w : View) (k : Key) (lock : Lock) (i : Inv w) (may : MayLock w k lock) (unrolled : OwnRollback (w.cells k).write lock.start → ⊥) where
@@ -98,7 +98,7 @@ module _ (w : View) (k : Key) (lock : Lock) (i : Inv w) (may : MayLock w k lock)
           ]
 
   -- and may be committed at the greatest minimum
-  pub lock_decides : (c : ℕ) → Ends w → greatest ((locking w k lock).accepted lock.start) (set_of (w.declared lock.start)) ≡ Some c → MayDecide (locking w k lock) lock.start c
+  pub lock_decides : (c : ℕ) → Ends w → greatest ((locking w k lock).accepted lock.start) (set_of (w.declared lock.start)) ≡ Some c → CanDecide (locking w k lock) lock.start c
   lock_decides c ends most = decide_async (locking w k lock) lock.start c (inv_lock w k lock i may) (lock_opens c ends most) most
 
   -- and where each is, once the transaction is committed

@@ -23,7 +23,7 @@ use Rattle.tx_core.specs.declared.event.Declaration.{Declaration}
 use Rattle.tx_core.specs.declared.event.Event.{Event}
 use Rattle.tx_core.specs.declared.event.Event.TheVariants.{Drawn, Began, Declared, Answered, Stopped, Took}
 use Rattle.tx_core.specs.Histories.{History, declared, is_first, left}
-use Rattle.tx_core.specs.Allowed.{Allowed, MayPrewrite, listed_on}
+use Rattle.tx_core.specs.Allowed.{Allowed, AllowsPrewrite, listed_on}
 use Rattle.tx_core.specs.Worlds.{MayCome, IsWorldRun}
 use Rattle.tx_core.proofs.Basics.{nat_test, key_test, cond_true, cond_false, chosen, some_same}
 use Rattle.tx_core.proofs.Keyed.{own_cases}
@@ -157,7 +157,7 @@ says_same h k old lock same says =
       listed = λ mode. same.secondaries ∙ says.listed (sym same.mode ∙ mode);
     }
 
-put_says : (h : History) (k : Key) (b : Prewrite) (m : ℕ) → MayPrewrite h b → b.key ≡ k → Says h k (lock_of b m)
+put_says : (h : History) (k : Key) (b : Prewrite) (m : ℕ) → AllowsPrewrite h b → b.key ≡ k → Says h k (lock_of b m)
 put_says h k b m may at =
     record {
       of = may.of;

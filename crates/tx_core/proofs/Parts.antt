@@ -1,8 +1,8 @@
 -- The events of one seat in a history.
 use Rattle.std.proofs.Common.{◌≡◌, ◌≢◌, ◌≤◌, ◌⊎◌, ℕ, inl, inr, true, false, [], ◌∷◌, length, Option, Some, None, refl, sym, ap, subst, ◌∙◌, arith}
 use Rattle.tx_core.specs.declared.event.Event.{Event}
-use Rattle.tx_core.specs.Histories.{History, owner, Begins, GoesOn}
-use Rattle.tx_core.specs.Recording.{is_seat, part}
+use Rattle.tx_core.specs.Histories.{History, Begins}
+use Rattle.tx_core.specs.Recording.{owner, Extends, is_seat, part}
 use Rattle.tx_core.proofs.Basics.{nat_test, some_same}
 use Rattle.tx_core.proofs.Beginnings.{begins_all}
 
@@ -44,31 +44,31 @@ part_shorter i l (e ∷ h) b =
     ]
 
 -- what goes on with no more events of a seat has the same events of it
-pub part_goes : (i : ℕ) (l h : History) → GoesOn i l h → part i h ≡ part i l
-part_goes i l [] g = ap (part i) (sym g)
-part_goes i l (e ∷ h) g = elim g [ inl same ↦ ap (part i) (sym same) | inr more ↦ part_other i h e more.1 ∙ part_goes i l h more.0 ]
+pub part_extends : (i : ℕ) (l h : History) → Extends i l h → part i h ≡ part i l
+part_extends i l [] g = ap (part i) (sym g)
+part_extends i l (e ∷ h) g = elim g [ inl same ↦ ap (part i) (sym same) | inr more ↦ part_other i h e more.1 ∙ part_extends i l h more.0 ]
 
 -- and what begins with l and has no more events of a seat than l goes on from l without
-pub goes_by_part : (i : ℕ) (l h : History) → Begins l h → length (part i h) ≤ length (part i l) → GoesOn i l h
-goes_by_part i l [] b le = b
-goes_by_part i l (e ∷ h) b le =
+pub extends_by_part : (i : ℕ) (l h : History) → Begins l h → length (part i h) ≤ length (part i l) → Extends i l h
+extends_by_part i l [] b le = b
+extends_by_part i l (e ∷ h) b le =
     elim b [
       | inl same ↦ inl same
       | inr more ↦
           elim (seat_test (owner h e) i) [
             | inl own ↦ absurd (omega (arith, le, ap length (part_own i h e own.1), part_shorter i l h more))
-            | inr other ↦ (let fewer : length (part i h) ≤ length (part i l) = omega (arith, le, ap length (part_other i h e other.1)) in inr (goes_by_part i l h more fewer, other.1))
+            | inr other ↦ (let fewer : length (part i h) ≤ length (part i l) = omega (arith, le, ap length (part_other i h e other.1)) in inr (extends_by_part i l h more fewer, other.1))
           ]
     ]
 
 -- so a history goes on from a beginning exactly where its part is the same
-pub goes_same_part : (i : ℕ) (l h : History) → Begins l h → part i h ≡ part i l → GoesOn i l h
-goes_same_part i l h b same = goes_by_part i l h b (let equal = ap length same in omega (arith, equal))
+pub extends_same_part : (i : ℕ) (l h : History) → Begins l h → part i h ≡ part i l → Extends i l h
+extends_same_part i l h b same = extends_by_part i l h b (let equal = ap length same in omega (arith, equal))
 
 -- a history with no event of a seat goes on from any beginning
-pub goes_absent : (i : ℕ) (l h : History) → Begins l h → part i h ≡ [] → GoesOn i l h
-goes_absent i l h b none = goes_by_part i l h b (let equal = ap length none in omega (arith, equal))
+pub extends_absent : (i : ℕ) (l h : History) → Begins l h → part i h ≡ [] → Extends i l h
+extends_absent i l h b none = extends_by_part i l h b (let equal = ap length none in omega (arith, equal))
 
 -- of two beginnings from which one history goes on with no more events of a seat, the shorter goes on to the longer so
-pub goes_shorter : (i : ℕ) (a b h : History) → GoesOn i a h → Begins b h → Begins a b → GoesOn i a b
-goes_shorter i a b h g q p = goes_by_part i a b p (let same = ap length (part_goes i a h g) in omega (arith, same, part_shorter i b h q))
+pub extends_shorter : (i : ℕ) (a b h : History) → Extends i a h → Begins b h → Begins a b → Extends i a b
+extends_shorter i a b h g q p = extends_by_part i a b p (let same = ap length (part_extends i a h g) in omega (arith, same, part_shorter i b h q))

@@ -19,7 +19,7 @@ use Rattle.tx_plan.specs.cases.Prewrite.{AnswersPrewrite, IsWithin, MayPromise, 
 use Rattle.tx_core.specs.declared.event.Declaration.{Declaration}
 use Rattle.tx_core.specs.Histories.{History, last, declared, set_of, set_at, left}
 use Rattle.tx_core.specs.Decisions.{Puts, NoEffect, is_own, first_decided, greatest, committed_at, decided}
-use Rattle.tx_core.specs.Allowed.{MayPrewrite}
+use Rattle.tx_core.specs.Allowed.{AllowsPrewrite}
 use Rattle.tx_core.specs.Worlds.{route}
 use Rattle.tx_core.specs.Shadow.{deciding, shadow}
 use Rattle.tx_core.proofs.Basics.{nat_test, nat_same, cond_true, cond_false, some_same}
@@ -93,7 +93,7 @@ module _ (bounds : List Key) (h : History) (good : Good bounds h) (b : Prewrite)
 
   -- ---- the rows
 
-  pub next_prewrite : (a : Answer) → MayPrewrite h b → l ≤ last h → AnswersPrewrite (cells_at bounds h b.key) (left h (route bounds b.key)).safe l (MayPromise (left h (route bounds b.key)).max_read (last h) b.start) b a → Next bounds h (took (route bounds b.key) (body.Prewrite b) l a)
+  pub next_prewrite : (a : Answer) → AllowsPrewrite h b → l ≤ last h → AnswersPrewrite (cells_at bounds h b.key) (left h (route bounds b.key)).safe l (MayPromise (left h (route bounds b.key)).max_read (last h) b.start) b a → Next bounds h (took (route bounds b.key) (body.Prewrite b) l a)
   next_prewrite a may upto (inl x) = silent a (BelowSafePoint (left h (route bounds b.key)).safe) x.1 (quiet bounds h good b.key (body.Prewrite b) l (BelowSafePoint (left h (route bounds b.key)).safe) b.start (λ c. leaves_prewrite c b (BelowSafePoint (left h (route bounds b.key)).safe)) (on_key (BelowSafePoint (left h (route bounds b.key)).safe)) refl (λ u n. refl) refl tt)
   next_prewrite a may upto (inr (no0, inl x)) = silent a (FutureTimestamp l) x.1 (quiet bounds h good b.key (body.Prewrite b) l (FutureTimestamp l) b.start (λ c. leaves_prewrite c b (FutureTimestamp l)) (on_key (FutureTimestamp l)) refl (λ u n. refl) refl tt)
   next_prewrite a may upto (inr (no0, inr (no1, inl (lock, own, e)))) = silent a (Prewritten (named_minimum lock)) e (again lock own (named_minimum lock))

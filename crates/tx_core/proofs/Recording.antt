@@ -9,12 +9,12 @@ use Rattle.tx_core.specs.declared.event.Outcome.{Outcome}
 use Rattle.tx_core.specs.declared.event.Taken.{Taken}
 use Rattle.tx_core.specs.declared.event.Event.{Event}
 use Rattle.tx_core.specs.declared.event.Event.TheVariants.{Drawn, Began, Declared, Answered, Stopped, Took}
-use Rattle.tx_core.specs.Histories.{History, last, drawer, began, declared, answered, left, WasLast, owner, GoesOn}
+use Rattle.tx_core.specs.Histories.{History, last, drawer, began, declared, answered, left, WasLast}
 use Rattle.tx_core.specs.Allowed.{Allowed}
 use Rattle.tx_core.specs.Worlds.{Holds, MayAnswer, IsWorldRun}
-use Rattle.tx_core.specs.Recording.{MayRecord}
+use Rattle.tx_core.specs.Recording.{owner, Extends, MayRecord}
 use Rattle.tx_core.proofs.Basics.{nat_test, is_some}
-use Rattle.tx_core.proofs.Beginnings.{other_run_on, goes_begins, goes_more}
+use Rattle.tx_core.proofs.Beginnings.{other_run_on, extends_begins, extends_more}
 use Rattle.tx_core.proofs.Staying.{last_on, was_last_on, was_last_upto, drawer_next, drawer_on, drawer_new, began_on, began_drawn, allowed_on}
 use Rattle.tx_core.proofs.Numbers.{left_upto}
 use Rattle.tx_core.proofs.Answering.{left_on, answers_later, may_answer_on}
@@ -46,7 +46,7 @@ module _ (i t : ℕ) (h : History) (by : drawer h t ≡ Some i) where
   unanswered_next (Stopped s) other is = is
   unanswered_next (Took x) other is = is
 
-module _ (bounds : List Key) (i t : ℕ) (l h : History) (run : IsWorldRun bounds h) (goes : GoesOn i l h) (by : drawer l t ≡ Some i) where
+module _ (bounds : List Key) (i t : ℕ) (l h : History) (run : IsWorldRun bounds h) (goes : Extends i l h) (by : drawer l t ≡ Some i) where
   -- a fact of what the seat drew, which each event of another seat keeps
   own_on : (P : History → Type 0) → ((x : History) (e : Event) → drawer x t ≡ Some i → owner x e ≢ Some i → P x → P (e ∷ x)) → P l → P h
   own_on P step p = (other_run_on bounds i (λ x. (drawer x t ≡ Some i) × P x) (λ x e r may other both. (drawer_next bounds x e r may t i both.0, step x e both.0 other both.1)) l h run goes (by, p)).1
@@ -66,7 +66,7 @@ module _ (bounds : List Key) (i : ℕ) (l : History) where
   -- a region takes a request that is allowed after what it has seen
   pub may_take : (x : Taken) → x.region ≡ i → i ≤ length bounds → Allowed l x.body → Holds bounds x.region x.body → WasLast l x.loaded → Answers (left l x.region) x.loaded (last l) x.body x.answer → MayRecord bounds i l (Took x)
   may_take x own inside allowed holds was answers h run goes =
-      let b = goes_begins i l h goes in
+      let b = extends_begins i l h goes in
       let same : left h x.region ≡ left l x.region = subst (λ n. left h n ≡ left l n) (sym own) (left_on i l h goes) in (
         record {
           region = subst (λ n. n ≤ length bounds) (sym own) inside;
@@ -85,19 +85,19 @@ module _ (bounds : List Key) (i : ℕ) (l : History) where
   -- a session begins at a number that it drew, and that did not begin yet
   pub may_begin : (t : ℕ) → drawer l t ≡ Some i → began l t ≡ false → MayRecord bounds i l (Began t)
   may_begin t by new h run goes =
-      let still = drawer_on bounds l h run (goes_begins i l h goes) t i by in
+      let still = drawer_on bounds l h run (extends_begins i l h goes) t i by in
       ((is_some (drawer h t) i still, unbegun_on bounds i t l h run goes by new), still)
 
   -- it declares once
   pub may_declare : (d : Declaration) → drawer l d.start ≡ Some i → began l d.start ≡ true → declared l d.start ≡ None → d.changes ≢ [] → IsDistinct d.changes → MayRecord bounds i l (Declared d)
   may_declare d by begun new some distinct h run goes =
-      let b = goes_begins i l h goes in
+      let b = extends_begins i l h goes in
       (record { begun = began_on l h b d.start begun; once = undeclared_on bounds i d.start l h run goes by new; some = some; distinct = distinct }, drawer_on bounds l h run b d.start i by)
 
   -- it answers once, what it knows
   pub may_answer : (t : ℕ) (o : Outcome) → drawer l t ≡ Some i → began l t ≡ true → answered l t ≡ false → MayAnswer l t o → MayRecord bounds i l (Answered t o)
   may_answer t o by begun new may h run goes =
-      let b = goes_begins i l h goes in
+      let b = extends_begins i l h goes in
       ((began_on l h b t begun, unanswered_on bounds i t l h run goes by new, may_answer_on bounds l h run b t o may), drawer_on bounds l h run b t i by)
 
   -- it may stop at any time
@@ -115,9 +115,9 @@ pub run_drawn : (bounds : List Key) (h : History) (i n : ℕ) → IsWorldRun bou
 run_drawn bounds h i n run above = (run, above)
 
 -- what may be recorded makes a world run
-pub run_recorded : (bounds : List Key) (i : ℕ) (l h : History) (e : Event) → MayRecord bounds i l e → IsWorldRun bounds h → GoesOn i l h → IsWorldRun bounds (e ∷ h)
+pub run_recorded : (bounds : List Key) (i : ℕ) (l h : History) (e : Event) → MayRecord bounds i l e → IsWorldRun bounds h → Extends i l h → IsWorldRun bounds (e ∷ h)
 run_recorded bounds i l h e may run goes = (run, (may h run goes).0)
 
 -- what may be recorded after l may be recorded after what goes on from l
-pub may_record_on : (bounds : List Key) (i : ℕ) (l m : History) (e : Event) → GoesOn i l m → MayRecord bounds i l e → MayRecord bounds i m e
-may_record_on bounds i l m e goes may h run more = may h run (goes_more i l m h goes more)
+pub may_record_on : (bounds : List Key) (i : ℕ) (l m : History) (e : Event) → Extends i l m → MayRecord bounds i l e → MayRecord bounds i m e
+may_record_on bounds i l m e goes may h run more = may h run (extends_more i l m h goes more)

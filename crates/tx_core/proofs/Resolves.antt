@@ -15,7 +15,7 @@ use Rattle.tx_plan.specs.cases.Commit.{SettlesLock}
 use Rattle.tx_plan.specs.cases.ResolveLock.{ResolvesLock, AnswersResolveLock, resolve, leaves_resolve_lock}
 use Rattle.tx_core.specs.Histories.{History, is_first, set_at, left}
 use Rattle.tx_core.specs.Decisions.{Settles, RollsBack, NoEffect, is_own, effect_of_fate, accepted, first_decided, decided}
-use Rattle.tx_core.specs.Allowed.{MayResolve}
+use Rattle.tx_core.specs.Allowed.{AllowsResolveLock}
 use Rattle.tx_core.specs.Worlds.{route}
 use Rattle.tx_core.specs.Shadow.{shadow}
 use Rattle.tx_core.proofs.Basics.{nat_test, cond_true}
@@ -105,7 +105,7 @@ module _ (bounds : List Key) (h : History) (good : Good bounds h) (b : ResolveLo
 
   -- ---- the rows
 
-  pub next_resolve : (a : Answer) → MayResolve h b → AnswersResolveLock (cells_at bounds h b.key) (left h (route bounds b.key)).collected b a → Next bounds h (took (route bounds b.key) (body.ResolveLock b) l a)
+  pub next_resolve : (a : Answer) → AllowsResolveLock h b → AnswersResolveLock (cells_at bounds h b.key) (left h (route bounds b.key)).collected b a → Next bounds h (took (route bounds b.key) (body.ResolveLock b) l a)
   next_resolve a may (inl x) = silent a (BelowSafePoint (left h (route bounds b.key)).collected) x.1 (quiet bounds h good b.key (body.ResolveLock b) l (BelowSafePoint (left h (route bounds b.key)).collected) b.start (λ c. leaves_resolve_lock c b (BelowSafePoint (left h (route bounds b.key)).collected)) (on_key (BelowSafePoint (left h (route bounds b.key)).collected)) refl (λ u n. refl) refl tt)
   next_resolve a may (inr (no0, inl (lock, own, answers))) = by_fate lock own b.fate a refl may.decision answers
   next_resolve a may (inr (no0, inr (no1, e))) =

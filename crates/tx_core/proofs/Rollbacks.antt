@@ -15,7 +15,7 @@ use Rattle.tx_plan.specs.Traces.{OwnLock, OwnCommit, roll_back}
 use Rattle.tx_plan.specs.cases.BatchRollback.{AnswersBatchRollback, leaves_batch_rollback}
 use Rattle.tx_core.specs.Histories.{History, declared, is_first, set_of, left}
 use Rattle.tx_core.specs.Decisions.{RollsBack, accepted, first_decided, decided}
-use Rattle.tx_core.specs.Allowed.{MayRollBack}
+use Rattle.tx_core.specs.Allowed.{AllowsBatchRollback}
 use Rattle.tx_core.specs.Worlds.{route}
 use Rattle.tx_core.specs.Shadow.{deciding, shadow}
 use Rattle.tx_core.proofs.Basics.{nat_test, nat_same, cond_true}
@@ -84,7 +84,7 @@ module _ (bounds : List Key) (h : History) (good : Good bounds h) (b : BatchRoll
   -- ---- what is allowed
 
   -- its transaction is declared, and its key is the primary where it is not aborted
-  module _ (may : MayRollBack h b) where
+  module _ (may : AllowsBatchRollback h b) where
     some : declared h b.start ≢ None
     some none = cc (none, may.stands)
 
@@ -118,7 +118,7 @@ module _ (bounds : List Key) (h : History) (good : Good bounds h) (b : BatchRoll
 
   -- ---- the rows
 
-  pub next_rollback : (a : Answer) → MayRollBack h b → AnswersBatchRollback (cells_at bounds h b.key) (left h (route bounds b.key)).collected b a → Next bounds h (took (route bounds b.key) (body.BatchRollback b) l a)
+  pub next_rollback : (a : Answer) → AllowsBatchRollback h b → AnswersBatchRollback (cells_at bounds h b.key) (left h (route bounds b.key)).collected b a → Next bounds h (took (route bounds b.key) (body.BatchRollback b) l a)
   next_rollback a may (inl x) = silent a (BelowSafePoint (left h (route bounds b.key)).collected) x.1 (quiet bounds h good b.key (body.BatchRollback b) l (BelowSafePoint (left h (route bounds b.key)).collected) b.start (λ c. leaves_batch_rollback c b (BelowSafePoint (left h (route bounds b.key)).collected)) (on_key (BelowSafePoint (left h (route bounds b.key)).collected)) refl (λ u n. refl) refl tt)
   next_rollback a may (inr (no0, inl (lock, own, e))) = silent a RolledBack e (locked may lock own)
   next_rollback a may (inr (no0, inr (no1, inl (c, own, e)))) = silent a (AlreadyCommitted c) e (quiet bounds h good b.key (body.BatchRollback b) l (AlreadyCommitted c) b.start (λ x. leaves_batch_rollback x b (AlreadyCommitted c)) (on_key (AlreadyCommitted c)) refl (λ u n. refl) refl (true_commit bounds h good b.key b.start c own))

@@ -15,7 +15,7 @@ use Rattle.tx_plan.specs.Traces.{OwnLock, OwnCommit, leave_rollback}
 use Rattle.tx_plan.specs.cases.CheckSecondaryLocks.{AnswersCheckSecondaryLocks, leaves_check_secondary_locks}
 use Rattle.tx_core.specs.Histories.{History, declared, set_of, set_at, left}
 use Rattle.tx_core.specs.Decisions.{RollsBack, accepted, first_decided, decided}
-use Rattle.tx_core.specs.Allowed.{MayCheckSecondary}
+use Rattle.tx_core.specs.Allowed.{AllowsCheckSecondaryLocks}
 use Rattle.tx_core.specs.Worlds.{route}
 use Rattle.tx_core.specs.Shadow.{deciding, shadow}
 use Rattle.tx_core.proofs.Basics.{nat_test, nat_same, cond_true}
@@ -84,7 +84,7 @@ module _ (bounds : List Key) (h : History) (good : Good bounds h) (b : CheckSeco
   -- ---- what is allowed
 
   -- nothing of it stands there but perhaps its rollback: it was never accepted there where it is not aborted
-  missing : MayCheckSecondary h b → (b.start < (left h (route bounds b.key)).collected → ⊥) → ((lock : Lock) → OwnLock (cells_at bounds h b.key).lock b.start lock → ⊥) → ((c : ℕ) → OwnCommit (cells_at bounds h b.key).write b.start c → ⊥) → Next bounds h (took (route bounds b.key) (body.CheckSecondaryLocks b) l Missing)
+  missing : AllowsCheckSecondaryLocks h b → (b.start < (left h (route bounds b.key)).collected → ⊥) → ((lock : Lock) → OwnLock (cells_at bounds h b.key).lock b.start lock → ⊥) → ((c : ℕ) → OwnCommit (cells_at bounds h b.key).write b.start c → ⊥) → Next bounds h (took (route bounds b.key) (body.CheckSecondaryLocks b) l Missing)
   missing may fresh unlocked uncommitted = by_state (decided h b.start) refl
     where
       never : (IsAborted (decided h) b.start → ⊥) → accepted h b.start b.key ≡ None
@@ -100,7 +100,7 @@ module _ (bounds : List Key) (h : History) (good : Good bounds h) (b : CheckSeco
 
   -- ---- the rows
 
-  pub next_check_secondary : (a : Answer) → MayCheckSecondary h b → AnswersCheckSecondaryLocks (cells_at bounds h b.key) (left h (route bounds b.key)).collected b a → Next bounds h (took (route bounds b.key) (body.CheckSecondaryLocks b) l a)
+  pub next_check_secondary : (a : Answer) → AllowsCheckSecondaryLocks h b → AnswersCheckSecondaryLocks (cells_at bounds h b.key) (left h (route bounds b.key)).collected b a → Next bounds h (took (route bounds b.key) (body.CheckSecondaryLocks b) l a)
   next_check_secondary a may (inl x) = silent a (BelowSafePoint (left h (route bounds b.key)).collected) x.1 (quiet bounds h good b.key (body.CheckSecondaryLocks b) l (BelowSafePoint (left h (route bounds b.key)).collected) b.start (λ c. leaves_check_secondary_locks c b (BelowSafePoint (left h (route bounds b.key)).collected)) (on_key (BelowSafePoint (left h (route bounds b.key)).collected)) refl (λ u n. refl) refl tt)
   next_check_secondary a may (inr (no0, inl (lock, own, e))) = silent a (Locked (info_of b.key lock)) e (quiet bounds h good b.key (body.CheckSecondaryLocks b) l (Locked (info_of b.key lock)) b.start (λ c. leaves_check_secondary_locks c b (Locked (info_of b.key lock))) (on_key (Locked (info_of b.key lock))) refl (λ u n. refl) refl tt)
   next_check_secondary a may (inr (no0, inr (no1, inl (c, own, e)))) = silent a (Committed c) e (quiet bounds h good b.key (body.CheckSecondaryLocks b) l (Committed c) b.start (λ x. leaves_check_secondary_locks x b (Committed c)) (on_key (Committed c)) refl (λ u n. refl) refl (true_commit bounds h good b.key b.start c own))

@@ -23,7 +23,7 @@ use Rattle.tx_core.specs.declared.event.Event.{Event}
 use Rattle.tx_core.specs.declared.event.Event.TheVariants.{Drawn, Began, Declared, Answered, Stopped, Took}
 use Rattle.tx_core.specs.Histories.{History, last, declared, set_of, set_at, is_first, left}
 use Rattle.tx_core.specs.Decisions.{Puts, NoEffect, is_own, effect, effect_in, infos_in, accepted, Shows as HasShown}
-use Rattle.tx_core.specs.Allowed.{Allowed, MayCheckStatus}
+use Rattle.tx_core.specs.Allowed.{Allowed, AllowsCheckTxnStatus}
 use Rattle.tx_core.specs.Worlds.{route, Holds, MayTake, MayCome}
 use Rattle.tx_core.proofs.Basics.{nat_test, cond_true}
 use Rattle.tx_core.proofs.View.{never_accepted}
@@ -100,7 +100,7 @@ module _ (bounds : List Key) (h : History) (good : Good bounds h) (before : Told
   shows_by : (n : ℕ) (x : Body) (l : ℕ) (a : Answer) → Rises n x l a → AllShown bounds h good before a → Shows n x l a
   shows_by n x l a rises tells = record { rises = rises; tells = λ info c. (let was = tells info c in (was.0, λ first. omega (arith, was.1 first, rises info.start))) }
 
-  module _ (b : CheckTxnStatus) (l : ℕ) (may : MayCheckStatus h b) where
+  module _ (b : CheckTxnStatus) (l : ℕ) (may : AllowsCheckTxnStatus h b) where
     abbrev there : ℕ
     there = route bounds b.key
 

@@ -26,7 +26,7 @@ use Rattle.tx_core.proofs.Locking.{locking, MayLock, inv_lock}
 use Rattle.tx_core.proofs.HeartBeat.{lengthening, inv_lengthen}
 use Rattle.tx_core.proofs.Settling.{settling, inv_settle}
 use Rattle.tx_core.proofs.RollingBack.{rolling_back, leaving_rollback, resolving_back, inv_roll_back, inv_leave_rollback, inv_resolve_back}
-use Rattle.tx_core.proofs.Deciding.{deciding, MayDecide, inv_decide}
+use Rattle.tx_core.proofs.Deciding.{deciding, CanDecide, inv_decide}
 use Rattle.tx_core.proofs.Aborting.{aborting, inv_abort}
 use Rattle.tx_core.proofs.Pushing.{pushing, inv_push}
 use Rattle.tx_core.proofs.Collecting.{collecting, inv_collect}
@@ -124,7 +124,7 @@ sound_scan steps w scan s upto here free rows =
     }
 
 -- a commit
-pub sound_decide : (steps : List Step) (w : View) (t c : ℕ) → Sound steps w → MayDecide w t c → Sound (step.Commit t c ∷ steps) (deciding w t c)
+pub sound_decide : (steps : List Step) (w : View) (t c : ℕ) → Sound steps w → CanDecide w t c → Sound (step.Commit t c ∷ steps) (deciding w t c)
 sound_decide steps w t c s may =
     let of = some_of (w.declared t) may.declared in
     record {

@@ -16,7 +16,7 @@ use Rattle.tx_plan.specs.Traces.{OwnLock, OwnCommit, OwnRollback, roll_back}
 use Rattle.tx_plan.specs.cases.CheckTxnStatus.{AnswersCheckTxnStatus, ChecksLock, with_minimum, leaves_check_txn_status}
 use Rattle.tx_core.specs.Histories.{History, declared, is_first, set_of, left}
 use Rattle.tx_core.specs.Decisions.{RollsBack, NoEffect, accepted, first_decided, decided}
-use Rattle.tx_core.specs.Allowed.{MayCheckStatus}
+use Rattle.tx_core.specs.Allowed.{AllowsCheckTxnStatus}
 use Rattle.tx_core.specs.Worlds.{route}
 use Rattle.tx_core.specs.Shadow.{deciding, shadow}
 use Rattle.tx_core.proofs.Basics.{nat_test, nat_same, cond_true}
@@ -100,7 +100,7 @@ module _ (bounds : List Key) (h : History) (good : Good bounds h) (b : CheckTxnS
 
   -- ---- what is allowed
 
-  module _ (may : MayCheckStatus h b) where
+  module _ (may : AllowsCheckTxnStatus h b) where
     some : declared h b.start ≢ None
     some none = cc (none, may.stands)
 
@@ -167,7 +167,7 @@ module _ (bounds : List Key) (h : History) (good : Good bounds h) (b : CheckTxnS
 
   -- ---- the rows
 
-  pub next_check_status : (a : Answer) → MayCheckStatus h b → AnswersCheckTxnStatus (cells_at bounds h b.key) (left h (route bounds b.key)).collected l b a → Next bounds h (took (route bounds b.key) (body.CheckTxnStatus b) l a)
+  pub next_check_status : (a : Answer) → AllowsCheckTxnStatus h b → AnswersCheckTxnStatus (cells_at bounds h b.key) (left h (route bounds b.key)).collected l b a → Next bounds h (took (route bounds b.key) (body.CheckTxnStatus b) l a)
   next_check_status a may (inl x) = silent a (BelowSafePoint (left h (route bounds b.key)).collected) x.1 (quiet bounds h good b.key (body.CheckTxnStatus b) l (BelowSafePoint (left h (route bounds b.key)).collected) b.start (λ c. leaves_check_txn_status c b (BelowSafePoint (left h (route bounds b.key)).collected)) (on_key (BelowSafePoint (left h (route bounds b.key)).collected)) refl (λ u n. refl) refl tt)
   next_check_status a may (inr (no0, inl x)) = silent a (FutureTimestamp l) x.1 (quiet bounds h good b.key (body.CheckTxnStatus b) l (FutureTimestamp l) b.start (λ c. leaves_check_txn_status c b (FutureTimestamp l)) (on_key (FutureTimestamp l)) refl (λ u n. refl) refl tt)
   next_check_status a may (inr (no0, inr (no1, inl (lock, own, x)))) = checks may lock own a x

@@ -6,7 +6,8 @@ use Rattle.tx_plan.specs.declared.body.Body.{Body}
 use Rattle.tx_core.specs.declared.event.Declaration.{Declaration}
 use Rattle.tx_core.specs.declared.event.Event.{Event}
 use Rattle.tx_core.specs.declared.event.Event.TheVariants.{Drawn, Began, Declared, Answered, Stopped, Took}
-use Rattle.tx_core.specs.Histories.{History, last, drawer, began, declared, answered, set_of, set_at, Among, WasLast, Begins, owner}
+use Rattle.tx_core.specs.Histories.{History, last, drawer, began, declared, answered, set_of, set_at, Among, WasLast, Begins}
+use Rattle.tx_core.specs.Recording.{owner}
 use Rattle.tx_core.specs.Decisions.{Acceptance, Effect, Puts, Settles, RollsBack, NoEffect, accepted_by, accepted, effect_in}
 use Rattle.tx_core.specs.Allowed.{Allowed}
 use Rattle.tx_core.specs.Worlds.{MayCome, IsWorldRun, WasTold}

@@ -19,7 +19,7 @@ use Rattle.tx_machine.specs.Machine.{Row, Table, Commits, Newest, NoneBetween, S
 use Rattle.tx_plan.specs.Reads.{NoneWritten, Finds, Reads}
 use Rattle.tx_core.specs.Truth.{HasEnded}
 use Rattle.tx_core.proofs.Reading.{Unblocked}
-use Rattle.tx_core.proofs.Deciding.{MayDecide}
+use Rattle.tx_core.proofs.Deciding.{CanDecide}
 
 -- the write set of a declaration
 abbrev pub changes_of : Option Declaration → Option (List Change)
@@ -81,7 +81,7 @@ has_ended table w t e i s end =
     (Some of.0.changes, s.row t ∙ row_declared w t of.0 i of.1 ∙ ap (λ x. Some record { changes = Some of.0.changes; state = x }) end)
 
 -- the machine may commit what the view may decide
-pub may_commit : (table : Table) (w : View) (t c : ℕ) → Inv w → Shows table w → MayDecide w t c → MayCommit table t c
+pub may_commit : (table : Table) (w : View) (t c : ℕ) → Inv w → Shows table w → CanDecide w t c → MayCommit table t c
 may_commit table w t c i s may =
     let of = some_of (w.declared t) may.declared in
     let does_to : (k : Key) (m : Mutation) → mutation_at of.0.changes k ≡ Some m → Does w.declared t k m = λ k m e. ap (λ x. mutation_at (set_of x) k) of.1 ∙ e in

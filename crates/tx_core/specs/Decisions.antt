@@ -20,8 +20,8 @@ use Rattle.tx_core.specs.Histories.{History, last, set_at, is_first, left, Among
 
 -- ---- what an event does
 
--- what an answer did for a transaction on a key: its lock was put there, the lock of the transaction that started at t was settled
--- there at c, a rollback was left for it, or none of these
+-- What an answer did to the cells, beyond what it said. A repeated answer says the same and does nothing, so acceptances and decisions
+-- are read off what was done: a lock put, the lock of the transaction that started at t settled at c, a rollback left for it, or none.
 pub data Effect : Type 0 where
   Puts : (key : Key) (lock : Lock) → Effect
   Settles : (key : Key) (t c : ℕ) → Effect

@@ -1,13 +1,13 @@
 -- What stands in a history: a list of events, newest first, so that `e ∷ h` is the history h and then e. A beginning of a history
 -- is a tail of it.
-use Rattle.std.specs.Prelude.{◌≡◌, ◌≢◌, ◌⊎◌, ℕ, ◌==◌, Bool, true, false, cond, List, [], ◌∷◌, Option, Some, None, bytes_eq}
+use Rattle.std.specs.Prelude.{◌≡◌, ◌⊎◌, ℕ, ◌==◌, Bool, true, false, cond, List, [], ◌∷◌, Option, Some, None, bytes_eq}
 use Rattle.tx_types.specs.declared.key.Key.{Key}
 use Rattle.tx_types.specs.declared.mutation.Change.{Change}
 use Rattle.tx_plan.specs.Cells.{Region, new_region}
 use Rattle.tx_plan.specs.Answers.{leaves}
 use Rattle.tx_core.specs.declared.event.Declaration.{Declaration}
 use Rattle.tx_core.specs.declared.event.Event.{Event}
-use Rattle.tx_core.specs.declared.event.Event.TheVariants.{Drawn, Began, Declared, Answered, Stopped, Took}
+use Rattle.tx_core.specs.declared.event.Event.TheVariants.{Drawn, Began, Declared, Answered, Took}
 
 abbrev pub History : Type 0
 History = List Event
@@ -82,17 +82,3 @@ Begins l (e ∷ h) = (l ≡ e ∷ h) ⊎ Begins l h
 -- l was the last number drawn at some beginning
 abbrev pub WasLast : History → ℕ → Type 0
 WasLast h l = (b : History) × Begins b h × (l ≡ last b)
-
--- the seat that makes an event after a history: who drew the start, for a transaction's events, and the region's, for what it takes
-abbrev pub owner : History → Event → Option ℕ
-owner h (Drawn seat n) = Some seat
-owner h (Began t) = drawer h t
-owner h (Declared d) = drawer h d.start
-owner h (Answered t outcome) = drawer h t
-owner h (Stopped seat) = Some seat
-owner h (Took x) = Some x.region
-
--- one history goes on from another, with no more events of a seat
-abbrev pub GoesOn : ℕ → History → History → Type 0
-GoesOn seat l [] = l ≡ []
-GoesOn seat l (e ∷ h) = (l ≡ e ∷ h) ⊎ (GoesOn seat l h × (owner h e ≢ Some seat))

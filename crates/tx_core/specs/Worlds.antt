@@ -74,7 +74,8 @@ pub record MayTake (bounds : List Key) (h : History) (x : Taken) : Type 0 where
   pub answers : Answers (left h x.region) x.loaded (last h) x.body x.answer
 
 -- What may come after a history, over regions with these bounds. A draw gives a number above the last; a transaction begins once, at
--- a number that was drawn; it declares once and its session answers once, after it began.
+-- a number that was drawn; it declares once and its session answers once, after it began. These events name no seat: they are those of
+-- the seat that drew the start (`owner`), which alone may record them (`MayRecord`); what a region takes is its own seat's.
 abbrev pub MayCome : List Key → History → Event → Type 0
 MayCome bounds h (Drawn seat n) = last h < n
 MayCome bounds h (Began t) = (drawer h t ≢ None) × (began h t ≡ false)

@@ -8,8 +8,6 @@ mod event;
 mod headline;
 mod laws;
 mod seat_no;
-#[cfg(test)]
-mod tests;
 
 pub use answers::one_answer;
 pub use event::{Declaration, Event, Outcome, Taken, UnknownCause};

@@ -12,7 +12,7 @@ use Rattle.tx_core.specs.Histories.{History, last, left, drawer}
 use Rattle.tx_core.specs.Allowed.{Allowed}
 use Rattle.tx_core.specs.Worlds.{Holds, IsWorldRun}
 use Rattle.tx_core.proofs.Basics.{some_same, is_some as something}
-use Rattle.tx_core.proofs.Beginnings.{goes_all, goes_next, begins_all}
+use Rattle.tx_core.proofs.Beginnings.{extends_all, extends_next, begins_all}
 use Rattle.tx_core.proofs.Staying.{drawer_new, began_drawn}
 use Rattle.tx_client.specs.declared.state.Phase.{Phase}
 use Rattle.tx_client.specs.declared.state.Phase.TheVariants as phase
@@ -44,7 +44,7 @@ keeps_either false x y f g = g refl
 began_ok : (scene : Scene) → IsScene scene → (name : List ℕ) → IsScene (began scene name)
 began_ok scene ok name =
     changed scene ok name (Some (begun i t)) now (scene.live + 1) i run (omega arith)
-    (λ q r other e. goes_next r.seat h (Drawn i t ∷ h) (Began t) (goes_next r.seat h h (Drawn i t) (goes_all r.seat h) (λ same. above q r e (some_same i r.seat same))) (λ same. above q r e (some_same i r.seat (sym (drawer_new i t h) ∙ same))))
+    (λ q r other e. extends_next r.seat h (Drawn i t ∷ h) (Began t) (extends_next r.seat h h (Drawn i t) (extends_all r.seat h) (λ same. above q r e (some_same i r.seat same))) (λ same. above q r e (some_same i r.seat (sym (drawer_new i t h) ∙ same))))
     (λ s e. subst (Fits scene now i name) (some_same (begun i t) s e) (record { holds = begun_ok [] (Drawn i t ∷ h) i t drawn (drawer_new i t h) (began_drawn [] i t h drawn); seated = (omega arith, omega arith); alone = λ q r other e. above q r e }))
   where
     h : History
