@@ -10,7 +10,7 @@ use Rattle.tx_core.specs.Decisions.{decided}
 use Rattle.tx_core.specs.Allowed.{Allowed}
 use Rattle.tx_core.specs.Worlds.{IsWorldRun}
 use Rattle.tx_core.proofs.Basics.{some_same}
-use Rattle.tx_core.proofs.Consequences.{told_fate, decided_declared}
+use Rattle.tx_core.proofs.runs.Consequences.{told_fate, decided_declared}
 use Rattle.tx_client.specs.declared.state.Phase.{Phase}
 use Rattle.tx_client.specs.declared.state.Phase.TheVariants as phase
 use Rattle.tx_client.specs.Buffers.{Entries, first_place}

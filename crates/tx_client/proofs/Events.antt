@@ -15,9 +15,9 @@ use Rattle.tx_core.specs.Histories.{History, drawer, began, declared, set_of, Be
 use Rattle.tx_core.specs.Decisions.{accepted}
 use Rattle.tx_core.specs.Worlds.{MayAnswer, MayCome, WasTold, IsWorldRun}
 use Rattle.tx_core.proofs.Basics.{nat_same, key_same, key_test, some_of, is_some}
-use Rattle.tx_core.proofs.Beginnings.{begins_all}
-use Rattle.tx_core.proofs.Staying.{drawer_on, drawer_new, began_new, told_on}
-use Rattle.tx_core.proofs.Consequences.{undeclared, unanswered, accepted_upto, accepted_two_phase}
+use Rattle.tx_core.proofs.seats.Beginnings.{begins_all}
+use Rattle.tx_core.proofs.seats.Staying.{drawer_on, drawer_new, began_new, told_on}
+use Rattle.tx_core.proofs.runs.Consequences.{undeclared, unanswered, accepted_upto, accepted_two_phase}
 use Rattle.tx_client.specs.declared.state.Phase.TheVariants as phase
 use Rattle.tx_client.specs.Buffers.{Entries, fresh, touched, not_empty, changes_of, place_from, first_place}
 use Rattle.tx_client.specs.Sessions.{State, begun, with_buffer, with_declared, with_drawn, is_declared, has_primary, declaration_of, declaration, is_none_place, is_open, can_draw, outcome_of, unknown_by, undecided, finish_by, finish_of}

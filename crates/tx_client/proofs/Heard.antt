@@ -11,8 +11,8 @@ use Rattle.tx_core.specs.declared.event.Event.TheVariants.{Took}
 use Rattle.tx_core.specs.Histories.{History, Begins}
 use Rattle.tx_core.specs.Decisions.{accepted, fate_in}
 use Rattle.tx_core.specs.Worlds.{route, Holds, WasTold, IsWorldRun}
-use Rattle.tx_core.proofs.Staying.{among_on}
-use Rattle.tx_core.proofs.Consequences.{prewritten_accepted}
+use Rattle.tx_core.proofs.seats.Staying.{among_on}
+use Rattle.tx_core.proofs.runs.Consequences.{prewritten_accepted}
 use Rattle.tx_client.specs.declared.state.Phase.{Phase}
 use Rattle.tx_client.specs.declared.state.Phase.TheVariants as phase
 use Rattle.tx_client.specs.declared.state.Progress.{Progress}

@@ -10,10 +10,10 @@ use Rattle.tx_core.specs.Decisions.{accepted, AllAccepted, HasTwoPhaseLock}
 use Rattle.tx_core.specs.Allowed.{DrewAfterAll}
 use Rattle.tx_core.specs.Worlds.{WasTold, IsWorldRun}
 use Rattle.tx_core.proofs.Basics.{some_of, is_some}
-use Rattle.tx_core.proofs.Beginnings.{extends_begins}
-use Rattle.tx_core.proofs.Staying.{drawer_on, began_on, declared_on, accepted_on, told_on}
-use Rattle.tx_core.proofs.StaysDecided.{two_phase_on, all_accepted_on, drew_on}
-use Rattle.tx_core.proofs.Recording.{undeclared_on, unanswered_on}
+use Rattle.tx_core.proofs.seats.Beginnings.{extends_begins}
+use Rattle.tx_core.proofs.seats.Staying.{drawer_on, began_on, declared_on, accepted_on, told_on}
+use Rattle.tx_core.proofs.seats.StaysDecided.{two_phase_on, all_accepted_on, drew_on}
+use Rattle.tx_core.proofs.seats.Recording.{undeclared_on, unanswered_on}
 use Rattle.tx_client.specs.Buffers.{Entries, changes_of}
 use Rattle.tx_client.specs.Sessions.{State, declaration}
 

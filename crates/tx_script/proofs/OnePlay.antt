@@ -3,7 +3,7 @@ use Rattle.std.proofs.Common.{◌≡◌, ℕ, ◌+◌, Bool, List, [], ◌∷◌
 use Rattle.serde_json.specs.Data.{Items}
 use Rattle.tx_types.specs.declared.fault.Cause.{Cause}
 use Rattle.tx_core.specs.Histories.{last}
-use Rattle.tx_core.proofs.OneAnswer.{one_answer}
+use Rattle.tx_core.proofs.unique.OneAnswer.{one_answer}
 use Rattle.tx_script.specs.Scenes.{Scene, opening, Turn, goes, asks, stops}
 use Rattle.tx_script.specs.Play.{line_turn, Leads, Played, before, Plays}
 use Rattle.tx_script.proofs.AllLead.{AllLead}

@@ -13,9 +13,9 @@ use Rattle.tx_core.specs.Recording.{owner, Extends}
 use Rattle.tx_core.specs.Allowed.{Allowed}
 use Rattle.tx_core.specs.Worlds.{Holds, MayCome, IsWorldRun}
 use Rattle.tx_core.proofs.Basics.{key_test, some_same}
-use Rattle.tx_core.proofs.Beginnings.{extends_all, extends_next}
-use Rattle.tx_core.proofs.Staying.{last_was}
-use Rattle.tx_core.proofs.Numbers.{left_upto}
+use Rattle.tx_core.proofs.seats.Beginnings.{extends_all, extends_next}
+use Rattle.tx_core.proofs.seats.Staying.{last_was}
+use Rattle.tx_core.proofs.seats.Numbers.{left_upto}
 use Rattle.tx_client.specs.Sessions.{State}
 use Rattle.tx_client.proofs.Sessions.{IsSession, others_act}
 use Rattle.tx_script.specs.Scenes.{Scene, opening, took, with_session}

@@ -12,8 +12,8 @@ use Rattle.tx_core.specs.Histories.{History, last, left, drawer}
 use Rattle.tx_core.specs.Allowed.{Allowed}
 use Rattle.tx_core.specs.Worlds.{Holds, IsWorldRun}
 use Rattle.tx_core.proofs.Basics.{some_same, is_some as something}
-use Rattle.tx_core.proofs.Beginnings.{extends_all, extends_next, begins_all}
-use Rattle.tx_core.proofs.Staying.{drawer_new, began_drawn}
+use Rattle.tx_core.proofs.seats.Beginnings.{extends_all, extends_next, begins_all}
+use Rattle.tx_core.proofs.seats.Staying.{drawer_new, began_drawn}
 use Rattle.tx_client.specs.declared.state.Phase.{Phase}
 use Rattle.tx_client.specs.declared.state.Phase.TheVariants as phase
 use Rattle.tx_client.specs.Buffers.{touched, buffered}

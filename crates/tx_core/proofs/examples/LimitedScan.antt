@@ -23,7 +23,7 @@ use Rattle.tx_core.specs.Decisions.{Acceptance, accepted}
 use Rattle.tx_core.specs.Worlds.{IsWorldRun, MayTake}
 use Rattle.tx_core.specs.Shadow.{shadow, scan_read}
 use Rattle.tx_core.proofs.Basics.{key_test, key_true, chosen}
-use Rattle.tx_core.proofs.Staying.{last_was}
+use Rattle.tx_core.proofs.seats.Staying.{last_was}
 use Rattle.tx_core.proofs.examples.Words.{a, b, x, none, unrolled}
 
 abbrev two_keys : Declaration

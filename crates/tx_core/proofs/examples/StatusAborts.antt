@@ -16,7 +16,7 @@ use Rattle.tx_core.specs.Histories.{History}
 use Rattle.tx_core.specs.Decisions.{decided}
 use Rattle.tx_core.specs.Worlds.{IsWorldRun, MayTake}
 use Rattle.tx_core.specs.Shadow.{shadow}
-use Rattle.tx_core.proofs.Staying.{last_was}
+use Rattle.tx_core.proofs.seats.Staying.{last_was}
 use Rattle.tx_core.proofs.examples.Words.{a, x, unrolled}
 
 abbrev put : Declaration

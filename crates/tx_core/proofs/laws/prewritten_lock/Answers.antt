@@ -1,4 +1,4 @@
-use Rattle.tx_core.proofs.AllAsync.{prewritten_lock}
+use Rattle.tx_core.proofs.locks.AllAsync.{prewritten_lock}
 use Rattle.tx_core.proofs.laws.prewritten_lock.Goals as goal
 
 pub returns : goal.returns

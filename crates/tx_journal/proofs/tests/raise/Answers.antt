@@ -6,9 +6,9 @@ use Rattle.tx_plan.specs.declared.answer.Answer.TheVariants.{Raised}
 use Rattle.tx_core.specs.declared.event.Event.TheVariants.{Took}
 use Rattle.tx_core.specs.Histories.{History, last, WasLast, Begins}
 use Rattle.tx_core.specs.Recording.{Extends, MayRecord}
-use Rattle.tx_core.proofs.Answering.{left_on}
-use Rattle.tx_core.proofs.Recording.{may_take}
-use Rattle.tx_core.proofs.Staying.{last_was}
+use Rattle.tx_core.proofs.seats.Answering.{left_on}
+use Rattle.tx_core.proofs.seats.Recording.{may_take}
+use Rattle.tx_core.proofs.seats.Staying.{last_was}
 use Rattle.tx_journal.specs.Known.{HasSeen, HasRecorded}
 use Rattle.tx_journal.proofs.Calls.{seen_more}
 use Rattle.tx_journal.proofs.Replying.{tells_of, given_of}
