@@ -3,11 +3,13 @@
 //! words.
 #![tactic(auto)]
 
+mod answers;
 mod event;
 mod headline;
 mod laws;
 mod seat_no;
 
+pub use answers::one_answer;
 pub use event::{Declaration, Event, Outcome, Taken, UnknownCause};
 pub use headline::every_run;
 pub use laws::{allowed_stays, decided_async, parts_make_the_whole, prewritten_lock, told_lock};
