@@ -38,41 +38,31 @@ module _ (w : View) (t : ℕ) (i : Inv w) (opened : w.decided t ≡ Open) (some 
   pub inv_abort : Inv (aborting w t)
   inv_abort =
       record {
-        drawn = i.drawn;
-        begun = i.begun;
-        declares = i.declares;
-        decides = λ q e. elim (nat_test t q) [ inl x ↦ subst (λ n. w.declared n ≢ None) x.1 some | inr x ↦ i.decides q (λ y. e (cond_false (t == q) (Done Aborted) (w.decided q) x.0 ∙ y)) ];
-        reads = i.reads;
-        reads_floor = i.reads_floor;
-        collected_safe = i.collected_safe;
-        accepted_does = i.accepted_does;
-        accepted_above = i.accepted_above;
-        accepted_bound = i.accepted_bound;
-        accepted_upto = i.accepted_upto;
-        accepted_at = i.accepted_at;
-        accepted_mode = i.accepted_mode;
-        lock_accepted = i.lock_accepted;
-        lock_does = i.lock_does;
-        lock_mode = i.lock_mode;
-        lock_min = i.lock_min;
-        lock_shown = i.lock_shown;
-        lock_above = λ k lock e u d m end. i.lock_above k lock e u d m (was_committed u d end);
-        lock_unwritten = i.lock_unwritten;
-        lock_fresh = i.lock_fresh;
-        records = λ k d rec e. still_ended rec.start (Committed d) (i.records k d rec e);
-        records_does = i.records_does;
-        rollbacks = λ k q e. still_ended q Aborted (i.rollbacks k q e);
-        range = λ q d e. i.range q d (was_committed q d e);
-        committed_accepted = λ q d e. i.committed_accepted q d (was_committed q d e);
-        committed_bound = λ q d e. i.committed_bound q d (was_committed q d e);
-        committed_shown = λ q d e. i.committed_shown q d (was_committed q d e);
-        complete = λ k u d m end does.
-            elim (i.complete k u d m (was_committed u d end) does) [ inl y ↦ inl y | inr rest ↦ elim rest [ inl y ↦ inr (inl y) | inr y ↦ inr (inr (gone_by w.decided (aborting w t).decided w.declared w.declared k d (w.collected k) (w.collected k) m (λ q at e. still_ended q (Committed at) e) (λ q n does. does) (omega arith) y)) ] ];
-        held = λ k q e o. i.held k q e (was_open q o);
-        cleared = λ k q e o. elim (was_ended q (Done Aborted) o) [ inl x ↦ inl (subst (Held (w.cells k)) x.0 (i.held k t (λ none. e (ap (λ n. w.accepted n k) (sym x.0) ∙ none)) opened)) | inr x ↦ i.cleared k q e x ];
-        kept_newest = λ k q rec e v low u d m end. i.kept_newest k q rec e v low u d m (was_committed u d end);
+        clock = record {
+          drawn = i.clock.drawn;
+          begun = i.clock.begun;
+          declares = i.clock.declares;
+          decides = λ q e. elim (nat_test t q) [ inl x ↦ subst (λ n. w.declared n ≢ None) x.1 some | inr x ↦ i.clock.decides q (λ y. e (cond_false (t == q) (Done Aborted) (w.decided q) x.0 ∙ y)) ];
+        };
+        marks = i.marks;
+        acceptances = i.acceptances;
+        keys = λ k. record {
+          lock = (i.keys k).lock;
+          alone = λ lock e. (let old = (i.keys k).alone lock e in record { above = λ u d m end. old.above u d m (was_committed u d end); unwritten = old.unwritten; fresh = old.fresh });
+          records = record {
+            committed = λ d rec e. still_ended rec.start (Committed d) ((i.keys k).records.committed d rec e);
+            does = (i.keys k).records.does;
+            rolled = λ q e. still_ended q Aborted ((i.keys k).records.rolled q e);
+            newest = λ q rec e v low u d m end. (i.keys k).records.newest q rec e v low u d m (was_committed u d end);
+          };
+          kept = record {
+            complete = λ u d m end does.
+                elim ((i.keys k).kept.complete u d m (was_committed u d end) does) [ inl y ↦ inl y | inr rest ↦ elim rest [ inl y ↦ inr (inl y) | inr y ↦ inr (inr (gone_by w.decided (aborting w t).decided w.declared w.declared k d (w.collected k) (w.collected k) m (λ q at e. still_ended q (Committed at) e) (λ q n does. does) (omega arith) y)) ] ];
+            held = λ q e o. (i.keys k).kept.held q e (was_open q o);
+            cleared = λ q e o. elim (was_ended q (Done Aborted) o) [ inl x ↦ inl (subst (Held (w.cells k)) x.0 ((i.keys k).kept.held t (λ none. e (ap (λ n. w.accepted n k) (sym x.0) ∙ none)) opened)) | inr x ↦ (i.keys k).kept.cleared q e x ];
+          };
+        };
+        commits = λ q d e. i.commits q d (was_committed q d e);
         unread = λ q k by e o. i.unread q k by e (was_open q o);
-        shown_undeclared = i.shown_undeclared;
-        shown_none = i.shown_none;
-        shown_first = i.shown_first;
+        shown = i.shown;
       }

@@ -114,11 +114,11 @@ ends_aborted w k t new i ends o some stood stays now =
 -- its primary is rolled back, with the lock: some key is accepted two-phase
 pub ends_abort_first : (w : View) (k : Key) (t : ℕ) (lock : Lock) → Inv w → Ends w → w.decided t ≡ Open → FellBack w.accepted t → IsPrimary w.declared t k → OwnLock (w.cells k).lock t lock → Ends (rolling_back (aborting w t) k t)
 ends_abort_first w k t lock i ends o fell first own =
-    ends_aborted w k t (roll_back (w.cells k) t) i ends o (does_declared w.declared t fell.key fell.by.lock.mutation (i.accepted_does t fell.key fell.by fell.stands)) (λ old e. (was_locked (w.cells k).lock t old e).0) (λ u back. kept_rolled (w.cells k) t u (without_own (w.cells k).lock t) back) (inr (record {
+    ends_aborted w k t (roll_back (w.cells k) t) i ends o (does_declared w.declared t fell.key fell.by.lock.mutation (i.acceptances t fell.key fell.by fell.stands).does) (λ old e. (was_locked (w.cells k).lock t old e).0) (λ u back. kept_rolled (w.cells k) t u (without_own (w.cells k).lock t) back) (inr (record {
       fell = fell;
       key = k;
       primary = first;
-      was = λ none. i.lock_accepted k lock own.stands (ap (λ n. w.accepted n k) own.own ∙ none);
+      was = λ none. ((i.keys k).lock lock own.stands).accepts (ap (λ n. w.accepted n k) own.own ∙ none);
       cleared = λ old at. at_cells w k k (roll_back (w.cells k) t) (λ q cells. k ≡ q → cells.lock ≡ Some old → ⊥) (λ same e. (was_locked (w.cells k).lock t old e).1 at.own) (λ apart same e. apart same) refl at.stands;
     }))
 

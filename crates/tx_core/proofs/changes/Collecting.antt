@@ -123,13 +123,13 @@ module _ (w : View) (within : Key → Bool) (safe : ℕ) where
     dropped q u d m does x e =
         let parts = or_false (not (nat_lt d safe)) (commit_is is_put ((w.cells q).write d) && none_above (w.cells q).write d (safe - d)) e in
         let below = dropped_below q d e in
-        let same : x.rec.mutation ≡ m = one_does w.declared x.rec.start u q x.rec.mutation m x.own (i.records_does q d x.rec x.stands) does in
+        let same : x.rec.mutation ≡ m = one_does w.declared x.rec.start u q x.rec.mutation m x.own ((i.keys q).records.does d x.rec x.stands) does in
         record {
           below = below;
           way = elim (and_cases (commit_is is_put ((w.cells q).write d)) (none_above (w.cells q).write d (safe - d)) parts.1) [
             | inl y ↦ inl (λ v is. (cc (ap (commit_is is_put) x.stands, y, ap is_put (same ∙ is))))
             | inr y ↦ (let later = some_in (w.cells q).write d (safe - d) y in let found = seen_record ((w.cells q).write later.at) later.sees in
-                inr (record { start = found.0.start; at = later.at; mutation = found.0.mutation; committed = i.records q later.at found.0 found.1; does = i.records_does q later.at found.0 found.1; visible = found.2; above = later.above; upto = omega (arith, later.upto, below) }))
+                inr (record { start = found.0.start; at = later.at; mutation = found.0.mutation; committed = (i.keys q).records.committed later.at found.0 found.1; does = (i.keys q).records.does later.at found.0 found.1; visible = found.2; above = later.above; upto = omega (arith, later.upto, below) }))
           ];
         }
 
@@ -138,12 +138,12 @@ module _ (w : View) (within : Key → Bool) (safe : ℕ) where
     newest_kept q e rec inside x v keep low u d m end does seen above upto =
         elim (or_cases (not (nat_lt e safe)) (commit_is is_put ((w.cells q).write e) && none_above (w.cells q).write e (safe - e)) keep) [
           | inl y ↦ (cc (not-true (nat_lt e safe) y, lt-ltb e safe low))
-          | inr y ↦ (let none = (and_parts (commit_is is_put ((w.cells q).write e)) (none_above (w.cells q).write e (safe - e)) y).1 in elim (i.complete q u d m end does) [
-            | inl z ↦ (let same : z.rec.mutation ≡ m = one_does w.declared z.rec.start u q z.rec.mutation m z.own (i.records_does q d z.rec z.stands) does in
+          | inr y ↦ (let none = (and_parts (commit_is is_put ((w.cells q).write e)) (none_above (w.cells q).write e (safe - e)) y).1 in elim ((i.keys q).kept.complete u d m end does) [
+            | inl z ↦ (let same : z.rec.mutation ≡ m = one_does w.declared z.rec.start u q z.rec.mutation m z.own ((i.keys q).records.does d z.rec z.stands) does in
                 cc (none_in (w.cells q).write e (safe - e) d none above (omega (arith, upto, low)), ap (commit_is is_visible) z.stands, ap is_visible same, record_seen m seen))
             | inr rest ↦ elim rest [
-              | inl z ↦ omega (arith, free q z.lock inside z.stands, z.own, (i.range u d end).0, upto)
-              | inr gone ↦ i.kept_newest q e rec x v (omega (arith, gone.below, above)) u d m end does seen above (omega (arith, gone.below))
+              | inl z ↦ omega (arith, free q z.lock inside z.stands, z.own, (i.commits u d end).range.0, upto)
+              | inr gone ↦ (i.keys q).records.newest e rec x v (omega (arith, gone.below, above)) u d m end does seen above (omega (arith, gone.below))
             ]
           ])
         ]
@@ -152,61 +152,50 @@ module _ (w : View) (within : Key → Bool) (safe : ℕ) where
     pub inv_collect : Inv (collecting w within safe)
     inv_collect =
         record {
-          drawn = i.drawn;
-          begun = i.begun;
-          declares = i.declares;
-          decides = i.decides;
-          reads = i.reads;
-          reads_floor = i.reads_floor;
-          collected_safe = λ q. elim (cases_Bool (within q)) [ inl x ↦ omega (arith, (more q x).1, now_collected q x) | inr x ↦ omega (arith, i.collected_safe q, cond_false (within q) safe (w.collected q) x) ];
-          accepted_does = i.accepted_does;
-          accepted_above = i.accepted_above;
-          accepted_bound = i.accepted_bound;
-          accepted_upto = i.accepted_upto;
-          accepted_at = i.accepted_at;
-          accepted_mode = i.accepted_mode;
-          lock_accepted = λ q old e. i.lock_accepted q old (was_lock q old e);
-          lock_does = λ q old e. i.lock_does q old (was_lock q old e);
-          lock_mode = λ q old e. i.lock_mode q old (was_lock q old e);
-          lock_min = λ q old e. i.lock_min q old (was_lock q old e);
-          lock_shown = λ q old e. i.lock_shown q old (was_lock q old e);
-          lock_above = λ q old e. i.lock_above q old (was_lock q old e);
-          lock_unwritten = λ q old e c rec x. i.lock_unwritten q old (was_lock q old e) c rec (was_write q c (CommitOf rec) x).0;
-          lock_fresh = λ q old e. elim (cases_Bool (within q)) [ inl x ↦ omega (arith, now_collected q x, free q old x (was_lock q old e)) | inr x ↦ omega (arith, cond_false (within q) safe (w.collected q) x, i.lock_fresh q old (was_lock q old e)) ];
-          records = λ q c rec x. i.records q c rec (was_write q c (CommitOf rec) x).0;
-          records_does = λ q c rec x. i.records_does q c rec (was_write q c (CommitOf rec) x).0;
-          rollbacks = λ q t own. i.rollbacks q t (was_rollback q t own);
-          range = i.range;
-          committed_accepted = i.committed_accepted;
-          committed_bound = i.committed_bound;
-          committed_shown = i.committed_shown;
-          complete = λ q u d m e does.
-              elim (i.complete q u d m e does) [
-                | inl x ↦ elim (still_write q d (CommitOf x.rec) x.stands) [
-                  | inl y ↦ inl (record { rec = x.rec; stands = y; own = x.own })
-                  | inr y ↦ inr (inr (gone_by w.decided w.decided w.declared w.declared q d safe ((collecting w within safe).collected q) m (λ u at e. e) (λ u n e. e) (omega (arith, now_collected q y.0)) (dropped q u d m does x y.1)))
-                ]
-                | inr rest ↦ elim rest [
-                  | inl x ↦ inr (inl (still_held q u x))
-                  | inr gone ↦ inr (inr (gone_by w.decided w.decided w.declared w.declared q d (w.collected q) ((collecting w within safe).collected q) m (λ u at e. e) (λ u n e. e) (collected_grows q) gone))
-                ]
-              ];
-          held = λ q t e o. still_held q t (i.held q t e o);
-          cleared = λ q t e gone.
-              elim (i.cleared q t e gone) [
-                | inl x ↦ inl (still_held q t x)
-                | inr rest ↦ elim rest [ inl x ↦ inr (still_rollback q t x) | inr low ↦ inr (inr (omega (arith, low, collected_grows q))) ]
-              ];
-          kept_newest = λ q e rec x v low u d m end does seen above upto.
-              (let was = was_write q e (CommitOf rec) x in
-              elim (cases_Bool (within q)) [
-                | inl y ↦ newest_kept q e rec y was.0 v (was.1 y) (omega (arith, low, now_collected q y)) u d m end does seen above (omega (arith, upto, now_collected q y))
-                | inr y ↦ (let at = cond_false (within q) safe (w.collected q) y in i.kept_newest q e rec was.0 v (omega (arith, low, at)) u d m end does seen above (omega (arith, upto, at)))
-              ]);
+          clock = i.clock;
+          marks = record { upto = i.marks.upto; known = i.marks.known; low = λ q. elim (cases_Bool (within q)) [ inl x ↦ omega (arith, (more q x).1, now_collected q x) | inr x ↦ omega (arith, i.marks.low q, cond_false (within q) safe (w.collected q) x) ] };
+          acceptances = i.acceptances;
+          keys = λ q. record {
+            lock = λ old e. (i.keys q).lock old (was_lock q old e);
+            alone = λ old e. (let before = (i.keys q).alone old (was_lock q old e) in record {
+              above = before.above;
+              unwritten = λ c rec x. before.unwritten c rec (was_write q c (CommitOf rec) x).0;
+              fresh = elim (cases_Bool (within q)) [ inl x ↦ omega (arith, now_collected q x, free q old x (was_lock q old e)) | inr x ↦ omega (arith, cond_false (within q) safe (w.collected q) x, before.fresh) ];
+            });
+            records = record {
+              committed = λ c rec x. (i.keys q).records.committed c rec (was_write q c (CommitOf rec) x).0;
+              does = λ c rec x. (i.keys q).records.does c rec (was_write q c (CommitOf rec) x).0;
+              rolled = λ t own. (i.keys q).records.rolled t (was_rollback q t own);
+              newest = λ e rec x v low u d m end does seen above upto.
+                  (let was = was_write q e (CommitOf rec) x in
+                  elim (cases_Bool (within q)) [
+                    | inl y ↦ newest_kept q e rec y was.0 v (was.1 y) (omega (arith, low, now_collected q y)) u d m end does seen above (omega (arith, upto, now_collected q y))
+                    | inr y ↦ (let at = cond_false (within q) safe (w.collected q) y in (i.keys q).records.newest e rec was.0 v (omega (arith, low, at)) u d m end does seen above (omega (arith, upto, at)))
+                  ]);
+            };
+            kept = record {
+              complete = λ u d m e does.
+                  elim ((i.keys q).kept.complete u d m e does) [
+                    | inl x ↦ elim (still_write q d (CommitOf x.rec) x.stands) [
+                      | inl y ↦ inl (record { rec = x.rec; stands = y; own = x.own })
+                      | inr y ↦ inr (inr (gone_by w.decided w.decided w.declared w.declared q d safe ((collecting w within safe).collected q) m (λ u at e. e) (λ u n e. e) (omega (arith, now_collected q y.0)) (dropped q u d m does x y.1)))
+                    ]
+                    | inr rest ↦ elim rest [
+                      | inl x ↦ inr (inl (still_held q u x))
+                      | inr gone ↦ inr (inr (gone_by w.decided w.decided w.declared w.declared q d (w.collected q) ((collecting w within safe).collected q) m (λ u at e. e) (λ u n e. e) (collected_grows q) gone))
+                    ]
+                  ];
+              held = λ t e o. still_held q t ((i.keys q).kept.held t e o);
+              cleared = λ t e gone.
+                  elim ((i.keys q).kept.cleared t e gone) [
+                    | inl x ↦ inl (still_held q t x)
+                    | inr rest ↦ elim rest [ inl x ↦ inr (still_rollback q t x) | inr low ↦ inr (inr (omega (arith, low, collected_grows q))) ]
+                  ];
+            };
+          };
+          commits = i.commits;
           unread = i.unread;
-          shown_undeclared = i.shown_undeclared;
-          shown_none = i.shown_none;
-          shown_first = i.shown_first;
+          shown = i.shown;
         }
 
     -- and the ends of transactions stay

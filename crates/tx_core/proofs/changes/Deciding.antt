@@ -15,7 +15,7 @@ use Rattle.tx_plan.specs.Traces.{OwnLock}
 use Rattle.tx_core.specs.Histories.{set_of, is_first}
 use Rattle.tx_core.specs.Decisions.{Acceptance, async_minimum, greater, greatest}
 use Rattle.tx_core.proofs.Basics.{nat_test, key_test, key_same, cond_true, cond_false, some_same, some_of, is_some}
-use Rattle.tx_core.proofs.view.View.{View, Inv, Does, IsPrimary, IsCommitted, IsAborted, Accepts, FellBack, bound, Held, first_within, does_declared, does_within, bound_async, gone_by}
+use Rattle.tx_core.proofs.view.View.{View, IsCommit, Inv, Does, IsPrimary, IsCommitted, IsAborted, Accepts, FellBack, bound, Held, first_within, does_declared, does_within, bound_async, gone_by}
 
 -- An open transaction may be committed at c: each of its keys is accepted, with a bound of at most c; what was shown lies at or below c;
 -- c lies above its start and at most one above the last number.
@@ -36,11 +36,11 @@ decide_drawn w t c p first i o all drawn after is own low =
     record {
       opened = o;
       declared = does_declared w.declared t p does.0 does.1;
-      above = omega (arith, i.accepted_above t p of.0 of.1, i.accepted_bound t p of.0 of.1, i.accepted_upto t p of.0 of.1, after p of.0 of.1);
-      upto = omega (arith, i.drawn c drawn);
+      above = omega (arith, (i.acceptances t p of.0 of.1).above, (i.acceptances t p of.0 of.1).bounded, (i.acceptances t p of.0 of.1).upto, after p of.0 of.1);
+      upto = omega (arith, i.clock.drawn c drawn);
       accepts = all;
-      bounds = λ k by e. omega (arith, i.accepted_upto t k by e, after k by e);
-      shown = omega (arith, i.lock_shown p first own.stands (ap (λ n. is_first (set_of (w.declared n)) p) own.own ∙ is), ap w.shown own.own, low);
+      bounds = λ k by e. omega (arith, (i.acceptances t k by e).upto, after k by e);
+      shown = omega (arith, ((i.keys p).lock first own.stands).shows (ap (λ n. is_first (set_of (w.declared n)) p) own.own ∙ is), ap w.shown own.own, low);
     }
 
 -- ---- the greatest minimum
@@ -129,7 +129,7 @@ module _ (w : View) (t c : ℕ) (i : Inv w) (may : CanDecide w t c) where
 
   -- its keys are locked
   own : (k : Key) (m : Mutation) → Does w.declared t k m → Held (w.cells k) t
-  own k m does = i.held k t (may.accepts k (does_within w.declared t k m does)) may.opened
+  own k m does = (i.keys k).kept.held t (may.accepts k (does_within w.declared t k m does)) may.opened
 
   own_of : (q : ℕ) (k : Key) (m : Mutation) → t ≡ q → Does w.declared q k m → Held (w.cells k) t
   own_of q k m same does = own k m (subst (λ n. Does w.declared n k m) (sym same) does)
@@ -138,76 +138,78 @@ module _ (w : View) (t c : ℕ) (i : Inv w) (may : CanDecide w t c) where
   pub inv_decide : Inv (deciding w t c)
   inv_decide =
       record {
-        drawn = i.drawn;
-        begun = i.begun;
-        declares = i.declares;
-        decides = λ q e. elim (nat_test t q) [ inl x ↦ subst (λ n. w.declared n ≢ None) x.1 may.declared | inr x ↦ i.decides q (λ y. e (cond_false (t == q) (Done (Committed c)) (w.decided q) x.0 ∙ y)) ];
-        reads = i.reads;
-        reads_floor = i.reads_floor;
-        collected_safe = i.collected_safe;
-        accepted_does = i.accepted_does;
-        accepted_above = i.accepted_above;
-        accepted_bound = i.accepted_bound;
-        accepted_upto = i.accepted_upto;
-        accepted_at = i.accepted_at;
-        accepted_mode = i.accepted_mode;
-        lock_accepted = i.lock_accepted;
-        lock_does = i.lock_does;
-        lock_mode = i.lock_mode;
-        lock_min = i.lock_min;
-        lock_shown = i.lock_shown;
-        lock_above = λ k lock e u d m end does other.
-            elim (was_committed u d end) [
-              | inl x ↦ (let at = own_of u k m x.0 does in absurd (other (cc (at.stands, at.own, e, x.0))))
-              | inr x ↦ i.lock_above k lock e u d m x does other
-            ];
-        lock_unwritten = i.lock_unwritten;
-        lock_fresh = i.lock_fresh;
-        records = λ k d rec e. still_decided rec.start (Committed d) (i.records k d rec e);
-        records_does = i.records_does;
-        rollbacks = λ k q e. still_decided q Aborted (i.rollbacks k q e);
-        range = λ q d e. elim (was_committed q d e) [ inl x ↦ (omega (arith, may.above, x.0, x.1), omega (arith, may.upto, x.1)) | inr x ↦ i.range q d x ];
-        committed_accepted = λ q d e. elim (was_committed q d e) [ inl x ↦ subst (Accepts w.declared w.accepted) x.0 may.accepts | inr x ↦ i.committed_accepted q d x ];
-        committed_bound = λ q d e k by a. elim (was_committed q d e) [ inl x ↦ omega (arith, may.bounds k by (ap (λ n. w.accepted n k) x.0 ∙ a), x.1) | inr x ↦ i.committed_bound q d x k by a ];
-        committed_shown = λ q d e. elim (was_committed q d e) [ inl x ↦ omega (arith, may.shown, ap w.shown x.0, x.1) | inr x ↦ i.committed_shown q d x ];
-        complete = λ k u d m end does.
-            elim (was_committed u d end) [
-              | inl x ↦ inr (inl (subst (Held (w.cells k)) x.0 (own_of u k m x.0 does)))
-              | inr x ↦ elim (i.complete k u d m x does) [ inl y ↦ inl y | inr rest ↦ elim rest [ inl y ↦ inr (inl y) | inr y ↦ inr (inr (gone_by w.decided (deciding w t c).decided w.declared w.declared k d (w.collected k) (w.collected k) m (λ q at e. still_decided q (Committed at) e) (λ q n does. does) (omega arith) y)) ] ]
-            ];
-        held = λ k q e o. i.held k q e (was_open q o);
-        cleared = λ k q e o. i.cleared k q e (was_aborted q o);
-        kept_newest = λ k q rec e v low u d m end does visible above upto.
-            elim (was_committed u d end) [
-              | inl x ↦ (let at = own_of u k m x.0 does in omega (arith, i.lock_fresh k at.lock at.stands, at.own, may.above, upto, x.1))
-              | inr x ↦ i.kept_newest k q rec e v low u d m x does visible above upto
-            ];
+        clock = record {
+          drawn = i.clock.drawn;
+          begun = i.clock.begun;
+          declares = i.clock.declares;
+          decides = λ q e. elim (nat_test t q) [ inl x ↦ subst (λ n. w.declared n ≢ None) x.1 may.declared | inr x ↦ i.clock.decides q (λ y. e (cond_false (t == q) (Done (Committed c)) (w.decided q) x.0 ∙ y)) ];
+        };
+        marks = i.marks;
+        acceptances = i.acceptances;
+        keys = λ k. record {
+          lock = (i.keys k).lock;
+          alone = λ lock e. (let old = (i.keys k).alone lock e in record {
+            above = λ u d m end does other.
+                elim (was_committed u d end) [
+                  | inl x ↦ (let at = own_of u k m x.0 does in absurd (other (cc (at.stands, at.own, e, x.0))))
+                  | inr x ↦ old.above u d m x does other
+                ];
+            unwritten = old.unwritten;
+            fresh = old.fresh;
+          });
+          records = record {
+            committed = λ d rec e. still_decided rec.start (Committed d) ((i.keys k).records.committed d rec e);
+            does = (i.keys k).records.does;
+            rolled = λ q e. still_decided q Aborted ((i.keys k).records.rolled q e);
+            newest = λ q rec e v low u d m end does visible above upto.
+                elim (was_committed u d end) [
+                  | inl x ↦ (let at = own_of u k m x.0 does in omega (arith, ((i.keys k).alone at.lock at.stands).fresh, at.own, may.above, upto, x.1))
+                  | inr x ↦ (i.keys k).records.newest q rec e v low u d m x does visible above upto
+                ];
+          };
+          kept = record {
+            complete = λ u d m end does.
+                elim (was_committed u d end) [
+                  | inl x ↦ inr (inl (subst (Held (w.cells k)) x.0 (own_of u k m x.0 does)))
+                  | inr x ↦ elim ((i.keys k).kept.complete u d m x does) [ inl y ↦ inl y | inr rest ↦ elim rest [ inl y ↦ inr (inl y) | inr y ↦ inr (inr (gone_by w.decided (deciding w t c).decided w.declared w.declared k d (w.collected k) (w.collected k) m (λ q at e. still_decided q (Committed at) e) (λ q n does. does) (omega arith) y)) ] ]
+                ];
+            held = λ q e o. (i.keys k).kept.held q e (was_open q o);
+            cleared = λ q e o. (i.keys k).kept.cleared q e (was_aborted q o);
+          };
+        };
+        commits = λ q d e. elim (was_committed q d e) [ inl x ↦ new_commit q d x.0 x.1 | inr x ↦ i.commits q d x ];
         unread = λ q k by e o. i.unread q k by e (was_open q o);
-        shown_undeclared = i.shown_undeclared;
-        shown_none = i.shown_none;
-        shown_first = i.shown_first;
+        shown = i.shown;
+      }
+    where
+      new_commit : (q d : ℕ) → t ≡ q → c ≡ d → IsCommit w.last w.declared w.accepted w.shown q d
+      new_commit q d same at = record {
+        range = (omega (arith, may.above, same, at), omega (arith, may.upto, at));
+        accepts = subst (Accepts w.declared w.accepted) same may.accepts;
+        bounds = λ k by a. omega (arith, may.bounds k by (ap (λ n. w.accepted n k) same ∙ a), at);
+        shows = omega (arith, may.shown, ap w.shown same, at);
       }
 
 -- by the last acceptance, at the greatest minimum, where each key is accepted async
 pub decide_async : (w : View) (t c : ℕ) → Inv w → w.decided t ≡ Open → greatest (w.accepted t) (set_of (w.declared t)) ≡ Some c → CanDecide w t c
 decide_async w t c i o most =
     let some = greatest_some (w.accepted t) (set_of (w.declared t)) c most in
-    let within = does_within w.declared t some.0 some.1.lock.mutation (i.accepted_does t some.0 some.1 some.2) in
+    let within = does_within w.declared t some.0 some.1.lock.mutation (i.acceptances t some.0 some.1 some.2).does in
     record {
       opened = o;
-      declared = does_declared w.declared t some.0 some.1.lock.mutation (i.accepted_does t some.0 some.1 some.2);
-      above = omega (arith, i.accepted_above t some.0 some.1 some.2, some.4);
-      upto = omega (arith, i.accepted_bound t some.0 some.1 some.2, i.accepted_upto t some.0 some.1 some.2, i.accepted_at t some.0 some.1 some.2, some.4);
+      declared = does_declared w.declared t some.0 some.1.lock.mutation (i.acceptances t some.0 some.1 some.2).does;
+      above = omega (arith, (i.acceptances t some.0 some.1 some.2).above, some.4);
+      upto = omega (arith, (i.acceptances t some.0 some.1 some.2).bounded, (i.acceptances t some.0 some.1 some.2).upto, (i.acceptances t some.0 some.1 some.2).at, some.4);
       accepts = λ k x. (let each = greatest_each (w.accepted t) (set_of (w.declared t)) c most k x in is_some (w.accepted t k) each.by each.stands);
       bounds = λ k by e.
-          (let each = greatest_each (w.accepted t) (set_of (w.declared t)) c most k (does_within w.declared t k by.lock.mutation (i.accepted_does t k by e)) in
+          (let each = greatest_each (w.accepted t) (set_of (w.declared t)) c most k (does_within w.declared t k by.lock.mutation (i.acceptances t k by e).does) in
           let same : each.by ≡ by = some_same each.by by (sym each.stands ∙ e) in
           omega (arith, bound_async by (ap (λ (b : Acceptance). b.lock.mode) (sym same) ∙ each.async), each.upto, ap (λ (b : Acceptance). b.lock.min) same));
       shown = shown;
     }
   where
     never : FellBack w.accepted t → ⊥
-    never fell = (let each = greatest_each (w.accepted t) (set_of (w.declared t)) c most fell.key (does_within w.declared t fell.key fell.by.lock.mutation (i.accepted_does t fell.key fell.by fell.stands)) in cc (each.async, fell.two_phase, some_same each.by fell.by (sym each.stands ∙ fell.stands)))
+    never fell = (let each = greatest_each (w.accepted t) (set_of (w.declared t)) c most fell.key (does_within w.declared t fell.key fell.by.lock.mutation (i.acceptances t fell.key fell.by fell.stands).does) in cc (each.async, fell.two_phase, some_same each.by fell.by (sym each.stands ∙ fell.stands)))
 
     shown : w.shown t ≤ c
     shown = go (set_of (w.declared t)) refl
@@ -218,4 +220,4 @@ decide_async w t c i o most =
             (let first : IsPrimary w.declared t x.key = ap (λ s. is_first s x.key) e ∙ key_same x.key in
             let does = first_within w.declared t x.key first in
             let each = greatest_each (w.accepted t) (set_of (w.declared t)) c most x.key (does_within w.declared t x.key does.0 does.1) in
-            omega (arith, i.shown_first t x.key each.by first each.stands never, each.upto))
+            omega (arith, i.shown.first t x.key each.by first each.stands never, each.upto))

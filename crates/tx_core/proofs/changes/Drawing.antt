@@ -11,40 +11,16 @@ drawing w seat n = record w { last = n; drawer = λ q. cond (n == q) (Some seat)
 pub inv_draw : (w : View) (seat n : ℕ) → Inv w → w.last < n → Inv (drawing w seat n)
 inv_draw w seat n i lt =
     record {
-      drawn = λ t d. elim (nat_test n t) [ inl e ↦ omega (arith, e.1) | inr e ↦ (let old : w.drawer t ≢ None = λ none. d (rw e.0 none) in omega (arith, i.drawn t old, lt)) ];
-      begun = λ t b e. elim (chosen (n == t) (Some seat) (w.drawer t) None e) [ inl x ↦ (cc (x.1)) | inr x ↦ i.begun t b x.1 ];
-      declares = i.declares;
-      decides = i.decides;
-      reads = λ k r e. omega (arith, i.reads k r e, lt);
-      reads_floor = i.reads_floor;
-      collected_safe = i.collected_safe;
-      accepted_does = i.accepted_does;
-      accepted_above = i.accepted_above;
-      accepted_bound = i.accepted_bound;
-      accepted_upto = i.accepted_upto;
-      accepted_at = λ t k by e. omega (arith, i.accepted_at t k by e, lt);
-      accepted_mode = i.accepted_mode;
-      lock_accepted = i.lock_accepted;
-      lock_does = i.lock_does;
-      lock_mode = i.lock_mode;
-      lock_min = i.lock_min;
-      lock_shown = i.lock_shown;
-      lock_above = i.lock_above;
-      lock_unwritten = i.lock_unwritten;
-      lock_fresh = i.lock_fresh;
-      records = i.records;
-      records_does = i.records_does;
-      rollbacks = i.rollbacks;
-      range = λ t c e. ((i.range t c e).0, omega (arith, (i.range t c e).1, lt));
-      committed_accepted = i.committed_accepted;
-      committed_bound = i.committed_bound;
-      committed_shown = i.committed_shown;
-      complete = i.complete;
-      held = i.held;
-      cleared = i.cleared;
-      kept_newest = i.kept_newest;
+      clock = record {
+        drawn = λ t d. elim (nat_test n t) [ inl e ↦ omega (arith, e.1) | inr e ↦ (let old : w.drawer t ≢ None = λ none. d (rw e.0 none) in omega (arith, i.clock.drawn t old, lt)) ];
+        begun = λ t b e. elim (chosen (n == t) (Some seat) (w.drawer t) None e) [ inl x ↦ (cc (x.1)) | inr x ↦ i.clock.begun t b x.1 ];
+        declares = i.clock.declares;
+        decides = i.clock.decides;
+      };
+      marks = record { upto = λ k r e. omega (arith, i.marks.upto k r e, lt); known = i.marks.known; low = i.marks.low };
+      acceptances = λ t k by e. (let x = i.acceptances t k by e in record { does = x.does; above = x.above; bounded = x.bounded; upto = x.upto; at = omega (arith, x.at, lt); mode = x.mode });
+      keys = i.keys;
+      commits = λ t c e. (let x = i.commits t c e in record { range = (x.range.0, omega (arith, x.range.1, lt)); accepts = x.accepts; bounds = x.bounds; shows = x.shows });
       unread = i.unread;
-      shown_undeclared = i.shown_undeclared;
-      shown_none = i.shown_none;
-      shown_first = i.shown_first;
+      shown = i.shown;
     }

@@ -1,14 +1,12 @@
 -- A lock lives longer, or is replaced by one that differs in nothing that the invariants speak of.
-use Rattle.std.proofs.Common.{◌≡◌, ◌≢◌, ℕ, ◌≤◌, inl, inr, false, Some, None, refl, sym, ap, subst, ◌∙◌, arith}
+use Rattle.std.proofs.Common.{◌≡◌, ◌≢◌, ℕ, inl, inr, Some, None, refl, sym, ap, subst, ◌∙◌, arith}
 use Rattle.tx_types.specs.declared.key.Key.{Key}
-use Rattle.tx_types.specs.declared.mutation.Mutation.{Mutation}
 use Rattle.tx_machine.specs.Keys.{mutation_at}
-use Rattle.tx_plan.specs.Cells.{Lock, CommitRecord, CommitOf, Cells, with_lock}
+use Rattle.tx_plan.specs.Cells.{Lock, Cells, with_lock}
 use Rattle.tx_plan.specs.Traces.{on_own_lock}
 use Rattle.tx_core.specs.Histories.{set_of, is_first}
-use Rattle.tx_core.specs.Decisions.{Acceptance}
 use Rattle.tx_core.proofs.Basics.{some_same}
-use Rattle.tx_core.proofs.view.View.{View, Inv, Does, IsPrimary, IsCommitted, Held}
+use Rattle.tx_core.proofs.view.View.{View, IsLock, IsAlone, Inv, Held}
 use Rattle.tx_plan.specs.cases.TxnHeartBeat.{with_ttl}
 use Rattle.tx_core.proofs.changes.Keyed.{keyed, keyed_same, keyed_to, own_cases, inv_keyed}
 
@@ -16,21 +14,24 @@ use Rattle.tx_core.proofs.changes.Keyed.{keyed, keyed_same, keyed_to, own_cases,
 pub inv_relock : (w : View) (k : Key) (old new : Lock) → Inv w → (w.cells k).lock ≡ Some old → new.start ≡ old.start → new.mutation ≡ old.mutation → new.mode ≡ old.mode → new.min ≡ old.min → Inv (keyed w k (with_lock (w.cells k) (Some new)))
 inv_relock w k old new i stands start does mode min =
     inv_keyed w k (with_lock (w.cells k) (Some new)) i record {
-      lock_accepted = λ lock e. by lock e (λ l. w.accepted l.start k ≢ None) (subst (λ n. w.accepted n k ≢ None) (sym start) (i.lock_accepted k old stands));
-      lock_does = λ lock e. by lock e (λ l. Does w.declared l.start k l.mutation) (ap (λ n. mutation_at (set_of (w.declared n)) k) start ∙ i.lock_does k old stands ∙ ap (λ m. Some m) (sym does));
-      lock_mode = λ lock e. by lock e (λ l. (b : Acceptance) → w.accepted l.start k ≡ Some b → l.mode ≡ b.lock.mode) (λ b x. mode ∙ i.lock_mode k old stands b (ap (λ n. w.accepted n k) (sym start) ∙ x));
-      lock_min = λ lock e. by lock e (λ l. is_first (set_of (w.declared l.start)) k ≡ false → (b : Acceptance) → w.accepted l.start k ≡ Some b → l.min ≡ b.lock.min) (λ f b x. min ∙ i.lock_min k old stands (ap (λ n. is_first (set_of (w.declared n)) k) (sym start) ∙ f) b (ap (λ n. w.accepted n k) (sym start) ∙ x));
-      lock_shown = λ lock e. by lock e (λ l. IsPrimary w.declared l.start k → l.min ≡ w.shown l.start) (λ f. min ∙ i.lock_shown k old stands (ap (λ n. is_first (set_of (w.declared n)) k) (sym start) ∙ f) ∙ ap w.shown (sym start));
-      lock_above = λ lock e. by lock e (λ l. (u d : ℕ) (m : Mutation) → IsCommitted w.decided u d → Does w.declared u k m → u ≢ l.start → d ≤ l.start) (λ u d m end x other. omega (arith, i.lock_above k old stands u d m end x (λ same. other (same ∙ sym start)), start));
-      lock_unwritten = λ lock e. by lock e (λ l. (c : ℕ) (rec : CommitRecord) → (w.cells k).write c ≡ Some (CommitOf rec) → rec.start ≢ l.start) (λ c rec x same. i.lock_unwritten k old stands c rec x (same ∙ start));
-      lock_fresh = λ lock e. by lock e (λ l. w.collected k ≤ l.start) (omega (arith, i.lock_fresh k old stands, start));
-      records = i.records k;
-      records_does = i.records_does k;
-      rollbacks = i.rollbacks k;
-      complete = λ u d m end x. elim (i.complete k u d m end x) [ inl y ↦ inl (record { rec = y.rec; stands = y.stands; own = y.own }) | inr rest ↦ elim rest [ inl y ↦ inr (inl (moved u y)) | inr gone ↦ inr (inr gone) ] ];
-      held = λ t x o. moved t (i.held k t x o);
-      cleared = λ t x gone. elim (i.cleared k t x gone) [ inl y ↦ inl (moved t y) | inr rest ↦ inr rest ];
-      kept_newest = i.kept_newest k;
+      lock = λ lock e. by lock e (IsLock w.declared w.accepted w.shown k) (let x = (i.keys k).lock old stands in record {
+        accepts = subst (λ n. w.accepted n k ≢ None) (sym start) x.accepts;
+        does = ap (λ n. mutation_at (set_of (w.declared n)) k) start ∙ x.does ∙ ap (λ m. Some m) (sym does);
+        mode = λ b y. mode ∙ x.mode b (ap (λ n. w.accepted n k) (sym start) ∙ y);
+        min = λ f b y. min ∙ x.min (ap (λ n. is_first (set_of (w.declared n)) k) (sym start) ∙ f) b (ap (λ n. w.accepted n k) (sym start) ∙ y);
+        shows = λ f. min ∙ x.shows (ap (λ n. is_first (set_of (w.declared n)) k) (sym start) ∙ f) ∙ ap w.shown (sym start);
+      });
+      alone = λ lock e. by lock e (IsAlone w.declared w.decided k (w.collected k) (w.cells k).write) (let x = (i.keys k).alone old stands in record {
+        above = λ u d m end y other. omega (arith, x.above u d m end y (λ same. other (same ∙ sym start)), start);
+        unwritten = λ c rec y same. x.unwritten c rec y (same ∙ start);
+        fresh = omega (arith, x.fresh, start);
+      });
+      records = (i.keys k).records;
+      kept = (let x = (i.keys k).kept in record {
+        complete = λ u d m end does. elim (x.complete u d m end does) [ inl y ↦ inl (record { rec = y.rec; stands = y.stands; own = y.own }) | inr rest ↦ elim rest [ inl y ↦ inr (inl (moved u y)) | inr gone ↦ inr (inr gone) ] ];
+        held = λ t y o. moved t (x.held t y o);
+        cleared = λ t y gone. elim (x.cleared t y gone) [ inl z ↦ inl (moved t z) | inr rest ↦ inr rest ];
+      });
     }
   where
     by : (lock : Lock) → Some new ≡ Some lock → (P : Lock → Type 0) → P new → P lock

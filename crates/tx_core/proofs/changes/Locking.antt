@@ -1,5 +1,5 @@
 -- A prewrite is accepted: its lock is put on a key.
-use Rattle.std.proofs.Common.{◌≡◌, ◌≢◌, ℕ, ◌+◌, ◌<◌, ◌≤◌, ◌==◌, ◌⊎◌, ◌&&◌, inl, inr, true, false, cond, Some, None, bytes_eq, refl, sym, ap, subst, ◌∙◌, arith}
+use Rattle.std.proofs.Common.{◌≡◌, ◌≢◌, ℕ, ◌+◌, ◌<◌, ◌≤◌, ◌==◌, ◌⊎◌, ◌&&◌, inl, inr, true, cond, Some, None, bytes_eq, refl, sym, ap, subst, ◌∙◌, arith}
 use Rattle.std.proofs.lemmas.Bool.{cases_Bool, and_parts, eqb-true, eq-eqb}
 use Rattle.tx_types.specs.declared.key.Key.{Key}
 use Rattle.tx_types.specs.declared.mutation.Mutation.{Mutation}
@@ -7,13 +7,13 @@ use Rattle.tx_types.specs.declared.mutation.Mode.{Mode}
 use Rattle.tx_types.specs.declared.mutation.Mode.TheVariants.{TwoPhase, Async}
 use Rattle.tx_types.specs.Keys.{IsVisible}
 use Rattle.tx_machine.specs.Machine.{Open, IsRead}
-use Rattle.tx_plan.specs.Cells.{Lock, CommitRecord, CommitOf, Writes, with_lock}
+use Rattle.tx_plan.specs.Cells.{Lock, CommitRecord, CommitOf, with_lock}
 use Rattle.tx_plan.specs.Traces.{OwnCommit, OwnRollback}
 use Rattle.tx_core.specs.declared.event.Declaration.{Declaration}
 use Rattle.tx_core.specs.Histories.{set_of, is_first}
 use Rattle.tx_core.specs.Decisions.{Acceptance, Puts, first_accepted, accepted_by}
 use Rattle.tx_core.proofs.Basics.{nat_same, key_same, key_true, cond_true, cond_false, some_same, some_of, is_some, none_is}
-use Rattle.tx_core.proofs.view.View.{View, Inv, Does, IsPrimary, IsCommitted, IsAborted, bound, Written, Held, one_first, does_declared, does_within, bound_two_phase, bound_async, never_accepted}
+use Rattle.tx_core.proofs.view.View.{View, IsAccepted, IsLock, IsAlone, OnCells, Inv, Does, IsPrimary, IsCommitted, bound, Held, one_first, does_declared, does_within, bound_two_phase, bound_async, never_accepted}
 use Rattle.tx_core.proofs.changes.Keyed.{at_cells}
 
 -- the acceptance of a lock that is put now
@@ -80,15 +80,6 @@ module _ (w : View) (k : Key) (lock : Lock) (i : Inv w) (may : MayLock w k lock)
         | inr x ↦ kept t q by x
       ]
 
-  -- what holds of the new lock and of those that stood holds of each that stands
-  at_lock : (P : Key → Lock → Type 0) → P k lock → ((q : Key) (old : Lock) → (w.cells q).lock ≡ Some old → P q old) → (q : Key) (old : Lock) → ((locking w k lock).cells q).lock ≡ Some old → P q old
-  at_lock P new kept q old =
-      at_cells w k q (with_lock (w.cells k) (Some lock)) (λ x cells. cells.lock ≡ Some old → P x old) (λ e. subst (P k) (some_same lock old e) new) (λ other e. kept q old e)
-
-  -- what holds of the records that stood holds of those that stand
-  at_write : (P : Key → Writes → Type 0) → ((q : Key) → P q (w.cells q).write) → (q : Key) → P q ((locking w k lock).cells q).write
-  at_write P kept q = at_cells w k q (with_lock (w.cells k) (Some lock)) (λ x cells. P x cells.write) (kept k) (λ other. kept q)
-
   -- the acceptance of a lock that stood is the one before
   of_standing : (q : Key) (old : Lock) (by : Acceptance) → (w.cells q).lock ≡ Some old → (locking w k lock).accepted old.start q ≡ Some by → w.accepted old.start q ≡ Some by
   of_standing q old by stands e =
@@ -106,17 +97,11 @@ module _ (w : View) (k : Key) (lock : Lock) (i : Inv w) (may : MayLock w k lock)
       ]
 
   shown_before : (t : ℕ) → lock.start ≡ t → IsPrimary w.declared t k → w.shown t ≡ 0
-  shown_before t same f = i.shown_none t k f (ap (λ n. w.accepted n k) (sym same) ∙ may.new)
+  shown_before t same f = i.shown.none t k f (ap (λ n. w.accepted n k) (sym same) ∙ may.new)
 
   -- no minimum that was shown is lost
   pub shown_grows : (t : ℕ) → w.shown t ≤ (locking w k lock).shown t
   shown_grows t = elim (shown_cases t) [ inl x ↦ omega (arith, shown_before t x.0 x.1) | inr x ↦ omega (arith, x) ]
-
-  still_held : (q : Key) (t : ℕ) → Held (w.cells q) t → Held ((locking w k lock).cells q) t
-  still_held q t old = at_cells w k q (with_lock (w.cells k) (Some lock)) (λ x cells. (w.cells x).lock ≡ Some old.lock → Held cells t) (λ x. absurd (cc (x, may.free))) (λ other x. record { lock = old.lock; stands = x; own = old.own }) old.stands
-
-  new_held : (q : Key) (t : ℕ) → lock.start ≡ t → k ≡ q → Held ((locking w k lock).cells q) t
-  new_held q t same at = subst (λ x. Held ((locking w k lock).cells x) t) at (record { lock = lock; stands = rw (key_same k) refl; own = same })
 
   -- what was accepted after it: the new lock, or what was before
   some_accepted : (t : ℕ) (q : Key) → (locking w k lock).accepted t q ≢ None → ((lock.start ≡ t) × (k ≡ q)) ⊎ (w.accepted t q ≢ None)
@@ -126,71 +111,89 @@ module _ (w : View) (k : Key) (lock : Lock) (i : Inv w) (may : MayLock w k lock)
   new_unread r read = go lock.mode refl
     where
       go : (mode : Mode) → lock.mode ≡ mode → r < bound (accepting w lock)
-      go TwoPhase e = omega (arith, i.reads k r read, bound_two_phase (accepting w lock) e)
-      go Async e = omega (arith, i.reads_floor k r read, may.after_reads e, bound_async (accepting w lock) e)
+      go TwoPhase e = omega (arith, i.marks.upto k r read, bound_two_phase (accepting w lock) e)
+      go Async e = omega (arith, i.marks.known k r read, may.after_reads e, bound_async (accepting w lock) e)
+
+  new_held : (t : ℕ) → lock.start ≡ t → Held (with_lock (w.cells k) (Some lock)) t
+  new_held t same = record { lock = lock; stands = refl; own = same }
+
+  -- what stands on the key then
+  here : OnCells w.declared w.decided (locking w k lock).accepted (locking w k lock).shown k (w.collected k) (with_lock (w.cells k) (Some lock))
+  here = (let old = i.keys k in record {
+    lock = λ l e. subst (IsLock w.declared (locking w k lock).accepted (locking w k lock).shown k) (some_same lock l e) record {
+      accepts = is_some ((locking w k lock).accepted lock.start k) (accepting w lock) now_accepted;
+      does = may.does;
+      mode = λ by y. ap (λ (b : Acceptance). b.lock.mode) (some_same (accepting w lock) by (sym now_accepted ∙ y));
+      min = λ f by y. ap (λ (b : Acceptance). b.lock.min) (some_same (accepting w lock) by (sym now_accepted ∙ y));
+      shows = λ f. sym (cond_true ((lock.start == lock.start) && is_first (set_of (w.declared lock.start)) k) lock.min (w.shown lock.start) (rw (nat_same lock.start, f) refl));
+    };
+    alone = λ l e. subst (IsAlone w.declared w.decided k (w.collected k) (w.cells k).write) (some_same lock l e) record {
+      above = λ u d m end does other. may.above u d m end does;
+      unwritten = λ c rec x same. may.uncommitted c (subst (λ n. IsCommitted w.decided n c) same (old.records.committed c rec x));
+      fresh = may.fresh;
+    };
+    records = old.records;
+    kept = record {
+      complete = λ u d m end does.
+          elim (old.kept.complete u d m end does) [
+            | inl x ↦ inl (record { rec = x.rec; stands = x.stands; own = x.own })
+            | inr rest ↦ elim rest [ inl x ↦ absurd (cc (x.stands, may.free)) | inr gone ↦ inr (inr gone) ]
+          ];
+      held = λ t e o. elim (some_accepted t k e) [ inl x ↦ new_held t x.0 | inr x ↦ absurd (cc ((old.kept.held t x o).stands, may.free)) ];
+      cleared = λ t e gone. elim (some_accepted t k e) [ inl x ↦ inl (new_held t x.0) | inr x ↦ elim (old.kept.cleared t x gone) [ inl y ↦ absurd (cc (y.stands, may.free)) | inr rest ↦ inr rest ] ];
+    };
+  })
+
+  -- and on the others
+  others : (q : Key) → k ≢ q → OnCells w.declared w.decided (locking w k lock).accepted (locking w k lock).shown q (w.collected q) (w.cells q)
+  others q other = (let before = i.keys q in record {
+    lock = λ old stands. (let x = before.lock old stands in record {
+      accepts = more_accepted old.start q x.accepts;
+      does = x.does;
+      mode = λ by y. x.mode by (of_standing q old by stands y);
+      min = λ f by y. x.min f by (of_standing q old by stands y);
+      shows = λ f. elim (shown_cases old.start) [ inl y ↦ absurd (cc (may.free, subst (λ y. (w.cells y).lock ≡ Some old) (sym (one_first w.declared old.start k q y.1 f)) stands)) | inr y ↦ x.shows f ∙ sym y ];
+    });
+    alone = before.alone;
+    records = before.records;
+    kept = record {
+      complete = before.kept.complete;
+      held = λ t e o. elim (some_accepted t q e) [ inl x ↦ absurd (other x.1) | inr x ↦ before.kept.held t x o ];
+      cleared = λ t e gone. elim (some_accepted t q e) [ inl x ↦ absurd (other x.1) | inr x ↦ before.kept.cleared t x gone ];
+    };
+  })
 
   -- the invariants stay
   pub inv_lock : Inv (locking w k lock)
   inv_lock =
       record {
-        drawn = i.drawn;
-        begun = i.begun;
-        declares = i.declares;
-        decides = i.decides;
-        reads = i.reads;
-        reads_floor = i.reads_floor;
-        collected_safe = i.collected_safe;
-        accepted_does = at_accepted (λ t q by. Does w.declared t q by.lock.mutation) may.does i.accepted_does;
-        accepted_above = at_accepted (λ t q by. t < by.lock.min) may.low i.accepted_above;
-        accepted_bound = at_accepted (λ t q by. by.lock.min ≤ bound by) may.least i.accepted_bound;
-        accepted_upto = at_accepted (λ t q by. bound by ≤ by.at + 1) may.upto i.accepted_upto;
-        accepted_at = at_accepted (λ t q by. by.at ≤ w.last) (omega arith) i.accepted_at;
-        accepted_mode = at_accepted (λ t q by. (d : Declaration) → w.declared t ≡ Some d → d.mode ≡ TwoPhase → by.lock.mode ≡ TwoPhase) may.mode i.accepted_mode;
-        lock_accepted = at_lock (λ q old. (locking w k lock).accepted old.start q ≢ None) (is_some ((locking w k lock).accepted lock.start k) (accepting w lock) now_accepted) (λ q old e. more_accepted old.start q (i.lock_accepted q old e));
-        lock_does = at_lock (λ q old. Does w.declared old.start q old.mutation) may.does i.lock_does;
-        lock_mode = at_lock (λ q old. (by : Acceptance) → (locking w k lock).accepted old.start q ≡ Some by → old.mode ≡ by.lock.mode) (λ by e. ap (λ (b : Acceptance). b.lock.mode) (some_same (accepting w lock) by (sym now_accepted ∙ e))) (λ q old stands by e. i.lock_mode q old stands by (of_standing q old by stands e));
-        lock_min = at_lock (λ q old. is_first (set_of (w.declared old.start)) q ≡ false → (by : Acceptance) → (locking w k lock).accepted old.start q ≡ Some by → old.min ≡ by.lock.min) (λ f by e. ap (λ (b : Acceptance). b.lock.min) (some_same (accepting w lock) by (sym now_accepted ∙ e))) (λ q old stands f by e. i.lock_min q old stands f by (of_standing q old by stands e));
-        lock_shown = at_lock (λ q old. IsPrimary w.declared old.start q → old.min ≡ (locking w k lock).shown old.start) (λ f. sym (cond_true ((lock.start == lock.start) && is_first (set_of (w.declared lock.start)) k) lock.min (w.shown lock.start) (rw (nat_same lock.start, f) refl))) (λ q old stands f. elim (shown_cases old.start) [ inl x ↦ absurd (cc (may.free, subst (λ y. (w.cells y).lock ≡ Some old) (sym (one_first w.declared old.start k q x.1 f)) stands)) | inr x ↦ i.lock_shown q old stands f ∙ sym x ]);
-        lock_above = at_lock (λ q old. (u d : ℕ) (m : Mutation) → IsCommitted w.decided u d → Does w.declared u q m → u ≢ old.start → d ≤ old.start) (λ u d m e does other. may.above u d m e does) i.lock_above;
-        lock_unwritten = λ q old. at_cells w k q (with_lock (w.cells k) (Some lock)) (λ x cells. cells.lock ≡ Some old → (c : ℕ) (rec : CommitRecord) → cells.write c ≡ Some (CommitOf rec) → rec.start ≢ old.start) (λ e c rec x same. may.uncommitted c (subst (λ n. IsCommitted w.decided n c) (same ∙ sym (ap (λ (l : Lock). l.start) (some_same lock old e))) (i.records k c rec x))) (λ other. i.lock_unwritten q old);
-        lock_fresh = at_lock (λ q old. w.collected q ≤ old.start) may.fresh i.lock_fresh;
-        records = at_write (λ q write. (c : ℕ) (rec : CommitRecord) → write c ≡ Some (CommitOf rec) → IsCommitted w.decided rec.start c) i.records;
-        records_does = at_write (λ q write. (c : ℕ) (rec : CommitRecord) → write c ≡ Some (CommitOf rec) → Does w.declared rec.start q rec.mutation) i.records_does;
-        rollbacks = at_write (λ q write. (t : ℕ) → OwnRollback write t → IsAborted w.decided t) i.rollbacks;
-        range = i.range;
-        committed_accepted = λ t c end q some. more_accepted t q (i.committed_accepted t c end q some);
-        committed_bound = λ t c end q by e. elim (was_accepted t q by e) [ inl x ↦ absurd (may.uncommitted c (ap w.decided x.0 ∙ end)) | inr x ↦ i.committed_bound t c end q by x ];
-        committed_shown = λ t c end. elim (shown_cases t) [ inl x ↦ absurd (may.uncommitted c (ap w.decided x.0 ∙ end)) | inr x ↦ omega (arith, x, i.committed_shown t c end) ];
-        complete = λ q u d m e does.
-            elim (i.complete q u d m e does) [
-              | inl old ↦ inl (at_cells w k q (with_lock (w.cells k) (Some lock)) (λ x cells. (w.cells x).write d ≡ Some (CommitOf old.rec) → Written cells u d) (λ x. record { rec = old.rec; stands = x; own = old.own }) (λ other x. record { rec = old.rec; stands = x; own = old.own }) old.stands)
-              | inr rest ↦ elim rest [ inl old ↦ inr (inl (still_held q u old)) | inr gone ↦ inr (inr gone) ]
-            ];
-        held = λ q t e o. elim (some_accepted t q e) [ inl x ↦ new_held q t x.0 x.1 | inr x ↦ still_held q t (i.held q t x o) ];
-        cleared = λ q t e gone.
-            elim (some_accepted t q e) [
-              | inl x ↦ inl (new_held q t x.0 x.1)
-              | inr x ↦ elim (i.cleared q t x gone) [
-                | inl old ↦ inl (still_held q t old)
-                | inr rest ↦ elim rest [ inl old ↦ inr (inl (at_write (λ y write. OwnRollback (w.cells y).write t → OwnRollback write t) (λ y own. own) q old)) | inr low ↦ inr (inr low) ]
-              ]
-            ];
-        kept_newest = at_write (λ q write. (e : ℕ) (rec : CommitRecord) → write e ≡ Some (CommitOf rec) → IsVisible rec.mutation → e < w.collected q → (u d : ℕ) (m : Mutation) → IsCommitted w.decided u d → Does w.declared u q m → IsVisible m → e < d → d ≤ w.collected q → ⊥) i.kept_newest;
+        clock = i.clock;
+        marks = i.marks;
+        acceptances = at_accepted (IsAccepted w.last w.declared) record { does = may.does; above = may.low; bounded = may.least; upto = may.upto; at = omega arith; mode = may.mode } i.acceptances;
+        keys = λ q. at_cells w k q (with_lock (w.cells k) (Some lock)) (λ x. OnCells w.declared w.decided (locking w k lock).accepted (locking w k lock).shown x (w.collected x)) here (others q);
+        commits = λ t c end. (let was = i.commits t c end in record {
+          range = was.range;
+          accepts = λ q some. more_accepted t q (was.accepts q some);
+          bounds = λ q by e. elim (was_accepted t q by e) [ inl x ↦ absurd (may.uncommitted c (ap w.decided x.0 ∙ end)) | inr x ↦ was.bounds q by x ];
+          shows = elim (shown_cases t) [ inl x ↦ absurd (may.uncommitted c (ap w.decided x.0 ∙ end)) | inr x ↦ omega (arith, x, was.shows) ];
+        });
         unread = at_accepted (λ t q by. w.decided t ≡ Open → (m : Mutation) → Does w.declared t q m → IsVisible m → (r : ℕ) → IsRead w.reads q r → (r < bound by) ⊎ (r < (locking w k lock).shown t)) (λ o m does v r read. inl (new_unread r read)) (λ t q by e o m does v r read. elim (i.unread t q by e o m does v r read) [ inl x ↦ inl x | inr x ↦ inr (omega (arith, x, shown_grows t)) ]);
-        shown_undeclared = λ t e. elim (shown_cases t) [ inl x ↦ absurd (does_declared w.declared t k lock.mutation (subst (λ n. Does w.declared n k lock.mutation) x.0 may.does) e) | inr x ↦ x ∙ i.shown_undeclared t e ];
-        shown_none = λ t q f e.
-            elim (shown_cases t) [
-              | inl x ↦ absurd (cc (now_accepted, subst (λ n. (locking w k lock).accepted n k ≡ None) (sym x.0) (subst (λ y. (locking w k lock).accepted t y ≡ None) (sym (one_first w.declared t k q x.1 f)) e)))
-              | inr x ↦ x ∙ i.shown_none t q f (none_is (w.accepted t q) (λ by was. (cc (e, still_accepted t q by was))))
-            ];
-        shown_first = λ t q by f e never.
-            elim (was_accepted t q by e) [
-              | inl x ↦ cond_true ((lock.start == t) && is_first (set_of (w.declared t)) k) lock.min (w.shown t) (rw (eq-eqb lock.start t x.0, subst (λ y. is_first (set_of (w.declared t)) y ≡ true) (sym x.1) f) refl) ∙ ap (λ (b : Acceptance). b.lock.min) x.2
-              | inr was ↦ elim (shown_cases t) [
-                | inl x ↦ absurd (cc (may.new, subst (λ n. w.accepted n k ≡ Some by) (sym x.0) (subst (λ y. w.accepted t y ≡ Some by) (sym (one_first w.declared t k q x.1 f)) was)))
-                | inr x ↦ x ∙ i.shown_first t q by f was (λ fell. never (record { key = fell.key; by = fell.by; stands = still_accepted t fell.key fell.by fell.stands; two_phase = fell.two_phase }))
-              ]
-            ];
+        shown = record {
+          undeclared = λ t e. elim (shown_cases t) [ inl x ↦ absurd (does_declared w.declared t k lock.mutation (subst (λ n. Does w.declared n k lock.mutation) x.0 may.does) e) | inr x ↦ x ∙ i.shown.undeclared t e ];
+          none = λ t q f e.
+              elim (shown_cases t) [
+                | inl x ↦ absurd (cc (now_accepted, subst (λ n. (locking w k lock).accepted n k ≡ None) (sym x.0) (subst (λ y. (locking w k lock).accepted t y ≡ None) (sym (one_first w.declared t k q x.1 f)) e)))
+                | inr x ↦ x ∙ i.shown.none t q f (none_is (w.accepted t q) (λ by was. (cc (e, still_accepted t q by was))))
+              ];
+          first = λ t q by f e never.
+              elim (was_accepted t q by e) [
+                | inl x ↦ cond_true ((lock.start == t) && is_first (set_of (w.declared t)) k) lock.min (w.shown t) (rw (eq-eqb lock.start t x.0, subst (λ y. is_first (set_of (w.declared t)) y ≡ true) (sym x.1) f) refl) ∙ ap (λ (b : Acceptance). b.lock.min) x.2
+                | inr was ↦ elim (shown_cases t) [
+                  | inl x ↦ absurd (cc (may.new, subst (λ n. w.accepted n k ≡ Some by) (sym x.0) (subst (λ y. w.accepted t y ≡ Some by) (sym (one_first w.declared t k q x.1 f)) was)))
+                  | inr x ↦ x ∙ i.shown.first t q by f was (λ fell. never (record { key = fell.key; by = fell.by; stands = still_accepted t fell.key fell.by fell.stands; two_phase = fell.two_phase }))
+                ]
+              ];
+        };
       }
 
 -- what the table of a prewrite asks gives all that the lock needs: nothing of the transaction stands on the key, which is free, no commit
@@ -207,9 +210,9 @@ may_lock w k lock i fresh uncommitted unrolled free low does above least upto af
       upto = upto;
       after_reads = after;
       mode = mode;
-      uncommitted = λ c end. i.committed_accepted lock.start c end k (does_within w.declared lock.start k lock.mutation does) new;
+      uncommitted = λ c end. (i.commits lock.start c end).accepts k (does_within w.declared lock.start k lock.mutation does) new;
       above = λ u d m end does.
-          elim (i.complete k u d m end does) [
+          elim ((i.keys k).kept.complete u d m end does) [
             | inl x ↦ low d x.rec x.stands
             | inr rest ↦ elim rest [ inl x ↦ absurd (free x.lock x.stands) | inr gone ↦ omega (arith, gone.below, fresh) ]
           ];

@@ -94,7 +94,7 @@ module _ (w : View) (k : Key) (lock : Lock) (i : Inv w) (may : MayLock w k lock)
       go (Done Aborted) e =
           elim (still_aborted lock.start (ends.aborted lock.start e)) [
             | inl x ↦ (let each = greatest_each ((locking w k lock).accepted lock.start) (set_of (w.declared lock.start)) c most x.key x.within in absurd (cc (each.stands, x.never)))
-            | inr x ↦ (let each = greatest_each ((locking w k lock).accepted lock.start) (set_of (w.declared lock.start)) c most x.fell.key (does_within w.declared lock.start x.fell.key x.fell.by.lock.mutation ((inv_lock w k lock i may).accepted_does lock.start x.fell.key x.fell.by x.fell.stands)) in absurd (cc (each.async, x.fell.two_phase, some_same each.by x.fell.by (sym each.stands ∙ x.fell.stands))))
+            | inr x ↦ (let each = greatest_each ((locking w k lock).accepted lock.start) (set_of (w.declared lock.start)) c most x.fell.key (does_within w.declared lock.start x.fell.key x.fell.by.lock.mutation ((inv_lock w k lock i may).acceptances lock.start x.fell.key x.fell.by x.fell.stands).does) in absurd (cc (each.async, x.fell.two_phase, some_same each.by x.fell.by (sym each.stands ∙ x.fell.stands))))
           ]
 
   -- and may be committed at the greatest minimum
@@ -124,5 +124,5 @@ module _ (w : View) (k : Key) (lock : Lock) (i : Inv w) (may : MayLock w k lock)
       two_phase_key : (t : ℕ) → lock.start ≡ t → FellBack (locking w k lock).accepted t → ⊥
       two_phase_key t same fell =
           let stands : (locking w k lock).accepted lock.start fell.key ≡ Some fell.by = subst (λ n. (locking w k lock).accepted n fell.key ≡ Some fell.by) (sym same) fell.stands in
-          let each = greatest_each ((locking w k lock).accepted lock.start) (set_of (w.declared lock.start)) c most fell.key (does_within w.declared lock.start fell.key fell.by.lock.mutation ((inv_lock w k lock i may).accepted_does lock.start fell.key fell.by stands)) in
+          let each = greatest_each ((locking w k lock).accepted lock.start) (set_of (w.declared lock.start)) c most fell.key (does_within w.declared lock.start fell.key fell.by.lock.mutation ((inv_lock w k lock i may).acceptances lock.start fell.key fell.by stands).does) in
           cc (each.async, fell.two_phase, some_same each.by fell.by (sym each.stands ∙ stands))

@@ -1,15 +1,12 @@
 -- The lock of a transaction on its primary is pushed: its minimum rises, and is shown.
-use Rattle.std.proofs.Common.{◌≡◌, ◌≢◌, ℕ, ◌<◌, ◌≤◌, ◌==◌, ◌⊎◌, inl, inr, false, cond, Some, None, bytes_eq, refl, sym, ap, subst, ◌∙◌, arith}
+use Rattle.std.proofs.Common.{◌≡◌, ◌≢◌, ℕ, ◌≤◌, ◌==◌, ◌⊎◌, inl, inr, cond, Some, bytes_eq, refl, sym, ap, subst, ◌∙◌, arith}
 use Rattle.std.proofs.lemmas.Bool.{eq-eqb}
 use Rattle.tx_types.specs.declared.key.Key.{Key}
-use Rattle.tx_types.specs.declared.mutation.Mutation.{Mutation}
-use Rattle.tx_types.specs.Keys.{IsVisible}
-use Rattle.tx_plan.specs.Cells.{Lock, CommitRecord, CommitOf, Writes, Cells, with_lock}
+use Rattle.tx_plan.specs.Cells.{Lock, Cells, with_lock}
 use Rattle.tx_plan.specs.Traces.{OwnLock, OwnRollback, on_own_lock}
 use Rattle.tx_core.specs.Histories.{set_of, is_first}
-use Rattle.tx_core.specs.Decisions.{Acceptance}
 use Rattle.tx_core.proofs.Basics.{nat_test, key_test, cond_true, cond_false, some_same}
-use Rattle.tx_core.proofs.view.View.{View, Inv, Does, IsPrimary, IsCommitted, IsAborted, FellBack, Held, one_first, first_within, does_declared}
+use Rattle.tx_core.proofs.view.View.{View, OnCells, IsLock, IsAlone, Inv, IsPrimary, IsCommitted, FellBack, Held, one_first, first_within, does_declared}
 use Rattle.tx_plan.specs.cases.CheckTxnStatus.{with_minimum}
 use Rattle.tx_core.proofs.changes.Keyed.{at_cells, own_cases}
 use Rattle.tx_core.proofs.view.Ends.{Ends, ends_keyed}
@@ -42,7 +39,7 @@ module _ (w : View) (k : Key) (t min : ℕ) (lock : Lock) (i : Inv w) (own : Own
       shown : (q : ℕ) → cond (t == q) min (w.shown q) ≡ w.shown q
       shown q =
           elim (nat_test t q) [
-            | inl x ↦ cond_true (t == q) min (w.shown q) x.0 ∙ same ∙ i.lock_shown k lock own.stands (ap (λ n. is_first (set_of (w.declared n)) k) own.own ∙ first) ∙ ap w.shown (own.own ∙ x.1)
+            | inl x ↦ cond_true (t == q) min (w.shown q) x.0 ∙ same ∙ ((i.keys k).lock lock own.stands).shows (ap (λ n. is_first (set_of (w.declared n)) k) own.own ∙ first) ∙ ap w.shown (own.own ∙ x.1)
             | inr x ↦ cond_false (t == q) min (w.shown q) x.0
           ]
 
@@ -52,81 +49,81 @@ module _ (w : View) (k : Key) (t min : ℕ) (lock : Lock) (i : Inv w) (own : Own
       cells : (q : Key) → cond (bytes_eq k q) (pushed (w.cells k) t min) (w.cells q) ≡ w.cells q
       cells q = elim (key_test k q) [ inl x ↦ cond_true (bytes_eq k q) (pushed (w.cells k) t min) (w.cells q) x.0 ∙ unpushed ∙ ap w.cells x.1 | inr x ↦ cond_false (bytes_eq k q) (pushed (w.cells k) t min) (w.cells q) x.0 ]
 
-  -- what holds of the pushed lock and of the others holds of each that stands
-  at_lock : (P : Key → Lock → Type 0) → P k (with_minimum lock min) → ((q : Key) (old : Lock) → k ≢ q → (w.cells q).lock ≡ Some old → P q old) → (q : Key) (old : Lock) → ((pushing w k t min).cells q).lock ≡ Some old → P q old
-  at_lock P new kept q old =
-      at_cells w k q (pushed (w.cells k) t min) (λ x cells. cells.lock ≡ Some old → P x old) (λ e. subst (P k) (some_same (with_minimum lock min) old (sym (ap (λ (c : Cells). c.lock) pushed_is) ∙ e)) new) (λ other e. kept q old other e)
-
-  at_write : (P : Key → Writes → Type 0) → ((q : Key) → P q (w.cells q).write) → (q : Key) → P q ((pushing w k t min).cells q).write
-  at_write P kept q = at_cells w k q (pushed (w.cells k) t min) (λ x cells. P x cells.write) (subst (λ (c : Cells). P k c.write) (sym pushed_is) (kept k)) (λ other. kept q)
-
-  still_held : (q : Key) (u : ℕ) → Held (w.cells q) u → Held ((pushing w k t min).cells q) u
-  still_held q u old =
-      at_cells w k q (pushed (w.cells k) t min) (λ x cells. (w.cells x).lock ≡ Some old.lock → Held cells u) (λ e. subst (λ c. Held c u) (sym pushed_is) (record { lock = with_minimum lock min; stands = refl; own = ap (λ (l : Lock). l.start) (some_same lock old.lock (sym own.stands ∙ e)) ∙ old.own })) (λ other e. record { lock = old.lock; stands = e; own = old.own }) old.stands
-
   shown_cases : (q : ℕ) → ((t ≡ q) × ((pushing w k t min).shown q ≡ min)) ⊎ ((t ≢ q) × ((pushing w k t min).shown q ≡ w.shown q))
   shown_cases q = elim (nat_test t q) [ inl x ↦ inl (x.1, cond_true (t == q) min (w.shown q) x.0) | inr x ↦ inr (x.1, cond_false (t == q) min (w.shown q) x.0) ]
 
   shown_is : w.shown t ≡ lock.min
-  shown_is = sym (i.lock_shown k lock own.stands (ap (λ n. is_first (set_of (w.declared n)) k) own.own ∙ first) ∙ ap w.shown own.own)
+  shown_is = sym (((i.keys k).lock lock own.stands).shows (ap (λ n. is_first (set_of (w.declared n)) k) own.own ∙ first) ∙ ap w.shown own.own)
+
+  -- the pushed lock keeps what is held
+  still_held : (u : ℕ) → Held (w.cells k) u → Held (with_lock (w.cells k) (Some (with_minimum lock min))) u
+  still_held u old = record { lock = with_minimum lock min; stands = refl; own = ap (λ (l : Lock). l.start) (some_same lock old.lock (sym own.stands ∙ old.stands)) ∙ old.own }
+
+  here : OnCells w.declared w.decided w.accepted (pushing w k t min).shown k (w.collected k) (with_lock (w.cells k) (Some (with_minimum lock min)))
+  here = (let old = i.keys k in record {
+    lock = λ l e. subst (IsLock w.declared w.accepted (pushing w k t min).shown k) (some_same (with_minimum lock min) l e) (let x = old.lock lock own.stands in record {
+      accepts = x.accepts;
+      does = x.does;
+      mode = x.mode;
+      min = λ f. absurd (cc (ap (λ n. is_first (set_of (w.declared n)) k) own.own, first, f));
+      shows = λ f. sym (cond_true (t == lock.start) min (w.shown lock.start) (eq-eqb t lock.start (sym own.own)));
+    });
+    alone = λ l e. subst (IsAlone w.declared w.decided k (w.collected k) (w.cells k).write) (some_same (with_minimum lock min) l e) (let x = old.alone lock own.stands in record { above = x.above; unwritten = x.unwritten; fresh = x.fresh });
+    records = old.records;
+    kept = record {
+      complete = λ u d m end does. elim (old.kept.complete u d m end does) [ inl x ↦ inl (record { rec = x.rec; stands = x.stands; own = x.own }) | inr rest ↦ elim rest [ inl x ↦ inr (inl (still_held u x)) | inr gone ↦ inr (inr gone) ] ];
+      held = λ u e o. still_held u (old.kept.held u e o);
+      cleared = λ u e gone. elim (old.kept.cleared u e gone) [ inl x ↦ inl (still_held u x) | inr rest ↦ inr rest ];
+    };
+  })
+
+  -- the other keys are none of the transaction's primary
+  others : (q : Key) → k ≢ q → OnCells w.declared w.decided w.accepted (pushing w k t min).shown q (w.collected q) (w.cells q)
+  others q other = (let old = i.keys q in record {
+    lock = λ l e. (let x = old.lock l e in record {
+      accepts = x.accepts;
+      does = x.does;
+      mode = x.mode;
+      min = x.min;
+      shows = λ f. elim (shown_cases l.start) [ inl y ↦ absurd (other (one_first w.declared t k q first (subst (λ n. IsPrimary w.declared n q) (sym y.0) f))) | inr y ↦ x.shows f ∙ sym y.1 ];
+    });
+    alone = old.alone;
+    records = old.records;
+    kept = old.kept;
+  })
 
   -- a transaction with a two-phase key that is not committed may be pushed on its primary
   pub inv_push : lock.min ≤ min → FellBack w.accepted t → ((c : ℕ) → IsCommitted w.decided t c → ⊥) → Inv (pushing w k t min)
   inv_push more fell uncommitted =
       record {
-        drawn = i.drawn;
-        begun = i.begun;
-        declares = i.declares;
-        decides = i.decides;
-        reads = i.reads;
-        reads_floor = i.reads_floor;
-        collected_safe = i.collected_safe;
-        accepted_does = i.accepted_does;
-        accepted_above = i.accepted_above;
-        accepted_bound = i.accepted_bound;
-        accepted_upto = i.accepted_upto;
-        accepted_at = i.accepted_at;
-        accepted_mode = i.accepted_mode;
-        lock_accepted = at_lock (λ q old. w.accepted old.start q ≢ None) (i.lock_accepted k lock own.stands) (λ q old other. i.lock_accepted q old);
-        lock_does = at_lock (λ q old. Does w.declared old.start q old.mutation) (i.lock_does k lock own.stands) (λ q old other. i.lock_does q old);
-        lock_mode = at_lock (λ q old. (by : Acceptance) → w.accepted old.start q ≡ Some by → old.mode ≡ by.lock.mode) (i.lock_mode k lock own.stands) (λ q old other. i.lock_mode q old);
-        lock_min = at_lock (λ q old. is_first (set_of (w.declared old.start)) q ≡ false → (by : Acceptance) → w.accepted old.start q ≡ Some by → old.min ≡ by.lock.min) (λ f. absurd (cc (ap (λ n. is_first (set_of (w.declared n)) k) own.own, first, f))) (λ q old other. i.lock_min q old);
-        lock_shown = at_lock (λ q old. IsPrimary w.declared old.start q → old.min ≡ (pushing w k t min).shown old.start) (λ f. sym (cond_true (t == lock.start) min (w.shown lock.start) (eq-eqb t lock.start (sym own.own)))) (λ q old other stands f. elim (shown_cases old.start) [ inl x ↦ absurd (other (one_first w.declared t k q first (subst (λ n. IsPrimary w.declared n q) (sym x.0) f))) | inr x ↦ i.lock_shown q old stands f ∙ sym x.1 ]);
-        lock_above = at_lock (λ q old. (u d : ℕ) (m : Mutation) → IsCommitted w.decided u d → Does w.declared u q m → u ≢ old.start → d ≤ old.start) (i.lock_above k lock own.stands) (λ q old other. i.lock_above q old);
-        lock_unwritten = λ q old e. at_write (λ x write. (at : Lock) → at.start ≡ old.start → (w.cells x).lock ≡ Some at → (c : ℕ) (rec : CommitRecord) → write c ≡ Some (CommitOf rec) → rec.start ≢ old.start) (λ x at same stands c rec y z. i.lock_unwritten x at stands c rec y (z ∙ sym same)) q (before q old e).0 (before q old e).1 (before q old e).2;
-        lock_fresh = at_lock (λ q old. w.collected q ≤ old.start) (i.lock_fresh k lock own.stands) (λ q old other. i.lock_fresh q old);
-        records = at_write (λ q write. (c : ℕ) (rec : CommitRecord) → write c ≡ Some (CommitOf rec) → IsCommitted w.decided rec.start c) i.records;
-        records_does = at_write (λ q write. (c : ℕ) (rec : CommitRecord) → write c ≡ Some (CommitOf rec) → Does w.declared rec.start q rec.mutation) i.records_does;
-        rollbacks = at_write (λ q write. (u : ℕ) → OwnRollback write u → IsAborted w.decided u) i.rollbacks;
-        range = i.range;
-        committed_accepted = i.committed_accepted;
-        committed_bound = i.committed_bound;
-        committed_shown = λ u c end. elim (shown_cases u) [ inl x ↦ absurd (uncommitted c (ap w.decided x.0 ∙ end)) | inr x ↦ omega (arith, x.1, i.committed_shown u c end) ];
-        complete = λ q u d m end does.
-            elim (i.complete q u d m end does) [
-              | inl x ↦ inl (record { rec = x.rec; stands = at_write (λ y write. (w.cells y).write d ≡ Some (CommitOf x.rec) → write d ≡ Some (CommitOf x.rec)) (λ y e. e) q x.stands; own = x.own })
-              | inr rest ↦ elim rest [ inl x ↦ inr (inl (still_held q u x)) | inr gone ↦ inr (inr gone) ]
-            ];
-        held = λ q u e o. still_held q u (i.held q u e o);
-        cleared = λ q u e gone. elim (i.cleared q u e gone) [ inl x ↦ inl (still_held q u x) | inr rest ↦ elim rest [ inl x ↦ inr (inl (at_write (λ y write. OwnRollback (w.cells y).write u → OwnRollback write u) (λ y back. back) q x)) | inr low ↦ inr (inr low) ] ];
-        kept_newest = at_write (λ q write. (e : ℕ) (rec : CommitRecord) → write e ≡ Some (CommitOf rec) → IsVisible rec.mutation → e < w.collected q → (u d : ℕ) (m : Mutation) → IsCommitted w.decided u d → Does w.declared u q m → IsVisible m → e < d → d ≤ w.collected q → ⊥) i.kept_newest;
+        clock = i.clock;
+        marks = i.marks;
+        acceptances = i.acceptances;
+        keys = λ q. at_cells w k q (pushed (w.cells k) t min) on_cells (subst (on_cells k) (sym pushed_is) here) (others q);
+        commits = λ u c end. (let x = i.commits u c end in record {
+          range = x.range;
+          accepts = x.accepts;
+          bounds = x.bounds;
+          shows = elim (shown_cases u) [ inl y ↦ absurd (uncommitted c (ap w.decided y.0 ∙ end)) | inr y ↦ omega (arith, y.1, x.shows) ];
+        });
         unread = λ u q by e o m does v r read.
             elim (i.unread u q by e o m does v r read) [
               | inl x ↦ inl x
               | inr x ↦ elim (shown_cases u) [ inl y ↦ inr (omega (arith, x, y.1, shown_is, ap w.shown y.0, more)) | inr y ↦ inr (omega (arith, x, y.1)) ]
             ];
-        shown_undeclared = λ u e. elim (shown_cases u) [ inl x ↦ (let does = first_within w.declared t k first in absurd (does_declared w.declared t k does.0 does.1 (ap w.declared x.0 ∙ e))) | inr x ↦ x.1 ∙ i.shown_undeclared u e ];
-        shown_none = λ u q f e.
-            elim (shown_cases u) [
-              | inl x ↦ (let same : k ≡ q = one_first w.declared t k q first (subst (λ n. IsPrimary w.declared n q) (sym x.0) f) in absurd (i.lock_accepted k lock own.stands (ap (λ n. w.accepted n k) (own.own ∙ x.0) ∙ ap (w.accepted u) same ∙ e)))
-              | inr x ↦ x.1 ∙ i.shown_none u q f e
-            ];
-        shown_first = λ u q by f e never. elim (shown_cases u) [ inl x ↦ absurd (never (subst (FellBack w.accepted) x.0 fell)) | inr x ↦ x.1 ∙ i.shown_first u q by f e never ];
+        shown = record {
+          undeclared = λ u e. elim (shown_cases u) [ inl x ↦ (let does = first_within w.declared t k first in absurd (does_declared w.declared t k does.0 does.1 (ap w.declared x.0 ∙ e))) | inr x ↦ x.1 ∙ i.shown.undeclared u e ];
+          none = λ u q f e.
+              elim (shown_cases u) [
+                | inl x ↦ (let same : k ≡ q = one_first w.declared t k q first (subst (λ n. IsPrimary w.declared n q) (sym x.0) f) in absurd (((i.keys k).lock lock own.stands).accepts (ap (λ n. w.accepted n k) (own.own ∙ x.0) ∙ ap (w.accepted u) same ∙ e)))
+                | inr x ↦ x.1 ∙ i.shown.none u q f e
+              ];
+          first = λ u q by f e never. elim (shown_cases u) [ inl x ↦ absurd (never (subst (FellBack w.accepted) x.0 fell)) | inr x ↦ x.1 ∙ i.shown.first u q by f e never ];
+        };
       }
     where
-      -- a lock that stands after it has the start of one that stood
-      before : (q : Key) (old : Lock) → ((pushing w k t min).cells q).lock ≡ Some old → (at : Lock) × (at.start ≡ old.start) × ((w.cells q).lock ≡ Some at)
-      before = at_lock (λ q old. (at : Lock) × (at.start ≡ old.start) × ((w.cells q).lock ≡ Some at)) (lock, refl, own.stands) (λ q old other stands. (old, refl, stands))
+      on_cells : Key → Cells → Type 0
+      on_cells q = OnCells w.declared w.decided w.accepted (pushing w k t min).shown q (w.collected q)
 
   -- the ends of transactions stay
   pub ends_push : Ends w → Ends (pushing w k t min)

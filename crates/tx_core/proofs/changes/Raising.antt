@@ -11,42 +11,13 @@ raising w floor = record w { floor = floor }
 pub inv_raise : (w : View) (floor : Key → ℕ) → Inv w → ((k : Key) → w.floor k ≤ floor k) → Inv (raising w floor)
 inv_raise w floor i more =
     record {
-      drawn = i.drawn;
-      begun = i.begun;
-      declares = i.declares;
-      decides = i.decides;
-      reads = i.reads;
-      reads_floor = λ k r read. omega (arith, i.reads_floor k r read, more k);
-      collected_safe = i.collected_safe;
-      accepted_does = i.accepted_does;
-      accepted_above = i.accepted_above;
-      accepted_bound = i.accepted_bound;
-      accepted_upto = i.accepted_upto;
-      accepted_at = i.accepted_at;
-      accepted_mode = i.accepted_mode;
-      lock_accepted = i.lock_accepted;
-      lock_does = i.lock_does;
-      lock_mode = i.lock_mode;
-      lock_min = i.lock_min;
-      lock_shown = i.lock_shown;
-      lock_above = i.lock_above;
-      lock_unwritten = i.lock_unwritten;
-      lock_fresh = i.lock_fresh;
-      records = i.records;
-      records_does = i.records_does;
-      rollbacks = i.rollbacks;
-      range = i.range;
-      committed_accepted = i.committed_accepted;
-      committed_bound = i.committed_bound;
-      committed_shown = i.committed_shown;
-      complete = i.complete;
-      held = i.held;
-      cleared = i.cleared;
-      kept_newest = i.kept_newest;
+      clock = i.clock;
+      marks = record { upto = i.marks.upto; known = λ k r read. omega (arith, i.marks.known k r read, more k); low = i.marks.low };
+      acceptances = i.acceptances;
+      keys = i.keys;
+      commits = i.commits;
       unread = i.unread;
-      shown_undeclared = i.shown_undeclared;
-      shown_none = i.shown_none;
-      shown_first = i.shown_first;
+      shown = i.shown;
     }
 
 -- the safe point is this from now on
@@ -57,40 +28,11 @@ raising_safe w safe = record w { safe = safe }
 pub inv_raise_safe : (w : View) (safe : Key → ℕ) → Inv w → ((k : Key) → w.safe k ≤ safe k) → Inv (raising_safe w safe)
 inv_raise_safe w safe i more =
     record {
-      drawn = i.drawn;
-      begun = i.begun;
-      declares = i.declares;
-      decides = i.decides;
-      reads = i.reads;
-      reads_floor = i.reads_floor;
-      collected_safe = λ k. omega (arith, i.collected_safe k, more k);
-      accepted_does = i.accepted_does;
-      accepted_above = i.accepted_above;
-      accepted_bound = i.accepted_bound;
-      accepted_upto = i.accepted_upto;
-      accepted_at = i.accepted_at;
-      accepted_mode = i.accepted_mode;
-      lock_accepted = i.lock_accepted;
-      lock_does = i.lock_does;
-      lock_mode = i.lock_mode;
-      lock_min = i.lock_min;
-      lock_shown = i.lock_shown;
-      lock_above = i.lock_above;
-      lock_unwritten = i.lock_unwritten;
-      lock_fresh = i.lock_fresh;
-      records = i.records;
-      records_does = i.records_does;
-      rollbacks = i.rollbacks;
-      range = i.range;
-      committed_accepted = i.committed_accepted;
-      committed_bound = i.committed_bound;
-      committed_shown = i.committed_shown;
-      complete = i.complete;
-      held = i.held;
-      cleared = i.cleared;
-      kept_newest = i.kept_newest;
+      clock = i.clock;
+      marks = record { upto = i.marks.upto; known = i.marks.known; low = λ k. omega (arith, i.marks.low k, more k) };
+      acceptances = i.acceptances;
+      keys = i.keys;
+      commits = i.commits;
       unread = i.unread;
-      shown_undeclared = i.shown_undeclared;
-      shown_none = i.shown_none;
-      shown_first = i.shown_first;
+      shown = i.shown;
     }

@@ -27,53 +27,28 @@ Unblocked w covers r = (k : Key) (lock : Lock) → IsTrue (covers k) → (w.cell
 pub inv_read : (w : View) (covers : Key → Bool) (r : ℕ) → Inv w → r ≤ w.last → ((k : Key) → IsTrue (covers k) → r ≤ w.floor k) → Unblocked w covers r → Inv (reading w covers r)
 inv_read w covers r i upto here free =
     record {
-      drawn = i.drawn;
-      begun = i.begun;
-      declares = i.declares;
-      decides = i.decides;
-      reads = λ k s read. elim read [ inl now ↦ omega (arith, now.1, upto) | inr before ↦ i.reads k s before ];
-      reads_floor = λ k s read. elim read [ inl now ↦ omega (arith, now.1, here k now.0) | inr before ↦ i.reads_floor k s before ];
-      collected_safe = i.collected_safe;
-      accepted_does = i.accepted_does;
-      accepted_above = i.accepted_above;
-      accepted_bound = i.accepted_bound;
-      accepted_upto = i.accepted_upto;
-      accepted_at = i.accepted_at;
-      accepted_mode = i.accepted_mode;
-      lock_accepted = i.lock_accepted;
-      lock_does = i.lock_does;
-      lock_mode = i.lock_mode;
-      lock_min = i.lock_min;
-      lock_shown = i.lock_shown;
-      lock_above = i.lock_above;
-      lock_unwritten = i.lock_unwritten;
-      lock_fresh = i.lock_fresh;
-      records = i.records;
-      records_does = i.records_does;
-      rollbacks = i.rollbacks;
-      range = i.range;
-      committed_accepted = i.committed_accepted;
-      committed_bound = i.committed_bound;
-      committed_shown = i.committed_shown;
-      complete = i.complete;
-      held = i.held;
-      cleared = i.cleared;
-      kept_newest = i.kept_newest;
+      clock = i.clock;
+      marks = record {
+        upto = λ k s read. elim read [ inl now ↦ omega (arith, now.1, upto) | inr before ↦ i.marks.upto k s before ];
+        known = λ k s read. elim read [ inl now ↦ omega (arith, now.1, here k now.0) | inr before ↦ i.marks.known k s before ];
+        low = i.marks.low;
+      };
+      acceptances = i.acceptances;
+      keys = i.keys;
+      commits = i.commits;
       unread = λ t k by e o m does v s read. elim read [ inl now ↦ subst (λ n. (n < bound by) ⊎ (n < w.shown t)) now.1 (new t k by e o m does v now.0) | inr before ↦ i.unread t k by e o m does v s before ];
-      shown_undeclared = i.shown_undeclared;
-      shown_none = i.shown_none;
-      shown_first = i.shown_first;
+      shown = i.shown;
     }
   where
     new : (t : ℕ) (k : Key) (by : Acceptance) → w.accepted t k ≡ Some by → w.decided t ≡ Open → (m : Mutation) → Does w.declared t k m → IsVisible m → IsTrue (covers k) → (r < bound by) ⊎ (r < w.shown t)
     new t k by e o m does v inside =
-        let own = i.held k t (is_some (w.accepted t k) by e) o in
-        let same : m ≡ own.lock.mutation = one_does w.declared t own.lock.start k m own.lock.mutation (sym own.own) does (i.lock_does k own.lock own.stands) in
+        let own = (i.keys k).kept.held t (is_some (w.accepted t k) by e) o in
+        let same : m ≡ own.lock.mutation = one_does w.declared t own.lock.start k m own.lock.mutation (sym own.own) does ((i.keys k).lock own.lock own.stands).does in
         let was : w.accepted own.lock.start k ≡ Some by = ap (λ n. w.accepted n k) own.own ∙ e in
         elim (free k own.lock inside own.stands (subst IsVisible same v)) [
           | inl below ↦ elim (cases_Bool (is_first (set_of (w.declared own.lock.start)) k)) [
-            | inl f ↦ inr (omega (arith, below, i.lock_shown k own.lock own.stands f, ap w.shown own.own))
-            | inr f ↦ inl (omega (arith, below, i.lock_min k own.lock own.stands f by was, i.accepted_bound t k by e))
+            | inl f ↦ inr (omega (arith, below, ((i.keys k).lock own.lock own.stands).shows f, ap w.shown own.own))
+            | inr f ↦ inl (omega (arith, below, ((i.keys k).lock own.lock own.stands).min f by was, (i.acceptances t k by e).bounded))
           ]
           | inr pass ↦ elim pass [
             | inl gone ↦ absurd (cc (gone, o, own.own))

@@ -6,7 +6,7 @@ use Rattle.tx_types.specs.Keys.{IsVisible}
 use Rattle.tx_plan.specs.Cells.{Lock, CommitRecord, Write, CommitOf, Rollback, Cells, with_lock}
 use Rattle.tx_plan.specs.Traces.{OwnRollback, on_own_lock, marked, rolled, leave_rollback, without_own, roll_back}
 use Rattle.tx_core.proofs.Basics.{nat_test, nat_same, chosen, cond_true, cond_false, some_same}
-use Rattle.tx_core.proofs.view.View.{View, Inv, Does, IsCommitted, IsAborted, Written, Held}
+use Rattle.tx_core.proofs.view.View.{View, OnCells, Inv, Does, IsCommitted, IsAborted, Written, Held}
 use Rattle.tx_core.proofs.changes.Keyed.{keyed, keyed_same, keyed_to, own_cases, inv_written}
 use Rattle.tx_core.proofs.changes.Settling.{commit_same}
 
@@ -70,8 +70,8 @@ module _ (w : View) (k : Key) (t : ℕ) (lock : Option Lock) (i : Inv w) (gone :
       elim (nat_test t u) [
         | inl x ↦ subst (IsAborted w.decided) x.1 gone
         | inr x ↦ elim own [
-          | inl back ↦ i.rollbacks k u (inl (sym (cond_false (t == u) (Some (rolled t ((w.cells k).write t))) ((w.cells k).write u) x.0) ∙ back))
-          | inr mark ↦ i.rollbacks k u (inr (mark.0, record { stands = sym (cond_false (t == u) (Some (rolled t ((w.cells k).write t))) ((w.cells k).write u) x.0) ∙ mark.1.stands; other = mark.1.other }, mark.2))
+          | inl back ↦ (i.keys k).records.rolled u (inl (sym (cond_false (t == u) (Some (rolled t ((w.cells k).write t))) ((w.cells k).write u) x.0) ∙ back))
+          | inr mark ↦ (i.keys k).records.rolled u (inr (mark.0, record { stands = sym (cond_false (t == u) (Some (rolled t ((w.cells k).write t))) ((w.cells k).write u) x.0) ∙ mark.1.stands; other = mark.1.other }, mark.2))
         ]
       ]
 
@@ -83,7 +83,7 @@ module _ (w : View) (k : Key) (t : ℕ) (lock : Option Lock) (i : Inv w) (gone :
   still_written u d x =
       elim (nat_test t d) [
         | inl y ↦ (let at : (w.cells k).write t ≡ Some (CommitOf x.rec) = ap (w.cells k).write y.1 ∙ x.stands in
-            let other : (x.rec.start == t) ≡ false = ne_eqb x.rec.start t (λ same. (cc (i.records k d x.rec x.stands, same, gone))) in
+            let other : (x.rec.start == t) ≡ false = ne_eqb x.rec.start t (λ same. (cc ((i.keys k).records.committed d x.rec x.stands, same, gone))) in
             let new : rolled t ((w.cells k).write t) ≡ CommitOf (marked x.rec) = ap (rolled t) at ∙ cond_false (x.rec.start == t) Rollback (CommitOf (marked x.rec)) other in
             record { rec = marked x.rec; stands = cond_true (t == d) (Some (rolled t ((w.cells k).write t))) ((w.cells k).write d) y.0 ∙ ap (λ z. Some z) new; own = x.own })
         | inr y ↦ record { rec = x.rec; stands = cond_false (t == d) (Some (rolled t ((w.cells k).write t))) ((w.cells k).write d) y.0 ∙ x.stands; own = x.own }
@@ -94,26 +94,33 @@ module _ (w : View) (k : Key) (t : ℕ) (lock : Option Lock) (i : Inv w) (gone :
   inv_rolled =
       inv_written w k (rolled_with (w.cells k) t lock) i record {
         stood = stood;
-        lock_unwritten = λ old e c rec x same. (let was = was_record c rec x in i.lock_unwritten k old (stood old e) c was.old was.stood (was.start_is ∙ same));
-        records = λ c rec x. (let was = was_record c rec x in subst (λ n. IsCommitted w.decided n c) was.start_is (i.records k c was.old was.stood));
-        records_does = λ c rec x. (let was = was_record c rec x in subst (λ n. Does w.declared n k rec.mutation) was.start_is (i.records_does k c was.old was.stood ∙ ap (λ m. Some m) was.mutation_is));
-        rollbacks = new_rollbacks;
-        complete = λ u d m e does.
-            elim (i.complete k u d m e does) [
-              | inl x ↦ inl (still_written u d x)
-              | inr rest ↦ elim rest [ inl x ↦ inr (inl (still_held u (λ same. (cc (gone, same, e))) x)) | inr x ↦ inr (inr x) ]
-            ];
-        held = λ u e o. still_held u (λ same. (cc (gone, same, o))) (i.held k u e o);
-        cleared = λ u e ended.
-            elim (i.cleared k u e ended) [
-              | inl x ↦ elim (nat_test t u) [
-                | inl y ↦ inr (inl (subst (λ n. OwnRollback (rolled_with (w.cells k) t lock).write n) y.1 (own_rolled (w.cells k) t lock)))
-                | inr y ↦ inl (still_held u y.1 x)
-              ]
-              | inr rest ↦ elim rest [ inl own ↦ inr (inl (kept_rolled (w.cells k) t u lock own)) | inr low ↦ inr (inr low) ]
-            ];
-        kept_newest = λ q rec x v low. (let was = was_record q rec x in i.kept_newest k q was.old was.stood (subst IsVisible (sym was.mutation_is) v) low);
+        unwritten = λ old e c rec x same. (let was = was_record c rec x in (before.alone old (stood old e)).unwritten c was.old was.stood (was.start_is ∙ same));
+        records = record {
+          committed = λ c rec x. (let was = was_record c rec x in subst (λ n. IsCommitted w.decided n c) was.start_is (before.records.committed c was.old was.stood));
+          does = λ c rec x. (let was = was_record c rec x in subst (λ n. Does w.declared n k rec.mutation) was.start_is (before.records.does c was.old was.stood ∙ ap (λ m. Some m) was.mutation_is));
+          rolled = new_rollbacks;
+          newest = λ q rec x v low. (let was = was_record q rec x in before.records.newest q was.old was.stood (subst IsVisible (sym was.mutation_is) v) low);
+        };
+        kept = record {
+          complete = λ u d m e does.
+              elim (before.kept.complete u d m e does) [
+                | inl x ↦ inl (still_written u d x)
+                | inr rest ↦ elim rest [ inl x ↦ inr (inl (still_held u (λ same. (cc (gone, same, e))) x)) | inr x ↦ inr (inr x) ]
+              ];
+          held = λ u e o. still_held u (λ same. (cc (gone, same, o))) (before.kept.held u e o);
+          cleared = λ u e ended.
+              elim (before.kept.cleared u e ended) [
+                | inl x ↦ elim (nat_test t u) [
+                  | inl y ↦ inr (inl (subst (λ n. OwnRollback (rolled_with (w.cells k) t lock).write n) y.1 (own_rolled (w.cells k) t lock)))
+                  | inr y ↦ inl (still_held u y.1 x)
+                ]
+                | inr rest ↦ elim rest [ inl own ↦ inr (inl (kept_rolled (w.cells k) t u lock own)) | inr low ↦ inr (inr low) ]
+              ];
+        };
       }
+    where
+      before : OnCells w.declared w.decided w.accepted w.shown k (w.collected k) (w.cells k)
+      before = i.keys k
 
 -- ---- rolling back, with the lock
 

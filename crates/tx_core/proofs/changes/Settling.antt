@@ -8,7 +8,7 @@ use Rattle.tx_machine.specs.Machine.{Done}
 use Rattle.tx_plan.specs.Cells.{Lock, CommitRecord, Write, CommitOf, Rollback}
 use Rattle.tx_plan.specs.Traces.{OwnRollback, is_rollback, commit_of, settled, settle}
 use Rattle.tx_core.proofs.Basics.{nat_test, chosen, cond_true, cond_false}
-use Rattle.tx_core.proofs.view.View.{View, Inv, Does, IsCommitted, IsAborted, Written, Held, Gone}
+use Rattle.tx_core.proofs.view.View.{View, OnCells, Inv, Does, IsCommitted, IsAborted, Written, Held, Gone}
 use Rattle.tx_core.proofs.changes.Keyed.{keyed, keyed_same, keyed_to, own_cases, inv_written}
 
 -- the lock of the transaction on k becomes its commit record at c, where it stands
@@ -29,8 +29,8 @@ module _ (w : View) (k : Key) (lock : Lock) (c : ℕ) (i : Inv w) (stands : (w.c
   pub unmet : (rec : CommitRecord) → (w.cells k).write c ≡ Some (CommitOf rec) → ⊥
   unmet rec e =
       elim (nat_test rec.start lock.start) [
-        | inl x ↦ i.lock_unwritten k lock stands c rec e x.1
-        | inr x ↦ omega (arith, i.lock_above k lock stands rec.start c rec.mutation (i.records k c rec e) (i.records_does k c rec e) x.1, (i.range lock.start c end).0)
+        | inl x ↦ ((i.keys k).alone lock stands).unwritten c rec e x.1
+        | inr x ↦ omega (arith, ((i.keys k).alone lock stands).above rec.start c rec.mutation ((i.keys k).records.committed c rec e) ((i.keys k).records.does c rec e) x.1, (i.commits lock.start c end).range.0)
       ]
 
   -- rollbacks of aborted transactions are kept, by the mark where the record takes the place of one
@@ -59,10 +59,10 @@ module _ (w : View) (k : Key) (lock : Lock) (c : ℕ) (i : Inv w) (stands : (w.c
   new_rollbacks : (t : ℕ) → OwnRollback (settled (w.cells k) c lock).write t → IsAborted w.decided t
   new_rollbacks t own =
       elim own [
-        | inl back ↦ elim (chosen (c == t) (Some (CommitOf (commit_of lock ((w.cells k).write c)))) ((w.cells k).write t) (Some Rollback) back) [ inl x ↦ absurd (cc (x.1)) | inr x ↦ i.rollbacks k t (inl x.1) ]
+        | inl back ↦ elim (chosen (c == t) (Some (CommitOf (commit_of lock ((w.cells k).write c)))) ((w.cells k).write t) (Some Rollback) back) [ inl x ↦ absurd (cc (x.1)) | inr x ↦ (i.keys k).records.rolled t (inl x.1) ]
         | inr mark ↦ elim (was_record t mark.0 mark.1.stands) [
-          | inl x ↦ subst (IsAborted w.decided) x.0 (i.rollbacks k c (inl (is_rolled ((w.cells k).write c) (ap (λ (r : CommitRecord). r.overlapped_rollback) x.1 ∙ mark.2))))
-          | inr x ↦ i.rollbacks k t (inr (mark.0, record { stands = x; other = mark.1.other }, mark.2))
+          | inl x ↦ subst (IsAborted w.decided) x.0 ((i.keys k).records.rolled c (inl (is_rolled ((w.cells k).write c) (ap (λ (r : CommitRecord). r.overlapped_rollback) x.1 ∙ mark.2))))
+          | inr x ↦ (i.keys k).records.rolled t (inr (mark.0, record { stands = x; other = mark.1.other }, mark.2))
         ]
       ]
 
@@ -85,19 +85,26 @@ module _ (w : View) (k : Key) (lock : Lock) (c : ℕ) (i : Inv w) (stands : (w.c
   inv_settled =
       inv_written w k (settled (w.cells k) c lock) i record {
         stood = λ other e. absurd (cc (e));
-        lock_unwritten = λ other e. absurd (cc (e));
-        records = λ d rec e. elim (was_record d rec e) [ inl x ↦ subst (λ (r : CommitRecord). IsCommitted w.decided r.start d) x.1 (end ∙ ap (λ n. Done (Committed n)) x.0) | inr x ↦ i.records k d rec x ];
-        records_does = λ d rec e. elim (was_record d rec e) [ inl x ↦ subst (λ (r : CommitRecord). Does w.declared r.start k r.mutation) x.1 (i.lock_does k lock stands) | inr x ↦ i.records_does k d rec x ];
-        rollbacks = new_rollbacks;
-        complete = λ u d m e does. new_complete u d m e (i.complete k u d m e does);
-        held = λ t e o. (let old = i.held k t e o in absurd (cc (old.stands, stands, old.own, end, o)));
-        cleared = λ t e gone. elim (i.cleared k t e gone) [ inl old ↦ absurd (cc (old.stands, stands, old.own, end, gone)) | inr rest ↦ elim rest [ inl own ↦ inr (inl (kept_rollback t gone own)) | inr low ↦ inr (inr low) ] ];
-        kept_newest = λ q rec e v low.
-            elim (was_record q rec e) [
-              | inl x ↦ λ u d m p r s above upto. omega (arith, x.0, i.lock_fresh k lock stands, (i.range lock.start c end).0, low)
-              | inr x ↦ i.kept_newest k q rec x v low
-            ];
+        unwritten = λ other e. absurd (cc (e));
+        records = record {
+          committed = λ d rec e. elim (was_record d rec e) [ inl x ↦ subst (λ (r : CommitRecord). IsCommitted w.decided r.start d) x.1 (end ∙ ap (λ n. Done (Committed n)) x.0) | inr x ↦ old.records.committed d rec x ];
+          does = λ d rec e. elim (was_record d rec e) [ inl x ↦ subst (λ (r : CommitRecord). Does w.declared r.start k r.mutation) x.1 (old.lock lock stands).does | inr x ↦ old.records.does d rec x ];
+          rolled = new_rollbacks;
+          newest = λ q rec e v low.
+              elim (was_record q rec e) [
+                | inl x ↦ λ u d m p r s above upto. omega (arith, x.0, (old.alone lock stands).fresh, (i.commits lock.start c end).range.0, low)
+                | inr x ↦ old.records.newest q rec x v low
+              ];
+        };
+        kept = record {
+          complete = λ u d m e does. new_complete u d m e (old.kept.complete u d m e does);
+          held = λ t e o. (let was = old.kept.held t e o in absurd (cc (was.stands, stands, was.own, end, o)));
+          cleared = λ t e gone. elim (old.kept.cleared t e gone) [ inl was ↦ absurd (cc (was.stands, stands, was.own, end, gone)) | inr rest ↦ elim rest [ inl own ↦ inr (inl (kept_rollback t gone own)) | inr low ↦ inr (inr low) ] ];
+        };
       }
+    where
+      old : OnCells w.declared w.decided w.accepted w.shown k (w.collected k) (w.cells k)
+      old = i.keys k
 
 -- where a transaction is committed at c, its lock on a key may be settled, if it stands
 pub inv_settle : (w : View) (k : Key) (t c : ℕ) → Inv w → IsCommitted w.decided t c → Inv (settling w k t c)

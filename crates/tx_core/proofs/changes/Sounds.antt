@@ -34,14 +34,14 @@ use Rattle.tx_core.proofs.changes.Collecting.{collecting, inv_collect}
 use Rattle.tx_core.proofs.view.Tables.{Shows, Sound, changes_of, row_declared, may_commit, has_ended, sees}
 
 undeclared : (w : View) (t : ℕ) → Inv w → w.began t ≡ false → w.declared t ≡ None
-undeclared w t i e = none_is (w.declared t) (λ d x. (cc (i.declares t (λ none. (cc (none, x))), e)))
+undeclared w t i e = none_is (w.declared t) (λ d x. (cc (i.clock.declares t (λ none. (cc (none, x))), e)))
 
 undecided : (w : View) (t : ℕ) → Inv w → w.declared t ≡ None → w.decided t ≡ Open
 undecided w t i none = go (w.decided t) refl
   where
     go : (s : State) → w.decided t ≡ s → w.decided t ≡ Open
     go Open x = x
-    go (Done e) x = absurd (i.decides t (λ o. (cc (o, x))) none)
+    go (Done e) x = absurd (i.clock.decides t (λ o. (cc (o, x))) none)
 
 -- ---- steps of the machine
 
@@ -133,7 +133,7 @@ sound_decide steps w t c s may =
       shows = record {
         row = λ q.
             elim (nat_test t q) [
-              | inl e ↦ rw (e.0, s.shows.row t, row_declared w t of.0 s.inv of.1, subst (λ n. w.began n ≡ true) e.1 (s.inv.declares t may.declared), subst (λ n. w.declared n ≡ Some of.0) e.1 of.1) refl
+              | inl e ↦ rw (e.0, s.shows.row t, row_declared w t of.0 s.inv of.1, subst (λ n. w.began n ≡ true) e.1 (s.inv.clock.declares t may.declared), subst (λ n. w.declared n ≡ Some of.0) e.1 of.1) refl
               | inr e ↦ rw e.0 (s.shows.row q)
             ];
         last = s.shows.last;
@@ -152,7 +152,7 @@ sound_abort steps w t s o some =
       shows = record {
         row = λ q.
             elim (nat_test t q) [
-              | inl e ↦ rw (e.0, s.shows.row t, row_declared w t of.0 s.inv of.1, subst (λ n. w.began n ≡ true) e.1 (s.inv.declares t some), subst (λ n. w.declared n ≡ Some of.0) e.1 of.1) refl
+              | inl e ↦ rw (e.0, s.shows.row t, row_declared w t of.0 s.inv of.1, subst (λ n. w.began n ≡ true) e.1 (s.inv.clock.declares t some), subst (λ n. w.declared n ≡ Some of.0) e.1 of.1) refl
               | inr e ↦ rw e.0 (s.shows.row q)
             ];
         last = s.shows.last;

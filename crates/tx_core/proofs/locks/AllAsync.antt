@@ -130,7 +130,7 @@ module _ (bounds : List Key) (h : History) (t : ℕ) (min : Key → ℕ) (run : 
 
   no_two_phase : HasTwoPhaseLock h t → ⊥
   no_two_phase has =
-      let is = all has.key (does_within (declared h) t has.key has.by.lock.mutation ((run_told bounds h run).0.sound.inv.accepted_does t has.key has.by has.stands)) in
+      let is = all has.key (does_within (declared h) t has.key has.by.lock.mutation ((run_told bounds h run).0.sound.inv.acceptances t has.key has.by has.stands).does) in
       let same : is.by ≡ has.by = some_same is.by has.by (sym is.stands ∙ has.stands) in
       cc (is.async, same, has.two_phase)
 

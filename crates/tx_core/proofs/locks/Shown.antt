@@ -62,7 +62,7 @@ module _ (bounds : List Key) (h : History) (good : Good bounds h) (before : Told
             elim (cases_Bool ((lock.start == t) && is_first (set_at h t) b.key)) [
               | inl e ↦ (let both = and_parts (lock.start == t) (is_first (set_at h t) b.key) e in
                   let start : b.start ≡ t = sym of ∙ eqb-true lock.start t both.0 in
-                  let zero_shown : shown_in h t ≡ 0 = good.sound.inv.shown_none t b.key both.1 (subst (λ u. accepted h u b.key ≡ None) start never) in
+                  let zero_shown : shown_in h t ≡ 0 = good.sound.inv.shown.none t b.key both.1 (subst (λ u. accepted h u b.key ≡ None) start never) in
                   omega (arith, zero_shown))
               | inr e ↦ rw e (omega arith)
             ]
@@ -79,7 +79,7 @@ module _ (bounds : List Key) (h : History) (good : Good bounds h) (before : Told
     rises_prewrite a (inr (no0, inr (no1, inr (no2, inr (no3, inr (no4, inr (no5, inr (no6, rest)))))))) = last_rows rest
       where
         never : accepted h b.start b.key ≡ None
-        never = never_accepted (view bounds h) b.key b.start good.sound.inv (elim (cases_lt b.start (left h at).safe) [ inl lt ↦ absurd (no0 lt) | inr le ↦ omega (arith, le, good.sound.inv.collected_safe b.key) ]) no2 no4 no3
+        never = never_accepted (view bounds h) b.key b.start good.sound.inv (elim (cases_lt b.start (left h at).safe) [ inl lt ↦ absurd (no0 lt) | inr le ↦ omega (arith, le, good.sound.inv.marks.low b.key) ]) no2 no4 no3
 
         puts : (m : ℕ) → a ≡ Prewritten m → Rises at (body.Prewrite b) l a
         puts m e = rises_put a (lock_of b m) refl (ap (effect (left h at).cells (body.Prewrite b)) e) never
@@ -125,7 +125,7 @@ module _ (bounds : List Key) (h : History) (good : Good bounds h) (before : Told
 
         was : (t : ℕ) → b.start ≡ t → shown_in h t ≡ lock.min
         was t same = (let primary : is_first (set_at h lock.start) b.key ≡ true = ap (λ u. is_first (set_at h u) b.key) own.own ∙ ap (λ o. is_first (set_of o) b.key) may.stands ∙ may.primary in
-            ap (shown_in h) (sym (own.own ∙ same)) ∙ sym (good.sound.inv.lock_shown b.key lock own.stands primary))
+            ap (shown_in h) (sym (own.own ∙ same)) ∙ sym (((good.sound.inv.keys b.key).lock lock own.stands).shows primary))
 
     checks : (a : Answer) (lock : Lock) → OwnLock (cells_at bounds h b.key).lock b.start lock → ChecksLock b lock a → Shows there (body.CheckTxnStatus b) l a
     checks a lock own (inl x) = locked a lock lock own refl (omega arith) x.1

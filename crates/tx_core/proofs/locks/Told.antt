@@ -176,7 +176,7 @@ module _ (bounds : List Key) (h : History) (good : Good bounds h) (before : Told
   standing : (n : ℕ) (k : Key) (lock : Lock) → ((left h n).cells k).lock ≡ Some lock → IsShown h (shown_in h) (info_of k lock)
   standing n k lock e =
       let here : (cells_at bounds h k).lock ≡ Some lock = subst (λ m. ((left h m).cells k).lock ≡ Some lock) (sym (before.routed n k lock e)) e in
-      (does_declared (declared h) lock.start k lock.mutation (good.sound.inv.lock_does k lock here), λ first. omega (arith, good.sound.inv.lock_shown k lock here first))
+      (does_declared (declared h) lock.start k lock.mutation ((good.sound.inv.keys k).lock lock here).does, λ first. omega (arith, ((good.sound.inv.keys k).lock lock here).shows first))
 
   pub nothing : (a : Answer) → infos_in a ≡ [] → AllShown a
   nothing a none info c = absurd (contains_none info (subst (λ xs. Contains xs info) none c))

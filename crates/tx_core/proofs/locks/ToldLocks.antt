@@ -160,17 +160,17 @@ module _ (bounds : List Key) (h : History) (run : IsWorldRun bounds h) where
   standing n k lock e =
       let says = all_say bounds h run n k lock e in
       let at : ((left h (route bounds k)).cells k).lock ≡ Some lock = subst (λ m. ((left h m).cells k).lock ≡ Some lock) (sym ((run_told bounds h run).1.routed n k lock e)) e in
-      let of = some_of (accepted h lock.start k) (inv.lock_accepted k lock at) in
-      let mode : lock.mode ≡ of.0.lock.mode = inv.lock_mode k lock at of.0 of.1 in
+      let of = some_of (accepted h lock.start k) ((inv.keys k).lock lock at).accepts in
+      let mode : lock.mode ≡ of.0.lock.mode = ((inv.keys k).lock lock at).mode of.0 of.1 in
       let set : set_of (declared h lock.start) ≡ says.of.changes = ap set_of says.stands in
       let same : is_first (set_of (declared h lock.start)) k ≡ is_first says.of.changes k = ap (λ s. is_first s k) set in
       record {
         of = says.of;
         stands = says.stands;
-        within = λ none. cc (ap (λ s. mutation_at s k) (sym set) ∙ inv.lock_does k lock at, none);
+        within = λ none. cc (ap (λ s. mutation_at s k) (sym set) ∙ ((inv.keys k).lock lock at).does, none);
         primary = says.primary;
         async = λ is. (elim (mode_of says.of.mode) [
-          | inl two ↦ (let not : lock.mode ≡ TwoPhase = mode ∙ inv.accepted_mode lock.start k of.0 of.1 says.of says.stands two in cc (not, is))
+          | inl two ↦ (let not : lock.mode ≡ TwoPhase = mode ∙ (inv.acceptances lock.start k of.0 of.1).mode says.of says.stands two in cc (not, is))
           | inr so ↦ so
         ]);
         listed = says.listed;
@@ -179,8 +179,8 @@ module _ (bounds : List Key) (h : History) (run : IsWorldRun bounds h) where
         mode = sym mode;
         min = λ way. sym (elim (cases_Bool (is_first says.of.changes k)) [
           | inl first ↦ (let fresh : FellBack (accepted h) lock.start → ⊥ = elim way [ inl other ↦ absurd (cc (other, first)) | inr never ↦ λ fell. never (record { key = fell.key; by = fell.by; stands = fell.stands; two_phase = fell.two_phase }) ] in
-              inv.lock_shown k lock at (same ∙ first) ∙ inv.shown_first lock.start k of.0 (same ∙ first) of.1 fresh)
-          | inr other ↦ inv.lock_min k lock at (same ∙ other) of.0 of.1
+              ((inv.keys k).lock lock at).shows (same ∙ first) ∙ inv.shown.first lock.start k of.0 (same ∙ first) of.1 fresh)
+          | inr other ↦ ((inv.keys k).lock lock at).min (same ∙ other) of.0 of.1
         ]);
       }
     where

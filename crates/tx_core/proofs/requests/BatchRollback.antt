@@ -74,7 +74,7 @@ module _ (bounds : List Key) (h : History) (good : Good bounds h) (b : BatchRoll
     missing fresh unlocked uncommitted = elim may.may [ inl gone ↦ follow gone | inr two ↦ of_primary (first two.1) ]
       where
         never : (IsAborted (decided h) b.start → ⊥) → accepted h b.start b.key ≡ None
-        never live = never_accepted (view bounds h) b.key b.start good.sound.inv (elim (cases_lt b.start (left h (route bounds b.key)).collected) [ inl lt ↦ absurd (fresh lt) | inr le ↦ le ]) unlocked uncommitted (λ own. live (good.sound.inv.rollbacks b.key b.start own))
+        never live = never_accepted (view bounds h) b.key b.start good.sound.inv (elim (cases_lt b.start (left h (route bounds b.key)).collected) [ inl lt ↦ absurd (fresh lt) | inr le ↦ le ]) unlocked uncommitted (λ own. live ((good.sound.inv.keys b.key).records.rolled b.start own))
 
         of_primary : IsPrimary (declared h) b.start b.key → Next bounds h (took (route bounds b.key) (body.BatchRollback b) l RolledBack)
         of_primary is =

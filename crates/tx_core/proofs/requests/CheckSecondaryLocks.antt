@@ -58,7 +58,7 @@ module _ (bounds : List Key) (h : History) (good : Good bounds h) (b : CheckSeco
       some none = cc (none, may.stands)
 
       never : (IsAborted (decided h) b.start → ⊥) → accepted h b.start b.key ≡ None
-      never live = never_accepted (view bounds h) b.key b.start good.sound.inv (elim (cases_lt b.start (left h (route bounds b.key)).collected) [ inl lt ↦ absurd (fresh lt) | inr le ↦ le ]) unlocked uncommitted (λ own. live (good.sound.inv.rollbacks b.key b.start own))
+      never live = never_accepted (view bounds h) b.key b.start good.sound.inv (elim (cases_lt b.start (left h (route bounds b.key)).collected) [ inl lt ↦ absurd (fresh lt) | inr le ↦ le ]) unlocked uncommitted (λ own. live ((good.sound.inv.keys b.key).records.rolled b.start own))
 
       within : mutation_at (set_at h b.start) b.key ≢ None
       within none = may.within (sym (ap (λ o. mutation_at (set_of o) b.key) may.stands) ∙ none)

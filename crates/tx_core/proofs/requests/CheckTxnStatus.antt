@@ -132,6 +132,6 @@ module _ (bounds : List Key) (h : History) (good : Good bounds h) (b : CheckTxnS
   next_check_status a may (inr (no0, inl x)) = silent a (FutureTimestamp l) x.1 (quiet bounds h good b.key (body.CheckTxnStatus b) l (FutureTimestamp l) b.start (λ c. leaves_check_txn_status c b (FutureTimestamp l)) (on_key (FutureTimestamp l)) refl (λ u n. refl) refl tt)
   next_check_status a may (inr (no0, inr (no1, inl (lock, own, x)))) = checks may lock own a x
   next_check_status a may (inr (no0, inr (no1, inr (no2, inl (c, own, e))))) = silent a (Committed c) e (quiet bounds h good b.key (body.CheckTxnStatus b) l (Committed c) b.start (λ x. leaves_check_txn_status x b (Committed c)) (on_key (Committed c)) refl (λ u n. refl) refl (true_commit bounds h good b.key b.start c own))
-  next_check_status a may (inr (no0, inr (no1, inr (no2, inr (no3, inl x))))) = silent a RolledBack x.1 (follows bounds h good b.key (body.CheckTxnStatus b) l RolledBack b.start roll leaves (good.sound.inv.rollbacks b.key b.start x.0))
+  next_check_status a may (inr (no0, inr (no1, inr (no2, inr (no3, inl x))))) = silent a RolledBack x.1 (follows bounds h good b.key (body.CheckTxnStatus b) l RolledBack b.start roll leaves ((good.sound.inv.keys b.key).records.rolled b.start x.0))
   next_check_status a may (inr (no0, inr (no1, inr (no2, inr (no3, inr (no4, inl x)))))) = silent a RolledBack x.1 (missing may no0 no2 no3 no4)
   next_check_status a may (inr (no0, inr (no1, inr (no2, inr (no3, inr (no4, inr (no5, e))))))) = silent a TxnNotFound e (quiet bounds h good b.key (body.CheckTxnStatus b) l TxnNotFound b.start (λ c. leaves_check_txn_status c b TxnNotFound) (on_key TxnNotFound) refl (λ u n. refl) refl tt)

@@ -95,7 +95,7 @@ module _ (bounds : List Key) (h : History) (good : Good bounds h) (b : Commit) (
             let fell : FellBack (accepted h) b.start = record { key = new.two_phase.key; by = new.two_phase.by; stands = new.two_phase.stands; two_phase = new.two_phase.two_phase } in
             let o : decided h b.start ≡ Open = first_opens (view bounds h) b.key b.start lock good.ends fell first own new.accepted in
             let low : lock.min ≤ b.commit = elim (cases_lt b.commit lock.min) [ inl lt ↦ absurd (high lt) | inr le ↦ le ] in
-            decides fell first (decide.decide_drawn (view bounds h) b.start b.commit b.key lock good.sound.inv o new.accepted (λ none. (cc (none, new.drawn.of_commit))) (λ k by e. new.drawn.after k by (does_within (declared h) b.start k by.lock.mutation (good.sound.inv.accepted_does b.start k by e)) e) first own low)
+            decides fell first (decide.decide_drawn (view bounds h) b.start b.commit b.key lock good.sound.inv o new.accepted (λ none. (cc (none, new.drawn.of_commit))) (λ k by e. new.drawn.after k by (does_within (declared h) b.start k by.lock.mutation (good.sound.inv.acceptances b.start k by e).does) e) first own low)
 
   -- ---- the rows
 

@@ -54,6 +54,6 @@ module _ (bounds : List Key) (h : History) (good : Good bounds h) (b : Get) (l :
   next_get a may upto (inr (no0, inr (no1, inr (free, (found, e, reads))))) =
       silent a (read_answer found) e (gives
       (elim (cases_lt l b.at) [ inl lt ↦ absurd (no1 lt) | inr le ↦ omega (arith, le, upto) ])
-      (elim (cases_lt b.at (left h (route bounds b.key)).safe) [ inl lt ↦ absurd (no0 lt) | inr le ↦ omega (arith, le, good.sound.inv.collected_safe b.key) ])
+      (elim (cases_lt b.at (left h (route bounds b.key)).safe) [ inl lt ↦ absurd (no0 lt) | inr le ↦ omega (arith, le, good.sound.inv.marks.low b.key) ])
       (unblocked (view bounds h) (bytes_eq b.key) b.at b.bypass (λ k lock inside. (let same : b.key ≡ k = key_true b.key k inside in subst (λ q. Blocks (cells_at bounds h q).lock b.at b.bypass lock → ⊥) same (free lock))) may)
       found reads)

@@ -156,7 +156,7 @@ quiet bounds h good k body l a t f on is shows cells truth =
 module _ (bounds : List Key) (h : History) (good : Good bounds h) where
   -- its commit record: it is committed there
   pub own_commit : (k : Key) (t c : ℕ) → OwnCommit (cells_at bounds h k).write t c → IsCommitted (decided h) t c
-  own_commit k t c own = subst (λ n. IsCommitted (decided h) n c) own.own (good.sound.inv.records k c own.rec own.stands)
+  own_commit k t c own = subst (λ n. IsCommitted (decided h) n c) own.own ((good.sound.inv.keys k).records.committed c own.rec own.stands)
 
   -- what is decided is told truly
   pub true_end : (t : ℕ) (e : Fate) → decided h t ≡ Done e → HasEnded (table_of (shadow h)) t e
@@ -166,7 +166,7 @@ module _ (bounds : List Key) (h : History) (good : Good bounds h) where
   true_commit k t c own = true_end t (Committed c) (own_commit k t c own)
 
   pub true_rollback : (k : Key) (t : ℕ) → OwnRollback (cells_at bounds h k).write t → HasEnded (table_of (shadow h)) t Aborted
-  true_rollback k t own = true_end t Aborted (good.sound.inv.rollbacks k t own)
+  true_rollback k t own = true_end t Aborted ((good.sound.inv.keys k).records.rolled t own)
 
 -- a lock that is not its own
 pub not_own : (o : Option Lock) (t : ℕ) → ((lock : Lock) → o ≡ Some lock → lock.start ≢ t) → is_own o t ≡ false

@@ -107,7 +107,7 @@ module _ (bounds : List Key) (h : History) (good : Good bounds h) (b : Prewrite)
       i = good.sound.inv
 
       from_safe : (left h (route bounds b.key)).collected ≤ b.start
-      from_safe = elim (cases_lt b.start (left h (route bounds b.key)).safe) [ inl lt ↦ absurd (no0 lt) | inr le ↦ omega (arith, le, i.collected_safe b.key) ]
+      from_safe = elim (cases_lt b.start (left h (route bounds b.key)).safe) [ inl lt ↦ absurd (no0 lt) | inr le ↦ omega (arith, le, i.marks.low b.key) ]
 
       drawn : b.start ≤ last h
       drawn = elim (cases_lt l b.start) [ inl lt ↦ absurd (no1 lt) | inr le ↦ omega (arith, le, upto) ]

@@ -124,7 +124,7 @@ module _ (bounds : List Key) (h : History) (good : Good bounds h) (n : ℕ) (l :
     collects records values at free =
         let a = Collected records values in
         let within : Key → Bool = λ q. n == route bounds q in
-        let more : (q : Key) → within q ≡ true → ((left h (route bounds q)).collected ≤ b.safe) × (b.safe ≤ (left h (route bounds q)).safe) = λ q inside. (let same : (left h n).safe ≡ (left h (route bounds q)).safe = ap (λ m. (left h m).safe) (eqb-true n (route bounds q) inside) in (omega (arith, at, same, good.sound.inv.collected_safe q), omega (arith, at, same))) in
+        let more : (q : Key) → within q ≡ true → ((left h (route bounds q)).collected ≤ b.safe) × (b.safe ≤ (left h (route bounds q)).safe) = λ q inside. (let same : (left h n).safe ≡ (left h (route bounds q)).safe = ap (λ m. (left h m).safe) (eqb-true n (route bounds q) inside) in (omega (arith, at, same, good.sound.inv.marks.low q), omega (arith, at, same))) in
         let above : (q : Key) (lock : Lock) → within q ≡ true → (cells_at bounds h q).lock ≡ Some lock → b.safe ≤ lock.start = λ q lock inside stands. elim (cases_lt lock.start b.safe) [ inl lt ↦ absurd (free (info_of q lock, record { lock = lock; stands = subst (λ m. ((left h m).cells q).lock ≡ Some lock) (sym (eqb-true n (route bounds q) inside)) stands; told = refl; below = lt })) | inr le ↦ le ] in
         assemble_region (body.Collect b) a (record { unnamed = refl; none = λ cells. refl; untold = λ u m. refl; unread = λ before. refl; unseen = refl; floor = λ r. refl }) (view bounds h).safe (collecting (view bounds h) within b.safe).collected (collecting (view bounds h) within b.safe).cells
         (λ k. part_same h n (route bounds k) (body.Collect b) l a (λ r. r.safe) (λ r. refl))

@@ -39,7 +39,7 @@ module _ (bounds : List Key) (h : History) (good : Good bounds h) (n : ℕ) (b :
   gives : Holds bounds n (body.Scan b) → b.at ≤ last h → (left h n).safe ≤ b.at → ((t : ℕ) → Contains b.bypass t → Passes (decided h) (shown_in h) b.at t) → (rows : List KeyValue) → length rows ≤ b.limit → Walked (left h n).cells b.at b.bypass (covered b rows) rows → Next bounds h (took n (body.Scan b) l (Rows rows))
   gives holds upto fresh may rows few walked =
       let w : View = raising (view bounds h) (floor_after bounds h (took n (body.Scan b) l (Rows rows))) in
-      let low : (k : Key) → IsTrue (in_range b k) → (left h (route bounds k)).collected ≤ b.at = λ k inside. (let safe : (left h (route bounds k)).safe ≤ b.at = subst (λ m. (left h m).safe ≤ b.at) (sym (holds k inside)) fresh in omega (arith, safe, good.sound.inv.collected_safe k)) in
+      let low : (k : Key) → IsTrue (in_range b k) → (left h (route bounds k)).collected ≤ b.at = λ k inside. (let safe : (left h (route bounds k)).safe ≤ b.at = subst (λ m. (left h m).safe ≤ b.at) (sym (holds k inside)) fresh in omega (arith, safe, good.sound.inv.marks.low k)) in
       let here : (k : Key) → IsTrue (in_range b k) → b.at ≤ w.floor k = λ k inside. floor_reaches bounds h n (body.Scan b) l (Rows rows) b.at (is_read (Rows rows)) (λ m. le-max_right m b.at) k (holds k inside) in
       let at : (k : Key) → IsTrue (covered b rows k) → (left h n).cells k ≡ cells_at bounds h k = λ k inside. ap (λ m. (left h m).cells k) (sym (holds k (and_parts (in_range b k) (nat_lt (length rows) b.limit || reaches rows k) inside).0)) in
       let same : Walked (cells_at bounds h) b.at b.bypass (covered b rows) rows = record {

@@ -32,12 +32,12 @@ told_fate bounds h run t end told = (run_told bounds h run).0.told told.by told.
 
 -- who is decided declared
 pub decided_declared : (bounds : List Key) (h : History) → IsWorldRun bounds h → (t : ℕ) (end : Fate) → decided h t ≡ Done end → declared h t ≢ None
-decided_declared bounds h run t end is = (inv_of bounds h run).decides t (λ o. cc (o, is))
+decided_declared bounds h run t end is = (inv_of bounds h run).clock.decides t (λ o. cc (o, is))
 
 -- ---- who did not begin
 
 pub undeclared : (bounds : List Key) (h : History) → IsWorldRun bounds h → (t : ℕ) → began h t ≡ false → declared h t ≡ None
-undeclared bounds h run t not_yet = none_is (declared h t) (λ d is. cc ((inv_of bounds h run).declares t (is_some (declared h t) d is), not_yet))
+undeclared bounds h run t not_yet = none_is (declared h t) (λ d is. cc ((inv_of bounds h run).clock.declares t (is_some (declared h t) d is), not_yet))
 
 pub unanswered : (bounds : List Key) (h : History) → IsWorldRun bounds h → (t : ℕ) → began h t ≡ false → answered h t ≡ false
 unanswered bounds [] run t not_yet = refl
@@ -60,11 +60,11 @@ unanswered bounds (Took x ∷ h) run t not_yet = unanswered bounds h run.0 t not
 
 -- a key was accepted at most at the last number
 pub accepted_upto : (bounds : List Key) (h : History) → IsWorldRun bounds h → (t : ℕ) (k : Key) (by : Acceptance) → accepted h t k ≡ Some by → by.at ≤ last h
-accepted_upto bounds h run = (inv_of bounds h run).accepted_at
+accepted_upto bounds h run t k by e = ((inv_of bounds h run).acceptances t k by e).at
 
 -- the locks of a transaction that was declared two-phase are two-phase
 pub accepted_two_phase : (bounds : List Key) (h : History) → IsWorldRun bounds h → (t : ℕ) (k : Key) (by : Acceptance) → accepted h t k ≡ Some by → (d : Declaration) → declared h t ≡ Some d → d.mode ≡ TwoPhase → by.lock.mode ≡ TwoPhase
-accepted_two_phase bounds h run = (inv_of bounds h run).accepted_mode
+accepted_two_phase bounds h run t k by e = ((inv_of bounds h run).acceptances t k by e).mode
 
 -- a lock that is put is an acceptance, where none stood before
 put_accepted : (key : Key) (lock : Lock) (n : ℕ) (before : Option Acceptance) → accepted_by (Puts key lock) n lock.start key before ≢ None
@@ -92,6 +92,6 @@ prewritten_accepted bounds h run x b m in_region is answer = subst (λ e. accept
     go None e = put
     go (Some lock) e =
         elim (nat_test lock.start b.start) [
-          | inl y ↦ rw y.0 (subst (λ t. accepted h t b.key ≢ None) y.1 ((inv_of bounds h run).lock_accepted b.key lock e))
+          | inl y ↦ rw y.0 (subst (λ t. accepted h t b.key ≢ None) y.1 (((inv_of bounds h run).keys b.key).lock lock e).accepts)
           | inr y ↦ rw y.0 put
         ]

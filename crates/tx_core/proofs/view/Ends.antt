@@ -46,25 +46,25 @@ Ends w = EndsOf w.declared w.accepted w.decided w.collected w.cells
 -- a two-phase lock of a transaction makes it one with a two-phase key
 pub fell_of_lock : (w : View) (k : Key) (lock : Lock) (t : ℕ) → Inv w → OwnLock (w.cells k).lock t lock → lock.mode ≡ TwoPhase → FellBack w.accepted t
 fell_of_lock w k lock t i own mode =
-    let of = some_of (w.accepted lock.start k) (i.lock_accepted k lock own.stands) in
-    record { key = k; by = of.0; stands = ap (λ n. w.accepted n k) (sym own.own) ∙ of.1; two_phase = sym (i.lock_mode k lock own.stands of.0 of.1) ∙ mode }
+    let of = some_of (w.accepted lock.start k) ((i.keys k).lock lock own.stands).accepts in
+    record { key = k; by = of.0; stands = ap (λ n. w.accepted n k) (sym own.own) ∙ of.1; two_phase = sym (((i.keys k).lock lock own.stands).mode of.0 of.1) ∙ mode }
 
 -- and so does a lock of one that was declared two-phase
 pub fell_of_declared : (w : View) (k : Key) (lock : Lock) (t : ℕ) (d : Declaration) → Inv w → OwnLock (w.cells k).lock t lock → w.declared t ≡ Some d → d.mode ≡ TwoPhase → FellBack w.accepted t
 fell_of_declared w k lock t d i own stands mode =
-    let of = some_of (w.accepted lock.start k) (i.lock_accepted k lock own.stands) in
+    let of = some_of (w.accepted lock.start k) ((i.keys k).lock lock own.stands).accepts in
     let at : w.accepted t k ≡ Some of.0 = ap (λ n. w.accepted n k) (sym own.own) ∙ of.1 in
-    record { key = k; by = of.0; stands = at; two_phase = i.accepted_mode t k of.0 at d stands mode }
+    record { key = k; by = of.0; stands = at; two_phase = (i.acceptances t k of.0 at).mode d stands mode }
 
 -- with a two-phase key there is no greatest minimum
 pub fell_no_greatest : (w : View) (t c : ℕ) → Inv w → FellBack w.accepted t → greatest (w.accepted t) (set_of (w.declared t)) ≡ Some c → ⊥
 fell_no_greatest w t c i fell most =
-    let each = greatest_each (w.accepted t) (set_of (w.declared t)) c most fell.key (does_within w.declared t fell.key fell.by.lock.mutation (i.accepted_does t fell.key fell.by fell.stands)) in
+    let each = greatest_each (w.accepted t) (set_of (w.declared t)) c most fell.key (does_within w.declared t fell.key fell.by.lock.mutation (i.acceptances t fell.key fell.by fell.stands).does) in
     cc (each.async, fell.two_phase, some_same each.by fell.by (sym each.stands ∙ fell.stands))
 
 -- a transaction with an unaccepted key is not committed
 pub missing_live : (w : View) (k : Key) (t c : ℕ) → Inv w → mutation_at (set_of (w.declared t)) k ≢ None → w.accepted t k ≡ None → IsCommitted w.decided t c → ⊥
-missing_live w k t c i within never end = i.committed_accepted t c end k within never
+missing_live w k t c i within never end = (i.commits t c end).accepts k within never
 
 -- a transaction with a two-phase key whose primary is locked, and whose keys are all accepted, is open
 pub first_opens : (w : View) (k : Key) (t : ℕ) (lock : Lock) → Ends w → FellBack w.accepted t → IsPrimary w.declared t k → OwnLock (w.cells k).lock t lock → Accepts w.declared w.accepted t → w.decided t ≡ Open
@@ -109,11 +109,11 @@ ends_declare w d ends i none =
     record {
       all_async = λ t c e.
           (let some = greatest_some (w.accepted t) (set_of ((declaring w d).declared t)) c e in
-          let was = does_declared w.declared t some.0 some.1.lock.mutation (i.accepted_does t some.0 some.1 some.2) in
+          let was = does_declared w.declared t some.0 some.1.lock.mutation (i.acceptances t some.0 some.1 some.2).does in
           ends.all_async t c (ap (λ o. greatest (w.accepted t) (set_of o)) (sym (same t was)) ∙ e));
-      first_settled = λ t c k lock end fell first own. ends.first_settled t c k lock end fell (ap (λ o. is_first (set_of o) k) (sym (same t (i.decides t (λ o. (cc (o, end)))))) ∙ first) own;
+      first_settled = λ t c k lock end fell first own. ends.first_settled t c k lock end fell (ap (λ o. is_first (set_of o) k) (sym (same t (i.clock.decides t (λ o. (cc (o, end)))))) ∙ first) own;
       aborted = λ t end.
-          (let at = same t (i.decides t (λ o. (cc (o, end)))) in
+          (let at = same t (i.clock.decides t (λ o. (cc (o, end)))) in
           elim (ends.aborted t end) [
             | inl x ↦ inl (record { key = x.key; within = λ e. x.within (ap (λ o. mutation_at (set_of o) x.key) (sym at) ∙ e); never = x.never; way = x.way })
             | inr x ↦ inr (record { fell = x.fell; key = x.key; primary = ap (λ o. is_first (set_of o) x.key) at ∙ x.primary; was = x.was; cleared = x.cleared })

@@ -89,42 +89,23 @@ view_declared bounds h d = refl
 pub inv_first : (bounds : List Key) → Inv (view bounds [])
 inv_first bounds =
     record {
-      drawn = λ t some. absurd (some refl);
-      begun = λ t e. absurd (cc (e));
-      declares = λ t some. absurd (some refl);
-      decides = λ t some. absurd (some refl);
-      reads = λ k r e. absurd e;
-      reads_floor = λ k r e. absurd e;
-      collected_safe = λ k. omega arith;
-      accepted_does = λ t k by e. absurd (cc (e));
-      accepted_above = λ t k by e. absurd (cc (e));
-      accepted_bound = λ t k by e. absurd (cc (e));
-      accepted_upto = λ t k by e. absurd (cc (e));
-      accepted_at = λ t k by e. absurd (cc (e));
-      accepted_mode = λ t k by e. absurd (cc (e));
-      lock_accepted = λ k lock e. absurd (cc (e));
-      lock_does = λ k lock e. absurd (cc (e));
-      lock_mode = λ k lock e. absurd (cc (e));
-      lock_min = λ k lock e. absurd (cc (e));
-      lock_shown = λ k lock e. absurd (cc (e));
-      lock_above = λ k lock e. absurd (cc (e));
-      lock_unwritten = λ k lock e. absurd (cc (e));
-      lock_fresh = λ k lock e. absurd (cc (e));
-      records = λ k c rec e. absurd (cc (e));
-      records_does = λ k c rec e. absurd (cc (e));
-      rollbacks = λ k t own. elim own [ inl e ↦ absurd (cc (e)) | inr x ↦ absurd (cc (x.1.stands)) ];
-      range = λ t c e. absurd (cc (e));
-      committed_accepted = λ t c e. absurd (cc (e));
-      committed_bound = λ t c e. absurd (cc (e));
-      committed_shown = λ t c e. absurd (cc (e));
-      complete = λ k u d m e. absurd (cc (e));
-      held = λ k t some. absurd (some refl);
-      cleared = λ k t some. absurd (some refl);
-      kept_newest = λ k q rec e. absurd (cc (e));
+      clock = record { drawn = λ t some. absurd (some refl); begun = λ t e. absurd (cc (e)); declares = λ t some. absurd (some refl); decides = λ t some. absurd (some refl) };
+      marks = record { upto = λ k r e. absurd e; known = λ k r e. absurd e; low = λ k. omega arith };
+      acceptances = λ t k by e. absurd (cc (e));
+      keys = λ k. record {
+        lock = λ lock e. absurd (cc (e));
+        alone = λ lock e. absurd (cc (e));
+        records = record {
+          committed = λ c rec e. absurd (cc (e));
+          does = λ c rec e. absurd (cc (e));
+          rolled = λ t own. elim own [ inl e ↦ absurd (cc (e)) | inr x ↦ absurd (cc (x.1.stands)) ];
+          newest = λ q rec e. absurd (cc (e));
+        };
+        kept = record { complete = λ u d m e. absurd (cc (e)); held = λ t some. absurd (some refl); cleared = λ t some. absurd (some refl) };
+      };
+      commits = λ t c e. absurd (cc (e));
       unread = λ t k by e. absurd (cc (e));
-      shown_undeclared = λ t e. refl;
-      shown_none = λ t k f e. refl;
-      shown_first = λ t k by f e. absurd (cc (e));
+      shown = record { undeclared = λ t e. refl; none = λ t k f e. refl; first = λ t k by f e. absurd (cc (e)) };
     }
 
 pub sound_first : (bounds : List Key) → Sound [] (view bounds [])

@@ -46,7 +46,7 @@ pub record Sound (steps : List Step) (w : View) : Type 0 where
 
 -- the row of a declared transaction
 pub row_declared : (w : View) (t : ℕ) (d : Declaration) → Inv w → w.declared t ≡ Some d → row_of w t ≡ Some record { changes = Some d.changes; state = w.decided t }
-row_declared w t d i e = rw (i.declares t (λ none. (cc (none, e))), e) refl
+row_declared w t d i e = rw (i.clock.declares t (λ none. (cc (none, e))), e) refl
 
 -- what stands in the table is so in the view
 pub row_parts : (w : View) (t : ℕ) (set : List Change) (s : State) → row_of w t ≡ Some record { changes = Some set; state = s } → (w.decided t ≡ s) × (set_of (w.declared t) ≡ set)
@@ -68,7 +68,7 @@ commits_is table w k u c m s h =
 
 pub is_commits : (table : Table) (w : View) (k : Key) (u c : ℕ) (m : Mutation) → Inv w → Shows table w → IsCommitted w.decided u c → Does w.declared u k m → Commits table.row k u c m
 is_commits table w k u c m i s end does =
-    let of = some_of (w.declared u) (i.decides u (λ o. (cc (o, end)))) in
+    let of = some_of (w.declared u) (i.clock.decides u (λ o. (cc (o, end)))) in
     record {
       set = of.0.changes;
       row_is = s.row u ∙ row_declared w u of.0 i of.1 ∙ ap (λ x. Some record { changes = Some of.0.changes; state = x }) end;
@@ -78,7 +78,7 @@ is_commits table w k u c m i s end does =
 -- who is decided has ended so in the machine
 pub has_ended : (table : Table) (w : View) (t : ℕ) (e : Fate) → Inv w → Shows table w → w.decided t ≡ Done e → HasEnded table t e
 has_ended table w t e i s end =
-    let of = some_of (w.declared t) (i.decides t (λ o. (cc (o, end)))) in
+    let of = some_of (w.declared t) (i.clock.decides t (λ o. (cc (o, end)))) in
     (Some of.0.changes, s.row t ∙ row_declared w t of.0 i of.1 ∙ ap (λ x. Some record { changes = Some of.0.changes; state = x }) end)
 
 -- the machine may commit what the view may decide
@@ -96,11 +96,11 @@ may_commit table w t c i s may =
           let by = some_of (w.accepted t k) (may.accepts k (does_within w.declared t k m does)) in
           elim (i.unread t k by.0 by.1 may.opened m does v r (s.reads k r read)) [ inl x ↦ omega (arith, x, may.bounds k by.0 by.1) | inr x ↦ omega (arith, x, may.shown) ];
       apart = λ k m n u d e commits overlap.
-          let own = i.held k t (may.accepts k (does_within w.declared t k m (does_to k m e))) may.opened in
+          let own = (i.keys k).kept.held t (may.accepts k (does_within w.declared t k m (does_to k m e))) may.opened in
           let of_u = commits_is table w k u d n s commits in
           elim (nat_test u own.lock.start) [
             | inl x ↦ (cc (may.opened, own.own, x.1, of_u.0))
-            | inr x ↦ omega (arith, i.lock_above k own.lock own.stands u d n of_u.0 of_u.1 x.1, own.own, overlap.0)
+            | inr x ↦ omega (arith, ((i.keys k).alone own.lock own.stands).above u d n of_u.0 of_u.1 x.1, own.own, overlap.0)
           ];
     }
 
@@ -109,7 +109,7 @@ module _ (table : Table) (w : View) (covers : Key → Bool) (r : ℕ) (i : Inv w
   -- a lock that still stands hides no commit that the read should see
   unhidden : (u c : ℕ) (m : Mutation) → IsCommitted w.decided u c → Does w.declared u k m → IsVisible m → c ≤ r → Held (w.cells k) u → ⊥
   unhidden u c m end does v upto x =
-      let same : m ≡ x.lock.mutation = one_does w.declared u x.lock.start k m x.lock.mutation (sym x.own) does (i.lock_does k x.lock x.stands) in
+      let same : m ≡ x.lock.mutation = one_does w.declared u x.lock.start k m x.lock.mutation (sym x.own) does ((i.keys k).lock x.lock x.stands).does in
       let own : IsCommitted w.decided x.lock.start c = ap w.decided x.own ∙ end in
       elim (free k x.lock inside x.stands (subst IsVisible same v)) [
         | inl below ↦ omega (arith, below, lock_ends w k x.lock c i x.stands own, upto)
@@ -117,23 +117,23 @@ module _ (table : Table) (w : View) (covers : Key → Bool) (r : ℕ) (i : Inv w
           | inl gone ↦ (cc (gone, own))
           | inr rest ↦ elim rest [
             | inl done ↦ (let at : done.0 ≡ c = cc (done.1, own) in omega (arith, done.2, at, upto))
-            | inr shown ↦ omega (arith, shown, i.committed_shown x.lock.start c own, upto)
+            | inr shown ↦ omega (arith, shown, (i.commits x.lock.start c own).shows, upto)
           ]
         ]
       ]
 
   -- a record does what its transaction was declared to do
   record_does : (u c : ℕ) (m : Mutation) → Does w.declared u k m → (x : Written (w.cells k) u c) → x.rec.mutation ≡ m
-  record_does u c m does x = one_does w.declared x.rec.start u k x.rec.mutation m x.own (i.records_does k c x.rec x.stands) does
+  record_does u c m does x = one_does w.declared x.rec.start u k x.rec.mutation m x.own ((i.keys k).records.does c x.rec x.stands) does
 
   none_between : (at : ℕ) (rec : CommitRecord) → (w.cells k).write at ≡ Some (CommitOf rec) → IsVisible rec.mutation → NoneWritten (w.cells k).write at r → NoneBetween table.row k at r
   none_between at rec stands seen none u c m commits v above upto =
       let of = commits_is table w k u c m s commits in
-      elim (i.complete k u c m of.0 of.1) [
+      elim ((i.keys k).kept.complete u c m of.0 of.1) [
         | inl x ↦ none c x.rec x.stands (subst IsVisible (sym (record_does u c m of.1 x)) v) above upto
         | inr rest ↦ elim rest [
           | inl x ↦ unhidden u c m of.0 of.1 v upto x
-          | inr gone ↦ i.kept_newest k at rec stands seen (omega (arith, gone.below, above)) u c m of.0 of.1 v above (omega (arith, gone.below))
+          | inr gone ↦ (i.keys k).records.newest at rec stands seen (omega (arith, gone.below, above)) u c m of.0 of.1 v above (omega (arith, gone.below))
         ]
       ]
 
@@ -141,7 +141,7 @@ module _ (table : Table) (w : View) (covers : Key → Bool) (r : ℕ) (i : Inv w
   sees_put v h = record {
     start = h.rec.start;
     at = h.at;
-    commits = is_commits table w k h.rec.start h.at (mutation.Put v) i s (i.records k h.at h.rec h.stands) (i.records_does k h.at h.rec h.stands ∙ ap (λ m. Some m) h.puts);
+    commits = is_commits table w k h.rec.start h.at (mutation.Put v) i s ((i.keys k).records.committed h.at h.rec h.stands) ((i.keys k).records.does h.at h.rec h.stands ∙ ap (λ m. Some m) h.puts);
     upto = h.upto;
     newest = none_between h.at h.rec h.stands (subst IsVisible (sym h.puts) tt) h.newest;
   }
@@ -150,14 +150,14 @@ module _ (table : Table) (w : View) (covers : Key → Bool) (r : ℕ) (i : Inv w
   sees_none : ((v : Value) → Finds (w.cells k).write r v → ⊥) → (v : Value) → Newest table.row k r (mutation.Put v) → ⊥
   sees_none h v new =
       let of = commits_is table w k new.start new.at (mutation.Put v) s new.commits in
-      elim (i.complete k new.start new.at (mutation.Put v) of.0 of.1) [
+      elim ((i.keys k).kept.complete new.start new.at (mutation.Put v) of.0 of.1) [
         | inl x ↦ h v record {
           at = new.at;
           rec = x.rec;
           stands = x.stands;
           puts = record_does new.start new.at (mutation.Put v) of.1 x;
           upto = new.upto;
-          newest = λ c rec e seen low high. new.newest rec.start c rec.mutation (is_commits table w k rec.start c rec.mutation i s (i.records k c rec e) (i.records_does k c rec e)) seen low high;
+          newest = λ c rec e seen low high. new.newest rec.start c rec.mutation (is_commits table w k rec.start c rec.mutation i s ((i.keys k).records.committed c rec e) ((i.keys k).records.does c rec e)) seen low high;
         }
         | inr rest ↦ elim rest [
           | inl x ↦ unhidden new.start new.at (mutation.Put v) of.0 of.1 tt new.upto x

@@ -10,7 +10,7 @@ use Rattle.tx_types.specs.declared.mutation.Fate.TheVariants.{Committed, Aborted
 use Rattle.tx_types.specs.Keys.{IsVisible}
 use Rattle.tx_machine.specs.Keys.{mutation_at}
 use Rattle.tx_machine.specs.Machine.{State, Open, Done, Reading, IsRead}
-use Rattle.tx_plan.specs.Cells.{Lock, CommitRecord, CommitOf, Cells}
+use Rattle.tx_plan.specs.Cells.{Lock, CommitRecord, CommitOf, Writes, Cells}
 use Rattle.tx_plan.specs.Traces.{OwnLock, OwnCommit, OwnRollback}
 use Rattle.std.proofs.lemmas.Bool.{cases_Bool}
 use Rattle.tx_core.specs.declared.event.Declaration.{Declaration}
@@ -94,66 +94,93 @@ pub record Gone (decided : ℕ → State) (declared : ℕ → Option Declaration
   pub below : d < safe
   pub way : ((v : Value) → m ≡ Put v → ⊥) ⊎ Later decided declared k d safe
 
--- ---- the invariants
+-- ---- the invariants, in groups: each is over what it speaks of, so a change of anything else hands it on whole
+
+-- A number that was drawn is at most the last one. Who began was drawn, who declared began, who is decided declared.
+pub record Clock (last : ℕ) (drawer : ℕ → Option ℕ) (began : ℕ → Bool) (declared : ℕ → Option Declaration) (decided : ℕ → State) : Type 0 where
+  pub drawn : (t : ℕ) → drawer t ≢ None → t ≤ last
+  pub begun : (t : ℕ) → began t ≡ true → drawer t ≢ None
+  pub declares : (t : ℕ) → declared t ≢ None → began t ≡ true
+  pub decides : (t : ℕ) → decided t ≢ Open → declared t ≢ None
+
+-- A read is at most at the last number, and at most at the greatest timestamp that its region knows of. A region collects at most up
+-- to its safe point.
+pub record Marks (last : ℕ) (reads : List Reading) (floor safe collected : Key → ℕ) : Type 0 where
+  pub upto : (k : Key) (r : ℕ) → IsRead reads k r → r ≤ last
+  pub known : (k : Key) (r : ℕ) → IsRead reads k r → r ≤ floor k
+  pub low : (k : Key) → collected k ≤ safe k
+
+-- An accepted lock does what was declared. Its minimum lies above the start, and its bound is at least that and at most one above the
+-- last number then. Where its transaction was declared two-phase, it is so too.
+pub record IsAccepted (last : ℕ) (declared : ℕ → Option Declaration) (t : ℕ) (k : Key) (by : Acceptance) : Type 0 where
+  pub does : Does declared t k by.lock.mutation
+  pub above : t < by.lock.min
+  pub bounded : by.lock.min ≤ bound by
+  pub upto : bound by ≤ by.at + 1
+  pub at : by.at ≤ last
+  pub mode : (d : Declaration) → declared t ≡ Some d → d.mode ≡ TwoPhase → by.lock.mode ≡ TwoPhase
+
+-- A lock that stands was accepted, and does what was declared. It has the mode of its acceptance, and the minimum too, but on the
+-- primary, where it has the greatest that was shown.
+pub record IsLock (declared : ℕ → Option Declaration) (accepted : ℕ → Key → Option Acceptance) (shown : ℕ → ℕ) (k : Key) (lock : Lock) : Type 0 where
+  pub accepts : accepted lock.start k ≢ None
+  pub does : Does declared lock.start k lock.mutation
+  pub mode : (by : Acceptance) → accepted lock.start k ≡ Some by → lock.mode ≡ by.lock.mode
+  pub min : is_first (set_of (declared lock.start)) k ≡ false → (by : Acceptance) → accepted lock.start k ≡ Some by → lock.min ≡ by.lock.min
+  pub shows : IsPrimary declared lock.start k → lock.min ≡ shown lock.start
+
+-- Another's commit on the key lies at or below the start of the lock, no commit record of its own transaction stands beside it, and its
+-- region collects at most up to its start.
+pub record IsAlone (declared : ℕ → Option Declaration) (decided : ℕ → State) (k : Key) (collected : ℕ) (write : Writes) (lock : Lock) : Type 0 where
+  pub above : (u d : ℕ) (m : Mutation) → IsCommitted decided u d → Does declared u k m → u ≢ lock.start → d ≤ lock.start
+  pub unwritten : (c : ℕ) (rec : CommitRecord) → write c ≡ Some (CommitOf rec) → rec.start ≢ lock.start
+  pub fresh : collected ≤ lock.start
+
+-- A commit record's transaction is committed there, and does what it says. Where its rollback stands, a transaction is aborted. Where a
+-- put or delete below the collection stands, no later one up to the collection is committed.
+pub record Records (declared : ℕ → Option Declaration) (decided : ℕ → State) (k : Key) (collected : ℕ) (write : Writes) : Type 0 where
+  pub committed : (c : ℕ) (rec : CommitRecord) → write c ≡ Some (CommitOf rec) → IsCommitted decided rec.start c
+  pub does : (c : ℕ) (rec : CommitRecord) → write c ≡ Some (CommitOf rec) → Does declared rec.start k rec.mutation
+  pub rolled : (t : ℕ) → OwnRollback write t → IsAborted decided t
+  pub newest : (q : ℕ) (rec : CommitRecord) → write q ≡ Some (CommitOf rec) → IsVisible rec.mutation → q < collected → (u d : ℕ) (m : Mutation) → IsCommitted decided u d → Does declared u k m → IsVisible m → q < d → d ≤ collected → ⊥
+
+-- What is committed stands as a record or is locked still, or it was collected. What was accepted of an open transaction is locked; of
+-- an aborted one it is locked, or rolled back, or below the collection.
+pub record Kept (declared : ℕ → Option Declaration) (decided : ℕ → State) (accepted : ℕ → Key → Option Acceptance) (k : Key) (collected : ℕ) (cells : Cells) : Type 0 where
+  pub complete : (u d : ℕ) (m : Mutation) → IsCommitted decided u d → Does declared u k m → Written cells u d ⊎ Held cells u ⊎ Gone decided declared k d collected m
+  pub held : (t : ℕ) → accepted t k ≢ None → decided t ≡ Open → Held cells t
+  pub cleared : (t : ℕ) → accepted t k ≢ None → IsAborted decided t → Held cells t ⊎ OwnRollback cells.write t ⊎ (t < collected)
+
+-- what stands on a key
+pub record OnCells (declared : ℕ → Option Declaration) (decided : ℕ → State) (accepted : ℕ → Key → Option Acceptance) (shown : ℕ → ℕ) (k : Key) (collected : ℕ) (cells : Cells) : Type 0 where
+  pub lock : (lock : Lock) → cells.lock ≡ Some lock → IsLock declared accepted shown k lock
+  pub alone : (lock : Lock) → cells.lock ≡ Some lock → IsAlone declared decided k collected cells.write lock
+  pub records : Records declared decided k collected cells.write
+  pub kept : Kept declared decided accepted k collected cells
+
+-- A commit lies above its start and at most one above the last number. Each key of its transaction was accepted, and it lies at or above
+-- each bound, and each minimum that was shown.
+pub record IsCommit (last : ℕ) (declared : ℕ → Option Declaration) (accepted : ℕ → Key → Option Acceptance) (shown : ℕ → ℕ) (t c : ℕ) : Type 0 where
+  pub range : (t < c) × (c ≤ last + 1)
+  pub accepts : Accepts declared accepted t
+  pub bounds : (k : Key) (by : Acceptance) → accepted t k ≡ Some by → bound by ≤ c
+  pub shows : shown t ≤ c
+
+-- Nothing is shown before the primary is accepted; then its minimum is, and no other as long as each acceptance is async.
+pub record ShownOf (declared : ℕ → Option Declaration) (accepted : ℕ → Key → Option Acceptance) (shown : ℕ → ℕ) : Type 0 where
+  pub undeclared : (t : ℕ) → declared t ≡ None → shown t ≡ 0
+  pub none : (t : ℕ) (k : Key) → IsPrimary declared t k → accepted t k ≡ None → shown t ≡ 0
+  pub first : (t : ℕ) (k : Key) (by : Acceptance) → IsPrimary declared t k → accepted t k ≡ Some by → (FellBack accepted t → ⊥) → shown t ≡ by.lock.min
 
 pub record Inv (w : View) : Type 0 where
-  -- a number that was drawn is at most the last one
-  pub drawn : (t : ℕ) → w.drawer t ≢ None → t ≤ w.last
-  -- who began was drawn, who declared began, who is decided declared
-  pub begun : (t : ℕ) → w.began t ≡ true → w.drawer t ≢ None
-  pub declares : (t : ℕ) → w.declared t ≢ None → w.began t ≡ true
-  pub decides : (t : ℕ) → w.decided t ≢ Open → w.declared t ≢ None
-  -- a read is at most at the last number, and at most at the greatest timestamp that its region knows of
-  pub reads : (k : Key) (r : ℕ) → IsRead w.reads k r → r ≤ w.last
-  pub reads_floor : (k : Key) (r : ℕ) → IsRead w.reads k r → r ≤ w.floor k
-  -- a region collects at most up to its safe point
-  pub collected_safe : (k : Key) → w.collected k ≤ w.safe k
-  -- an accepted lock does what was declared; its minimum lies above the start, and its bound is at least that and at most one above
-  -- the last number then
-  pub accepted_does : (t : ℕ) (k : Key) (by : Acceptance) → w.accepted t k ≡ Some by → Does w.declared t k by.lock.mutation
-  pub accepted_above : (t : ℕ) (k : Key) (by : Acceptance) → w.accepted t k ≡ Some by → t < by.lock.min
-  pub accepted_bound : (t : ℕ) (k : Key) (by : Acceptance) → w.accepted t k ≡ Some by → by.lock.min ≤ bound by
-  pub accepted_upto : (t : ℕ) (k : Key) (by : Acceptance) → w.accepted t k ≡ Some by → bound by ≤ by.at + 1
-  pub accepted_at : (t : ℕ) (k : Key) (by : Acceptance) → w.accepted t k ≡ Some by → by.at ≤ w.last
-  -- a transaction that was declared two-phase has two-phase locks
-  pub accepted_mode : (t : ℕ) (k : Key) (by : Acceptance) → w.accepted t k ≡ Some by → (d : Declaration) → w.declared t ≡ Some d → d.mode ≡ TwoPhase → by.lock.mode ≡ TwoPhase
-  -- a lock that stands was accepted, and does what was declared
-  pub lock_accepted : (k : Key) (lock : Lock) → (w.cells k).lock ≡ Some lock → w.accepted lock.start k ≢ None
-  pub lock_does : (k : Key) (lock : Lock) → (w.cells k).lock ≡ Some lock → Does w.declared lock.start k lock.mutation
-  -- it has the mode of its acceptance, and the minimum too, but on the primary, where it has the greatest that was shown
-  pub lock_mode : (k : Key) (lock : Lock) → (w.cells k).lock ≡ Some lock → (by : Acceptance) → w.accepted lock.start k ≡ Some by → lock.mode ≡ by.lock.mode
-  pub lock_min : (k : Key) (lock : Lock) → (w.cells k).lock ≡ Some lock → is_first (set_of (w.declared lock.start)) k ≡ false → (by : Acceptance) → w.accepted lock.start k ≡ Some by → lock.min ≡ by.lock.min
-  pub lock_shown : (k : Key) (lock : Lock) → (w.cells k).lock ≡ Some lock → IsPrimary w.declared lock.start k → lock.min ≡ w.shown lock.start
-  -- another's commit on a locked key lies at or below the start of the lock
-  pub lock_above : (k : Key) (lock : Lock) → (w.cells k).lock ≡ Some lock → (u d : ℕ) (m : Mutation) → IsCommitted w.decided u d → Does w.declared u k m → u ≢ lock.start → d ≤ lock.start
-  -- no commit record of the lock's own transaction stands beside it
-  pub lock_unwritten : (k : Key) (lock : Lock) → (w.cells k).lock ≡ Some lock → (c : ℕ) (rec : CommitRecord) → (w.cells k).write c ≡ Some (CommitOf rec) → rec.start ≢ lock.start
-  -- a region collects at most up to the start of each lock
-  pub lock_fresh : (k : Key) (lock : Lock) → (w.cells k).lock ≡ Some lock → w.collected k ≤ lock.start
-  -- a commit record's transaction is committed there, and does what it says
-  pub records : (k : Key) (c : ℕ) (rec : CommitRecord) → (w.cells k).write c ≡ Some (CommitOf rec) → IsCommitted w.decided rec.start c
-  pub records_does : (k : Key) (c : ℕ) (rec : CommitRecord) → (w.cells k).write c ≡ Some (CommitOf rec) → Does w.declared rec.start k rec.mutation
-  -- where its rollback stands, a transaction is aborted
-  pub rollbacks : (k : Key) (t : ℕ) → OwnRollback (w.cells k).write t → IsAborted w.decided t
-  -- a commit lies above its start and at most one above the last number
-  pub range : (t c : ℕ) → IsCommitted w.decided t c → (t < c) × (c ≤ w.last + 1)
-  -- each key of a committed transaction was accepted; it committed at or above each bound, and each minimum that was shown
-  pub committed_accepted : (t c : ℕ) → IsCommitted w.decided t c → Accepts w.declared w.accepted t
-  pub committed_bound : (t c : ℕ) → IsCommitted w.decided t c → (k : Key) (by : Acceptance) → w.accepted t k ≡ Some by → bound by ≤ c
-  pub committed_shown : (t c : ℕ) → IsCommitted w.decided t c → w.shown t ≤ c
-  -- what is committed stands as a record or is locked still, or it was collected
-  pub complete : (k : Key) (u d : ℕ) (m : Mutation) → IsCommitted w.decided u d → Does w.declared u k m → Written (w.cells k) u d ⊎ Held (w.cells k) u ⊎ Gone w.decided w.declared k d (w.collected k) m
-  -- what was accepted of an open transaction is locked; of an aborted one it is locked, or rolled back, or below the collection
-  pub held : (k : Key) (t : ℕ) → w.accepted t k ≢ None → w.decided t ≡ Open → Held (w.cells k) t
-  pub cleared : (k : Key) (t : ℕ) → w.accepted t k ≢ None → IsAborted w.decided t → Held (w.cells k) t ⊎ OwnRollback (w.cells k).write t ⊎ (t < w.collected k)
-  -- where a put or delete below the collection stands, no later one up to the collection is committed
-  pub kept_newest : (k : Key) (q : ℕ) (rec : CommitRecord) → (w.cells k).write q ≡ Some (CommitOf rec) → IsVisible rec.mutation → q < w.collected k → (u d : ℕ) (m : Mutation) → IsCommitted w.decided u d → Does w.declared u k m → IsVisible m → q < d → d ≤ w.collected k → ⊥
+  pub clock : Clock w.last w.drawer w.began w.declared w.decided
+  pub marks : Marks w.last w.reads w.floor w.safe w.collected
+  pub acceptances : (t : ℕ) (k : Key) (by : Acceptance) → w.accepted t k ≡ Some by → IsAccepted w.last w.declared t k by
+  pub keys : (k : Key) → OnCells w.declared w.decided w.accepted w.shown k (w.collected k) (w.cells k)
+  pub commits : (t c : ℕ) → IsCommitted w.decided t c → IsCommit w.last w.declared w.accepted w.shown t c
   -- a read of what an open transaction changes lies below its bound there, or below a minimum that was shown
   pub unread : (t : ℕ) (k : Key) (by : Acceptance) → w.accepted t k ≡ Some by → w.decided t ≡ Open → (m : Mutation) → Does w.declared t k m → IsVisible m → (r : ℕ) → IsRead w.reads k r → (r < bound by) ⊎ (r < w.shown t)
-  -- nothing is shown before the primary is accepted; then its minimum is, and no other as long as each acceptance is async
-  pub shown_undeclared : (t : ℕ) → w.declared t ≡ None → w.shown t ≡ 0
-  pub shown_none : (t : ℕ) (k : Key) → IsPrimary w.declared t k → w.accepted t k ≡ None → w.shown t ≡ 0
-  pub shown_first : (t : ℕ) (k : Key) (by : Acceptance) → IsPrimary w.declared t k → w.accepted t k ≡ Some by → (FellBack w.accepted t → ⊥) → w.shown t ≡ by.lock.min
+  pub shown : ShownOf w.declared w.accepted w.shown
 
 -- ---- small consequences
 
@@ -204,8 +231,8 @@ gone_by decided after declared next k d safe upto m f g more gone =
 pub lock_ends : (w : View) (k : Key) (lock : Lock) (c : ℕ) → Inv w → (w.cells k).lock ≡ Some lock → IsCommitted w.decided lock.start c → lock.min ≤ c
 lock_ends w k lock c i stands end =
     elim (cases_Bool (is_first (set_of (w.declared lock.start)) k)) [
-      | inl f ↦ omega (arith, i.lock_shown k lock stands f, i.committed_shown lock.start c end)
-      | inr f ↦ (let of = some_of (w.accepted lock.start k) (i.lock_accepted k lock stands) in omega (arith, i.lock_min k lock stands f of.0 of.1, i.accepted_bound lock.start k of.0 of.1, i.committed_bound lock.start c end k of.0 of.1))
+      | inl f ↦ omega (arith, ((i.keys k).lock lock stands).shows f, (i.commits lock.start c end).shows)
+      | inr f ↦ (let of = some_of (w.accepted lock.start k) ((i.keys k).lock lock stands).accepts in omega (arith, ((i.keys k).lock lock stands).min f of.0 of.1, (i.acceptances lock.start k of.0 of.1).bounded, (i.commits lock.start c end).bounds k of.0 of.1))
     ]
 
 -- where nothing of a transaction stands that started at the collection or above, it was never accepted
@@ -213,17 +240,17 @@ pub never_accepted : (w : View) (k : Key) (t : ℕ) → Inv w → w.collected k 
 never_accepted w k t i fresh unlocked uncommitted unrolled = none_is (w.accepted t k) (λ by e. go by e (w.decided t) refl)
   where
     go : (by : Acceptance) → w.accepted t k ≡ Some by → (s : State) → w.decided t ≡ s → ⊥
-    go by e Open o = (let held = i.held k t (is_some (w.accepted t k) by e) o in unlocked held.lock (record { stands = held.stands; own = held.own }))
+    go by e Open o = (let held = (i.keys k).kept.held t (is_some (w.accepted t k) by e) o in unlocked held.lock (record { stands = held.stands; own = held.own }))
     go by e (Done (Committed c)) end =
-        elim (i.complete k t c by.lock.mutation end (i.accepted_does t k by e)) [
+        elim ((i.keys k).kept.complete t c by.lock.mutation end (i.acceptances t k by e).does) [
           | inl x ↦ uncommitted c (record { rec = x.rec; stands = x.stands; own = x.own })
           | inr rest ↦ elim rest [
             | inl x ↦ unlocked x.lock (record { stands = x.stands; own = x.own })
-            | inr gone ↦ omega (arith, gone.below, fresh, (i.range t c end).0)
+            | inr gone ↦ omega (arith, gone.below, fresh, (i.commits t c end).range.0)
           ]
         ]
     go by e (Done Aborted) end =
-        elim (i.cleared k t (is_some (w.accepted t k) by e) end) [
+        elim ((i.keys k).kept.cleared t (is_some (w.accepted t k) by e) end) [
           | inl x ↦ unlocked x.lock (record { stands = x.stands; own = x.own })
           | inr rest ↦ elim rest [ inl x ↦ unrolled x | inr low ↦ omega (arith, low, fresh) ]
         ]
