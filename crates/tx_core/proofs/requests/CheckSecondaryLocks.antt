@@ -1,33 +1,26 @@
 -- A region answers what stands of an async transaction on a key.
-use Rattle.std.proofs.Common.{◌≡◌, ◌≢◌, ℕ, ◌<◌, ◌==◌, ◌++◌, inl, inr, cond, List, ◌∷◌, None, refl, sym, ap, subst, ◌∙◌}
+use Rattle.std.proofs.Common.{◌≡◌, ◌≢◌, ℕ, ◌<◌, inl, inr, List, None, refl, sym, ap, subst, ◌∙◌}
 use Rattle.std.proofs.lemmas.Bool.{cases_lt}
 use Rattle.tx_types.specs.declared.key.Key.{Key}
-use Rattle.tx_types.specs.declared.mutation.Fate.TheVariants as fate
-use Rattle.tx_machine.specs.declared.step.Step.TheVariants as step
 use Rattle.tx_machine.specs.Keys.{mutation_at}
-use Rattle.tx_machine.specs.Machine.{State, Open, Done, table_of}
 use Rattle.tx_plan.specs.declared.body.CheckSecondaryLocks.{CheckSecondaryLocks}
 use Rattle.tx_plan.specs.declared.body.Body.TheVariants as body
 use Rattle.tx_plan.specs.declared.answer.Answer.{Answer}
 use Rattle.tx_plan.specs.declared.answer.Answer.TheVariants.{Missing, Committed, Locked, BelowSafePoint}
-use Rattle.tx_plan.specs.Cells.{Lock, info_of}
+use Rattle.tx_plan.specs.Cells.{Lock, info_of, Cells}
 use Rattle.tx_plan.specs.Traces.{OwnLock, OwnCommit, leave_rollback}
 use Rattle.tx_plan.specs.cases.CheckSecondaryLocks.{AnswersCheckSecondaryLocks, leaves_check_secondary_locks}
 use Rattle.tx_core.specs.Histories.{History, declared, set_of, set_at, left}
-use Rattle.tx_core.specs.Decisions.{RollsBack, accepted, first_decided, decided}
+use Rattle.tx_core.specs.Decisions.{accepted, decided}
 use Rattle.tx_core.specs.Allowed.{AllowsCheckSecondaryLocks}
 use Rattle.tx_core.specs.Worlds.{route}
-use Rattle.tx_core.specs.Shadow.{deciding, shadow}
-use Rattle.tx_core.proofs.Basics.{nat_test, nat_same, cond_true}
 use Rattle.tx_core.proofs.view.View.{IsAborted, never_accepted}
-use Rattle.tx_core.proofs.changes.RollingBack.{leaving_rollback}
-use Rattle.tx_core.proofs.changes.Aborting.{aborting}
-use Rattle.tx_core.proofs.view.Ends.{Ends, missing_live}
+use Rattle.tx_core.proofs.view.Ends.{missing_live}
 use Rattle.tx_core.proofs.changes.CellsEnds.{ends_leave_rollback, ends_abort_leaving}
-use Rattle.tx_core.proofs.changes.Sounds.{sound_leave_rollback, sound_abort}
-use Rattle.tx_core.proofs.view.Tables.{has_ended}
-use Rattle.tx_core.proofs.view.HistoryView.{view, shown_in}
-use Rattle.tx_core.proofs.requests.Good.{Good, Next, OnKey, took, cells_at, assemble, quiet, decided_same, true_end, true_commit}
+use Rattle.tx_core.proofs.changes.Sounds.{sound_leave_rollback}
+use Rattle.tx_core.proofs.view.HistoryView.{view}
+use Rattle.tx_core.proofs.requests.LeavingRollback.{LeavesRollback, rolled}
+use Rattle.tx_core.proofs.requests.Good.{Good, Next, OnKey, took, cells_at, quiet, true_commit}
 
 module _ (bounds : List Key) (h : History) (good : Good bounds h) (b : CheckSecondaryLocks) (l : ℕ) where
   on_key : (a : Answer) → OnKey b.key (body.CheckSecondaryLocks b) a b.start (λ c. leaves_check_secondary_locks c b a)
@@ -36,67 +29,39 @@ module _ (bounds : List Key) (h : History) (good : Good bounds h) (b : CheckSeco
   silent : (a x : Answer) → a ≡ x → Next bounds h (took (route bounds b.key) (body.CheckSecondaryLocks b) l x) → Next bounds h (took (route bounds b.key) (body.CheckSecondaryLocks b) l a)
   silent a x e next = subst (λ y. Next bounds h (took (route bounds b.key) (body.CheckSecondaryLocks b) l y)) (sym e) next
 
-  -- ---- a rollback is left
+  -- its rollback is left
+  abbrev roll : Cells → Cells
+  roll c = leave_rollback c b.start
 
-  -- of a transaction that was aborted before
-  follows : IsAborted (decided h) b.start → Next bounds h (took (route bounds b.key) (body.CheckSecondaryLocks b) l Missing)
-  follows gone =
-      assemble bounds h b.key (body.CheckSecondaryLocks b) l Missing b.start (λ c. leaves_check_secondary_locks c b Missing) (on_key Missing) (RollsBack b.start) refl (decided h) (accepted h) (shown_in h) (leave_rollback (cells_at bounds h b.key) b.start) (shadow h) same_fate
-      (λ u q. refl)
-      (λ u. refl)
-      refl
-      (ap (λ s. s ++ shadow h) (decided_same b.start (decided h b.start)))
-      (sound_leave_rollback (shadow h) (view bounds h) b.key b.start good.sound gone)
-      (ends_leave_rollback (view bounds h) b.key b.start good.ends)
-      (true_end bounds h good b.start fate.Aborted gone)
-    where
-      same_fate : (u : ℕ) → first_decided (cond (b.start == u) (Done fate.Aborted) Open) (decided h u) ≡ decided h u
-      same_fate u =
-          elim (nat_test b.start u) [
-            | inl e ↦ rw (e.0, subst (λ n. decided h n ≡ Done fate.Aborted) e.1 gone) refl
-            | inr e ↦ rw e.0 refl
-          ]
-
-  -- of a transaction that this aborts
-  aborts : decided h b.start ≡ Open → declared h b.start ≢ None → Ends (leaving_rollback (aborting (view bounds h) b.start) b.key b.start) → Next bounds h (took (route bounds b.key) (body.CheckSecondaryLocks b) l Missing)
-  aborts o some ends =
-      let w = aborting (view bounds h) b.start in
-      let sound = sound_leave_rollback (step.Abort b.start ∷ shadow h) w b.key b.start (sound_abort (shadow h) (view bounds h) b.start good.sound o some) now in
-      assemble bounds h b.key (body.CheckSecondaryLocks b) l Missing b.start (λ c. leaves_check_secondary_locks c b Missing) (on_key Missing) (RollsBack b.start) refl w.decided (accepted h) (shown_in h) (leave_rollback (cells_at bounds h b.key) b.start) (step.Abort b.start ∷ shadow h) new_fate
-      (λ u q. refl)
-      (λ u. refl)
-      refl
-      (ap (λ s. s ++ shadow h) (ap (λ s. deciding b.start s (w.decided b.start)) o ∙ ap (deciding b.start Open) now))
-      sound
-      ends
-      (has_ended (table_of (step.Abort b.start ∷ shadow h)) (leaving_rollback w b.key b.start) b.start fate.Aborted sound.inv sound.shows now)
-    where
-      now : cond (b.start == b.start) (Done fate.Aborted) (decided h b.start) ≡ Done fate.Aborted
-      now = cond_true (b.start == b.start) (Done fate.Aborted) (decided h b.start) (nat_same b.start)
-
-      new_fate : (u : ℕ) → first_decided (cond (b.start == u) (Done fate.Aborted) Open) (decided h u) ≡ cond (b.start == u) (Done fate.Aborted) (decided h u)
-      new_fate u =
-          elim (nat_test b.start u) [
-            | inl e ↦ rw (e.0, subst (λ n. decided h n ≡ Open) e.1 o) refl
-            | inr e ↦ rw e.0 refl
-          ]
+  leaves : LeavesRollback bounds h b.key (body.CheckSecondaryLocks b) l Missing b.start roll
+  leaves = record {
+    does = λ c. leaves_check_secondary_locks c b Missing;
+    on = on_key Missing;
+    same = refl;
+    leaves = refl;
+    untold = λ u n. refl;
+    sound = λ steps w. sound_leave_rollback steps w b.key b.start;
+    ends = ends_leave_rollback (view bounds h) b.key b.start;
+    tells = λ table ended. ended;
+  }
 
   -- ---- what is allowed
 
   -- nothing of it stands there but perhaps its rollback: it was never accepted there where it is not aborted
   missing : AllowsCheckSecondaryLocks h b → (b.start < (left h (route bounds b.key)).collected → ⊥) → ((lock : Lock) → OwnLock (cells_at bounds h b.key).lock b.start lock → ⊥) → ((c : ℕ) → OwnCommit (cells_at bounds h b.key).write b.start c → ⊥) → Next bounds h (took (route bounds b.key) (body.CheckSecondaryLocks b) l Missing)
-  missing may fresh unlocked uncommitted = by_state (decided h b.start) refl
+  missing may fresh unlocked uncommitted =
+      rolled bounds h good b.key (body.CheckSecondaryLocks b) l Missing b.start roll leaves some
+      (λ c e. missing_live (view bounds h) b.key b.start c good.sound.inv within (never (λ gone. (cc (e, gone)))) e)
+      (λ o. ends_abort_leaving (view bounds h) b.key b.start good.sound.inv good.ends o some within (never (λ gone. (cc (o, gone)))))
     where
+      some : declared h b.start ≢ None
+      some none = cc (none, may.stands)
+
       never : (IsAborted (decided h) b.start → ⊥) → accepted h b.start b.key ≡ None
       never live = never_accepted (view bounds h) b.key b.start good.sound.inv (elim (cases_lt b.start (left h (route bounds b.key)).collected) [ inl lt ↦ absurd (fresh lt) | inr le ↦ le ]) unlocked uncommitted (λ own. live (good.sound.inv.rollbacks b.key b.start own))
 
       within : mutation_at (set_at h b.start) b.key ≢ None
       within none = may.within (sym (ap (λ o. mutation_at (set_of o) b.key) may.stands) ∙ none)
-
-      by_state : (s : State) → decided h b.start ≡ s → Next bounds h (took (route bounds b.key) (body.CheckSecondaryLocks b) l Missing)
-      by_state Open o = aborts o (λ none. (cc (none, may.stands))) (ends_abort_leaving (view bounds h) b.key b.start good.sound.inv good.ends o (λ none. (cc (none, may.stands))) within (never (λ gone. (cc (o, gone)))))
-      by_state (Done (fate.Committed c)) e = absurd (missing_live (view bounds h) b.key b.start c good.sound.inv within (never (λ gone. (cc (e, gone)))) e)
-      by_state (Done fate.Aborted) e = follows e
 
   -- ---- the rows
 

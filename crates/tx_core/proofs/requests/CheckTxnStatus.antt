@@ -1,35 +1,30 @@
 -- A region answers what has become of a transaction, on its primary.
-use Rattle.std.proofs.Common.{◌≡◌, ◌≢◌, ℕ, ◌+◌, ◌<◌, ◌≤◌, ◌==◌, ◌++◌, inl, inr, cond, false, List, ◌∷◌, None, refl, sym, ap, subst, ◌∙◌, arith}
+use Rattle.std.proofs.Common.{◌≡◌, ◌≢◌, ℕ, ◌+◌, ◌<◌, ◌≤◌, ◌++◌, inl, inr, false, List, None, refl, sym, ap, subst, ◌∙◌, arith}
 use Rattle.std.proofs.lemmas.Bool.{cases_Bool, cases_lt}
 use Rattle.tx_types.specs.declared.key.Key.{Key}
 use Rattle.tx_types.specs.declared.mutation.Mode.{Mode}
 use Rattle.tx_types.specs.declared.mutation.Mode.TheVariants.{TwoPhase, Async}
-use Rattle.tx_types.specs.declared.mutation.Fate.TheVariants as fate
-use Rattle.tx_machine.specs.declared.step.Step.TheVariants as step
-use Rattle.tx_machine.specs.Machine.{State, Open, Done, table_of}
 use Rattle.tx_plan.specs.declared.body.CheckTxnStatus.{CheckTxnStatus}
 use Rattle.tx_plan.specs.declared.body.Body.TheVariants as body
 use Rattle.tx_plan.specs.declared.answer.Answer.{Answer}
 use Rattle.tx_plan.specs.declared.answer.Answer.TheVariants.{Committed, RolledBack, Locked, BelowSafePoint, FutureTimestamp, TxnNotFound}
-use Rattle.tx_plan.specs.Cells.{Lock, info_of}
+use Rattle.tx_plan.specs.Cells.{Lock, info_of, Cells}
 use Rattle.tx_plan.specs.Traces.{OwnLock, OwnCommit, OwnRollback, roll_back}
 use Rattle.tx_plan.specs.cases.CheckTxnStatus.{AnswersCheckTxnStatus, ChecksLock, with_minimum, leaves_check_txn_status}
 use Rattle.tx_core.specs.Histories.{History, declared, is_first, set_of, left}
-use Rattle.tx_core.specs.Decisions.{RollsBack, NoEffect, accepted, first_decided, decided}
+use Rattle.tx_core.specs.Decisions.{NoEffect, accepted, decided}
 use Rattle.tx_core.specs.Allowed.{AllowsCheckTxnStatus}
 use Rattle.tx_core.specs.Worlds.{route}
-use Rattle.tx_core.specs.Shadow.{deciding, shadow}
-use Rattle.tx_core.proofs.Basics.{nat_test, nat_same, cond_true}
-use Rattle.tx_core.proofs.view.View.{FellBack, IsPrimary, IsAborted, first_within, does_within, never_accepted}
-use Rattle.tx_core.proofs.changes.RollingBack.{rolling_back}
-use Rattle.tx_core.proofs.changes.Aborting.{aborting}
+use Rattle.tx_core.specs.Shadow.{shadow}
+use Rattle.tx_core.proofs.view.View.{FellBack, IsPrimary, first_within, does_within, never_accepted}
 use Rattle.tx_core.proofs.changes.Pushing.{pushed, pushing, push_same, ends_push}
 use Rattle.tx_core.proofs.view.Ends.{Ends, fell_of_lock, missing_live}
 use Rattle.tx_core.proofs.changes.CellsEnds.{ends_roll_back, ends_abort_first, ends_abort_missing}
-use Rattle.tx_core.proofs.changes.Sounds.{sound_roll_back, sound_abort, sound_push}
-use Rattle.tx_core.proofs.view.Tables.{Sound, has_ended}
-use Rattle.tx_core.proofs.view.HistoryView.{view, shown_in}
-use Rattle.tx_core.proofs.requests.Good.{Good, Next, OnKey, took, cells_at, assemble, quiet, decided_same, true_end, true_commit}
+use Rattle.tx_core.proofs.changes.Sounds.{sound_roll_back, sound_push}
+use Rattle.tx_core.proofs.view.Tables.{Sound}
+use Rattle.tx_core.proofs.view.HistoryView.{view}
+use Rattle.tx_core.proofs.requests.LeavingRollback.{LeavesRollback, follows, rolled}
+use Rattle.tx_core.proofs.requests.Good.{Good, Next, OnKey, took, cells_at, assemble, quiet, decided_same, true_commit}
 
 module _ (bounds : List Key) (h : History) (good : Good bounds h) (b : CheckTxnStatus) (l : ℕ) where
   on_key : (a : Answer) → OnKey b.key (body.CheckTxnStatus b) a b.start (λ c. leaves_check_txn_status c b a)
@@ -38,50 +33,21 @@ module _ (bounds : List Key) (h : History) (good : Good bounds h) (b : CheckTxnS
   silent : (a x : Answer) → a ≡ x → Next bounds h (took (route bounds b.key) (body.CheckTxnStatus b) l x) → Next bounds h (took (route bounds b.key) (body.CheckTxnStatus b) l a)
   silent a x e next = subst (λ y. Next bounds h (took (route bounds b.key) (body.CheckTxnStatus b) l y)) (sym e) next
 
-  -- ---- a rollback is left, and the lock is gone
+  -- its rollback is left, and its lock is gone
+  abbrev roll : Cells → Cells
+  roll c = roll_back c b.start
 
-  -- of a transaction that was aborted before
-  follows : IsAborted (decided h) b.start → Next bounds h (took (route bounds b.key) (body.CheckTxnStatus b) l RolledBack)
-  follows gone =
-      assemble bounds h b.key (body.CheckTxnStatus b) l RolledBack b.start (λ c. leaves_check_txn_status c b RolledBack) (on_key RolledBack) (RollsBack b.start) refl (decided h) (accepted h) (shown_in h) (roll_back (cells_at bounds h b.key) b.start) (shadow h) same_fate
-      (λ u q. refl)
-      (λ u. refl)
-      refl
-      (ap (λ s. s ++ shadow h) (decided_same b.start (decided h b.start)))
-      (sound_roll_back (shadow h) (view bounds h) b.key b.start good.sound gone)
-      (ends_roll_back (view bounds h) b.key b.start good.ends)
-      (true_end bounds h good b.start fate.Aborted gone)
-    where
-      same_fate : (u : ℕ) → first_decided (cond (b.start == u) (Done fate.Aborted) Open) (decided h u) ≡ decided h u
-      same_fate u =
-          elim (nat_test b.start u) [
-            | inl e ↦ rw (e.0, subst (λ n. decided h n ≡ Done fate.Aborted) e.1 gone) refl
-            | inr e ↦ rw e.0 refl
-          ]
-
-  -- of a transaction that this aborts
-  aborts : decided h b.start ≡ Open → declared h b.start ≢ None → Ends (rolling_back (aborting (view bounds h) b.start) b.key b.start) → Next bounds h (took (route bounds b.key) (body.CheckTxnStatus b) l RolledBack)
-  aborts o some ends =
-      let w = aborting (view bounds h) b.start in
-      let sound = sound_roll_back (step.Abort b.start ∷ shadow h) w b.key b.start (sound_abort (shadow h) (view bounds h) b.start good.sound o some) now in
-      assemble bounds h b.key (body.CheckTxnStatus b) l RolledBack b.start (λ c. leaves_check_txn_status c b RolledBack) (on_key RolledBack) (RollsBack b.start) refl w.decided (accepted h) (shown_in h) (roll_back (cells_at bounds h b.key) b.start) (step.Abort b.start ∷ shadow h) new_fate
-      (λ u q. refl)
-      (λ u. refl)
-      refl
-      (ap (λ s. s ++ shadow h) (ap (λ s. deciding b.start s (w.decided b.start)) o ∙ ap (deciding b.start Open) now))
-      sound
-      ends
-      (has_ended (table_of (step.Abort b.start ∷ shadow h)) (rolling_back w b.key b.start) b.start fate.Aborted sound.inv sound.shows now)
-    where
-      now : cond (b.start == b.start) (Done fate.Aborted) (decided h b.start) ≡ Done fate.Aborted
-      now = cond_true (b.start == b.start) (Done fate.Aborted) (decided h b.start) (nat_same b.start)
-
-      new_fate : (u : ℕ) → first_decided (cond (b.start == u) (Done fate.Aborted) Open) (decided h u) ≡ cond (b.start == u) (Done fate.Aborted) (decided h u)
-      new_fate u =
-          elim (nat_test b.start u) [
-            | inl e ↦ rw (e.0, subst (λ n. decided h n ≡ Open) e.1 o) refl
-            | inr e ↦ rw e.0 refl
-          ]
+  leaves : LeavesRollback bounds h b.key (body.CheckTxnStatus b) l RolledBack b.start roll
+  leaves = record {
+    does = λ c. leaves_check_txn_status c b RolledBack;
+    on = on_key RolledBack;
+    same = refl;
+    leaves = refl;
+    untold = λ u n. refl;
+    sound = λ steps w. sound_roll_back steps w b.key b.start;
+    ends = ends_roll_back (view bounds h) b.key b.start;
+    tells = λ table ended. ended;
+  }
 
   -- ---- the lock is told, with its minimum or one that it is pushed to
 
@@ -129,12 +95,10 @@ module _ (bounds : List Key) (h : History) (good : Good bounds h) (b : CheckTxnS
 
       -- it is rolled back
       locked : FellBack (accepted h) b.start → Next bounds h (took (route bounds b.key) (body.CheckTxnStatus b) l RolledBack)
-      locked some_two = by_state (decided h b.start) refl
-        where
-          by_state : (s : State) → decided h b.start ≡ s → Next bounds h (took (route bounds b.key) (body.CheckTxnStatus b) l RolledBack)
-          by_state Open o = aborts o some (ends_abort_first (view bounds h) b.key b.start lock good.sound.inv good.ends o some_two first own)
-          by_state (Done (fate.Committed c)) e = absurd (good.ends.first_settled b.start c b.key lock e some_two first own)
-          by_state (Done fate.Aborted) e = follows e
+      locked some_two =
+          rolled bounds h good b.key (body.CheckTxnStatus b) l RolledBack b.start roll leaves some
+          (λ c e. good.ends.first_settled b.start c b.key lock e some_two first own)
+          (λ o. ends_abort_first (view bounds h) b.key b.start lock good.sound.inv good.ends o some_two first own)
 
       -- it is pushed
       pushes : FellBack (accepted h) b.start → lock.min ≤ b.caller + 1 → Next bounds h (took (route bounds b.key) (body.CheckTxnStatus b) l (Locked (info_of b.key (with_minimum lock (b.caller + 1)))))
@@ -151,19 +115,15 @@ module _ (bounds : List Key) (h : History) (good : Good bounds h) (b : CheckTxnS
 
     -- nothing of it stands there: it was never accepted there
     missing : (b.start < (left h (route bounds b.key)).collected → ⊥) → ((lock : Lock) → OwnLock (cells_at bounds h b.key).lock b.start lock → ⊥) → ((c : ℕ) → OwnCommit (cells_at bounds h b.key).write b.start c → ⊥) → (OwnRollback (cells_at bounds h b.key).write b.start → ⊥) → Next bounds h (took (route bounds b.key) (body.CheckTxnStatus b) l RolledBack)
-    missing fresh unlocked uncommitted unrolled = by_state (decided h b.start) refl
+    missing fresh unlocked uncommitted unrolled =
+        let does = first_within (declared h) b.start b.key first in
+        let within = does_within (declared h) b.start b.key does.0 does.1 in
+        rolled bounds h good b.key (body.CheckTxnStatus b) l RolledBack b.start roll leaves some
+        (λ c e. missing_live (view bounds h) b.key b.start c good.sound.inv within never e)
+        (λ o. ends_abort_missing (view bounds h) b.key b.start good.sound.inv good.ends o some within never)
       where
         never : accepted h b.start b.key ≡ None
         never = never_accepted (view bounds h) b.key b.start good.sound.inv (elim (cases_lt b.start (left h (route bounds b.key)).collected) [ inl lt ↦ absurd (fresh lt) | inr le ↦ le ]) unlocked uncommitted unrolled
-
-        by_state : (s : State) → decided h b.start ≡ s → Next bounds h (took (route bounds b.key) (body.CheckTxnStatus b) l RolledBack)
-        by_state Open o =
-            let does = first_within (declared h) b.start b.key first in
-            aborts o some (ends_abort_missing (view bounds h) b.key b.start good.sound.inv good.ends o some (does_within (declared h) b.start b.key does.0 does.1) never)
-        by_state (Done (fate.Committed c)) e =
-            let does = first_within (declared h) b.start b.key first in
-            absurd (missing_live (view bounds h) b.key b.start c good.sound.inv (does_within (declared h) b.start b.key does.0 does.1) never e)
-        by_state (Done fate.Aborted) e = follows e
 
   -- ---- the rows
 
@@ -172,6 +132,6 @@ module _ (bounds : List Key) (h : History) (good : Good bounds h) (b : CheckTxnS
   next_check_status a may (inr (no0, inl x)) = silent a (FutureTimestamp l) x.1 (quiet bounds h good b.key (body.CheckTxnStatus b) l (FutureTimestamp l) b.start (λ c. leaves_check_txn_status c b (FutureTimestamp l)) (on_key (FutureTimestamp l)) refl (λ u n. refl) refl tt)
   next_check_status a may (inr (no0, inr (no1, inl (lock, own, x)))) = checks may lock own a x
   next_check_status a may (inr (no0, inr (no1, inr (no2, inl (c, own, e))))) = silent a (Committed c) e (quiet bounds h good b.key (body.CheckTxnStatus b) l (Committed c) b.start (λ x. leaves_check_txn_status x b (Committed c)) (on_key (Committed c)) refl (λ u n. refl) refl (true_commit bounds h good b.key b.start c own))
-  next_check_status a may (inr (no0, inr (no1, inr (no2, inr (no3, inl x))))) = silent a RolledBack x.1 (follows (good.sound.inv.rollbacks b.key b.start x.0))
+  next_check_status a may (inr (no0, inr (no1, inr (no2, inr (no3, inl x))))) = silent a RolledBack x.1 (follows bounds h good b.key (body.CheckTxnStatus b) l RolledBack b.start roll leaves (good.sound.inv.rollbacks b.key b.start x.0))
   next_check_status a may (inr (no0, inr (no1, inr (no2, inr (no3, inr (no4, inl x)))))) = silent a RolledBack x.1 (missing may no0 no2 no3 no4)
   next_check_status a may (inr (no0, inr (no1, inr (no2, inr (no3, inr (no4, inr (no5, e))))))) = silent a TxnNotFound e (quiet bounds h good b.key (body.CheckTxnStatus b) l TxnNotFound b.start (λ c. leaves_check_txn_status c b TxnNotFound) (on_key TxnNotFound) refl (λ u n. refl) refl tt)

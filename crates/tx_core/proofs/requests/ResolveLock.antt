@@ -14,16 +14,17 @@ use Rattle.tx_plan.specs.Traces.{OwnLock, on_own_lock, roll_back, settled, settl
 use Rattle.tx_plan.specs.cases.Commit.{SettlesLock}
 use Rattle.tx_plan.specs.cases.ResolveLock.{ResolvesLock, AnswersResolveLock, resolve, leaves_resolve_lock}
 use Rattle.tx_core.specs.Histories.{History, is_first, set_at, left}
-use Rattle.tx_core.specs.Decisions.{Settles, RollsBack, NoEffect, is_own, effect_of_fate, accepted, first_decided, decided}
+use Rattle.tx_core.specs.Decisions.{Settles, NoEffect, is_own, effect_of_fate, accepted, first_decided, decided}
 use Rattle.tx_core.specs.Allowed.{AllowsResolveLock}
 use Rattle.tx_core.specs.Worlds.{route}
 use Rattle.tx_core.specs.Shadow.{shadow}
-use Rattle.tx_core.proofs.Basics.{nat_test, cond_true}
+use Rattle.tx_core.proofs.Basics.{cond_true}
 use Rattle.tx_core.proofs.view.View.{IsCommitted, IsAborted}
 use Rattle.tx_core.proofs.changes.Keyed.{own_cases}
 use Rattle.tx_core.proofs.changes.CellsEnds.{ends_settle, ends_resolve_back}
 use Rattle.tx_core.proofs.changes.Sounds.{sound_settle, sound_resolve_back}
 use Rattle.tx_core.proofs.view.HistoryView.{view, shown_in}
+use Rattle.tx_core.proofs.requests.LeavingRollback.{follows}
 use Rattle.tx_core.proofs.requests.Good.{Good, Next, OnKey, took, cells_at, assemble, quiet, decided_same, not_own}
 
 module _ (bounds : List Key) (h : History) (good : Good bounds h) (b : ResolveLock) (l : ℕ) where
@@ -42,22 +43,17 @@ module _ (bounds : List Key) (h : History) (good : Good bounds h) (b : ResolveLo
 
     -- it is rolled back
     rolls : b.fate ≡ fate.Aborted → IsAborted (decided h) b.start → Next bounds h (took (route bounds b.key) (body.ResolveLock b) l Resolved)
-    rolls p gone =
-        assemble bounds h b.key (body.ResolveLock b) l Resolved b.start (λ c. leaves_resolve_lock c b Resolved) (on_key Resolved) (RollsBack b.start) (has_effect fate.Aborted p) (decided h) (accepted h) (shown_in h) (on_own_lock (cells_at bounds h b.key) b.start (λ x. roll_back (cells_at bounds h b.key) b.start)) (shadow h) same_fate
-        (λ u q. refl)
-        (λ u. refl)
-        (ap (resolve (cells_at bounds h b.key) b.start) p)
-        (ap (λ s. s ++ shadow h) (decided_same b.start (decided h b.start)))
-        (sound_resolve_back (shadow h) (view bounds h) b.key b.start good.sound gone)
-        (ends_resolve_back (view bounds h) b.key b.start good.ends)
-        tt
-      where
-        same_fate : (u : ℕ) → first_decided (cond (b.start == u) (Done fate.Aborted) Open) (decided h u) ≡ decided h u
-        same_fate u =
-            elim (nat_test b.start u) [
-              | inl e ↦ rw (e.0, subst (λ n. decided h n ≡ Done fate.Aborted) e.1 gone) refl
-              | inr e ↦ rw e.0 refl
-            ]
+    rolls p =
+        follows bounds h good b.key (body.ResolveLock b) l Resolved b.start (λ c. on_own_lock c b.start (λ x. roll_back c b.start)) record {
+          does = λ c. leaves_resolve_lock c b Resolved;
+          on = on_key Resolved;
+          same = ap (resolve (cells_at bounds h b.key) b.start) p;
+          leaves = has_effect fate.Aborted p;
+          untold = λ u n. refl;
+          sound = λ steps w. sound_resolve_back steps w b.key b.start;
+          ends = ends_resolve_back (view bounds h) b.key b.start;
+          tells = λ table ended. tt;
+        }
 
     -- it is settled
     settles : (c : ℕ) → b.fate ≡ fate.Committed c → IsCommitted (decided h) b.start c → Next bounds h (took (route bounds b.key) (body.ResolveLock b) l Resolved)

@@ -6,7 +6,7 @@ use Rattle.std.proofs.lemmas.Bool.{cases_Bool}
 use Rattle.tx_types.specs.declared.key.Key.{Key}
 use Rattle.tx_types.specs.declared.mutation.KeyValue.{KeyValue}
 use Rattle.tx_types.specs.declared.lock.LockInfo.{LockInfo}
-use Rattle.tx_plan.specs.Keys.{key_lt, IsRising}
+use Rattle.tx_types.specs.Keys.{key_lt, IsRising}
 use Rattle.tx_plan.specs.cases.LocksBelow.{AreRising}
 use Rattle.tx_plan.proofs.KeyOrder.{lt_trans, lt_itself, lt_back}
 

@@ -7,7 +7,7 @@ use Rattle.tx_types.specs.declared.mutation.KeyValue.{KeyValue}
 use Rattle.tx_plan.specs.declared.body.Scan.{Scan}
 use Rattle.tx_plan.specs.declared.answer.Answer.{Answer}
 use Rattle.tx_plan.specs.declared.answer.Answer.TheVariants.{Rows, KeyIsLocked}
-use Rattle.tx_plan.specs.Keys.{key_lt, key_le, value_in, reaches}
+use Rattle.tx_types.specs.Keys.{key_lt, key_le, value_in, reaches}
 use Rattle.tx_plan.specs.Cells.{Cells, info_of}
 use Rattle.tx_plan.specs.Reads.{Walked, in_range, covered}
 use Rattle.tx_plan.specs.cases.Scan.{GivesRows, MeetsLock, AnswersScan}
