@@ -4,7 +4,8 @@ use Rattle.std.proofs.lemmas.Bool.{cases_lt}
 use Rattle.tx_types.specs.declared.value.Value.{Value}
 use Rattle.tx_plan.specs.declared.answer.Answer.{Answer}
 use Rattle.tx_plan.specs.Tables.{Case, CaseOf}
-use Rattle.tx_plan.specs.Cells.{Lock, CommitRecord, CommitOf, Writes, IsVisible}
+use Rattle.tx_plan.specs.Cells.{Lock, CommitRecord, CommitOf, Writes}
+use Rattle.tx_types.specs.Keys.{IsVisible}
 use Rattle.tx_plan.specs.Reads.{Finds, Reads}
 use Rattle.tx_core.proofs.Basics.{some_same}
 
