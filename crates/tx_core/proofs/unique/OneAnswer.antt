@@ -9,7 +9,7 @@ use Rattle.tx_plan.specs.declared.answer.Answer.{Answer}
 use Rattle.tx_plan.specs.declared.answer.Answer.TheVariants.{Raised, Collected}
 use Rattle.tx_plan.specs.Cells.{Cells, Region, no_cells, with_cells}
 use Rattle.tx_plan.specs.Traces.{OwnCommit}
-use Rattle.tx_plan.specs.Answers.{AnswersLeast, leaves}
+use Rattle.tx_plan.specs.Answers.{AnswersBy, AnswersLeast, leaves}
 use Rattle.tx_plan.specs.cases.Prewrite.{least_minimum}
 use Rattle.tx_plan.specs.cases.Collect.{keeps, kept}
 use Rattle.tx_core.specs.declared.event.Event.TheVariants.{Drawn, Began, Declared, Answered, Stopped, Took}
@@ -82,16 +82,20 @@ module _ (bounds : List Key) where
         | inr other ↦ absurd (let none = ap (λ (q : Cells). q.write c) (none_astray h run n k other.1) in (cc (none, x.stands)))
       ]
 
+  -- whatever the least minimum is
+  pub one_answer_by : (least : ℕ → ℕ) (h : History) (n loaded : ℕ) (q : Body) (a b : Answer) → IsWorldRun bounds h → AnswersBy (λ start m. m ≡ least start) (left h n) loaded q a → AnswersBy (λ start m. m ≡ least start) (left h n) loaded q b → a ≡ b
+  one_answer_by least h n loaded (Get q) a b run = one_get ((left h n).cells q.key) (left h n).safe loaded q a b
+  one_answer_by least h n loaded (Scan q) a b run = one_scan (left h n).cells q (left h n).safe loaded a b
+  one_answer_by least h n loaded (Prewrite q) a b run = one_prewrite ((left h n).cells q.key) (left h n).safe loaded (least q.start) q a b (commits_once h run n q.key q.start)
+  one_answer_by least h n loaded (Commit q) a b run = one_commit ((left h n).cells q.key) (left h n).collected q a b (commits_once h run n q.key q.start)
+  one_answer_by least h n loaded (BatchRollback q) a b run = one_rollback ((left h n).cells q.key) (left h n).collected q a b (commits_once h run n q.key q.start)
+  one_answer_by least h n loaded (TxnHeartBeat q) a b run = one_heart_beat ((left h n).cells q.key) (left h n).collected q a b
+  one_answer_by least h n loaded (CheckTxnStatus q) a b run = one_check_status ((left h n).cells q.key) (left h n).collected loaded q a b (commits_once h run n q.key q.start)
+  one_answer_by least h n loaded (CheckSecondaryLocks q) a b run = one_check_secondary ((left h n).cells q.key) (left h n).collected q a b (commits_once h run n q.key q.start)
+  one_answer_by least h n loaded (ResolveLock q) a b run = one_resolve ((left h n).cells q.key) (left h n).collected q a b
+  one_answer_by least h n loaded (RaiseSafe q) a b run = one_raise (left h n).safe loaded q a b
+  one_answer_by least h n loaded (LocksBelow q) a b run = one_locks (left h n).cells q a b
+  one_answer_by least h n loaded (Collect q) a b run = one_collect (left h n).cells (left h n).safe q a b
+
   pub one_answer : (h : History) (n loaded : ℕ) (q : Body) (a b : Answer) → IsWorldRun bounds h → AnswersLeast (left h n) loaded q a → AnswersLeast (left h n) loaded q b → a ≡ b
-  one_answer h n loaded (Get q) a b run = one_get ((left h n).cells q.key) (left h n).safe loaded q a b
-  one_answer h n loaded (Scan q) a b run = one_scan (left h n).cells q (left h n).safe loaded a b
-  one_answer h n loaded (Prewrite q) a b run = one_prewrite ((left h n).cells q.key) (left h n).safe loaded (least_minimum (left h n).max_read q.start) q a b (commits_once h run n q.key q.start)
-  one_answer h n loaded (Commit q) a b run = one_commit ((left h n).cells q.key) (left h n).collected q a b (commits_once h run n q.key q.start)
-  one_answer h n loaded (BatchRollback q) a b run = one_rollback ((left h n).cells q.key) (left h n).collected q a b (commits_once h run n q.key q.start)
-  one_answer h n loaded (TxnHeartBeat q) a b run = one_heart_beat ((left h n).cells q.key) (left h n).collected q a b
-  one_answer h n loaded (CheckTxnStatus q) a b run = one_check_status ((left h n).cells q.key) (left h n).collected loaded q a b (commits_once h run n q.key q.start)
-  one_answer h n loaded (CheckSecondaryLocks q) a b run = one_check_secondary ((left h n).cells q.key) (left h n).collected q a b (commits_once h run n q.key q.start)
-  one_answer h n loaded (ResolveLock q) a b run = one_resolve ((left h n).cells q.key) (left h n).collected q a b
-  one_answer h n loaded (RaiseSafe q) a b run = one_raise (left h n).safe loaded q a b
-  one_answer h n loaded (LocksBelow q) a b run = one_locks (left h n).cells q a b
-  one_answer h n loaded (Collect q) a b run = one_collect (left h n).cells (left h n).safe q a b
+  one_answer h n = one_answer_by (least_minimum (left h n).max_read) h n
