@@ -1,8 +1,10 @@
 //! Threads at one journal, and each call once.
 ghost use Rattle.std.specs.Prelude.{◌≡◌, ◌<◌, [], true, IfSome, vec_len};
 ghost use Rattle.tx_plan.specs.declared.body.Body.TheVariants as asks;
+ghost use Rattle.tx_core.specs.declared.event.Event.TheVariants.{Began};
 ghost use Rattle.tx_core.specs.Histories.{began};
-ghost use Rattle.tx_journal.specs.Known.{AreRising};
+ghost use Rattle.tx_core.specs.Recording.{MayRecord};
+ghost use Rattle.tx_journal.specs.Known.{AreRising, HasRecorded};
 
 use super::*;
 use std::alloc::Global;
@@ -35,13 +37,21 @@ fn seats_of<J: Naming>(alloc: Global, opened: Opened) -> Option<Vec<Seat<J>>>
     }
 }
 
+// Records that a transaction begins at a number.
+fn record_begin<J: Naming>(seat: &mut Seat<J>, start: Ts)
+    requires { MayRecord J.bounds seat.old.seat seat.old.events (Began start) }
+    ensures { HasRecorded J.bounds seat.old.seat seat.old.events (Began start) seat.new.events }
+{
+    seat.record(&Event::Began(start));
+}
+
 // Begins a transaction, and tells of it.
 fn begin<J: Naming>(mut seat: Seat<J>) -> Option<(Ts, Told<J>)>
     ensures { IfSome result (λ r. began r.1 r.0 ≡ true) }
 {
     match seat.draw(1) {
         Ok(start) => {
-            seat.record(&Event::Began(start));
+            record_begin(&mut seat, start);
             Some((start, seat.tell()))
         }
         Err(_) => None,
@@ -208,14 +218,16 @@ fn raise<J: Naming>(mut seat: Seat<J>, mut request: Request<J>) -> Option<Reply<
     Some(Reply::new(request, Some(Answer::Raised), seat.tell()))
 }
 
-// A session hears a reply. What it then knows leaves the place where the journal has its name.
-fn hear<J: Naming>(mut session: Seat<J>, mut reply: Reply<J>) -> Option<Unnamed> {
-    session.learn(reply.tell(&session));
-    if !matches!(reply.answer(), Some(Answer::Raised)) {
-        return None;
-    }
+// A session hears a reply: whether it has an answer.
+fn hear<J: Naming>(session: &mut Seat<J>, mut reply: Reply<J>) -> bool {
+    session.learn(reply.tell(session));
+    reply.answer().is_some()
+}
+
+// What a session knows, where the journal has no name.
+fn leave<J: Naming>(mut session: Seat<J>) -> Unnamed {
     let told = session.tell();
-    Some(told.unnamed(session))
+    told.unnamed(session)
 }
 
 // A session asks the first region.
@@ -227,10 +239,11 @@ fn ask<J: Naming>(mut session: Seat<J>, region: Seat<J>) -> Option<Unnamed>
         safe: Ts::ZERO,
     };
     let request = Request::new(session.tell(), Body::RaiseSafe(raise_safe));
-    match raise(region, request) {
-        Some(reply) => hear(session, reply),
-        None => None,
-    }
+    let heard = match raise(region, request) {
+        Some(reply) => hear(&mut session, reply),
+        None => false,
+    };
+    if heard { Some(leave(session)) } else { None }
 }
 
 // Of the seats the first is a region's, and the last a session's.

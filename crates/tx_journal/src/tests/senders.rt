@@ -22,9 +22,17 @@ struct Post<J: Naming> {
     held: Option<Request<J>>,
 }
 
+// A copy of a request, if there is memory.
+fn copy_of<J: Naming>(request: &mut Request<J>, by: &Seat<J>) -> Option<Request<J>> {
+    match request.clone(by) {
+        Ok(copy) => Some(copy),
+        Err(_) => None,
+    }
+}
+
 impl<J: Naming> Sender<Request<J>, Reply<J>> for Post<J> {
     fn send(&mut self, mut request: Request<J>) -> Option<Reply<J>> {
-        self.held = request.clone(&self.region).ok();
+        self.held = copy_of(&mut request, &self.region);
         self.newest = self.region.tell();
         let told = self.region.copy(&mut self.newest);
         Some(Reply::new(request, None, told))
@@ -38,19 +46,27 @@ struct Session<J: Naming> {
 }
 
 impl<J: Naming> Session<J> {
-    // Whether a reply without an answer comes.
+    // Asks a region, and learns its reply.
     fn get<S: Sender<Request<J>, Reply<J>>>(&mut self, sender: &mut S) -> bool {
-        let body = Body::RaiseSafe(RaiseSafe {
+        let raise_safe = RaiseSafe {
             region: RegionNo::new(0),
             safe: Ts::ZERO,
-        });
-        let Some(reply) = sender.send(Request::new(self.seat.tell(), body)) else {
-            return false;
         };
-        let (_, answer, told) = reply.into_parts();
-        self.seat.learn(told);
-        answer.is_none()
+        let request = Request::new(self.seat.tell(), Body::RaiseSafe(raise_safe));
+        match sender.send(request) {
+            Some(reply) => {
+                self.seat.learn(told_of(reply));
+                true
+            }
+            None => false,
+        }
     }
+}
+
+// The history of a reply.
+fn told_of<J: Naming>(reply: Reply<J>) -> Told<J> {
+    let (_, _, told) = reply.into_parts();
+    told
 }
 
 // A session and its way.
@@ -78,14 +94,19 @@ impl<J: Naming> Engine<J> {
     }
 }
 
-fn gets<J: Naming>(alloc: Global, opened: Opened) -> bool
+fn ask<J: Naming>(session: Seat<J>, region: Seat<J>) -> bool {
+    let mut engine = Engine::new(session, region);
+    engine.get()
+}
+
+fn asks<J: Naming>(alloc: Global, opened: Opened) -> bool
     requires { (opened.table ≡ J.table) × (opened.bounds ≡ J.bounds) × (opened.seats ≡ J.seats) }
 {
     let Some(mut seats) = seats_of::<J>(alloc, opened) else {
         return false;
     };
     match (seats.pop(), seats.pop()) {
-        (Some(session), Some(region)) => Engine::new(session, region).get(),
+        (Some(session), Some(region)) => ask(session, region),
         _ => false,
     }
 }
@@ -93,7 +114,7 @@ fn gets<J: Naming>(alloc: Global, opened: Opened) -> bool
 #[test]
 fn sender_with_a_seat(rt: HostRuntime) -> Result<(), Fail> {
     let opened = Opened::new(rt.alloc(), Vec::new(rt.alloc()), 1)?;
-    let came = gets::<Brand>(rt.alloc(), opened);
+    let came = asks::<Brand>(rt.alloc(), opened);
     assert!(rt; came);
     Ok(())
 }

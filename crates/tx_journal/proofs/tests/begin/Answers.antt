@@ -4,8 +4,8 @@ use Rattle.tx_core.specs.Recording.{MayRecord}
 use Rattle.tx_journal.proofs.Calls.{may_begin_there}
 use Rattle.tx_journal.proofs.tests.begin.Goals as goal
 
-pub record-requires-clause-right : goal.record-requires-clause-right
-record-requires-clause-right g c =
+pub record_begin-requires : goal.record_begin-requires
+record_begin-requires g c =
     let bounds = g.J.Naming.bounds in
     let start = c.in-Ok.start in
     let new = c.draw.new.self in
