@@ -1,7 +1,10 @@
-//! One region. Its records answer each request by its case table; they are over any families, and know no seat.
+//! One region. Its records answer each request by its case table, over any families. `Region` joins them with a seat of the journal:
+//! each answer is one event of its seat.
 #![tactic(auto)]
 
 mod commands;
 mod records;
+mod region;
 
 pub use records::Records;
+pub use region::Region;

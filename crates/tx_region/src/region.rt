@@ -1,0 +1,171 @@
+//! A region: a seat and records, which are what the seat's own events left.
+ghost use Rattle.std.specs.Prelude.{◌≡◌, ◌≤◌, ◌↔◌, ℕ, [], length, IsTrue, IfOk, IfErr, IfSome, IfNone};
+ghost use Rattle.tx_types.specs.declared.key.Key.{Key};
+ghost use Rattle.tx_plan.specs.declared.body.Body.{Body};
+ghost use Rattle.tx_plan.specs.declared.answer.Answer.{Answer};
+ghost use Rattle.tx_cells.specs.Contents.{nothing_held};
+ghost use Rattle.tx_core.specs.declared.event.Taken.{Taken as TakenOf};
+ghost use Rattle.tx_core.specs.declared.event.Event.TheVariants as events;
+ghost use Rattle.tx_core.specs.Histories.{last, left, Begins};
+ghost use Rattle.tx_core.specs.Recording.{MayRecord, part};
+ghost use Rattle.tx_core.specs.Worlds.{Holds};
+ghost use Rattle.tx_journal.specs.Known.{greatest_ts, HasSeen, HasRecorded};
+ghost use Rattle.tx_region.specs.Taking.{Answered};
+
+use crate::records::Records;
+use std::alloc::Global;
+use std::marker::Model;
+use tx_cells::{Families, KeyCopy};
+use tx_core::{Answer, Body, Event, RegionNo, SeatNo, Taken};
+use tx_journal::{Journal, Naming, Reply, Request, Seat, Told};
+use tx_types::{Fault, Key, Ts};
+
+/// A region of the journal `J`. Contracts see its seat: its number, its ticks and the events that it knows.
+pub struct Region<J: Naming, F: Families> {
+    journal: Journal<J>,
+    seat: Seat<J>,
+    records: Records<F>,
+}
+
+impl<J: Naming, F: Families> Model for Region<J, F> {
+    ghost use Rattle.std.specs.Prelude.{◌≡◌, ◌≤◌, length};
+    ghost use Rattle.tx_core.specs.Histories.{left};
+    ghost use Rattle.tx_journal.specs.Known.{Known};
+    ghost use Rattle.tx_region.specs.Regions.{region_of};
+
+    ghost Value = { Known };
+
+    ghost view = { λ r. r.seat };
+
+    ghost invariant = { λ r. (region_of F.content r.records ≡ left r.seat.events r.seat.seat) × (r.seat.seat ≤ length J.bounds) };
+}
+
+// The request and the answer of an event that a region took.
+fn parts_of(event: Event) -> (Body, Answer)
+    requires { (x : TakenOf) × (event ≡ events.Took x) }
+    ensures { (x : TakenOf) → event ≡ events.Took x → (result.0 ≡ x.body) × (result.1 ≡ x.answer) }
+{
+    match event {
+        Event::Took(taken) => (taken.body, taken.answer),
+        _ => unreachable!(),
+    }
+}
+
+// Records that the region of this seat, which loaded `loaded`, answered a request so, and hands back what was asked and
+// answered.
+fn record_taken<J: Naming>(
+    seat: &mut Seat<J>,
+    loaded: Ts,
+    body: Body,
+    answer: Answer,
+) -> (Body, Answer)
+    requires { MayRecord J.bounds seat.old.seat seat.old.events (events.Took record { region = seat.old.seat; body = body; loaded = loaded; answer = answer }) }
+    ensures parts { (result.0 ≡ body) × (result.1 ≡ answer) }
+    ensures same { (seat.new.seat ≡ seat.old.seat) × (seat.new.ticks ≡ seat.old.ticks) }
+    ensures added { HasRecorded J.bounds seat.old.seat seat.old.events (events.Took record { region = seat.old.seat; body = body; loaded = loaded; answer = answer }) seat.new.events }
+{
+    let region = RegionNo::new(seat.number().get());
+    let event = Event::Took(Taken {
+        region,
+        body,
+        loaded,
+        answer,
+    });
+    seat.record(&event);
+    parts_of(event)
+}
+
+impl<J: Naming, F: Families> Region<J, F> {
+    /// A region in which nothing happened, with the next seat of its journal.
+    pub fn new(alloc: Global, journal: Journal<J>, seat: Seat<J>, families: F) -> Region<J, F>
+        requires seat { (seat.events ≡ []) × (seat.seat ≤ length J.bounds) }
+        requires empty { (k : Key) → F.content families k ≡ nothing_held }
+        ensures { result ≡ seat }
+    {
+        Region {
+            journal,
+            seat,
+            records: Records::new(alloc, families),
+        }
+    }
+
+    /// Its number.
+    pub fn number(&self) -> SeatNo
+        ensures { result ≡ self.now.seat }
+    {
+        self.seat.number()
+    }
+
+    /// What it knows.
+    pub fn tell(&mut self) -> Told<J>
+        ensures same { self.new ≡ self.old }
+        ensures told { result ≡ self.old.events }
+    {
+        self.seat.tell()
+    }
+
+    /// A copy of what was told.
+    pub fn copy(&self, told: &mut Told<J>) -> Told<J>
+        ensures same { told.new ≡ told.old }
+        ensures copy { result ≡ told.old }
+    {
+        self.seat.copy(told)
+    }
+
+    /// Knows the longer of what it knows and what was told.
+    pub fn learn(&mut self, told: Told<J>)
+        ensures same { (self.new.seat ≡ self.old.seat) × (self.new.ticks ≡ self.old.ticks) }
+        ensures seen { HasSeen J.bounds self.old.seat self.old.events self.new.events }
+        ensures told { Begins told self.new.events }
+        ensures own { part self.old.seat self.new.events ≡ part self.old.seat self.old.events }
+    {
+        self.seat.learn(told);
+    }
+
+    // Knows what was told, and then the last number that was drawn.
+    fn load(&mut self, told: &mut Told<J>) -> Ts
+        ensures told { told.new ≡ told.old }
+        ensures same { (self.new.seat ≡ self.old.seat) × (self.new.ticks ≡ self.old.ticks) }
+        ensures seen { HasSeen J.bounds self.old.seat self.old.events self.new.events }
+        ensures heard { Begins told.old self.new.events }
+        ensures last { (result ≡ last self.new.events) × (result ≤ greatest_ts) }
+    {
+        let told = self.seat.copy(told);
+        self.seat.learn(told);
+        self.seat.last()
+    }
+
+    /// Answers a request that it holds, and records that it did, by one event; where memory is refused it does neither.
+    pub fn take(&mut self, request: Request<J>) -> Reply<J>
+        requires holds { Holds J.bounds self.old.seat request.body }
+        ensures request { result.request ≡ request }
+        ensures same { (self.new.seat ≡ self.old.seat) × (self.new.ticks ≡ self.old.ticks) }
+        ensures told { self.new.events ≡ result.events }
+        ensures answered { IfSome result.answer (Answered J.bounds self.old.seat self.old.events result) }
+        ensures refused { IfNone result.answer (HasSeen J.bounds self.old.seat self.old.events self.new.events) }
+    {
+        let (mut by, body) = request.into_parts();
+        let loaded = self.load(&mut by);
+        match self.records.answer(loaded, &body) {
+            Err(_) => {
+                let told = self.seat.tell();
+                Reply::new(Request::new(by, body), None, told)
+            }
+            Ok(answer) => {
+                let (body, answer) = record_taken(&mut self.seat, loaded, body, answer);
+                let told = self.seat.tell();
+                Reply::new(Request::new(by, body), Some(answer), told)
+            }
+        }
+    }
+}
+
+impl<J: Naming, F: Families + Drop> Drop for Region<J, F> {
+    fn drop(self) {
+        let Self {
+            journal: _,
+            seat: _,
+            records: _,
+        } = self;
+    }
+}
