@@ -1,4 +1,4 @@
 mod Basics
 mod Carrying
 mod Taking
-mod Routes
+pub mod Routes

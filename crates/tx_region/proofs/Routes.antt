@@ -8,7 +8,7 @@ use Rattle.tx_types.specs.declared.key.Key.{Key}
 use Rattle.tx_types.specs.Keys.{key_lt, key_le}
 use Rattle.tx_plan.specs.declared.body.Scan.{Scan}
 use Rattle.tx_plan.specs.Reads.{in_range}
-use Rattle.tx_plan.proofs.KeyOrder.{ordered, lt_trans, lt_itself, lt_le, le_itself, le_cases, lt_then_le}
+use Rattle.tx_plan.proofs.KeyOrder.{ordered, le_lt, lt_trans, lt_itself, lt_le, le_itself, le_cases, lt_then_le}
 use Rattle.tx_core.specs.Worlds.{route}
 use Rattle.tx_journal.specs.Known.{AreRising}
 
@@ -107,29 +107,35 @@ route_point (j ∷ ks) r k n is =
 
 -- ---- ranges
 
+inside_both : (b : Scan) (k : Key) → IsTrue (in_range b k) → IsTrue (key_le b.from k) × IsTrue (key_lt k b.to)
+inside_both b k inside = and_both (key_le b.from k) (key_lt k b.to) inside
+
+-- the first key of a range that has one
+pub from_inside : (b : Scan) → IsTrue (key_lt b.from b.to) → IsTrue (in_range b b.from)
+from_inside b some = and_true (key_le b.from b.from) (key_lt b.from b.to) (le_itself b.from) some
+
+-- where a region holds a range, so does the region of its first key
+pub holds_first : (ks : List Key) (b : Scan) (n : ℕ) → ((k : Key) → IsTrue (in_range b k) → route ks k ≡ n) → (k : Key) → IsTrue (in_range b k) → route ks k ≡ route ks b.from
+holds_first ks b n all k inside =
+    let x = inside_both b k inside in
+    all k inside ∙ sym (all b.from (from_inside b (le_lt b.from k b.to x.0 x.1)))
+
 module _ (ks : List Key) (r : AreRising ks) (b : Scan) (n : ℕ) where
-  inside_both : (k : Key) → IsTrue (in_range b k) → IsTrue (key_le b.from k) × IsTrue (key_lt k b.to)
-  inside_both k inside = and_both (key_le b.from k) (key_lt k b.to) inside
-
-  -- the first key of a range that has one
-  pub from_inside : IsTrue (key_lt b.from b.to) → IsTrue (in_range b b.from)
-  from_inside some = and_true (key_le b.from b.from) (key_lt b.from b.to) (le_itself b.from) some
-
   pub empty_range : IsTrue (key_le b.to b.from) → (k : Key) → IsTrue (in_range b k) → ⊥
-  empty_range empty k inside = lt_itself k (lt_then_le k b.to k (inside_both k inside).1 (le_trans b.to b.from k empty (inside_both k inside).0))
+  empty_range empty k inside = lt_itself k (lt_then_le k b.to k (inside_both b k inside).1 (le_trans b.to b.from k empty (inside_both b k inside).0))
 
   -- no region begins inside the range
   pub range_within : route ks b.from ≡ n → ((d : Key) → n < length ks → IsTrue (key_le b.to (get_or ks n d))) → (k : Key) → IsTrue (in_range b k) → route ks k ≡ n
   range_within first next k inside =
       count_at (λ j. key_le j k) ks n (subst (λ m. m ≤ length ks) first (count_by-le-length (λ j. key_le j b.from) ks)) (
-        (λ i d low high. le_trans _ b.from k ((route_point ks r b.from n first).0 i d low high) (inside_both k inside).0),
+        (λ i d low high. le_trans _ b.from k ((route_point ks r b.from n first).0 i d low high) (inside_both b k inside).0),
         λ i d low high. above i d low high,
       )
     where
       above : (i : ℕ) (d : Key) → n ≤ i → i < length ks → key_le (get_or ks i d) k ≡ false
       above i d low high =
           elim (cases_Bool (key_le (get_or ks i d) k)) [
-            | inl t ↦ absurd (lt_itself k (lt_then_le k b.to k (inside_both k inside).1 (le_trans b.to (get_or ks n d) k (next d (omega arith)) (le_trans _ _ k (rise ks r n i d low high) t))))
+            | inl t ↦ absurd (lt_itself k (lt_then_le k b.to k (inside_both b k inside).1 (le_trans b.to (get_or ks n d) k (next d (omega arith)) (le_trans _ _ k (rise ks r n i d low high) t))))
             | inr f ↦ f
           ]
 

@@ -15,7 +15,7 @@ returns-then-ge c =
 pub returns-then-route-number : goal.returns-then-route-number
 returns-then-route-number c =
     let b = c.args.body.now in
-    let inside = from_inside c.args.bounds.now c.requires b c.args.number (ge_false b.from b.to (sym c.if-ge.ensures)) in
+    let inside = from_inside b (ge_false b.from b.to (sym c.if-ge.ensures)) in
     ((λ h. absurd (cc (h))), λ all. absurd (c.if-route-number.true (c.route.ensures ∙ all b.from inside)))
 
 pub returns-in-Some : goal.returns-in-Some

@@ -1,0 +1,7 @@
+//! The store: regions, each behind a lock of its own. Nothing but one region is under a lock, and no request waits while it
+//! has one.
+#![tactic(auto)]
+
+mod store;
+
+pub use store::Store;
