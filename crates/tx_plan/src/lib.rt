@@ -11,6 +11,8 @@ mod lists;
 mod plan;
 mod planned;
 #[cfg(test)]
+mod table_tests;
+#[cfg(test)]
 mod tests;
 mod view;
 mod walk;
