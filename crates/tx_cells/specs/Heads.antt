@@ -21,6 +21,11 @@ write_head (stored.Rollback start) = head.Rollback
 abbrev pub lock_head : LockRec → LockHead
 lock_head rec = record { start = rec.start; min = rec.min; ttl = rec.ttl; kind = stored_kind rec.mutation; mode = mode_of rec.mode }
 
+-- whether a write record is a rollback
+abbrev pub is_rollback : WriteRec → Bool
+is_rollback (stored.Commit rec) = false
+is_rollback (stored.Rollback start) = true
+
 -- the start of the transaction of a write record
 abbrev pub start_in : WriteRec → ℕ
 start_in (stored.Commit rec) = rec.start

@@ -3,7 +3,8 @@ ghost use Rattle.std.specs.Prelude.{◌≡◌, IfOk, IfErr};
 ghost use Rattle.tx_cells.specs.Afterwards.{stored_of, apart_of, mode_put, lock_put};
 
 use tx_plan::{NewLock, Prewrite};
-use tx_types::{Fault, LockMode, LockRec, Mode, Mutation, StoredMutation, StoredValue, Value};
+use tx_types::limits::MAX_INLINE_BYTES;
+use tx_types::{Fault, LockMode, LockRec, Mode, Mutation, StoredMutation, Value};
 
 /// What a record keeps of a mutation.
 fn stored(mutation: &Mutation) -> Result<StoredMutation, Fault>
@@ -11,13 +12,7 @@ fn stored(mutation: &Mutation) -> Result<StoredMutation, Fault>
     ensures err { IfErr result (λ e. e ≡ Fault.OutOfMemory) }
 {
     match mutation {
-        Mutation::Put(value) => {
-            if value.is_inline() {
-                let value = value.clone()?;
-                return Ok(StoredMutation::Put(StoredValue::Inline(value)));
-            }
-            Ok(StoredMutation::Put(StoredValue::InDefault))
-        }
+        Mutation::Put(value) => Ok(StoredMutation::Put(value.stored()?)),
         Mutation::Delete => Ok(StoredMutation::Delete),
         Mutation::Lock => Ok(StoredMutation::Lock),
     }
@@ -30,7 +25,7 @@ pub(crate) fn apart(mutation: &Mutation) -> Result<Option<Value>, Fault>
 {
     match mutation {
         Mutation::Put(value) => {
-            if value.is_inline() {
+            if value.as_bytes().len() <= MAX_INLINE_BYTES {
                 return Ok(None);
             }
             Ok(Some(value.clone()?))
