@@ -40,6 +40,9 @@ value_not_put f t o e q = ap (λ (x : Option Value). with_value f t x q) (sym e)
 -- ---- all keys
 
 module _ (old new : Key → Option KeyFamilies) where
+  pub at_key : (key : Key) (o : Option KeyFamilies) → ((k : Key) → new k ≡ cond (is_eq (slice_cmp nat_cmp key k)) o (old k)) → new key ≡ o
+  at_key key o is = is key ∙ ap (λ b. cond b o (old key)) (key_here key)
+
   -- one key has something else
   pub placed : (key : Key) (o : Option KeyFamilies) (y : OnKey) → ((k : Key) → new k ≡ cond (is_eq (slice_cmp nat_cmp key k)) o (old k)) → held_on o ≡ y → OnlyOn key y (λ k. held_on (old k)) (λ k. held_on (new k))
   placed key o y is e = record {
