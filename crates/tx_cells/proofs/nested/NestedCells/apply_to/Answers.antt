@@ -41,7 +41,7 @@ returns-in-Some-clause-same c =
 pub apply-requires-2 : goal.apply-requires-2
 apply-requires-2 c =
     let old = tree.get (slice_cmp nat_cmp) c.args.self.now.keys in
-    let absent : old c.args.key.now ≡ None = sym c.in_default.ensures.value in
+    let absent : old c.args.key.now ≡ None = sym c.in_default-get_mut.ensures.value in
     subst (λ (x : OnKey). Applies (cells_of x) c.args.change) (sym (c.new-on_key.ensures ∙ sym (ap held_on absent))) c.requires
 
 pub returns-clause-content : goal.returns-clause-content
@@ -50,7 +50,7 @@ returns-clause-content c =
     let old = tree.get (slice_cmp nat_cmp) c.args.self.now.keys in
     let there = tree.get (slice_cmp nat_cmp) c.get_mut.follows.lender-at-none in
     let new = tree.get (slice_cmp nat_cmp) c.insert.new.self in
-    let absent : old key ≡ None = sym c.in_default.ensures.value in
+    let absent : old key ≡ None = sym c.in_default-get_mut.ensures.value in
     first_placed old there new c.in_ok-key.key key (Some c.apply-2.new.self) (after (held_on (old key)) c.args.change) (ap (tree.get (slice_cmp nat_cmp)) c.get_mut.follows.holds-at-none) c.in_ok-key.ensures.ok c.in_ok-insert.ensures.updates.0
       (c.in_ok-apply.ensures.ok ∙ ap (λ (x : OnKey). after x c.args.change) (c.new-on_key.ensures ∙ sym (ap held_on absent)))
 
@@ -58,6 +58,6 @@ pub returns-clause-cells : goal.returns-clause-cells
 returns-clause-cells c =
     let key = c.args.key.now in
     let old = tree.get (slice_cmp nat_cmp) c.args.self.now.keys in
-    let absent : old key ≡ None = sym c.in_default.ensures.value in
+    let absent : old key ≡ None = sym c.in_default-get_mut.ensures.value in
     let free : held c.new-on_key.result ≡ held_on (old key) = c.new-on_key.ensures ∙ sym (ap held_on absent) in
     ap cells_of ((returns-clause-content c).here ∙ ap (λ (x : OnKey). after x c.args.change) (sym free) ∙ sym c.in_ok-apply.ensures.ok) ∙ c.in_ok-apply.ensures.cells ∙ ap (λ (x : OnKey). changed (cells_of x) c.args.change) free
