@@ -21,26 +21,9 @@ use Rattle.tx_plan.specs.Sound.{IsSound}
 use Rattle.tx_cells.specs.Heads.{keeps_apart}
 use Rattle.tx_cells.specs.Contents.{OnKey, cells_of, lock_of, write_of, whole, IsWhole, IsKept, LockKeeps, WriteKeeps}
 use Rattle.tx_cells.specs.Afterwards.{Collected, without_value}
+use Rattle.tx_cells.specs.Drops.{Records, GoneApart, ValuesGo, goes_below}
 use Rattle.tx_cells.proofs.Showing.{stands_commit}
 use Rattle.tx_cells.proofs.CellsAfter.{cells_same, without_apart}
-
-abbrev Records : Type 0
-Records = ℕ → Option WriteRec
-
--- a record that goes keeps the value of the transaction that started at t apart
-pub record GoneApart (write : Records) (goes : ℕ → Bool) (t : ℕ) : Type 0 where
-  pub at : ℕ
-  pub rec : CommitRec
-  pub found : write at ≡ Some (Commit rec)
-  pub went : goes at ≡ true
-  pub of : rec.start ≡ t
-  pub apart : keeps_apart rec.mutation ≡ true
-
--- what becomes of the values where these records go
-pub record ValuesGo (write : Records) (goes : ℕ → Bool) (before after : ℕ → Option Value) : Type 0 where
-  pub gone : (t : ℕ) → GoneApart write goes t → after t ≡ None
-  pub stayed : (t : ℕ) → (GoneApart write goes t → ⊥) → after t ≡ before t
-  pub fewer : (t : ℕ) → after t ≢ None → after t ≡ before t
 
 -- ---- one record after the other
 
@@ -74,17 +57,17 @@ module _ (write : Records) (goes more : ℕ → Bool) (c : ℕ) (before after : 
     gone = λ t g. elim (cases_eq t rec.start) [
       | inl same ↦ gone_here t same
       | inr other ↦ without_apart after rec.start t other ∙ elim (only g.at g.went) [
-          | inl w ↦ so.gone t (record { at = g.at; rec = g.rec; found = g.found; went = w; of = g.of; apart = g.apart })
-          | inr at ↦ (
-              let both : Some (Commit g.rec) ≡ Some (Commit rec) = sym g.found ∙ ap write at ∙ e in
-              let one : g.rec ≡ rec = cc both in
-              absurd (other (sym g.of ∙ ap (λ (r : CommitRec). r.start) one))
-              )
-        ]
+        | inl w ↦ so.gone t (record { at = g.at; rec = g.rec; found = g.found; went = w; of = g.of; apart = g.apart })
+        | inr at ↦ (
+            let both : Some (Commit g.rec) ≡ Some (Commit rec) = sym g.found ∙ ap write at ∙ e in
+            let one : g.rec ≡ rec = cc both in
+            absurd (other (sym g.of ∙ ap (λ (r : CommitRec). r.start) one))
+            )
+      ]
     ];
     stayed = λ t n. (
-      let other : t ≡ rec.start → ⊥ = λ same. n (record { at = c; rec = rec; found = e; went = here; of = sym same; apart = apart }) in
-      without_apart after rec.start t other ∙ so.stayed t (λ g. n (old_gone t g)));
+        let other : t ≡ rec.start → ⊥ = λ same. n (record { at = c; rec = rec; found = e; went = here; of = sym same; apart = apart }) in
+        without_apart after rec.start t other ∙ so.stayed t (λ g. n (old_gone t g)));
     fewer = λ t n. elim (cases_eq t rec.start) [
       | inl same ↦ absurd (n (gone_here t same))
       | inr other ↦ (let is = without_apart after rec.start t other in is ∙ so.fewer t (λ none. n (is ∙ none)))
@@ -115,11 +98,11 @@ module _ (x : OnKey) (goes : ℕ → Bool) (value : ℕ → Option Value) (w : I
 
   write_stays : (t : ℕ) → WriteKeeps Left.write t → value t ≡ x.value t
   write_stays t k = so.stayed t (λ g. (
-    let there = left_is k.at (Commit k.rec) k.found in
-    let one = w.sound.once t g.at k.at (record { rec = _; stands = stands_commit x g.at g.rec g.found; own = g.of }) (record { rec = _; stands = stands_commit x k.at k.rec there.1; own = k.of }) in
-    let went = sym (ap goes one) ∙ g.went in
-    let stay = there.0 in
-    cc (went, stay)))
+      let there = left_is k.at (Commit k.rec) k.found in
+      let one = w.sound.once t g.at k.at (record { rec = _; stands = stands_commit x g.at g.rec g.found; own = g.of }) (record { rec = _; stands = stands_commit x k.at k.rec there.1; own = k.of }) in
+      let went = sym (ap goes one) ∙ g.went in
+      let stay = there.0 in
+      cc (went, stay)))
 
   -- a mutation is put together from the same
   whole_same : (t : ℕ) (m : StoredMutation) → (keeps_apart m ≡ true → value t ≡ x.value t) → whole (value t) m ≡ whole (x.value t) m
@@ -163,9 +146,9 @@ module _ (x : OnKey) (goes : ℕ → Bool) (value : ℕ → Option Value) (w : I
   value_left t n = elim (w.value_kept t (λ none. n (so.fewer t n ∙ none))) [
     | inl k ↦ inl k
     | inr k ↦ elim (cases_Bool (goes k.at)) [
-        | inl go ↦ absurd (n (so.gone t (record { at = k.at; rec = k.rec; found = k.found; went = go; of = k.of; apart = k.apart })))
-        | inr stay ↦ inr (record { at = k.at; rec = k.rec; found = left_there k.at stay ∙ k.found; of = k.of; apart = k.apart })
-      ]
+      | inl go ↦ absurd (n (so.gone t (record { at = k.at; rec = k.rec; found = k.found; went = go; of = k.of; apart = k.apart })))
+      | inr stay ↦ inr (record { at = k.at; rec = k.rec; found = left_there k.at stay ∙ k.found; of = k.of; apart = k.apart })
+    ]
   ]
 
   module _ (safe : ℕ) (tells : (q : ℕ) → cond (keeps (cells_of x).write safe q) (x.write q) None ≡ Left.write q) where
@@ -205,10 +188,6 @@ module _ (x : OnKey) (goes : ℕ → Bool) (value : ℕ → Option Value) (w : I
 
 -- ---- which records go
 
--- all below the safe point, but the one that stays
-abbrev pub goes_below : ℕ → Option ℕ → ℕ → Bool
-goes_below safe stay q = nat_lt q safe && not (stays stay q)
-
 some_or_none : (o : Option WriteRec) → (o ≡ None) ⊎ (o ≢ None)
 some_or_none None = inl refl
 some_or_none (Some r) = inr (λ e. cc e)
@@ -231,24 +210,24 @@ pub tells_left : (x : OnKey) (safe : ℕ) (stay : Option ℕ) → ((q : ℕ) →
 tells_left x safe stay tells q = elim (some_or_none (x.write q)) [
   | inl none ↦ ap (λ o. cond (keeps (cells_of x).write safe q) o None) none ∙ same_choice (keeps (cells_of x).write safe q) None ∙ sym (same_choice (goes_below safe stay q) None) ∙ sym (ap (λ o. cond (goes_below safe stay q) None o) none)
   | inr some ↦ elim (cases_lt q safe) [
-      | inl lt ↦ elim (cases_Bool (keeps (cells_of x).write safe q)) [
-          | inl here ↦ (
-              let s = stays_true stay q ((tells q lt (there some)).0 here) in
-              let off : goes_below safe stay q ≡ false = rw (lt-ltb q safe lt, s) refl in
-              ap (λ b. cond b (x.write q) None) here ∙ sym (ap (λ b. cond b None (x.write q)) off)
-              )
-          | inr gone ↦ (
-              let s = stays_false stay q (λ e. (let back = (tells q lt (there some)).1 e in cc (gone, back))) in
-              let on : goes_below safe stay q ≡ true = rw (lt-ltb q safe lt, s) refl in
-              ap (λ b. cond b (x.write q) None) gone ∙ sym (ap (λ b. cond b None (x.write q)) on)
-              )
-        ]
-      | inr ge ↦ (
-          let stay_there : keeps (cells_of x).write safe q ≡ true = keeps_above (cells_of x).write safe q ge in
-          let off : goes_below safe stay q ≡ false = rw (le-ltb q safe ge) refl in
-          ap (λ b. cond b (x.write q) None) stay_there ∙ sym (ap (λ b. cond b None (x.write q)) off)
+    | inl lt ↦ elim (cases_Bool (keeps (cells_of x).write safe q)) [
+      | inl here ↦ (
+          let s = stays_true stay q ((tells q lt (there some)).0 here) in
+          let off : goes_below safe stay q ≡ false = rw (lt-ltb q safe lt, s) refl in
+          ap (λ b. cond b (x.write q) None) here ∙ sym (ap (λ b. cond b None (x.write q)) off)
+          )
+      | inr gone ↦ (
+          let s = stays_false stay q (λ e. (let back = (tells q lt (there some)).1 e in cc (gone, back))) in
+          let on : goes_below safe stay q ≡ true = rw (lt-ltb q safe lt, s) refl in
+          ap (λ b. cond b (x.write q) None) gone ∙ sym (ap (λ b. cond b None (x.write q)) on)
           )
     ]
+    | inr ge ↦ (
+        let stay_there : keeps (cells_of x).write safe q ≡ true = keeps_above (cells_of x).write safe q ge in
+        let off : goes_below safe stay q ≡ false = rw (le-ltb q safe ge) refl in
+        ap (λ b. cond b (x.write q) None) stay_there ∙ sym (ap (λ b. cond b None (x.write q)) off)
+        )
+  ]
 ]
   where
     there : x.write q ≢ None → (cells_of x).write q ≢ None
