@@ -34,16 +34,32 @@ none_gone write goes value none = record {
   fewer = λ t n. refl;
 }
 
+-- where the same records go
+pub same_gone : (write : Records) (goes more : ℕ → Bool) (before after : ℕ → Option Value) → ((q : ℕ) (r : WriteRec) → write q ≡ Some r → goes q ≡ more q) → ValuesGo write goes before after → ValuesGo write more before after
+same_gone write goes more before after same so = record {
+  gone = λ t g. so.gone t (record { at = g.at; rec = g.rec; found = g.found; went = same g.at (Commit g.rec) g.found ∙ g.went; of = g.of; apart = g.apart });
+  stayed = λ t n. so.stayed t (λ g. n (record { at = g.at; rec = g.rec; found = g.found; went = sym (same g.at (Commit g.rec) g.found) ∙ g.went; of = g.of; apart = g.apart }));
+  fewer = so.fewer;
+}
+
+-- where values are the same
+pub same_after : (write : Records) (goes : ℕ → Bool) (before after other : ℕ → Option Value) → ((t : ℕ) → other t ≡ after t) → ValuesGo write goes before after → ValuesGo write goes before other
+same_after write goes before after other same so = record {
+  gone = λ t g. same t ∙ so.gone t g;
+  stayed = λ t n. same t ∙ so.stayed t n;
+  fewer = λ t n. same t ∙ so.fewer t (λ none. n (same t ∙ none));
+}
+
 -- one record more goes
 module _ (write : Records) (goes more : ℕ → Bool) (c : ℕ) (before after : ℕ → Option Value) (so : ValuesGo write goes before after)
-    (there : (q : ℕ) → goes q ≡ true → more q ≡ true) (only : (q : ℕ) → more q ≡ true → (goes q ≡ true) ⊎ (q ≡ c)) (here : more c ≡ true) where
+    (there : (q : ℕ) → goes q ≡ true → more q ≡ true) (only : (q : ℕ) (r : WriteRec) → write q ≡ Some r → more q ≡ true → (goes q ≡ true) ⊎ (q ≡ c)) (here : more c ≡ true) where
   old_gone : (t : ℕ) → GoneApart write goes t → GoneApart write more t
   old_gone t g = record { at = g.at; rec = g.rec; found = g.found; went = there g.at g.went; of = g.of; apart = g.apart }
 
   -- it keeps no value apart
   pub gone_bare : ((rec : CommitRec) → write c ≡ Some (Commit rec) → keeps_apart rec.mutation ≡ true → ⊥) → ValuesGo write more before after
   gone_bare bare = record {
-    gone = λ t g. elim (only g.at g.went) [
+    gone = λ t g. elim (only g.at (Commit g.rec) g.found g.went) [
       | inl w ↦ so.gone t (record { at = g.at; rec = g.rec; found = g.found; went = w; of = g.of; apart = g.apart })
       | inr e ↦ absurd (bare g.rec (ap write (sym e) ∙ g.found) g.apart)
     ];
@@ -56,7 +72,7 @@ module _ (write : Records) (goes more : ℕ → Bool) (c : ℕ) (before after : 
   gone_apart rec e apart = record {
     gone = λ t g. elim (cases_eq t rec.start) [
       | inl same ↦ gone_here t same
-      | inr other ↦ without_apart after rec.start t other ∙ elim (only g.at g.went) [
+      | inr other ↦ without_apart after rec.start t other ∙ elim (only g.at (Commit g.rec) g.found g.went) [
         | inl w ↦ so.gone t (record { at = g.at; rec = g.rec; found = g.found; went = w; of = g.of; apart = g.apart })
         | inr at ↦ (
             let both : Some (Commit g.rec) ≡ Some (Commit rec) = sym g.found ∙ ap write at ∙ e in
@@ -196,11 +212,11 @@ same_choice : {X : Type 0} (b : Bool) (x : X) → cond b x x ≡ x
 same_choice true x = refl
 same_choice false x = refl
 
-stays_true : (stay : Option ℕ) (q : ℕ) → stay ≡ Some q → stays stay q ≡ true
+pub stays_true : (stay : Option ℕ) (q : ℕ) → stay ≡ Some q → stays stay q ≡ true
 stays_true None q e = absurd (cc e)
 stays_true (Some at) q e = (let same : at ≡ q = cc e in eq-eqb at q same)
 
-stays_false : (stay : Option ℕ) (q : ℕ) → (stay ≡ Some q → ⊥) → stays stay q ≡ false
+pub stays_false : (stay : Option ℕ) (q : ℕ) → (stay ≡ Some q → ⊥) → stays stay q ≡ false
 stays_false None q h = refl
 stays_false (Some at) q h = elim (cases_Bool (at == q)) [ inl e ↦ absurd (h (ap Some (eqb-true at q e))) | inr e ↦ e ]
 
