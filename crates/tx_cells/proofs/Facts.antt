@@ -13,10 +13,13 @@ use Rattle.tx_types.specs.declared.write.WriteRec.TheVariants.{Commit}
 use Rattle.tx_cells.specs.Contents.{OnKey, cells_of, IsWhole, IsKept}
 use Rattle.tx_cells.specs.Histories.{AreDated, AreFitting}
 use Rattle.tx_cells.proofs.Showing.{stands_commit}
-use Rattle.tx_cells.proofs.CellsAfter.{LockAlone}
+use Rattle.tx_plan.specs.declared.key_change.KeyChange.{KeyChange}
+use Rattle.tx_plan.specs.Changes.{Applies, changed}
+use Rattle.tx_cells.specs.Afterwards.{after}
+use Rattle.tx_cells.proofs.CellsAfter.{LockAlone, cells_after}
 
 pub dated_in : (x : OnKey) → IsWhole x → AreDated x.write
-dated_in x w c rec e = w.sound.write_dated c _ (stands_commit x c rec e)
+dated_in x w c rec e = w.sound.commit_above c _ (stands_commit x c rec e)
 
 pub dated : (x : OnKey) → ∥ IsWhole x ∥₁ → AreDated x.write
 dated x t c rec e = ∥∥₁_elim t le_prop (λ w. dated_in x w c rec e)
@@ -44,7 +47,7 @@ pub whole_at : {K : Type 0} (on : K → OnKey) → ∥ ((key : K) → IsWhole (o
 whole_at on t key = ∥∥₁_map t (λ w. w key)
 
 pub lock_alone : (x : OnKey) → ∥ IsWhole x ∥₁ → LockAlone x
-lock_alone x t lock c e own = ∥∥₁_elim t (λ a b. absurd a) (λ w. w.sound.lock_alone lock c e own)
+lock_alone x t lock c e own = ∥∥₁_elim t (λ a b. absurd a) (λ w. w.sound.uncommitted lock c e own)
 
 -- what is held of a key after a step that keeps what it meets
 pub stays_whole : (x y z : OnKey) → ∥ IsWhole x ∥₁ → (IsWhole x → IsWhole y) → z ≡ y → ∥ IsWhole z ∥₁
@@ -57,3 +60,7 @@ on_ok (Err e) P Q step p = tt
 pub on_err : {T E : Type 0} (r : Result T E) (P Q : Type 0) → (P → Q) → OnErr r P → OnErr r Q
 on_err (Ok x) P Q step p = tt
 on_err (Err e) P Q step p = step p
+
+-- the cells after a change that was made
+pub cells_made : (x y : OnKey) (made done : KeyChange) → ∥ IsWhole x ∥₁ → Applies (cells_of x) made → made ≡ done → y ≡ after x done → cells_of y ≡ changed (cells_of x) made
+cells_made x y made done whole applies is e = ap cells_of e ∙ ap (λ k. cells_of (after x k)) (sym is) ∙ cells_after x made (lock_alone x whole) applies

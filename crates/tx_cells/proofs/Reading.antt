@@ -13,7 +13,8 @@ use Rattle.tx_types.specs.declared.mutation.StoredMutation.TheVariants as stored
 use Rattle.tx_types.specs.declared.write.CommitRec.{CommitRec}
 use Rattle.tx_types.specs.declared.write.WriteRec.{WriteRec}
 use Rattle.tx_types.specs.declared.write.WriteRec.TheVariants.{Commit}
-use Rattle.tx_plan.specs.Cells.{CommitRecord, CommitOf, IsVisible}
+use Rattle.tx_types.specs.Keys.{IsVisible}
+use Rattle.tx_plan.specs.Cells.{CommitRecord, CommitOf}
 use Rattle.tx_plan.specs.Reads.{NoneWritten, Finds, Reads}
 use Rattle.tx_cells.specs.Contents.{OnKey, cells_of, whole, put_whole, IsKept}
 use Rattle.tx_cells.specs.Histories.{IsSeenKind, NoneSeenAbove, NoneSeen, IsSeen, value_kept}

@@ -1,4 +1,4 @@
-//! What is shown of a key, and what collection counts.
+//! What is shown of a key.
 use tx_plan::{LockHead, RecordHead};
 use tx_types::Ts;
 
@@ -17,11 +17,4 @@ pub struct KeyCopy {
     pub records: Vec<RecordAt>,
     /// The starts of the values that are kept apart from their records, from the newest on.
     pub values: Vec<Ts>,
-}
-
-/// How many write records collection drops, and how many values that are kept apart go with them.
-#[derive(Clone, Copy, Debug)]
-pub struct Dropped {
-    pub records: u64,
-    pub values: u64,
 }

@@ -3,7 +3,6 @@ ghost use Rattle.std.specs.Prelude.{◌≡◌, ◌≤◌, ℕ, None, Some, IfSom
 ghost use Rattle.std.specs.BTreeMap as tree;
 ghost use Rattle.std.specs.Ordering.{nat_cmp};
 ghost use Rattle.std.specs.Cmp.Lexicographic.{slice_cmp};
-ghost use Rattle.tx_types.specs.Kinds.{write_kind};
 ghost use Rattle.tx_cells.specs.Spelt.{version_cmp};
 ghost use Rattle.tx_cells.specs.Heads.{write_head, lock_head};
 
@@ -13,20 +12,17 @@ use crate::spelling::{KeyBytes, VersionBytes};
 use std::alloc::Global;
 use std::collections::BTreeMap;
 use tx_plan::{LockHead, RecordHead};
-use tx_types::{Fault, Key, LockKind, Ts, WriteKind};
+use tx_types::{Fault, Key, Ts};
 
 /// What is asked of a write record.
 pub(super) fn head_of(bytes: &WriteBytes) -> RecordHead
     ensures { result ≡ write_head bytes.now }
 {
-    let kind = match bytes.kind() {
-        WriteKind::Put => LockKind::Put,
-        WriteKind::Delete => LockKind::Delete,
-        WriteKind::Lock => LockKind::Lock,
-        WriteKind::Rollback => return RecordHead::Rollback,
-    };
+    if bytes.is_rollback() {
+        return RecordHead::Rollback;
+    }
     RecordHead::Commit {
-        kind,
+        kind: bytes.kind(),
         start: bytes.start(),
         overlapped_rollback: bytes.is_marked(),
     }

@@ -26,7 +26,7 @@ fn stored_value(
     ensures err { IfErr result (λ e. e ≡ Fault.OutOfMemory) }
 {
     match value {
-        StoredValue::Inline(value) => Ok(Some(value.clone()?)),
+        StoredValue::Inline(value) => Ok(Some(value.as_value().clone()?)),
         StoredValue::InDefault => match values.get(&start) {
             Some(value) => Ok(Some(value.clone()?)),
             None => Ok(None),

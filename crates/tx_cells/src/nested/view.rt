@@ -1,4 +1,6 @@
 //! What a request sees of its key.
+ghost use Rattle.std.specs.Prelude.{◌≡◌, option_map};
+ghost use Rattle.tx_cells.specs.Heads.{lock_head};
 ghost use Rattle.tx_plan.specs.Views.{Shows};
 ghost use Rattle.tx_cells.specs.Contents.{cells_of, nothing_held};
 
@@ -7,7 +9,7 @@ use super::key::KeyFamilies;
 use super::searches::{NestedHistory, head_at};
 use crate::heads::head_on;
 use crate::history::{Above, commits_above};
-use tx_plan::TxnView;
+use tx_plan::{LockHead, TxnView};
 use tx_types::{Key, Ts};
 
 /// What is seen of a key of which nothing is held.
@@ -26,6 +28,13 @@ fn empty_view(start: Ts, commit: Ts) -> TxnView
 
 impl KeyFamilies {
     ghost use Rattle.tx_cells.specs.Nested.{held};
+
+    /// What is asked of the lock, where there is one.
+    pub(super) fn lock_head(&self) -> Option<LockHead>
+        ensures { result ≡ option_map lock_head self.now.lock }
+    {
+        head_on(&self.lock)
+    }
 
     // What a request of the transaction that started then sees of the key, and of the record at `commit`.
     fn view(&self, start: Ts, commit: Ts) -> TxnView
