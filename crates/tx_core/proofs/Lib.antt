@@ -12,5 +12,7 @@ pub mod runs
 pub mod locks
 -- What stays as a history grows, and what a seat may record.
 pub mod seats
+-- A region has one answer to each request.
+pub mod unique
 -- Runs that exist, with what is decided in them and the machine's steps that are read off.
 mod examples

@@ -5,7 +5,7 @@ use Rattle.tx_plan.specs.declared.body.Body.{Body}
 use Rattle.tx_plan.specs.declared.body.Body.TheVariants.{Get, Scan, Prewrite, Commit, BatchRollback, TxnHeartBeat, CheckTxnStatus, CheckSecondaryLocks, ResolveLock, RaiseSafe, LocksBelow, Collect}
 use Rattle.tx_types.specs.declared.mutation.Fate.{Fate}
 use Rattle.tx_types.specs.declared.mutation.Fate.TheVariants as fate
-use Rattle.tx_plan.specs.Keys.{key_le}
+use Rattle.tx_types.specs.Keys.{key_le}
 use Rattle.tx_plan.specs.Reads.{in_range}
 use Rattle.tx_plan.specs.Answers.{Answers, start_in}
 use Rattle.tx_machine.specs.Keys.{IsDistinct}

@@ -1,14 +1,15 @@
 //! A journal is made in two calls: the first opens it, the second gives it the name that all its seats have in their type, and
 //! deals the seats.
-ghost use Rattle.std.specs.Prelude.{◌≡◌, ℕ, ◌+◌, ◌<◌, ◌≤◌, [], IfOk, IfErr, vec_len, slice_get, Some, length};
+ghost use Rattle.std.specs.Prelude.{◌≡◌, ℕ, ◌+◌, ◌<◌, ◌≤◌, [], IfOk, IfErr, OnOk, vec_len, slice_get, Some, length};
 ghost use Rattle.tx_types.specs.declared.fault.Fault.TheVariants as fault;
 ghost use Rattle.tx_journal.specs.Known.{known, AreRising};
 
 use crate::seat::Seat;
-use crate::view::{Deal, Law, Layout, Naming, Token, View, Words};
+use crate::view::{Deal, Home, Law, Layout, Naming, Token, View};
 use atomic_table::Table;
 use std::alloc::Global;
 use std::marker::{Model, PhantomData};
+use std::sync::Arc;
 use tx_core::SeatNo;
 use tx_types::{Fault, Key};
 
@@ -16,27 +17,27 @@ use tx_types::{Fault, Key};
 /// has.
 #[derive(Drop)]
 pub struct Opened {
-    bounds: &'static [Key],
+    bounds: Arc<Vec<Key>>,
     seats: u32,
-    words: &'static Words,
+    words: Arc<Home>,
     token: Token,
 }
 
 impl Model for Opened {
-    ghost use Rattle.std.specs.Prelude.{◌≡◌, ◌≤◌, []};
-    ghost use Rattle.tx_journal.specs.Known.{Opening, AreRising};
-    ghost use Rattle.tx_journal.specs.Rules.{founder};
+    ghost use Rattle.std.specs.Arc.{arc_value};
+    ghost use Rattle.tx_journal.specs.Known.{Opening};
+    ghost use Rattle.tx_journal.specs.Rules.{IsFirstToken};
 
     ghost Value = { Opening };
 
-    ghost view = { λ o. record { table = o.words.now.table_id; bounds = o.bounds.now; seats = o.seats } };
+    ghost view = { λ o. record { table = (arc_value o.words).shared.table_id; bounds = (arc_value o.bounds).items; seats = o.seats } };
 
-    ghost invariant = { λ o. (o.token.table_id ≡ o.words.now.table_id) × (o.words.now.table_id.words ≡ 2) × (o.words.now.key.bounds.items ≡ o.bounds.now) × (o.words.now.key.seats ≡ o.seats) × (o.token.me ≡ (founder o.words.now.key, [])) × AreRising o.bounds.now × (o.seats ≤ 1024) };
+    ghost invariant = { λ o. IsFirstToken (arc_value o.bounds).items o.seats (arc_value o.words).shared.table_id (arc_value o.words).shared.key o.token.table_id o.token.me };
 }
 
 impl Opened {
-    /// Opens a journal over regions with these keys between them: it has a seat for each region, and so many for sessions. Its
-    /// two words and the keys are never freed. `OutOfMemory` drops what was handed in.
+    /// Opens a journal over regions with these keys between them: it has a seat for each region, and so many for sessions.
+    /// `OutOfMemory` drops what was handed in.
     pub fn new(alloc: Global, bounds: Vec<Key>, sessions: usize) -> Result<Opened, Fault>
         requires rising { AreRising bounds.items }
         requires few { length bounds.items + 1 + sessions ≤ 1024 }
@@ -50,12 +51,13 @@ impl Opened {
             &[0, 0],
             &layout,
         )?;
-        let table = Box::leak(Box::new(alloc, table)?);
+        let words = Arc::new(alloc, table)?;
         let Layout { bounds, seats } = layout;
+        let bounds = Arc::new(alloc, bounds)?;
         Ok(Opened {
-            bounds: bounds.leak(),
+            bounds,
             seats,
-            words: &table.shared,
+            words,
             token,
         })
     }
@@ -65,33 +67,36 @@ impl Opened {
 #[derive(Drop)]
 struct Dealer<J: Naming> {
     next: u32,
-    words: &'static Words,
+    words: Arc<Home>,
     token: Token,
     of: PhantomData<J>,
 }
 
 impl<J: Naming> Model for Dealer<J> {
-    ghost use Rattle.std.specs.Prelude.{◌≡◌, ℕ, ◌+◌, ◌*◌, ◌≤◌, []};
-    ghost use Rattle.tx_journal.specs.Rules.{Belongs, unseated};
+    ghost use Rattle.std.specs.Prelude.{ℕ};
+    ghost use Rattle.std.specs.Arc.{arc_value};
+    ghost use Rattle.tx_journal.specs.Rules.{Belongs, IsDealersToken};
 
     ghost Value = { ℕ };
 
     ghost view = { λ d. d.next };
 
-    ghost invariant = { λ d. Belongs J.table J.bounds d.words.now.table_id d.words.now.key d.token.table_id × (d.token.me ≡ (unseated J.bounds J.seats d.next d.token.me.0.ticks, [])) × (J.seats * 4294967296 ≤ d.token.me.0.ticks + d.next * 4294967296) × (J.seats ≤ 1024) };
+    ghost invariant = { λ d. Belongs J.table J.bounds (arc_value d.words).shared.table_id (arc_value d.words).shared.key d.token.table_id × IsDealersToken J.bounds J.seats d.next d.token.me };
 }
 
 impl<J: Naming> Dealer<J> {
     // The next seat.
-    fn seat(&mut self) -> Seat<J>
+    fn seat(&mut self) -> Result<Seat<J>, Fault>
         requires { self.old < J.seats }
-        ensures seat { result ≡ known self.old 4294967296 [] }
-        ensures next { self.new ≡ self.old + 1 }
+        ensures seat { IfOk result (λ s. s ≡ known self.old 4294967296 []) }
+        ensures next { OnOk result (self.new ≡ self.old + 1) }
+        ensures err { IfErr result (λ e. e ≡ fault.OutOfMemory) }
     {
         let number = SeatNo::new(self.next);
-        let token = self.words.split_seat::<Deal>(&mut self.token);
+        let words = self.words.clone()?;
+        let token = self.words.shared.split_seat::<Deal>(&mut self.token);
         self.next += 1;
-        Seat::of(number, 1 << 32, self.words, token)
+        Ok(Seat::of(number, 1 << 32, words, token))
     }
 
     // All seats.
@@ -103,38 +108,51 @@ impl<J: Naming> Dealer<J> {
     {
         let mut seats = Vec::with_capacity(alloc, count as usize)?;
         for _i in 0..count {
-            seats.push(self.seat())?;
+            seats.push(self.seat()?)?;
         }
         Ok(seats)
     }
 }
 
-/// The journal `J`, whose seats are dealt. Contracts see the keys between its regions.
+/// The journal `J`, whose seats are dealt. Contracts see the keys between its regions. Its copies share these keys.
 #[derive(Drop)]
 pub struct Journal<J: Naming> {
-    bounds: &'static [Key],
+    bounds: Arc<Vec<Key>>,
     of: PhantomData<J>,
 }
 
 impl<J: Naming> Model for Journal<J> {
     ghost use Rattle.std.specs.Prelude.{◌≡◌, List};
+    ghost use Rattle.std.specs.Arc.{arc_value};
     ghost use Rattle.tx_types.specs.declared.key.Key.{Key};
     ghost use Rattle.tx_journal.specs.Known.{AreRising};
 
     ghost Value = { List Key };
 
-    ghost view = { λ j. j.bounds.now };
+    ghost view = { λ j. (arc_value j.bounds).items };
 
-    ghost invariant = { λ j. (j.bounds.now ≡ J.bounds) × AreRising J.bounds };
+    ghost invariant = { λ j. ((arc_value j.bounds).items ≡ J.bounds) × AreRising J.bounds };
 }
 
 impl<J: Naming> Journal<J> {
     /// The keys between its regions, rising.
-    pub fn bounds(&self) -> &'static [Key]
+    pub fn bounds(&self) -> &[Key]
         ensures value { result.now ≡ J.bounds }
         ensures rising { AreRising J.bounds }
     {
-        self.bounds
+        self.bounds.as_slice()
+    }
+
+    /// The same journal.
+    pub fn clone(&self) -> Result<Journal<J>, Fault>
+        ensures ok { IfOk result (λ copy. copy ≡ self.now) }
+        ensures err { IfErr result (λ e. e ≡ fault.OutOfMemory) }
+    {
+        let bounds = self.bounds.clone()?;
+        Ok(Journal {
+            bounds,
+            of: PhantomData,
+        })
     }
 }
 

@@ -1,9 +1,21 @@
 //! The journal: the one piece of memory that threads share without a lock. Behind its two words, the last timestamp drawn and a
-//! count of events, stands one history of events, which proofs alone know; each seat knows a beginning of it. What is asked of
-//! regions and what they reply says of what history it is true.
+//! count of events, stands one history of events, which proofs alone know; each seat knows a prefix of it. A `Told` is such a prefix
+//! to be handed on, a `Request` carries the prefix that allows it, and a `Reply` the prefix in which it was answered.
+//!
+//! ```
+//! let opened = Opened::new(alloc, bounds, sessions)?;      // then, in a function that is generic in J:
+//! let (journal, mut seats) = opened.named::<J>(alloc)?;    // a seat for each region, then those for sessions
+//! let start = seat.draw(1)?;                               // a timestamp above all drawn before
+//! seat.record(&Event::Began(start));                       // an event that may come now, whatever other seats did
+//! let request = Request::new(seat.tell(), body);           // allowed by what the seat knows
+//! let reply = region.take(request);                        // the region records the answer after all that
+//! seat.learn(reply.tell(&seat));                           // the seat knows of the answer
+//! ```
 //!
 //! Who opens a journal passes the `Opened` on, with `Brand`, to a function that is generic in `J: Naming`, and that one names it: the
 //! proof of this one call picks the table, the bounds and the number of seats that J stands for (as each test here does).
+//!
+//! No value of the journal holds a reference: the seats own the table together, and a `Told` owns no memory.
 #![tactic(auto)]
 
 mod journal;

@@ -1,6 +1,7 @@
 //! Seats of a journal. Who makes events has a seat: it draws timestamps and records events with it, each by one atomic add, and
 //! it knows a beginning of the one history that has all of its own events. None of a seat's calls waits, allocates or loops.
-ghost use Rattle.std.specs.Prelude.{◌≡◌, ℕ, ◌+◌, ◌<◌, ◌≤◌, ◌⊎◌, [], IfOk, IfErr};
+ghost use Rattle.std.specs.Prelude.{◌≡◌, ℕ, ◌+◌, ◌<◌, ◌≤◌, ◌⊎◌, IfOk, IfErr};
+ghost use Rattle.std.specs.Arc.{arc_value};
 ghost use mathlib.Core.Option.{none};
 ghost use Rattle.atomic_table.specs.Table.{step};
 ghost use Rattle.tx_types.specs.declared.fault.Fault.TheVariants as fault;
@@ -8,11 +9,12 @@ ghost use Rattle.tx_core.specs.Histories.{last, Begins};
 ghost use Rattle.tx_core.specs.Recording.{MayRecord, part, AllOfSeats};
 ghost use Rattle.tx_core.specs.Worlds.{IsWorldRun};
 ghost use Rattle.tx_journal.specs.Known.{known, greatest_ts, DrawsNothing, HasSeen, HasRecorded, HasDrawn};
-ghost use Rattle.tx_journal.specs.Rules.{Belongs, Owns, Adds, seated};
+ghost use Rattle.tx_journal.specs.Rules.{Belongs, Owns, Adds, IsSeatsToken};
 
 use crate::told::Told;
-use crate::view::{Add, Advance, Hear, Learn, Look, Naming, Said, Tell, Token, Words};
+use crate::view::{Add, Advance, Hear, Home, Learn, Look, Naming, Said, Tell, Token, Words};
 use std::marker::{Brand, Model, PhantomData};
+use std::sync::Arc;
 use tx_core::{Event, SeatNo};
 use tx_types::{Fault, Ts};
 
@@ -22,23 +24,21 @@ use tx_types::{Fault, Ts};
 pub struct Seat<J: Naming> {
     number: SeatNo,
     left: u64,
-    words: &'static Words,
+    words: Arc<Home>,
     token: Token,
     of: PhantomData<J>,
 }
 
 impl<J: Naming> Model for Seat<J> {
-    ghost use Rattle.std.specs.Prelude.{◌≡◌, []};
-    ghost use Rattle.tx_core.specs.Recording.{AllOfSeats};
-    ghost use Rattle.tx_core.specs.Worlds.{IsWorldRun};
+    ghost use Rattle.std.specs.Arc.{arc_value};
     ghost use Rattle.tx_journal.specs.Known.{Known, known};
-    ghost use Rattle.tx_journal.specs.Rules.{Belongs, seated};
+    ghost use Rattle.tx_journal.specs.Rules.{Belongs, IsSeatsToken};
 
     ghost Value = { Known };
 
     ghost view = { λ s. known s.number s.left s.token.me.0.seen };
 
-    ghost invariant = { λ s. Belongs J.table J.bounds s.words.now.table_id s.words.now.key s.token.table_id × (s.token.me ≡ (seated J.bounds J.seats s.number s.left s.token.me.0.seen, [])) × IsWorldRun J.bounds s.token.me.0.seen × AllOfSeats J.seats s.token.me.0.seen };
+    ghost invariant = { λ s. Belongs J.table J.bounds (arc_value s.words).shared.table_id (arc_value s.words).shared.key s.token.table_id × IsSeatsToken J.bounds J.seats s.number s.left s.token.me };
 }
 
 // Adds the event that the call picks.
@@ -55,10 +55,9 @@ fn add<E: Said>(words: &Words, token: &mut Token, event: &Event)
 
 impl<J: Naming> Seat<J> {
     // The seat of a token.
-    pub(crate) fn of(number: SeatNo, left: u64, words: &'static Words, token: Token) -> Seat<J>
-        requires table { Belongs J.table J.bounds words.now.table_id words.now.key token.table_id }
-        requires token { token.me ≡ (seated J.bounds J.seats number left token.me.0.seen, []) }
-        requires run { IsWorldRun J.bounds token.me.0.seen × AllOfSeats J.seats token.me.0.seen }
+    pub(crate) fn of(number: SeatNo, left: u64, words: Arc<Home>, token: Token) -> Seat<J>
+        requires table { Belongs J.table J.bounds (arc_value words).shared.table_id (arc_value words).shared.key token.table_id }
+        requires token { IsSeatsToken J.bounds J.seats number left token.me }
         ensures { result ≡ known number left token.me.0.seen }
     {
         Seat {
@@ -92,7 +91,10 @@ impl<J: Naming> Seat<J> {
         if self.left < ticks {
             return Err(Fault::OracleSpent);
         }
-        let found = self.words.fetch_add::<Advance>(&mut self.token, 0, ticks);
+        let found = self
+            .words
+            .shared
+            .fetch_add::<Advance>(&mut self.token, 0, ticks);
         self.left -= ticks;
         Ok(Ts::new(found + ticks))
     }
@@ -103,7 +105,7 @@ impl<J: Naming> Seat<J> {
         ensures seen { HasSeen J.bounds self.old.seat self.old.events self.new.events }
         ensures last { (result ≡ last self.new.events) × (result ≤ greatest_ts) }
     {
-        Ts::new(self.words.load::<Look>(&mut self.token, 0))
+        Ts::new(self.words.shared.load::<Look>(&mut self.token, 0))
     }
 
     /// Records an event of this seat that is right after whatever other seats may have done since, by one atomic add.
@@ -113,7 +115,21 @@ impl<J: Naming> Seat<J> {
         ensures same { (self.new.seat ≡ self.old.seat) × (self.new.ticks ≡ self.old.ticks) }
         ensures added { HasRecorded J.bounds self.old.seat self.old.events event.now self.new.events }
     {
-        add::<Brand>(self.words, &mut self.token, event);
+        add::<Brand>(&self.words.shared, &mut self.token, event);
+    }
+
+    // The words of its journal.
+    pub(crate) fn into_words(self) -> Arc<Home>
+        ensures { (arc_value result).shared.key.bounds.items ≡ J.bounds }
+    {
+        let Seat {
+            number: _,
+            left: _,
+            words,
+            token: _,
+            of: _,
+        } = self;
+        words
     }
 
     /// What this seat knows, to be handed to others.
@@ -122,8 +138,17 @@ impl<J: Naming> Seat<J> {
         ensures told { result ≡ self.old.events }
         ensures run { IsWorldRun J.bounds self.old.events × AllOfSeats J.seats self.old.events }
     {
-        let token = self.words.split_seat::<Tell>(&mut self.token);
-        Told::of(self.words, token)
+        let token = self.words.shared.split_seat::<Tell>(&mut self.token);
+        Told::of(token)
+    }
+
+    /// A copy of what was told.
+    pub fn copy(&self, told: &mut Told<J>) -> Told<J>
+        ensures same { told.new ≡ told.old }
+        ensures copy { result ≡ told.old }
+        ensures run { IsWorldRun J.bounds told.old × AllOfSeats J.seats told.old }
+    {
+        told.again(&self.words.shared)
     }
 
     /// Knows the longer of two lists, what this seat knows and what was told, one of which is a beginning of the other. Its own
@@ -136,7 +161,7 @@ impl<J: Naming> Seat<J> {
         ensures own { part self.old.seat self.new.events ≡ part self.old.seat self.old.events }
     {
         let token = told.into_token();
-        self.words.join_seat::<Hear>(&mut self.token, token);
-        self.words.load::<Learn>(&mut self.token, 0);
+        self.words.shared.join_seat::<Hear>(&mut self.token, token);
+        self.words.shared.load::<Learn>(&mut self.token, 0);
     }
 }

@@ -1,6 +1,10 @@
 //! Threads at one journal, and each call once.
-ghost use Rattle.std.specs.Prelude.{◌≡◌, [], true, IfOk};
+ghost use Rattle.std.specs.Prelude.{◌≡◌, ◌<◌, [], true, IfSome, vec_len};
+ghost use Rattle.tx_plan.specs.declared.body.Body.TheVariants as asks;
+ghost use Rattle.tx_core.specs.declared.event.Event.TheVariants.{Began};
 ghost use Rattle.tx_core.specs.Histories.{began};
+ghost use Rattle.tx_core.specs.Recording.{MayRecord};
+ghost use Rattle.tx_journal.specs.Known.{AreRising, HasRecorded};
 
 use super::*;
 use std::alloc::Global;
@@ -9,138 +13,200 @@ use std::process::Abort;
 use std::test::Fail;
 use std::thread::{Threads, join, map_vec};
 use tx_core::{Answer, Body, Event, RaiseSafe, RegionNo, Taken};
-use tx_types::{Fault, Key, Ts};
+use tx_types::{Key, Ts};
+
+mod senders;
+
+// The number that a seat draws, and 0 where it is spent.
+fn draw<J: Naming>(seat: &mut Seat<J>, ticks: u32) -> u64
+    requires { 0 < ticks }
+{
+    match seat.draw(ticks) {
+        Ok(ts) => ts.get(),
+        Err(_) => 0,
+    }
+}
+
+// The seats of a journal.
+fn seats_of<J: Naming>(alloc: Global, opened: Opened) -> Option<Vec<Seat<J>>>
+    requires { (opened.table ≡ J.table) × (opened.bounds ≡ J.bounds) × (opened.seats ≡ J.seats) }
+{
+    match opened.named::<J>(alloc) {
+        Ok((_, seats)) => Some(seats),
+        Err(_) => None,
+    }
+}
+
+// Records that a transaction begins at a number.
+fn record_begin<J: Naming>(seat: &mut Seat<J>, start: Ts)
+    requires { MayRecord J.bounds seat.old.seat seat.old.events (Began start) }
+    ensures { HasRecorded J.bounds seat.old.seat seat.old.events (Began start) seat.new.events }
+{
+    seat.record(&Event::Began(start));
+}
 
 // Begins a transaction, and tells of it.
-fn begin<J: Naming>(mut seat: Seat<J>) -> Result<(Ts, Told<J>), Fault>
-    ensures { IfOk result (λ r. began r.1 r.0 ≡ true) }
+fn begin<J: Naming>(mut seat: Seat<J>) -> Option<(Ts, Told<J>)>
+    ensures { IfSome result (λ r. began r.1 r.0 ≡ true) }
 {
-    let start = seat.draw(1)?;
-    seat.record(&Event::Began(start));
-    Ok((start, seat.tell()))
+    match seat.draw(1) {
+        Ok(start) => {
+            record_begin(&mut seat, start);
+            Some((start, seat.tell()))
+        }
+        Err(_) => None,
+    }
 }
 
 // Learns what was told, and draws.
-fn draw_after<J: Naming>(mut seat: Seat<J>, told: Told<J>) -> Result<Ts, Fault> {
+fn draw_after<J: Naming>(mut seat: Seat<J>, told: Told<J>) -> u64 {
     seat.learn(told);
-    seat.draw(1)
+    draw(&mut seat, 1)
+}
+
+// One thread begins and hands what it has seen by its join to another: whether that one draws a greater number.
+fn tell_across<J: Naming + Send + Sync, R: Threads + Sync>(
+    rt: &R,
+    first: Seat<J>,
+    second: Seat<J>,
+) -> bool {
+    let (begun, ()) = join(rt, || begin(first), || ());
+    match begun {
+        Some((start, told)) => {
+            let ((), later) = join(rt, || (), || draw_after(second, told));
+            start.get() < later
+        }
+        None => false,
+    }
+}
+
+fn tells_across<J: Naming + Send + Sync, R: Threads + Sync>(
+    rt: &R,
+    alloc: Global,
+    opened: Opened,
+) -> bool
+    requires { (opened.table ≡ J.table) × (opened.bounds ≡ J.bounds) × (opened.seats ≡ J.seats) }
+{
+    match seats_of::<J>(alloc, opened) {
+        Some(mut seats) => match (seats.pop(), seats.pop()) {
+            (Some(second), Some(first)) => tell_across(rt, first, second),
+            _ => false,
+        },
+        None => false,
+    }
 }
 
 #[test]
 fn told_by_another_thread(rt: HostRuntime) -> Result<(), Fail> {
     let opened = Opened::new(rt.alloc(), Vec::new(rt.alloc()), 1)?;
-    tell_across::<Brand, _>(&rt, rt.alloc(), opened)
-}
-
-// One thread begins and hands what it has seen by its join to another.
-fn tell_across<J: Naming + Send + Sync, R: Threads + Sync + Abort>(
-    rt: &R,
-    alloc: Global,
-    opened: Opened,
-) -> Result<(), Fail>
-    requires { (opened.table ≡ J.table) × (opened.bounds ≡ J.bounds) × (opened.seats ≡ J.seats) }
-{
-    let (_, mut seats) = opened.named::<J>(alloc)?;
-    let second = seats.pop().ok_or("two seats")?;
-    let first = seats.pop().ok_or("two seats")?;
-    let (begun, ()) = join(rt, || begin(first), || ());
-    let (start, told) = begun?;
-    let ((), later) = join(rt, || (), || draw_after(second, told));
-    assert!(rt; later? > start);
+    assert!(rt; tells_across::<Brand, _>(&rt, rt.alloc(), opened));
     Ok(())
 }
 
-#[test]
-fn eight_threads_draw(rt: HostRuntime) -> Result<(), Fail> {
-    let opened = Opened::new(rt.alloc(), Vec::new(rt.alloc()), 7)?;
-    draw_at_once::<Brand, _>(&rt, rt.alloc(), opened)
-}
-
-// Eight threads draw, each from its own seat: the numbers of all, in order, follow each other by just their ticks.
-fn draw_at_once<J: Naming + Send + Sync, R: Threads + Sync + Abort>(
-    rt: &R,
-    alloc: Global,
-    opened: Opened,
-) -> Result<(), Fail>
-    requires { (opened.table ≡ J.table) × (opened.bounds ≡ J.bounds) × (opened.seats ≡ J.seats) }
-{
-    let (_, seats) = opened.named::<J>(alloc)?;
-    let drawn = map_vec(rt, seats, &|seat| draw_often(alloc, seat))?;
-    let drawn = gather(alloc, drawn)?;
-    assert_eq!(rt; drawn.len(), 80_000);
-    assert!(rt; is_exact(&drawn));
-    Ok(())
-}
-
-// Draws again and again, by 1, 2 or 3 ticks.
-fn draw_often<J: Naming>(alloc: Global, mut seat: Seat<J>) -> Result<Vec<(u64, u64)>, Fault> {
-    let mut drawn = Vec::with_capacity(alloc, 10_000)?;
+// What a seat draws, again and again, by 1, 2 or 3 ticks.
+fn draw_often<J: Naming>(alloc: Global, mut seat: Seat<J>) -> Vec<(u64, u64)> {
+    let mut drawn = Vec::new(alloc);
     for i in 0..10_000_u32 {
         let ticks = i % 3 + 1;
-        let ts = seat.draw(ticks)?;
-        drawn.push((ts.get(), u64::from(ticks)))?;
+        let number = draw(&mut seat, ticks);
+        if drawn.push((number, u64::from(ticks))).is_err() {
+            break;
+        }
     }
-    Ok(drawn)
+    drawn
 }
 
 // All numbers with their ticks, in order.
-fn gather(
-    alloc: Global,
-    parts: Vec<Result<Vec<(u64, u64)>, Fault>>,
-) -> Result<Vec<(u64, u64)>, Fault> {
+fn gather(alloc: Global, parts: &[Vec<(u64, u64)>]) -> Vec<(u64, u64)> {
     let mut all = Vec::new(alloc);
     for part in parts {
-        all.extend_from_slice(&part?)?;
+        if all.extend_from_slice(part).is_err() {
+            break;
+        }
     }
-    all.sort()?;
-    Ok(all)
+    let _ = all.sort();
+    all
 }
 
 // Whether each number lies above the one before it by its ticks, from 0 on.
 fn is_exact(drawn: &[(u64, u64)]) -> bool {
     let mut last = 0;
-    for (ts, ticks) in drawn {
-        if ts.checked_sub(*ticks) != Some(last) {
+    for (number, ticks) in drawn {
+        if number.checked_sub(*ticks) != Some(last) {
             return false;
         }
-        last = *ts;
+        last = *number;
     }
     true
+}
+
+// Eight threads draw, each from its own seat. How many numbers it were, if those of all, in order, follow each other by just their
+// ticks.
+fn draw_at_once<J: Naming + Send + Sync, R: Threads + Sync>(
+    rt: &R,
+    alloc: Global,
+    opened: Opened,
+) -> usize
+    requires { (opened.table ≡ J.table) × (opened.bounds ≡ J.bounds) × (opened.seats ≡ J.seats) }
+{
+    let Some(seats) = seats_of::<J>(alloc, opened) else {
+        return 0;
+    };
+    let Ok(drawn) = map_vec(rt, seats, &|seat| draw_often(alloc, seat)) else {
+        return 0;
+    };
+    let all = gather(alloc, &drawn);
+    if is_exact(&all) { all.len() } else { 0 }
+}
+
+#[test]
+fn eight_threads_draw(rt: HostRuntime) -> Result<(), Fail> {
+    let opened = Opened::new(rt.alloc(), Vec::new(rt.alloc()), 7)?;
+    let drawn = draw_at_once::<Brand, _>(&rt, rt.alloc(), opened);
+    assert_eq!(rt; drawn, 80_000);
+    Ok(())
+}
+
+// What the only seat of a journal answers, which may draw 2^32 ticks.
+fn spend<J: Naming>(alloc: Global, opened: Opened) -> [u64; 6]
+    requires { (opened.table ≡ J.table) × (opened.bounds ≡ J.bounds) × (opened.seats ≡ J.seats) }
+{
+    let Some(mut seats) = seats_of::<J>(alloc, opened) else {
+        return [0; 6];
+    };
+    let Some(mut seat) = seats.pop() else {
+        return [0; 6];
+    };
+    let first = seat.last().get();
+    let most = draw(&mut seat, u32::MAX);
+    let too_many = draw(&mut seat, 2);
+    let then = seat.last().get();
+    let last = draw(&mut seat, 1);
+    let spent = draw(&mut seat, 1);
+    [first, most, too_many, then, last, spent]
 }
 
 #[test]
 fn spent_seat_draws_nothing(rt: HostRuntime) -> Result<(), Fail> {
     let opened = Opened::new(rt.alloc(), Vec::new(rt.alloc()), 0)?;
-    spend::<Brand, _>(&rt, rt.alloc(), opened)
-}
-
-// A seat draws its 2^32 ticks, and no more.
-fn spend<J: Naming, R: Abort>(rt: &R, alloc: Global, opened: Opened) -> Result<(), Fail>
-    requires { (opened.table ≡ J.table) × (opened.bounds ≡ J.bounds) × (opened.seats ≡ J.seats) }
-{
-    let (journal, mut seats) = opened.named::<J>(alloc)?;
-    assert!(rt; journal.bounds().is_empty());
-    let mut seat = seats.pop().ok_or("one seat")?;
-    assert_eq!(rt; seat.number().get(), 0);
-    assert_eq!(rt; seat.last().get(), 0);
-    seat.draw(u32::MAX)?;
-    assert!(rt; matches!(seat.draw(2), Err(Fault::OracleSpent)));
-    assert_eq!(rt; seat.last().get(), 4_294_967_295);
-    assert_eq!(rt; seat.draw(1)?.get(), 4_294_967_296);
-    assert!(rt; matches!(seat.draw(1), Err(Fault::OracleSpent)));
+    let found = spend::<Brand>(rt.alloc(), opened);
+    let most = u64::from(u32::MAX);
+    assert!(rt; found == [0, most, 0, most, most + 1, 0]);
     Ok(())
 }
 
 // A region that has taken nothing raises its safe point to 0.
-fn raise<J: Naming>(mut seat: Seat<J>, by: Told<J>) -> Result<Reply<J>, Fault>
-    requires { (seat.seat ≡ 0) × (seat.events ≡ []) }
+fn raise<J: Naming>(mut seat: Seat<J>, mut request: Request<J>) -> Option<Reply<J>>
+    requires seat { (seat.seat ≡ 0) × (seat.events ≡ []) }
+    requires body { request.body ≡ asks.RaiseSafe (record { region = 0; safe = 0 }) }
 {
-    let region = RegionNo::new(0);
-    let safe = Ts::ZERO;
-    let mut request = Request::new(by, Body::RaiseSafe(RaiseSafe { region, safe }));
-    let (by, body) = request.clone()?.into_parts();
+    let Ok(copy) = request.clone(&seat) else {
+        return None;
+    };
+    let (by, body) = copy.into_parts();
     seat.learn(by);
     let loaded = seat.last();
+    let region = RegionNo::new(0);
     let event = Event::Took(Taken {
         region,
         body,
@@ -149,35 +215,69 @@ fn raise<J: Naming>(mut seat: Seat<J>, by: Told<J>) -> Result<Reply<J>, Fault>
     });
     seat.record(&event);
     drop(event);
-    Ok(Reply::new(request, Some(Answer::Raised), seat.tell()))
+    Some(Reply::new(request, Some(Answer::Raised), seat.tell()))
+}
+
+// A session hears a reply: whether it has an answer.
+fn hear<J: Naming>(session: &mut Seat<J>, mut reply: Reply<J>) -> bool {
+    session.learn(reply.tell(session));
+    reply.answer().is_some()
+}
+
+// What a session knows, where the journal has no name.
+fn leave<J: Naming>(mut session: Seat<J>) -> Unnamed {
+    let told = session.tell();
+    told.unnamed(session)
+}
+
+// A session asks the first region.
+fn ask<J: Naming>(mut session: Seat<J>, region: Seat<J>) -> Option<Unnamed>
+    requires seat { (region.seat ≡ 0) × (region.events ≡ []) }
+{
+    let raise_safe = RaiseSafe {
+        region: RegionNo::new(0),
+        safe: Ts::ZERO,
+    };
+    let request = Request::new(session.tell(), Body::RaiseSafe(raise_safe));
+    let heard = match raise(region, request) {
+        Some(reply) => hear(&mut session, reply),
+        None => false,
+    };
+    if heard { Some(leave(session)) } else { None }
+}
+
+// Of the seats the first is a region's, and the last a session's.
+fn reply_to_one<J: Naming>(alloc: Global, opened: Opened) -> Option<Unnamed>
+    requires name { (opened.table ≡ J.table) × (opened.bounds ≡ J.bounds) × (opened.seats ≡ J.seats) }
+    requires three { J.seats ≡ 3 }
+{
+    let Ok((_, mut seats)) = opened.named::<J>(alloc) else {
+        return None;
+    };
+    let region = seats.swap_remove(0);
+    let session = seats.swap_remove(0);
+    ask(session, region)
+}
+
+// The keys between two regions.
+fn one_bound(alloc: Global) -> Option<Vec<Key>>
+    ensures { IfSome result (λ keys. (vec_len keys ≡ 1) × AreRising keys.items) }
+{
+    let Ok(key) = Key::new(alloc, b"m") else {
+        return None;
+    };
+    let mut keys = Vec::new(alloc);
+    match keys.push(key) {
+        Ok(()) => Some(keys),
+        Err(_) => None,
+    }
 }
 
 #[test]
 fn region_replies(rt: HostRuntime) -> Result<(), Fail> {
-    let mut bounds = Vec::new(rt.alloc());
-    bounds.push(Key::new(rt.alloc(), b"m")?)?;
+    let bounds = one_bound(rt.alloc()).ok_or("a key")?;
     let opened = Opened::new(rt.alloc(), bounds, 1)?;
-    reply_to_one::<Brand, _>(&rt, rt.alloc(), opened)
-}
-
-// Of three seats the first, a region's, takes a request of the last, a session's, which learns the reply.
-fn reply_to_one<J: Naming, R: Abort>(rt: &R, alloc: Global, opened: Opened) -> Result<(), Fail>
-    requires name { (opened.table ≡ J.table) × (opened.bounds ≡ J.bounds) × (opened.seats ≡ J.seats) }
-    requires three { J.seats ≡ 3 }
-{
-    let (journal, mut seats) = opened.named::<J>(alloc)?;
-    assert_eq!(rt; journal.bounds().len(), 1);
-    let region = seats.swap_remove(0);
-    let mut session = seats.swap_remove(0);
-    let start = session.draw(2)?;
-    let mut told = session.tell();
-    let reply = raise(region, told.again())?;
-    assert!(rt; matches!(reply.answer(), Some(Answer::Raised)));
-    let (request, answer, seen) = reply.into_parts();
-    assert!(rt; matches!(request.body(), Body::RaiseSafe(_)));
-    assert!(rt; answer.is_some());
-    session.learn(seen);
-    assert!(rt; session.draw(1)? > start);
-    session.tell().unnamed().show();
+    let seen = reply_to_one::<Brand>(rt.alloc(), opened);
+    assert!(rt; seen.is_some());
     Ok(())
 }

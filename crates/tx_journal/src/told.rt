@@ -1,43 +1,41 @@
 //! What was seen of a journal's history, to be handed from seat to seat.
 ghost use Rattle.std.specs.Prelude.{◌≡◌, []};
+ghost use Rattle.std.specs.Arc.{arc_value};
 ghost use Rattle.tx_core.specs.Recording.{AllOfSeats};
 ghost use Rattle.tx_core.specs.Worlds.{IsWorldRun};
-ghost use Rattle.tx_journal.specs.Rules.{Belongs};
+ghost use Rattle.tx_journal.specs.Rules.{IsToldsToken};
 
-use crate::view::{Naming, Tell, Token, Words};
+use crate::seat::Seat;
+use crate::view::{Home, Naming, Tell, Token, Words};
 use std::marker::{Model, PhantomData};
+use std::sync::Arc;
 
-/// Stands for a list of events of the journal `J` that its holder has seen, a world run. It stores none of them.
+/// Stands for a list of events of the journal `J` that its holder has seen, a world run. It stores none of them, and no memory.
+/// Any seat of the journal makes a copy of it (`Seat::copy`).
 #[derive(Drop)]
 pub struct Told<J: Naming> {
-    words: &'static Words,
     token: Token,
     of: PhantomData<J>,
 }
 
 impl<J: Naming> Model for Told<J> {
-    ghost use Rattle.std.specs.Prelude.{◌≡◌, []};
     ghost use Rattle.tx_core.specs.Histories.{History};
-    ghost use Rattle.tx_core.specs.Recording.{AllOfSeats};
-    ghost use Rattle.tx_core.specs.Worlds.{IsWorldRun};
-    ghost use Rattle.tx_journal.specs.Rules.{Belongs};
+    ghost use Rattle.tx_journal.specs.Rules.{IsToldsToken};
 
     ghost Value = { History };
 
     ghost view = { λ t. t.token.me.0.seen };
 
-    ghost invariant = { λ t. Belongs J.table J.bounds t.words.now.table_id t.words.now.key t.token.table_id × (t.token.me.1 ≡ []) × IsWorldRun J.bounds t.token.me.0.seen × AllOfSeats J.seats t.token.me.0.seen };
+    ghost invariant = { λ t. IsToldsToken J.table J.bounds J.seats t.token.table_id t.token.me };
 }
 
 impl<J: Naming> Told<J> {
     // The `Told` of a token.
-    pub(crate) fn of(words: &'static Words, token: Token) -> Told<J>
-        requires table { Belongs J.table J.bounds words.now.table_id words.now.key token.table_id }
-        requires token { (token.me.1 ≡ []) × IsWorldRun J.bounds token.me.0.seen × AllOfSeats J.seats token.me.0.seen }
+    pub(crate) fn of(token: Token) -> Told<J>
+        requires { IsToldsToken J.table J.bounds J.seats token.table_id token.me }
         ensures { result ≡ token.me.0.seen }
     {
         Told {
-            words,
             token,
             of: PhantomData,
         }
@@ -47,11 +45,7 @@ impl<J: Naming> Told<J> {
     pub(crate) fn into_token(self) -> Token
         ensures { (result.table_id ≡ J.table) × (result.me.1 ≡ []) × (result.me.0.seen ≡ self) }
     {
-        let Told {
-            words: _,
-            token,
-            of: _,
-        } = self;
+        let Told { token, of: _ } = self;
         token
     }
 
@@ -59,30 +53,26 @@ impl<J: Naming> Told<J> {
     pub fn show(&self)
         ensures { IsWorldRun J.bounds self.now × AllOfSeats J.seats self.now }
     {
-        let _ = &self.words;
+        let _ = &self.token;
     }
 
-    /// The same once more.
-    pub fn again(&mut self) -> Told<J>
+    // The same once more, by the journal's words.
+    pub(crate) fn again(&mut self, words: &Words) -> Told<J>
+        requires table { words.now.table_id ≡ J.table }
         ensures same { self.new ≡ self.old }
         ensures copy { result ≡ self.old }
         ensures run { IsWorldRun J.bounds self.old × AllOfSeats J.seats self.old }
     {
-        let token = self.words.split_seat::<Tell>(&mut self.token);
-        Told::of(self.words, token)
+        let token = words.split_seat::<Tell>(&mut self.token);
+        Told::of(token)
     }
-}
 
-impl<J: Naming> Told<J> {
-    /// The same list, of a journal that has no name here.
-    pub fn unnamed(self) -> Unnamed
+    /// The same list, of a journal that has no name here, by a seat of the journal.
+    pub fn unnamed(self, by: Seat<J>) -> Unnamed
         ensures { (result.bounds ≡ J.bounds) × (result.events ≡ self) }
     {
-        let Told {
-            words,
-            token,
-            of: _,
-        } = self;
+        let words = by.into_words();
+        let Told { token, of: _ } = self;
         Unnamed { words, token }
     }
 }
@@ -91,19 +81,20 @@ impl<J: Naming> Told<J> {
 /// was seen in it leaves the place in this form.
 #[derive(Drop)]
 pub struct Unnamed {
-    words: &'static Words,
+    words: Arc<Home>,
     token: Token,
 }
 
 impl Model for Unnamed {
+    ghost use Rattle.std.specs.Arc.{arc_value};
     ghost use Rattle.tx_core.specs.Worlds.{IsWorldRun};
     ghost use Rattle.tx_journal.specs.Known.{Seen};
 
     ghost Value = { Seen };
 
-    ghost view = { λ u. record { bounds = u.words.now.key.bounds.items; events = u.token.me.0.seen } };
+    ghost view = { λ u. record { bounds = (arc_value u.words).shared.key.bounds.items; events = u.token.me.0.seen } };
 
-    ghost invariant = { λ u. IsWorldRun u.words.now.key.bounds.items u.token.me.0.seen };
+    ghost invariant = { λ u. IsWorldRun (arc_value u.words).shared.key.bounds.items u.token.me.0.seen };
 }
 
 impl Unnamed {
@@ -111,6 +102,6 @@ impl Unnamed {
     pub fn show(&self)
         ensures { IsWorldRun self.now.bounds self.now.events }
     {
-        let _ = &self.words;
+        let _ = &self.token;
     }
 }

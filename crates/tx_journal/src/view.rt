@@ -1,6 +1,7 @@
 //! The journal's table: what a token of it knows, the rule that every step keeps, and what each step tells. The table has two
 //! words, the last number drawn and a count of events; which events these were, proofs alone know.
-use atomic_table::{Join, Play, Seat as TableSeat, Shared, Split, TableRule};
+use atomic_table::{Join, Play, Seat as TableSeat, Shared, Split, Table, TableRule};
+use std::alloc::Global;
 use std::collections::LinkedList;
 use std::marker::{Brand, PhantomData};
 use tx_core::Event;
@@ -27,6 +28,9 @@ pub struct View {
 
 /// A token of the table. A seat has one that owns the seat, a `Told` one that owns none.
 pub type Token = TableSeat<u8, View>;
+
+/// The journal's table, which the seats own together.
+pub type Home = Table<u8, View, Layout, Law, Global>;
 
 /// The words that all threads share.
 pub type Words = Shared<u8, View, Layout, Law>;

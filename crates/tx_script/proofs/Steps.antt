@@ -24,7 +24,7 @@ use Rattle.tx_client.proofs.Heard.{heard_ok, missed_ok}
 use Rattle.tx_client.proofs.Events.{begun_ok, touched_ok, declared_none, may_declare, declared_owner, declared_ok, drew_ok, may_finish}
 use Rattle.tx_script.specs.Steps.{Asked, begin, put, get, declare, prewrite, draw, commit, finish}
 use Rattle.tx_script.specs.Scenes.{Scene, Turn, is_refused, later_of, with_session, declared_in, began, declared, drew, took, begins, is_name, is_key, is_value, is_full, puts, read_of, gets_by, gets, declares, requests, sends, prewrites, commits, draws, finishes_by, finishes, in_session, turn}
-use Rattle.tx_script.proofs.AllLead.{IsAsked, AllLead}
+use Rattle.tx_script.proofs.AllLead.{AllLead}
 use Rattle.tx_script.proofs.Scenes.{IsScene, Fits, changed, quiet, acts, goes_with, took_ok}
 
 -- ---- what keeps
@@ -37,11 +37,6 @@ Keeps t = AllLead IsScene t
 pub keeps_either : (b : Bool) (x y : Turn) → (b ≡ true → Keeps x) → (b ≡ false → Keeps y) → Keeps (cond b x y)
 keeps_either true x y f g = f refl
 keeps_either false x y f g = g refl
-
--- what a session sends for is asked of a region
-asked_for : (s : State) (x : Phase) (due : Due) → IsFor s x due → IsAsked due.body
-asked_for s phase.Prewrite due f = subst (λ (d : Due). IsAsked d.body) (sym f.2) tt
-asked_for s phase.Commit due f = subst (λ (d : Due). IsAsked d.body) (sym f.2) tt
 
 -- ---- begin
 
@@ -106,8 +101,8 @@ module _ (scene : Scene) (ok : IsScene scene) (name : List ℕ) (s : State) (liv
   keeps_get_by : (left : List Bool) (key : List ℕ) (o : Option Mutation) → Keeps (gets_by left key scene s o)
   keeps_get_by left key (Some (mutation.Put v)) = ok
   keeps_get_by left key (Some mutation.Delete) = ok
-  keeps_get_by left key (Some mutation.Lock) = (ok.run, tt, read_ok key)
-  keeps_get_by left key None = (ok.run, tt, read_ok key)
+  keeps_get_by left key (Some mutation.Lock) = (ok.run, read_ok key)
+  keeps_get_by left key None = (ok.run, read_ok key)
 
   keeps_get : (refused : List Bool) (key : List ℕ) → Keeps (gets refused key scene s)
   keeps_get refused key =
@@ -137,7 +132,7 @@ module _ (scene : Scene) (ok : IsScene scene) (name : List ℕ) (s : State) (liv
 
   keeps_request : (refused : List Bool) (x : Phase) (due : Due) → Allowed scene.history due.body → IsFor s x due → Keeps (requests refused name scene s x due)
   keeps_request refused x due allowed f =
-      keeps_either (is_refused refused) _ _ (λ e. quiet scene ok name s live (missed s) refl (missed_ok scene.history s is)) (λ e. (ok.run, asked_for s x due f, heard_scene x due allowed f))
+      keeps_either (is_refused refused) _ _ (λ e. quiet scene ok name s live (missed s) refl (missed_ok scene.history s is)) (λ e. (ok.run, heard_scene x due allowed f))
 
   keeps_send : (refused : List Bool) (x : Phase) (o : Option Due) → ((due : Due) → o ≡ Some due → Allowed scene.history due.body × IsFor s x due) → Keeps (sends refused name scene s x o)
   keeps_send refused x None may = ok

@@ -4,7 +4,7 @@ use Rattle.std.proofs.lemmas.Bool.{cases_Bool, and_parts, and_cases, or_cases, n
 use Rattle.tx_types.specs.declared.key.Key.{Key}
 use Rattle.tx_types.specs.declared.mutation.Mutation.{Mutation}
 use Rattle.tx_types.specs.declared.mutation.Mutation.TheVariants as mutation
-use Rattle.tx_machine.specs.Keys.{IsVisible}
+use Rattle.tx_types.specs.Keys.{IsVisible}
 use Rattle.tx_plan.specs.Cells.{Lock, CommitRecord, Write, CommitOf, Rollback, Writes, Cells}
 use Rattle.tx_plan.specs.Traces.{OwnRollback}
 use Rattle.tx_core.proofs.Basics.{nat_test, chosen, cond_true, cond_false, or_false}

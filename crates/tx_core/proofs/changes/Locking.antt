@@ -5,7 +5,7 @@ use Rattle.tx_types.specs.declared.key.Key.{Key}
 use Rattle.tx_types.specs.declared.mutation.Mutation.{Mutation}
 use Rattle.tx_types.specs.declared.mutation.Mode.{Mode}
 use Rattle.tx_types.specs.declared.mutation.Mode.TheVariants.{TwoPhase, Async}
-use Rattle.tx_machine.specs.Keys.{IsVisible}
+use Rattle.tx_types.specs.Keys.{IsVisible}
 use Rattle.tx_machine.specs.Machine.{Open, IsRead}
 use Rattle.tx_plan.specs.Cells.{Lock, CommitRecord, CommitOf, with_lock}
 use Rattle.tx_plan.specs.Traces.{OwnCommit, OwnRollback}

@@ -3,7 +3,7 @@ use Rattle.std.proofs.Common.{◌≡◌, ℕ, ◌<◌, ◌≤◌, ◌⊎◌, inl
 use Rattle.std.proofs.lemmas.Bool.{cases_Bool}
 use Rattle.tx_types.specs.declared.key.Key.{Key}
 use Rattle.tx_types.specs.declared.mutation.Mutation.{Mutation}
-use Rattle.tx_machine.specs.Keys.{IsVisible}
+use Rattle.tx_types.specs.Keys.{IsVisible}
 use Rattle.tx_machine.specs.Machine.{State, Open}
 use Rattle.tx_plan.specs.Cells.{Lock}
 use Rattle.tx_core.specs.Histories.{set_of, is_first}

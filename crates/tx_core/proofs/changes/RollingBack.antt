@@ -2,7 +2,7 @@
 use Rattle.std.proofs.Common.{◌≡◌, ◌≢◌, ℕ, ◌==◌, inl, inr, false, Option, Some, None, refl, sym, ap, subst, ◌∙◌}
 use Rattle.std.proofs.lemmas.Bool.{eqb-true, eq-eqb, ne_eqb}
 use Rattle.tx_types.specs.declared.key.Key.{Key}
-use Rattle.tx_machine.specs.Keys.{IsVisible}
+use Rattle.tx_types.specs.Keys.{IsVisible}
 use Rattle.tx_plan.specs.Cells.{Lock, CommitRecord, Write, CommitOf, Rollback, Cells, with_lock}
 use Rattle.tx_plan.specs.Traces.{OwnRollback, on_own_lock, marked, rolled, leave_rollback, without_own, roll_back}
 use Rattle.tx_core.proofs.Basics.{nat_test, nat_same, chosen, cond_true, cond_false, some_same}

@@ -13,7 +13,8 @@ use Rattle.tx_core.proofs.view.View.{View, Inv, IsPrimary, IsCommitted, IsAborte
 use Rattle.tx_machine.specs.declared.step.ScanRead.{ScanRead}
 use Rattle.tx_machine.specs.declared.step.Step.{Step}
 use Rattle.tx_machine.specs.declared.step.Step.TheVariants as step
-use Rattle.tx_machine.specs.Keys.{IsDistinct, value_in, IsRising, covered}
+use Rattle.tx_types.specs.Keys.{IsRising, value_in}
+use Rattle.tx_machine.specs.Keys.{IsDistinct, covered}
 use Rattle.tx_machine.specs.Machine.{SeesRows, table_of}
 use Rattle.tx_plan.specs.Reads.{Reads}
 use Rattle.tx_core.proofs.changes.Drawing.{drawing, inv_draw}

@@ -10,7 +10,8 @@ use Rattle.tx_core.proofs.seats.Staying.{last_was}
 use Rattle.tx_core.proofs.examples.Words.{a, x, none}
 use Rattle.tx_types.specs.declared.key.Key.{Key}
 use Rattle.tx_types.specs.declared.lock.LockInfo.{LockInfo}
-use Rattle.tx_plan.specs.Cells.{CommitRecord, CommitOf, IsVisible}
+use Rattle.tx_plan.specs.Cells.{CommitRecord, CommitOf}
+use Rattle.tx_types.specs.Keys.{IsVisible}
 use Rattle.tx_plan.specs.cases.Collect.{IsDropped}
 use Rattle.tx_plan.specs.cases.LocksBelow.{IsLockBelow}
 use Rattle.tx_core.specs.Histories.{left}

@@ -10,7 +10,7 @@ use Rattle.tx_plan.specs.declared.body.Scan as scan_body
 use Rattle.tx_plan.specs.declared.body.Body.TheVariants.{Prewrite, Commit, Scan}
 use Rattle.tx_plan.specs.declared.answer.Answer.TheVariants.{Rows, Prewritten, Committed}
 use Rattle.tx_plan.specs.Cells.{Lock, CommitRecord, CommitOf}
-use Rattle.tx_plan.specs.Keys.{key_lt, key_le, value_in}
+use Rattle.tx_types.specs.Keys.{key_lt, key_le, value_in}
 use Rattle.tx_plan.specs.Reads.{Blocks, Reads, in_range, covered}
 use Rattle.tx_plan.proofs.KeyOrder.{le_cases, lt_then_le}
 use Rattle.tx_machine.specs.Keys.{mutation_at}

@@ -12,7 +12,7 @@ use Rattle.tx_plan.specs.declared.answer.Answer.TheVariants.{Rows, KeyIsLocked, 
 use Rattle.tx_plan.specs.Cells.{Cells, info_of}
 use Rattle.tx_plan.specs.Reads.{Blocks, Reads, Walked, in_range, covered}
 use Rattle.tx_plan.specs.cases.Scan.{AnswersScan}
-use Rattle.tx_plan.specs.Keys.{value_in, reaches}
+use Rattle.tx_types.specs.Keys.{value_in, reaches}
 use Rattle.tx_core.specs.Histories.{History, last, left}
 use Rattle.tx_core.specs.Decisions.{decided}
 use Rattle.tx_core.specs.Worlds.{route, Holds}

@@ -11,7 +11,8 @@ use Rattle.tx_plan.specs.declared.body.Scan.{Scan}
 use Rattle.tx_types.specs.declared.mutation.KeyValue.{KeyValue}
 use Rattle.tx_machine.specs.declared.step.Step.{Step}
 use Rattle.tx_machine.specs.declared.step.Step.TheVariants as step
-use Rattle.tx_machine.specs.Keys.{covered, reaches}
+use Rattle.tx_types.specs.Keys.{reaches}
+use Rattle.tx_machine.specs.Keys.{covered}
 use Rattle.tx_machine.specs.Machine.{SeesRows, table_of}
 use Rattle.tx_plan.specs.Reads as reads
 use Rattle.tx_plan.specs.Reads.{Blocks, Walked, in_range}

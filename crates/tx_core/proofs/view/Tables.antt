@@ -7,7 +7,8 @@ use Rattle.tx_types.specs.declared.mutation.Mutation.{Mutation}
 use Rattle.tx_types.specs.declared.mutation.Mutation.TheVariants as mutation
 use Rattle.tx_types.specs.declared.mutation.Fate.{Fate}
 use Rattle.tx_types.specs.declared.mutation.Fate.TheVariants.{Committed}
-use Rattle.tx_machine.specs.Keys.{mutation_at, IsVisible}
+use Rattle.tx_types.specs.Keys.{IsVisible}
+use Rattle.tx_machine.specs.Keys.{mutation_at}
 use Rattle.tx_machine.specs.Machine.{State, Done, IsRead}
 use Rattle.tx_plan.specs.Cells.{CommitRecord, CommitOf}
 use Rattle.tx_core.specs.declared.event.Declaration.{Declaration}

@@ -7,7 +7,8 @@ use Rattle.tx_types.specs.declared.mutation.Mutation.{Mutation}
 use Rattle.tx_types.specs.declared.mutation.Mutation.TheVariants.{Put}
 use Rattle.tx_types.specs.declared.mutation.Mode.TheVariants.{TwoPhase, Async}
 use Rattle.tx_types.specs.declared.mutation.Fate.TheVariants.{Committed, Aborted}
-use Rattle.tx_machine.specs.Keys.{mutation_at, IsVisible}
+use Rattle.tx_types.specs.Keys.{IsVisible}
+use Rattle.tx_machine.specs.Keys.{mutation_at}
 use Rattle.tx_machine.specs.Machine.{State, Open, Done, Reading, IsRead}
 use Rattle.tx_plan.specs.Cells.{Lock, CommitRecord, CommitOf, Writes, Cells}
 use Rattle.tx_plan.specs.Traces.{OwnLock, OwnCommit, OwnRollback}

@@ -4,10 +4,10 @@ use Rattle.tx_core.specs.Recording.{MayRecord}
 use Rattle.tx_journal.proofs.Calls.{may_begin_there}
 use Rattle.tx_journal.proofs.tests.begin.Goals as goal
 
-pub record-requires-clause-right : goal.record-requires-clause-right
-record-requires-clause-right g c =
+pub record_begin-requires : goal.record_begin-requires
+record_begin-requires g c =
     let bounds = g.J.Naming.bounds in
-    let start = c.in_ok-start.start in
+    let start = c.in-Ok.start in
     let new = c.draw.new.self in
     let seat = c.args.seat in
-    subst (λ n. MayRecord bounds n new.events (Began start)) (sym c.draw.ensures.seat) (may_begin_there bounds seat.seat seat.events new.events 1 start c.in_ok-start.ensures.drawn)
+    subst (λ n. MayRecord bounds n new.events (Began start)) (sym c.draw.ensures.seat) (may_begin_there bounds seat.seat seat.events new.events 1 start c.in-Ok.ensures.drawn)

@@ -26,12 +26,12 @@ record-requires-clause-right g c =
     let bounds = g.J.Naming.bounds in
     let m = c.learn.new.self.events in
     let l = c.last-loaded.new.self.events in
-    let first : HasSeen bounds 0 [] m = subst (λ (p : ℕ × History). HasSeen bounds p.0 p.1 m) (λ i. (c.requires.0 i, c.requires.1 i)) c.learn.ensures.seen in
-    let then : HasSeen bounds 0 m l = subst (λ n. HasSeen bounds n m l) (c.learn.ensures.same.0 ∙ c.requires.0) c.last-loaded.ensures.seen in
+    let first : HasSeen bounds 0 [] m = subst (λ (p : ℕ × History). HasSeen bounds p.0 p.1 m) (λ i. (c.requires.seat.0 i, c.requires.seat.1 i)) c.learn.ensures.seen in
+    let then : HasSeen bounds 0 m l = subst (λ n. HasSeen bounds n m l) (c.learn.ensures.same.0 ∙ c.requires.seat.0) c.last-loaded.ensures.seen in
     let here = seen_more bounds 0 [] m l first then in
-    let seat = c.last-loaded.ensures.same.0 ∙ (c.learn.ensures.same.0 ∙ c.requires.0) in
+    let seat = c.last-loaded.ensures.same.0 ∙ (c.learn.ensures.same.0 ∙ c.requires.seat.0) in
     let region = c.new-region.ensures in
-    let body : c.into_parts-by.result.1 ≡ RaiseSafe record { region = 0; safe = 0 } = c.into_parts-by.ensures.parts.1 ∙ (ap (λ r. r.body) c.in_ok-clone.ensures.ok ∙ (c.new-request.ensures.1 ∙ (λ i. RaiseSafe record { region = region i; safe = 0 }))) in
+    let body : c.into_parts-by.result.1 ≡ RaiseSafe record { region = 0; safe = 0 } = c.into_parts-by.ensures.parts.1 ∙ (ap (λ r. r.body) c.in-Ok.ensures.ok ∙ c.requires.body) in
     subst (λ (p : ℕ × ℕ × Body). MayRecord bounds p.0 l (Took record { region = p.1; body = p.2; loaded = c.last-loaded.result; answer = Raised })) (λ i. (sym seat i, sym region i, sym body i))
     (may_raise bounds l c.last-loaded.result here.goes_on c.last-loaded.ensures.last.0)
 
@@ -41,10 +41,10 @@ new-requires g c =
     let m = c.learn.new.self.events in
     let l = c.last-loaded.new.self.events in
     let asked = c.clone.new.self in
-    let first : HasSeen bounds 0 [] m = subst (λ (p : ℕ × History). HasSeen bounds p.0 p.1 m) (λ i. (c.requires.0 i, c.requires.1 i)) c.learn.ensures.seen in
-    let then : HasSeen bounds 0 m l = subst (λ n. HasSeen bounds n m l) (c.learn.ensures.same.0 ∙ c.requires.0) c.last-loaded.ensures.seen in
-    let seat = c.last-loaded.ensures.same.0 ∙ (c.learn.ensures.same.0 ∙ c.requires.0) in
-    let copied = c.in_ok-clone.ensures.ok ∙ sym c.clone.ensures.same in
+    let first : HasSeen bounds 0 [] m = subst (λ (p : ℕ × History). HasSeen bounds p.0 p.1 m) (λ i. (c.requires.seat.0 i, c.requires.seat.1 i)) c.learn.ensures.seen in
+    let then : HasSeen bounds 0 m l = subst (λ n. HasSeen bounds n m l) (c.learn.ensures.same.0 ∙ c.requires.seat.0) c.last-loaded.ensures.seen in
+    let seat = c.last-loaded.ensures.same.0 ∙ (c.learn.ensures.same.0 ∙ c.requires.seat.0) in
+    let copied = c.in-Ok.ensures.ok ∙ sym c.clone.ensures.same in
     let by = c.into_parts-by.ensures.parts.0 ∙ ap (λ r. r.by) copied in
     let body = c.into_parts-by.ensures.parts.1 ∙ ap (λ r. r.body) copied in
     let sender = subst (λ (x : History). Begins x m) by c.learn.ensures.told in
