@@ -21,9 +21,9 @@ mod senders;
 fn draw<J: Naming>(seat: &mut Seat<J>, ticks: u32) -> u64
     requires { 0 < ticks }
 {
-    match seat.draw(ticks) {
-        Ok(ts) => ts.get(),
-        Err(_) => 0,
+    match seat.draw(ticks).ok() {
+        Some(ts) => ts.get(),
+        None => 0,
     }
 }
 
@@ -31,10 +31,9 @@ fn draw<J: Naming>(seat: &mut Seat<J>, ticks: u32) -> u64
 fn seats_of<J: Naming>(alloc: Global, opened: Opened) -> Option<Vec<Seat<J>>>
     requires { (opened.table ≡ J.table) × (opened.bounds ≡ J.bounds) × (opened.seats ≡ J.seats) }
 {
-    match opened.named::<J>(alloc) {
-        Ok((_, seats)) => Some(seats),
-        Err(_) => None,
-    }
+    let (journal, seats) = opened.named::<J>(alloc).ok()?;
+    drop(journal);
+    Some(seats)
 }
 
 // Records that a transaction begins at a number.
@@ -42,7 +41,9 @@ fn record_begin<J: Naming>(seat: &mut Seat<J>, start: Ts)
     requires { MayRecord J.bounds seat.old.seat seat.old.events (Began start) }
     ensures { HasRecorded J.bounds seat.old.seat seat.old.events (Began start) seat.new.events }
 {
-    seat.record(&Event::Began(start));
+    let event = Event::Began(start);
+    seat.record(&event);
+    drop(event);
 }
 
 // Begins a transaction, and tells of it.
@@ -221,7 +222,9 @@ fn raise<J: Naming>(mut seat: Seat<J>, mut request: Request<J>) -> Option<Reply<
 // A session hears a reply: whether it has an answer.
 fn hear<J: Naming>(session: &mut Seat<J>, mut reply: Reply<J>) -> bool {
     session.learn(reply.tell(session));
-    reply.answer().is_some()
+    let heard = reply.answer().is_some();
+    drop(reply);
+    heard
 }
 
 // What a session knows, where the journal has no name.
