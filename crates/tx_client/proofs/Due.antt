@@ -10,7 +10,7 @@ use Rattle.tx_core.specs.Decisions.{decided}
 use Rattle.tx_core.specs.Allowed.{Allowed}
 use Rattle.tx_core.specs.Worlds.{IsWorldRun}
 use Rattle.tx_core.proofs.Basics.{some_same}
-use Rattle.tx_core.proofs.Consequences.{told_committed, decided_declared}
+use Rattle.tx_core.proofs.runs.Consequences.{told_fate, decided_declared}
 use Rattle.tx_client.specs.declared.state.Phase.{Phase}
 use Rattle.tx_client.specs.declared.state.Phase.TheVariants as phase
 use Rattle.tx_client.specs.Buffers.{Entries, first_place}
@@ -72,7 +72,7 @@ module _ (bounds : List Key) (h : History) (run : IsWorldRun bounds h) (s : Stat
 
   may_commit_decided : (c i : ℕ) → s.decision ≡ Some (fate.Committed c) → Allowed h (commit_of s c i).body
   may_commit_decided c i e =
-      let end : decided h s.start ≡ Done (fate.Committed c) = told_committed bounds h run s.start c (is.settled (fate.Committed c) e) in
+      let end : decided h s.start ≡ Done (fate.Committed c) = told_fate bounds h run s.start (fate.Committed c) (is.settled (fate.Committed c) e) in
       let r = stands_some (decided_declared bounds h run s.start (fate.Committed c) end) in
       record { of = declaration_of s.start s.buffer r.0; stands = r.1; may = inl end }
 

@@ -13,16 +13,16 @@ use Rattle.tx_core.specs.declared.event.UnknownCause.{UnknownCause}
 use Rattle.tx_core.specs.declared.event.Event.TheVariants.{Drawn, Began, Declared, Answered}
 use Rattle.tx_core.specs.Histories.{History, drawer, began, declared, set_of, Begins}
 use Rattle.tx_core.specs.Decisions.{accepted}
-use Rattle.tx_core.specs.Worlds.{MayAnswer, MayCome, IsWorldRun}
+use Rattle.tx_core.specs.Worlds.{MayAnswer, MayCome, WasTold, IsWorldRun}
 use Rattle.tx_core.proofs.Basics.{nat_same, key_same, key_test, some_of, is_some}
-use Rattle.tx_core.proofs.Beginnings.{begins_all}
-use Rattle.tx_core.proofs.Staying.{drawer_on, drawer_new, began_new}
-use Rattle.tx_core.proofs.Consequences.{undeclared, unanswered, accepted_upto, accepted_two_phase}
+use Rattle.tx_core.proofs.seats.Beginnings.{begins_all}
+use Rattle.tx_core.proofs.seats.Staying.{drawer_on, drawer_new, began_new, told_on}
+use Rattle.tx_core.proofs.runs.Consequences.{undeclared, unanswered, accepted_upto, accepted_two_phase}
 use Rattle.tx_client.specs.declared.state.Phase.TheVariants as phase
 use Rattle.tx_client.specs.Buffers.{Entries, fresh, touched, not_empty, changes_of, place_from, first_place}
 use Rattle.tx_client.specs.Sessions.{State, begun, with_buffer, with_declared, with_drawn, is_declared, has_primary, declaration_of, declaration, is_none_place, is_open, can_draw, outcome_of, unknown_by, undecided, finish_by, finish_of}
 use Rattle.tx_client.proofs.Entries.{distinct_touched}
-use Rattle.tx_client.proofs.Sessions.{standing, Marks, IsReady, IsTold, IsSession, is_told_on, marks_on, ready_on}
+use Rattle.tx_client.proofs.Sessions.{standing, Marks, IsReady, IsSession, marks_on, ready_on}
 
 -- ---- it begins
 
@@ -116,7 +116,7 @@ declared_ok bounds h s ttl d run is e =
       distinct = is.distinct;
       marks = marks_on h (Declared d ∷ h) later s.start s.buffer is.marks;
       ready = λ c q. ready_on bounds h (Declared d ∷ h) run later s.start c (is.ready c q);
-      settled = λ end q. is_told_on h (Declared d ∷ h) later s.start end (is.settled end q);
+      settled = λ end q. told_on h (Declared d ∷ h) later s.start end (is.settled end q);
     }
 
 -- ---- it draws a commit timestamp
@@ -182,14 +182,14 @@ module _ (bounds : List Key) (h : History) (s : State) (is : IsSession h s) (can
         distinct = is.distinct;
         marks = marks_on h (Drawn s.seat c ∷ h) later s.start s.buffer is.marks;
         ready = λ n e. (let same : c ≡ n = cc (e) in subst (IsReady (Drawn s.seat c ∷ h) s.start) same ready_now);
-        settled = λ end e. is_told_on h (Drawn s.seat c ∷ h) later s.start end (is.settled end e);
+        settled = λ end e. told_on h (Drawn s.seat c ∷ h) later s.start end (is.settled end e);
       }
 
 -- ---- it ends
 
 -- an outcome that it gives it may answer
 module _ (h : History) (s : State) (is : IsSession h s) where
-  known : (end : Fate) → IsTold h s.start end → MayAnswer h s.start (outcome_of end)
+  known : (end : Fate) → WasTold h s.start end → MayAnswer h s.start (outcome_of end)
   known (fate.Committed c) told = inl told
   known fate.Aborted told = told
 

@@ -1,5 +1,5 @@
 -- Keys that are looked up in a buffer.
-use Rattle.std.proofs.Common.{◌≡◌, ℕ, ◌<◌, zero, suc, Bool, true, false, cond, length, List, [], ◌∷◌, Option, Some, None, option_map, is_some, bytes_eq, refl, sym, ap, ◌∙◌, inl, inr, arith}
+use Rattle.std.proofs.Common.{◌≡◌, ℕ, ◌<◌, zero, suc, true, false, length, [], ◌∷◌, option_map, is_some, bytes_eq, refl, sym, ap, ◌∙◌, inl, inr, arith}
 use Rattle.std.specs.Map.{lookup}
 use Rattle.tx_types.specs.declared.key.Key.{Key}
 use Rattle.tx_core.proofs.Basics.{key_test, key_same}

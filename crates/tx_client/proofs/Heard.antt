@@ -2,25 +2,24 @@
 use Rattle.std.proofs.Common.{◌≡◌, ◌≢◌, ℕ, inl, zero, suc, true, List, [], ◌∷◌, Option, Some, None, refl, sym, ap, subst, ◌∙◌}
 use Rattle.tx_types.specs.declared.key.Key.{Key}
 use Rattle.tx_types.specs.declared.mutation.Fate.{Fate}
-use Rattle.tx_types.specs.declared.mutation.Fate.TheVariants as fate
 use Rattle.tx_machine.specs.Keys.{IsDistinct}
 use Rattle.tx_plan.specs.declared.answer.Answer.{Answer}
-use Rattle.tx_plan.specs.declared.answer.Answer.TheVariants.{Prewritten, Committed, RolledBack, Missing, AlreadyRolledBack, AlreadyCommitted, CommitTsExpired}
+use Rattle.tx_plan.specs.declared.answer.Answer.TheVariants.{Prewritten, Committed, CommitTsExpired}
 use Rattle.tx_plan.specs.Answers.{start_in}
 use Rattle.tx_core.specs.declared.event.Taken.{Taken}
 use Rattle.tx_core.specs.declared.event.Event.TheVariants.{Took}
-use Rattle.tx_core.specs.Histories.{History, Among, Begins}
-use Rattle.tx_core.specs.Decisions.{accepted}
-use Rattle.tx_core.specs.Worlds.{route, Holds, TellsCommit, TellsAbort, IsWorldRun}
-use Rattle.tx_core.proofs.Staying.{among_on}
-use Rattle.tx_core.proofs.Consequences.{prewritten_accepted}
+use Rattle.tx_core.specs.Histories.{History, Begins}
+use Rattle.tx_core.specs.Decisions.{accepted, fate_in}
+use Rattle.tx_core.specs.Worlds.{route, Holds, WasTold, IsWorldRun}
+use Rattle.tx_core.proofs.seats.Staying.{among_on}
+use Rattle.tx_core.proofs.runs.Consequences.{prewritten_accepted}
 use Rattle.tx_client.specs.declared.state.Phase.{Phase}
 use Rattle.tx_client.specs.declared.state.Phase.TheVariants as phase
 use Rattle.tx_client.specs.declared.state.Progress.{Progress}
 use Rattle.tx_client.specs.Buffers.{Entries, key_at, progress_at, with_progress}
-use Rattle.tx_client.specs.Sessions.{State, Due, settled_by, first_settled, drawn_after, marked_by, prewrite_of, heard, missed}
+use Rattle.tx_client.specs.Sessions.{State, Due, first_settled, drawn_after, marked_by, prewrite_of, heard, missed}
 use Rattle.tx_client.proofs.Entries.{changes_with, declaration_with}
-use Rattle.tx_client.proofs.Sessions.{standing, Marks, IsTold, IsSession, accepted_still}
+use Rattle.tx_client.proofs.Sessions.{standing, Marks, IsSession, accepted_still}
 use Rattle.tx_client.proofs.Due.{IsFor, names_start}
 
 -- ---- marks
@@ -41,15 +40,6 @@ standing_with t es i p None = refl
 standing_with t es i p (Some ttl) = declaration_with t es i p ttl
 
 -- ---- fates
-
--- what an answer tells of the fate was told
-told_by : (h : History) (t : ℕ) (y : Taken) → Among h (Took y) → start_in y.body ≡ Some t → (a : Answer) → y.answer ≡ a → (end : Fate) → settled_by a ≡ Some end → IsTold h t end
-told_by h t y among of (Committed c) is end e = (let same : fate.Committed c ≡ end = cc (e) in subst (IsTold h t) same (record { by = y; among = among; of = of; tells = subst (TellsCommit c) (sym is) refl }))
-told_by h t y among of (AlreadyCommitted c) is end e = (let same : fate.Committed c ≡ end = cc (e) in subst (IsTold h t) same (record { by = y; among = among; of = of; tells = subst (TellsCommit c) (sym is) refl }))
-told_by h t y among of RolledBack is end e = (let same : fate.Aborted ≡ end = cc (e) in subst (IsTold h t) same (record { by = y; among = among; of = of; tells = subst TellsAbort (sym is) tt }))
-told_by h t y among of AlreadyRolledBack is end e = (let same : fate.Aborted ≡ end = cc (e) in subst (IsTold h t) same (record { by = y; among = among; of = of; tells = subst TellsAbort (sym is) tt }))
-told_by h t y among of Missing is end e = (let same : fate.Aborted ≡ end = cc (e) in subst (IsTold h t) same (record { by = y; among = among; of = of; tells = subst TellsAbort (sym is) tt }))
-told_by h t y among of _ is end e = absurd (cc (e))
 
 -- an answer gives up a drawn number, or keeps it
 drawn_was : (a : Answer) (o : Option ℕ) (c : ℕ) → drawn_after a o ≡ Some c → o ≡ Some c
@@ -76,8 +66,8 @@ module _ (bounds : List Key) (before h : History) (y : Taken) (run : IsWorldRun 
   marked _ f p old _ e so = old so
 
   -- a fate that is known was told
-  settled : (x : Phase) → IsFor s x due → (a : Answer) → y.answer ≡ a → (o : Option Fate) (end : Fate) → s.decision ≡ o → first_settled o (settled_by a) ≡ Some end → IsTold h s.start end
-  settled x f a e None end was q = told_by h s.start y (among_on (Took y ∷ before) h b (Took y) (inl refl)) (ap start_in body ∙ names_start s x due f) a e end q
+  settled : (x : Phase) → IsFor s x due → (a : Answer) → y.answer ≡ a → (o : Option Fate) (end : Fate) → s.decision ≡ o → first_settled o (fate_in a) ≡ Some end → WasTold h s.start end
+  settled x f a e None end was q = record { by = y; among = among_on (Took y ∷ before) h b (Took y) (inl refl); of = ap start_in body ∙ names_start s x due f; tells = ap fate_in e ∙ q }
   settled x f a e (Some old) end was q = is.settled end (was ∙ q)
 
   pub heard_ok : (x : Phase) → IsFor s x due → (a : Answer) → y.answer ≡ a → IsSession h (heard s x due.place a)

@@ -1,5 +1,5 @@
 -- The buffer by places.
-use Rattle.std.proofs.Common.{◌++◌, inl, inr, take, nat_eq, bytes_eq, ◌≡◌, ℕ, ◌+◌, ◌<◌, zero, suc, Bool, true, false, cond, length, List, [], ◌∷◌, Option, Some, None, refl, sym, ap, ◌∙◌, arith}
+use Rattle.std.proofs.Common.{◌++◌, inl, inr, take, nat_eq, bytes_eq, ◌≡◌, ℕ, ◌+◌, ◌<◌, zero, suc, true, false, length, List, [], ◌∷◌, Some, None, refl, sym, ap, ◌∙◌, arith}
 use Rattle.std.specs.Prelude.{slice_get}
 use Rattle.std.specs.Map.{values_of, keys_of}
 use Rattle.std.specs.List.{IsDistinct, AllByRecursion}

@@ -2,18 +2,18 @@
 use Rattle.std.proofs.Common.{◌≡◌, ◌≢◌, ℕ, true, false, List, [], ◌∷◌, Option, Some, None}
 use Rattle.tx_types.specs.declared.key.Key.{Key}
 use Rattle.tx_types.specs.declared.mutation.Fate.{Fate}
-use Rattle.tx_types.specs.declared.mutation.Fate.TheVariants as fate
 use Rattle.tx_machine.specs.Keys.{IsDistinct}
 use Rattle.tx_core.specs.declared.event.Declaration.{Declaration}
-use Rattle.tx_core.specs.Histories.{History, drawer, began, declared, answered, Begins, GoesOn}
+use Rattle.tx_core.specs.Histories.{History, drawer, began, declared, answered, Begins}
+use Rattle.tx_core.specs.Recording.{Extends}
 use Rattle.tx_core.specs.Decisions.{accepted, AllAccepted, HasTwoPhaseLock}
 use Rattle.tx_core.specs.Allowed.{DrewAfterAll}
-use Rattle.tx_core.specs.Worlds.{TellsCommit, TellsAbort, WasTold, IsWorldRun}
+use Rattle.tx_core.specs.Worlds.{WasTold, IsWorldRun}
 use Rattle.tx_core.proofs.Basics.{some_of, is_some}
-use Rattle.tx_core.proofs.Beginnings.{goes_begins}
-use Rattle.tx_core.proofs.Staying.{drawer_on, began_on, declared_on, accepted_on, told_on}
-use Rattle.tx_core.proofs.StaysDecided.{two_phase_on, all_accepted_on, drew_on}
-use Rattle.tx_core.proofs.Recording.{undeclared_on, unanswered_on}
+use Rattle.tx_core.proofs.seats.Beginnings.{extends_begins}
+use Rattle.tx_core.proofs.seats.Staying.{drawer_on, began_on, declared_on, accepted_on, told_on}
+use Rattle.tx_core.proofs.seats.StaysDecided.{two_phase_on, all_accepted_on, drew_on}
+use Rattle.tx_core.proofs.seats.Recording.{undeclared_on, unanswered_on}
 use Rattle.tx_client.specs.Buffers.{Entries, changes_of}
 use Rattle.tx_client.specs.Sessions.{State, declaration}
 
@@ -34,11 +34,6 @@ pub record IsReady (h : History) (t c : ℕ) : Type 0 where
   pub two_phase : HasTwoPhaseLock h t
   pub drew : DrewAfterAll h t c
 
--- the fate of a transaction was told
-abbrev pub IsTold : History → ℕ → Fate → Type 0
-IsTold h t (fate.Committed c) = WasTold h t (TellsCommit c)
-IsTold h t fate.Aborted = WasTold h t TellsAbort
-
 -- What ties a session's state to a history: its seat drew its start, at which it began, and has not answered; its buffer is what it
 -- declared, each key once; and what it knows is so.
 pub record IsSession (h : History) (s : State) : Type 0 where
@@ -49,13 +44,9 @@ pub record IsSession (h : History) (s : State) : Type 0 where
   pub distinct : IsDistinct (changes_of s.buffer)
   pub marks : Marks h s.start s.buffer
   pub ready : (c : ℕ) → s.drawn ≡ Some c → IsReady h s.start c
-  pub settled : (end : Fate) → s.decision ≡ Some end → IsTold h s.start end
+  pub settled : (end : Fate) → s.decision ≡ Some end → WasTold h s.start end
 
 -- ---- what stays so
-
-pub is_told_on : (l h : History) → Begins l h → (t : ℕ) (end : Fate) → IsTold l t end → IsTold h t end
-is_told_on l h b t (fate.Committed c) told = told_on l h b t (TellsCommit c) told
-is_told_on l h b t fate.Aborted told = told_on l h b t TellsAbort told
 
 pub accepted_still : (l h : History) → Begins l h → (t : ℕ) (k : Key) → accepted l t k ≢ None → accepted h t k ≢ None
 accepted_still l h b t k some = (let by = some_of (accepted l t k) some in is_some (accepted h t k) by.0 (accepted_on l h b t k by.0 by.1))
@@ -75,7 +66,7 @@ ready_on bounds l h run b t c r =
     }
 
 -- others act
-pub others_act : (bounds : List Key) (l h : History) → IsWorldRun bounds h → (s : State) → GoesOn s.seat l h → IsSession l s → IsSession h s
+pub others_act : (bounds : List Key) (l h : History) → IsWorldRun bounds h → (s : State) → Extends s.seat l h → IsSession l s → IsSession h s
 others_act bounds l h run s goes is =
     record {
       drew_start = drawer_on bounds l h run b s.start s.seat is.drew_start;
@@ -85,11 +76,11 @@ others_act bounds l h run s goes is =
       distinct = is.distinct;
       marks = marks_on l h b s.start s.buffer is.marks;
       ready = λ c e. ready_on bounds l h run b s.start c (is.ready c e);
-      settled = λ end e. is_told_on l h b s.start end (is.settled end e);
+      settled = λ end e. told_on l h b s.start end (is.settled end e);
     }
   where
     b : Begins l h
-    b = goes_begins s.seat l h goes
+    b = extends_begins s.seat l h goes
 
     stands : (o : Option Declaration) → declared l s.start ≡ o → declared h s.start ≡ o
     stands None e = undeclared_on bounds s.seat s.start l h run goes is.drew_start e

@@ -58,7 +58,7 @@ progress_at (e ∷ es) (suc i) = progress_at es i
 
 abbrev pub with_progress : Entries → ℕ → Progress → Entries
 with_progress [] i p = []
-with_progress (e ∷ es) zero p = (e.0, record { mutation = e.1.mutation; progress = p }) ∷ es
+with_progress (e ∷ es) zero p = (e.0, record e.1 { progress = p }) ∷ es
 with_progress (e ∷ es) (suc i) p = e ∷ with_progress es i p
 
 -- whether the phase has something left to send of a key

@@ -1,12 +1,13 @@
 -- The rules of a session: what is due of it, and how an answer changes it. All of them are functions of its state.
-use Rattle.std.specs.Prelude.{ℕ, ◌&&◌, Bool, true, false, List, [], ◌∷◌, Option, Some, None, is_some}
+use Rattle.std.specs.Prelude.{ℕ, ◌&&◌, Bool, true, false, [], ◌∷◌, Option, Some, None, is_some}
 use Rattle.tx_types.specs.declared.mutation.Mode.TheVariants.{TwoPhase}
 use Rattle.tx_types.specs.declared.mutation.Fate.{Fate}
 use Rattle.tx_types.specs.declared.mutation.Fate.TheVariants as fate
 use Rattle.tx_plan.specs.declared.body.Body.{Body}
 use Rattle.tx_plan.specs.declared.body.Body.TheVariants.{Prewrite, Commit}
 use Rattle.tx_plan.specs.declared.answer.Answer.{Answer}
-use Rattle.tx_plan.specs.declared.answer.Answer.TheVariants.{Prewritten, Committed, RolledBack, Missing, AlreadyRolledBack, AlreadyCommitted, CommitTsExpired, BelowSafePoint}
+use Rattle.tx_plan.specs.declared.answer.Answer.TheVariants.{Prewritten, Committed, CommitTsExpired, BelowSafePoint}
+use Rattle.tx_core.specs.Decisions.{fate_in}
 use Rattle.tx_core.specs.declared.event.Declaration.{Declaration}
 use Rattle.tx_core.specs.declared.event.Outcome.{Outcome}
 use Rattle.tx_core.specs.declared.event.Outcome.TheVariants as outcome
@@ -33,14 +34,14 @@ abbrev pub begun : ℕ → ℕ → State
 begun seat start = record { seat = seat; start = start; buffer = []; declared = None; drawn = None; decision = None; cause = None }
 
 abbrev pub with_buffer : State → Entries → State
-with_buffer s es = record { seat = s.seat; start = s.start; buffer = es; declared = s.declared; drawn = s.drawn; decision = s.decision; cause = s.cause }
+with_buffer s es = record s { buffer = es }
 
 -- the state after declare, and after a draw
 abbrev pub with_declared : State → ℕ → State
-with_declared s ttl = record { seat = s.seat; start = s.start; buffer = s.buffer; declared = Some ttl; drawn = s.drawn; decision = s.decision; cause = s.cause }
+with_declared s ttl = record s { declared = Some ttl }
 
 abbrev pub with_drawn : State → ℕ → State
-with_drawn s c = record { seat = s.seat; start = s.start; buffer = s.buffer; declared = s.declared; drawn = Some c; decision = s.decision; cause = s.cause }
+with_drawn s c = record s { drawn = Some c }
 
 -- ---- what was declared
 
@@ -136,15 +137,6 @@ can_commit s = can_commit_by s.decision s.drawn
 
 -- ---- what an answer does
 
--- what an answer tells of the transaction's fate
-abbrev pub settled_by : Answer → Option Fate
-settled_by (Committed c) = Some (fate.Committed c)
-settled_by (AlreadyCommitted c) = Some (fate.Committed c)
-settled_by RolledBack = Some fate.Aborted
-settled_by AlreadyRolledBack = Some fate.Aborted
-settled_by Missing = Some fate.Aborted
-settled_by _ = None
-
 -- what was known first stands
 abbrev pub first_settled : Option Fate → Option Fate → Option Fate
 first_settled None new = new
@@ -162,25 +154,22 @@ drawn_after _ o = o
 
 -- what an answer says of its key
 abbrev pub marked_by : Phase → Answer → Progress → Progress
-marked_by phase.Prewrite (Prewritten m) p = record { accepted = true; committed = p.committed }
-marked_by phase.Commit (Committed c) p = record { accepted = p.accepted; committed = true }
+marked_by phase.Prewrite (Prewritten m) p = record p { accepted = true }
+marked_by phase.Commit (Committed c) p = record p { committed = true }
 marked_by _ _ p = p
 
 -- the state after the request of a place was answered so
 abbrev pub heard : State → Phase → ℕ → Answer → State
-heard s x i a = record {
-  seat = s.seat;
-  start = s.start;
+heard s x i a = record s {
   buffer = with_progress s.buffer i (marked_by x a (progress_at s.buffer i));
-  declared = s.declared;
   drawn = drawn_after a s.drawn;
-  decision = first_settled s.decision (settled_by a);
+  decision = first_settled s.decision (fate_in a);
   cause = cause_of a;
 }
 
 -- the state after a request that was refused for want of memory
 abbrev pub missed : State → State
-missed s = record { seat = s.seat; start = s.start; buffer = s.buffer; declared = s.declared; drawn = s.drawn; decision = s.decision; cause = Some cause.OutOfMemory }
+missed s = record s { cause = Some cause.OutOfMemory }
 
 -- ---- how it ends
 

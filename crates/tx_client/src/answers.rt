@@ -1,6 +1,7 @@
 //! What an answer does to a session's state.
 ghost use Rattle.std.specs.Prelude.{◌≡◌};
-ghost use Rattle.tx_client.specs.Sessions.{settled_by, cause_of, drawn_after, marked_by};
+ghost use Rattle.tx_core.specs.Decisions.{fate_in};
+ghost use Rattle.tx_client.specs.Sessions.{cause_of, drawn_after, marked_by};
 
 use crate::state::{Phase, Progress};
 use tx_core::{Answer, UnknownCause};
@@ -8,7 +9,7 @@ use tx_types::{Fate, Ts};
 
 /// What it tells of the transaction's fate.
 pub(crate) fn settled(answer: &Answer) -> Option<Fate>
-    ensures { result ≡ settled_by answer.now }
+    ensures { result ≡ fate_in answer.now }
 {
     match answer {
         Answer::Committed(commit) | Answer::AlreadyCommitted { commit } => {

@@ -8,8 +8,6 @@ mod answers;
 mod buffer;
 mod session;
 mod state;
-#[cfg(test)]
-mod tests;
 
 pub use session::Session;
 pub use state::{Entry, Phase, Progress};

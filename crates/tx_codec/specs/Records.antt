@@ -72,17 +72,12 @@ abbrev pub write_bytes : WriteRec → List ℕ
 write_bytes (Commit rec) = commit_bytes rec
 write_bytes (Rollback start) = 0x52 ∷ 0 ∷ to_be_bytes w64 start
 
--- a value that stands inline has a length of one byte
+-- a value that is kept inline has at most 255 bytes
 abbrev pub IsStorable : StoredMutation → Type 0
 IsStorable (Put (Inline value)) = length value ≤ MAX_INLINE_BYTES
 IsStorable (Put InDefault) = Unit {0}
 IsStorable Delete = Unit {0}
 IsStorable Lock = Unit {0}
-
--- the same of what a write record keeps
-abbrev pub IsStorableWrite : WriteRec → Type 0
-IsStorableWrite (Commit rec) = IsStorable rec.mutation
-IsStorableWrite (Rollback start) = Unit {0}
 
 -- lists of other keys, as a lock may have them
 abbrev pub AreOthers : List Key → Type 0
@@ -92,7 +87,7 @@ abbrev pub IsMode : LockMode → Type 0
 IsMode TwoPhase = Unit {0}
 IsMode (Async others) = AreOthers others
 
--- what every storable lock record meets: numbers, keys and lists are within the limits of their types
+-- what every lock record meets: numbers, values, keys and lists are within the limits of their types
 pub record IsLock (lock : LockRec) : Type 0 where
   pub start : lock.start < 2 ^ 64
   pub min : lock.min < 2 ^ 64

@@ -14,7 +14,7 @@ use std::alloc::Global;
 use std::cmp::min;
 use tx_types::limits::{MAX_KEY_BYTES, MAX_SECONDARIES, MIN_KEY_BYTES};
 use tx_types::{
-    Fault, Key, LockKind, LockMode, Mode, Secondaries, StoredMutation, StoredValue, Value,
+    Fault, InlineValue, Key, LockKind, LockMode, Mode, Secondaries, StoredMutation, StoredValue,
 };
 
 /// Why nothing was read.
@@ -171,7 +171,7 @@ fn take_value(alloc: Global, bytes: &[u8]) -> Result<(StoredValue, &[u8]), Unrea
                 return Err(Unread::Malformed);
             }
             let (value, rest) = rest.split_at(len);
-            Ok((StoredValue::Inline(Value::new(alloc, value)?), rest))
+            Ok((StoredValue::Inline(InlineValue::new(alloc, value)?), rest))
         }
         _ => Err(Unread::Malformed),
     }

@@ -1,9 +1,9 @@
 //! Lock records and write records as bytes: each record has one spelling, and other bytes are refused.
-ghost use Rattle.std.specs.Prelude.{◌≡◌, ◌↔◌, IfOk, IfErr, IfSome, IsTrue};
+ghost use Rattle.std.specs.Prelude.{◌≡◌, IfOk, IfErr, IfSome};
 ghost use Rattle.tx_types.specs.declared.lock.LockRec.{LockRec};
 ghost use Rattle.tx_types.specs.declared.write.WriteRec.{WriteRec};
 ghost use Rattle.tx_codec.specs.Readers.{Reads};
-ghost use Rattle.tx_codec.specs.Records.{IsStorable, IsStorableWrite, IsLock, IsCommit, IsWrite, lock_bytes, commit_bytes, write_bytes};
+ghost use Rattle.tx_codec.specs.Records.{IsLock, IsCommit, IsWrite, lock_bytes, commit_bytes, write_bytes};
 
 use crate::marks::{ASYNC, ROLLBACK, TWO_PHASE};
 use crate::reading::{
@@ -12,21 +12,10 @@ use crate::reading::{
 };
 use crate::writing::{append_key, append_keys, append_value, keys_len, kind_byte, value_len};
 use std::alloc::Global;
-use tx_types::{CommitRec, Fault, LockMode, LockRec, StoredMutation, StoredValue, Ts, WriteRec};
+use tx_types::{CommitRec, Fault, LockMode, LockRec, Ts, WriteRec};
 
-/// Whether a record can keep this mutation: a value that stands inline is to have at most 255 bytes.
-pub fn is_storable(mutation: &StoredMutation) -> bool
-    ensures { IsTrue result ↔ IsStorable mutation.now }
-{
-    match mutation {
-        StoredMutation::Put(StoredValue::Inline(value)) => value.is_inline(),
-        _ => true,
-    }
-}
-
-/// The bytes of a lock record, whose mutation is to be storable. `OutOfMemory` where there is no room for them.
+/// The bytes of a lock record. `OutOfMemory` where there is no room for them.
 pub fn encode_lock(alloc: Global, lock: &LockRec) -> Result<Vec<u8>, Fault>
-    requires { IsStorable lock.now.mutation }
     ensures ok { IfOk result (λ bytes. bytes.items ≡ lock_bytes lock.now) }
     ensures err { IfErr result (λ e. e ≡ Fault.OutOfMemory) }
 {
@@ -90,9 +79,8 @@ pub fn decode_lock(alloc: Global, bytes: &[u8]) -> Result<Option<LockRec>, Fault
     }
 }
 
-/// The bytes of a write record, whose mutation is to be storable. `OutOfMemory` where there is no room for them.
+/// The bytes of a write record. `OutOfMemory` where there is no room for them.
 pub fn encode_write(alloc: Global, rec: &WriteRec) -> Result<Vec<u8>, Fault>
-    requires { IsStorableWrite rec.now }
     ensures ok { IfOk result (λ bytes. bytes.items ≡ write_bytes rec.now) }
     ensures err { IfErr result (λ e. e ≡ Fault.OutOfMemory) }
 {

@@ -1,6 +1,3 @@
-ghost use Rattle.std.specs.Prelude.{◌↔◌, IsTrue};
-ghost use Rattle.tx_codec.specs.Records.{IsStorableWrite};
-
 use crate::*;
 use std::test::Fail;
 use tx_types::*;
@@ -94,17 +91,8 @@ fn versions_have_one_spelling(rt: HostRuntime) -> Result<(), Fail> {
 }
 
 fn put(rt: &HostRuntime, value: &[u8]) -> Result<StoredMutation, Fail> {
-    let value = Value::new(rt.alloc(), value)?;
+    let value = InlineValue::new(rt.alloc(), value)?;
     Ok(StoredMutation::Put(StoredValue::Inline(value)))
-}
-
-fn is_storable_write(rec: &WriteRec) -> bool
-    ensures { IsTrue result ↔ IsStorableWrite rec.now }
-{
-    match rec {
-        WriteRec::Commit(rec) => is_storable(&rec.mutation),
-        WriteRec::Rollback(_) => true,
-    }
 }
 
 fn commit(mutation: StoredMutation, start: u64, overlapped_rollback: bool) -> WriteRec {
@@ -134,7 +122,6 @@ fn write_records_have_one_spelling(rt: HostRuntime) -> Result<(), Fail> {
             "4c000000000000000003",
         ),
     ] {
-        assert!(rt; is_storable_write(&rec));
         let bytes = encode_write(rt.alloc(), &rec)?;
         assert_eq!(rt; shown(&rt, &bytes)?.as_str(), want);
         assert!(rt; decode_write(rt.alloc(), &bytes)? == Some(rec));
@@ -163,15 +150,6 @@ fn other_bytes_are_no_write_record(rt: HostRuntime) -> Result<(), Fail> {
     Ok(())
 }
 
-#[test]
-fn long_values_are_not_inline(rt: HostRuntime) -> Result<(), Fail> {
-    let bytes = [7u8; 256];
-    assert!(rt; !is_storable(&put(&rt, &bytes)?));
-    assert!(rt; is_storable(&put(&rt, &bytes[1..])?));
-    assert!(rt; is_storable(&StoredMutation::Put(StoredValue::InDefault)));
-    Ok(())
-}
-
 /// An async lock of the key `a` with the other key `b`.
 fn async_lock(rt: &HostRuntime) -> Result<LockRec, Fail> {
     let mut others = Secondaries::with_capacity(rt.alloc(), 1)?;
@@ -190,7 +168,6 @@ fn async_lock(rt: &HostRuntime) -> Result<LockRec, Fail> {
 fn lock_records_have_one_spelling(rt: HostRuntime) -> Result<(), Fail> {
     let want = "5001000000000000000100000000000000020000000a0001610001000162010178";
     let lock = async_lock(&rt)?;
-    assert!(rt; is_storable(&lock.mutation));
     let bytes = encode_lock(rt.alloc(), &lock)?;
     assert_eq!(rt; shown(&rt, &bytes)?.as_str(), want);
     let again = decode_lock(rt.alloc(), &bytes)?;

@@ -1,7 +1,7 @@
 //! The parts of lock records and write records, written as bytes: each function adds one at the end.
 ghost use Rattle.std.specs.Prelude.{◌≡◌, ◌++◌, ◌-◌, ◌<◌, ◌^◌, length, min, IfErr, OnOk};
 ghost use Rattle.tx_types.specs.Kinds.{stored_kind};
-ghost use Rattle.tx_codec.specs.Records.{IsStorable, kind_byte, key_bytes, keys_bytes, value_bytes};
+ghost use Rattle.tx_codec.specs.Records.{kind_byte, key_bytes, keys_bytes, value_bytes};
 
 use crate::marks::{DELETE, ELSEWHERE, INLINE, LOCK, PUT};
 use tx_types::{Fault, Key, Secondaries, StoredMutation, StoredValue};
@@ -23,7 +23,7 @@ pub(crate) fn value_len(mutation: &StoredMutation) -> usize
     ensures small { result < 2 ^ 17 }
 {
     match mutation {
-        StoredMutation::Put(StoredValue::Inline(value)) => 2 + value.as_bytes().len(),
+        StoredMutation::Put(StoredValue::Inline(value)) => 2 + value.as_value().as_bytes().len(),
         StoredMutation::Put(StoredValue::InDefault) => 1,
         StoredMutation::Delete | StoredMutation::Lock => 0,
     }
@@ -31,13 +31,12 @@ pub(crate) fn value_len(mutation: &StoredMutation) -> usize
 
 /// Adds what a put keeps of its value at the end.
 pub(crate) fn append_value(out: &mut Vec<u8>, mutation: &StoredMutation) -> Result<(), Fault>
-    requires { IsStorable mutation.now }
     ensures ok { OnOk result (out.new.items ≡ out.old.items ++ value_bytes mutation.now) }
     ensures err { IfErr result (λ e. e ≡ Fault.OutOfMemory) }
 {
     match mutation {
         StoredMutation::Put(StoredValue::Inline(value)) => {
-            let value = value.as_bytes();
+            let value = value.as_value().as_bytes();
             out.push(INLINE)?;
             out.push(value.len() as u8)?;
             out.extend_from_slice(value)?;

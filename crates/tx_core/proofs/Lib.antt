@@ -1,49 +1,18 @@
-mod Examples
+-- Small facts on options, numbers and keys.
 pub mod Basics
-pub mod View
-pub mod Drawing
-pub mod Beginning
-pub mod Declaring
-pub mod Reading
-pub mod Raising
-pub mod Keyed
-pub mod Locking
-pub mod HeartBeat
-pub mod Settling
-pub mod RollingBack
-pub mod Deciding
-pub mod Aborting
-pub mod Tables
-pub mod Sounds
-pub mod HistoryView
-pub mod Ends
-pub mod LockingEnds
-pub mod CellsEnds
-pub mod Pushing
-pub mod Collecting
-pub mod Meeting
-pub mod Good
-pub mod Prewrites
-pub mod Commits
-pub mod Events
-pub mod Gets
-pub mod Scans
-pub mod Rollbacks
-pub mod HeartBeats
-pub mod StaysAllowed
-pub mod AllRuns
-pub mod SecondaryChecks
-pub mod StatusChecks
-pub mod Resolves
-pub mod SafePoints
-pub mod Shown
-pub mod Told
-pub mod Beginnings
-pub mod Parts
-pub mod Staying
-pub mod StaysDecided
-pub mod Numbers
-pub mod Answering
-pub mod Recording
-pub mod Counting
-pub mod Consequences
+-- What a history says as one value, the invariant of it, and that the machine's table shows it.
+pub mod view
+-- Each elementary change of that value, proved once to keep the invariant.
+pub mod changes
+-- One file for each command: a region's answer keeps what holds of every history.
+pub mod requests
+-- The induction over every run, and what follows of decisions, acceptances and outcomes.
+pub mod runs
+-- What answers tell of locks.
+pub mod locks
+-- What stays as a history grows, and what a seat may record.
+pub mod seats
+-- A region has one answer to each request.
+pub mod unique
+-- Runs that exist, with what is decided in them and the machine's steps that are read off.
+mod examples

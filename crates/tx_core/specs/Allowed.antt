@@ -16,16 +16,16 @@ use Rattle.tx_machine.specs.Keys.{mutation_at}
 use Rattle.tx_machine.specs.Machine.{Done}
 use Rattle.tx_core.specs.declared.event.Declaration.{Declaration}
 use Rattle.tx_core.specs.Histories.{History, drawer, declared, set_at, is_first}
-use Rattle.tx_core.specs.Decisions.{Acceptance, accepted, AllAccepted, HasTwoPhaseLock, decided, HasShown}
+use Rattle.tx_core.specs.Decisions.{Acceptance, accepted, AllAccepted, HasTwoPhaseLock, decided, Shows}
 
 -- A read may pass by the locks of a transaction that is decided as aborted, or as committed above the read, or whose own lock on its
 -- primary was shown with a minimum above the read.
 abbrev pub MayPass : History → ℕ → ℕ → Type 0
-MayPass h r t = (decided h t ≡ Done Aborted) ⊎ ((c : ℕ) × (decided h t ≡ Done (Committed c)) × (r < c)) ⊎ HasShown h t r
+MayPass h r t = (decided h t ≡ Done Aborted) ⊎ ((c : ℕ) × (decided h t ≡ Done (Committed c)) × (r < c)) ⊎ ((m : ℕ) × Shows h t m × (r < m))
 
 -- A read is allowed where it may pass by each transaction that it names: without any, to anyone.
-abbrev pub MayRead : History → ℕ → List ℕ → Type 0
-MayRead h r bypass = (t : ℕ) → Contains bypass t → MayPass h r t
+abbrev pub AllowsRead : History → ℕ → List ℕ → Type 0
+AllowsRead h r bypass = (t : ℕ) → Contains bypass t → MayPass h r t
 
 -- the keys of a set but the first
 abbrev pub other_keys : List Change → List Key
@@ -37,7 +37,7 @@ abbrev pub listed_on : Declaration → Key → List Key
 listed_on d k = elim d.mode [ TwoPhase ↦ [] | Async ↦ cond (is_first d.changes k) (other_keys d.changes) [] ]
 
 -- A prewrite says what its transaction declared.
-pub record MayPrewrite (h : History) (b : Prewrite) : Type 0 where
+pub record AllowsPrewrite (h : History) (b : Prewrite) : Type 0 where
   pub of : Declaration
   pub stands : declared h b.start ≡ Some of
   pub mutation : mutation_at of.changes b.key ≡ Some b.mutation
@@ -47,8 +47,8 @@ pub record MayPrewrite (h : History) (b : Prewrite) : Type 0 where
   pub ttl : b.ttl ≡ of.ttl
   pub others : b.others ≡ listed_on of b.key
 
--- c was drawn by the seat of the transaction that started at t, after each key of its set was accepted: a number drawn after an event
--- lies above the one that was the last then
+-- c was drawn by the seat that drew t, after each key of the set was accepted. Numbers rise, so that is: c lies above the number that
+-- was the last one at each acceptance.
 pub record DrewAfterAll (h : History) (t c : ℕ) : Type 0 where
   pub seat : ℕ
   pub of_start : drawer h t ≡ Some seat
@@ -64,47 +64,47 @@ pub record MayDecide (h : History) (set : List Change) (b : Commit) : Type 0 whe
   pub drawn : DrewAfterAll h b.start b.commit
 
 -- A commit is at the timestamp that is decided, or decides.
-pub record MayCommit (h : History) (b : Commit) : Type 0 where
+pub record AllowsCommit (h : History) (b : Commit) : Type 0 where
   pub of : Declaration
   pub stands : declared h b.start ≡ Some of
   pub may : (decided h b.start ≡ Done (Committed b.commit)) ⊎ MayDecide h of.changes b
 
 -- A rollback is of a transaction that is decided as aborted, or of the primary of one that was declared two-phase.
-pub record MayRollBack (h : History) (b : BatchRollback) : Type 0 where
+pub record AllowsBatchRollback (h : History) (b : BatchRollback) : Type 0 where
   pub of : Declaration
   pub stands : declared h b.start ≡ Some of
   pub may : (decided h b.start ≡ Done Aborted) ⊎ ((of.mode ≡ TwoPhase) × (is_first of.changes b.key ≡ true))
 
 -- A status is asked of a primary; forced only where the transaction has an accepted two-phase lock.
-pub record MayCheckStatus (h : History) (b : CheckTxnStatus) : Type 0 where
+pub record AllowsCheckTxnStatus (h : History) (b : CheckTxnStatus) : Type 0 where
   pub of : Declaration
   pub stands : declared h b.start ≡ Some of
   pub primary : is_first of.changes b.key ≡ true
   pub forced : b.force_sync_commit ≡ true → HasTwoPhaseLock h b.start
 
 -- Secondary locks are checked on the keys of a transaction that was declared async.
-pub record MayCheckSecondary (h : History) (b : CheckSecondaryLocks) : Type 0 where
+pub record AllowsCheckSecondaryLocks (h : History) (b : CheckSecondaryLocks) : Type 0 where
   pub of : Declaration
   pub stands : declared h b.start ≡ Some of
   pub async : of.mode ≡ Async
   pub within : mutation_at of.changes b.key ≢ None
 
 -- A lock is resolved by what is decided of its transaction.
-pub record MayResolve (h : History) (b : ResolveLock) : Type 0 where
+pub record AllowsResolveLock (h : History) (b : ResolveLock) : Type 0 where
   pub stands : declared h b.start ≢ None
   pub decision : decided h b.start ≡ Done b.fate
 
 -- The requests that may be made after a history. What is allowed stays so, however the history goes on.
 abbrev pub Allowed : History → Body → Type 0
-Allowed h (body.Get b) = MayRead h b.at b.bypass
-Allowed h (body.Scan b) = MayRead h b.at b.bypass
-Allowed h (body.Prewrite b) = MayPrewrite h b
-Allowed h (body.Commit b) = MayCommit h b
-Allowed h (body.BatchRollback b) = MayRollBack h b
+Allowed h (body.Get b) = AllowsRead h b.at b.bypass
+Allowed h (body.Scan b) = AllowsRead h b.at b.bypass
+Allowed h (body.Prewrite b) = AllowsPrewrite h b
+Allowed h (body.Commit b) = AllowsCommit h b
+Allowed h (body.BatchRollback b) = AllowsBatchRollback h b
 Allowed h (body.TxnHeartBeat b) = declared h b.start ≢ None
-Allowed h (body.CheckTxnStatus b) = MayCheckStatus h b
-Allowed h (body.CheckSecondaryLocks b) = MayCheckSecondary h b
-Allowed h (body.ResolveLock b) = MayResolve h b
+Allowed h (body.CheckTxnStatus b) = AllowsCheckTxnStatus h b
+Allowed h (body.CheckSecondaryLocks b) = AllowsCheckSecondaryLocks h b
+Allowed h (body.ResolveLock b) = AllowsResolveLock h b
 Allowed h (body.RaiseSafe b) = Unit {0}
 Allowed h (body.LocksBelow b) = Unit {0}
 Allowed h (body.Collect b) = Unit {0}

@@ -1,5 +1,5 @@
 -- What a history decides of a transaction, read off what its events do to cells.
-use Rattle.std.specs.Prelude.{◌≡◌, ◌≢◌, ℕ, ◌<◌, ◌==◌, ◌&&◌, max, Bool, true, false, cond, List, [], ◌∷◌, Option, Some, None, bytes_eq, Contains}
+use Rattle.std.specs.Prelude.{◌≡◌, ◌≢◌, ℕ, ◌==◌, ◌&&◌, max, Bool, true, false, cond, List, [], ◌∷◌, Option, Some, None, bytes_eq, Contains}
 use Rattle.tx_types.specs.declared.key.Key.{Key}
 use Rattle.tx_types.specs.declared.mutation.Change.{Change}
 use Rattle.tx_types.specs.declared.mutation.Mode.TheVariants.{TwoPhase, Async}
@@ -9,7 +9,7 @@ use Rattle.tx_types.specs.declared.lock.LockInfo.{LockInfo}
 use Rattle.tx_plan.specs.declared.body.Body.{Body}
 use Rattle.tx_plan.specs.declared.body.Body.TheVariants.{Prewrite, Commit, BatchRollback, CheckTxnStatus, CheckSecondaryLocks, ResolveLock}
 use Rattle.tx_plan.specs.declared.answer.Answer.{Answer}
-use Rattle.tx_plan.specs.declared.answer.Answer.TheVariants.{Prewritten, Committed, RolledBack, Missing, Locked, Resolved, Locks, KeyIsLocked, LocksRemain}
+use Rattle.tx_plan.specs.declared.answer.Answer.TheVariants.{Prewritten, Committed, RolledBack, Missing, Locked, Resolved, Locks, KeyIsLocked, AlreadyRolledBack, AlreadyCommitted, LocksRemain}
 use Rattle.tx_plan.specs.Cells.{Lock, Cells}
 use Rattle.tx_plan.specs.cases.Prewrite.{lock_of}
 use Rattle.tx_machine.specs.Keys.{mutation_at}
@@ -20,8 +20,8 @@ use Rattle.tx_core.specs.Histories.{History, last, set_at, is_first, left, Among
 
 -- ---- what an event does
 
--- what an answer did for a transaction on a key: its lock was put there, the lock of the transaction that started at t was settled
--- there at c, a rollback was left for it, or none of these
+-- What an answer did to the cells, beyond what it said. A repeated answer says the same and does nothing, so acceptances and decisions
+-- are read off what was done: a lock put, the lock of the transaction that started at t settled at c, a rollback left for it, or none.
 pub data Effect : Type 0 where
   Puts : (key : Key) (lock : Lock) → Effect
   Settles : (key : Key) (t c : ℕ) → Effect
@@ -127,6 +127,17 @@ decided [] t = Open
 decided (Took x ∷ h) t = first_decided (decision (set_at h t) (accepted (Took x ∷ h) t) (effect_in h x) t) (decided h t)
 decided (_ ∷ h) t = decided h t
 
+-- ---- what is told of fates
+
+-- the fate that an answer tells of the transaction that its request names, if it tells one
+abbrev pub fate_in : Answer → Option Fate
+fate_in (Committed c) = Some (fate.Committed c)
+fate_in (AlreadyCommitted c) = Some (fate.Committed c)
+fate_in RolledBack = Some fate.Aborted
+fate_in Missing = Some fate.Aborted
+fate_in AlreadyRolledBack = Some fate.Aborted
+fate_in _ = None
+
 -- ---- what is shown of locks
 
 -- the locks that an answer tells of
@@ -137,12 +148,12 @@ infos_in (Locked info) = info ∷ []
 infos_in (Locks infos) = infos
 infos_in _ = []
 
--- an answer showed the lock of the transaction that started at t on its own primary, with a minimum above r
-pub record HasShown (h : History) (t r : ℕ) : Type 0 where
+-- an answer showed the lock of the transaction that started at t on its own primary, with the minimum m
+pub record Shows (h : History) (t m : ℕ) : Type 0 where
   pub by : Taken
   pub among : Among h (Took by)
   pub info : LockInfo
   pub told : Contains (infos_in by.answer) info
   pub primary : is_first (set_at h t) info.key ≡ true
   pub own : info.start ≡ t
-  pub above : r < info.min
+  pub min : info.min ≡ m

@@ -1,13 +1,13 @@
 -- What stands in a history: a list of events, newest first, so that `e ∷ h` is the history h and then e. A beginning of a history
 -- is a tail of it.
-use Rattle.std.specs.Prelude.{◌≡◌, ◌≢◌, ◌⊎◌, ℕ, ◌==◌, Bool, true, false, cond, List, [], ◌∷◌, Option, Some, None, bytes_eq}
+use Rattle.std.specs.Prelude.{◌≡◌, ◌⊎◌, ℕ, ◌==◌, Bool, true, false, cond, List, [], ◌∷◌, Option, Some, None, bytes_eq}
 use Rattle.tx_types.specs.declared.key.Key.{Key}
 use Rattle.tx_types.specs.declared.mutation.Change.{Change}
 use Rattle.tx_plan.specs.Cells.{Region, new_region}
 use Rattle.tx_plan.specs.Answers.{leaves}
 use Rattle.tx_core.specs.declared.event.Declaration.{Declaration}
 use Rattle.tx_core.specs.declared.event.Event.{Event}
-use Rattle.tx_core.specs.declared.event.Event.TheVariants.{Drawn, Began, Declared, Answered, Stopped, Took}
+use Rattle.tx_core.specs.declared.event.Event.TheVariants.{Drawn, Began, Declared, Answered, Took}
 
 abbrev pub History : Type 0
 History = List Event
@@ -74,26 +74,11 @@ abbrev pub Among : History → Event → Type 0
 Among [] e = ⊥
 Among (x ∷ h) e = (x ≡ e) ⊎ Among h e
 
--- l was the last number drawn at some beginning
-abbrev pub WasLast : History → ℕ → Type 0
-WasLast [] l = l ≡ 0
-WasLast (e ∷ h) l = (l ≡ last (e ∷ h)) ⊎ WasLast h l
-
 -- one history is a beginning of another
 abbrev pub Begins : History → History → Type 0
 Begins l [] = l ≡ []
 Begins l (e ∷ h) = (l ≡ e ∷ h) ⊎ Begins l h
 
--- the seat that makes an event after a history: who drew the start, for a transaction's events, and the region's, for what it takes
-abbrev pub owner : History → Event → Option ℕ
-owner h (Drawn seat n) = Some seat
-owner h (Began t) = drawer h t
-owner h (Declared d) = drawer h d.start
-owner h (Answered t outcome) = drawer h t
-owner h (Stopped seat) = Some seat
-owner h (Took x) = Some x.region
-
--- one history goes on from another, with no more events of a seat
-abbrev pub GoesOn : ℕ → History → History → Type 0
-GoesOn seat l [] = l ≡ []
-GoesOn seat l (e ∷ h) = (l ≡ e ∷ h) ⊎ (GoesOn seat l h × (owner h e ≢ Some seat))
+-- l was the last number drawn at some beginning
+abbrev pub WasLast : History → ℕ → Type 0
+WasLast h l = (b : History) × Begins b h × (l ≡ last b)

@@ -5,3 +5,4 @@ pub mod Worlds
 pub mod Shadow
 pub mod Truth
 pub mod Recording
+pub mod Laws

@@ -56,4 +56,4 @@ shadow (Began t ∷ h) = step.Begin t ∷ shadow h
 shadow (Declared d ∷ h) = step.Declare d.start d.changes ∷ shadow h
 shadow (Answered t o ∷ h) = answering t o ++ shadow h
 shadow (Stopped seat ∷ h) = shadow h
-shadow (Took x ∷ h) = reading x.body x.answer ++ (deciding_in h x (start_in x.body) ++ shadow h)
+shadow (Took x ∷ h) = deciding_in h x (start_in x.body) ++ (reading x.body x.answer ++ shadow h)

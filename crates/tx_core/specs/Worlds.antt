@@ -3,9 +3,9 @@ use Rattle.std.specs.Prelude.{◌≡◌, ◌≢◌, ◌⊎◌, ℕ, ◌<◌, ◌
 use Rattle.tx_types.specs.declared.key.Key.{Key}
 use Rattle.tx_plan.specs.declared.body.Body.{Body}
 use Rattle.tx_plan.specs.declared.body.Body.TheVariants.{Get, Scan, Prewrite, Commit, BatchRollback, TxnHeartBeat, CheckTxnStatus, CheckSecondaryLocks, ResolveLock, RaiseSafe, LocksBelow, Collect}
-use Rattle.tx_plan.specs.declared.answer.Answer.{Answer}
-use Rattle.tx_plan.specs.declared.answer.Answer.TheVariants.{Committed, AlreadyCommitted, RolledBack, Missing, AlreadyRolledBack}
-use Rattle.tx_plan.specs.Keys.{key_le}
+use Rattle.tx_types.specs.declared.mutation.Fate.{Fate}
+use Rattle.tx_types.specs.declared.mutation.Fate.TheVariants as fate
+use Rattle.tx_types.specs.Keys.{key_le}
 use Rattle.tx_plan.specs.Reads.{in_range}
 use Rattle.tx_plan.specs.Answers.{Answers, start_in}
 use Rattle.tx_machine.specs.Keys.{IsDistinct}
@@ -16,7 +16,7 @@ use Rattle.tx_core.specs.declared.event.Taken.{Taken}
 use Rattle.tx_core.specs.declared.event.Event.{Event}
 use Rattle.tx_core.specs.declared.event.Event.TheVariants.{Drawn, Began, Declared, Answered, Stopped, Took}
 use Rattle.tx_core.specs.Histories.{History, last, drawer, began, declared, answered, set_at, left, Among, WasLast}
-use Rattle.tx_core.specs.Decisions.{accepted, greatest}
+use Rattle.tx_core.specs.Decisions.{accepted, greatest, fate_in}
 use Rattle.tx_core.specs.Allowed.{Allowed}
 
 -- ---- where requests go
@@ -42,32 +42,18 @@ Holds bounds n (Collect b) = b.region ≡ n
 
 -- ---- what a session may answer
 
--- an answer that says that its transaction is committed at c
-abbrev pub TellsCommit : ℕ → Answer → Type 0
-TellsCommit c (Committed d) = d ≡ c
-TellsCommit c (AlreadyCommitted d) = d ≡ c
-TellsCommit c _ = ⊥
-
--- an answer that says that its transaction is aborted
-abbrev pub TellsAbort : Answer → Type 0
-TellsAbort RolledBack = Unit {0}
-TellsAbort Missing = Unit {0}
-TellsAbort AlreadyRolledBack = Unit {0}
-TellsAbort _ = ⊥
-
--- a request of the transaction that started at t was answered so
-pub record WasTold (h : History) (t : ℕ) (Tells : Answer → Type 0) : Type 0 where
+-- a request of the transaction that started at t was answered so that it told this fate
+pub record WasTold (h : History) (t : ℕ) (end : Fate) : Type 0 where
   pub by : Taken
   pub among : Among h (Took by)
   pub of : start_in by.body ≡ Some t
-  pub tells : Tells by.answer
+  pub tells : fate_in by.answer ≡ Some end
 
--- An answered outcome was told; a commit may also be known from the acceptances of all keys, at the greatest minimum.
+-- A fate that is answered was told; a commit may also be known from the acceptances of all keys, at the greatest minimum.
 abbrev pub MayAnswer : History → ℕ → Outcome → Type 0
-MayAnswer h t (outcome.Committed c) = WasTold h t (TellsCommit c) ⊎ (greatest (accepted h t) (set_at h t) ≡ Some c)
-MayAnswer h t outcome.Aborted = WasTold h t TellsAbort
-MayAnswer h t (outcome.Unknown cause) = Unit {0}
-MayAnswer h t outcome.ReadOnly = Unit {0}
+MayAnswer h t (outcome.Committed c) = WasTold h t (fate.Committed c) ⊎ (greatest (accepted h t) (set_at h t) ≡ Some c)
+MayAnswer h t outcome.Aborted = WasTold h t fate.Aborted
+MayAnswer h t _ = Unit {0}
 
 -- ---- what may come next
 
@@ -88,7 +74,8 @@ pub record MayTake (bounds : List Key) (h : History) (x : Taken) : Type 0 where
   pub answers : Answers (left h x.region) x.loaded (last h) x.body x.answer
 
 -- What may come after a history, over regions with these bounds. A draw gives a number above the last; a transaction begins once, at
--- a number that was drawn; it declares once and its session answers once, after it began.
+-- a number that was drawn; it declares once and its session answers once, after it began. These events name no seat: they are those of
+-- the seat that drew the start (`owner`), which alone may record them (`MayRecord`); what a region takes is its own seat's.
 abbrev pub MayCome : List Key → History → Event → Type 0
 MayCome bounds h (Drawn seat n) = last h < n
 MayCome bounds h (Began t) = (drawer h t ≢ None) × (began h t ≡ false)

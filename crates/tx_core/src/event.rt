@@ -1,8 +1,7 @@
 //! Events: the atomic steps of which every history is made. Sending is no event, and a request that is lost is an event
 //! that never comes; one that is repeated or late is an event again, or later.
-use crate::seat_no::SeatNo;
-use tx_plan::{Answer, Body, RegionNo};
-use tx_types::{Changes, Mode, Ts};
+use tx_plan::{Answer, Body};
+use tx_types::{Changes, Mode, RegionNo, SeatNo, Ts};
 
 /// What a transaction is going to commit, and how: fixed before its first prewrite.
 #[derive(Debug, Drop)]

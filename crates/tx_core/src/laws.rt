@@ -1,7 +1,47 @@
 //! Laws of histories, which callers may cite.
-ghost use Rattle.std.specs.Prelude.{◌≡◌, ℕ, length};
-ghost use Rattle.tx_core.specs.Histories.{History};
+ghost use Rattle.std.specs.Prelude.{◌≡◌, ◌≢◌, ◌++◌, ℕ, List, [], Some, None, length};
+ghost use Rattle.tx_core.specs.Allowed.{Allowed};
+ghost use Rattle.tx_core.specs.Decisions.{accepted, greatest, decided};
+ghost use Rattle.tx_core.specs.Histories.{History, set_at, Begins};
+ghost use Rattle.tx_core.specs.Laws.{WasToldOf, IsLockOf, WasPrewritten, HasPrewritten, HadAsyncLock, greatest_of};
 ghost use Rattle.tx_core.specs.Recording.{AllOfSeats, events_of};
+ghost use Rattle.tx_core.specs.Worlds.{IsWorldRun};
+ghost use Rattle.tx_machine.specs.Keys.{mutation_at};
+ghost use Rattle.tx_machine.specs.Machine.{Done};
+ghost use Rattle.tx_plan.specs.declared.body.Body.{Body};
+ghost use Rattle.tx_plan.specs.declared.body.Prewrite.{Prewrite};
+ghost use Rattle.tx_types.specs.declared.key.Key.{Key};
+ghost use Rattle.tx_types.specs.declared.lock.LockInfo.{LockInfo};
+ghost use Rattle.tx_types.specs.declared.mutation.Fate.TheVariants.{Committed};
+
+/// What is allowed after a history is allowed after each world run that goes on from it: so a request that was allowed
+/// when it was sent is allowed whenever it is taken, however late.
+pub fn allowed_stays()
+    ensures { (bounds : List Key) (more h : History) (body : Body) → IsWorldRun bounds (more ++ h) → Allowed h body → Allowed (more ++ h) body }
+{}
+
+/// Each lock that an answer told of is what `IsLockOf` says, from then on: its transaction is declared, its primary and
+/// its list are the declared ones, and its mode and minimum are those that were accepted. That stays so.
+pub fn told_lock()
+    ensures is { (bounds : List Key) (h : History) (info : LockInfo) → IsWorldRun bounds h → WasToldOf h info → IsLockOf h info }
+    ensures stays { (bounds : List Key) (l h : History) (info : LockInfo) → IsWorldRun bounds h → Begins l h → IsLockOf l info → IsLockOf h info }
+{}
+
+/// So is the lock of each prewrite that was accepted, and its minimum is the one that the answer named.
+pub fn prewritten_lock()
+    ensures { (bounds : List Key) (h : History) (b : Prewrite) (m : ℕ) → IsWorldRun bounds h → WasPrewritten h b m → HasPrewritten h b m }
+{}
+
+/// Where each key of a transaction had an async lock, whenever that was, the transaction is committed at the greatest of
+/// their minimums, and its session may answer so.
+pub fn decided_async()
+    ensures decided { (bounds : List Key) (h : History) (t : ℕ) (min : Key → ℕ) → IsWorldRun bounds h → set_at h t ≢ []
+        → ((k : Key) → mutation_at (set_at h t) k ≢ None → HadAsyncLock h t k (min k))
+        → decided h t ≡ Done (Committed (greatest_of min (set_at h t))) }
+    ensures accepted { (bounds : List Key) (h : History) (t : ℕ) (min : Key → ℕ) → IsWorldRun bounds h → set_at h t ≢ []
+        → ((k : Key) → mutation_at (set_at h t) k ≢ None → HadAsyncLock h t k (min k))
+        → greatest (accepted h t) (set_at h t) ≡ Some (greatest_of min (set_at h t)) }
+{}
 
 /// Where each event of a history is of a seat below n, the history is as long as the parts of these seats together.
 pub fn parts_make_the_whole()

@@ -3,20 +3,17 @@
 //! words.
 #![tactic(auto)]
 
+mod answers;
 mod event;
 mod headline;
 mod laws;
-mod seat_no;
-mod stays;
-#[cfg(test)]
-mod tests;
 
+pub use answers::one_answer;
 pub use event::{Declaration, Event, Outcome, Taken, UnknownCause};
 pub use headline::every_run;
-pub use laws::parts_make_the_whole;
-pub use seat_no::SeatNo;
-pub use stays::allowed_stays;
+pub use laws::{allowed_stays, decided_async, parts_make_the_whole, prewritten_lock, told_lock};
 pub use tx_plan::{
     Answer, BatchRollback, Body, CheckSecondaryLocks, CheckTxnStatus, Collect, Commit, Get, Infos,
     LocksBelow, Prewrite, RaiseSafe, RegionNo, ResolveLock, Scan, Starts, TxnHeartBeat,
 };
+pub use tx_types::SeatNo;

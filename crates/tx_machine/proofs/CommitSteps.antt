@@ -16,7 +16,8 @@ use Rattle.tx_machine.specs.declared.machine.Stage.{Stage}
 use Rattle.tx_machine.specs.declared.machine.Stage.TheVariants.{Drawn, Begun, Declared}
 use Rattle.tx_machine.specs.declared.reads.Reads.{Reads}
 use Rattle.tx_machine.specs.declared.step.Step.TheVariants.{Commit}
-use Rattle.tx_machine.specs.Keys.{mutation_at, IsDistinct, IsVisible}
+use Rattle.tx_types.specs.Keys.{IsVisible}
+use Rattle.tx_machine.specs.Keys.{mutation_at, IsDistinct}
 use Rattle.tx_machine.specs.Machine.{State, Open, Done, Row, Rows, Table, Commits, Overlap, IsRead, MayCommit, Admits, after, with_row, changes_in}
 use Rattle.tx_machine.specs.Histories.{History, Fates, Listed, IsOrderly}
 use Rattle.tx_machine.specs.Noted.{IsNoted}

@@ -13,7 +13,8 @@ use Rattle.tx_types.specs.declared.mutation.Change.{Change}
 use Rattle.tx_types.specs.declared.mutation.Mutation.{Mutation}
 use Rattle.tx_machine.specs.declared.history.Version.{Version}
 use Rattle.tx_machine.specs.declared.reads.Reads.{Reads}
-use Rattle.tx_machine.specs.Keys.{mutation_at, IsDistinct, IsVisible}
+use Rattle.tx_types.specs.Keys.{IsVisible}
+use Rattle.tx_machine.specs.Keys.{mutation_at, IsDistinct}
 use Rattle.tx_machine.specs.Machine.{Overlap}
 use Rattle.tx_machine.specs.Histories.{History, Fates}
 use Rattle.tx_machine.specs.Noted.{IsNoted}

@@ -12,7 +12,8 @@ use Rattle.tx_machine.specs.declared.machine.Stage.{Stage}
 use Rattle.tx_machine.specs.declared.reads.Reads.{Reads}
 use Rattle.tx_machine.specs.declared.step.ScanRead.{ScanRead}
 use Rattle.tx_machine.specs.declared.step.Step.TheVariants.{Read, Scan}
-use Rattle.tx_machine.specs.Keys.{IsVisible, value_in, covered, key_le, key_lt, reaches}
+use Rattle.tx_types.specs.Keys.{key_lt, key_le, value_in, reaches, IsVisible}
+use Rattle.tx_machine.specs.Keys.{covered}
 use Rattle.tx_machine.specs.Machine.{Table, Commits, Newest, NoneBetween, Sees, SeesRows, IsRead, Reading, Admits, after, with_read}
 use Rattle.tx_machine.specs.Histories.{History, Fates, Listed, BareBetween, NewestIn, SeenIn}
 use Rattle.tx_machine.specs.Noted.{IsNoted, Grows, AddsRead, SameReads, EndsWithin}

@@ -22,7 +22,8 @@ use Rattle.tx_types.specs.declared.key.Key.{Key}
 use Rattle.tx_types.specs.declared.value.Value.{Value}
 use Rattle.tx_types.specs.declared.mutation.KeyValue.{KeyValue}
 use Rattle.tx_machine.specs.declared.step.ScanRead.{ScanRead}
-use Rattle.tx_machine.specs.Keys.{key_lt, key_le, value_in, IsRising, reaches, covered}
+use Rattle.tx_types.specs.Keys.{key_lt, key_le, IsRising, value_in, reaches}
+use Rattle.tx_machine.specs.Keys.{covered}
 use Rattle.tx_machine.specs.Histories.{History, Fates, SeenIn}
 use Rattle.tx_machine.specs.Shown.{Index, SeenOf, Shows, ShowsRows}
 use Rattle.tx_machine.specs.Scans.{IsKeyWithin, IsBare, IsNextRow}

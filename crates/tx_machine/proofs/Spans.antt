@@ -13,7 +13,8 @@ use Rattle.tx_types.specs.declared.key.Key.{Key}
 use Rattle.tx_types.specs.declared.mutation.KeyValue.{KeyValue}
 use Rattle.tx_machine.specs.declared.step.ScanRead.{ScanRead}
 use Rattle.tx_machine.specs.declared.reads.Span.{Span}
-use Rattle.tx_machine.specs.Keys.{key_lt, key_le, IsRising, reaches, covered}
+use Rattle.tx_types.specs.Keys.{key_lt, key_le, IsRising, reaches}
+use Rattle.tx_machine.specs.Keys.{covered}
 use Rattle.tx_machine.specs.Noted.{span_covers}
 
 less_is : (o : Ordering) → is_lt o ≡ true → o ≡ Less

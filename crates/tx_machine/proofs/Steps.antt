@@ -11,7 +11,8 @@ use Rattle.tx_machine.specs.declared.history.Version.{Version}
 use Rattle.tx_machine.specs.declared.machine.Stage.{Stage}
 use Rattle.tx_machine.specs.declared.machine.Stage.TheVariants.{Drawn, Begun, Declared}
 use Rattle.tx_machine.specs.declared.step.Step.TheVariants.{Begin, Declare, Commit, Abort}
-use Rattle.tx_machine.specs.Keys.{mutation_at, IsDistinct, IsVisible}
+use Rattle.tx_types.specs.Keys.{IsVisible}
+use Rattle.tx_machine.specs.Keys.{mutation_at, IsDistinct}
 use Rattle.tx_machine.specs.Machine.{State, Open, Done, Row, Rows, Table, Commits, Overlap, IsRead, MayCommit, Admits, after, empty, changes_in, with_row}
 use Rattle.tx_machine.specs.Stands.{row_of, state_of, ListsCommits, KeepsReads, Tells}
 use Rattle.tx_machine.proofs.Basics.{nat_test, cond_true, cond_false, some_same, nat_same, none_is}
@@ -167,19 +168,19 @@ module _ (last : ℕ) (stages : ℕ → Option Stage) (fates : ℕ → Option Fa
     )
 
   module _ (t : ℕ) (set : List Change) (stage : stages t ≡ Some Begun) (open_ : fates t ≡ None) (some : set ≢ []) (distinct : IsDistinct set)
-      (new : ℕ → Option Stage) (copy : List Change) (same : copy ≡ set) (was : (q : ℕ) → new q ≡ cond (is_eq (nat_cmp t q)) (Some (Declared copy)) (stages q)) where
+      (new : ℕ → Option Stage) (put : Stage) (same : put ≡ Declared set) (was : (q : ℕ) → new q ≡ cond (is_eq (nat_cmp t q)) (Some put) (stages q)) where
     begun_row : table.row t ≡ Some record { changes = None; state = Open }
     begun_row = tells.row t ∙ (ap (λ (s : Option Stage). row_of s (fates t)) stage ∙ ap (row_of (Some Begun)) open_)
 
     now_declared : new t ≡ Some (Declared set)
-    now_declared = at new stages t (Declared copy) was t ∙ (cond_true _ _ _ (nat_same t) ∙ ap (λ (xs : List Change). Some (Declared xs)) same)
+    now_declared = at new stages t put was t ∙ (cond_true _ _ _ (nat_same t) ∙ ap (λ (s : Stage). Some s) same)
 
     pub declares : Admits table (Declare t set) × Tells last new fates versions noted (after table (Declare t set))
     declares = (
       (begun_row, some, distinct),
       one_row t (Some set) Open new fates versions
           (ap (λ (s : Option Stage). row_of s (fates t)) now_declared ∙ ap (row_of (Some (Declared set))) open_)
-          (λ q e. at new stages t (Declared copy) was q ∙ cond_false _ _ _ e)
+          (λ q e. at new stages t put was q ∙ cond_false _ _ _ e)
           (λ q e. refl)
           (ap (is_some {T = Stage}) now_declared ∙ sym (ap (is_some {T = Stage}) stage))
           (λ xs e. subst (λ (ys : List Change). IsDistinct ys) (some_same _ _ e) distinct)

@@ -11,7 +11,8 @@ use Rattle.tx_types.specs.declared.mutation.Fate.TheVariants.{Committed, Aborted
 use Rattle.tx_machine.specs.declared.step.ScanRead.{ScanRead}
 use Rattle.tx_machine.specs.declared.step.Step.{Step}
 use Rattle.tx_machine.specs.declared.step.Step.TheVariants.{Draw, Begin, Declare, Commit, Abort, Read, Scan, Answer}
-use Rattle.tx_machine.specs.Keys.{mutation_at, IsDistinct, IsVisible, value_in, IsRising, covered}
+use Rattle.tx_types.specs.Keys.{IsRising, value_in, IsVisible}
+use Rattle.tx_machine.specs.Keys.{mutation_at, IsDistinct, covered}
 
 -- what has become of a transaction
 pub data State : Type 0 where

@@ -9,7 +9,7 @@ use Rattle.tx_types.specs.declared.mutation.KeyValue.{KeyValue}
 use Rattle.tx_machine.specs.declared.step.ScanRead.{ScanRead}
 use Rattle.tx_machine.specs.declared.reads.Span.{Span}
 use Rattle.tx_machine.specs.declared.reads.Reads.{Reads}
-use Rattle.tx_machine.specs.Keys.{key_lt, key_le}
+use Rattle.tx_types.specs.Keys.{key_lt, key_le}
 
 -- the keys of a span
 abbrev pub span_covers : Span → Key → Bool

@@ -7,7 +7,8 @@ use Rattle.std.specs.BTreeMap.{BTreeMap}
 use Rattle.tx_types.specs.declared.key.Key.{Key}
 use Rattle.tx_types.specs.declared.value.Value.{Value}
 use Rattle.tx_machine.specs.declared.step.ScanRead.{ScanRead}
-use Rattle.tx_machine.specs.Keys.{value_in, IsRising, covered}
+use Rattle.tx_types.specs.Keys.{IsRising, value_in}
+use Rattle.tx_machine.specs.Keys.{covered}
 use Rattle.tx_machine.specs.Histories.{History, Fates, SeenIn}
 
 -- the versions of each key

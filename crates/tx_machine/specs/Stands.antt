@@ -14,7 +14,8 @@ use Rattle.tx_machine.specs.declared.machine.Stage.TheVariants.{Drawn, Begun, De
 use Rattle.tx_machine.specs.declared.machine.Machine.{Machine}
 use Rattle.tx_machine.specs.declared.reads.Reads.{Reads}
 use Rattle.tx_machine.specs.declared.step.Step.{Step}
-use Rattle.tx_machine.specs.Keys.{mutation_at, IsVisible, IsDistinct}
+use Rattle.tx_types.specs.Keys.{IsVisible}
+use Rattle.tx_machine.specs.Keys.{mutation_at, IsDistinct}
 use Rattle.tx_machine.specs.Machine.{State, Open, Done, Row, Rows, Reading, Table, Commits, Overlap, IsRead, Admits, after}
 use Rattle.tx_machine.specs.Histories.{Fates, History, Listed, IsOrderly}
 use Rattle.tx_machine.specs.Noted.{IsNoted}

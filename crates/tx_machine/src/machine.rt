@@ -4,7 +4,7 @@
 //! are listed by key and commit timestamp, reads by key and by timestamp, so that a step costs about the logarithm of what was
 //! before. A commit lists its versions first and ends the transaction last: where memory is refused in between, the versions
 //! stand for nothing, since their transaction is not committed.
-ghost use Rattle.std.specs.Prelude.{◌≡◌, ◌↔◌, true, false, List, Option, Some, None, IsTrue, OnOk, OnErr, IsErrOf};
+ghost use Rattle.std.specs.Prelude.{◌≡◌, ◌↔◌, true, false, List, Option, Some, None, IsTrue, IfOk, IfErr, OnOk, OnErr, IsErrOf};
 ghost use Rattle.std.specs.Cmp.Lexicographic.{slice_cmp};
 ghost use Rattle.std.specs.Ordering.{nat_cmp};
 ghost use Rattle.std.specs.BTreeMap as tree;
@@ -147,7 +147,7 @@ impl Machine {
         if !has_distinct_keys(self.alloc, set.as_slice())? {
             return Err(Refused::Step);
         }
-        self.stages.insert(t, Stage::Declared(set.clone()?))?;
+        self.stages.insert(t, declared(set)?)?;
         Ok(())
     }
 
@@ -248,6 +248,14 @@ fn is_open(stages: &BTreeMap<Ts, Stage>, fates: &Fates, t: Ts) -> bool
         Some(Stage::Begun) => fates.get(&t).is_none(),
         _ => false,
     }
+}
+
+// The stage of a transaction that declares a write set.
+fn declared(set: &Changes) -> Result<Stage, Fault>
+    ensures ok { IfOk result (λ stage. stage ≡ Stage.Declared set.now) }
+    ensures err { IfErr result (λ e. e ≡ Fault.OutOfMemory) }
+{
+    Ok(Stage::Declared(set.clone()?))
 }
 
 // Whether a read of the key at this timestamp gives this.

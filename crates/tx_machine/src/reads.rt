@@ -12,10 +12,9 @@ ghost use Rattle.tx_types.specs.declared.key.Key.{Key};
 ghost use Rattle.tx_machine.specs.Noted.{IsNoted, AddsRead, SameReads, span_covers, key_test};
 
 use crate::history::first_above;
-use std::alloc::{AllocError, Global};
+use std::alloc::Global;
 use std::collections::BTreeMap;
-use std::marker::Model;
-use tx_types::{Fault, Key, Ts};
+use tx_types::{Fault, Items, Key, Ts};
 
 /// The keys from one up to another, which is among them where the span is closed.
 #[derive(Drop)]
@@ -33,50 +32,18 @@ impl Span {
     }
 }
 
-/// Spans that were read at one timestamp.
-#[derive(Drop)]
-pub(crate) struct Spans {
-    items: Vec<Span>,
-}
-
-impl Model for Spans {
-    ghost use Rattle.std.specs.Prelude.{List};
-    ghost use Rattle.tx_machine.specs.declared.reads.Span.{Span};
-
-    ghost Value = { List Span };
-
-    ghost view = { λ s. s.items.items };
-}
-
-impl Spans {
-    fn new(alloc: Global) -> Spans
-        ensures { result ≡ [] }
-    {
-        Spans {
-            items: Vec::new(alloc),
-        }
-    }
-
-    fn push(&mut self, span: Span) -> Result<(), AllocError>
-        ensures ok { OnOk result (self.new ≡ self.old ++ span ∷ []) }
-        ensures same { OnErr result (self.new ≡ self.old) }
-    {
-        self.items.push(span)?;
-        Ok(())
-    }
-
-    fn cover(&self, key: &Key) -> bool
-        ensures { result ≡ list_any (λ span. span_covers span key.now) self.now }
-    {
-        self.items.iter().any(|span| span.covers(key))
-    }
+// Whether one of the spans has the key.
+fn cover(spans: &Items<Span>, key: &Key) -> bool
+    ensures { result ≡ list_any (λ span. span_covers span key.now) spans.now }
+{
+    spans.as_slice().iter().any(|span| span.covers(key))
 }
 
 /// The reads that were made.
 #[derive(Drop)]
 pub(crate) struct Reads {
     points: BTreeMap<Key, Ts>,
-    spans: BTreeMap<Ts, Spans>,
+    spans: BTreeMap<Ts, Items<Span>>,
 }
 
 impl Reads {
@@ -106,7 +73,7 @@ impl Reads {
             × (list_any (λ span. span_covers span key.now) spans ≡ true)) }
     {
         match self.spans.get(&at) {
-            Some(spans) => spans.cover(key),
+            Some(spans) => cover(spans, key),
             None => false,
         }
     }
@@ -124,7 +91,7 @@ impl Reads {
             let Some(next) = first_above(&self.spans, Ts::new(bound)) else {
                 return false;
             };
-            if next.1.cover(key) {
+            if cover(next.1, key) {
                 return true;
             }
             bound = next.0.get();
@@ -158,19 +125,20 @@ impl Reads {
 // Adds a span to those at a timestamp.
 fn push_at(
     alloc: Global,
-    spans: &mut BTreeMap<Ts, Spans>,
+    spans: &mut BTreeMap<Ts, Items<Span>>,
     at: Ts,
     span: Span,
-) -> Result<(), AllocError>
+) -> Result<(), Fault>
     ensures ok { OnOk result ((q : ℕ) → tree.get nat_cmp spans.new q
         ≡ cond (at == q) (Some (unwrap_or (tree.get nat_cmp spans.old at) [] ++ span ∷ [])) (tree.get nat_cmp spans.old q)) }
     ensures same { OnErr result ((q : ℕ) → tree.get nat_cmp spans.new q ≡ tree.get nat_cmp spans.old q) }
+    ensures err { IfErr result (λ e. e ≡ Fault.OutOfMemory) }
 {
     if let Some(there) = spans.get_mut(&at) {
         there.push(span)?;
         return Ok(());
     }
-    let mut first = Spans::new(alloc);
+    let mut first = Items::new(alloc);
     first.push(span)?;
     spans.insert(at, first)?;
     Ok(())

@@ -1,7 +1,8 @@
 //! The span of keys that a scan covered.
 ghost use Rattle.std.specs.Prelude.{◌≡◌, ◌↔◌, IfOk, IfErr, IsTrue};
 ghost use Rattle.tx_types.specs.declared.key.Key.{Key};
-ghost use Rattle.tx_machine.specs.Keys.{covered, IsRising};
+ghost use Rattle.tx_types.specs.Keys.{IsRising};
+ghost use Rattle.tx_machine.specs.Keys.{covered};
 ghost use Rattle.tx_machine.specs.Noted.{covers_of, EndsWithin};
 
 use crate::reads::Span;

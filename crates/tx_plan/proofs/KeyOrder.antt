@@ -9,7 +9,7 @@ use Rattle.std.proofs.lemmas.Cmp.{nat_list_cmp_total, tied_itself}
 use Rattle.std.proofs.lemmas.Map.Text.{is_eq-slice_cmp}
 use Rattle.std.proofs.lemmas.Slice.Eq.{bytes_eq-Decides}
 use Rattle.tx_types.specs.declared.key.Key.{Key}
-use Rattle.tx_plan.specs.Keys.{key_lt, key_le}
+use Rattle.tx_types.specs.Keys.{key_lt, key_le}
 
 pub same_key : (j k : Key) → bytes_eq j k ≡ true → j ≡ k
 same_key j k e = (bytes_eq-Decides j k).0 e

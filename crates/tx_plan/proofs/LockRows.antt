@@ -4,7 +4,7 @@ use Rattle.std.specs.Prelude.{IsTrue, bytes_eq, nat_lt, Contains}
 use Rattle.std.proofs.lemmas.Bool.{cases_Bool, lt-ltb, le-ltb, ltb-true}
 use Rattle.tx_types.specs.declared.key.Key.{Key}
 use Rattle.tx_types.specs.declared.lock.LockInfo.{LockInfo}
-use Rattle.tx_plan.specs.Keys.{key_lt}
+use Rattle.tx_types.specs.Keys.{key_lt}
 use Rattle.tx_plan.specs.Cells.{Lock, Cells, info_of}
 use Rattle.tx_plan.specs.Walks.{LockRow, LocksInOrder, lock_by, IsLockWalk}
 use Rattle.tx_plan.specs.cases.LocksBelow.{IsLockBelow, AreRising, AllBelow}

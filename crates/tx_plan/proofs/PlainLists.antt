@@ -12,7 +12,8 @@ use Rattle.tx_types.specs.declared.mutation.Mutation.TheVariants as mutation
 use Rattle.tx_plan.specs.declared.plain.records.PlainLock.{PlainLock}
 use Rattle.tx_plan.specs.declared.plain.records.PlainWrite.{PlainWrite}
 use Rattle.tx_plan.specs.Cells as cells
-use Rattle.tx_plan.specs.Cells.{CommitRecord, CommitOf, Write, IsVisible}
+use Rattle.tx_types.specs.Keys.{IsVisible}
+use Rattle.tx_plan.specs.Cells.{CommitRecord, CommitOf, Write}
 use Rattle.tx_plan.specs.Whole.{whole_write}
 use Rattle.tx_plan.specs.Plain.{first, is_at, is_commit, is_own, is_seen, falls_below, is_below, is_falling, plain_cells}
 use Rattle.tx_plan.specs.cases.Collect.{is_visible}

@@ -5,7 +5,7 @@ use Rattle.std.proofs.lemmas.Bool.{cases_Bool, cases_lt, lt-ltb, le-ltb, eq-eqb,
 use Rattle.std.proofs.lemmas.List.Elements.{Contains-append_left, Contains-append_right, Contains-append_cases}
 use Rattle.tx_types.specs.declared.key.Key.{Key}
 use Rattle.tx_plan.specs.declared.plan.collect_region.KeyDrop.{KeyDrop}
-use Rattle.tx_plan.specs.Keys.{key_lt}
+use Rattle.tx_types.specs.Keys.{key_lt}
 use Rattle.tx_plan.specs.Cells.{Write, Cells, no_cells, is_long}
 use Rattle.tx_plan.specs.Walks.{KeyRow, AreInOrder, IsWalk, every_key}
 use Rattle.tx_plan.specs.cases.Collect.{keeps, kept, commit_is, IsDropped, AllDropped, long_values}

@@ -8,7 +8,7 @@ use Rattle.tx_types.specs.declared.mutation.KeyValue.{KeyValue}
 use Rattle.tx_plan.specs.declared.body.Scan.{Scan}
 use Rattle.tx_plan.specs.declared.answer.Answer.{Answer}
 use Rattle.tx_plan.specs.declared.answer.Answer.TheVariants.{Rows, KeyIsLocked}
-use Rattle.tx_plan.specs.Keys.{key_lt, key_le, IsRising, value_in, reaches}
+use Rattle.tx_types.specs.Keys.{key_lt, key_le, IsRising, value_in, reaches}
 use Rattle.tx_plan.specs.Cells.{Lock, Cells, no_cells, info_of}
 use Rattle.tx_plan.specs.Reads.{Blocks, Finds, Reads, Walked, in_range, covered, raised}
 use Rattle.tx_plan.specs.Walks.{KeyRow, AreInOrder, IsWalk}

@@ -2,7 +2,7 @@
 use Rattle.std.proofs.Common.{◌≡◌, refl, ◌∙◌, subst, Bool, true, false, List, [], ◌∷◌}
 use Rattle.std.specs.Prelude.{IsTrue}
 use Rattle.tx_types.specs.declared.key.Key.{Key}
-use Rattle.tx_plan.specs.Keys.{key_lt}
+use Rattle.tx_types.specs.Keys.{key_lt}
 use Rattle.tx_plan.specs.Cells.{Cells, no_cells}
 use Rattle.tx_plan.specs.Walks.{KeyRow, AreInOrder, KeysPass, cells_by, IsWalk}
 use Rattle.tx_plan.proofs.KeyOrder.{lt_trans, key_same, other_key, lt_itself}

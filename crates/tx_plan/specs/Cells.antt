@@ -55,12 +55,6 @@ no_cells = record { lock = None; write = λ c. None }
 abbrev pub new_region : Region
 new_region = record { cells = λ k. no_cells; max_read = 0; safe = 0; collected = 0 }
 
--- reads see puts and deletes, and no locks
-abbrev pub IsVisible : Mutation → Type 0
-IsVisible (mutation.Put v) = Unit {0}
-IsVisible mutation.Delete = Unit {0}
-IsVisible mutation.Lock = ⊥
-
 -- whether a mutation puts a value of more than 255 bytes: a store keeps such a value apart, in the `default` family, under the
 -- key and the start of its transaction, as long as the lock or the commit record that puts it stands
 abbrev pub is_long : Mutation → Bool

@@ -1,4 +1,3 @@
-pub mod Keys
 pub mod Cells
 pub mod Reads
 pub mod Traces

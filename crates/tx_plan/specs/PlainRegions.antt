@@ -4,7 +4,7 @@ use Rattle.tx_types.specs.declared.key.Key.{Key}
 use Rattle.tx_plan.specs.declared.plain.records.PlainLock.{PlainLock}
 use Rattle.tx_plan.specs.declared.plain.cells.PlainCells.{PlainCells}
 use Rattle.tx_plan.specs.declared.plain.region.PlainRow.{PlainRow}
-use Rattle.tx_plan.specs.Keys.{key_lt, key_le}
+use Rattle.tx_types.specs.Keys.{key_lt, key_le}
 use Rattle.tx_plan.specs.Cells.{Cells}
 use Rattle.tx_plan.specs.Plain.{plain_cells}
 use Rattle.tx_plan.specs.Walks.{KeyRow, LockRow}

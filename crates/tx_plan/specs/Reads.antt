@@ -1,5 +1,5 @@
 -- What a read finds on a key, and which locks stop it.
-use Rattle.std.specs.Prelude.{◌≡◌, ◌&&◌, ◌||◌, ℕ, ◌<◌, ◌≤◌, max, Bool, List, length, nat_lt, Option, Some, None, Contains, IsTrue}
+use Rattle.std.specs.Prelude.{◌≡◌, ℕ, ◌<◌, ◌≤◌, max, Bool, List, Option, Some, None, Contains, IsTrue}
 use Rattle.tx_types.specs.declared.key.Key.{Key}
 use Rattle.tx_types.specs.declared.value.Value.{Value}
 use Rattle.tx_types.specs.declared.mutation.KeyValue.{KeyValue}
@@ -7,8 +7,8 @@ use Rattle.tx_types.specs.declared.mutation.Mutation.TheVariants.{Put}
 use Rattle.tx_plan.specs.declared.body.Scan.{Scan}
 use Rattle.tx_plan.specs.declared.answer.Answer.{Answer}
 use Rattle.tx_plan.specs.declared.answer.Answer.TheVariants.{Found, Nothing, Rows, KeyIsLocked}
-use Rattle.tx_plan.specs.Keys.{key_le, key_lt, IsRising, value_in, reaches}
-use Rattle.tx_plan.specs.Cells.{Lock, CommitRecord, CommitOf, Writes, Cells, IsVisible}
+use Rattle.tx_types.specs.Keys.{is_between, IsRising, value_in, is_scanned, IsVisible}
+use Rattle.tx_plan.specs.Cells.{Lock, CommitRecord, CommitOf, Writes, Cells}
 
 -- a lock blocks a read at r where it puts or deletes, its minimum is at most r, and its transaction is not passed by
 pub record Blocks (standing : Option Lock) (r : ℕ) (bypass : List ℕ) (lock : Lock) : Type 0 where
@@ -42,11 +42,11 @@ read_answer None = Nothing
 
 -- a scan's range
 abbrev pub in_range : Scan → Key → Bool
-in_range b k = key_le b.from k && key_lt k b.to
+in_range b k = is_between b.from b.to k
 
 -- the keys that a scan covers: its range, or where the limit ended it the part up to the last row
 abbrev pub covered : Scan → List KeyValue → Key → Bool
-covered b rows k = in_range b k && (nat_lt (length rows) b.limit || reaches rows k)
+covered b rows k = is_scanned b.from b.to b.limit rows k
 
 -- some keys were walked: no lock blocks there, and the rows, in order, are what reads of them give
 pub record Walked (cells : Key → Cells) (r : ℕ) (bypass : List ℕ) (within : Key → Bool) (rows : List KeyValue) : Type 0 where

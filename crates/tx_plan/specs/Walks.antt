@@ -2,7 +2,7 @@
 use Rattle.std.specs.Prelude.{◌≡◌, Bool, true, cond, List, [], ◌∷◌, drop, Option, Some, None, bytes_eq, IsTrue}
 use Rattle.tx_types.specs.declared.lock.LockRec.{LockRec}
 use Rattle.tx_types.specs.declared.key.Key.{Key}
-use Rattle.tx_plan.specs.Keys.{key_lt}
+use Rattle.tx_types.specs.Keys.{key_lt}
 use Rattle.tx_plan.specs.Cells.{Lock, Cells, no_cells}
 use Rattle.tx_plan.specs.Stored.{KeepsLock}
 

@@ -2,11 +2,10 @@
 ghost use Rattle.std.specs.Prelude.{◌≡◌, IfOk, IfErr};
 
 use crate::lists::Starts;
-use crate::region_no::RegionNo;
-use tx_types::{Fate, Fault, Key, Mode, Mutation, Secondaries, Ts};
+use tx_types::{Fate, Fault, Key, Mode, Mutation, RegionNo, Secondaries, Ts};
 
 /// Asks for the value of a key at a timestamp.
-#[derive(Debug, Drop)]
+#[derive(Clone, Debug, Drop)]
 pub struct Get {
     pub key: Key,
     pub at: Ts,
@@ -14,24 +13,8 @@ pub struct Get {
     pub bypass: Starts,
 }
 
-impl Get {
-    /// The same.
-    pub fn clone(&self) -> Result<Get, Fault>
-        ensures ok { IfOk result (λ copy. copy ≡ self.now) }
-        ensures err { IfErr result (λ e. e ≡ Fault.OutOfMemory) }
-    {
-        let key = self.key.clone()?;
-        let bypass = self.bypass.clone()?;
-        Ok(Get {
-            key,
-            at: self.at,
-            bypass,
-        })
-    }
-}
-
 /// Asks for the first `limit` keys with a value at a timestamp, from `from` up to but not including `to`.
-#[derive(Debug, Drop)]
+#[derive(Clone, Debug, Drop)]
 pub struct Scan {
     pub from: Key,
     pub to: Key,
@@ -41,27 +24,8 @@ pub struct Scan {
     pub bypass: Starts,
 }
 
-impl Scan {
-    /// The same.
-    pub fn clone(&self) -> Result<Scan, Fault>
-        ensures ok { IfOk result (λ copy. copy ≡ self.now) }
-        ensures err { IfErr result (λ e. e ≡ Fault.OutOfMemory) }
-    {
-        let from = self.from.clone()?;
-        let to = self.to.clone()?;
-        let bypass = self.bypass.clone()?;
-        Ok(Scan {
-            from,
-            to,
-            at: self.at,
-            limit: self.limit,
-            bypass,
-        })
-    }
-}
-
 /// Asks for a lock on a key, as the first phase of a commit.
-#[derive(Debug, Drop)]
+#[derive(Clone, Debug, Drop)]
 pub struct Prewrite {
     pub key: Key,
     pub mutation: Mutation,
@@ -77,75 +41,23 @@ pub struct Prewrite {
     pub others: Secondaries,
 }
 
-impl Prewrite {
-    /// The same.
-    pub fn clone(&self) -> Result<Prewrite, Fault>
-        ensures ok { IfOk result (λ copy. copy ≡ self.now) }
-        ensures err { IfErr result (λ e. e ≡ Fault.OutOfMemory) }
-    {
-        let key = self.key.clone()?;
-        let mutation = self.mutation.clone()?;
-        let primary = self.primary.clone()?;
-        let others = self.others.clone()?;
-        Ok(Prewrite {
-            key,
-            mutation,
-            start: self.start,
-            primary,
-            mode: self.mode,
-            max_commit: self.max_commit,
-            ttl: self.ttl,
-            others,
-        })
-    }
-}
-
 /// Asks that a transaction's lock on a key become a commit record.
-#[derive(Debug, Drop)]
+#[derive(Clone, Debug, Drop)]
 pub struct Commit {
     pub key: Key,
     pub start: Ts,
     pub commit: Ts,
 }
 
-impl Commit {
-    /// The same.
-    pub fn clone(&self) -> Result<Commit, Fault>
-        ensures ok { IfOk result (λ copy. copy ≡ self.now) }
-        ensures err { IfErr result (λ e. e ≡ Fault.OutOfMemory) }
-    {
-        let key = self.key.clone()?;
-        Ok(Commit {
-            key,
-            start: self.start,
-            commit: self.commit,
-        })
-    }
-}
-
 /// Asks that a transaction be rolled back on a key.
-#[derive(Debug, Drop)]
+#[derive(Clone, Debug, Drop)]
 pub struct BatchRollback {
     pub key: Key,
     pub start: Ts,
 }
 
-impl BatchRollback {
-    /// The same.
-    pub fn clone(&self) -> Result<BatchRollback, Fault>
-        ensures ok { IfOk result (λ copy. copy ≡ self.now) }
-        ensures err { IfErr result (λ e. e ≡ Fault.OutOfMemory) }
-    {
-        let key = self.key.clone()?;
-        Ok(BatchRollback {
-            key,
-            start: self.start,
-        })
-    }
-}
-
 /// Asks that a transaction's lock on its primary live at least so long.
-#[derive(Debug, Drop)]
+#[derive(Clone, Debug, Drop)]
 pub struct TxnHeartBeat {
     pub key: Key,
     pub start: Ts,
@@ -153,23 +65,8 @@ pub struct TxnHeartBeat {
     pub ttl: u32,
 }
 
-impl TxnHeartBeat {
-    /// The same.
-    pub fn clone(&self) -> Result<TxnHeartBeat, Fault>
-        ensures ok { IfOk result (λ copy. copy ≡ self.now) }
-        ensures err { IfErr result (λ e. e ≡ Fault.OutOfMemory) }
-    {
-        let key = self.key.clone()?;
-        Ok(TxnHeartBeat {
-            key,
-            start: self.start,
-            ttl: self.ttl,
-        })
-    }
-}
-
 /// Asks the primary what has become of its transaction, and pushes or rolls back its lock where that is due.
-#[derive(Debug, Drop)]
+#[derive(Clone, Debug, Drop)]
 pub struct CheckTxnStatus {
     pub key: Key,
     pub start: Ts,
@@ -183,66 +80,19 @@ pub struct CheckTxnStatus {
     pub force_sync_commit: bool,
 }
 
-impl CheckTxnStatus {
-    /// The same.
-    pub fn clone(&self) -> Result<CheckTxnStatus, Fault>
-        ensures ok { IfOk result (λ copy. copy ≡ self.now) }
-        ensures err { IfErr result (λ e. e ≡ Fault.OutOfMemory) }
-    {
-        let key = self.key.clone()?;
-        Ok(CheckTxnStatus {
-            key,
-            start: self.start,
-            caller: self.caller,
-            current: self.current,
-            rollback_if_not_exist: self.rollback_if_not_exist,
-            force_sync_commit: self.force_sync_commit,
-        })
-    }
-}
-
 /// Asks what stands of an async transaction on a key, and leaves a rollback where nothing does.
-#[derive(Debug, Drop)]
+#[derive(Clone, Debug, Drop)]
 pub struct CheckSecondaryLocks {
     pub key: Key,
     pub start: Ts,
 }
 
-impl CheckSecondaryLocks {
-    /// The same.
-    pub fn clone(&self) -> Result<CheckSecondaryLocks, Fault>
-        ensures ok { IfOk result (λ copy. copy ≡ self.now) }
-        ensures err { IfErr result (λ e. e ≡ Fault.OutOfMemory) }
-    {
-        let key = self.key.clone()?;
-        Ok(CheckSecondaryLocks {
-            key,
-            start: self.start,
-        })
-    }
-}
-
 /// Asks that the lock of a transaction whose fate is known be committed or rolled back.
-#[derive(Debug, Drop)]
+#[derive(Clone, Debug, Drop)]
 pub struct ResolveLock {
     pub key: Key,
     pub start: Ts,
     pub fate: Fate,
-}
-
-impl ResolveLock {
-    /// The same.
-    pub fn clone(&self) -> Result<ResolveLock, Fault>
-        ensures ok { IfOk result (λ copy. copy ≡ self.now) }
-        ensures err { IfErr result (λ e. e ≡ Fault.OutOfMemory) }
-    {
-        let key = self.key.clone()?;
-        Ok(ResolveLock {
-            key,
-            start: self.start,
-            fate: self.fate,
-        })
-    }
 }
 
 /// Asks a region to raise its safe point.

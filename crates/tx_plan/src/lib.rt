@@ -12,7 +12,6 @@ mod lists;
 mod plain;
 mod plan;
 mod planned;
-mod region_no;
 #[cfg(test)]
 mod table_tests;
 #[cfg(test)]
@@ -45,5 +44,5 @@ pub use plan::resolve_lock::plan_resolve_lock;
 pub use plan::scan::plan_scan;
 pub use plan::txn_heart_beat::plan_txn_heart_beat;
 pub use planned::{LockPlanned, Planned};
-pub use region_no::RegionNo;
+pub use tx_types::RegionNo;
 pub use walk::{KeyWalk, LockWalk, RegionCells};

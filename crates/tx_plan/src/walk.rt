@@ -2,7 +2,7 @@
 //! ranges, so that a walk takes as many steps as it passes keys, after one search for its start.
 ghost use Rattle.std.specs.Prelude.{◌≡◌, ◌∷◌, [], List, MatchOption, drop};
 ghost use Rattle.tx_types.specs.declared.key.Key.{Key};
-ghost use Rattle.tx_plan.specs.Keys.{key_le};
+ghost use Rattle.tx_types.specs.Keys.{key_le};
 ghost use Rattle.tx_plan.specs.Cells.{Cells};
 ghost use Rattle.tx_plan.specs.Walks.{KeyRow, LockRow, IsWalk, IsLockWalk, IsFirstLock, every_key};
 

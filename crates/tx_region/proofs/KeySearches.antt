@@ -10,7 +10,8 @@ use Rattle.tx_types.specs.declared.write.WriteRec.{WriteRec}
 use Rattle.tx_types.specs.declared.write.WriteRec.TheVariants as stored
 use Rattle.tx_plan.specs.declared.plain.records.PlainWrite.{PlainWrite}
 use Rattle.tx_plan.specs.Cells as cells
-use Rattle.tx_plan.specs.Cells.{CommitRecord, CommitOf, Write, Writes, IsVisible}
+use Rattle.tx_types.specs.Keys.{IsVisible}
+use Rattle.tx_plan.specs.Cells.{CommitRecord, CommitOf, Write, Writes}
 use Rattle.tx_plan.specs.Whole.{whole_write, whole_commit}
 use Rattle.tx_plan.specs.Traces.{OwnCommit}
 use Rattle.tx_plan.specs.Reads.{Finds, NoneWritten}

@@ -8,7 +8,6 @@ pub mod Traces
 pub mod AllLead
 pub mod Scenes
 pub mod Steps
-pub mod OneAnswer
 pub mod OnePlay
 pub mod Plays
 pub mod Scripts

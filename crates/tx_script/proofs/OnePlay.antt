@@ -2,18 +2,19 @@
 use Rattle.std.proofs.Common.{◌≡◌, ℕ, ◌+◌, Bool, List, [], ◌∷◌, sym, ap, subst, ◌∙◌}
 use Rattle.serde_json.specs.Data.{Items}
 use Rattle.tx_types.specs.declared.fault.Cause.{Cause}
+use Rattle.tx_core.specs.Histories.{last}
+use Rattle.tx_core.proofs.unique.OneAnswer.{one_answer}
 use Rattle.tx_script.specs.Scenes.{Scene, opening, Turn, goes, asks, stops}
 use Rattle.tx_script.specs.Play.{line_turn, Leads, Played, before, Plays}
 use Rattle.tx_script.proofs.AllLead.{AllLead}
-use Rattle.tx_script.proofs.OneAnswer.{one_answer}
 
 module _ (IsScene : Scene → Type 0) where
   -- where two things come of a turn, they come of it on one way
   one_lead : (Goes Went : Scene → Items → List Bool → Type 0) (Stops Stopped : Cause → Type 0) (R : Type 0) → ((next : Scene) (words : Items) (left : List Bool) → IsScene next → Goes next words left → Went next words left → R) → ((cause : Cause) → Stops cause → Stopped cause → R) → (turn : Turn) → AllLead IsScene turn → Leads Goes Stops turn → Leads Went Stopped turn → R
   one_lead Goes Went Stops Stopped R on end (goes next words left) all x y = on next words left all x y
-  one_lead Goes Went Stops Stopped R on end (asks h body more) (run, asked, all) (a, answers, x) (b, also, y) =
+  one_lead Goes Went Stops Stopped R on end (asks h body more) (run, all) (a, answers, x) (b, also, y) =
       one_lead Goes Went Stops Stopped R on end (more a) (all a answers) x
-      (subst (λ c. Leads Went Stopped (more c)) (one_answer h run body asked a b answers also) y)
+      (subst (λ c. Leads Went Stopped (more c)) (one_answer [] h 0 (last h) body b a run also answers) y)
   one_lead Goes Went Stops Stopped R on end (stops cause) all x y = end cause x y
 
 -- a property of scenes that each line keeps

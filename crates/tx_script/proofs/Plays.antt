@@ -33,7 +33,7 @@ module _ (scene : Scene) (ok : IsScene scene) (refused : List Bool) where
 -- what a turn leads to, of a scene that holds
 led : (Goes : Scene → Items → List Bool → Type 0) (Stops : Cause → Type 0) (P : Type 0) → ((scene : Scene) (words : Items) (left : List Bool) → IsScene scene → Goes scene words left → P) → ((cause : Cause) → Stops cause → P) → (t : Turn) → Keeps t → Leads Goes Stops t → P
 led Goes Stops P f g (goes scene words refused) keeps leads = f scene words refused keeps leads
-led Goes Stops P f g (asks h body more) (run, asked, keeps) leads = led Goes Stops P f g (more leads.0) (keeps leads.0 leads.1) leads.2
+led Goes Stops P f g (asks h body more) (run, keeps) leads = led Goes Stops P f g (more leads.0) (keeps leads.0 leads.1) leads.2
 led Goes Stops P f g (stops cause) keeps leads = g cause leads
 
 run_from : (lines : List (List ℕ)) (scene : Scene) → IsScene scene → (number : ℕ) (refused : List Bool) (p : Played) → Plays scene number refused lines p → IsWorldRun [] p.history

@@ -8,13 +8,14 @@ use Rattle.tx_plan.specs.Answers.{AnswersLeast}
 use Rattle.tx_plan.proofs.LeastMinimum.{least_admitted}
 use Rattle.tx_core.specs.declared.event.Event.{Event}
 use Rattle.tx_core.specs.declared.event.Event.TheVariants.{Took}
-use Rattle.tx_core.specs.Histories.{History, last, left, owner, GoesOn}
+use Rattle.tx_core.specs.Histories.{History, last, left}
+use Rattle.tx_core.specs.Recording.{owner, Extends}
 use Rattle.tx_core.specs.Allowed.{Allowed}
 use Rattle.tx_core.specs.Worlds.{Holds, MayCome, IsWorldRun}
 use Rattle.tx_core.proofs.Basics.{key_test, some_same}
-use Rattle.tx_core.proofs.Beginnings.{goes_all, goes_next}
-use Rattle.tx_core.proofs.Staying.{last_was}
-use Rattle.tx_core.proofs.Numbers.{left_upto}
+use Rattle.tx_core.proofs.seats.Beginnings.{extends_all, extends_next}
+use Rattle.tx_core.proofs.seats.Staying.{last_was}
+use Rattle.tx_core.proofs.seats.Numbers.{left_upto}
 use Rattle.tx_client.specs.Sessions.{State}
 use Rattle.tx_client.proofs.Sessions.{IsSession, others_act}
 use Rattle.tx_script.specs.Scenes.{Scene, opening, took, with_session}
@@ -49,7 +50,7 @@ module _ (session : List ℕ → Option State) (name : List ℕ) (w : Option Sta
 
 -- the scene after events that are of no other session, with another session under the name, or none
 module _ (scene : Scene) (ok : IsScene scene) (name : List ℕ) (w : Option State) (h : History) (live begun : ℕ) where
-  pub changed : IsWorldRun [] h → scene.begun ≤ begun → ((q : List ℕ) (r : State) → q ≢ name → scene.session q ≡ Some r → GoesOn r.seat scene.history h) → ((s : State) → w ≡ Some s → Fits scene h begun name s) → IsScene (record { history = h; session = update bytes_eq scene.session name w; live = live; begun = begun })
+  pub changed : IsWorldRun [] h → scene.begun ≤ begun → ((q : List ℕ) (r : State) → q ≢ name → scene.session q ≡ Some r → Extends r.seat scene.history h) → ((s : State) → w ≡ Some s → Fits scene h begun name s) → IsScene (record { history = h; session = update bytes_eq scene.session name w; live = live; begun = begun })
   changed run more others fits =
       record {
         run = run;
@@ -87,12 +88,12 @@ module _ (scene : Scene) (ok : IsScene scene) (name : List ℕ) (s : State) (liv
       record { holds = is; seated = (omega (arith, r.0, same), omega (arith, r.1, same)); alone = λ q r other e seat. no_other q r other e (sym same ∙ seat) }
 
   -- an event of its seat is no other session's
-  pub others_go : (e : Event) → owner scene.history e ≡ Some s.seat → (q : List ℕ) (r : State) → q ≢ name → scene.session q ≡ Some r → GoesOn r.seat scene.history (e ∷ scene.history)
-  others_go e own q r other is = goes_next r.seat scene.history scene.history e (goes_all r.seat scene.history) (λ x. no_other q r other is (some_same s.seat r.seat (sym own ∙ x)))
+  pub others_go : (e : Event) → owner scene.history e ≡ Some s.seat → (q : List ℕ) (r : State) → q ≢ name → scene.session q ≡ Some r → Extends r.seat scene.history (e ∷ scene.history)
+  others_go e own q r other is = extends_next r.seat scene.history scene.history e (extends_all r.seat scene.history) (λ x. no_other q r other is (some_same s.seat r.seat (sym own ∙ x)))
 
   -- it changes without an event
   pub quiet : (new : State) → new.seat ≡ s.seat → IsSession scene.history new → IsScene (with_session scene name new)
-  quiet new same is = changed scene ok name (Some new) scene.history scene.live scene.begun ok.run (omega arith) (λ q r other e. goes_all r.seat scene.history) (λ x e. subst (Fits scene scene.history scene.begun name) (some_same new x e) (fits_after scene.history new same is))
+  quiet new same is = changed scene ok name (Some new) scene.history scene.live scene.begun ok.run (omega arith) (λ q r other e. extends_all r.seat scene.history) (λ x e. subst (Fits scene scene.history scene.begun name) (some_same new x e) (fits_after scene.history new same is))
 
   -- it changes with an event of its seat
   pub acts : (e : Event) (new : State) → owner scene.history e ≡ Some s.seat → MayCome [] scene.history e → new.seat ≡ s.seat → IsSession (e ∷ scene.history) new → IsScene (record { history = e ∷ scene.history; session = update bytes_eq scene.session name (Some new); live = scene.live; begun = scene.begun })
@@ -122,7 +123,7 @@ took_ok scene ok body a allowed holds answers =
     let run : IsWorldRun [] (took scene body a).history = (ok.run, may) in
     record {
       run = run;
-      sessions = λ q s e. others_act [] scene.history (took scene body a).history run s (goes_next s.seat scene.history scene.history (Took (record { region = 0; body = body; loaded = last scene.history; answer = a })) (goes_all s.seat scene.history) (λ zero_is. (let none : 0 ≡ s.seat = cc (zero_is) in omega (arith, none, (ok.seated q s e).0)))) (ok.sessions q s e);
+      sessions = λ q s e. others_act [] scene.history (took scene body a).history run s (extends_next s.seat scene.history scene.history (Took (record { region = 0; body = body; loaded = last scene.history; answer = a })) (extends_all s.seat scene.history) (λ zero_is. (let none : 0 ≡ s.seat = cc (zero_is) in omega (arith, none, (ok.seated q s e).0)))) (ok.sessions q s e);
       seated = ok.seated;
       apart = ok.apart;
     }

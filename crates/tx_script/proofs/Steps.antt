@@ -12,8 +12,8 @@ use Rattle.tx_core.specs.Histories.{History, last, left, drawer}
 use Rattle.tx_core.specs.Allowed.{Allowed}
 use Rattle.tx_core.specs.Worlds.{Holds, IsWorldRun}
 use Rattle.tx_core.proofs.Basics.{some_same, is_some as something}
-use Rattle.tx_core.proofs.Beginnings.{goes_all, goes_next, begins_all}
-use Rattle.tx_core.proofs.Staying.{drawer_new, began_drawn}
+use Rattle.tx_core.proofs.seats.Beginnings.{extends_all, extends_next, begins_all}
+use Rattle.tx_core.proofs.seats.Staying.{drawer_new, began_drawn}
 use Rattle.tx_client.specs.declared.state.Phase.{Phase}
 use Rattle.tx_client.specs.declared.state.Phase.TheVariants as phase
 use Rattle.tx_client.specs.Buffers.{touched, buffered}
@@ -24,7 +24,7 @@ use Rattle.tx_client.proofs.Heard.{heard_ok, missed_ok}
 use Rattle.tx_client.proofs.Events.{begun_ok, touched_ok, declared_none, may_declare, declared_owner, declared_ok, drew_ok, may_finish}
 use Rattle.tx_script.specs.Steps.{Asked, begin, put, get, declare, prewrite, draw, commit, finish}
 use Rattle.tx_script.specs.Scenes.{Scene, Turn, is_refused, later_of, with_session, declared_in, began, declared, drew, took, begins, is_name, is_key, is_value, is_full, puts, read_of, gets_by, gets, declares, requests, sends, prewrites, commits, draws, finishes_by, finishes, in_session, turn}
-use Rattle.tx_script.proofs.AllLead.{IsAsked, AllLead}
+use Rattle.tx_script.proofs.AllLead.{AllLead}
 use Rattle.tx_script.proofs.Scenes.{IsScene, Fits, changed, quiet, acts, goes_with, took_ok}
 
 -- ---- what keeps
@@ -38,18 +38,13 @@ pub keeps_either : (b : Bool) (x y : Turn) → (b ≡ true → Keeps x) → (b �
 keeps_either true x y f g = f refl
 keeps_either false x y f g = g refl
 
--- what a session sends for is asked of a region
-asked_for : (s : State) (x : Phase) (due : Due) → IsFor s x due → IsAsked due.body
-asked_for s phase.Prewrite due f = subst (λ (d : Due). IsAsked d.body) (sym f.2) tt
-asked_for s phase.Commit due f = subst (λ (d : Due). IsAsked d.body) (sym f.2) tt
-
 -- ---- begin
 
 -- a session that begins has a seat that none had before
 began_ok : (scene : Scene) → IsScene scene → (name : List ℕ) → IsScene (began scene name)
 began_ok scene ok name =
     changed scene ok name (Some (begun i t)) now (scene.live + 1) i run (omega arith)
-    (λ q r other e. goes_next r.seat h (Drawn i t ∷ h) (Began t) (goes_next r.seat h h (Drawn i t) (goes_all r.seat h) (λ same. above q r e (some_same i r.seat same))) (λ same. above q r e (some_same i r.seat (sym (drawer_new i t h) ∙ same))))
+    (λ q r other e. extends_next r.seat h (Drawn i t ∷ h) (Began t) (extends_next r.seat h h (Drawn i t) (extends_all r.seat h) (λ same. above q r e (some_same i r.seat same))) (λ same. above q r e (some_same i r.seat (sym (drawer_new i t h) ∙ same))))
     (λ s e. subst (Fits scene now i name) (some_same (begun i t) s e) (record { holds = begun_ok [] (Drawn i t ∷ h) i t drawn (drawer_new i t h) (began_drawn [] i t h drawn); seated = (omega arith, omega arith); alone = λ q r other e. above q r e }))
   where
     h : History
@@ -106,8 +101,8 @@ module _ (scene : Scene) (ok : IsScene scene) (name : List ℕ) (s : State) (liv
   keeps_get_by : (left : List Bool) (key : List ℕ) (o : Option Mutation) → Keeps (gets_by left key scene s o)
   keeps_get_by left key (Some (mutation.Put v)) = ok
   keeps_get_by left key (Some mutation.Delete) = ok
-  keeps_get_by left key (Some mutation.Lock) = (ok.run, tt, read_ok key)
-  keeps_get_by left key None = (ok.run, tt, read_ok key)
+  keeps_get_by left key (Some mutation.Lock) = (ok.run, read_ok key)
+  keeps_get_by left key None = (ok.run, read_ok key)
 
   keeps_get : (refused : List Bool) (key : List ℕ) → Keeps (gets refused key scene s)
   keeps_get refused key =
@@ -137,7 +132,7 @@ module _ (scene : Scene) (ok : IsScene scene) (name : List ℕ) (s : State) (liv
 
   keeps_request : (refused : List Bool) (x : Phase) (due : Due) → Allowed scene.history due.body → IsFor s x due → Keeps (requests refused name scene s x due)
   keeps_request refused x due allowed f =
-      keeps_either (is_refused refused) _ _ (λ e. quiet scene ok name s live (missed s) refl (missed_ok scene.history s is)) (λ e. (ok.run, asked_for s x due f, heard_scene x due allowed f))
+      keeps_either (is_refused refused) _ _ (λ e. quiet scene ok name s live (missed s) refl (missed_ok scene.history s is)) (λ e. (ok.run, heard_scene x due allowed f))
 
   keeps_send : (refused : List Bool) (x : Phase) (o : Option Due) → ((due : Due) → o ≡ Some due → Allowed scene.history due.body × IsFor s x due) → Keeps (sends refused name scene s x o)
   keeps_send refused x None may = ok

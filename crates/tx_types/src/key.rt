@@ -18,19 +18,20 @@ use std::hash::{Hash, Hasher};
 use std::marker::Model;
 
 /// A key of 1 to 512 bytes, ordered as its bytes are. A copy shares them. Contracts see the bytes.
-#[derive(Debug, Drop)]
+#[derive(Clone, Debug, Drop)]
 pub struct Key {
     bytes: Bytes,
 }
 
 impl Model for Key {
     ghost use Rattle.std.specs.Prelude.{List, ℕ, ◌≤◌, length};
+    ghost use Rattle.tx_types.specs.declared.limits.TheConstants.{MAX_KEY_BYTES, MIN_KEY_BYTES};
 
     ghost Value = { List ℕ };
 
     ghost view = { λ k. k.bytes };
 
-    ghost invariant = { λ k. (1 ≤ length k.bytes) × (length k.bytes ≤ 512) };
+    ghost invariant = { λ k. (MIN_KEY_BYTES ≤ length k.bytes) × (length k.bytes ≤ MAX_KEY_BYTES) };
 
     ghost inverse = { λ bs. record { bytes = bs } };
 }
@@ -53,7 +54,7 @@ impl Key {
     /// Its bytes.
     pub fn as_bytes(&self) -> &[u8]
         ensures value { result.now ≡ self.now }
-        ensures within { (1 ≤ length result.now) × (length result.now ≤ 512) }
+        ensures within { (MIN_KEY_BYTES ≤ length result.now) × (length result.now ≤ MAX_KEY_BYTES) }
     {
         self.bytes.as_slice()
     }
@@ -63,8 +64,7 @@ impl Key {
         ensures ok { IfOk result (λ copy. copy ≡ self.now) }
         ensures err { IfErr result (λ e. e ≡ Fault.OutOfMemory) }
     {
-        let bytes = self.bytes.clone()?;
-        Ok(Key { bytes })
+        Ok(Clone::clone(self)?)
     }
 }
 

@@ -8,6 +8,8 @@ pub mod limits;
 mod lists;
 mod lock;
 mod mutation;
+mod region_no;
+mod seat_no;
 #[cfg(test)]
 mod tests;
 mod ts;
@@ -16,9 +18,11 @@ mod write;
 
 pub use fault::{Cause, Fault};
 pub use key::Key;
-pub use lists::{Changes, KeyValues, Secondaries};
+pub use lists::{Changes, Items, KeyValues, Secondaries};
 pub use lock::{LockInfo, LockMode, LockRec};
-pub use mutation::{Change, Fate, KeyValue, LockKind, Mode, Mutation, StoredMutation, WriteKind};
+pub use mutation::{Change, Fate, KeyValue, LockKind, Mode, Mutation, StoredMutation};
+pub use region_no::RegionNo;
+pub use seat_no::SeatNo;
 pub use ts::Ts;
-pub use value::{StoredValue, Value};
+pub use value::{InlineValue, StoredValue, Value};
 pub use write::{CommitRec, WriteRec};

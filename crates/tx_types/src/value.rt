@@ -1,5 +1,6 @@
 //! Values.
-ghost use Rattle.std.specs.Prelude.{◌≡◌, ◌⊎◌, ◌<◌, ◌≤◌, ◌↔◌, length, IfOk, IfErr, IsErrOf, IsTrue};
+ghost use Rattle.std.specs.Prelude.{◌≡◌, ◌⊎◌, ◌<◌, ◌≤◌, ◌↔◌, length, IfOk, IfErr, IsErrOf};
+ghost use Rattle.tx_types.specs.Stored.{stored_value};
 
 use crate::fault::Fault;
 use crate::limits::{MAX_INLINE_BYTES, MAX_VALUE_BYTES};
@@ -8,19 +9,20 @@ use std::alloc::Global;
 use std::marker::Model;
 
 /// A value of at most 65,536 bytes. A copy shares them. Contracts see the bytes.
-#[derive(Debug, Drop, PartialEq, Eq)]
+#[derive(Clone, Debug, Drop, PartialEq, Eq)]
 pub struct Value {
     bytes: Bytes,
 }
 
 impl Model for Value {
     ghost use Rattle.std.specs.Prelude.{List, ℕ, ◌≤◌, length};
+    ghost use Rattle.tx_types.specs.declared.limits.TheConstants.{MAX_VALUE_BYTES};
 
     ghost Value = { List ℕ };
 
     ghost view = { λ v. v.bytes };
 
-    ghost invariant = { λ v. length v.bytes ≤ 65536 };
+    ghost invariant = { λ v. length v.bytes ≤ MAX_VALUE_BYTES };
 
     ghost inverse = { λ bs. record { bytes = bs } };
 }
@@ -43,16 +45,9 @@ impl Value {
     /// Its bytes.
     pub fn as_bytes(&self) -> &[u8]
         ensures value { result.now ≡ self.now }
-        ensures within { length result.now ≤ 65536 }
+        ensures within { length result.now ≤ MAX_VALUE_BYTES }
     {
         self.bytes.as_slice()
-    }
-
-    /// Whether it is short enough to stand inline in a record.
-    pub fn is_inline(&self) -> bool
-        ensures { IsTrue result ↔ (length self.now ≤ MAX_INLINE_BYTES) }
-    {
-        self.bytes.len() <= MAX_INLINE_BYTES
     }
 
     /// The same value, which shares its bytes.
@@ -60,29 +55,70 @@ impl Value {
         ensures ok { IfOk result (λ copy. copy ≡ self.now) }
         ensures err { IfErr result (λ e. e ≡ Fault.OutOfMemory) }
     {
-        let bytes = self.bytes.clone()?;
-        Ok(Value { bytes })
+        Ok(Clone::clone(self)?)
+    }
+
+    /// What a record keeps of it: the value itself where it is short enough to stand inline.
+    pub fn stored(&self) -> Result<StoredValue, Fault>
+        ensures ok { IfOk result (λ stored. stored ≡ stored_value self.now) }
+        ensures err { IfErr result (λ e. e ≡ Fault.OutOfMemory) }
+    {
+        if self.bytes.len() > MAX_INLINE_BYTES {
+            return Ok(StoredValue::InDefault);
+        }
+        let value = self.clone()?;
+        Ok(StoredValue::Inline(InlineValue { value }))
+    }
+}
+
+/// A value of at most 255 bytes, short enough to stand inline in a record. Contracts see the bytes.
+#[derive(Clone, Debug, Drop, PartialEq, Eq)]
+pub struct InlineValue {
+    value: Value,
+}
+
+impl Model for InlineValue {
+    ghost use Rattle.std.specs.Prelude.{List, ℕ, ◌≤◌, length};
+    ghost use Rattle.tx_types.specs.declared.limits.TheConstants.{MAX_INLINE_BYTES};
+
+    ghost Value = { List ℕ };
+
+    ghost view = { λ v. v.value };
+
+    ghost invariant = { λ v. length v.value ≤ MAX_INLINE_BYTES };
+
+    ghost inverse = { λ bs. record { value = bs } };
+}
+
+impl InlineValue {
+    /// The value of these bytes. `ValueLength` where they are more than 255, `OutOfMemory` where there is no room for a
+    /// copy of them.
+    pub fn new(alloc: Global, bytes: &[u8]) -> Result<InlineValue, Fault>
+        ensures ok { IfOk result (λ value. value ≡ bytes.now) }
+        ensures length { IsErrOf result Fault.ValueLength ↔ (MAX_INLINE_BYTES < length bytes.now) }
+        ensures err { IfErr result (λ e. (e ≡ Fault.ValueLength) ⊎ (e ≡ Fault.OutOfMemory)) }
+    {
+        if bytes.len() > MAX_INLINE_BYTES {
+            return Err(Fault::ValueLength);
+        }
+        let value = Value::new(alloc, bytes)?;
+        Ok(InlineValue { value })
+    }
+
+    /// The value.
+    pub fn as_value(&self) -> &Value
+        ensures value { result.now ≡ self.now }
+        ensures within { length result.now ≤ MAX_INLINE_BYTES }
+    {
+        &self.value
     }
 }
 
 /// What a record keeps of the value that it puts.
-#[derive(Debug, Drop, PartialEq, Eq)]
+#[derive(Clone, Debug, Drop, PartialEq, Eq)]
 pub enum StoredValue {
-    /// The value itself, of at most 255 bytes.
-    Inline(Value),
+    /// The value itself.
+    Inline(InlineValue),
     /// The value is longer and stands in the `default` family, under the key and the start of its transaction.
     InDefault,
-}
-
-impl StoredValue {
-    /// The same.
-    pub fn clone(&self) -> Result<StoredValue, Fault>
-        ensures ok { IfOk result (λ copy. copy ≡ self.now) }
-        ensures err { IfErr result (λ e. e ≡ Fault.OutOfMemory) }
-    {
-        match self {
-            StoredValue::Inline(value) => Ok(StoredValue::Inline(value.clone()?)),
-            StoredValue::InDefault => Ok(StoredValue::InDefault),
-        }
-    }
 }

@@ -8,7 +8,7 @@ use Rattle.tx_plan.specs.declared.body.Collect.{Collect}
 use Rattle.tx_plan.specs.declared.answer.Answer.{Answer}
 use Rattle.tx_plan.specs.declared.answer.Answer.TheVariants.{Collected, BelowSafePoint, LocksRemain}
 use Rattle.tx_plan.specs.Tables.{Case}
-use Rattle.tx_plan.specs.Keys.{key_lt}
+use Rattle.tx_types.specs.Keys.{key_lt}
 use Rattle.tx_plan.specs.Cells.{Write, CommitOf, Rollback, Writes, Cells, Region, is_long}
 use Rattle.tx_plan.specs.cases.LocksBelow.{IsLockBelow}
 

@@ -5,7 +5,7 @@ use Rattle.tx_types.specs.declared.lock.LockInfo.{LockInfo}
 use Rattle.tx_plan.specs.declared.body.LocksBelow.{LocksBelow}
 use Rattle.tx_plan.specs.declared.answer.Answer.{Answer}
 use Rattle.tx_plan.specs.declared.answer.Answer.TheVariants.{Locks}
-use Rattle.tx_plan.specs.Keys.{key_lt}
+use Rattle.tx_types.specs.Keys.{key_lt}
 use Rattle.tx_plan.specs.Cells.{Lock, Cells, info_of}
 
 -- what is told of a lock that stands in the region and started below s

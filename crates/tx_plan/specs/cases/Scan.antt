@@ -6,7 +6,7 @@ use Rattle.tx_plan.specs.declared.body.Scan.{Scan}
 use Rattle.tx_plan.specs.declared.answer.Answer.{Answer}
 use Rattle.tx_plan.specs.declared.answer.Answer.TheVariants.{Rows, KeyIsLocked, BelowSafePoint, FutureTimestamp}
 use Rattle.tx_plan.specs.Tables.{Case}
-use Rattle.tx_plan.specs.Keys.{key_le, key_lt}
+use Rattle.tx_types.specs.Keys.{key_lt, key_le}
 use Rattle.tx_plan.specs.Cells.{Lock, Cells, Region, info_of, with_max_read}
 use Rattle.tx_plan.specs.Reads.{Blocks, in_range, covered, Walked, raised}
 

@@ -4,9 +4,7 @@ ghost use Rattle.tx_plan.specs.Stored.{kept, kept_write};
 ghost use Rattle.tx_plan.specs.Whole.{whole_write, whole_commit};
 ghost use Rattle.tx_plan.specs.Cells.{Rollback};
 
-use tx_types::{
-    CommitRec, Fault, Key, LockMode, LockRec, Mutation, StoredMutation, StoredValue, Ts, WriteRec,
-};
+use tx_types::{CommitRec, Fault, Key, LockMode, LockRec, Mutation, StoredMutation, Ts, WriteRec};
 
 /// A lock record, and the mutation that it keeps with its whole value.
 #[derive(Debug, Drop)]
@@ -91,10 +89,7 @@ fn stored(mutation: &Mutation) -> Result<StoredMutation, Fault>
     ensures err { IfErr result (λ e. e ≡ Fault.OutOfMemory) }
 {
     match mutation {
-        Mutation::Put(value) if value.is_inline() => {
-            Ok(StoredMutation::Put(StoredValue::Inline(value.clone()?)))
-        }
-        Mutation::Put(_) => Ok(StoredMutation::Put(StoredValue::InDefault)),
+        Mutation::Put(value) => Ok(StoredMutation::Put(value.stored()?)),
         Mutation::Delete => Ok(StoredMutation::Delete),
         Mutation::Lock => Ok(StoredMutation::Lock),
     }

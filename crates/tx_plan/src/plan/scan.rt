@@ -1,7 +1,7 @@
 //! Scan: the first keys of a range that have a value at a timestamp, or the lock that stops the read.
 ghost use Rattle.std.specs.Prelude.{◌≡◌, ◌⊎◌, IfOk, IfErr};
 ghost use Rattle.tx_types.specs.declared.key.Key.{Key};
-ghost use Rattle.tx_plan.specs.Keys.{key_le};
+ghost use Rattle.tx_types.specs.Keys.{key_le};
 ghost use Rattle.tx_plan.specs.Cells.{Cells, Region, with_max_read};
 ghost use Rattle.tx_plan.specs.Walks.{IsWalk};
 ghost use Rattle.tx_plan.specs.cases.Scan.{AnswersScan, MeetsLock, GivesRows, leaves_scan};

@@ -1,4 +1,4 @@
-use Rattle.std.proofs.Common.{◌≡◌, ◌<◌, sym, ◌∙◌, length, true, arith, bytes_eq}
+use Rattle.std.proofs.Common.{◌≡◌, ◌<◌, sym, length, true, arith, bytes_eq}
 use Rattle.tx_client.specs.Buffers.{key_at}
 use Rattle.tx_client.proofs.Finding.{stands_at, stands_nowhere}
 use Rattle.tx_client.proofs.buffer.has_bytes.Goals as goal

@@ -1,4 +1,4 @@
-use Rattle.std.proofs.Common.{◌≡◌, ap, sym, bytes_eq, rules}
+use Rattle.std.proofs.Common.{rules}
 use Rattle.tx_client.proofs.Places.{pair_at}
 use Rattle.tx_client.proofs.buffer.is_at.Goals as goal
 

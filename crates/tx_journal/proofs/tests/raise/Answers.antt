@@ -4,18 +4,18 @@ use Rattle.tx_plan.specs.declared.body.Body.{Body}
 use Rattle.tx_plan.specs.declared.body.Body.TheVariants.{RaiseSafe}
 use Rattle.tx_plan.specs.declared.answer.Answer.TheVariants.{Raised}
 use Rattle.tx_core.specs.declared.event.Event.TheVariants.{Took}
-use Rattle.tx_core.specs.Histories.{History, last, WasLast, Begins, GoesOn}
-use Rattle.tx_core.specs.Recording.{MayRecord}
-use Rattle.tx_core.proofs.Answering.{left_on}
-use Rattle.tx_core.proofs.Recording.{may_take}
-use Rattle.tx_core.proofs.Staying.{last_was}
+use Rattle.tx_core.specs.Histories.{History, last, WasLast, Begins}
+use Rattle.tx_core.specs.Recording.{Extends, MayRecord}
+use Rattle.tx_core.proofs.seats.Answering.{left_on}
+use Rattle.tx_core.proofs.seats.Recording.{may_take}
+use Rattle.tx_core.proofs.seats.Staying.{last_was}
 use Rattle.tx_journal.specs.Known.{HasSeen, HasRecorded}
 use Rattle.tx_journal.proofs.Calls.{seen_more}
 use Rattle.tx_journal.proofs.Replying.{tells_of, given_of}
 use Rattle.tx_journal.proofs.tests.raise.Goals as goal
 
 -- a region that has taken nothing may raise its safe point to 0
-may_raise : (bounds : List Key) (l : History) (n : ℕ) → GoesOn 0 [] l → n ≡ last l → MayRecord bounds 0 l (Took record { region = 0; body = RaiseSafe record { region = 0; safe = 0 }; loaded = n; answer = Raised })
+may_raise : (bounds : List Key) (l : History) (n : ℕ) → Extends 0 [] l → n ≡ last l → MayRecord bounds 0 l (Took record { region = 0; body = RaiseSafe record { region = 0; safe = 0 }; loaded = n; answer = Raised })
 may_raise bounds l n g e =
     let none = ap (λ r. r.safe) (left_on 0 [] l g) in
     may_take bounds 0 l record { region = 0; body = RaiseSafe record { region = 0; safe = 0 }; loaded = n; answer = Raised } refl (omega arith) tt refl (subst (WasLast l) (sym e) (last_was l))

@@ -19,4 +19,4 @@ returns-clause-ok c table tells =
     c.args.t c.args.set.now open_.0 open_.1
     (some_changes c.as_slice.result.now c.args.set.now c.as_slice.ensures (sym c.is_empty.ensures ∙ c.if-is_empty.false))
     (subst (λ (xs : List Change). IsDistinct xs) c.as_slice-2.ensures distinct)
-    (tree.get nat_cmp c.insert.new.self) c.in_ok-clone.field-0 c.in_ok-clone.ensures.ok c.in_ok-insert.ensures.updates.0
+    (tree.get nat_cmp c.insert.new.self) c.in_ok-declared.field-0 c.in_ok-declared.ensures.ok c.in_ok-insert.ensures.updates.0

@@ -1,6 +1,6 @@
 use Rattle.std.proofs.Common.{◌∙◌, sym, ap}
 use Rattle.std.specs.Prelude.{IsTrue}
-use Rattle.tx_plan.specs.Keys.{key_le}
+use Rattle.tx_types.specs.Keys.{key_le}
 use Rattle.tx_plan.specs.PlainRegions.{key_rows, rows_from}
 use Rattle.tx_plan.proofs.KeyOrder.{ge_false, ge_true}
 use Rattle.tx_plan.proofs.PlainRegions.{from_reached, from_short}

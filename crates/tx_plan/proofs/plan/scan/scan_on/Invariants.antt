@@ -1,6 +1,6 @@
 use Rattle.std.proofs.Common.{length}
 use Rattle.tx_types.specs.declared.key.Key.{Key}
-use Rattle.tx_plan.specs.Keys.{key_le}
+use Rattle.tx_types.specs.Keys.{key_le}
 use Rattle.tx_plan.specs.Cells.{Cells}
 use Rattle.tx_plan.specs.Walks.{IsWalk}
 use Rattle.tx_plan.proofs.Scans.{Scanned}

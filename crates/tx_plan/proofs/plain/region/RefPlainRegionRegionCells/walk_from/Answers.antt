@@ -1,5 +1,5 @@
 use Rattle.std.proofs.Common.{◌∙◌, sym, subst, ap}
-use Rattle.tx_plan.specs.Keys.{key_le}
+use Rattle.tx_types.specs.Keys.{key_le}
 use Rattle.tx_plan.specs.Walks.{cells_by, IsWalk}
 use Rattle.tx_plan.specs.PlainRegions.{key_rows, rows_from}
 use Rattle.tx_plan.proofs.PlainRegions.{walks_from}

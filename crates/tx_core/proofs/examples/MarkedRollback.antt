@@ -1,0 +1,90 @@
+-- A rollback stands where an async commit goes: the commit record keeps it as a mark, which still refuses the late prewrite.
+use Rattle.std.proofs.Common.{◌≡◌, inl, inr, [], ◌∷◌, None, refl, ap, arith}
+use Rattle.tx_types.specs.declared.mutation.Mutation.TheVariants.{Put}
+use Rattle.tx_types.specs.declared.mutation.Mode.TheVariants as mode
+use Rattle.tx_plan.specs.declared.body.Body.TheVariants.{Prewrite, Commit, BatchRollback}
+use Rattle.tx_plan.specs.declared.answer.Answer.TheVariants.{Prewritten, Committed, RolledBack, AlreadyRolledBack}
+use Rattle.tx_machine.specs.declared.step.Step.TheVariants as step
+use Rattle.tx_core.specs.declared.event.Declaration.{Declaration}
+use Rattle.tx_core.specs.declared.event.Taken.{Taken}
+use Rattle.tx_core.specs.declared.event.Event.TheVariants.{Drawn, Began, Declared, Took}
+use Rattle.tx_core.specs.Histories.{History}
+use Rattle.tx_core.specs.Worlds.{IsWorldRun, MayTake}
+use Rattle.tx_core.specs.Shadow.{shadow}
+use Rattle.tx_core.proofs.seats.Staying.{last_was}
+use Rattle.tx_core.proofs.examples.Words.{a, x, unrolled, start_of}
+
+abbrev first_set : Declaration
+first_set = record { start = 1; changes = record { key = a; mutation = Put x } ∷ []; mode = mode.Async; ttl = 10; max_commit = None }
+
+abbrev second_set : Declaration
+second_set = record { start = 2; changes = record { key = a; mutation = Put x } ∷ []; mode = mode.TwoPhase; ttl = 10; max_commit = None }
+
+abbrev lock_first : Taken
+lock_first = record { region = 0; body = Prewrite record { key = a; mutation = Put x; start = 1; primary = a; mode = mode.Async; max_commit = None; ttl = 10; others = [] }; loaded = 1; answer = Prewritten 2 }
+
+abbrev pub roll_second : Taken
+roll_second = record { region = 0; body = BatchRollback record { key = a; start = 2 }; loaded = 2; answer = RolledBack }
+
+abbrev pub commit_first : Taken
+commit_first = record { region = 0; body = Commit record { key = a; start = 1; commit = 2 }; loaded = 2; answer = Committed 2 }
+
+abbrev lock_second : Taken
+lock_second = record { region = 0; body = Prewrite record { key = a; mutation = Put x; start = 2; primary = a; mode = mode.TwoPhase; max_commit = None; ttl = 10; others = [] }; loaded = 2; answer = AlreadyRolledBack }
+
+abbrev first_declared : History
+first_declared = Declared first_set ∷ Began 1 ∷ Drawn 1 1 ∷ []
+
+abbrev pub both_declared : History
+both_declared = Declared second_set ∷ Began 2 ∷ Drawn 2 2 ∷ Took lock_first ∷ first_declared
+
+abbrev marked_run : History
+marked_run = Took lock_second ∷ Took commit_first ∷ Took roll_second ∷ both_declared
+
+first_ok : IsWorldRun [] first_declared
+first_ok = (((tt, omega arith), (λ e. (cc (e)), refl)), record { begun = refl; once = refl; some = λ e. (cc (e)); distinct = (refl, tt) })
+
+locks_first : MayTake [] first_declared lock_first
+locks_first = record {
+  region = omega arith;
+  allowed = record { of = first_set; stands = refl; mutation = refl; primary = refl; mode = refl; max_commit = refl; ttl = refl; others = refl };
+  holds = refl;
+  loaded = last_was first_declared;
+  answers = inr (λ h. omega arith, inr (λ h. omega arith, inr (λ lock own. (cc (own.stands)), inr (unrolled 1, inr (λ c own. (cc (own.stands)), inr (λ lock e. (cc (e)), inr (λ some. (cc (some.stands)), inl (refl, (2, (omega arith, omega arith), inl (tt, refl))))))))));
+}
+
+pub both_ok : IsWorldRun [] both_declared
+both_ok = ((((first_ok, locks_first), omega arith), (λ e. (cc (e)), refl)), record { begun = refl; once = refl; some = λ e. (cc (e)); distinct = (refl, tt) })
+
+pub rolls_second : MayTake [] both_declared roll_second
+rolls_second = record {
+  region = omega arith;
+  allowed = record { of = second_set; stands = refl; may = inr (refl, refl) };
+  holds = refl;
+  loaded = last_was both_declared;
+  answers = inr (λ h. omega arith, inr (λ lock own. omega (arith, ap start_of own.stands, own.own), inr (λ c own. (cc (own.stands)), refl)));
+}
+
+pub commits_first : MayTake [] (Took roll_second ∷ both_declared) commit_first
+commits_first = record {
+  region = omega arith;
+  allowed = record { of = first_set; stands = refl; may = inl refl };
+  holds = refl;
+  loaded = last_was (Took roll_second ∷ both_declared);
+  answers = inr (λ h. omega arith, inl (_, record { stands = refl; own = refl }, inr (λ low. omega (arith, low), inr (λ rec others. (cc (others.stands)), refl))));
+}
+
+late_second : MayTake [] (Took commit_first ∷ Took roll_second ∷ both_declared) lock_second
+late_second = record {
+  region = omega arith;
+  allowed = record { of = second_set; stands = refl; mutation = refl; primary = refl; mode = refl; max_commit = refl; ttl = refl; others = refl };
+  holds = refl;
+  loaded = last_was (Took commit_first ∷ Took roll_second ∷ both_declared);
+  answers = inr (λ h. omega arith, inr (λ h. omega arith, inr (λ lock own. (cc (own.stands)), inl (inr (_, record { stands = refl; other = λ same. omega (arith, same) }, refl), refl))));
+}
+
+pub rollback_is_marked : IsWorldRun [] marked_run
+rollback_is_marked = (((both_ok, rolls_second), commits_first), late_second)
+
+pub shadow_of_marked : shadow marked_run ≡ step.Abort 2 ∷ step.Declare 2 second_set.changes ∷ step.Begin 2 ∷ step.Draw 2 ∷ step.Commit 1 2 ∷ step.Declare 1 first_set.changes ∷ step.Begin 1 ∷ step.Draw 1 ∷ []
+shadow_of_marked = refl

@@ -1,0 +1,171 @@
+-- A resolver finishes an async transaction whose session is gone, over two regions: the primary alone promised 2, a read has raised the
+-- other region, so its late prewrite promises 3, and 3 is where the transaction is committed.
+use Rattle.std.proofs.Common.{◌≡◌, ℕ, ◌≤◌, ◌==◌, inl, inr, true, false, cond, List, [], ◌∷◌, Some, None, refl, arith}
+use Rattle.tx_types.specs.declared.mutation.Mutation.TheVariants.{Put}
+use Rattle.tx_types.specs.declared.mutation.Mode.TheVariants as mode
+use Rattle.tx_types.specs.declared.mutation.Fate.TheVariants as fate
+use Rattle.tx_plan.specs.declared.body.Body.TheVariants.{Get, Prewrite, CheckTxnStatus, CheckSecondaryLocks, ResolveLock}
+use Rattle.tx_plan.specs.declared.answer.Answer.TheVariants.{Nothing, Prewritten, KeyIsLocked, Locked, Resolved}
+use Rattle.tx_machine.specs.Machine.{Done}
+use Rattle.tx_machine.specs.declared.step.Step.TheVariants as step
+use Rattle.tx_core.specs.declared.event.Declaration.{Declaration}
+use Rattle.tx_core.specs.declared.event.Taken.{Taken}
+use Rattle.tx_core.specs.declared.event.Event.TheVariants.{Drawn, Began, Declared, Took}
+use Rattle.tx_core.specs.Histories.{History}
+use Rattle.tx_core.specs.Decisions.{decided}
+use Rattle.tx_core.specs.Worlds.{IsWorldRun, MayTake}
+use Rattle.tx_core.specs.Shadow.{shadow}
+use Rattle.tx_core.proofs.seats.Staying.{last_was}
+use Rattle.tx_core.proofs.examples.Words.{a, b, x, none, unrolled}
+use Rattle.tx_plan.specs.Cells.{Lock, CommitRecord, CommitOf, info_of}
+use Rattle.tx_types.specs.declared.key.Key.{Key}
+use Rattle.tx_core.proofs.Basics.{nat_test}
+
+-- one bound: keys below b, and keys from b on
+abbrev cut : List Key
+cut = b ∷ []
+
+abbrev two_keys : Declaration
+two_keys = record { start = 1; changes = record { key = a; mutation = Put x } ∷ record { key = b; mutation = Put x } ∷ []; mode = mode.Async; ttl = 10; max_commit = None }
+
+abbrev lock_a : Lock
+lock_a = record { mutation = Put x; mode = mode.Async; secondaries = b ∷ []; start = 1; min = 2; ttl = 10; primary = a }
+
+abbrev lock_b : Lock
+lock_b = record { mutation = Put x; mode = mode.Async; secondaries = []; start = 1; min = 3; ttl = 10; primary = a }
+
+abbrev prewrite_a : Taken
+prewrite_a = record { region = 0; body = Prewrite record { key = a; mutation = Put x; start = 1; primary = a; mode = mode.Async; max_commit = None; ttl = 10; others = b ∷ [] }; loaded = 1; answer = Prewritten 2 }
+
+abbrev get_b : Taken
+get_b = record { region = 1; body = Get record { key = b; at = 2; bypass = [] }; loaded = 2; answer = Nothing }
+
+abbrev prewrite_b : Taken
+prewrite_b = record { region = 1; body = Prewrite record { key = b; mutation = Put x; start = 1; primary = a; mode = mode.Async; max_commit = None; ttl = 10; others = [] }; loaded = 1; answer = Prewritten 3 }
+
+abbrev get_a : Taken
+get_a = record { region = 0; body = Get record { key = a; at = 2; bypass = [] }; loaded = 2; answer = KeyIsLocked (info_of a lock_a) }
+
+abbrev check_a : Taken
+check_a = record { region = 0; body = CheckTxnStatus record { key = a; start = 1; caller = 2; current = 100; rollback_if_not_exist = true; force_sync_commit = false }; loaded = 2; answer = Locked (info_of a lock_a) }
+
+abbrev check_b : Taken
+check_b = record { region = 1; body = CheckSecondaryLocks record { key = b; start = 1 }; loaded = 2; answer = Locked (info_of b lock_b) }
+
+abbrev resolve_a : Taken
+resolve_a = record { region = 0; body = ResolveLock record { key = a; start = 1; fate = fate.Committed 3 }; loaded = 2; answer = Resolved }
+
+abbrev get_again : Taken
+get_again = record { region = 0; body = Get record { key = a; at = 2; bypass = [] }; loaded = 2; answer = Nothing }
+
+abbrev begun : History
+begun = Declared two_keys ∷ Began 1 ∷ Drawn 1 1 ∷ []
+
+abbrev locked_a : History
+locked_a = Began 2 ∷ Drawn 2 2 ∷ Took prewrite_a ∷ begun
+
+abbrev locked_both : History
+locked_both = Took prewrite_b ∷ Took get_b ∷ locked_a
+
+abbrev asked : History
+asked = Took check_b ∷ Took check_a ∷ Took get_a ∷ locked_both
+
+begun_run : IsWorldRun cut begun
+begun_run = (((tt, omega arith), (λ e. (cc (e)), refl)), record { begun = refl; once = refl; some = λ e. (cc (e)); distinct = (refl, (refl, tt)) })
+
+takes_prewrite_a : MayTake cut begun prewrite_a
+takes_prewrite_a = record {
+  region = omega arith;
+  allowed = record { of = two_keys; stands = refl; mutation = refl; primary = refl; mode = refl; max_commit = refl; ttl = refl; others = refl };
+  holds = refl;
+  loaded = last_was begun;
+  answers = inr (λ h. omega arith, inr (λ h. omega arith, inr (λ lock own. (cc (own.stands)), inr (unrolled 1, inr (λ c own. (cc (own.stands)), inr (λ lock e. (cc (e)), inr (λ some. (cc (some.stands)), inl (refl, (2, (omega arith, omega arith), inl (tt, refl))))))))));
+}
+
+locked_a_run : IsWorldRun cut locked_a
+locked_a_run = (((begun_run, takes_prewrite_a), omega arith), (λ e. (cc (e)), refl))
+
+takes_get_b : MayTake cut locked_a get_b
+takes_get_b = record {
+  region = omega arith;
+  allowed = λ t within. absurd (none t within);
+  holds = refl;
+  loaded = last_was locked_a;
+  answers = inr (λ h. omega arith, inr (λ h. omega arith, inr (λ lock y. (cc (y.stands)), (None, refl, λ v f. (cc (f.stands))))));
+}
+
+-- the number that its region loaded is an old one
+takes_prewrite_b : MayTake cut (Took get_b ∷ locked_a) prewrite_b
+takes_prewrite_b = record {
+  region = omega arith;
+  allowed = record { of = two_keys; stands = refl; mutation = refl; primary = refl; mode = refl; max_commit = refl; ttl = refl; others = refl };
+  holds = refl;
+  loaded = (Took prewrite_a ∷ begun, inr (inr (inr (inl refl))), refl);
+  answers = inr (λ h. omega arith, inr (λ h. omega arith, inr (λ lock own. (cc (own.stands)), inr (unrolled 1, inr (λ c own. (cc (own.stands)), inr (λ lock e. (cc (e)), inr (λ some. (cc (some.stands)), inl (refl, (3, (omega arith, omega arith), inl (tt, refl))))))))));
+}
+
+locked_both_run : IsWorldRun cut locked_both
+locked_both_run = ((locked_a_run, takes_get_b), takes_prewrite_b)
+
+pub undecided_before : decided (Took get_b ∷ locked_a) 1 ≡ decided [] 1
+undecided_before = refl
+
+pub decided_by_the_late_prewrite : decided locked_both 1 ≡ Done (fate.Committed 3)
+decided_by_the_late_prewrite = refl
+
+takes_get_a : MayTake cut locked_both get_a
+takes_get_a = record {
+  region = omega arith;
+  allowed = λ t within. absurd (none t within);
+  holds = refl;
+  loaded = last_was locked_both;
+  answers = inr (λ h. omega arith, inr (λ h. omega arith, inl (lock_a, record { stands = refl; visible = tt; below = omega arith; met = none 1 }, refl)));
+}
+
+takes_check_a : MayTake cut (Took get_a ∷ locked_both) check_a
+takes_check_a = record {
+  region = omega arith;
+  allowed = record { of = two_keys; stands = refl; primary = refl; forced = λ e. (cc (e)) };
+  holds = refl;
+  loaded = last_was (Took get_a ∷ locked_both);
+  answers = inr (λ h. omega arith, inr (λ h. omega arith, inl (lock_a, record { stands = refl; own = refl }, inl ((refl, refl), refl))));
+}
+
+takes_check_b : MayTake cut (Took check_a ∷ Took get_a ∷ locked_both) check_b
+takes_check_b = record {
+  region = omega arith;
+  allowed = record { of = two_keys; stands = refl; async = refl; within = λ e. (cc (e)) };
+  holds = refl;
+  loaded = last_was (Took check_a ∷ Took get_a ∷ locked_both);
+  answers = inr (λ h. omega arith, inl (lock_b, record { stands = refl; own = refl }, refl));
+}
+
+asked_run : IsWorldRun cut asked
+asked_run = (((locked_both_run, takes_get_a), takes_check_a), takes_check_b)
+
+takes_resolve_a : MayTake cut asked resolve_a
+takes_resolve_a = record {
+  region = omega arith;
+  allowed = record { stands = λ e. (cc (e)); decision = refl };
+  holds = refl;
+  loaded = last_was asked;
+  answers = inr (λ h. omega arith, inl (lock_a, record { stands = refl; own = refl }, inr (λ low. omega (arith, low), inr (λ rec others. (cc (others.stands)), refl))));
+}
+
+takes_get_again : MayTake cut (Took resolve_a ∷ asked) get_again
+takes_get_again = record {
+  region = omega arith;
+  allowed = λ t within. absurd (none t within);
+  holds = refl;
+  loaded = last_was (Took resolve_a ∷ asked);
+  answers = inr (λ h. omega arith, inr (λ h. omega arith, inr (λ lock y. (cc (y.stands)), (None, refl, λ v f. above f.at f.rec f.stands f.upto))));
+}
+  where
+    above : (c : ℕ) (rec : CommitRecord) → cond (3 == c) (Some (CommitOf record { mutation = Put x; start = 1; overlapped_rollback = false })) None ≡ Some (CommitOf rec) → c ≤ 2 → ⊥
+    above c rec e low = elim (nat_test 3 c) [ inl y ↦ omega (arith, y.1, low) | inr y ↦ (let at : None ≡ Some (CommitOf rec) = rw y.0 at e in cc (at)) ]
+
+pub resolver_finishes : IsWorldRun cut (Took get_again ∷ Took resolve_a ∷ asked)
+resolver_finishes = ((asked_run, takes_resolve_a), takes_get_again)
+
+pub shadow_of_it : shadow (Took get_again ∷ Took resolve_a ∷ asked) ≡ step.Read a 2 None ∷ step.Commit 1 3 ∷ step.Read b 2 None ∷ step.Begin 2 ∷ step.Draw 2 ∷ step.Declare 1 two_keys.changes ∷ step.Begin 1 ∷ step.Draw 1 ∷ []
+shadow_of_it = refl

@@ -1,5 +1,0 @@
-use Rattle.tx_core.proofs.StaysAllowed.{allowed_later}
-use Rattle.tx_core.proofs.stays.allowed_stays.Goals as goal
-
-pub returns : goal.returns
-returns c = allowed_later
