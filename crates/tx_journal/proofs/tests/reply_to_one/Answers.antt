@@ -13,4 +13,4 @@ ask-requires g c =
     let three = c.requires.three in
     let first = c.in-Ok.ensures.seats 0 (omega arith) in
     let same = c.swap_remove-region.ensures.value ∙ first_is c.in-Ok.seats.items c.swap_remove-region.result _ first in
-    record { seat = (ap (λ k. k.seat) same, ap (λ k. k.events) same) }
+    (ap (λ k. k.seat) same, ap (λ k. k.events) same)
