@@ -14,10 +14,10 @@ use Rattle.tx_machine.specs.declared.reads.Reads.{Reads}
 use Rattle.tx_machine.specs.declared.step.Step.TheVariants.{Commit}
 use Rattle.tx_machine.specs.Keys.{mutation_at}
 use Rattle.tx_machine.specs.Machine.{Table, MayCommit, after}
-use Rattle.tx_machine.specs.Histories.{Fates}
+use Rattle.tx_machine.specs.Versions.{Fates}
 use Rattle.tx_machine.specs.Noted.{IsNoted}
 use Rattle.tx_machine.specs.Shown.{Index}
-use Rattle.tx_machine.specs.Stands.{version_of, puts, Tells, IsFree, InOrder}
+use Rattle.tx_machine.specs.Representation.{version_of, puts, Tells, IsFree, InOrder}
 use Rattle.tx_machine.proofs.Distinct.{distinct_take}
 use Rattle.tx_machine.proofs.CommitSteps.{may_commit, tells_stale, distinct_set, mutation_front, committed, in_order}
 

@@ -9,7 +9,7 @@ use Rattle.tx_machine.specs.declared.machine.Stage.{Stage}
 use Rattle.tx_machine.specs.declared.machine.Stage.TheVariants.{Declared}
 use Rattle.tx_machine.specs.Keys.{mutation_at}
 use Rattle.tx_machine.specs.Noted.{IsNoted}
-use Rattle.tx_machine.specs.Stands.{Keeps}
+use Rattle.tx_machine.specs.Representation.{Keeps}
 use Rattle.tx_machine.proofs.Distinct.{distinct_take}
 use Rattle.tx_machine.proofs.Commits.{on_err}
 use Rattle.tx_machine.proofs.CommitSteps.{not_blocked, no_fate}

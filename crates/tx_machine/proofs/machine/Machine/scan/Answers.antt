@@ -2,7 +2,7 @@ use Rattle.std.proofs.Common.{◌≡◌, ◌≤◌, sym, ap, ◌∙◌, arith, b
 use Rattle.tx_machine.specs.declared.reads.Span.{Span}
 use Rattle.std.specs.Ordering.{nat_cmp}
 use Rattle.std.specs.BTreeMap as tree
-use Rattle.tx_machine.specs.Stands.{Keeps}
+use Rattle.tx_machine.specs.Representation.{Keeps}
 use Rattle.tx_machine.specs.Keys.{covered}
 use Rattle.tx_machine.specs.Noted.{AddsRead, covers_of, span_covers}
 use Rattle.tx_machine.proofs.Commits.{on_err}
