@@ -1,5 +1,5 @@
 -- A commit: what is free is what the table allows, and what is listed is what the table then says.
-use Rattle.std.proofs.Common.{zero, suc, ◌≡◌, ◌≢◌, ℕ, ◌+◌, ◌-◌, ◌<◌, ◌≤◌, ◌==◌, ◌⊎◌, inl, inr, Bool, true, false, cond, List, [], ◌∷◌, take, Option, Some, None, bytes_eq, refl, sym, ap, subst, ◌∙◌, arith, is_some, IsTrue}
+use Rattle.std.proofs.Common.{zero, suc, ◌≡◌, ◌≢◌, ℕ, ◌+◌, ◌<◌, ◌≤◌, ◌==◌, ◌⊎◌, inl, inr, false, cond, List, [], ◌∷◌, take, Option, Some, None, refl, sym, ap, subst, ◌∙◌, arith, is_some}
 use Rattle.std.proofs.Common.{Bor}
 use Rattle.std.specs.Option.{option_copied}
 use Rattle.std.specs.List.{Contains}
@@ -10,21 +10,20 @@ use Rattle.tx_types.specs.declared.key.Key.{Key}
 use Rattle.tx_types.specs.declared.mutation.Change.{Change}
 use Rattle.tx_types.specs.declared.mutation.Mutation.{Mutation}
 use Rattle.tx_types.specs.declared.mutation.Fate.{Fate}
-use Rattle.tx_types.specs.declared.mutation.Fate.TheVariants.{Committed, Aborted}
+use Rattle.tx_types.specs.declared.mutation.Fate.TheVariants.{Committed}
 use Rattle.tx_machine.specs.declared.versions.Version.{Version}
 use Rattle.tx_machine.specs.declared.machine.Stage.{Stage}
-use Rattle.tx_machine.specs.declared.machine.Stage.TheVariants.{Drawn, Begun, Declared}
+use Rattle.tx_machine.specs.declared.machine.Stage.TheVariants.{Declared}
 use Rattle.tx_machine.specs.declared.reads.Reads.{Reads}
 use Rattle.tx_machine.specs.declared.step.Step.TheVariants.{Commit}
-use Rattle.tx_types.specs.Keys.{IsVisible}
 use Rattle.tx_machine.specs.Keys.{mutation_at, IsDistinct}
-use Rattle.tx_machine.specs.Machine.{State, Open, Done, Row, Rows, Table, Commits, Overlap, IsRead, MayCommit, Admits, after, with_row, changes_in}
-use Rattle.tx_machine.specs.Versions.{Versions, Fates, Listed, IsOrderly}
+use Rattle.tx_machine.specs.Machine.{State, Open, Done, Rows, Table, Commits, Overlap, MayCommit, after, with_row, changes_in}
+use Rattle.tx_machine.specs.Versions.{Versions, Fates, Listed}
 use Rattle.tx_machine.specs.Noted.{IsNoted}
 use Rattle.tx_machine.specs.Shown.{Index, versions_of}
-use Rattle.tx_machine.specs.Representation.{row_of, state_of, version_in, version_of, put_version, puts, ListsCommits, KeepsReads, Tells, ListedOn, InOrder, IsFree, IsBlocked}
-use Rattle.tx_machine.proofs.Basics.{nat_test, key_test, cond_true, cond_false, some_same, nat_same, none_is}
-use Rattle.tx_machine.proofs.Distinct.{distinct_take, contained}
+use Rattle.tx_machine.specs.Representation.{row_of, version_in, version_of, put_version, puts, ListsCommits, Tells, ListedOn, InOrder, IsFree, IsBlocked}
+use Rattle.tx_machine.proofs.Basics.{nat_test, key_test, cond_true, cond_false, some_same, nat_same}
+use Rattle.tx_machine.proofs.Distinct.{contained}
 use Rattle.tx_machine.proofs.Steps.{at, row_done, row_ended, state_in, some_changes, rows, row_here, row_other, one_row}
 
 -- ---- the versions of a write set

@@ -1,12 +1,11 @@
 -- What a commit lists, and what forbids it.
-use Rattle.std.proofs.Common.{◌≡◌, ◌≢◌, ℕ, ◌+◌, ◌≤◌, ◌<◌, ◌==◌, ◌⊎◌, ◌++◌, inl, inr, Bool, true, false, not, cond, List, [], ◌∷◌, length, take, get_or, Option, Some, None, bytes_eq, refl, sym, ap, subst, ◌∙◌, arith, IsTrue}
+use Rattle.std.proofs.Common.{◌≡◌, ℕ, ◌+◌, ◌<◌, ◌==◌, ◌⊎◌, ◌++◌, inl, inr, Bool, true, false, not, cond, List, [], ◌∷◌, length, take, get_or, Option, Some, None, bytes_eq, refl, sym, ap, subst, ◌∙◌}
 use Rattle.std.proofs.Common.{Result, Ok, Err}
 use Rattle.std.specs.Result.{OnErr}
 use Rattle.std.proofs.lemmas.List.{take_more}
 use Rattle.std.specs.Cmp.{unsigned_ties}
 use Rattle.std.specs.Cmp.Lexicographic.{slice_cmp}
 use Rattle.std.specs.Ordering.{nat_cmp, is_eq}
-use Rattle.std.specs.BTreeMap as tree
 use Rattle.std.proofs.lemmas.Map.Text.{is_eq-slice_cmp}
 use Rattle.tx_types.specs.declared.key.Key.{Key}
 use Rattle.tx_types.specs.declared.mutation.Change.{Change}
@@ -14,13 +13,13 @@ use Rattle.tx_types.specs.declared.mutation.Mutation.{Mutation}
 use Rattle.tx_machine.specs.declared.versions.Version.{Version}
 use Rattle.tx_machine.specs.declared.reads.Reads.{Reads}
 use Rattle.tx_types.specs.Keys.{IsVisible}
-use Rattle.tx_machine.specs.Keys.{mutation_at, IsDistinct}
+use Rattle.tx_machine.specs.Keys.{mutation_at}
 use Rattle.tx_machine.specs.Machine.{Overlap}
 use Rattle.tx_machine.specs.Versions.{Versions, Fates}
 use Rattle.tx_machine.specs.Noted.{IsNoted}
 use Rattle.tx_machine.specs.Shown.{Index, versions_of}
-use Rattle.tx_machine.specs.Representation.{version_in, version_of, put_version, puts, ListedOn, IsFree, InOrder}
-use Rattle.tx_machine.proofs.Basics.{nat_test, key_test, cond_true, cond_false, some_same, key_same, nat_same}
+use Rattle.tx_machine.specs.Representation.{version_in, put_version, puts, ListedOn, IsFree}
+use Rattle.tx_machine.proofs.Basics.{key_test, cond_true, cond_false, some_same}
 
 -- ---- one version more
 

@@ -1,6 +1,5 @@
 -- Reads: what the versions show is what the table sees.
-use Rattle.std.proofs.Common.{zero, suc, length, get_or, ◌&&◌, ◌||◌, nat_lt, ◌≡◌, ℕ, ◌+◌, ◌<◌, ◌≤◌, ◌⊎◌, inl, inr, Bool, true, false, List, [], ◌∷◌, Option, Some, None, bytes_eq, refl, sym, ap, subst, ◌∙◌, arith, IsTrue}
-use Rattle.std.specs.List.{Contains}
+use Rattle.std.proofs.Common.{zero, suc, length, get_or, ◌&&◌, ◌||◌, nat_lt, ◌≡◌, ℕ, ◌<◌, ◌≤◌, inl, inr, Bool, true, false, List, [], ◌∷◌, Option, Some, None, bytes_eq, refl, sym, ap, subst, ◌∙◌, arith}
 use Rattle.std.specs.Ordering.{nat_cmp}
 use Rattle.std.specs.BTreeMap as tree
 use Rattle.tx_types.specs.declared.key.Key.{Key}
@@ -11,15 +10,13 @@ use Rattle.tx_types.specs.declared.mutation.Mutation.TheVariants.{Put}
 use Rattle.tx_machine.specs.declared.machine.Stage.{Stage}
 use Rattle.tx_machine.specs.declared.reads.Reads.{Reads}
 use Rattle.tx_machine.specs.declared.step.ScanRead.{ScanRead}
-use Rattle.tx_machine.specs.declared.step.Step.TheVariants.{Read, Scan}
-use Rattle.tx_types.specs.Keys.{key_lt, key_le, value_in, reaches, IsVisible}
-use Rattle.tx_machine.specs.Keys.{covered}
-use Rattle.tx_machine.specs.Machine.{Table, Commits, Newest, NoneBetween, Sees, SeesRows, IsRead, Reading, Admits, after, with_read}
-use Rattle.tx_machine.specs.Versions.{Versions, Fates, Listed, BareBetween, NewestIn, SeenIn}
-use Rattle.tx_machine.specs.Noted.{IsNoted, Grows, AddsRead, SameReads, EndsWithin}
+use Rattle.tx_types.specs.Keys.{key_lt, key_le, value_in, reaches}
+use Rattle.tx_machine.specs.Machine.{Table, Commits, Newest, Sees, SeesRows, IsRead, with_read}
+use Rattle.tx_machine.specs.Versions.{Versions, Fates, Listed, NewestIn, SeenIn}
+use Rattle.tx_machine.specs.Noted.{IsNoted, AddsRead, SameReads, EndsWithin}
 use Rattle.tx_machine.specs.Shown.{Index, versions_of, SeenOf, Shows, ShowsRows}
-use Rattle.tx_machine.specs.Representation.{version_in, version_of, Tells, KeepsReads, ListedOn}
-use Rattle.tx_machine.proofs.Basics.{cond_true, cond_false, some_same, key_test, key_same}
+use Rattle.tx_machine.specs.Representation.{version_of, Tells, ListedOn}
+use Rattle.tx_machine.proofs.Basics.{cond_true, cond_false, key_test, key_same}
 use Rattle.tx_machine.proofs.CommitSteps.{on_commit, commit_on}
 
 module _ (last : ℕ) (stages : ℕ → Option Stage) (fates : Fates) (index : Index) (reads : Reads) (table : Table)

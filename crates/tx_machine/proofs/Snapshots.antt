@@ -1,6 +1,6 @@
 -- What every run of the machine says: what has ended stays so, no two overlapping transactions commit one key, and what a read has
 -- seen is what it would see at any later moment.
-use Rattle.std.proofs.Common.{◌≡◌, ◌≢◌, ℕ, ◌<◌, ◌≤◌, ◌==◌, ◌++◌, ◌⊎◌, inl, inr, true, cond, List, [], ◌∷◌, Option, Some, None, bytes_eq, IsTrue, refl, sym, ap, subst, ◌∙◌, arith}
+use Rattle.std.proofs.Common.{◌≡◌, ◌≢◌, ℕ, ◌≤◌, ◌==◌, ◌++◌, ◌⊎◌, inl, inr, List, [], ◌∷◌, Option, Some, None, refl, sym, ap, subst, ◌∙◌, arith}
 use Rattle.std.proofs.lemmas.Bool.{eq-eqb}
 use Rattle.tx_types.specs.declared.key.Key.{Key}
 use Rattle.tx_types.specs.declared.value.Value.{Value}
@@ -12,9 +12,9 @@ use Rattle.tx_types.specs.declared.mutation.Fate.TheVariants.{Committed, Aborted
 use Rattle.tx_machine.specs.declared.step.Step.{Step}
 use Rattle.tx_machine.specs.declared.step.Step.TheVariants as step
 use Rattle.tx_types.specs.Keys.{value_in, IsVisible}
-use Rattle.tx_machine.specs.Keys.{mutation_at, covered}
+use Rattle.tx_machine.specs.Keys.{mutation_at}
 use Rattle.tx_machine.specs.declared.step.ScanRead.{ScanRead}
-use Rattle.tx_machine.specs.Machine.{State, Open, Done, Row, Rows, Table, Commits, NoneBetween, Newest, Sees, SeesRows, IsRead, Overlap, MayCommit, Admits, with_row, changes_in, after, table_of, IsRun}
+use Rattle.tx_machine.specs.Machine.{State, Open, Done, Row, Rows, Table, Commits, Newest, Sees, SeesRows, IsRead, Overlap, MayCommit, Admits, with_row, changes_in, after, table_of, IsRun}
 use Rattle.tx_machine.proofs.Basics.{nat_test, key_same, some_same, cond_true, cond_false}
 
 -- the transaction that started at t has ended so

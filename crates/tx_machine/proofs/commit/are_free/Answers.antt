@@ -1,4 +1,4 @@
-use Rattle.std.proofs.Common.{take, arith, sym, subst}
+use Rattle.std.proofs.Common.{subst}
 use Rattle.tx_types.specs.declared.mutation.Change.{Change}
 use Rattle.tx_machine.specs.Representation.{IsFree}
 use Rattle.tx_machine.proofs.Commits.{free_more}

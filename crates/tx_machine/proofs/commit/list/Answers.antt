@@ -1,11 +1,10 @@
-use Rattle.std.proofs.Common.{◌≡◌, ℕ, sym, ap, ◌∙◌, refl, Some, None, List, Option, cond}
-use Rattle.std.specs.Cmp.Lexicographic.{slice_cmp}
+use Rattle.std.proofs.Common.{◌≡◌, ℕ, sym, ap, ◌∙◌, refl, Some, List, Option, cond}
 use Rattle.std.specs.Ordering.{nat_cmp}
 use Rattle.std.specs.BTreeMap as tree
 use Rattle.std.specs.Map.{lookup}
 use Rattle.tx_machine.specs.declared.versions.Version.{Version}
 use Rattle.tx_machine.specs.Versions.{Versions}
-use Rattle.tx_machine.specs.Shown.{Index, versions_of}
+use Rattle.tx_machine.specs.Shown.{versions_of}
 use Rattle.tx_machine.specs.Representation.{version_in}
 use Rattle.tx_machine.proofs.Commits.{put_at, same_at, on_err, put_first}
 use Rattle.tx_machine.proofs.commit.list.Goals as goal

@@ -1,4 +1,4 @@
-use Rattle.std.proofs.Common.{◌≡◌, ℕ, sym, ap, ◌∙◌, ◌==◌, cond, bytes_eq, Some}
+use Rattle.std.proofs.Common.{ap, ◌∙◌, ◌==◌, cond, bytes_eq, Some}
 use Rattle.tx_types.specs.declared.mutation.Mutation.{Mutation}
 use Rattle.tx_machine.specs.Representation.{version_of}
 use Rattle.tx_types.specs.declared.mutation.Change.{Change}

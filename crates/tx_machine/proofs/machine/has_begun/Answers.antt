@@ -1,6 +1,5 @@
 use Rattle.std.proofs.Common.{sym, ap, ◌∙◌, Some, Option}
 use Rattle.tx_machine.specs.declared.machine.Stage.{Stage}
-use Rattle.tx_machine.specs.declared.machine.Stage.TheVariants.{Declared}
 use Rattle.tx_machine.specs.Representation.{row_of}
 use Rattle.tx_machine.proofs.machine.has_begun.Goals as goal
 

@@ -1,4 +1,4 @@
-use Rattle.std.proofs.Common.{◌≡◌, ℕ, ◌≤◌}
+use Rattle.std.proofs.Common.{◌≤◌}
 use Rattle.tx_machine.specs.Versions.{BareBetween}
 use Rattle.tx_machine.proofs.versions.seen.Given as goal
 
