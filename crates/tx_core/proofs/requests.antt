@@ -14,5 +14,8 @@ pub mod TxnHeartBeat
 pub mod CheckTxnStatus
 pub mod CheckSecondaryLocks
 pub mod ResolveLock
--- What collectors send.
-pub mod SafePoints
+-- What collectors send: to a region, of no transaction.
+pub mod OnRegion
+pub mod RaiseSafe
+pub mod LocksBelow
+pub mod Collect

@@ -94,7 +94,7 @@ pub record AllowsResolveLock (h : History) (b : ResolveLock) : Type 0 where
   pub stands : declared h b.start ≢ None
   pub decision : decided h b.start ≡ Done b.fate
 
--- The requests that may be made after a history. What is allowed stays so, however the history goes on.
+-- The requests that may be made after a history. What is allowed stays so, however the history grows.
 abbrev pub Allowed : History → Body → Type 0
 Allowed h (body.Get b) = AllowsRead h b.at b.bypass
 Allowed h (body.Scan b) = AllowsRead h b.at b.bypass

@@ -30,7 +30,7 @@ pub record WasToldOf (h : History) (info : LockInfo) : Type 0 where
 -- primary and some key of the transaction was accepted two-phase: then it may have been pushed.
 pub record IsLockOf (h : History) (info : LockInfo) : Type 0 where
   pub of : Declaration
-  pub stands : declared h info.start ≡ Some of
+  pub declares : declared h info.start ≡ Some of
   pub within : mutation_at of.changes info.key ≢ None
   pub primary : is_first of.changes info.primary ≡ true
   pub async : info.mode ≡ Async → of.mode ≡ Async

@@ -14,8 +14,8 @@ ghost use Rattle.tx_types.specs.declared.key.Key.{Key};
 ghost use Rattle.tx_types.specs.declared.lock.LockInfo.{LockInfo};
 ghost use Rattle.tx_types.specs.declared.mutation.Fate.TheVariants.{Committed};
 
-/// What is allowed after a history is allowed after each world run that goes on from it: so a request that was allowed
-/// when it was sent is allowed whenever it is taken, however late.
+/// What is allowed after a history is allowed after each world run that begins with it: so a request that was allowed when
+/// it was sent is allowed whenever it is taken, however late.
 pub fn allowed_stays()
     ensures { (bounds : List Key) (more h : History) (body : Body) → IsWorldRun bounds (more ++ h) → Allowed h body → Allowed (more ++ h) body }
 {}

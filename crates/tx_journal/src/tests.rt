@@ -21,9 +21,9 @@ mod senders;
 fn draw<J: Naming>(seat: &mut Seat<J>, ticks: u32) -> u64
     requires { 0 < ticks }
 {
-    match seat.draw(ticks) {
-        Ok(ts) => ts.get(),
-        Err(_) => 0,
+    match seat.draw(ticks).ok() {
+        Some(ts) => ts.get(),
+        None => 0,
     }
 }
 
@@ -31,10 +31,9 @@ fn draw<J: Naming>(seat: &mut Seat<J>, ticks: u32) -> u64
 fn seats_of<J: Naming>(alloc: Global, opened: Opened) -> Option<Vec<Seat<J>>>
     requires { (opened.table ≡ J.table) × (opened.bounds ≡ J.bounds) × (opened.seats ≡ J.seats) }
 {
-    match opened.named::<J>(alloc) {
-        Ok((_, seats)) => Some(seats),
-        Err(_) => None,
-    }
+    let (journal, seats) = opened.named::<J>(alloc).ok()?;
+    drop(journal);
+    Some(seats)
 }
 
 // Records that a transaction begins at a number.
@@ -42,7 +41,9 @@ fn record_begin<J: Naming>(seat: &mut Seat<J>, start: Ts)
     requires { MayRecord J.bounds seat.old.seat seat.old.events (Began start) }
     ensures { HasRecorded J.bounds seat.old.seat seat.old.events (Began start) seat.new.events }
 {
-    seat.record(&Event::Began(start));
+    let event = Event::Began(start);
+    seat.record(&event);
+    drop(event);
 }
 
 // Begins a transaction, and tells of it.
@@ -196,32 +197,32 @@ fn spent_seat_draws_nothing(rt: HostRuntime) -> Result<(), Fail> {
 }
 
 // A region that has taken nothing raises its safe point to 0.
-fn raise<J: Naming>(mut seat: Seat<J>, mut request: Request<J>) -> Option<Reply<J>>
-    requires seat { (seat.seat ≡ 0) × (seat.events ≡ []) }
+fn raise<J: Naming>(region: &mut Seat<J>, request: Request<J>, copy: Request<J>) -> Reply<J>
+    requires region { (region.old.seat ≡ 0) × (region.old.events ≡ []) }
     requires body { request.body ≡ asks.RaiseSafe (record { region = 0; safe = 0 }) }
+    requires copy { copy ≡ request }
 {
-    let Ok(copy) = request.clone(&seat) else {
-        return None;
-    };
     let (by, body) = copy.into_parts();
-    seat.learn(by);
-    let loaded = seat.last();
-    let region = RegionNo::new(0);
+    region.learn(by);
+    let loaded = region.last();
+    let number = RegionNo::new(0);
     let event = Event::Took(Taken {
-        region,
+        region: number,
         body,
         loaded,
         answer: Answer::Raised,
     });
-    seat.record(&event);
+    region.record(&event);
     drop(event);
-    Some(Reply::new(request, Some(Answer::Raised), seat.tell()))
+    Reply::new(request, Some(Answer::Raised), region.tell())
 }
 
 // A session hears a reply: whether it has an answer.
 fn hear<J: Naming>(session: &mut Seat<J>, mut reply: Reply<J>) -> bool {
     session.learn(reply.tell(session));
-    reply.answer().is_some()
+    let heard = reply.answer().is_some();
+    drop(reply);
+    heard
 }
 
 // What a session knows, where the journal has no name.
@@ -230,20 +231,22 @@ fn leave<J: Naming>(mut session: Seat<J>) -> Unnamed {
     told.unnamed(session)
 }
 
-// A session asks the first region.
-fn ask<J: Naming>(mut session: Seat<J>, region: Seat<J>) -> Option<Unnamed>
-    requires seat { (region.seat ≡ 0) × (region.events ≡ []) }
+// A session asks the first region: whether it has an answer.
+fn ask<J: Naming>(session: &mut Seat<J>, region: &mut Seat<J>) -> bool
+    requires { (region.old.seat ≡ 0) × (region.old.events ≡ []) }
 {
     let raise_safe = RaiseSafe {
         region: RegionNo::new(0),
         safe: Ts::ZERO,
     };
-    let request = Request::new(session.tell(), Body::RaiseSafe(raise_safe));
-    let heard = match raise(region, request) {
-        Some(reply) => hear(&mut session, reply),
-        None => false,
-    };
-    if heard { Some(leave(session)) } else { None }
+    let mut request = Request::new(session.tell(), Body::RaiseSafe(raise_safe));
+    match request.clone(session).ok() {
+        Some(copy) => hear(session, raise(region, request, copy)),
+        None => {
+            drop(request);
+            false
+        }
+    }
 }
 
 // Of the seats the first is a region's, and the last a session's.
@@ -254,9 +257,12 @@ fn reply_to_one<J: Naming>(alloc: Global, opened: Opened) -> Option<Unnamed>
     let Ok((_, mut seats)) = opened.named::<J>(alloc) else {
         return None;
     };
-    let region = seats.swap_remove(0);
-    let session = seats.swap_remove(0);
-    ask(session, region)
+    let mut region = seats.swap_remove(0);
+    let mut session = seats.swap_remove(0);
+    let heard = ask(&mut session, &mut region);
+    drop(region);
+    let seen = leave(session);
+    if heard { Some(seen) } else { None }
 }
 
 // The keys between two regions.

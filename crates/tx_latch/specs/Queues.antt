@@ -5,6 +5,7 @@ use Rattle.std.specs.List.{filter, slice_get, list_any}
 use Rattle.std.specs.Option.{option_map, is_some}
 use Rattle.std.specs.Vec.{vec_capacity}
 use Rattle.std.specs.HashMap.{get}
+use Rattle.tx_types.specs.declared.limits.TheConstants.{LATCH_SLOTS}
 use Rattle.tx_latch.specs.Asked.{Command, contains, meets}
 use Rattle.tx_latch.specs.declared.queues.Entry.{Entry}
 use Rattle.tx_latch.specs.declared.queues.Queues.{Queues}
@@ -85,7 +86,7 @@ pub record Chained (ls : List (Option Link)) (at : ℕ → Option ℕ) (last : �
   -- and the count of those that it stands directly behind
   pub ahead : (i : ℕ) (l : Link) → slice_index_or ls i None ≡ Some l → l.ahead ≡ ahead_of l.cid (commands ls)
   -- each slot has its last command
-  pub last_is : (s : ℕ) → s < 256 → last s ≡ last_in (commands ls) s
+  pub last_is : (s : ℕ) → s < LATCH_SLOTS → last s ≡ last_in (commands ls) s
   -- there is room for one more behind each command in each slot in which it is the last
   pub room_is : (i : ℕ) (l : Link) → slice_index_or ls i None ≡ Some l → length l.behind + length (untaken l.slots (commands (drop (suc i) ls))) ≤ room i
 

@@ -23,6 +23,7 @@ use crate::slot::Slot;
 use std::alloc::Global;
 use std::collections::HashMap;
 use tx_types::Fault;
+use tx_types::limits::LATCH_SLOTS;
 
 /// A command that stands in the list.
 #[derive(Debug, Drop)]
@@ -43,7 +44,7 @@ pub struct Queues {
     /// The place of each command, by its number.
     pub places: HashMap<u64, usize>,
     /// The last command in each slot.
-    pub last: [Option<Cid>; 256],
+    pub last: [Option<Cid>; LATCH_SLOTS],
 }
 
 impl Queues {
@@ -55,7 +56,7 @@ impl Queues {
         Queues {
             asked: Vec::new(alloc),
             places: HashMap::new(alloc),
-            last: [None; 256],
+            last: [None; LATCH_SLOTS],
         }
     }
 
@@ -96,7 +97,7 @@ impl Queues {
     /// The last command in a slot.
     fn last(&self, slot: Slot) -> Option<Cid>
         ensures value { result ≡ last_of self.now slot }
-        ensures small { slot < 256 }
+        ensures small { slot < LATCH_SLOTS }
     {
         self.last[usize::from(slot.get())]
     }
@@ -131,7 +132,7 @@ impl Queues {
     fn join(&mut self, cid: Cid, slots: &[Slot]) -> usize
         requires joinable { Joinable self.old }
         requires absent { is_asked (asked_of self.old) cid ≡ false }
-        requires small { All (λ s. s < 256) slots.now }
+        requires small { All (λ s. s < LATCH_SLOTS) slots.now }
         ensures joined { links self.new.asked.items ≡ map (option_map (joined cid (last_of self.old) slots.now)) (links self.old.asked.items) }
         ensures ahead { result ≡ count_links (λ l. list_any (λ s. is_number l.cid (last_of self.old s)) slots.now) (links self.old.asked.items) }
         ensures last { (s : ℕ) → last_of self.new s ≡ cond (contains s slots.now) (Some cid) (last_of self.old s) }
@@ -201,7 +202,7 @@ impl Queues {
 
     /// Frees those of these slots in which a command is the last.
     fn free(&mut self, cid: Cid, slots: &[Slot])
-        ensures last { (s : ℕ) → s < 256 → last_of self.new s ≡ cond (contains s slots.now && is_number cid (last_of self.old s)) None (last_of self.old s) }
+        ensures last { (s : ℕ) → s < LATCH_SLOTS → last_of self.new s ≡ cond (contains s slots.now && is_number cid (last_of self.old s)) None (last_of self.old s) }
         ensures asked { self.new.asked ≡ self.old.asked }
         ensures places { self.new.places ≡ self.old.places }
     {
@@ -378,9 +379,9 @@ fn ends_with(cids: &[Cid], cid: Cid) -> bool
     }
 }
 
-/// That each number of a slot is below 256.
+/// That each number of a slot is below `LATCH_SLOTS`.
 fn know_small(slots: &[Slot])
-    ensures { All (λ s. s < 256) slots.now }
+    ensures { All (λ s. s < LATCH_SLOTS) slots.now }
 {
     for slot in slots {
         let _number = slot.get();

@@ -4,6 +4,7 @@ ghost use Rattle.tx_latch.specs.Slots.{slot_of_key};
 
 use std::marker::Model;
 use tx_types::Key;
+use tx_types::limits::LATCH_SLOTS;
 
 /// One of the 256 slots over which latches are spread. Contracts see its number.
 #[derive(Clone, Copy, Debug, PartialEq, Eq)]
@@ -44,7 +45,7 @@ pub fn slot_of(key: &Key) -> Slot
 {
     let mut hash: u32 = 0;
     for byte in key.as_bytes() {
-        hash = (31 * hash + u32::from(*byte)) % 256;
+        hash = (31 * hash + u32::from(*byte)) % LATCH_SLOTS as u32;
     }
     Slot::new(hash as u8)
 }

@@ -1,5 +1,5 @@
 -- How a commit ends: refused in the middle it leaves what the table says, done it leaves the table after.
-use Rattle.std.proofs.Common.{◌≡◌, ℕ, ◌+◌, ◌<◌, ◌≤◌, cond, List, take, Option, Some, None, refl, sym, ap, subst, ◌∙◌}
+use Rattle.std.proofs.Common.{◌≡◌, ℕ, ◌+◌, ◌<◌, ◌≤◌, cond, List, take, Option, Some, None, sym, ap, subst, ◌∙◌}
 use Rattle.std.specs.Ordering.{nat_cmp, is_eq}
 use Rattle.std.specs.BTreeMap as tree
 use Rattle.std.specs.Map.{lookup}
@@ -14,10 +14,10 @@ use Rattle.tx_machine.specs.declared.reads.Reads.{Reads}
 use Rattle.tx_machine.specs.declared.step.Step.TheVariants.{Commit}
 use Rattle.tx_machine.specs.Keys.{mutation_at}
 use Rattle.tx_machine.specs.Machine.{Table, MayCommit, after}
-use Rattle.tx_machine.specs.Histories.{Fates}
+use Rattle.tx_machine.specs.Versions.{Fates}
 use Rattle.tx_machine.specs.Noted.{IsNoted}
 use Rattle.tx_machine.specs.Shown.{Index}
-use Rattle.tx_machine.specs.Stands.{version_of, puts, Tells, IsFree, InOrder}
+use Rattle.tx_machine.specs.Representation.{version_of, puts, Tells, IsFree, InOrder}
 use Rattle.tx_machine.proofs.Distinct.{distinct_take}
 use Rattle.tx_machine.proofs.CommitSteps.{may_commit, tells_stale, distinct_set, mutation_front, committed, in_order}
 

@@ -1,5 +1,5 @@
 -- A commit: what is free is what the table allows, and what is listed is what the table then says.
-use Rattle.std.proofs.Common.{zero, suc, ◌≡◌, ◌≢◌, ℕ, ◌+◌, ◌-◌, ◌<◌, ◌≤◌, ◌==◌, ◌⊎◌, inl, inr, Bool, true, false, cond, List, [], ◌∷◌, take, Option, Some, None, bytes_eq, refl, sym, ap, subst, ◌∙◌, arith, is_some, IsTrue}
+use Rattle.std.proofs.Common.{zero, suc, ◌≡◌, ◌≢◌, ℕ, ◌+◌, ◌<◌, ◌≤◌, ◌==◌, ◌⊎◌, inl, inr, false, cond, List, [], ◌∷◌, take, Option, Some, None, refl, sym, ap, subst, ◌∙◌, arith, is_some}
 use Rattle.std.proofs.Common.{Bor}
 use Rattle.std.specs.Option.{option_copied}
 use Rattle.std.specs.List.{Contains}
@@ -10,21 +10,20 @@ use Rattle.tx_types.specs.declared.key.Key.{Key}
 use Rattle.tx_types.specs.declared.mutation.Change.{Change}
 use Rattle.tx_types.specs.declared.mutation.Mutation.{Mutation}
 use Rattle.tx_types.specs.declared.mutation.Fate.{Fate}
-use Rattle.tx_types.specs.declared.mutation.Fate.TheVariants.{Committed, Aborted}
-use Rattle.tx_machine.specs.declared.history.Version.{Version}
+use Rattle.tx_types.specs.declared.mutation.Fate.TheVariants.{Committed}
+use Rattle.tx_machine.specs.declared.versions.Version.{Version}
 use Rattle.tx_machine.specs.declared.machine.Stage.{Stage}
-use Rattle.tx_machine.specs.declared.machine.Stage.TheVariants.{Drawn, Begun, Declared}
+use Rattle.tx_machine.specs.declared.machine.Stage.TheVariants.{Declared}
 use Rattle.tx_machine.specs.declared.reads.Reads.{Reads}
 use Rattle.tx_machine.specs.declared.step.Step.TheVariants.{Commit}
-use Rattle.tx_types.specs.Keys.{IsVisible}
 use Rattle.tx_machine.specs.Keys.{mutation_at, IsDistinct}
-use Rattle.tx_machine.specs.Machine.{State, Open, Done, Row, Rows, Table, Commits, Overlap, IsRead, MayCommit, Admits, after, with_row, changes_in}
-use Rattle.tx_machine.specs.Histories.{History, Fates, Listed, IsOrderly}
+use Rattle.tx_machine.specs.Machine.{State, Open, Done, Rows, Table, Commits, Overlap, MayCommit, after, with_row, changes_in}
+use Rattle.tx_machine.specs.Versions.{Versions, Fates, Listed}
 use Rattle.tx_machine.specs.Noted.{IsNoted}
-use Rattle.tx_machine.specs.Shown.{Index, history_of}
-use Rattle.tx_machine.specs.Stands.{row_of, state_of, version_in, version_of, put_version, puts, ListsCommits, KeepsReads, Tells, ListedOn, InOrder, IsFree, IsBlocked}
-use Rattle.tx_machine.proofs.Basics.{nat_test, key_test, cond_true, cond_false, some_same, nat_same, none_is}
-use Rattle.tx_machine.proofs.Distinct.{distinct_take, contained}
+use Rattle.tx_machine.specs.Shown.{Index, versions_of}
+use Rattle.tx_machine.specs.Representation.{row_of, version_in, version_of, put_version, puts, ListsCommits, Tells, ListedOn, InOrder, IsFree, IsBlocked}
+use Rattle.tx_machine.proofs.Basics.{nat_test, key_test, cond_true, cond_false, some_same, nat_same}
+use Rattle.tx_machine.proofs.Distinct.{contained}
 use Rattle.tx_machine.proofs.Steps.{at, row_done, row_ended, state_in, some_changes, rows, row_here, row_other, one_row}
 
 -- ---- the versions of a write set
@@ -77,22 +76,22 @@ module _ (last : ℕ) (stages : ℕ → Option Stage) (fates : Fates) (index : I
         does = h.3;
       }
 
-  on_listed : (o : Option History) (u d : ℕ) (m : Mutation) → ListedOn o fates u d m → (version_in o d ≡ Some record { start = u; mutation = m }) × (tree.get nat_cmp fates u ≡ Some (Committed d))
+  on_listed : (o : Option Versions) (u d : ℕ) (m : Mutation) → ListedOn o fates u d m → (version_in o d ≡ Some record { start = u; mutation = m }) × (tree.get nat_cmp fates u ≡ Some (Committed d))
   on_listed None u d m x = absurd x
-  on_listed (Some history) u d m x = (x.version, x.committed)
+  on_listed (Some versions) u d m x = (x.version, x.committed)
 
-  listed_on : (o : Option History) (u d : ℕ) (m : Mutation) → version_in o d ≡ Some record { start = u; mutation = m } → tree.get nat_cmp fates u ≡ Some (Committed d) → ListedOn o fates u d m
+  listed_on : (o : Option Versions) (u d : ℕ) (m : Mutation) → version_in o d ≡ Some record { start = u; mutation = m } → tree.get nat_cmp fates u ≡ Some (Committed d) → ListedOn o fates u d m
   listed_on None u d m e f = absurd (cc e)
-  listed_on (Some history) u d m e f = record { version = e; committed = f }
+  listed_on (Some versions) u d m e f = record { version = e; committed = f }
 
-  pub on_commit : (k : Key) (u d : ℕ) (m : Mutation) → ListedOn (history_of index k) fates u d m → Commits table.row k u d m
-  on_commit k u d m x = let h = on_listed (history_of index k) u d m x in listed_commit k u d m h.0 h.1
+  pub on_commit : (k : Key) (u d : ℕ) (m : Mutation) → ListedOn (versions_of index k) fates u d m → Commits table.row k u d m
+  on_commit k u d m x = let h = on_listed (versions_of index k) u d m x in listed_commit k u d m h.0 h.1
 
-  pub commit_on : (k : Key) (u d : ℕ) (m : Mutation) → Commits table.row k u d m → ListedOn (history_of index k) fates u d m
-  commit_on k u d m x = let h = commit_listed k u d m x in listed_on (history_of index k) u d m h.0 h.1
+  pub commit_on : (k : Key) (u d : ℕ) (m : Mutation) → Commits table.row k u d m → ListedOn (versions_of index k) fates u d m
+  commit_on k u d m x = let h = commit_listed k u d m x in listed_on (versions_of index k) u d m h.0 h.1
 
-  of_history : (k : Key) (history : History) (u d : ℕ) (m : Mutation) → history_of index k ≡ Some history → Listed history fates u d m → Commits table.row k u d m
-  of_history k history u d m e x = listed_commit k u d m (ap (λ (o : Option History). version_in o d) e ∙ x.version) x.committed
+  of_versions : (k : Key) (versions : Versions) (u d : ℕ) (m : Mutation) → versions_of index k ≡ Some versions → Listed versions fates u d m → Commits table.row k u d m
+  of_versions k versions u d m e x = listed_commit k u d m (ap (λ (o : Option Versions). version_in o d) e ∙ x.version) x.committed
 
   committed_same : (u c d : ℕ) → tree.get nat_cmp fates u ≡ Some (Committed c) → tree.get nat_cmp fates u ≡ Some (Committed d) → c ≡ d
   committed_same u c d e f = cc (e, f)
@@ -108,9 +107,9 @@ module _ (last : ℕ) (stages : ℕ → Option Stage) (fates : Fates) (index : I
 
   -- the commits of each key are in order
   pub in_order : InOrder index fates
-  in_order k history e = record {
-    above = λ u c m x. tells.commits.above k u c m (of_history k history u c m e x);
-    later = λ u c v d m n x y lt. later_starts k u c v d m n (of_history k history u c m e x) (of_history k history v d n e y) lt;
+  in_order k versions e = record {
+    above = λ u c m x. tells.commits.above k u c m (of_versions k versions u c m e x);
+    later = λ u c v d m n x y lt. later_starts k u c v d m n (of_versions k versions u c m e x) (of_versions k versions v d n e y) lt;
   }
 
   -- ---- what is free may be committed

@@ -1,31 +1,30 @@
 -- What a commit lists, and what forbids it.
-use Rattle.std.proofs.Common.{◌≡◌, ◌≢◌, ℕ, ◌+◌, ◌≤◌, ◌<◌, ◌==◌, ◌⊎◌, ◌++◌, inl, inr, Bool, true, false, not, cond, List, [], ◌∷◌, length, take, get_or, Option, Some, None, bytes_eq, refl, sym, ap, subst, ◌∙◌, arith, IsTrue}
+use Rattle.std.proofs.Common.{◌≡◌, ℕ, ◌+◌, ◌<◌, ◌==◌, ◌⊎◌, ◌++◌, inl, inr, Bool, true, false, not, cond, List, [], ◌∷◌, length, take, get_or, Option, Some, None, bytes_eq, refl, sym, ap, subst, ◌∙◌}
 use Rattle.std.proofs.Common.{Result, Ok, Err}
 use Rattle.std.specs.Result.{OnErr}
 use Rattle.std.proofs.lemmas.List.{take_more}
 use Rattle.std.specs.Cmp.{unsigned_ties}
 use Rattle.std.specs.Cmp.Lexicographic.{slice_cmp}
 use Rattle.std.specs.Ordering.{nat_cmp, is_eq}
-use Rattle.std.specs.BTreeMap as tree
 use Rattle.std.proofs.lemmas.Map.Text.{is_eq-slice_cmp}
 use Rattle.tx_types.specs.declared.key.Key.{Key}
 use Rattle.tx_types.specs.declared.mutation.Change.{Change}
 use Rattle.tx_types.specs.declared.mutation.Mutation.{Mutation}
-use Rattle.tx_machine.specs.declared.history.Version.{Version}
+use Rattle.tx_machine.specs.declared.versions.Version.{Version}
 use Rattle.tx_machine.specs.declared.reads.Reads.{Reads}
 use Rattle.tx_types.specs.Keys.{IsVisible}
-use Rattle.tx_machine.specs.Keys.{mutation_at, IsDistinct}
+use Rattle.tx_machine.specs.Keys.{mutation_at}
 use Rattle.tx_machine.specs.Machine.{Overlap}
-use Rattle.tx_machine.specs.Histories.{History, Fates}
+use Rattle.tx_machine.specs.Versions.{Versions, Fates}
 use Rattle.tx_machine.specs.Noted.{IsNoted}
-use Rattle.tx_machine.specs.Shown.{Index, history_of}
-use Rattle.tx_machine.specs.Stands.{version_in, version_of, put_version, puts, ListedOn, IsFree, InOrder}
-use Rattle.tx_machine.proofs.Basics.{nat_test, key_test, cond_true, cond_false, some_same, key_same, nat_same}
+use Rattle.tx_machine.specs.Shown.{Index, versions_of}
+use Rattle.tx_machine.specs.Representation.{version_in, put_version, puts, ListedOn, IsFree}
+use Rattle.tx_machine.proofs.Basics.{key_test, cond_true, cond_false, some_same}
 
 -- ---- one version more
 
 -- where a map of histories has another one at a key, whose versions have one more
-pub put_at : (old new : Key → Option History) (j key : Key) (o : Option History) (c : ℕ) (v : Version) → j ≡ key
+pub put_at : (old new : Key → Option Versions) (j key : Key) (o : Option Versions) (c : ℕ) (v : Version) → j ≡ key
     → ((k : Key) → new k ≡ cond (is_eq (slice_cmp nat_cmp j k)) o (old k))
     → ((q : ℕ) → version_in o q ≡ cond (is_eq (nat_cmp c q)) (Some v) (version_in (old key) q))
     → (k : Key) (q : ℕ) → version_in (new k) q ≡ cond (bytes_eq key k) (cond (c == q) (Some v) (version_in (old k) q)) (version_in (old k) q)
@@ -33,20 +32,20 @@ put_at old new j key o c v same is put k q =
     let new_is : new k ≡ cond (bytes_eq key k) o (old k) = is k ∙ ap (λ (b : Bool). cond b o (old k)) (is_eq-slice_cmp j k ∙ ap (λ (i : Key). bytes_eq i k) same) in
     let put_is : version_in o q ≡ cond (c == q) (Some v) (version_in (old key) q) = put q ∙ ap (λ (b : Bool). cond b (Some v) (version_in (old key) q)) (sym (unsigned_ties c q)) in
     elim (key_test key k) [
-      | inl t ↦ ap (λ (x : Option History). version_in x q) (new_is ∙ cond_true _ _ _ t.0) ∙ (put_is ∙ (ap (λ (i : Key). cond (c == q) (Some v) (version_in (old i) q)) t.1 ∙ sym (cond_true _ _ _ t.0)))
-      | inr t ↦ ap (λ (x : Option History). version_in x q) (new_is ∙ cond_false _ _ _ t.0) ∙ sym (cond_false _ _ _ t.0)
+      | inl t ↦ ap (λ (x : Option Versions). version_in x q) (new_is ∙ cond_true _ _ _ t.0) ∙ (put_is ∙ (ap (λ (i : Key). cond (c == q) (Some v) (version_in (old i) q)) t.1 ∙ sym (cond_true _ _ _ t.0)))
+      | inr t ↦ ap (λ (x : Option Versions). version_in x q) (new_is ∙ cond_false _ _ _ t.0) ∙ sym (cond_false _ _ _ t.0)
     ]
 
 -- where it has the same versions
-pub same_at : (old new : Key → Option History) (key : Key) (o : Option History)
+pub same_at : (old new : Key → Option Versions) (key : Key) (o : Option Versions)
     → ((k : Key) → new k ≡ cond (is_eq (slice_cmp nat_cmp key k)) o (old k))
     → ((q : ℕ) → version_in o q ≡ version_in (old key) q)
     → (k : Key) (q : ℕ) → version_in (new k) q ≡ version_in (old k) q
 same_at old new key o is same k q =
     let new_is : new k ≡ cond (bytes_eq key k) o (old k) = is k ∙ ap (λ (b : Bool). cond b o (old k)) (is_eq-slice_cmp key k) in
     elim (key_test key k) [
-      | inl t ↦ ap (λ (x : Option History). version_in x q) (new_is ∙ cond_true _ _ _ t.0) ∙ (same q ∙ ap (λ (i : Key). version_in (old i) q) t.1)
-      | inr t ↦ ap (λ (x : Option History). version_in x q) (new_is ∙ cond_false _ _ _ t.0)
+      | inl t ↦ ap (λ (x : Option Versions). version_in x q) (new_is ∙ cond_true _ _ _ t.0) ∙ (same q ∙ ap (λ (i : Key). version_in (old i) q) t.1)
+      | inr t ↦ ap (λ (x : Option Versions). version_in x q) (new_is ∙ cond_false _ _ _ t.0)
     ]
 
 -- ---- a write set's versions
@@ -68,12 +67,12 @@ puts_more t c set i d f now new h was is k q =
 -- ---- what nothing forbids
 
 pub free_hidden : (index : Index) (fates : Fates) (reads : Reads) (t c : ℕ) (change : Change)
-    → ((u d : ℕ) (m : Mutation) → ListedOn (history_of index change.key) fates u d m → Overlap t c u d → ⊥)
+    → ((u d : ℕ) (m : Mutation) → ListedOn (versions_of index change.key) fates u d m → Overlap t c u d → ⊥)
     → (IsVisible change.mutation → ⊥) → IsFree index fates reads t c change
 free_hidden index fates reads t c change apart hidden = record { apart = apart; unread = λ seen. absurd (hidden seen) }
 
 pub free_seen : (index : Index) (fates : Fates) (reads : Reads) (t c : ℕ) (change : Change)
-    → ((u d : ℕ) (m : Mutation) → ListedOn (history_of index change.key) fates u d m → Overlap t c u d → ⊥)
+    → ((u d : ℕ) (m : Mutation) → ListedOn (versions_of index change.key) fates u d m → Overlap t c u d → ⊥)
     → ((r : ℕ) → IsNoted reads change.key r → r < c) → IsFree index fates reads t c change
 free_seen index fates reads t c change apart unread = record { apart = apart; unread = λ seen. unread }
 
@@ -112,11 +111,11 @@ on_err (Ok x) P p = tt
 on_err (Err e) P p = p
 
 -- a key's first version
-pub put_first : (old there new : Key → Option History) (j key : Key) (o : Option History) (c : ℕ) (v : Version) → there ≡ old → j ≡ key → old key ≡ None
+pub put_first : (old there new : Key → Option Versions) (j key : Key) (o : Option Versions) (c : ℕ) (v : Version) → there ≡ old → j ≡ key → old key ≡ None
     → ((k : Key) → new k ≡ cond (is_eq (slice_cmp nat_cmp j k)) o (there k))
     → ((q : ℕ) → version_in o q ≡ cond (is_eq (nat_cmp c q)) (Some v) None)
     → (k : Key) (q : ℕ) → version_in (new k) q ≡ cond (bytes_eq key k) (cond (c == q) (Some v) (version_in (old k) q)) (version_in (old k) q)
 put_first old there new j key o c v same is_key none is put =
     put_at old new j key o c v is_key
-    (λ k. is k ∙ ap (λ (f : Key → Option History). cond (is_eq (slice_cmp nat_cmp j k)) o (f k)) same)
-    (λ q. put q ∙ ap (λ (x : Option History). cond (is_eq (nat_cmp c q)) (Some v) (version_in x q)) (sym none))
+    (λ k. is k ∙ ap (λ (f : Key → Option Versions). cond (is_eq (slice_cmp nat_cmp j k)) o (f k)) same)
+    (λ q. put q ∙ ap (λ (x : Option Versions). cond (is_eq (nat_cmp c q)) (Some v) (version_in x q)) (sym none))

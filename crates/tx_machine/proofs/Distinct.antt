@@ -1,5 +1,5 @@
 -- Write sets whose keys stand once each.
-use Rattle.std.proofs.Common.{zero, suc, ◌≡◌, ◌≢◌, ℕ, ◌+◌, ◌<◌, ◌==◌, ◌⊎◌, ◌++◌, inl, inr, Bool, true, false, not, cond, List, [], ◌∷◌, length, take, drop, get_or, Option, Some, None, bytes_eq, refl, sym, ap, subst, ◌∙◌, arith, is_some}
+use Rattle.std.proofs.Common.{zero, suc, ◌≡◌, ◌≢◌, ℕ, ◌+◌, ◌<◌, ◌==◌, ◌++◌, inl, inr, Bool, true, false, not, cond, List, [], ◌∷◌, length, take, drop, get_or, Option, Some, None, bytes_eq, refl, sym, ap, subst, ◌∙◌, arith, is_some}
 use Rattle.std.proofs.lemmas.List.{take_more, take-append-drop}
 use Rattle.std.specs.Cmp.Lexicographic.{slice_cmp}
 use Rattle.std.specs.Ordering.{nat_cmp, is_eq}
@@ -9,7 +9,7 @@ use Rattle.tx_types.specs.declared.key.Key.{Key}
 use Rattle.tx_types.specs.declared.mutation.Change.{Change}
 use Rattle.tx_types.specs.declared.mutation.Mutation.{Mutation}
 use Rattle.tx_machine.specs.Keys.{mutation_at, IsDistinct}
-use Rattle.tx_machine.proofs.Basics.{key_test, cond_true, cond_false, some_same, key_same}
+use Rattle.tx_machine.proofs.Basics.{key_test, cond_true, cond_false, key_same}
 
 none_front : (xs ys : List Change) (k : Key) → mutation_at (xs ++ ys) k ≡ None → mutation_at xs k ≡ None
 none_front [] ys k e = refl

@@ -9,3 +9,4 @@ pub mod CommitEnds
 pub mod Scans
 pub mod ReadSteps
 pub mod Runs
+pub mod Snapshots

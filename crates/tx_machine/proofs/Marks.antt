@@ -1,5 +1,5 @@
 -- What one read more leaves of the reads that are kept.
-use Rattle.std.proofs.Common.{◌≡◌, ◌≢◌, ℕ, ◌≤◌, ◌<◌, ◌==◌, ◌⊎◌, ◌++◌, ◌||◌, inl, inr, Bool, true, false, cond, List, [], ◌∷◌, Option, Some, None, bytes_eq, refl, sym, ap, subst, ◌∙◌, arith, IsTrue}
+use Rattle.std.proofs.Common.{◌≡◌, ℕ, ◌≤◌, ◌<◌, ◌==◌, ◌⊎◌, ◌++◌, ◌||◌, inl, inr, Bool, true, false, cond, List, [], ◌∷◌, Option, Some, None, bytes_eq, refl, sym, ap, subst, ◌∙◌, arith, IsTrue}
 use Rattle.std.specs.List.{list_any}
 use Rattle.std.specs.Option.{unwrap_or}
 use Rattle.std.specs.Cmp.Lexicographic.{slice_cmp}

@@ -1,6 +1,5 @@
 -- Reads: what the versions show is what the table sees.
-use Rattle.std.proofs.Common.{zero, suc, length, get_or, ◌&&◌, ◌||◌, nat_lt, ◌≡◌, ℕ, ◌+◌, ◌<◌, ◌≤◌, ◌⊎◌, inl, inr, Bool, true, false, List, [], ◌∷◌, Option, Some, None, bytes_eq, refl, sym, ap, subst, ◌∙◌, arith, IsTrue}
-use Rattle.std.specs.List.{Contains}
+use Rattle.std.proofs.Common.{zero, suc, length, get_or, ◌&&◌, ◌||◌, nat_lt, ◌≡◌, ℕ, ◌<◌, ◌≤◌, inl, inr, Bool, true, false, List, [], ◌∷◌, Option, Some, None, bytes_eq, refl, sym, ap, subst, ◌∙◌, arith}
 use Rattle.std.specs.Ordering.{nat_cmp}
 use Rattle.std.specs.BTreeMap as tree
 use Rattle.tx_types.specs.declared.key.Key.{Key}
@@ -11,29 +10,27 @@ use Rattle.tx_types.specs.declared.mutation.Mutation.TheVariants.{Put}
 use Rattle.tx_machine.specs.declared.machine.Stage.{Stage}
 use Rattle.tx_machine.specs.declared.reads.Reads.{Reads}
 use Rattle.tx_machine.specs.declared.step.ScanRead.{ScanRead}
-use Rattle.tx_machine.specs.declared.step.Step.TheVariants.{Read, Scan}
-use Rattle.tx_types.specs.Keys.{key_lt, key_le, value_in, reaches, IsVisible}
-use Rattle.tx_machine.specs.Keys.{covered}
-use Rattle.tx_machine.specs.Machine.{Table, Commits, Newest, NoneBetween, Sees, SeesRows, IsRead, Reading, Admits, after, with_read}
-use Rattle.tx_machine.specs.Histories.{History, Fates, Listed, BareBetween, NewestIn, SeenIn}
-use Rattle.tx_machine.specs.Noted.{IsNoted, Grows, AddsRead, SameReads, EndsWithin}
-use Rattle.tx_machine.specs.Shown.{Index, history_of, SeenOf, Shows, ShowsRows}
-use Rattle.tx_machine.specs.Stands.{version_in, version_of, Tells, KeepsReads, ListedOn}
-use Rattle.tx_machine.proofs.Basics.{cond_true, cond_false, some_same, key_test, key_same}
+use Rattle.tx_types.specs.Keys.{key_lt, key_le, value_in, reaches}
+use Rattle.tx_machine.specs.Machine.{Table, Commits, Newest, Sees, SeesRows, IsRead, with_read}
+use Rattle.tx_machine.specs.Versions.{Versions, Fates, Listed, NewestIn, SeenIn}
+use Rattle.tx_machine.specs.Noted.{IsNoted, AddsRead, SameReads, EndsWithin}
+use Rattle.tx_machine.specs.Shown.{Index, versions_of, SeenOf, Shows, ShowsRows}
+use Rattle.tx_machine.specs.Representation.{version_of, Tells, ListedOn}
+use Rattle.tx_machine.proofs.Basics.{cond_true, cond_false, key_test, key_same}
 use Rattle.tx_machine.proofs.CommitSteps.{on_commit, commit_on}
 
 module _ (last : ℕ) (stages : ℕ → Option Stage) (fates : Fates) (index : Index) (reads : Reads) (table : Table)
     (tells : Tells last stages (tree.get nat_cmp fates) (version_of index) (IsNoted reads) table) where
   -- ---- what is seen
 
-  module _ (k : Key) (history : History) (here : history_of index k ≡ Some history) where
-    to_commit : (u c : ℕ) (m : Mutation) → Listed history fates u c m → Commits table.row k u c m
-    to_commit u c m x = on_commit last stages fates index reads table tells k u c m (subst (λ (o : Option History). ListedOn o fates u c m) (sym here) x)
+  module _ (k : Key) (versions : Versions) (here : versions_of index k ≡ Some versions) where
+    to_commit : (u c : ℕ) (m : Mutation) → Listed versions fates u c m → Commits table.row k u c m
+    to_commit u c m x = on_commit last stages fates index reads table tells k u c m (subst (λ (o : Option Versions). ListedOn o fates u c m) (sym here) x)
 
-    to_listed : (u c : ℕ) (m : Mutation) → Commits table.row k u c m → Listed history fates u c m
-    to_listed u c m x = subst (λ (o : Option History). ListedOn o fates u c m) here (commit_on last stages fates index reads table tells k u c m x)
+    to_listed : (u c : ℕ) (m : Mutation) → Commits table.row k u c m → Listed versions fates u c m
+    to_listed u c m x = subst (λ (o : Option Versions). ListedOn o fates u c m) here (commit_on last stages fates index reads table tells k u c m x)
 
-    to_newest : (r : ℕ) (m : Mutation) → NewestIn history fates r m → Newest table.row k r m
+    to_newest : (r : ℕ) (m : Mutation) → NewestIn versions fates r m → Newest table.row k r m
     to_newest r m x = record {
       start = x.start;
       at = x.at;
@@ -42,7 +39,7 @@ module _ (last : ℕ) (stages : ℕ → Option Stage) (fates : Fates) (index : I
       newest = λ u c n y seen low high. x.newest u c n (to_listed u c n y) seen low high;
     }
 
-    from_newest : (r : ℕ) (m : Mutation) → Newest table.row k r m → NewestIn history fates r m
+    from_newest : (r : ℕ) (m : Mutation) → Newest table.row k r m → NewestIn versions fates r m
     from_newest r m x = record {
       start = x.start;
       at = x.at;
@@ -51,32 +48,32 @@ module _ (last : ℕ) (stages : ℕ → Option Stage) (fates : Fates) (index : I
       newest = λ u c n y seen low high. x.newest u c n (to_commit u c n y) seen low high;
     }
 
-    seen_sees : (r : ℕ) (found : Option Value) → SeenIn history fates r found → Sees table.row k r found
+    seen_sees : (r : ℕ) (found : Option Value) → SeenIn versions fates r found → Sees table.row k r found
     seen_sees r None x = λ v y. x v (from_newest r (Put v) y)
     seen_sees r (Some v) x = to_newest r (Put v) x
 
-    sees_seen : (r : ℕ) (found : Option Value) → Sees table.row k r found → SeenIn history fates r found
+    sees_seen : (r : ℕ) (found : Option Value) → Sees table.row k r found → SeenIn versions fates r found
     sees_seen r None x = λ v y. x v (to_newest r (Put v) y)
     sees_seen r (Some v) x = from_newest r (Put v) x
 
-  no_commit : (k : Key) → history_of index k ≡ None → (u c : ℕ) (m : Mutation) → Commits table.row k u c m → ⊥
-  no_commit k none u c m x = subst (λ (o : Option History). ListedOn o fates u c m) none (commit_on last stages fates index reads table tells k u c m x)
+  no_commit : (k : Key) → versions_of index k ≡ None → (u c : ℕ) (m : Mutation) → Commits table.row k u c m → ⊥
+  no_commit k none u c m x = subst (λ (o : Option Versions). ListedOn o fates u c m) none (commit_on last stages fates index reads table tells k u c m x)
 
-  shows_by : (k : Key) (r : ℕ) (found : Option Value) (o : Option History) → history_of index k ≡ o → SeenOf o fates r found → Sees table.row k r found
+  shows_by : (k : Key) (r : ℕ) (found : Option Value) (o : Option Versions) → versions_of index k ≡ o → SeenOf o fates r found → Sees table.row k r found
   shows_by k r None None e x = λ v y. no_commit k e y.start y.at (Put v) y.commits
   shows_by k r (Some w) None e x = absurd (cc x)
-  shows_by k r found (Some history) e x = seen_sees k history e r found x
+  shows_by k r found (Some versions) e x = seen_sees k versions e r found x
 
-  sees_by : (k : Key) (r : ℕ) (found : Option Value) (o : Option History) → history_of index k ≡ o → Sees table.row k r found → SeenOf o fates r found
+  sees_by : (k : Key) (r : ℕ) (found : Option Value) (o : Option Versions) → versions_of index k ≡ o → Sees table.row k r found → SeenOf o fates r found
   sees_by k r None None e x = refl
   sees_by k r (Some w) None e x = absurd (no_commit k e x.start x.at (Put w) x.commits)
-  sees_by k r found (Some history) e x = sees_seen k history e r found x
+  sees_by k r found (Some versions) e x = sees_seen k versions e r found x
 
   pub shows_sees : (k : Key) (r : ℕ) (found : Option Value) → Shows index fates k r found → Sees table.row k r found
-  shows_sees k r found x = shows_by k r found (history_of index k) refl x
+  shows_sees k r found x = shows_by k r found (versions_of index k) refl x
 
   pub sees_shows : (k : Key) (r : ℕ) (found : Option Value) → Sees table.row k r found → Shows index fates k r found
-  sees_shows k r found x = sees_by k r found (history_of index k) refl x
+  sees_shows k r found x = sees_by k r found (versions_of index k) refl x
 
   pub shows_rows : (s : ScanRead) → ShowsRows index fates s → SeesRows table.row s
   shows_rows s x = record { rising = x.rising; within = x.within; upto = x.upto; each = λ k e. shows_sees k s.at (value_in s.rows k) (x.each k e) }

@@ -24,7 +24,7 @@ use Rattle.tx_types.specs.declared.mutation.KeyValue.{KeyValue}
 use Rattle.tx_machine.specs.declared.step.ScanRead.{ScanRead}
 use Rattle.tx_types.specs.Keys.{key_lt, key_le, IsRising, value_in, reaches}
 use Rattle.tx_machine.specs.Keys.{covered}
-use Rattle.tx_machine.specs.Histories.{History, Fates, SeenIn}
+use Rattle.tx_machine.specs.Versions.{Versions, Fates, SeenIn}
 use Rattle.tx_machine.specs.Shown.{Index, SeenOf, Shows, ShowsRows}
 use Rattle.tx_machine.specs.Scans.{IsKeyWithin, IsBare, IsNextRow}
 use Rattle.tx_machine.proofs.Basics.{key_test, key_same, cond_true, cond_false, none_is}
@@ -153,25 +153,25 @@ all_filtered P p (x ∷ xs) h =
     let parts = filter_step P (p x) x (filter p xs) h in
     All-cons (λ y. p y ≡ true → P y) x xs parts.0 (all_filtered P p xs parts.1)
 
-abbrev pub ShowsNone : Fates → ℕ → Key × History → Type 0
+abbrev pub ShowsNone : Fates → ℕ → Key × Versions → Type 0
 ShowsNone fates r e = SeenIn e.1 fates r None
 
 module _ (index : Index) (fates : Fates) (from : Bound Key) (to : Key) (r : ℕ) where
-  none_at : (k : Key) (o : Option History) → tree.get cmp index k ≡ o → ((h : History) → o ≡ Some h → ShowsNone fates r (k, h)) → Shows index fates k r None
-  none_at k None e h = subst (λ (o : Option History). SeenOf o fates r None) (sym e) refl
-  none_at k (Some x) e h = subst (λ (o : Option History). SeenOf o fates r None) (sym e) (h x refl)
+  none_at : (k : Key) (o : Option Versions) → tree.get cmp index k ≡ o → ((h : Versions) → o ≡ Some h → ShowsNone fates r (k, h)) → Shows index fates k r None
+  none_at k None e h = subst (λ (o : Option Versions). SeenOf o fates r None) (sym e) refl
+  none_at k (Some x) e h = subst (λ (o : Option Versions). SeenOf o fates r None) (sym e) (h x refl)
 
   -- where no entry of the range shows a value, none of its keys does
   pub bare_from_entries : tree.IsOrdered cmp index → All (ShowsNone fates r) (entries_between cmp from (Excluded to) index.entries) → IsBare index fates from to r
   bare_from_entries ordered all k w =
       none_at k (tree.get cmp index k) refl
-      (λ h e. All-contains (λ (x : Key × History). range_contains cmp from (Excluded to) x.0 ≡ true → ShowsNone fates r x) index.entries (k, h) (all_filtered (ShowsNone fates r) (λ x. range_contains cmp from (Excluded to) x.0) index.entries all)
+      (λ h e. All-contains (λ (x : Key × Versions). range_contains cmp from (Excluded to) x.0 ≡ true → ShowsNone fates r x) index.entries (k, h) (all_filtered (ShowsNone fates r) (λ x. range_contains cmp from (Excluded to) x.0) index.entries all)
       ((btree_map_get_iff nat_list_cmp_total exact_bytes index ordered k h).0 e)
       (range_contains-from_IsInRange nat_list_cmp_total from (Excluded to) k w))
 
-  pub entries_from_bare : (es : List (Key × History)) → All (IsEntryInRange cmp from (Excluded to) index) es → IsBare index fates from to r → All (ShowsNone fates r) es
+  pub entries_from_bare : (es : List (Key × Versions)) → All (IsEntryInRange cmp from (Excluded to) index) es → IsBare index fates from to r → All (ShowsNone fates r) es
   entries_from_bare es all bare =
-      All-weaker (IsEntryInRange cmp from (Excluded to) index) (ShowsNone fates r) (λ e h. subst (λ (o : Option History). SeenOf o fates r None) (h.1) (bare e.0 h.0)) es all
+      All-weaker (IsEntryInRange cmp from (Excluded to) index) (ShowsNone fates r) (λ e h. subst (λ (o : Option Versions). SeenOf o fates r None) (h.1) (bare e.0 h.0)) es all
 
 -- what is left of a range in a loop
 
@@ -184,9 +184,9 @@ all_next P xs ys zs x i e p = (λ h. All-tail P x zs (All-same P (x ∷ zs) ys (
 pub all_passed : {X : Type 0} (P : X → Type 0) (xs ys : List X) → (All P xs ↔ All P ys) → ys ≡ [] → All P xs
 all_passed P xs ys i e = i.1 (All-same P ys [] e (All-nil P))
 
-pub seen_none : {X : Type 0} (f : X → Value) (history : History) (fates : Fates) (r : ℕ) (o : Option X) → SeenIn history fates r (option_map f o) → false ≡ is_some o → SeenIn history fates r None
-seen_none f history fates r None h e = h
-seen_none f history fates r (Some x) h e = absurd (cc e)
+pub seen_none : {X : Type 0} (f : X → Value) (versions : Versions) (fates : Fates) (r : ℕ) (o : Option X) → SeenIn versions fates r (option_map f o) → false ≡ is_some o → SeenIn versions fates r None
+seen_none f versions fates r None h e = h
+seen_none f versions fates r (Some x) h e = absurd (cc e)
 
 length_none : {X : Type 0} (xs : List X) → length xs ≡ 0 → xs ≡ []
 length_none [] e = refl

@@ -1,5 +1,5 @@
 -- The span of keys that a scan covered.
-use Rattle.std.proofs.Common.{◌≡◌, ℕ, ◌+◌, ◌-◌, ◌<◌, ◌≤◌, ◌&&◌, ◌||◌, ◌⊎◌, inl, inr, Bool, true, false, List, [], ◌∷◌, length, get_or, Option, Some, None, bytes_eq, nat_lt, refl, sym, ap, subst, ◌∙◌, arith, rules, IsTrue, suc, zero}
+use Rattle.std.proofs.Common.{◌≡◌, ℕ, ◌-◌, ◌<◌, ◌≤◌, ◌&&◌, ◌||◌, Bool, true, false, List, [], ◌∷◌, length, Some, bytes_eq, nat_lt, refl, sym, ap, ◌∙◌, arith, rules, IsTrue}
 use Rattle.std.specs.List.{Contains, slice_get}
 use Rattle.std.proofs.lemmas.Option.{get_or_from_slice_get}
 use Rattle.std.specs.Cmp.Lexicographic.{slice_cmp, nat_list_cmp_total}
@@ -8,11 +8,9 @@ use Rattle.std.specs.Ordering.{nat_cmp, is_eq, is_lt, is_le}
 use Rattle.std.specs.declared.cmp.Ordering.{Ordering}
 use Rattle.std.specs.declared.cmp.Ordering.TheVariants.{Less, Equal, Greater}
 use Rattle.std.proofs.lemmas.Map.Text.{is_eq-slice_cmp}
-use Rattle.std.proofs.lemmas.Bool.{cases_Bool}
 use Rattle.tx_types.specs.declared.key.Key.{Key}
 use Rattle.tx_types.specs.declared.mutation.KeyValue.{KeyValue}
 use Rattle.tx_machine.specs.declared.step.ScanRead.{ScanRead}
-use Rattle.tx_machine.specs.declared.reads.Span.{Span}
 use Rattle.tx_types.specs.Keys.{key_lt, key_le, IsRising, reaches}
 use Rattle.tx_machine.specs.Keys.{covered}
 use Rattle.tx_machine.specs.Noted.{span_covers}

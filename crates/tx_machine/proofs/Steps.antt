@@ -1,5 +1,5 @@
 -- What a step makes of the maps is what it makes of the table.
-use Rattle.std.proofs.Common.{◌≡◌, ◌≢◌, ℕ, ◌+◌, ◌-◌, ◌<◌, ◌≤◌, ◌==◌, ◌⊎◌, inl, inr, Bool, true, false, cond, List, [], ◌∷◌, Option, Some, None, refl, sym, ap, subst, ◌∙◌, arith, is_some, IsTrue}
+use Rattle.std.proofs.Common.{◌≡◌, ◌≢◌, ℕ, ◌==◌, inl, inr, Bool, false, cond, List, [], Option, Some, None, refl, sym, ap, subst, ◌∙◌, is_some}
 use Rattle.std.specs.Cmp.{unsigned_ties}
 use Rattle.std.specs.Ordering.{nat_cmp, is_eq}
 use Rattle.tx_types.specs.declared.key.Key.{Key}
@@ -7,14 +7,13 @@ use Rattle.tx_types.specs.declared.mutation.Change.{Change}
 use Rattle.tx_types.specs.declared.mutation.Mutation.{Mutation}
 use Rattle.tx_types.specs.declared.mutation.Fate.{Fate}
 use Rattle.tx_types.specs.declared.mutation.Fate.TheVariants.{Committed, Aborted}
-use Rattle.tx_machine.specs.declared.history.Version.{Version}
+use Rattle.tx_machine.specs.declared.versions.Version.{Version}
 use Rattle.tx_machine.specs.declared.machine.Stage.{Stage}
 use Rattle.tx_machine.specs.declared.machine.Stage.TheVariants.{Drawn, Begun, Declared}
-use Rattle.tx_machine.specs.declared.step.Step.TheVariants.{Begin, Declare, Commit, Abort}
-use Rattle.tx_types.specs.Keys.{IsVisible}
-use Rattle.tx_machine.specs.Keys.{mutation_at, IsDistinct}
-use Rattle.tx_machine.specs.Machine.{State, Open, Done, Row, Rows, Table, Commits, Overlap, IsRead, MayCommit, Admits, after, empty, changes_in, with_row}
-use Rattle.tx_machine.specs.Stands.{row_of, state_of, ListsCommits, KeepsReads, Tells}
+use Rattle.tx_machine.specs.declared.step.Step.TheVariants.{Begin, Declare, Abort}
+use Rattle.tx_machine.specs.Keys.{IsDistinct}
+use Rattle.tx_machine.specs.Machine.{State, Open, Done, Row, Rows, Table, Commits, Admits, after, empty, changes_in, with_row}
+use Rattle.tx_machine.specs.Representation.{row_of, ListsCommits, Tells}
 use Rattle.tx_machine.proofs.Basics.{nat_test, cond_true, cond_false, some_same, nat_same, none_is}
 
 -- ---- rows

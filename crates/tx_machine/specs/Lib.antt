@@ -1,7 +1,7 @@
-pub mod Histories
 pub mod Keys
 pub mod Machine
 pub mod Noted
-pub mod Shown
-pub mod Stands
+pub mod Representation
 pub mod Scans
+pub mod Shown
+pub mod Versions

@@ -1,9 +1,12 @@
--- The machine that commits each transaction in one step: its table, its steps and its runs. Lists of steps are newest first.
+-- Snapshot isolation, with timestamps in the open. A transaction is named by the number at which it starts, and commits at one
+-- number in one step. Whoever reads at r sees what is committed at or below r; to keep that so for ever, no later commit may come at
+-- or below r on a key that was read there (`unread`). Two transactions overlap where each starts below the other's commit; of two
+-- that share a key only one commits (`apart`). An async commit takes a number that nobody need have drawn, at most one above the
+-- last: a transaction that starts at that number sees it. Lists of steps are newest first.
 use Rattle.std.specs.Prelude.{◌≡◌, ◌≢◌, ℕ, ◌+◌, ◌<◌, ◌≤◌, ◌==◌, ◌⊎◌, Bool, true, false, cond, List, [], ◌∷◌, length, Option, Some, None, bytes_eq, IsTrue}
 use Rattle.tx_types.specs.declared.key.Key.{Key}
 use Rattle.tx_types.specs.declared.value.Value.{Value}
 use Rattle.tx_types.specs.declared.mutation.Change.{Change}
-use Rattle.tx_types.specs.declared.mutation.KeyValue.{KeyValue}
 use Rattle.tx_types.specs.declared.mutation.Mutation.{Mutation}
 use Rattle.tx_types.specs.declared.mutation.Mutation.TheVariants.{Put}
 use Rattle.tx_types.specs.declared.mutation.Fate.{Fate}
@@ -24,7 +27,7 @@ pub record Row : Type 0 where
   pub changes : Option (List Change)
   pub state : State
 
--- a read at a timestamp, and the keys that it covered
+-- a read at a timestamp, and the keys that it covered, as a test
 pub record Reading : Type 0 where
   pub covers : Key → Bool
   pub at : ℕ

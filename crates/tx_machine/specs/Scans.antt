@@ -8,7 +8,7 @@ use Rattle.std.specs.BTreeMap.Range.{IsInRange}
 use Rattle.tx_types.specs.declared.key.Key.{Key}
 use Rattle.tx_types.specs.declared.mutation.KeyValue.{KeyValue}
 use Rattle.tx_machine.specs.declared.step.ScanRead.{ScanRead}
-use Rattle.tx_machine.specs.Histories.{Fates}
+use Rattle.tx_machine.specs.Versions.{Fates}
 use Rattle.tx_machine.specs.Shown.{Index, Shows}
 
 -- k lies inside a lower bound and below a key

@@ -1,5 +1,5 @@
 -- What the versions of all keys say, as the machine keeps them.
-use Rattle.std.specs.Prelude.{◌≡◌, ℕ, ◌≤◌, List, Option, Some, None, length, IsTrue}
+use Rattle.std.specs.Prelude.{◌≡◌, ℕ, ◌≤◌, Option, Some, None, length, IsTrue}
 use Rattle.std.specs.Cmp.Lexicographic.{slice_cmp}
 use Rattle.std.specs.Ordering.{nat_cmp}
 use Rattle.std.specs.BTreeMap as tree
@@ -9,24 +9,24 @@ use Rattle.tx_types.specs.declared.value.Value.{Value}
 use Rattle.tx_machine.specs.declared.step.ScanRead.{ScanRead}
 use Rattle.tx_types.specs.Keys.{IsRising, value_in}
 use Rattle.tx_machine.specs.Keys.{covered}
-use Rattle.tx_machine.specs.Histories.{History, Fates, SeenIn}
+use Rattle.tx_machine.specs.Versions.{Versions, Fates, SeenIn}
 
 -- the versions of each key
 abbrev pub Index : Type 0
-Index = BTreeMap Key History
+Index = BTreeMap Key Versions
 
 -- the versions of a key, if it has any
-abbrev pub history_of : Index → Key → Option History
-history_of index k = tree.get (slice_cmp nat_cmp) index k
+abbrev pub versions_of : Index → Key → Option Versions
+versions_of index k = tree.get (slice_cmp nat_cmp) index k
 
 -- what a read at r sees of a key that may have versions
-abbrev pub SeenOf : Option History → Fates → ℕ → Option Value → Type 0
+abbrev pub SeenOf : Option Versions → Fates → ℕ → Option Value → Type 0
 SeenOf None fates r found = found ≡ None
-SeenOf (Some history) fates r found = SeenIn history fates r found
+SeenOf (Some versions) fates r found = SeenIn versions fates r found
 
 -- what a read of k at r sees
 abbrev pub Shows : Index → Fates → Key → ℕ → Option Value → Type 0
-Shows index fates k r found = SeenOf (history_of index k) fates r found
+Shows index fates k r found = SeenOf (versions_of index k) fates r found
 
 -- what a scan sees: the first visible keys of its range in order, at most as many as its limit
 pub record ShowsRows (index : Index) (fates : Fates) (s : ScanRead) : Type 0 where

@@ -7,13 +7,13 @@ ghost use Rattle.tx_types.specs.declared.mutation.Mutation.{Mutation};
 ghost use Rattle.tx_types.specs.Keys.{IsVisible};
 ghost use Rattle.tx_machine.specs.Keys.{mutation_at};
 ghost use Rattle.tx_machine.specs.Machine.{Overlap};
-ghost use Rattle.tx_machine.specs.Shown.{history_of};
-ghost use Rattle.tx_machine.specs.Stands.{InOrder, IsFree, IsBlocked, ListedOn, version_of, puts};
+ghost use Rattle.tx_machine.specs.Shown.{versions_of};
+ghost use Rattle.tx_machine.specs.Representation.{InOrder, IsFree, IsBlocked, ListedOn, version_of, puts};
 
-use crate::history::{Fates, Version, overlaps};
 use crate::machine::Refused;
 use crate::reads::Reads;
 use crate::scan::Index;
+use crate::versions::{Fates, Version, overlaps};
 use std::alloc::Global;
 use std::collections::BTreeMap;
 use tx_types::{Change, Key, Mutation, Ts};
@@ -29,13 +29,13 @@ fn is_visible(mutation: &Mutation) -> bool
 
 // Whether a listed commit of the key would overlap.
 fn is_overlapped(index: &Index, fates: &Fates, t: Ts, c: Ts, key: &Key) -> bool
-    ensures some { result ≡ true → (u : ℕ) × (d : ℕ) × (m : Mutation) × ListedOn (history_of index.now key.now) fates.now u d m × Overlap t c u d }
-    ensures none { result ≡ false → InOrder index.now fates.now → (u d : ℕ) (m : Mutation) → ListedOn (history_of index.now key.now) fates.now u d m
+    ensures some { result ≡ true → (u : ℕ) × (d : ℕ) × (m : Mutation) × ListedOn (versions_of index.now key.now) fates.now u d m × Overlap t c u d }
+    ensures none { result ≡ false → InOrder index.now fates.now → (u d : ℕ) (m : Mutation) → ListedOn (versions_of index.now key.now) fates.now u d m
         → Overlap t c u d → ⊥ }
 {
     match index.get(key) {
         None => false,
-        Some(history) => overlaps(history, fates, t, c),
+        Some(versions) => overlaps(versions, fates, t, c),
     }
 }
 
@@ -81,13 +81,13 @@ fn list(alloc: Global, index: &mut Index, key: &Key, c: Ts, version: Version) ->
     ensures same { OnErr result ((k : Key) (q : ℕ) → version_of index.new k q ≡ version_of index.old k q) }
     ensures err { IfErr result (λ e. e ≡ Refused.Memory) }
 {
-    if let Some(history) = index.get_mut(key) {
-        history.insert(c, version)?;
+    if let Some(versions) = index.get_mut(key) {
+        versions.insert(c, version)?;
         return Ok(());
     }
-    let mut history = BTreeMap::new(alloc);
-    history.insert(c, version)?;
-    index.insert(key.clone()?, history)?;
+    let mut versions = BTreeMap::new(alloc);
+    versions.insert(c, version)?;
+    index.insert(key.clone()?, versions)?;
     Ok(())
 }
 

@@ -2,7 +2,7 @@
 #![tactic(auto)]
 
 mod commit;
-mod history;
+mod laws;
 mod machine;
 mod reads;
 mod scan;
@@ -12,7 +12,9 @@ pub mod step;
 #[cfg(test)]
 mod tests;
 mod trace;
+mod versions;
 
+pub use laws::runs_are_snapshots;
 pub use machine::{Machine, Refused};
 pub use step::{ScanRead, Step};
 pub use trace::{Checked, check_steps, check_trace};

@@ -3,7 +3,7 @@
 //! It keeps of each number that was drawn how far its transaction has come, and of each transaction that ended how. Commits
 //! are listed by key and commit timestamp, reads by key and by timestamp, so that a step costs about the logarithm of what was
 //! before. A commit lists its versions first and ends the transaction last: where memory is refused in between, the versions
-//! stand for nothing, since their transaction is not committed.
+//! say nothing, since their transaction is not committed.
 ghost use Rattle.std.specs.Prelude.{◌≡◌, ◌↔◌, true, false, List, Option, Some, None, IsTrue, IfOk, IfErr, OnOk, OnErr, IsErrOf};
 ghost use Rattle.std.specs.Cmp.Lexicographic.{slice_cmp};
 ghost use Rattle.std.specs.Ordering.{nat_cmp};
@@ -12,15 +12,15 @@ ghost use Rattle.tx_machine.specs.Machine.{empty};
 ghost use Rattle.tx_machine.specs.Shown.{Shows};
 ghost use Rattle.tx_types.specs.declared.mutation.Change.{Change};
 ghost use Rattle.tx_types.specs.declared.mutation.Fate.{Fate};
-ghost use Rattle.tx_machine.specs.Stands.{StandsFor, Makes, Refuses, Keeps, row_of, state_of};
+ghost use Rattle.tx_machine.specs.Representation.{Represents, Makes, Refuses, Keeps, row_of, state_of};
 
 use crate::commit::{are_free, list_all};
-use crate::history::{Fates, seen};
 use crate::reads::Reads;
 use crate::scan::{Index, sees_rows};
 use crate::sets::has_distinct_keys;
 use crate::span::span_of;
 use crate::step::{ScanRead, Step};
+use crate::versions::{Fates, seen};
 use std::alloc::{AllocFailed, Global};
 use std::collections::BTreeMap;
 use tx_types::{Changes, Fate, Fault, Key, Ts, Value};
@@ -78,7 +78,7 @@ impl From<Fault> for Refused {
 impl Machine {
     /// The machine before its first step.
     pub fn new(alloc: Global) -> Machine
-        ensures { StandsFor result empty }
+        ensures { Represents result empty }
     {
         Machine {
             alloc,
@@ -264,6 +264,6 @@ fn shows(index: &Index, fates: &Fates, key: &Key, at: Ts, found: &Option<Value>)
 {
     match index.get(key) {
         None => found.is_none(),
-        Some(history) => seen(history, fates, at) == found.as_ref(),
+        Some(versions) => seen(versions, fates, at) == found.as_ref(),
     }
 }

@@ -11,7 +11,7 @@ ghost use Rattle.tx_machine.specs.declared.reads.Span.{Span};
 ghost use Rattle.tx_types.specs.declared.key.Key.{Key};
 ghost use Rattle.tx_machine.specs.Noted.{IsNoted, AddsRead, SameReads, span_covers, key_test};
 
-use crate::history::first_above;
+use crate::versions::first_above;
 use std::alloc::Global;
 use std::collections::BTreeMap;
 use tx_types::{Fault, Items, Key, Ts};

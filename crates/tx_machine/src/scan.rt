@@ -10,21 +10,21 @@ ghost use Rattle.std.specs.BTreeMap.Range.{IsFromStart};
 ghost use Rattle.tx_machine.specs.Shown.{Shows, ShowsRows};
 ghost use Rattle.tx_machine.specs.Scans.{IsBare, IsNextRow};
 
-use crate::history::{Fates, History, seen};
 use crate::step::ScanRead;
+use crate::versions::{Fates, Versions, seen};
 use std::collections::BTreeMap;
 use std::ops::{Bound, RangeBounds};
 use tx_types::{Key, KeyValue, Ts, Value};
 
 /// The versions of each key.
-pub(crate) type Index = BTreeMap<Key, History>;
+pub(crate) type Index = BTreeMap<Key, Versions>;
 
 /// The value that a read of the key at this timestamp sees.
 pub(crate) fn shown<'a>(index: &'a Index, fates: &Fates, key: &Key, at: Ts) -> Option<&'a Value>
     ensures { Shows index.now fates.now key.now at (option_map (λ v. v.now) result) }
 {
-    let history = index.get(key)?;
-    seen(history, fates, at)
+    let versions = index.get(key)?;
+    seen(versions, fates, at)
 }
 
 // Whether no key from the bound up to but not including `to` shows a value.
@@ -32,8 +32,8 @@ fn is_bare(index: &Index, fates: &Fates, from: Bound<&Key>, to: &Key, at: Ts) ->
     requires { IsFromStart (slice_cmp nat_cmp) (bound_map (λ x. x.now) from) to.now }
     ensures { IsTrue result ↔ IsBare index.now fates.now (bound_map (λ x. x.now) from.entry) to.now at }
 {
-    for (_, history) in index.range((from, Bound::Excluded(to))) {
-        if seen(history, fates, at).is_some() {
+    for (_, versions) in index.range((from, Bound::Excluded(to))) {
+        if seen(versions, fates, at).is_some() {
             return false;
         }
     }

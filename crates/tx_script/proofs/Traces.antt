@@ -5,7 +5,7 @@ use Rattle.tx_types.specs.declared.fault.Cause.{Cause}
 use Rattle.tx_machine.specs.declared.machine.Machine.{Machine}
 use Rattle.tx_machine.specs.declared.step.Step.{Step}
 use Rattle.tx_machine.specs.Machine.{empty, table_of, IsRun}
-use Rattle.tx_machine.specs.Stands.{StandsFor}
+use Rattle.tx_machine.specs.Representation.{Represents}
 use Rattle.tx_script.specs.declared.checker.Turn.TheVariants as turn
 use Rattle.tx_script.specs.declared.words.Verdict.TheVariants.{Yes, No, Fault}
 use Rattle.tx_script.specs.Lines.{lines_of}
@@ -27,9 +27,9 @@ pub record SoFar (input : List ℕ) (left : Option (List ℕ)) (machine : Machin
   pub counted : length before ≡ number
   pub says : Says 1 before steps
   pub run : IsRun (reverse steps)
-  pub stands : StandsFor machine (table_of (reverse steps))
+  pub stands : Represents machine (table_of (reverse steps))
 
-pub so_far : (known : Option (List ℕ)) (machine : Machine) → StandsFor machine empty → IfSome known (λ input. SoFar input known machine 0)
+pub so_far : (known : Option (List ℕ)) (machine : Machine) → Represents machine empty → IfSome known (λ input. SoFar input known machine 0)
 so_far None machine stands = tt
 so_far (Some input) machine stands = record {
   rest = input;
@@ -105,5 +105,5 @@ module _ {input : List ℕ} {left : Option (List ℕ)} {machine : Machine} {numb
         counted = length-append soon.before (line ∷ []) ∙ ap (λ n. n + 1) soon.counted;
         says = Says-more 1 soon.before soon.steps line step soon.says (subst (λ n. step_in n line ≡ Ok step) place found.5);
         run = subst IsRun (sym newest) (soon.run, does.0);
-        stands = subst (λ steps. StandsFor next (table_of steps)) (sym newest) does.1;
+        stands = subst (λ steps. Represents next (table_of steps)) (sym newest) does.1;
       }

@@ -1,5 +1,6 @@
 -- The lines of a text.
 use Rattle.std.specs.Prelude.{◌≡◌, ℕ, ◌<◌, ◌≤◌, ◌==◌, List, [], ◌∷◌, length, if◌then◌else◌, Option, Some}
+use Rattle.tx_types.specs.declared.limits.TheConstants.{MAX_LINE_BYTES, MAX_LINES}
 use Rattle.tx_script.specs.declared.lines.Found.{Found}
 use Rattle.tx_script.specs.declared.lines.Found.TheVariants.{Line, Long, End}
 
@@ -15,11 +16,11 @@ lines_of (x ∷ xs) = if x == 10 then [] ∷ lines_of xs else onto_first x (line
 
 -- the most bytes of a line, without its newline
 abbrev pub max_line : ℕ
-max_line = 524288
+max_line = MAX_LINE_BYTES
 
 -- the most lines of a text
 abbrev pub max_lines : ℕ
-max_lines = 1000000
+max_lines = MAX_LINES
 
 -- what stands first in the bytes, and what is left of them
 abbrev pub Reads : List ℕ → Option (List ℕ) → Found → List ℕ → Type 0

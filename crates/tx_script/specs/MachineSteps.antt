@@ -2,6 +2,7 @@
 use Rattle.std.specs.Prelude.{ℕ, ◌&&◌, List, [], ◌∷◌, length, nat_le, Option, Some, None, option_map, option_and_then, is_some, if◌then◌else◌, bytes_eq, codes}
 use Rattle.serde_json.specs.Data.{Data, Items, no_items, item}
 use Rattle.serde_json.specs.Find.{as_array, as_null, as_str, as_number, as_u64}
+use Rattle.tx_types.specs.declared.limits.TheConstants.{MAX_KEY_BYTES, MAX_SCAN_ROWS, MAX_VALUE_BYTES, MIN_KEY_BYTES}
 use Rattle.tx_types.specs.declared.key.Key.{Key}
 use Rattle.tx_types.specs.declared.value.Value.{Value}
 use Rattle.tx_types.specs.declared.mutation.Mutation.{Mutation}
@@ -20,11 +21,11 @@ number_of d = option_and_then as_u64 (as_number d)
 
 -- a string of 1 to 512 bytes
 abbrev pub key_of : Data → Option Key
-key_of d = option_and_then (λ text. if nat_le 1 (length text) && nat_le (length text) 512 then Some text else None) (as_str d)
+key_of d = option_and_then (λ text. if nat_le MIN_KEY_BYTES (length text) && nat_le (length text) MAX_KEY_BYTES then Some text else None) (as_str d)
 
 -- a string of at most 65,536 bytes
 abbrev pub value_of : Data → Option Value
-value_of d = option_and_then (λ text. if nat_le (length text) 65536 then Some text else None) (as_str d)
+value_of d = option_and_then (λ text. if nat_le (length text) MAX_VALUE_BYTES then Some text else None) (as_str d)
 
 -- what a read found: a value, or null for none
 abbrev pub found_of : Data → Option (Option Value)
@@ -32,7 +33,7 @@ found_of d = if is_some (as_null d) then Some None else option_map Some (value_o
 
 -- how many rows a scan may give: 1 to 1,024
 abbrev pub limit_of : Data → Option ℕ
-limit_of d = option_and_then (λ n. if nat_le 1 n && nat_le n 1024 then Some n else None) (number_of d)
+limit_of d = option_and_then (λ n. if nat_le 1 n && nat_le n MAX_SCAN_ROWS then Some n else None) (number_of d)
 
 -- all of a list, where each is one
 abbrev pub all_of : {A : Type 0} → (Data → Option A) → Items → Option (List A)

@@ -2,6 +2,7 @@
 use Rattle.std.specs.Prelude.{ℕ, ◌+◌, ◌-◌, ◌&&◌, Bool, false, not, List, [], ◌∷◌, length, nat_le, Option, Some, None, is_some, if◌then◌else◌, bytes_eq, codes}
 use Rattle.std.specs.Map.{update}
 use Rattle.serde_json.specs.Data.{Items, item, string}
+use Rattle.tx_types.specs.declared.limits.TheConstants.{MAX_KEY_BYTES, MAX_KEYS, MAX_LIVE_SESSIONS, MAX_NAME_BYTES, MAX_VALUE_BYTES, MIN_KEY_BYTES}
 use Rattle.tx_types.specs.declared.fault.Cause.{Cause}
 use Rattle.tx_types.specs.declared.fault.Cause.TheVariants.{Name, Order, Sessions}
 use Rattle.tx_types.specs.declared.mutation.Mutation.{Mutation}
@@ -56,13 +57,13 @@ calls refused scene more = if is_refused refused then goes scene (alone (codes "
 -- ---- names, keys and values
 
 abbrev pub is_name : List ℕ → Bool
-is_name name = nat_le 1 (length name) && nat_le (length name) 64
+is_name name = nat_le 1 (length name) && nat_le (length name) MAX_NAME_BYTES
 
 abbrev pub is_key : List ℕ → Bool
-is_key key = nat_le 1 (length key) && nat_le (length key) 512
+is_key key = nat_le MIN_KEY_BYTES (length key) && nat_le (length key) MAX_KEY_BYTES
 
 abbrev pub is_value : List ℕ → Bool
-is_value value = nat_le (length value) 65536
+is_value value = nat_le (length value) MAX_VALUE_BYTES
 
 -- ---- scenes that follow
 
@@ -126,12 +127,12 @@ abbrev pub begins : List Bool → List ℕ → Scene → Turn
 begins refused name scene =
     if not (is_name name) then stops Name
     else (if is_some (scene.session name) then stops Name
-    else (if nat_le 256 scene.live then stops Sessions
+    else (if nat_le MAX_LIVE_SESSIONS scene.live then stops Sessions
     else calls refused scene (λ left. goes (began scene name) (with_number (codes "start") (last scene.history + 1)) left)))
 
 -- the buffer has as many keys as it may, and not this one
 abbrev pub is_full : Entries → List ℕ → Bool
-is_full es key = nat_le 1024 (length es) && not (is_some (buffered es key))
+is_full es key = nat_le MAX_KEYS (length es) && not (is_some (buffered es key))
 
 -- a put before declare enters the buffer
 abbrev pub puts : List Bool → List ℕ → List ℕ → List ℕ → Scene → State → Turn

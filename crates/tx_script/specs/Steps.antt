@@ -2,6 +2,7 @@
 use Rattle.std.specs.Prelude.{ℕ, List, Option, Some, None, nat_le, option_map, option_and_then, if◌then◌else◌, bytes_eq, codes}
 use Rattle.serde_json.specs.Data.{Data, Items, no_items, item}
 use Rattle.serde_json.specs.Find.{as_array, as_str}
+use Rattle.tx_types.specs.declared.limits.TheConstants.{MAX_TTL}
 use Rattle.tx_script.specs.declared.step.Step.{Step}
 use Rattle.tx_script.specs.declared.step.Step.TheVariants.{Begin, Put, Get, Declare, Prewrite, Draw, Commit, Finish}
 use Rattle.tx_script.specs.MachineSteps.{number_of}
@@ -30,7 +31,7 @@ asked (Finish s) = finish s.now
 
 -- a time to live: at most 2^32 - 1 ticks
 abbrev pub ttl_of : Data → Option ℕ
-ttl_of d = option_and_then (λ n. if nat_le n 4294967295 then Some n else None) (number_of d)
+ttl_of d = option_and_then (λ n. if nat_le n MAX_TTL then Some n else None) (number_of d)
 
 -- the steps that name a session alone
 abbrev pub step_two : List ℕ → Data → Option Asked

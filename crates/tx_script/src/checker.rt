@@ -1,7 +1,7 @@
 //! Checking a trace: each line is read as a step and made by the machine, and one line is written, with the verdict.
 ghost use Rattle.std.specs.Prelude.{◌≡◌, ◌≤◌, length, IfOk, IfErr, IfSome};
 ghost use Rattle.tx_machine.specs.Machine.{Table, Admits, after};
-ghost use Rattle.tx_machine.specs.Stands.{StandsFor};
+ghost use Rattle.tx_machine.specs.Representation.{Represents};
 ghost use Rattle.tx_script.specs.Check.{step_in, IsVerdict, Ends, Breaks, end_of};
 ghost use Rattle.tx_script.specs.Turns.{Turns};
 ghost use Rattle.tx_script.specs.Lines.{lines_of};

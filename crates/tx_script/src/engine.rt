@@ -14,7 +14,7 @@ use std::alloc::{AllocError, Global};
 use std::collections::BTreeMap;
 use tx_client::Session;
 use tx_core::SeatNo;
-use tx_types::limits::{MAX_LIVE_SESSIONS, MAX_NAME_BYTES};
+use tx_types::limits::{MAX_LINES, MAX_LIVE_SESSIONS, MAX_NAME_BYTES};
 use tx_types::{Cause, Ts};
 
 /// What a script runs on.
@@ -67,7 +67,7 @@ impl Engine {
 
     // Enters a session that draws its start, where there is room for its name.
     fn enter(&mut self, name: &str) -> Result<Ts, AllocError>
-        requires room { (self.old.store.last < 1000000) × (self.old.begun < 1000000) }
+        requires room { (self.old.store.last < MAX_LINES) × (self.old.begun < MAX_LINES) }
         requires new_name { is_some (get_by_text self.old.sessions name.now) ≡ false }
         ensures start { IfOk result (λ start. start ≡ self.old.store.last + 1) }
         ensures ok { OnOk result ((scene : Scene) → Stands self.old scene → Stands self.new (began scene name.now)) }
@@ -86,7 +86,7 @@ impl Engine {
     }
 
     fn begin(&mut self, name: &str) -> Result<Reply, Cause>
-        requires room { (self.old.store.last < 1000000) × (self.old.begun < 1000000) }
+        requires room { (self.old.store.last < MAX_LINES) × (self.old.begun < MAX_LINES) }
         requires read { self.old.store.region.max_read ≤ self.old.store.last }
         ensures goes { IfOk result (λ reply. EngineGoes self.old self.new (λ scene refused. begins refused name.now scene) reply) }
         ensures stops { IfErr result (λ cause. EngineStops self.old (λ scene refused. begins refused name.now scene) cause) }
@@ -125,7 +125,7 @@ impl Engine {
     // Plays a step of the session of this name, which has to be live.
     fn session_step(&mut self, name: &str, step: &Step<'_>) -> Result<Reply, Cause>
         requires named { session_of (asked step.now) ≡ Some name.now }
-        requires room { (self.old.store.last < 1000000) × (self.old.store.region.max_read ≤ self.old.store.last) }
+        requires room { (self.old.store.last < MAX_LINES) × (self.old.store.region.max_read ≤ self.old.store.last) }
         ensures goes { IfOk result (λ reply. EngineGoes self.old self.new (λ scene refused. turn refused (asked step.now) scene) reply) }
         ensures stops { IfErr result (λ cause. EngineStops self.old (λ scene refused. turn refused (asked step.now) scene) cause) }
         ensures last { (self.new.store.last ≤ self.old.store.last + 1) × (self.new.store.region.max_read ≤ self.new.store.last) }
@@ -139,7 +139,7 @@ impl Engine {
 
     /// Plays one step. A growth of a session or the region that is refused is the reply `OutOfMemory`.
     pub fn play(&mut self, step: &Step<'_>) -> Result<Reply, Cause>
-        requires room { (self.old.store.last < 1000000) × (self.old.begun < 1000000) }
+        requires room { (self.old.store.last < MAX_LINES) × (self.old.begun < MAX_LINES) }
         requires read { self.old.store.region.max_read ≤ self.old.store.last }
         ensures goes { IfOk result (λ reply. EngineGoes self.old self.new (λ scene refused. turn refused (asked step.now) scene) reply) }
         ensures stops { IfErr result (λ cause. EngineStops self.old (λ scene refused. turn refused (asked step.now) scene) cause) }

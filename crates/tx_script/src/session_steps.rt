@@ -15,7 +15,7 @@ use crate::store::Store;
 use std::alloc::Global;
 use tx_client::{Phase, Session};
 use tx_core::{Answer, Get, Starts};
-use tx_types::limits::{MAX_KEY_BYTES, MAX_KEYS, MAX_VALUE_BYTES};
+use tx_types::limits::{MAX_KEY_BYTES, MAX_KEYS, MAX_LINES, MAX_VALUE_BYTES};
 use tx_types::{Cause, Fault, Key, Mutation, Value};
 
 fn is_key(key: &str) -> bool
@@ -100,7 +100,7 @@ fn read(alloc: Global, session: &Session, store: &mut Store, key: &str) -> Resul
 }
 
 fn get(alloc: Global, session: &Session, store: &mut Store, key: &str) -> Reply
-    requires room { (store.old.last < 1000000) × (store.old.region.max_read ≤ store.old.last) }
+    requires room { (store.old.last < MAX_LINES) × (store.old.region.max_read ≤ store.old.last) }
     ensures goes { SessionGoes session.now session.now store.old store.new (λ name scene refused. gets refused key.now scene session.now) result }
     ensures last { (store.new.last ≤ store.old.last + 1) × (store.new.region.max_read ≤ store.new.last) }
 {
@@ -127,7 +127,7 @@ fn declare(alloc: Global, session: &mut Session, ttl: u32) -> Result<Reply, Caus
 }
 
 fn prewrite(alloc: Global, session: &mut Session, store: &mut Store) -> Result<Reply, Cause>
-    requires room { (store.old.last < 1000000) × (store.old.region.max_read ≤ store.old.last) }
+    requires room { (store.old.last < MAX_LINES) × (store.old.region.max_read ≤ store.old.last) }
     ensures goes { IfOk result (λ reply. SessionGoes session.old session.new store.old store.new (λ name scene refused. prewrites refused name scene session.old) reply) }
     ensures stops { IfErr result (λ cause. SessionStops (λ name scene refused. prewrites refused name scene session.old) cause) }
     ensures last { (store.new.last ≤ store.old.last + 1) × (store.new.region.max_read ≤ store.new.last) }
@@ -154,7 +154,7 @@ fn prewrite(alloc: Global, session: &mut Session, store: &mut Store) -> Result<R
 }
 
 fn commit(session: &mut Session, store: &mut Store) -> Result<Reply, Cause>
-    requires room { (store.old.last < 1000000) × (store.old.region.max_read ≤ store.old.last) }
+    requires room { (store.old.last < MAX_LINES) × (store.old.region.max_read ≤ store.old.last) }
     ensures goes { IfOk result (λ reply. SessionGoes session.old session.new store.old store.new (λ name scene refused. commits refused name scene session.old) reply) }
     ensures stops { IfErr result (λ cause. SessionStops (λ name scene refused. commits refused name scene session.old) cause) }
     ensures last { (store.new.last ≤ store.old.last + 1) × (store.new.region.max_read ≤ store.new.last) }
@@ -187,7 +187,7 @@ fn commit(session: &mut Session, store: &mut Store) -> Result<Reply, Cause>
 }
 
 fn draw(session: &mut Session, store: &mut Store) -> Result<Reply, Cause>
-    requires room { (store.old.last < 1000000) × (store.old.region.max_read ≤ store.old.last) }
+    requires room { (store.old.last < MAX_LINES) × (store.old.region.max_read ≤ store.old.last) }
     ensures goes { IfOk result (λ reply. SessionGoes session.old session.new store.old store.new (λ name scene refused. draws refused name scene session.old) reply) }
     ensures stops { IfErr result (λ cause. SessionStops (λ name scene refused. draws refused name scene session.old) cause) }
     ensures last { (store.new.last ≤ store.old.last + 1) × (store.new.region.max_read ≤ store.new.last) }
@@ -207,7 +207,7 @@ pub(crate) fn act(
     store: &mut Store,
     step: &Step<'_>,
 ) -> Result<Reply, Cause>
-    requires room { (store.old.last < 1000000) × (store.old.region.max_read ≤ store.old.last) }
+    requires room { (store.old.last < MAX_LINES) × (store.old.region.max_read ≤ store.old.last) }
     ensures goes { IfOk result (λ reply. SessionGoes session.old session.new store.old store.new (λ name scene refused. session_turn refused name (asked step.now) scene session.old) reply) }
     ensures stops { IfErr result (λ cause. SessionStops (λ name scene refused. session_turn refused name (asked step.now) scene session.old) cause) }
     ensures last { (store.new.last ≤ store.old.last + 1) × (store.new.region.max_read ≤ store.new.last) }

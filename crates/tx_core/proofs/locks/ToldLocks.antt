@@ -166,7 +166,7 @@ module _ (bounds : List Key) (h : History) (run : IsWorldRun bounds h) where
       let same : is_first (set_of (declared h lock.start)) k ≡ is_first says.of.changes k = ap (λ s. is_first s k) set in
       record {
         of = says.of;
-        stands = says.stands;
+        declares = says.stands;
         within = λ none. cc (ap (λ s. mutation_at s k) (sym set) ∙ ((inv.keys k).lock lock at).does, none);
         primary = says.primary;
         async = λ is. (elim (mode_of says.of.mode) [
@@ -193,7 +193,7 @@ pub is_lock_on : (bounds : List Key) (l h : History) → IsWorldRun bounds h →
 is_lock_on bounds l h run b info is =
     record {
       of = is.of;
-      stands = declared_on bounds l h run b info.start is.of is.stands;
+      declares = declared_on bounds l h run b info.start is.of is.declares;
       within = is.within;
       primary = is.primary;
       async = is.async;

@@ -33,7 +33,9 @@ use Rattle.tx_core.proofs.requests.TxnHeartBeat.{next_heart_beat}
 use Rattle.tx_core.proofs.requests.CheckTxnStatus.{next_check_status}
 use Rattle.tx_core.proofs.requests.CheckSecondaryLocks.{next_check_secondary}
 use Rattle.tx_core.proofs.requests.ResolveLock.{next_resolve}
-use Rattle.tx_core.proofs.requests.SafePoints.{next_raise_safe, next_locks_below, next_collect}
+use Rattle.tx_core.proofs.requests.RaiseSafe.{next_raise_safe}
+use Rattle.tx_core.proofs.requests.LocksBelow.{next_locks_below}
+use Rattle.tx_core.proofs.requests.Collect.{next_collect}
 use Rattle.tx_core.proofs.locks.Shown.{ToldShown, told_first, told_next, shown_above}
 use Rattle.tx_core.proofs.runs.Events.{good_first, good_drawn, good_began, good_declared, good_answered, good_stopped, true_outcome}
 

@@ -1,4 +1,4 @@
--- Beginnings of a history, and histories that go on from one with no more events of a seat.
+-- Beginnings of a history, and histories that extend one with no event of a seat.
 use Rattle.std.proofs.Common.{◌≡◌, ◌≢◌, ◌≤◌, ◌⊎◌, ℕ, ◌++◌, inl, inr, List, [], ◌∷◌, length, Some, refl, sym, ap, subst, ◌∙◌, arith}
 use Rattle.tx_types.specs.declared.key.Key.{Key}
 use Rattle.tx_core.specs.declared.event.Event.{Event}
@@ -87,7 +87,7 @@ pub run_beginning : (bounds : List Key) (l h : History) → IsWorldRun bounds h 
 run_beginning bounds l [] run b = subst (IsWorldRun bounds) (sym b) run
 run_beginning bounds l (e ∷ h) run b = elim b [ inl same ↦ subst (IsWorldRun bounds) (sym same) run | inr more ↦ run_beginning bounds l h run.0 more ]
 
--- ---- histories that go on
+-- ---- histories that extend one
 
 pub extends_all : (i : ℕ) (h : History) → Extends i h h
 extends_all i [] = refl
@@ -105,7 +105,7 @@ extends_more i l m (e ∷ h) p q = elim q [ inl same ↦ subst (λ x. Extends i 
 pub extends_next : (i : ℕ) (l h : History) (e : Event) → Extends i l h → owner h e ≢ Some i → Extends i l (e ∷ h)
 extends_next i l h e g other = inr (g, other)
 
--- what goes on from l, and goes on from a longer beginning m, had no event of the seat between them
+-- what extends l, and a longer beginning m, had no event of the seat between them
 pub extends_between : (i : ℕ) (l m h : History) → Extends i l h → Begins l m → Begins m h → Extends i l m × Extends i m h
 extends_between i l m [] g p q = (subst (λ x. Extends i l x) (sym q) g, q)
 extends_between i l m (e ∷ h) g p q =

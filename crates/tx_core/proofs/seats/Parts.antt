@@ -43,12 +43,12 @@ part_shorter i l (e ∷ h) b =
           ]
     ]
 
--- what goes on with no more events of a seat has the same events of it
+-- what extends a history with no event of a seat has the same events of it
 pub part_extends : (i : ℕ) (l h : History) → Extends i l h → part i h ≡ part i l
 part_extends i l [] g = ap (part i) (sym g)
 part_extends i l (e ∷ h) g = elim g [ inl same ↦ ap (part i) (sym same) | inr more ↦ part_other i h e more.1 ∙ part_extends i l h more.0 ]
 
--- and what begins with l and has no more events of a seat than l goes on from l without
+-- and what begins with l and has no more events of a seat than l extends l without one
 pub extends_by_part : (i : ℕ) (l h : History) → Begins l h → length (part i h) ≤ length (part i l) → Extends i l h
 extends_by_part i l [] b le = b
 extends_by_part i l (e ∷ h) b le =
@@ -61,14 +61,14 @@ extends_by_part i l (e ∷ h) b le =
           ]
     ]
 
--- so a history goes on from a beginning exactly where its part is the same
+-- so a history extends a beginning exactly where its part is the same
 pub extends_same_part : (i : ℕ) (l h : History) → Begins l h → part i h ≡ part i l → Extends i l h
 extends_same_part i l h b same = extends_by_part i l h b (let equal = ap length same in omega (arith, equal))
 
--- a history with no event of a seat goes on from any beginning
+-- a history with no event of a seat extends any beginning
 pub extends_absent : (i : ℕ) (l h : History) → Begins l h → part i h ≡ [] → Extends i l h
 extends_absent i l h b none = extends_by_part i l h b (let equal = ap length none in omega (arith, equal))
 
--- of two beginnings from which one history goes on with no more events of a seat, the shorter goes on to the longer so
+-- of two beginnings that one history extends with no event of a seat, the longer extends the shorter so
 pub extends_shorter : (i : ℕ) (a b h : History) → Extends i a h → Begins b h → Begins a b → Extends i a b
 extends_shorter i a b h g q p = extends_by_part i a b p (let same = ap length (part_extends i a h g) in omega (arith, same, part_shorter i b h q))

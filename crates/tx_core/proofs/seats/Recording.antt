@@ -15,7 +15,8 @@ use Rattle.tx_core.specs.Worlds.{Holds, MayAnswer, IsWorldRun}
 use Rattle.tx_core.specs.Recording.{owner, Extends, MayRecord}
 use Rattle.tx_core.proofs.Basics.{nat_test, is_some}
 use Rattle.tx_core.proofs.seats.Beginnings.{other_run_on, extends_begins, extends_more}
-use Rattle.tx_core.proofs.seats.Staying.{last_on, was_last_on, was_last_upto, drawer_next, drawer_on, drawer_new, began_on, began_drawn, allowed_on}
+use Rattle.tx_core.proofs.seats.Staying.{last_on, was_last_on, was_last_upto, drawer_next, drawer_on, drawer_new, began_on, began_drawn}
+use Rattle.tx_core.proofs.seats.StaysAllowed.{allowed_on}
 use Rattle.tx_core.proofs.seats.Numbers.{left_upto}
 use Rattle.tx_core.proofs.seats.Answering.{left_on, answers_later, may_answer_on}
 
@@ -118,6 +119,6 @@ run_drawn bounds h i n run above = (run, above)
 pub run_recorded : (bounds : List Key) (i : ℕ) (l h : History) (e : Event) → MayRecord bounds i l e → IsWorldRun bounds h → Extends i l h → IsWorldRun bounds (e ∷ h)
 run_recorded bounds i l h e may run goes = (run, (may h run goes).0)
 
--- what may be recorded after l may be recorded after what goes on from l
+-- what may be recorded after l may be recorded after what extends l
 pub may_record_on : (bounds : List Key) (i : ℕ) (l m : History) (e : Event) → Extends i l m → MayRecord bounds i l e → MayRecord bounds i m e
 may_record_on bounds i l m e goes may h run more = may h run (extends_more i l m h goes more)

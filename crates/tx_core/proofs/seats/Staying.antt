@@ -1,19 +1,16 @@
--- What stays so, however a world run goes on.
+-- What stays so, however a world run grows.
 use Rattle.std.proofs.Common.{◌≡◌, ◌≢◌, ◌≤◌, ℕ, inl, inr, Bool, true, false, cond, List, [], ◌∷◌, Some, None, refl, sym, ap, subst, ◌∙◌, arith}
 use Rattle.tx_types.specs.declared.key.Key.{Key}
 use Rattle.tx_types.specs.declared.mutation.Fate.{Fate}
-use Rattle.tx_plan.specs.declared.body.Body.{Body}
 use Rattle.tx_core.specs.declared.event.Declaration.{Declaration}
 use Rattle.tx_core.specs.declared.event.Event.{Event}
 use Rattle.tx_core.specs.declared.event.Event.TheVariants.{Drawn, Began, Declared, Answered, Stopped, Took}
 use Rattle.tx_core.specs.Histories.{History, last, drawer, began, declared, answered, set_of, set_at, Among, WasLast, Begins}
 use Rattle.tx_core.specs.Recording.{owner}
 use Rattle.tx_core.specs.Decisions.{Acceptance, Effect, Puts, Settles, RollsBack, NoEffect, accepted_by, accepted, effect_in}
-use Rattle.tx_core.specs.Allowed.{Allowed}
 use Rattle.tx_core.specs.Worlds.{MayCome, IsWorldRun, WasTold}
 use Rattle.tx_core.proofs.Basics.{nat_test, nat_same, cond_same, some_same, some_of, is_some}
-use Rattle.tx_core.proofs.seats.StaysAllowed.{allowed_later}
-use Rattle.tx_core.proofs.seats.Beginnings.{begins_all, begins_more, begins_rest, kept_on, run_on}
+use Rattle.tx_core.proofs.seats.Beginnings.{begins_all, begins_more, kept_on, run_on}
 
 -- ---- the last number
 
@@ -224,8 +221,3 @@ accepted_next h (Stopped s) t k by is = is
 
 pub accepted_on : (l h : History) → Begins l h → (t : ℕ) (k : Key) (by : Acceptance) → accepted l t k ≡ Some by → accepted h t k ≡ Some by
 accepted_on l h b t k by = kept_on (λ x. accepted x t k ≡ Some by) (λ x e is. accepted_next x e t k by is) l h b
-
-pub allowed_on : (bounds : List Key) (l h : History) → IsWorldRun bounds h → Begins l h → (body : Body) → Allowed l body → Allowed h body
-allowed_on bounds l h run b body a =
-    let rest = begins_rest l h b in
-    subst (λ x. Allowed x body) (sym rest.1) (allowed_later bounds rest.0 l body (subst (IsWorldRun bounds) rest.1 run) a)

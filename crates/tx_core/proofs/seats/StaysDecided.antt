@@ -1,4 +1,4 @@
--- What is decided, accepted and shown stays so, however a world run goes on.
+-- What is decided, accepted and shown stays so, however a world run grows.
 use Rattle.std.proofs.Common.{◌≡◌, ◌≢◌, ◌<◌, ℕ, true, List, ◌∷◌, Some, None, refl, sym, ap, subst, ◌∙◌}
 use Rattle.tx_types.specs.declared.key.Key.{Key}
 use Rattle.tx_types.specs.declared.mutation.Fate.{Fate}

@@ -5,6 +5,7 @@ use super::seats_of;
 use crate::{Naming, Opened, Reply, Request, Seat, Told};
 use std::alloc::Global;
 use std::marker::Brand;
+use std::mem::replace;
 use std::test::Fail;
 use tx_core::{Body, RaiseSafe, RegionNo};
 use tx_types::Ts;
@@ -22,18 +23,12 @@ struct Post<J: Naming> {
     held: Option<Request<J>>,
 }
 
-// A copy of a request, if there is memory.
-fn copy_of<J: Naming>(request: &mut Request<J>, by: &Seat<J>) -> Option<Request<J>> {
-    match request.clone(by) {
-        Ok(copy) => Some(copy),
-        Err(_) => None,
-    }
-}
-
 impl<J: Naming> Sender<Request<J>, Reply<J>> for Post<J> {
     fn send(&mut self, mut request: Request<J>) -> Option<Reply<J>> {
-        self.held = copy_of(&mut request, &self.region);
-        self.newest = self.region.tell();
+        let copy = request.clone(&self.region).ok();
+        drop(replace(&mut self.held, copy));
+        let told = self.region.tell();
+        drop(replace(&mut self.newest, told));
         let told = self.region.copy(&mut self.newest);
         Some(Reply::new(request, None, told))
     }
@@ -65,7 +60,9 @@ impl<J: Naming> Session<J> {
 
 // The history of a reply.
 fn told_of<J: Naming>(reply: Reply<J>) -> Told<J> {
-    let (_, _, told) = reply.into_parts();
+    let (request, answer, told) = reply.into_parts();
+    drop(request);
+    drop(answer);
     told
 }
 
@@ -96,7 +93,9 @@ impl<J: Naming> Engine<J> {
 
 fn ask<J: Naming>(session: Seat<J>, region: Seat<J>) -> bool {
     let mut engine = Engine::new(session, region);
-    engine.get()
+    let came = engine.get();
+    drop(engine);
+    came
 }
 
 fn asks<J: Naming>(alloc: Global, opened: Opened) -> bool

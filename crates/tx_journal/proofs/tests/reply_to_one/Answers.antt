@@ -8,9 +8,9 @@ first_is [] d x e = absurd (cc (e))
 first_is (y ∷ ys) d x e = cc (e)
 
 -- the first seat is that of the first region
-pub ask-requires : goal.ask-requires
-ask-requires g c =
+pub ask-heard-requires : goal.ask-heard-requires
+ask-heard-requires g c =
     let three = c.requires.three in
     let first = c.in-Ok.ensures.seats 0 (omega arith) in
     let same = c.swap_remove-region.ensures.value ∙ first_is c.in-Ok.seats.items c.swap_remove-region.result _ first in
-    record { seat = (ap (λ k. k.seat) same, ap (λ k. k.events) same) }
+    (ap (λ k. k.seat) same, ap (λ k. k.events) same)

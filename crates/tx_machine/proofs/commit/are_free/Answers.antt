@@ -1,6 +1,6 @@
-use Rattle.std.proofs.Common.{take, arith, sym, subst}
+use Rattle.std.proofs.Common.{subst}
 use Rattle.tx_types.specs.declared.mutation.Change.{Change}
-use Rattle.tx_machine.specs.Stands.{IsFree}
+use Rattle.tx_machine.specs.Representation.{IsFree}
 use Rattle.tx_machine.proofs.Commits.{free_more}
 use Rattle.tx_machine.proofs.commit.are_free.Goals as goal
 

@@ -2,7 +2,7 @@ use Rattle.std.proofs.Common.{◌≡◌, take, Some}
 use Rattle.tx_types.specs.declared.key.Key.{Key}
 use Rattle.tx_types.specs.declared.mutation.Mutation.{Mutation}
 use Rattle.tx_machine.specs.Keys.{mutation_at}
-use Rattle.tx_machine.specs.Stands.{InOrder, IsFree}
+use Rattle.tx_machine.specs.Representation.{InOrder, IsFree}
 use Rattle.tx_machine.proofs.commit.are_free.Given as goal
 
 abbrev pub invariant-loop-change : goal.invariant-loop-change

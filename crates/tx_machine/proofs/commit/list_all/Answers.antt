@@ -1,8 +1,8 @@
-use Rattle.std.proofs.Common.{◌≡◌, ℕ, sym, ap, ◌∙◌, ◌==◌, cond, bytes_eq, Some}
+use Rattle.std.proofs.Common.{ap, ◌∙◌, ◌==◌, cond, bytes_eq, Some}
 use Rattle.tx_types.specs.declared.mutation.Mutation.{Mutation}
-use Rattle.tx_machine.specs.Stands.{version_of}
+use Rattle.tx_machine.specs.Representation.{version_of}
 use Rattle.tx_types.specs.declared.mutation.Change.{Change}
-use Rattle.tx_machine.specs.Stands.{put_version}
+use Rattle.tx_machine.specs.Representation.{put_version}
 use Rattle.tx_machine.proofs.Commits.{puts_more}
 use Rattle.tx_machine.proofs.commit.list_all.Goals as goal
 

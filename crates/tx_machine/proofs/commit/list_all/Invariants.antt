@@ -1,6 +1,6 @@
 use Rattle.std.proofs.Common.{◌≡◌, ℕ, take}
 use Rattle.tx_types.specs.declared.key.Key.{Key}
-use Rattle.tx_machine.specs.Stands.{version_of, puts}
+use Rattle.tx_machine.specs.Representation.{version_of, puts}
 use Rattle.tx_machine.proofs.commit.list_all.Given as goal
 
 abbrev pub invariant-loop-change : goal.invariant-loop-change

@@ -1,7 +1,6 @@
 use Rattle.std.proofs.Common.{sym, ap, ◌∙◌, Some, Option}
 use Rattle.tx_machine.specs.declared.machine.Stage.{Stage}
-use Rattle.tx_machine.specs.declared.machine.Stage.TheVariants.{Declared}
-use Rattle.tx_machine.specs.Stands.{row_of}
+use Rattle.tx_machine.specs.Representation.{row_of}
 use Rattle.tx_machine.proofs.machine.has_begun.Goals as goal
 
 pub returns-in-Some-Declared-clause-some : goal.returns-in-Some-Declared-clause-some

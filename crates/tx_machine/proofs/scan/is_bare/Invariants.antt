@@ -8,7 +8,7 @@ use Rattle.std.specs.List.{All}
 use Rattle.tx_machine.proofs.Scans.{ShowsNone}
 use Rattle.tx_machine.proofs.scan.is_bare.Given as goal
 
-abbrev pub invariant-loop-history : goal.invariant-loop-history
-invariant-loop-history l =
+abbrev pub invariant-loop-versions : goal.invariant-loop-versions
+invariant-loop-versions l =
     All (ShowsNone l.fates l.at) (entries_between (slice_cmp nat_cmp) (bound_map (λ x. x.now) l.from) (Excluded l.to) l.index.entries)
-    ↔ All (ShowsNone l.fates l.at) l.history-iterator
+    ↔ All (ShowsNone l.fates l.at) l.versions-iterator

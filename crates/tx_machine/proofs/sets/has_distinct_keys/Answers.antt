@@ -1,4 +1,4 @@
-use Rattle.std.proofs.Common.{◌≡◌, true, false, take, get_or, ap, sym, ◌∙◌, is_some, arith, cond}
+use Rattle.std.proofs.Common.{◌≡◌, true, false, take, get_or, ap, sym, ◌∙◌, is_some, cond}
 use Rattle.std.specs.BTreeMap as tree
 use Rattle.std.specs.Cmp.Lexicographic.{slice_cmp}
 use Rattle.std.specs.Ordering.{nat_cmp}

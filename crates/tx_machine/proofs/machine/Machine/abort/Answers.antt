@@ -5,7 +5,7 @@ use Rattle.tx_types.specs.declared.mutation.Change.{Change}
 use Rattle.tx_types.specs.declared.mutation.Fate.TheVariants.{Aborted}
 use Rattle.tx_machine.specs.Machine.{Open, Done, with_row, changes_in}
 use Rattle.tx_machine.specs.Noted.{IsNoted}
-use Rattle.tx_machine.specs.Stands.{version_of, row_of, Tells}
+use Rattle.tx_machine.specs.Representation.{version_of, row_of, Tells}
 use Rattle.tx_machine.proofs.CommitSteps.{no_fate}
 use Rattle.tx_machine.proofs.Steps.{aborts}
 use Rattle.tx_machine.proofs.machine.Machine.abort.Goals as goal

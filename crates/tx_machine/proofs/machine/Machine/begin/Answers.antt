@@ -1,9 +1,5 @@
 use Rattle.std.proofs.Common.{sym, ap, ◌∙◌, Some}
 use Rattle.tx_machine.specs.declared.machine.Stage.{Stage}
-use Rattle.std.specs.Ordering.{nat_cmp}
-use Rattle.std.specs.BTreeMap as tree
-use Rattle.tx_machine.specs.Noted.{IsNoted}
-use Rattle.tx_machine.specs.Stands.{version_of}
 use Rattle.tx_machine.proofs.Steps.{begins}
 use Rattle.tx_machine.proofs.machine.Machine.begin.Goals as goal
 

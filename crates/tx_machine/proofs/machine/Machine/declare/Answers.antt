@@ -1,11 +1,9 @@
-use Rattle.std.proofs.Common.{◌≡◌, ◌≢◌, ◌≤◌, sym, ap, subst, ◌∙◌, arith, refl, true, false, List, [], Option, Some, None, length, ℕ}
+use Rattle.std.proofs.Common.{sym, subst, ◌∙◌, List}
 use Rattle.std.specs.Ordering.{nat_cmp}
 use Rattle.std.specs.BTreeMap as tree
-use Rattle.tx_types.specs.declared.key.Key.{Key}
 use Rattle.tx_types.specs.declared.mutation.Change.{Change}
-use Rattle.tx_machine.specs.declared.machine.Stage.{Stage}
 use Rattle.tx_machine.specs.Noted.{IsNoted}
-use Rattle.tx_machine.specs.Stands.{version_of}
+use Rattle.tx_machine.specs.Representation.{version_of}
 use Rattle.tx_machine.specs.Keys.{IsDistinct}
 use Rattle.tx_machine.proofs.Distinct.{some_changes}
 use Rattle.tx_machine.proofs.Steps.{declares}

@@ -1,9 +1,7 @@
-use Rattle.std.proofs.Common.{◌≡◌, ◌≤◌, sym, ap, ◌∙◌, arith, bytes_eq, refl, true, false}
+use Rattle.std.proofs.Common.{arith, bytes_eq}
 use Rattle.std.specs.Ordering.{nat_cmp}
 use Rattle.std.specs.BTreeMap as tree
-use Rattle.tx_machine.specs.Stands.{Keeps}
-use Rattle.tx_machine.specs.Keys.{covered}
-use Rattle.tx_machine.specs.Noted.{AddsRead, covers_of, span_covers}
+use Rattle.tx_machine.specs.Representation.{Keeps}
 use Rattle.tx_machine.proofs.Commits.{on_err}
 use Rattle.tx_machine.proofs.ReadSteps.{shows_sees, sees_shows, reads_more, reads_same}
 use Rattle.tx_machine.proofs.machine.Machine.read.Goals as goal

@@ -1,10 +1,10 @@
-use Rattle.std.proofs.Common.{◌≡◌, ◌≤◌, sym, ap, ◌∙◌, arith, bytes_eq, refl, true, false, Option}
+use Rattle.std.proofs.Common.{sym, ap, ◌∙◌, arith, Option}
 use Rattle.tx_machine.specs.declared.reads.Span.{Span}
 use Rattle.std.specs.Ordering.{nat_cmp}
 use Rattle.std.specs.BTreeMap as tree
-use Rattle.tx_machine.specs.Stands.{Keeps}
+use Rattle.tx_machine.specs.Representation.{Keeps}
 use Rattle.tx_machine.specs.Keys.{covered}
-use Rattle.tx_machine.specs.Noted.{AddsRead, covers_of, span_covers}
+use Rattle.tx_machine.specs.Noted.{covers_of, span_covers}
 use Rattle.tx_machine.proofs.Commits.{on_err}
 use Rattle.tx_machine.proofs.ReadSteps.{shows_rows, sees_rows_shown, reads_more, reads_same, covers_same, covers_nothing, ends_within}
 use Rattle.tx_machine.proofs.machine.Machine.scan.Goals as goal

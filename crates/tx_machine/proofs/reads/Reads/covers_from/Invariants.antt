@@ -1,4 +1,4 @@
-use Rattle.std.proofs.Common.{◌≡◌, ℕ, ◌≤◌, ◌<◌, ◌-◌, ◌^◌}
+use Rattle.std.proofs.Common.{ℕ, ◌≤◌, ◌-◌, ◌^◌}
 use Rattle.tx_machine.specs.Noted.{IsNoted}
 use Rattle.tx_machine.proofs.reads.Reads.covers_from.Given as goal
 

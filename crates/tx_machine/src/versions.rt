@@ -1,13 +1,13 @@
 //! The versions of one key, by commit timestamp: what a read sees of them, and which of them a commit would overlap.
 //!
 //! A version counts only where its transaction is committed at the version's timestamp. One that was listed before memory
-//! was refused in the middle of a commit stands for nothing.
+//! was refused in the middle of a commit says nothing.
 ghost use Rattle.std.specs.Prelude.{◌≡◌, ℕ, ◌<◌, ◌≤◌, ◌↔◌, option_map, true, false, IsTrue, IfSome, IfNone, IsSome};
 ghost use Rattle.std.specs.Ordering.{nat_cmp};
 ghost use Rattle.std.specs.BTreeMap as tree;
 ghost use Rattle.tx_machine.specs.Machine.{Overlap};
 ghost use Rattle.tx_types.specs.declared.mutation.Mutation.{Mutation};
-ghost use Rattle.tx_machine.specs.Histories.{Listed, SeenIn, IsOrderly};
+ghost use Rattle.tx_machine.specs.Versions.{Listed, SeenIn, IsOrderly};
 
 use std::collections::BTreeMap;
 use std::ops::Bound;
@@ -21,7 +21,7 @@ pub(crate) struct Version {
 }
 
 /// The versions of a key, by commit timestamp.
-pub(crate) type History = BTreeMap<Ts, Version>;
+pub(crate) type Versions = BTreeMap<Ts, Version>;
 
 /// How transactions ended, by start timestamp.
 pub(crate) type Fates = BTreeMap<Ts, Fate>;
@@ -59,12 +59,12 @@ pub(crate) fn is_committed(fates: &Fates, start: Ts, commit: Ts) -> bool
 }
 
 /// The value that a read at this timestamp sees.
-pub(crate) fn seen<'a>(history: &'a History, fates: &Fates, at: Ts) -> Option<&'a Value>
-    ensures { SeenIn history.now fates.now at (option_map (λ v. v.now) result) }
+pub(crate) fn seen<'a>(versions: &'a Versions, fates: &Fates, at: Ts) -> Option<&'a Value>
+    ensures { SeenIn versions.now fates.now at (option_map (λ v. v.now) result) }
 {
     let mut bound = at.get();
     'versions: loop {
-        let Some((commit, version)) = last_upto(history, Ts::new(bound)) else {
+        let Some((commit, version)) = last_upto(versions, Ts::new(bound)) else {
             return None;
         };
         if is_committed(fates, version.start, commit) {
@@ -83,14 +83,14 @@ pub(crate) fn seen<'a>(history: &'a History, fates: &Fates, at: Ts) -> Option<&'
 
 /// Whether a committed version overlaps a transaction from `start` to `commit`. The first above `start` tells: those
 /// above it started later still.
-pub(crate) fn overlaps(history: &History, fates: &Fates, start: Ts, commit: Ts) -> bool
-    ensures some { result ≡ true → (u : ℕ) × (d : ℕ) × (m : Mutation) × Listed history.now fates.now u d m × Overlap start commit u d }
-    ensures none { result ≡ false → IsOrderly history.now fates.now
-        → (u d : ℕ) (m : Mutation) → Listed history.now fates.now u d m → Overlap start commit u d → ⊥ }
+pub(crate) fn overlaps(versions: &Versions, fates: &Fates, start: Ts, commit: Ts) -> bool
+    ensures some { result ≡ true → (u : ℕ) × (d : ℕ) × (m : Mutation) × Listed versions.now fates.now u d m × Overlap start commit u d }
+    ensures none { result ≡ false → IsOrderly versions.now fates.now
+        → (u d : ℕ) (m : Mutation) → Listed versions.now fates.now u d m → Overlap start commit u d → ⊥ }
 {
     let mut bound = start.get();
     'versions: loop {
-        let Some((above, version)) = first_above(history, Ts::new(bound)) else {
+        let Some((above, version)) = first_above(versions, Ts::new(bound)) else {
             return false;
         };
         if is_committed(fates, version.start, above) {

@@ -1,14 +1,12 @@
--- What the machine's maps stand for.
-use Rattle.std.specs.Prelude.{◌≡◌, ◌≢◌, ◌⊎◌, ℕ, ◌<◌, ◌≤◌, Bool, true, cond, ◌==◌, bytes_eq, List, [], ◌∷◌, Option, Some, None, is_some}
-use Rattle.std.specs.Cmp.Lexicographic.{slice_cmp}
+-- Which table the machine's maps represent.
+use Rattle.std.specs.Prelude.{◌≡◌, ◌≢◌, ◌⊎◌, ℕ, ◌<◌, ◌≤◌, true, cond, ◌==◌, bytes_eq, List, [], ◌∷◌, Option, Some, None, is_some}
 use Rattle.std.specs.Ordering.{nat_cmp}
 use Rattle.std.specs.BTreeMap as tree
-use Rattle.std.specs.BTreeMap.{BTreeMap}
 use Rattle.tx_types.specs.declared.key.Key.{Key}
 use Rattle.tx_types.specs.declared.mutation.Change.{Change}
 use Rattle.tx_types.specs.declared.mutation.Mutation.{Mutation}
 use Rattle.tx_types.specs.declared.mutation.Fate.{Fate}
-use Rattle.tx_machine.specs.declared.history.Version.{Version}
+use Rattle.tx_machine.specs.declared.versions.Version.{Version}
 use Rattle.tx_machine.specs.declared.machine.Stage.{Stage}
 use Rattle.tx_machine.specs.declared.machine.Stage.TheVariants.{Drawn, Begun, Declared}
 use Rattle.tx_machine.specs.declared.machine.Machine.{Machine}
@@ -17,9 +15,9 @@ use Rattle.tx_machine.specs.declared.step.Step.{Step}
 use Rattle.tx_types.specs.Keys.{IsVisible}
 use Rattle.tx_machine.specs.Keys.{mutation_at, IsDistinct}
 use Rattle.tx_machine.specs.Machine.{State, Open, Done, Row, Rows, Reading, Table, Commits, Overlap, IsRead, Admits, after}
-use Rattle.tx_machine.specs.Histories.{Fates, History, Listed, IsOrderly}
+use Rattle.tx_machine.specs.Versions.{Fates, Versions, Listed, IsOrderly}
 use Rattle.tx_machine.specs.Noted.{IsNoted}
-use Rattle.tx_machine.specs.Shown.{Index, history_of}
+use Rattle.tx_machine.specs.Shown.{Index, versions_of}
 
 -- the state of a transaction that may have ended
 abbrev pub state_of : Option Fate → State
@@ -34,12 +32,12 @@ row_of (Some Begun) fate = Some record { changes = None; state = state_of fate }
 row_of (Some (Declared set)) fate = Some record { changes = Some set; state = state_of fate }
 
 -- the version of a key at a timestamp, if one is listed
-abbrev pub version_in : Option History → ℕ → Option Version
+abbrev pub version_in : Option Versions → ℕ → Option Version
 version_in None c = None
-version_in (Some history) c = tree.get nat_cmp history c
+version_in (Some versions) c = tree.get nat_cmp versions c
 
 abbrev pub version_of : Index → Key → ℕ → Option Version
-version_of index k c = version_in (history_of index k) c
+version_of index k c = version_in (versions_of index k) c
 
 -- each commit is listed, each version listed is what its transaction declared, and no two commits overlap
 pub record ListsCommits (rows : Rows) (versions : Key → ℕ → Option Version) : Type 0 where
@@ -65,42 +63,42 @@ pub record Tells (last : ℕ) (stages : ℕ → Option Stage) (fates : ℕ → O
   pub commits : ListsCommits table.row versions
   pub reads : KeepsReads table.reads noted
 
--- The machine stands for a table.
-abbrev pub StandsFor : Machine → Table → Type 0
-StandsFor machine table = Tells machine.last (tree.get nat_cmp machine.stages) (tree.get nat_cmp machine.fates) (version_of machine.index) (IsNoted machine.reads) table
+-- the machine represents a table
+abbrev pub Represents : Machine → Table → Type 0
+Represents machine table = Tells machine.last (tree.get nat_cmp machine.stages) (tree.get nat_cmp machine.fates) (version_of machine.index) (IsNoted machine.reads) table
 
--- the machine makes the step: its table admits it, and it stands for the table after
+-- the machine makes the step: its table admits it, and the machine then represents the table after
 abbrev pub Makes : Machine → Machine → Step → Type 0
-Makes old new step = (table : Table) → StandsFor old table → Admits table step × StandsFor new (after table step)
+Makes old new step = (table : Table) → Represents old table → Admits table step × Represents new (after table step)
 
 -- its table does not admit the step
 abbrev pub Refuses : Machine → Step → Type 0
-Refuses old step = (table : Table) → StandsFor old table → Admits table step → ⊥
+Refuses old step = (table : Table) → Represents old table → Admits table step → ⊥
 
--- the machine stands for what it stood for
+-- the machine represents what it represented
 abbrev pub Keeps : Machine → Machine → Type 0
-Keeps old new = (table : Table) → StandsFor old table → StandsFor new table
+Keeps old new = (table : Table) → Represents old table → Represents new table
 
 -- ---- parts of a step
 
 -- all commits listed are in order on each key
 abbrev pub InOrder : Index → Fates → Type 0
-InOrder index fates = (k : Key) (history : History) → history_of index k ≡ Some history → IsOrderly history fates
+InOrder index fates = (k : Key) (versions : Versions) → versions_of index k ≡ Some versions → IsOrderly versions fates
 
 -- a commit is listed on a key
-abbrev pub ListedOn : Option History → Fates → ℕ → ℕ → Mutation → Type 0
+abbrev pub ListedOn : Option Versions → Fates → ℕ → ℕ → Mutation → Type 0
 ListedOn None fates u c m = ⊥
-ListedOn (Some history) fates u c m = Listed history fates u c m
+ListedOn (Some versions) fates u c m = Listed versions fates u c m
 
 -- nothing forbids that a change is committed: no listed commit would overlap, and no read at or above covers what it puts or deletes
 pub record IsFree (index : Index) (fates : Fates) (reads : Reads) (t c : ℕ) (change : Change) : Type 0 where
-  pub apart : (u d : ℕ) (m : Mutation) → ListedOn (history_of index change.key) fates u d m → Overlap t c u d → ⊥
+  pub apart : (u d : ℕ) (m : Mutation) → ListedOn (versions_of index change.key) fates u d m → Overlap t c u d → ⊥
   pub unread : IsVisible change.mutation → (r : ℕ) → IsNoted reads change.key r → r < c
 
 -- a listed commit would overlap, or a read at or above covers what it puts or deletes
 abbrev pub IsBlocked : Index → Fates → Reads → ℕ → ℕ → Change → Type 0
 IsBlocked index fates reads t c change =
-    ((u : ℕ) × (d : ℕ) × (m : Mutation) × ListedOn (history_of index change.key) fates u d m × Overlap t c u d)
+    ((u : ℕ) × (d : ℕ) × (m : Mutation) × ListedOn (versions_of index change.key) fates u d m × Overlap t c u d)
     ⊎ (IsVisible change.mutation × ((r : ℕ) × (c ≤ r) × IsNoted reads change.key r))
 
 -- the versions of all keys, with one more
