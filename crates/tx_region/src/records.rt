@@ -33,7 +33,7 @@ pub struct Records<F> {
 impl<F: Families> Records<F> {
     /// The records of a region in which nothing happened.
     pub fn new(alloc: Global, families: F) -> Records<F>
-        requires { (k : Key) → F.content families k ≡ nothing_held }
+        requires { F.content families ≡ (λ k. nothing_held) }
         ensures { region_of F.content result ≡ new_region }
     {
         Records {

@@ -81,7 +81,7 @@ impl<J: Naming, F: Families> Region<J, F> {
     /// A region in which nothing happened, with the next seat of its journal.
     pub fn new(alloc: Global, journal: Journal<J>, seat: Seat<J>, families: F) -> Region<J, F>
         requires seat { (seat.events ≡ []) × (seat.seat ≤ length J.bounds) }
-        requires empty { (k : Key) → F.content families k ≡ nothing_held }
+        requires empty { F.content families ≡ (λ k. nothing_held) }
         ensures { result ≡ seat }
     {
         Region {

@@ -29,7 +29,7 @@ IsRegionSeat n s = (s.seat ≤ n) × (s.events ≡ [])
 
 -- families that hold nothing
 abbrev pub HoldNothing : {F : Type 0} → (F → Content) → F → Type 0
-HoldNothing content f = (k : Key) → content f k ≡ nothing_held
+HoldNothing content f = content f ≡ (λ k. nothing_held)
 
 -- each of so many seats, dealt in their order, is a region's
 pub region_seats : (seats : List Known) (n : ℕ) → length seats ≡ n + 1 → ((k : ℕ) (s : Known) → slice_get seats k ≡ Some s → (s.seat ≡ k) × (s.events ≡ [])) → All (IsRegionSeat n) seats

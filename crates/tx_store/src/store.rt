@@ -36,7 +36,7 @@ impl<J: Naming, F: Families + Drop> Store<J, F> {
         requires few { length J.bounds < 1024 }
         requires count { (vec_len seats ≡ length J.bounds + 1) × (vec_len families ≡ length J.bounds + 1) }
         requires dealt { (k : ℕ) (s : Known) → slice_get seats.items k ≡ Some s → (s.seat ≡ k) × (s.events ≡ []) }
-        requires empty { All (λ f. (k : Key) → F.content f k ≡ nothing_held) families.items }
+        requires empty { All (λ f. F.content f ≡ (λ k. nothing_held)) families.items }
         ensures err { IfErr result (λ e. e ≡ OutOfMemory) }
     {
         let mut regions = Vec::with_capacity(alloc, seats.len())?;

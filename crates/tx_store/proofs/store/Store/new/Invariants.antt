@@ -10,5 +10,5 @@ invariant-loop-seat g l = record {
   made : vec_len l.regions + length l.seat-iterator.rest.items ≡ length g.J.Naming.bounds + 1;
   left : vec_len l.families ≡ length l.seat-iterator.rest.items;
   seats : All (λ (s : Known). (s.seat ≤ length g.J.Naming.bounds) × (s.events ≡ [])) l.seat-iterator.rest.items;
-  empty : All (λ f. (k : Key) → g.F.Families.content f k ≡ nothing_held) l.families.items;
+  empty : All (λ f. g.F.Families.content f ≡ (λ k. nothing_held)) l.families.items;
 }
