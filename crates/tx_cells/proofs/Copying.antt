@@ -92,7 +92,7 @@ here q e es same = ap (λ b. cond b (Some e.1) (get es q)) (sym (unsigned_ties q
 there : {X : Type 0} (q : ℕ) (e : ℕ × X) (es : List (ℕ × X)) → (e.0 ≡ q → ⊥) → get (e ∷ es) q ≡ get es q
 there q e es other = elim (cases_Bool (is_eq (nat_cmp q e.0))) [
   | inl same ↦ absurd (other (sym (eqb-true q e.0 (unsigned_ties q e.0 ∙ same))))
-  | inr no ↦ ap (λ b. cond b (Some e.1) (get es q)) no
+  | inr f ↦ ap (λ b. cond b (Some e.1) (get es q)) f
 ]
 
 -- what a later entry has is not at the first one's timestamp
@@ -113,15 +113,15 @@ records_shown (e ∷ es) s at head c = go (records_shown es s.1 at head) (shown_
     go : (Contains (records_down es) (record { at = at; head = head }) → option_map write_head (get es at) ≡ Some head) → Contains (records_down es) (record { at = at; head = head }) ⊎ (record_at e ≡ record { at = at; head = head })
         → option_map write_head (get (e ∷ es) at) ≡ Some head
     go rest (inl old) = (
-      let is = rest old in
-      ap (option_map write_head) (there at e es (later_other at e es s.0 (some (get es at) is))) ∙ is)
+        let is = rest old in
+        ap (option_map write_head) (there at e es (later_other at e es s.0 (some (get es at) is))) ∙ is)
       where
         some : (o : Option WriteRec) → option_map write_head o ≡ Some head → IsSome o
         some None e = absurd (cc e)
         some (Some r) e = refl
     go rest (inr new) = (
-      let time : e.0 ≡ at = ap (λ (x : RecordAt). x.at) new in
-      ap (option_map write_head) (here at e es time) ∙ ap (λ (x : RecordAt). Some x.head) new)
+        let time : e.0 ≡ at = ap (λ (x : RecordAt). x.at) new in
+        ap (option_map write_head) (here at e es time) ∙ ap (λ (x : RecordAt). Some x.head) new)
 
 pub records_all : (es : List (ℕ × WriteRec)) (at : ℕ) (head : RecordHead) → option_map write_head (get es at) ≡ Some head → Contains (records_down es) (record { at = at; head = head })
 records_all [] at head e = absurd (cc e)

@@ -172,11 +172,11 @@ module _ (x : OnKey) (goes : ℕ → Bool) (value : ℕ → Option Value) where
 
     write_stays : (t : ℕ) → WriteKeeps Left.write t → value t ≡ x.value t
     write_stays t k = so.stayed t (λ g. (
-      let there = left_is k.at (Commit k.rec) k.found in
-      let one = w.sound.once t g.at k.at (record { rec = _; stands = stands_commit x g.at g.rec g.found; own = g.of }) (record { rec = _; stands = stands_commit x k.at k.rec there.1; own = k.of }) in
-      let went = sym (ap goes one) ∙ g.went in
-      let stay = there.0 in
-      cc (went, stay)))
+        let there = left_is k.at (Commit k.rec) k.found in
+        let one = w.sound.once t g.at k.at (record { rec = _; stands = stands_commit x g.at g.rec g.found; own = g.of }) (record { rec = _; stands = stands_commit x k.at k.rec there.1; own = k.of }) in
+        let went = sym (ap goes one) ∙ g.went in
+        let stay = there.0 in
+        cc (went, stay)))
 
     stays_in : Stays
     stays_in t (inl k) = lock_stays t k
@@ -187,9 +187,9 @@ module _ (x : OnKey) (goes : ℕ → Bool) (value : ℕ → Option Value) where
     value_left t n = elim (w.value_kept t (λ none. n (so.fewer t n ∙ none))) [
       | inl k ↦ inl k
       | inr k ↦ elim (cases_Bool (goes k.at)) [
-          | inl go ↦ absurd (n (so.gone t (record { at = k.at; rec = k.rec; found = k.found; went = go; of = k.of; apart = k.apart })))
-          | inr stay ↦ inr (record { at = k.at; rec = k.rec; found = left_there k.at stay ∙ k.found; of = k.of; apart = k.apart })
-        ]
+        | inl go ↦ absurd (n (so.gone t (record { at = k.at; rec = k.rec; found = k.found; went = go; of = k.of; apart = k.apart })))
+        | inr stay ↦ inr (record { at = k.at; rec = k.rec; found = left_there k.at stay ∙ k.found; of = k.of; apart = k.apart })
+      ]
     ]
 
     gone_in : (t : ℕ) → (LockKeeps x.lock t ⊎ WriteKeeps Left.write t → ⊥) → value t ≡ None

@@ -1,5 +1,7 @@
 //! What is shown of a key.
 ghost use Rattle.std.specs.Prelude.{◌≡◌, IfOk, IfErr};
+ghost use Rattle.std.specs.BTreeMap.{IsOrdered};
+ghost use Rattle.std.specs.Ordering.{nat_cmp};
 ghost use Rattle.tx_cells.specs.Copies.{Copies, records_down, starts_down};
 
 use super::NestedCells;
@@ -12,6 +14,7 @@ use tx_types::{Fault, Key, Ts, Value, WriteRec};
 
 /// The heads of the records, from the newest on.
 fn heads(alloc: Global, writes: &BTreeMap<Ts, WriteRec>) -> Result<Vec<RecordAt>, Fault>
+    ensures ordered { IsOrdered nat_cmp writes.now }
     ensures ok { IfOk result (λ heads. heads.items ≡ records_down writes.now.entries) }
     ensures err { IfErr result (λ e. e ≡ Fault.OutOfMemory) }
 {
@@ -28,6 +31,7 @@ fn heads(alloc: Global, writes: &BTreeMap<Ts, WriteRec>) -> Result<Vec<RecordAt>
 
 /// The starts of the values, from the newest on.
 fn starts(alloc: Global, values: &BTreeMap<Ts, Value>) -> Result<Vec<Ts>, Fault>
+    ensures ordered { IsOrdered nat_cmp values.now }
     ensures ok { IfOk result (λ starts. starts.items ≡ starts_down values.now.entries) }
     ensures err { IfErr result (λ e. e ≡ Fault.OutOfMemory) }
 {

@@ -12,7 +12,7 @@ each_key c = collects_all _ (λ f. f.0.now ≡ c.args.safe) c.args.safe
     let m = t.called.met in
     let moved : CollectsOn f.0.now (held t.value.now) (held t.left.now) = record { content = m.1.0; cells = m.1.1.0 } in (
       subst (λ n. CollectsOn n (held v) (held w)) i
-        (subst (λ (x : KeyFamilies). CollectsOn f.0.now (held x) (held w)) t.shows.1 (subst (λ (y : KeyFamilies). CollectsOn f.0.now (held t.value.now) (held y)) t.leaves moved)),
+          (subst (λ (x : KeyFamilies). CollectsOn f.0.now (held x) (held w)) t.shows.1 (subst (λ (y : KeyFamilies). CollectsOn f.0.now (held t.value.now) (held y)) t.leaves moved)),
       λ no. ap held (sym t.leaves) ∙ m.1.1.1 no,
       ap (λ x. x.now) m.0 ∙ i,
     ))

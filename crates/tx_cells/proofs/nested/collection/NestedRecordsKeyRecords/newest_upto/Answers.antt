@@ -13,5 +13,5 @@ returns-clause-newest c =
     let at = c.in_ok-at.at.now in
     let entry = (c.range.ensures.in_range tt).3 _ _ c.in_ok-at.ensures.steps in
     subst (λ (kind : RecordKind). IsNext (cells_of (held key)).write c.args.bound at kind) (sym c.kind_of.ensures)
-      (is_next (held key) key.whole c.args.bound at c.in_ok-at.rec.now entry.1 (upto_of at c.args.bound entry.0.1)
-        (λ q gt le. lt_none key.writes at q ((c.range.ensures.in_range tt).4 _ _ c.in_ok-at.ensures.steps q (tt, of_upto q c.args.bound le)) gt))
+    (is_next (held key) key.whole c.args.bound at c.in_ok-at.rec.now entry.1 (upto_of at c.args.bound entry.0.1)
+    (λ q gt le. lt_none key.writes at q ((c.range.ensures.in_range tt).4 _ _ c.in_ok-at.ensures.steps q (tt, of_upto q c.args.bound le)) gt))
