@@ -13,7 +13,10 @@ use Rattle.tx_types.specs.declared.write.WriteRec.TheVariants.{Commit}
 use Rattle.tx_cells.specs.Contents.{OnKey, cells_of, IsWhole, IsKept}
 use Rattle.tx_cells.specs.Histories.{AreDated, AreFitting}
 use Rattle.tx_cells.proofs.Showing.{stands_commit}
-use Rattle.tx_cells.proofs.CellsAfter.{LockAlone}
+use Rattle.tx_plan.specs.declared.key_change.KeyChange.{KeyChange}
+use Rattle.tx_plan.specs.Changes.{Applies, changed}
+use Rattle.tx_cells.specs.Afterwards.{after}
+use Rattle.tx_cells.proofs.CellsAfter.{LockAlone, cells_after}
 
 pub dated_in : (x : OnKey) → IsWhole x → AreDated x.write
 dated_in x w c rec e = w.sound.write_dated c _ (stands_commit x c rec e)
@@ -57,3 +60,7 @@ on_ok (Err e) P Q step p = tt
 pub on_err : {T E : Type 0} (r : Result T E) (P Q : Type 0) → (P → Q) → OnErr r P → OnErr r Q
 on_err (Ok x) P Q step p = tt
 on_err (Err e) P Q step p = step p
+
+-- the cells after a change that was made
+pub cells_made : (x y : OnKey) (made done : KeyChange) → ∥ IsWhole x ∥₁ → Applies (cells_of x) made → made ≡ done → y ≡ after x done → cells_of y ≡ changed (cells_of x) made
+cells_made x y made done whole applies is e = ap cells_of e ∙ ap (λ k. cells_of (after x k)) (sym is) ∙ cells_after x made (lock_alone x whole) applies

@@ -40,6 +40,9 @@ value_not_put f t o e q = ap (λ (x : Option Value). with_value f t x q) (sym e)
 -- ---- all keys
 
 module _ (old new : Key → Option KeyFamilies) where
+  pub at_key : (key : Key) (o : Option KeyFamilies) → ((k : Key) → new k ≡ cond (is_eq (slice_cmp nat_cmp key k)) o (old k)) → new key ≡ o
+  at_key key o is = is key ∙ ap (λ b. cond b o (old key)) (key_here key)
+
   -- one key has something else
   pub placed : (key : Key) (o : Option KeyFamilies) (y : OnKey) → ((k : Key) → new k ≡ cond (is_eq (slice_cmp nat_cmp key k)) o (old k)) → held_on o ≡ y → OnlyOn key y (λ k. held_on (old k)) (λ k. held_on (new k))
   placed key o y is e = record {
@@ -60,3 +63,13 @@ module _ (old new : Key → Option KeyFamilies) where
             )
         | inr other ↦ ap held_on (is k ∙ ap (λ b. cond b o (old k)) other)
       ]
+
+-- one key has something for the first time
+pub first_placed : (old there new : Key → Option KeyFamilies) (j key : Key) (o : Option KeyFamilies) (y : OnKey) → there ≡ old → j ≡ key → ((k : Key) → new k ≡ cond (is_eq (slice_cmp nat_cmp j k)) o (there k)) → held_on o ≡ y
+    → OnlyOn key y (λ k. held_on (old k)) (λ k. held_on (new k))
+first_placed old there new j key o y same is put e =
+    placed old new key o y (λ k. put k ∙ ap (λ i. cond (is_eq (slice_cmp nat_cmp i k)) o (there k)) is ∙ ap (λ (f : Key → Option KeyFamilies). cond (is_eq (slice_cmp nat_cmp key k)) o (f k)) same) e
+
+-- maps that hold the same
+pub same_content : (m n : BTreeMap Key KeyFamilies) → n.entries ≡ m.entries → ◌≡◌ {A = Key → OnKey} (λ k. held_on (tree.get (slice_cmp nat_cmp) n k)) (λ k. held_on (tree.get (slice_cmp nat_cmp) m k))
+same_content m n e = λ i k. held_on (lookup (tree.is_at (slice_cmp nat_cmp k)) (e i))

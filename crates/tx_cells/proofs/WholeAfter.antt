@@ -244,7 +244,7 @@ whole_rolled x t false how w removed is lt sound = whole_left x t how w is lt so
 
 -- ---- changes
 
-on_same : (x : OnKey) (rec : LockRec) (f : LockRec → OnKey) → x.lock ≡ Some rec → on_lock x f ≡ f rec
+pub on_same : (x : OnKey) (rec : LockRec) (f : LockRec → OnKey) → x.lock ≡ Some rec → on_lock x f ≡ f rec
 on_same x rec f e = ap (λ (o : Option LockRec). elim o [ None ↦ x | Some r ↦ f r ]) e
 
 pub whole_after : (x : OnKey) (made : KeyChange) → IsWhole x → Applies (cells_of x) made → Fits made → IsWhole (after x made)

@@ -1,10 +1,10 @@
-//! The lock that a prewrite asks for.
+//! The lock that a prewrite asks for, and the commit record that it becomes.
 ghost use Rattle.std.specs.Prelude.{◌≡◌, IfOk, IfErr};
-ghost use Rattle.tx_cells.specs.Afterwards.{stored_of, apart_of, mode_put, lock_put};
+ghost use Rattle.tx_cells.specs.Afterwards.{stored_of, apart_of, mode_put, lock_put, commit_of};
 
 use tx_plan::{NewLock, Prewrite};
 use tx_types::limits::MAX_INLINE_BYTES;
-use tx_types::{Fault, LockMode, LockRec, Mode, Mutation, StoredMutation, Value};
+use tx_types::{CommitRec, Fault, LockMode, LockRec, Mode, Mutation, StoredMutation, Value};
 
 /// What a record keeps of a mutation.
 fn stored(mutation: &Mutation) -> Result<StoredMutation, Fault>
@@ -62,5 +62,17 @@ pub(crate) fn lock_record(body: &Prewrite, new: NewLock) -> Result<LockRec, Faul
         min,
         ttl,
         primary,
+    })
+}
+
+/// The commit record that a lock becomes.
+pub(crate) fn commit_record(lock: &LockRec, overlapped_rollback: bool) -> Result<CommitRec, Fault>
+    ensures ok { IfOk result (λ rec. rec ≡ commit_of lock.now overlapped_rollback) }
+    ensures err { IfErr result (λ e. e ≡ Fault.OutOfMemory) }
+{
+    Ok(CommitRec {
+        mutation: lock.mutation.clone()?,
+        start: lock.start,
+        overlapped_rollback,
     })
 }

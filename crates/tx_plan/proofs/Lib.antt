@@ -7,4 +7,8 @@ pub mod LockCommits
 pub mod Seen
 pub mod Scans
 pub mod LockRows
+pub mod Collects
+pub mod OnceLists
+pub mod Counting
+pub mod Sound
 mod Pictures

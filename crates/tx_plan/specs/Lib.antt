@@ -8,6 +8,7 @@ pub mod Plans
 pub mod Changes
 pub mod Walks
 pub mod Views
+pub mod Sound
 pub mod Committing
 pub mod Refusals
 pub mod Locking

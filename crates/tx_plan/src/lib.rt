@@ -4,11 +4,14 @@
 
 mod answer;
 mod body;
+mod key_records;
 mod key_change;
 mod laws;
 mod lists;
 mod plan;
 mod planned;
+#[cfg(test)]
+mod table_tests;
 #[cfg(test)]
 mod tests;
 mod view;
@@ -19,6 +22,7 @@ pub use body::{
     BatchRollback, Body, CheckSecondaryLocks, CheckTxnStatus, Collect, Commit, Get, LocksBelow,
     Prewrite, RaiseSafe, ResolveLock, Scan, TxnHeartBeat,
 };
+pub use key_records::{KeyCollection, KeyRecords, RecordKind, collect_key};
 pub use key_change::{KeyChange, Left, NewLock};
 pub use laws::{least_minimum_is_free, rollback_left_again_stays};
 pub use lists::{Infos, Starts};

@@ -9,10 +9,11 @@ ghost use Rattle.tx_cells.specs.Afterwards.{OnlyOn, after, after_left, marked};
 
 use super::NestedCells;
 use super::key::KeyFamilies;
+use crate::putting::commit_record;
 use std::alloc::Global;
 use std::collections::BTreeMap;
 use tx_plan::{KeyChange, Left};
-use tx_types::{CommitRec, Fault, Key, Ts, WriteRec};
+use tx_types::{Fault, Key, Ts, WriteRec};
 
 /// Marks a commit record.
 fn mark(rec: &mut WriteRec)
@@ -78,12 +79,8 @@ impl KeyFamilies {
         let Some(lock) = &self.lock else {
             return Ok(());
         };
-        let rec = WriteRec::Commit(CommitRec {
-            mutation: lock.mutation.clone()?,
-            start: lock.start,
-            overlapped_rollback,
-        });
-        self.writes.insert(commit, rec)?;
+        let rec = commit_record(lock, overlapped_rollback)?;
+        self.writes.insert(commit, WriteRec::Commit(rec))?;
         self.lock = None;
         Ok(())
     }
