@@ -16,12 +16,15 @@ use Rattle.tx_plan.specs.declared.body.Prewrite.{Prewrite}
 use Rattle.tx_plan.specs.declared.key_change.KeyChange.TheVariants as change
 use Rattle.tx_plan.specs.declared.key_change.Left.{Left}
 use Rattle.tx_plan.specs.declared.key_change.NewLock.{NewLock}
-use Rattle.tx_plan.specs.Changes.{CanPut}
+use Rattle.tx_plan.specs.declared.key_change.KeyChange.{KeyChange}
+use Rattle.tx_plan.specs.Changes.{CanPut, Applies, changed}
 use Rattle.tx_cells.specs.Contents.{OnKey, Content, IsWhole, cells_of}
 use Rattle.tx_cells.specs.Afterwards.{OnlyOn, after, after_left, put_on, lock_put, with_lock, with_value, apart_of, with_record, commit_of, on_lock}
 use Rattle.tx_cells.specs.Spelt.{version_cmp}
+use Rattle.tx_cells.proofs.Facts.{whole_at, lock_alone}
+use Rattle.tx_cells.proofs.CellsAfter.{cells_after}
 use Rattle.tx_cells.proofs.WholeAfter.{no_value, on_same}
-use Rattle.tx_cells.proofs.FlatMaps.{Locks, Writes, Values, content_by, only_on, on_key, off_key, on_version, off_version}
+use Rattle.tx_cells.proofs.FlatMaps.{Locks, Writes, Values, AllWhole, content_by, only_on, on_key, off_key, on_version, off_version}
 
 -- a fact that follows from success and from failure
 pub either : {T E : Type 0} (r : Result T E) (A B P : Type 0) → (A → P) → (B → P) → OnOk r A → OnErr r B → P
@@ -149,3 +152,8 @@ none_apart x b new t can = go (x.value b.start) refl
 pub same_content : (locks new_locks : Locks) (writes new_writes : Writes) (values new_values : Values) → new_locks ≡ locks → new_writes ≡ writes → ((v : List ℕ × ℕ) → new_values v ≡ values v)
     → content_by new_locks new_writes new_values ≡ content_by locks writes values
 same_content locks new_locks writes new_writes values new_values l w v = λ i. content_by (l i) (w i) (λ u. v u i)
+
+-- the cells of a key after a change
+pub changed_cells : (old new : Content) (key : Key) (k made : KeyChange) → AllWhole old → Applies (cells_of (old key)) k → k ≡ made → OnlyOn key (after (old key) made) old new → cells_of (new key) ≡ changed (cells_of (old key)) k
+changed_cells old new key k made t applies is only =
+    ap cells_of only.here ∙ ap (λ (m : KeyChange). cells_of (after (old key) m)) (sym is) ∙ cells_after (old key) k (lock_alone (old key) (whole_at old t key)) applies
