@@ -52,8 +52,8 @@ module _ (locks new_locks : Locks) (writes : Writes) (values : Values) (key spel
       subst (λ y. OnlyOn key y Before (content_by new_locks writes values))
       (sym (on_same (Before key) rec (λ r. with_lock (Before key) (Some (f r))) (ap locks (sym spelt_is) ∙ sym there)))
       (only_on locks new_locks writes writes values values key (with_lock (Before key) (Some (f rec)))
-        (on_key locks new_locks key (Some new) (at_key (Some new) is) ∙ ap (λ (r : LockRec). Some r) made) (λ q. refl) (λ q. refl)
-        (off_key locks new_locks key (Some new) (at_key (Some new) is)) (λ k other q. refl) (λ k other q. refl))
+      (on_key locks new_locks key (Some new) (at_key (Some new) is) ∙ ap (λ (r : LockRec). Some r) made) (λ q. refl) (λ q. refl)
+      (off_key locks new_locks key (Some new) (at_key (Some new) is)) (λ k other q. refl) (λ k other q. refl))
 
   -- a lock is put
   pub lock_only : (new_values : Values) (b : Prewrite) (new : NewLock) (rec : LockRec) → rec ≡ lock_put b new → KeyChanged locks new_locks spelt (Some rec)
@@ -75,9 +75,9 @@ module _ (locks new_locks : Locks) (writes : Writes) (values : Values) (key spel
         subst (λ z. OnlyOn key z Before (content_by new_locks new_writes values))
         (sym (on_same (Before key) rec y (ap locks (sym spelt_is) ∙ sym there)))
         (only_on locks new_locks writes new_writes values values key (y rec)
-          (on_key locks new_locks key None (at_key None gone))
-          (λ q. on_version writes new_writes key c (Some w) at q ∙ ap (λ r. with_record (Before key).write c r q) made) (λ q. refl)
-          (off_key locks new_locks key None (at_key None gone)) (off_version writes new_writes key c (Some w) at) (λ k other q. refl))
+        (on_key locks new_locks key None (at_key None gone))
+        (λ q. on_version writes new_writes key c (Some w) at q ∙ ap (λ r. with_record (Before key).write c r q) made) (λ q. refl)
+        (off_key locks new_locks key None (at_key None gone)) (off_version writes new_writes key c (Some w) at) (λ k other q. refl))
 
     -- a rollback is left, and the lock goes with its value
     pub rolled_back : (new_values : Values) (version : List ℕ × ℕ) (t : ℕ) (left : Left) → version ≡ (key, t)

@@ -38,7 +38,9 @@ pub(super) fn commit_record(
     ensures err { IfErr result (λ e. e ≡ Fault.OutOfMemory) }
 {
     let LockRec {
-        mutation, start, ..
+        mutation,
+        start,
+        ..
     } = lock.read(alloc)?;
     let rec = WriteRec::Commit(CommitRec {
         mutation,

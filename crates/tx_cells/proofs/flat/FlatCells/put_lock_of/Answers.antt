@@ -25,12 +25,14 @@ invariant_of-self c =
     let writes = tree.get version_cmp flat.writes in
     let values = tree.get version_cmp flat.values in
     let apart = sym c.in_ok-value.ensures.ok ∙ c.in_default.is in
-    record { whole = either c.insert.result _ _ (AllWhole (content_by new_locks writes values))
-      (λ put. whole_on (flat_content flat) (content_by new_locks writes values) b.key (put_on x b c.args.new) flat.whole
-        (lock_only locks new_locks writes values b.key c.in_ok-spelt.spelt c.in_ok-spelt.ensures.ok values b c.args.new c.in_ok-rec.rec c.in_ok-rec.ensures.ok put.0 (nothing_put (λ t. values (b.key, t)) b.start b.mutation apart) (λ k other q. refl))
-        (λ w. whole_put x b c.args.new w c.requires))
-      (λ same. subst (λ (l : Locks). AllWhole (content_by l writes values)) (sym (same_keys flat.locks c.insert.new.self same)) flat.whole)
-      c.insert.ensures.updates c.insert.ensures.err }
+    record {
+      whole = either c.insert.result _ _ (AllWhole (content_by new_locks writes values))
+          (λ put. whole_on (flat_content flat) (content_by new_locks writes values) b.key (put_on x b c.args.new) flat.whole
+          (lock_only locks new_locks writes values b.key c.in_ok-spelt.spelt c.in_ok-spelt.ensures.ok values b c.args.new c.in_ok-rec.rec c.in_ok-rec.ensures.ok put.0 (nothing_put (λ t. values (b.key, t)) b.start b.mutation apart) (λ k other q. refl))
+          (λ w. whole_put x b c.args.new w c.requires))
+          (λ same. subst (λ (l : Locks). AllWhole (content_by l writes values)) (sym (same_keys flat.locks c.insert.new.self same)) flat.whole)
+          c.insert.ensures.updates c.insert.ensures.err;
+    }
 
 pub returns-in_default-clause-content : goal.returns-in_default-clause-content
 returns-in_default-clause-content c =
@@ -58,11 +60,13 @@ invariant_of-self-in-Ok c =
     let values = tree.get version_cmp flat.values in
     let new_values = tree.get version_cmp c.insert-2.new.self in
     let apart = sym c.in_ok-value.ensures.ok ∙ c.in-Some.is in
-    record { whole = whole_on (flat_content flat) (content_by new_locks writes new_values) b.key (put_on x b c.args.new) flat.whole
-      (lock_only locks new_locks writes values b.key c.in_ok-spelt.spelt c.in_ok-spelt.ensures.ok new_values b c.args.new c.in_ok-rec.rec c.in_ok-rec.ensures.ok c.in-Ok.ensures.updates.0
-        (value_here values new_values c.in_ok-version.version b.key b.start c.in_ok-version.ensures.ok b.mutation c.in-Some.value apart c.in_ok-insert-2.ensures.updates.0)
-        (value_there values new_values c.in_ok-version.version b.key b.start c.in_ok-version.ensures.ok c.in-Some.value c.in_ok-insert-2.ensures.updates.0))
-      (λ w. whole_put x b c.args.new w c.requires) }
+    record {
+      whole = whole_on (flat_content flat) (content_by new_locks writes new_values) b.key (put_on x b c.args.new) flat.whole
+          (lock_only locks new_locks writes values b.key c.in_ok-spelt.spelt c.in_ok-spelt.ensures.ok new_values b c.args.new c.in_ok-rec.rec c.in_ok-rec.ensures.ok c.in-Ok.ensures.updates.0
+          (value_here values new_values c.in_ok-version.version b.key b.start c.in_ok-version.ensures.ok b.mutation c.in-Some.value apart c.in_ok-insert-2.ensures.updates.0)
+          (value_there values new_values c.in_ok-version.version b.key b.start c.in_ok-version.ensures.ok c.in-Some.value c.in_ok-insert-2.ensures.updates.0))
+          (λ w. whole_put x b c.args.new w c.requires);
+    }
 
 pub returns-in-Ok-clause-content : goal.returns-in-Ok-clause-content
 returns-in-Ok-clause-content c =
@@ -88,10 +92,12 @@ invariant_of-self-in-Err c =
     let writes = tree.get version_cmp flat.writes in
     let values = tree.get version_cmp flat.values in
     let none = none_apart (flat_content flat b.key) b c.args.new (whole_at (flat_content flat) flat.whole b.key) c.requires in
-    record { whole = subst AllWhole (sym (same_content locks (tree.get (slice_cmp nat_cmp) c.insert-3.new.self) writes writes values (tree.get version_cmp c.remove.new.self)
-      (same_keys flat.locks c.insert-3.new.self c.in-Err.ensures.err) refl
-      (value_back values (tree.get version_cmp c.insert-2.new.self) c.in_ok-version.version b.key b.start c.in_ok-version.ensures.ok (tree.get version_cmp c.remove.new.self) c.in_ok-same_version.same_version c.in-Some.value
-        c.in_ok-same_version.ensures.ok none c.in_ok-insert-2.ensures.updates.0 c.remove.ensures.updates.0))) flat.whole }
+    record {
+      whole = subst AllWhole (sym (same_content locks (tree.get (slice_cmp nat_cmp) c.insert-3.new.self) writes writes values (tree.get version_cmp c.remove.new.self)
+          (same_keys flat.locks c.insert-3.new.self c.in-Err.ensures.err) refl
+          (value_back values (tree.get version_cmp c.insert-2.new.self) c.in_ok-version.version b.key b.start c.in_ok-version.ensures.ok (tree.get version_cmp c.remove.new.self) c.in_ok-same_version.same_version c.in-Some.value
+          c.in_ok-same_version.ensures.ok none c.in_ok-insert-2.ensures.updates.0 c.remove.ensures.updates.0))) flat.whole;
+    }
 
 pub returns-clause-same : goal.returns-clause-same
 returns-clause-same c =
@@ -102,4 +108,4 @@ returns-clause-same c =
     same_content (tree.get (slice_cmp nat_cmp) flat.locks) _ (tree.get version_cmp flat.writes) _ values _
     (same_keys flat.locks c.insert-3.new.self c.in-Err.ensures.err) refl
     (value_back values (tree.get version_cmp c.insert-2.new.self) c.in_ok-version.version b.key b.start c.in_ok-version.ensures.ok (tree.get version_cmp c.remove.new.self) c.in_ok-same_version.same_version c.in-Some.value
-      c.in_ok-same_version.ensures.ok none c.in_ok-insert-2.ensures.updates.0 c.remove.ensures.updates.0)
+    c.in_ok-same_version.ensures.ok none c.in_ok-insert-2.ensures.updates.0 c.remove.ensures.updates.0)

@@ -19,12 +19,12 @@ pub returns-in_ok-value-in-Some-clause-shows : goal.returns-in_ok-value-in-Some-
 returns-in_ok-value-in-Some-clause-shows c = record {
   lock = c.in_ok-lock.ensures.ok ∙ lock_heads (flat_content c.args.self.now c.args.key.now).value _;
   value = subst (λ (k : List ℕ). Reads (cells_of (flat_content c.args.self.now k)).write c.args.at c.in_ok-value-in-Some.value)
-    (c.seen_at.ensures.same_key ∙ ap (λ (v : List ℕ × ℕ). v.0) c.in_ok-version.ensures.ok) c.in_ok-value-in-Some.ensures.value;
+      (c.seen_at.ensures.same_key ∙ ap (λ (v : List ℕ × ℕ). v.0) c.in_ok-version.ensures.ok) c.in_ok-value-in-Some.ensures.value;
 }
 
 pub returns-in-None-clause-shows : goal.returns-in-None-clause-shows
 returns-in-None-clause-shows c = record {
   lock = c.in_ok-lock.ensures.ok ∙ lock_heads (flat_content c.args.self.now c.args.key.now).value _;
   value = none_found (flat_content c.args.self.now c.args.key.now) c.args.at
-    (subst (λ (k : List ℕ). NoneSeen (λ q. tree.get version_cmp c.args.self.now.writes (k, q)) c.args.at) (ap (λ (v : List ℕ × ℕ). v.0) c.in_ok-version.ensures.ok) c.in-None.ensures.seen);
+      (subst (λ (k : List ℕ). NoneSeen (λ q. tree.get version_cmp c.args.self.now.writes (k, q)) c.args.at) (ap (λ (v : List ℕ × ℕ). v.0) c.in_ok-version.ensures.ok) c.in-None.ensures.seen);
 }

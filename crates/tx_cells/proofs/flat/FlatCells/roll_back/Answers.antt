@@ -31,10 +31,12 @@ invariant_of-self-then-not-removes_lock c =
     let made = change.RollBack c.args.start c.args.removes_lock c.args.left in
     let stays : c.args.removes_lock ≡ false = cc (c.if-not-removes_lock.true) in
     let fits : c.args.start < 2 ^ 64 = omega (arith, c.get-ticks.ensures, c.get-ticks.type_inv) in
-    record { whole = whole_on (flat_content flat) (content_by locks new_writes values) key (after x made) flat.whole
-      (subst (λ (b : Bool). OnlyOn key (after x (change.RollBack c.args.start b c.args.left)) (flat_content flat) (content_by locks new_writes values)) (sym stays)
-        (left_only locks writes new_writes values key c.args.start c.args.left c.in_ok-leave.ensures.ok c.leave.ensures.others))
-      (λ w. whole_after x made w c.requires fits) }
+    record {
+      whole = whole_on (flat_content flat) (content_by locks new_writes values) key (after x made) flat.whole
+          (subst (λ (b : Bool). OnlyOn key (after x (change.RollBack c.args.start b c.args.left)) (flat_content flat) (content_by locks new_writes values)) (sym stays)
+          (left_only locks writes new_writes values key c.args.start c.args.left c.in_ok-leave.ensures.ok c.leave.ensures.others))
+          (λ w. whole_after x made w c.requires fits);
+    }
 
 pub invariant_of-self-2 : goal.invariant_of-self-2
 invariant_of-self-2 c =
@@ -50,11 +52,13 @@ invariant_of-self-2 c =
     let made = change.RollBack c.args.start c.args.removes_lock c.args.left in
     let goes : c.args.removes_lock ≡ true = cc (c.if-not-removes_lock.false) in
     let fits : c.args.start < 2 ^ 64 = omega (arith, c.get-ticks.ensures, c.get-ticks.type_inv) in
-    record { whole = whole_on (flat_content flat) (content_by new_locks new_writes new_values) key (after x made) flat.whole
-      (subst (λ (b : Bool). OnlyOn key (after x (change.RollBack c.args.start b c.args.left)) (flat_content flat) (content_by new_locks new_writes new_values)) (sym goes)
-        (rolled_back locks new_locks writes values key c.in_ok-spelt.spelt c.in_ok-spelt.ensures.ok new_writes new_values c.in_ok-version.version c.args.start c.args.left c.in_ok-version.ensures.ok
+    record {
+      whole = whole_on (flat_content flat) (content_by new_locks new_writes new_values) key (after x made) flat.whole
+          (subst (λ (b : Bool). OnlyOn key (after x (change.RollBack c.args.start b c.args.left)) (flat_content flat) (content_by new_locks new_writes new_values)) (sym goes)
+          (rolled_back locks new_locks writes values key c.in_ok-spelt.spelt c.in_ok-spelt.ensures.ok new_writes new_values c.in_ok-version.version c.args.start c.args.left c.in_ok-version.ensures.ok
           c.in_ok-leave.ensures.ok c.leave.ensures.others c.remove.ensures.updates.0 c.remove-2.ensures.updates.0))
-      (λ w. whole_after x made w c.requires fits) }
+          (λ w. whole_after x made w c.requires fits);
+    }
 
 pub returns-clause-content : goal.returns-clause-content
 returns-clause-content c =
@@ -66,5 +70,5 @@ returns-clause-content c =
     let new_values = tree.get version_cmp c.remove-2.new.self in
     subst (λ (b : Bool). OnlyOn key (after (flat_content flat key) (change.RollBack c.args.start b c.args.left)) (flat_content flat) (content_by new_locks new_writes new_values)) (sym goes)
     (rolled_back (tree.get (slice_cmp nat_cmp) flat.locks) new_locks (tree.get version_cmp flat.writes) (tree.get version_cmp flat.values) key c.in_ok-spelt.spelt c.in_ok-spelt.ensures.ok
-      new_writes new_values c.in_ok-version.version c.args.start c.args.left c.in_ok-version.ensures.ok
-      c.in_ok-leave.ensures.ok c.leave.ensures.others c.remove.ensures.updates.0 c.remove-2.ensures.updates.0)
+    new_writes new_values c.in_ok-version.version c.args.start c.args.left c.in_ok-version.ensures.ok
+    c.in_ok-leave.ensures.ok c.leave.ensures.others c.remove.ensures.updates.0 c.remove-2.ensures.updates.0)

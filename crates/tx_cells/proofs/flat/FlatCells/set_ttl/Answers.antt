@@ -23,12 +23,14 @@ invariant_of-self c =
     let writes = tree.get version_cmp flat.writes in
     let values = tree.get version_cmp flat.values in
     let x = flat_content flat key in
-    record { whole = either c.insert.result _ _ (AllWhole (content_by new_locks writes values))
-      (λ put. whole_on (flat_content flat) (content_by new_locks writes values) key (after x (change.Ttl c.args.ttl)) flat.whole
-        (relocked locks new_locks writes values key c.in_ok-spelt.spelt c.in_ok-spelt.ensures.ok c.in-Some.bytes.now c.in_ok-rec-in-Some.rec (λ (r : LockRec). with_ttl r c.args.ttl) c.in-Some.ensures.value c.in_ok-rec-in-Some.ensures.ok put.0)
-        (λ w. whole_after x (change.Ttl c.args.ttl) w c.requires tt))
-      (λ same. subst (λ (l : Locks). AllWhole (content_by l writes values)) (sym (same_keys flat.locks c.insert.new.self same)) flat.whole)
-      c.insert.ensures.updates c.insert.ensures.err }
+    record {
+      whole = either c.insert.result _ _ (AllWhole (content_by new_locks writes values))
+          (λ put. whole_on (flat_content flat) (content_by new_locks writes values) key (after x (change.Ttl c.args.ttl)) flat.whole
+          (relocked locks new_locks writes values key c.in_ok-spelt.spelt c.in_ok-spelt.ensures.ok c.in-Some.bytes.now c.in_ok-rec-in-Some.rec (λ (r : LockRec). with_ttl r c.args.ttl) c.in-Some.ensures.value c.in_ok-rec-in-Some.ensures.ok put.0)
+          (λ w. whole_after x (change.Ttl c.args.ttl) w c.requires tt))
+          (λ same. subst (λ (l : Locks). AllWhole (content_by l writes values)) (sym (same_keys flat.locks c.insert.new.self same)) flat.whole)
+          c.insert.ensures.updates c.insert.ensures.err;
+    }
 
 pub returns-clause-content : goal.returns-clause-content
 returns-clause-content c =

@@ -24,7 +24,7 @@ returns-in-Put-clause-value c =
     let same = c.set_at-in-Put.ensures ∙ ap (λ (v : List ℕ × ℕ). (v.0, rec.start)) c.set_at.ensures in
     if_ok c.stored_value.result (λ (found : Option Value). found ≡ value_kept (tree.get version_cmp flat.values c.set_at-in-Put.new.self) c.in-Put.value) (Reads (cells_of x).write c.args.at)
     (λ found is. value_found x c.args.at seen.commit seen.start seen.kind c.requires rec e c.in-Put.value c.in-Put.is (write_kept x (whole_at (flat_content flat) flat.whole c.args.version.0) seen.commit rec e) found
-        (is ∙ ap (λ (v : List ℕ × ℕ). value_kept (tree.get version_cmp flat.values v) c.in-Put.value) same))
+    (is ∙ ap (λ (v : List ℕ × ℕ). value_kept (tree.get version_cmp flat.values v) c.in-Put.value) same))
     c.stored_value.ensures.value
 
 pub returns : goal.returns
