@@ -125,12 +125,12 @@ impl FlatCells {
         ensures err { IfErr result (λ e. e ≡ Fault.OutOfMemory) }
     {
         let _ticks = start.get();
+        if !removes_lock {
+            return leave(&mut self.writes, alloc, key, start, left);
+        }
         let spelt = KeyBytes::new(alloc, key)?;
         let version = VersionBytes::new(alloc, key, start)?;
         leave(&mut self.writes, alloc, key, start, left)?;
-        if !removes_lock {
-            return Ok(());
-        }
         self.locks.remove(&spelt);
         self.values.remove(&version);
         Ok(())
