@@ -72,9 +72,9 @@ module _ (write : Records) (before : ℕ → Option Value) (safe : ℕ) (stay : 
       same_above : (q : ℕ) (r : WriteRec) → write q ≡ Some r → (q ≡ at → ⊥) → goes_from below safe stay q ≡ goes_from at safe stay q
       same_above q r e other = elim (cases_lt q below) [
         | inl b ↦ elim (cases_lt q at) [
-            | inl a ↦ not_yet below q b ∙ sym (not_yet at q a)
-            | inr a ↦ (let n : write q ≡ None = nothing q (omega (arith, a, other)) b in absurd (cc (e, n)))
-          ]
+          | inl a ↦ not_yet below q b ∙ sym (not_yet at q a)
+          | inr a ↦ (let n : write q ≡ None = nothing q (omega (arith, a, other)) b in absurd (cc (e, n)))
+        ]
         | inr b ↦ already below q b ∙ sym (already at q (omega (arith, b, lt)))
       ]
 

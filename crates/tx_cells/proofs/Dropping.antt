@@ -2,6 +2,8 @@
 use Rattle.std.proofs.Common.{◌≡◌, ◌≢◌, ◌⊎◌, ◌↔◌, ℕ, ◌==◌, ◌^◌, ◌<◌, ◌≤◌, inl, inr, Bool, true, false, not, ◌&&◌, cond, Option, Some, None, refl, sym, ap, subst, ◌∙◌, arith}
 use Rattle.std.specs.Prelude.{option_map, nat_lt}
 use Rattle.std.proofs.lemmas.Bool.{cases_Bool, cases_lt, cases_eq, lt-ltb, le-ltb, eq-eqb, eqb-true}
+use mathlib.Core.Logic.{∥∥₁_elim}
+use Rattle.std.specs.Coded.{Coded-set, coded_option, coded_list, coded_ℕ}
 use Rattle.tx_types.specs.declared.value.Value.{Value}
 use Rattle.tx_types.specs.declared.value.StoredValue.TheVariants.{Inline, InDefault}
 use Rattle.tx_types.specs.declared.mutation.StoredMutation.{StoredMutation}
@@ -93,11 +95,15 @@ module _ (write : Records) (goes more : ℕ → Bool) (c : ℕ) (before after : 
       gone_here : (t : ℕ) → t ≡ rec.start → without_value after rec.start t ≡ None
       gone_here t same = ap (λ b. cond b None (after t)) (eq-eqb rec.start t (sym same))
 
--- ---- what the facts of a key make of it
+-- ---- what is left of a key
 
-module _ (x : OnKey) (goes : ℕ → Bool) (value : ℕ → Option Value) (w : IsWhole x) (so : ValuesGo x.write goes x.value value) where
-  abbrev Left : OnKey
+module _ (x : OnKey) (goes : ℕ → Bool) (value : ℕ → Option Value) where
+  abbrev pub Left : OnKey
   Left = record { lock = x.lock; write = λ q. cond (goes q) None (x.write q); value = value }
+
+  -- a value stays where its lock or commit record is left
+  abbrev pub Stays : Type 0
+  Stays = (t : ℕ) → LockKeeps x.lock t ⊎ WriteKeeps Left.write t → value t ≡ x.value t
 
   left_is : (q : ℕ) (r : WriteRec) → Left.write q ≡ Some r → (goes q ≡ false) × (x.write q ≡ Some r)
   left_is q r e = elim (cases_Bool (goes q)) [
@@ -107,18 +113,6 @@ module _ (x : OnKey) (goes : ℕ → Bool) (value : ℕ → Option Value) (w : I
 
   left_there : (q : ℕ) → goes q ≡ false → Left.write q ≡ x.write q
   left_there q stay = ap (λ b. cond b None (x.write q)) stay
-
-  lock_stays : (t : ℕ) → LockKeeps x.lock t → value t ≡ x.value t
-  lock_stays t k = so.stayed t (λ g. w.sound.uncommitted (lock_of x.value k.rec) g.at (ap (option_map (lock_of x.value)) k.found)
-      (record { rec = _; stands = stands_commit x g.at g.rec g.found; own = g.of ∙ sym k.of }))
-
-  write_stays : (t : ℕ) → WriteKeeps Left.write t → value t ≡ x.value t
-  write_stays t k = so.stayed t (λ g. (
-      let there = left_is k.at (Commit k.rec) k.found in
-      let one = w.sound.once t g.at k.at (record { rec = _; stands = stands_commit x g.at g.rec g.found; own = g.of }) (record { rec = _; stands = stands_commit x k.at k.rec there.1; own = k.of }) in
-      let went = sym (ap goes one) ∙ g.went in
-      let stay = there.0 in
-      cc (went, stay)))
 
   -- a mutation is put together from the same
   whole_same : (t : ℕ) (m : StoredMutation) → (keeps_apart m ≡ true → value t ≡ x.value t) → whole (value t) m ≡ whole (x.value t) m
@@ -133,44 +127,34 @@ module _ (x : OnKey) (goes : ℕ → Bool) (value : ℕ → Option Value) (w : I
   kept_same t stored.Delete same k = tt
   kept_same t stored.Lock same k = tt
 
-  lock_value : (rec : LockRec) → x.lock ≡ Some rec → keeps_apart rec.mutation ≡ true → value rec.start ≡ x.value rec.start
-  lock_value rec e apart = lock_stays rec.start (record { rec = rec; found = e; of = refl; apart = apart })
+  module _ (keep : Stays) where
+    lock_value : (rec : LockRec) → x.lock ≡ Some rec → keeps_apart rec.mutation ≡ true → value rec.start ≡ x.value rec.start
+    lock_value rec e apart = keep rec.start (inl (record { rec = rec; found = e; of = refl; apart = apart }))
 
-  write_value : (q : ℕ) (rec : CommitRec) → Left.write q ≡ Some (Commit rec) → keeps_apart rec.mutation ≡ true → value rec.start ≡ x.value rec.start
-  write_value q rec e apart = write_stays rec.start (record { at = q; rec = rec; found = e; of = refl; apart = apart })
+    write_value : (q : ℕ) (rec : CommitRec) → Left.write q ≡ Some (Commit rec) → keeps_apart rec.mutation ≡ true → value rec.start ≡ x.value rec.start
+    write_value q rec e apart = keep rec.start (inr (record { at = q; rec = rec; found = e; of = refl; apart = apart }))
 
-  lock_cells : option_map (lock_of value) x.lock ≡ option_map (lock_of x.value) x.lock
-  lock_cells = go x.lock refl
-    where
-      go : (o : Option LockRec) → x.lock ≡ o → option_map (lock_of value) o ≡ option_map (lock_of x.value) o
-      go None e = refl
-      go (Some rec) e = ap (λ m. Some (whole_lock rec m)) (whole_same rec.start rec.mutation (lock_value rec e))
+    lock_cells : option_map (lock_of value) x.lock ≡ option_map (lock_of x.value) x.lock
+    lock_cells = go x.lock refl
+      where
+        go : (o : Option LockRec) → x.lock ≡ o → option_map (lock_of value) o ≡ option_map (lock_of x.value) o
+        go None e = refl
+        go (Some rec) e = ap (λ m. Some (whole_lock rec m)) (whole_same rec.start rec.mutation (lock_value rec e))
 
-  write_cells : (q : ℕ) → option_map (write_of value) (Left.write q) ≡ cond (goes q) None (option_map (write_of x.value) (x.write q))
-  write_cells q = elim (cases_Bool (goes q)) [
-    | inl go ↦ ap (λ b. option_map (write_of value) (cond b None (x.write q))) go ∙ sym (ap (λ b. cond b None (option_map (write_of x.value) (x.write q))) go)
-    | inr stay ↦ ap (λ b. option_map (write_of value) (cond b None (x.write q))) stay ∙ same stay (x.write q) refl ∙ sym (ap (λ b. cond b None (option_map (write_of x.value) (x.write q))) stay)
-  ]
-    where
-      same : goes q ≡ false → (o : Option WriteRec) → x.write q ≡ o → option_map (write_of value) o ≡ option_map (write_of x.value) o
-      same stay None e = refl
-      same stay (Some (Rollback s)) e = refl
-      same stay (Some (Commit rec)) e = ap (λ m. Some (whole_write (Commit rec) m)) (whole_same rec.start rec.mutation (write_value q rec (left_there q stay ∙ e)))
-
-  -- each value that is left is kept
-  value_left : (t : ℕ) → value t ≢ None → LockKeeps x.lock t ⊎ WriteKeeps Left.write t
-  value_left t n = elim (w.value_kept t (λ none. n (so.fewer t n ∙ none))) [
-    | inl k ↦ inl k
-    | inr k ↦ elim (cases_Bool (goes k.at)) [
-      | inl go ↦ absurd (n (so.gone t (record { at = k.at; rec = k.rec; found = k.found; went = go; of = k.of; apart = k.apart })))
-      | inr stay ↦ inr (record { at = k.at; rec = k.rec; found = left_there k.at stay ∙ k.found; of = k.of; apart = k.apart })
+    write_cells : (q : ℕ) → option_map (write_of value) (Left.write q) ≡ cond (goes q) None (option_map (write_of x.value) (x.write q))
+    write_cells q = elim (cases_Bool (goes q)) [
+      | inl go ↦ ap (λ b. option_map (write_of value) (cond b None (x.write q))) go ∙ sym (ap (λ b. cond b None (option_map (write_of x.value) (x.write q))) go)
+      | inr stay ↦ ap (λ b. option_map (write_of value) (cond b None (x.write q))) stay ∙ same stay (x.write q) refl ∙ sym (ap (λ b. cond b None (option_map (write_of x.value) (x.write q))) stay)
     ]
-  ]
+      where
+        same : goes q ≡ false → (o : Option WriteRec) → x.write q ≡ o → option_map (write_of value) o ≡ option_map (write_of x.value) o
+        same stay None e = refl
+        same stay (Some (Rollback s)) e = refl
+        same stay (Some (Commit rec)) e = ap (λ m. Some (whole_write (Commit rec) m)) (whole_same rec.start rec.mutation (write_value q rec (left_there q stay ∙ e)))
 
-  module _ (safe : ℕ) (tells : (q : ℕ) → cond (keeps (cells_of x).write safe q) (x.write q) None ≡ Left.write q) where
     -- the cells that are left
-    pub cells_left : cells_of Left ≡ kept (cells_of x) safe
-    cells_left = cells_same (option_map (lock_of value) x.lock) (option_map (lock_of x.value) x.lock) (λ q. option_map (write_of value) (Left.write q)) (kept (cells_of x) safe).write lock_cells (λ q.
+    pub cells_left : (safe : ℕ) → ((q : ℕ) → cond (keeps (cells_of x).write safe q) (x.write q) None ≡ Left.write q) → cells_of Left ≡ kept (cells_of x) safe
+    cells_left safe tells = cells_same (option_map (lock_of value) x.lock) (option_map (lock_of x.value) x.lock) (λ q. option_map (write_of value) (Left.write q)) (kept (cells_of x) safe).write lock_cells (λ q.
         write_cells q ∙ push_back (goes q) (x.write q) ∙ ap (option_map (write_of x.value)) (sym (tells q)) ∙ push (keeps (cells_of x).write safe q) (x.write q))
       where
         push_back : (b : Bool) (o : Option WriteRec) → cond b None (option_map (write_of x.value) o) ≡ option_map (write_of x.value) (cond b None o)
@@ -181,26 +165,65 @@ module _ (x : OnKey) (goes : ℕ → Bool) (value : ℕ → Option Value) (w : I
         push true o = refl
         push false o = refl
 
-    pub whole_left : IsWhole Left
-    whole_left = record {
-      lock_kept = λ rec e. kept_same rec.start rec.mutation (lock_value rec e) (w.lock_kept rec e);
-      write_kept = λ q rec e. kept_same rec.start rec.mutation (write_value q rec e) (w.write_kept q rec (left_is q (Commit rec) e).1);
+  module _ (w : IsWhole x) (so : ValuesGo x.write goes x.value value) where
+    lock_stays : (t : ℕ) → LockKeeps x.lock t → value t ≡ x.value t
+    lock_stays t k = so.stayed t (λ g. w.sound.uncommitted (lock_of x.value k.rec) g.at (ap (option_map (lock_of x.value)) k.found)
+        (record { rec = _; stands = stands_commit x g.at g.rec g.found; own = g.of ∙ sym k.of }))
+
+    write_stays : (t : ℕ) → WriteKeeps Left.write t → value t ≡ x.value t
+    write_stays t k = so.stayed t (λ g. (
+        let there = left_is k.at (Commit k.rec) k.found in
+        let one = w.sound.once t g.at k.at (record { rec = _; stands = stands_commit x g.at g.rec g.found; own = g.of }) (record { rec = _; stands = stands_commit x k.at k.rec there.1; own = k.of }) in
+        let went = sym (ap goes one) ∙ g.went in
+        let stay = there.0 in
+        cc (went, stay)))
+
+    stays_in : Stays
+    stays_in t (inl k) = lock_stays t k
+    stays_in t (inr k) = write_stays t k
+
+    -- each value that is left is kept
+    value_left : (t : ℕ) → value t ≢ None → LockKeeps x.lock t ⊎ WriteKeeps Left.write t
+    value_left t n = elim (w.value_kept t (λ none. n (so.fewer t n ∙ none))) [
+      | inl k ↦ inl k
+      | inr k ↦ elim (cases_Bool (goes k.at)) [
+        | inl go ↦ absurd (n (so.gone t (record { at = k.at; rec = k.rec; found = k.found; went = go; of = k.of; apart = k.apart })))
+        | inr stay ↦ inr (record { at = k.at; rec = k.rec; found = left_there k.at stay ∙ k.found; of = k.of; apart = k.apart })
+      ]
+    ]
+
+    gone_in : (t : ℕ) → (LockKeeps x.lock t ⊎ WriteKeeps Left.write t → ⊥) → value t ≡ None
+    gone_in t n = go (value t) refl
+      where
+        go : (o : Option Value) → value t ≡ o → value t ≡ None
+        go None e = e
+        go (Some v) e = absurd (n (value_left t (λ f. cc (e, f))))
+
+    pub whole_left : (safe : ℕ) → ((q : ℕ) → cond (keeps (cells_of x).write safe q) (x.write q) None ≡ Left.write q) → IsWhole Left
+    whole_left safe tells = record {
+      lock_kept = λ rec e. kept_same rec.start rec.mutation (lock_value stays_in rec e) (w.lock_kept rec e);
+      write_kept = λ q rec e. kept_same rec.start rec.mutation (write_value stays_in q rec e) (w.write_kept q rec (left_is q (Commit rec) e).1);
       value_kept = value_left;
       write_fits = λ q r e. w.write_fits q r (left_is q r e).1;
-      sound = subst IsSound (sym cells_left) (sound_kept (cells_of x) safe w.sound);
+      sound = subst IsSound (sym (cells_left stays_in safe tells)) (sound_kept (cells_of x) safe w.sound);
     }
 
-    pub collected_left : Collected safe x Left
-    collected_left = record {
-      lock = refl;
-      write = λ q. sym (tells q);
-      kept = λ t k. elim k [ inl l ↦ lock_stays t l | inr r ↦ write_stays t r ];
-      gone = λ t n. none t (value t) refl n;
-    }
-      where
-        none : (t : ℕ) (o : Option Value) → value t ≡ o → (LockKeeps x.lock t ⊎ WriteKeeps Left.write t → ⊥) → value t ≡ None
-        none t None e n = e
-        none t (Some v) e n = absurd (n (value_left t (λ f. cc (e, f))))
+  value-set : (a b : Option Value) → IsProp (a ≡ b)
+  value-set a b = Coded-set (coded_option (coded_list coded_ℕ)) a b
+
+  pub stays_of : ∥ IsWhole x ∥₁ → ValuesGo x.write goes x.value value → Stays
+  stays_of whole so t k = ∥∥₁_elim whole (value-set (value t) (x.value t)) (λ w. stays_in w so t k)
+
+  pub gone_of : ∥ IsWhole x ∥₁ → ValuesGo x.write goes x.value value → (t : ℕ) → (LockKeeps x.lock t ⊎ WriteKeeps Left.write t → ⊥) → value t ≡ None
+  gone_of whole so t n = ∥∥₁_elim whole (value-set (value t) None) (λ w. gone_in w so t n)
+
+  pub collected_left : ∥ IsWhole x ∥₁ → ValuesGo x.write goes x.value value → (safe : ℕ) → ((q : ℕ) → cond (keeps (cells_of x).write safe q) (x.write q) None ≡ Left.write q) → Collected safe x Left
+  collected_left whole so safe tells = record {
+    lock = refl;
+    write = λ q. sym (tells q);
+    kept = stays_of whole so;
+    gone = gone_of whole so;
+  }
 
 -- ---- which records go
 

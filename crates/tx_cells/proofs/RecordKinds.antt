@@ -40,15 +40,15 @@ long_same apart stored.Lock k = refl
 
 pub kind_is : (x : OnKey) → ∥ IsWhole x ∥₁ → (c : ℕ) (rec : WriteRec) → x.write c ≡ Some rec → IsKind ((cells_of x).write c) (record_kind rec)
 kind_is x t c (Rollback start) e = (
-  let here = ap (option_map (write_of x.value)) e in
-  record { puts = sym (ap (commit_is is_put) here); is_seen = sym (ap (commit_is is_visible) here); has_long_value = sym (ap (commit_is is_long) here) })
+    let here = ap (option_map (write_of x.value)) e in
+    record { puts = sym (ap (commit_is is_put) here); is_seen = sym (ap (commit_is is_visible) here); has_long_value = sym (ap (commit_is is_long) here) })
 kind_is x t c (Commit rec) e = (
-  let here = ap (option_map (write_of x.value)) e in
-  record {
-    puts = puts_same (x.value rec.start) rec.mutation ∙ sym (ap (commit_is is_put) here);
-    is_seen = seen_same (x.value rec.start) rec.mutation ∙ sym (ap (commit_is is_visible) here);
-    has_long_value = long_same (x.value rec.start) rec.mutation (write_kept x t c rec e) ∙ sym (ap (commit_is is_long) here);
-  })
+    let here = ap (option_map (write_of x.value)) e in
+    record {
+      puts = puts_same (x.value rec.start) rec.mutation ∙ sym (ap (commit_is is_put) here);
+      is_seen = seen_same (x.value rec.start) rec.mutation ∙ sym (ap (commit_is is_visible) here);
+      has_long_value = long_same (x.value rec.start) rec.mutation (write_kept x t c rec e) ∙ sym (ap (commit_is is_long) here);
+    })
 
 -- the newest record at a bound or below
 pub is_next : (x : OnKey) → ∥ IsWhole x ∥₁ → (bound c : ℕ) (rec : WriteRec) → x.write c ≡ Some rec → c ≤ bound → ((q : ℕ) → c < q → q ≤ bound → x.write q ≡ None) → IsNext (cells_of x).write bound c (record_kind rec)

@@ -111,6 +111,14 @@ impl Secondaries {
         self.keys.push(key)
     }
 
+    /// How many keys there are.
+    pub fn len(&self) -> usize
+        ensures len { result ≡ length self.now }
+        ensures few { result ≤ MAX_SECONDARIES }
+    {
+        self.keys.as_slice().len()
+    }
+
     /// The keys, in order.
     pub fn as_slice(&self) -> &[Key]
         ensures { result.now ≡ self.now }

@@ -96,6 +96,8 @@ pub(super) struct FlatHistory<'a> {
 impl<'a> History for FlatHistory<'a> {
     ghost writes = { λ h c. tree.get version_cmp h.writes.now (h.version.0, c) };
 
+    ghost key = { λ h. h.version.0 };
+
     fn upto(&mut self, bound: Ts) -> Option<(Ts, RecordHead)> {
         self.version.set_at(bound);
         head_upto(self.writes, &self.version)

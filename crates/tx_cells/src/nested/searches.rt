@@ -1,5 +1,5 @@
 //! Look-ups among the write records of a key.
-ghost use Rattle.std.specs.Prelude.{◌≡◌, ◌≤◌, ℕ, None, Some, IsSome, IfSome, IfNone, option_map};
+ghost use Rattle.std.specs.Prelude.{◌≡◌, ◌≤◌, ℕ, [], None, Some, IsSome, IfSome, IfNone, option_map};
 ghost use Rattle.std.specs.BTreeMap as tree;
 ghost use Rattle.std.specs.Ordering.{nat_cmp};
 ghost use Rattle.tx_cells.specs.Heads.{write_head};
@@ -38,6 +38,8 @@ pub(super) struct NestedHistory<'a> {
 
 impl<'a> History for NestedHistory<'a> {
     ghost writes = { λ h. tree.get nat_cmp h.writes.now };
+
+    ghost key = { λ h. [] };
 
     fn upto(&mut self, bound: Ts) -> Option<(Ts, RecordHead)> {
         head_upto(self.writes, bound)

@@ -1,8 +1,6 @@
-use Rattle.std.proofs.Common.{◌≡◌, ◌<◌, ℕ, None, Some, Option, refl, arith}
 use Rattle.std.specs.BTreeMap as tree
-use Rattle.std.specs.Ordering.{nat_cmp}
-use Rattle.tx_types.specs.declared.write.WriteRec.{WriteRec}
+use Rattle.tx_cells.proofs.Maps.{lt_none, less_of}
 use Rattle.tx_cells.proofs.nested.drop_below.newest_below.Goals as goal
 
 pub returns-clause-newest : goal.returns-clause-newest
-returns-clause-newest c = λ q gt lt. let h = (c.range.ensures.in_range tt).4 _ _ c.in_ok-at.ensures.steps in ?
+returns-clause-newest c = λ q gt lt. lt_none c.args.writes.now c.in_ok-at.at.now q ((c.range.ensures.in_range tt).4 _ _ c.in_ok-at.ensures.steps q (tt, less_of q c.args.below lt)) gt

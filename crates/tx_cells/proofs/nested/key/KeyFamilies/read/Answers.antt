@@ -13,5 +13,5 @@ returns-in_ok-value-in-Some-clause-shows c = record {
 pub returns-in-None-clause-shows : goal.returns-in-None-clause-shows
 returns-in-None-clause-shows c = record {
   lock = c.head_on-lock.ensures ∙ lock_heads (held c.args.self.now).value c.args.self.now.lock;
-  value = none_found (held c.args.self.now) c.args.at c.in-None.ensures;
+  value = none_found (held c.args.self.now) c.args.at c.in-None.ensures.seen;
 }

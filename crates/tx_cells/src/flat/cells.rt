@@ -1,0 +1,115 @@
+//! What is shown of a key.
+ghost use Rattle.std.specs.Prelude.{◌≡◌, ◌↔◌, ◌^◌, ◌<◌, ◌≤◌, ℕ, Some, None, Contains, IsSome, IfSome, IfNone, IfOk, IfErr, MatchOption, option_map};
+ghost use Rattle.std.specs.BTreeMap as tree;
+ghost use Rattle.tx_plan.specs.declared.view.RecordHead.{RecordHead};
+ghost use Rattle.tx_cells.specs.Heads.{write_head};
+ghost use Rattle.tx_cells.specs.Histories.{AreFitting};
+ghost use Rattle.tx_cells.specs.Spelt.{version_cmp};
+ghost use Rattle.tx_cells.specs.Copies.{Copies, AreFalling, times_of};
+ghost use Rattle.tx_plan.specs.declared.view.LockHead.{LockHead};
+
+use super::FlatCells;
+use super::searches::{FlatHistory, head_on};
+use crate::copies::{KeyCopy, RecordAt};
+use crate::history::History;
+use crate::spelling::VersionBytes;
+use std::alloc::Global;
+use std::collections::BTreeMap;
+use tx_plan::LockHead;
+use tx_types::{Fault, Key, Ts, Value};
+
+/// The heads of the write records of a key, from the newest on.
+fn records_down<H: History>(alloc: Global, history: &mut H) -> Result<Vec<RecordAt>, Fault>
+    requires { AreFitting (H.writes history.old) }
+    ensures fall { IfOk result (λ records. AreFalling (times_of records.items)) }
+    ensures all { IfOk result (λ records. (at : ℕ) (head : RecordHead) → Contains records.items (record { at = at; head = head }) ↔ (option_map write_head (H.writes history.old at) ≡ Some head)) }
+    ensures same_key { H.key history.new ≡ H.key history.old }
+    ensures err { IfErr result (λ e. e ≡ Fault.OutOfMemory) }
+{
+    let mut records = Vec::new(alloc);
+    let mut bound = u64::MAX;
+    'records: loop {
+        let Some(entry) = history.upto(Ts::new(bound)) else {
+            return Ok(records);
+        };
+        let (at, head) = entry;
+        records.push(RecordAt { at, head })?;
+        if at.get() == 0 {
+            return Ok(records);
+        }
+        bound = at.get() - 1;
+    }
+}
+
+/// The start of the value nearest to a version of its key, at its timestamp or below.
+fn start_upto(values: &BTreeMap<VersionBytes, Value>, bound: &VersionBytes) -> Option<Ts>
+    ensures found { IfSome result (λ t. (t ≤ bound.now.1) × IsSome (tree.get version_cmp values.now (bound.now.0, t))) }
+    ensures nearest { IfSome result (λ t. (q : ℕ) → q ≤ bound.now.1 → IsSome (tree.get version_cmp values.now (bound.now.0, q)) → q ≤ t) }
+    ensures none { IfNone result ((q : ℕ) → q ≤ bound.now.1 → tree.get version_cmp values.now (bound.now.0, q) ≡ None) }
+{
+    let (version, value) = values.range(bound..).next()?;
+    let _ = value;
+    if !version.is_beside(bound) {
+        return None;
+    }
+    Some(version.at())
+}
+
+/// The starts of the values of a version's key, from the newest on.
+fn starts_down(
+    alloc: Global,
+    values: &BTreeMap<VersionBytes, Value>,
+    mut version: VersionBytes,
+) -> Result<Vec<Ts>, Fault>
+    ensures fall { IfOk result (λ starts. AreFalling starts.items) }
+    ensures all { IfOk result (λ starts. (t : ℕ) → Contains starts.items t ↔ ((t < 2 ^ 64) × IsSome (tree.get version_cmp values.now (version.0, t)))) }
+    ensures err { IfErr result (λ e. e ≡ Fault.OutOfMemory) }
+{
+    let mut starts = Vec::new(alloc);
+    let mut bound = u64::MAX;
+    'values: loop {
+        version.set_at(Ts::new(bound));
+        let Some(start) = start_upto(values, &version) else {
+            return Ok(starts);
+        };
+        starts.push(start)?;
+        if start.get() == 0 {
+            return Ok(starts);
+        }
+        bound = start.get() - 1;
+    }
+}
+
+/// The start of a lock fits.
+fn start_fits(lock: &Option<LockHead>)
+    ensures { IfSome lock.now (λ (head : LockHead). head.start < 2 ^ 64) }
+{
+    if let Some(head) = lock {
+        let _ticks = head.start.get();
+    }
+}
+
+impl FlatCells {
+    ghost use Rattle.tx_cells.specs.Flats.{flat_content};
+
+    /// What is shown of this key.
+    pub(crate) fn copy_of(&self, alloc: Global, key: &Key) -> Result<KeyCopy, Fault>
+        ensures copies { IfOk result (λ copy. Copies (flat_content self.now key.now) copy) }
+        ensures err { IfErr result (λ e. e ≡ Fault.OutOfMemory) }
+    {
+        let lock = head_on(&self.locks, alloc, key)?;
+        start_fits(&lock);
+        let version = VersionBytes::new(alloc, key, Ts::ZERO)?;
+        let mut history = FlatHistory {
+            writes: &self.writes,
+            version,
+        };
+        let records = records_down(alloc, &mut history)?;
+        let values = starts_down(alloc, &self.values, history.version)?;
+        Ok(KeyCopy {
+            lock,
+            records,
+            values,
+        })
+    }
+}

@@ -1,0 +1,30 @@
+//! The locks below a timestamp: the loops of the plans over a walk.
+ghost use Rattle.std.specs.Prelude.{◌≡◌, IfOk, IfErr, MatchOption};
+ghost use Rattle.tx_plan.specs.cases.LocksBelow.{AllBelow};
+ghost use Rattle.tx_plan.specs.cases.Collect.{SomeLockBelow, IsFirstBelow};
+ghost use Rattle.tx_cells.specs.Contents.{cells_in};
+
+use super::FlatCells;
+use std::alloc::Global;
+use tx_plan::{Infos, first_below, infos_below};
+use tx_types::{Fault, LockInfo, Ts};
+
+impl FlatCells {
+    ghost use Rattle.tx_cells.specs.Flats.{flat_content};
+
+    /// What is told of the locks that started below a timestamp.
+    pub(crate) fn infos_of(&self, alloc: Global, safe: Ts) -> Result<Infos, Fault>
+        ensures all { IfOk result (λ infos. AllBelow (cells_in (flat_content self.now)) safe infos) }
+        ensures err { IfErr result (λ e. e ≡ Fault.OutOfMemory) }
+    {
+        infos_below(alloc, self.walk_locks(), safe)
+    }
+
+    /// What is told of the first of these locks, where there is one.
+    pub(crate) fn first_of(&self, alloc: Global, safe: Ts) -> Result<Option<LockInfo>, Fault>
+        ensures first { IfOk result (λ found. MatchOption found (SomeLockBelow (cells_in (flat_content self.now)) safe → ⊥) (λ info. IsFirstBelow (cells_in (flat_content self.now)) safe info)) }
+        ensures err { IfErr result (λ e. e ≡ Fault.OutOfMemory) }
+    {
+        first_below(alloc, self.walk_locks(), safe)
+    }
+}
