@@ -228,7 +228,9 @@ fn hear<J: Naming>(session: &mut Seat<J>, mut reply: Reply<J>) -> bool {
 // What a session knows, where the journal has no name.
 fn leave<J: Naming>(mut session: Seat<J>) -> Unnamed {
     let told = session.tell();
-    told.unnamed(session)
+    let seen = told.unnamed(session);
+    seen.show();
+    seen
 }
 
 // A session asks the first region: whether it has an answer.
@@ -249,20 +251,34 @@ fn ask<J: Naming>(session: &mut Seat<J>, region: &mut Seat<J>) -> bool
     }
 }
 
-// Of the seats the first is a region's, and the last a session's.
-fn reply_to_one<J: Naming>(alloc: Global, opened: Opened) -> Option<Unnamed>
+// How many keys a copy of the journal has between its regions.
+fn bounds_of<J: Naming>(journal: &Journal<J>) -> usize {
+    match journal.clone().ok() {
+        Some(copy) => {
+            let count = copy.bounds().len();
+            drop(copy);
+            count
+        }
+        None => 0,
+    }
+}
+
+// Of the seats the first is a region's, and the next a session's: whether it has an answer, and what it then knows.
+fn reply_to_one<J: Naming>(alloc: Global, opened: Opened) -> Option<(bool, Unnamed)>
     requires name { (opened.table ≡ J.table) × (opened.bounds ≡ J.bounds) × (opened.seats ≡ J.seats) }
     requires three { J.seats ≡ 3 }
 {
-    let Ok((_, mut seats)) = opened.named::<J>(alloc) else {
+    let Ok((journal, mut seats)) = opened.named::<J>(alloc) else {
         return None;
     };
+    let bounds = bounds_of(&journal);
+    drop(journal);
     let mut region = seats.swap_remove(0);
     let mut session = seats.swap_remove(0);
     let heard = ask(&mut session, &mut region);
     drop(region);
-    let seen = leave(session);
-    if heard { Some(seen) } else { None }
+    drop(seats);
+    Some((heard && bounds == 1, leave(session)))
 }
 
 // The keys between two regions.
@@ -284,6 +300,6 @@ fn region_replies(rt: HostRuntime) -> Result<(), Fail> {
     let bounds = one_bound(rt.alloc()).ok_or("a key")?;
     let opened = Opened::new(rt.alloc(), bounds, 1)?;
     let seen = reply_to_one::<Brand>(rt.alloc(), opened);
-    assert!(rt; seen.is_some());
+    assert!(rt; matches!(seen, Some((true, _))));
     Ok(())
 }
