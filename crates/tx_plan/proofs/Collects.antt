@@ -1,50 +1,17 @@
 -- Collection of one key, record by record from the safe point down.
-use Rattle.std.proofs.Common.{◌≡◌, ◌≢◌, ◌⊎◌, ◌↔◌, inl, inr, refl, sym, ap, ◌∙◌, subst, Bool, true, false, cond, not, List, [], ◌∷◌, length, ℕ, zero, suc, ◌+◌, ◌-◌, ◌<◌, ◌≤◌, arith, Option, Some, None}
+use Rattle.std.proofs.Common.{◌≡◌, ◌≢◌, ◌⊎◌, ◌↔◌, inl, inr, refl, sym, ap, ◌∙◌, subst, Bool, true, false, cond, not, List, [], ◌∷◌, length, ℕ, zero, suc, ◌+◌, ◌-◌, ◌<◌, ◌≤◌, arith, add-one, Option, Some, None}
 use Rattle.std.specs.Prelude.{◌&&◌, ◌||◌, AllPairs, Contains, slice_index_or}
 use Rattle.std.proofs.lemmas.Bool.{cases_Bool, and_parts, and_from, and_cases, and_left, and_right, or_cases, or_parts, lt-ltb, le-ltb, cases_lt, cases_order, not-true}
 use Rattle.std.proofs.lemmas.List.{get_or_default}
 use Rattle.tx_types.specs.declared.mutation.Mutation.{Mutation}
 use Rattle.tx_types.specs.declared.mutation.Mutation.TheVariants.{Put, Delete, Lock}
-use Rattle.tx_types.specs.declared.mutation.StoredMutation.{StoredMutation}
-use Rattle.tx_types.specs.declared.write.WriteRec.{WriteRec}
+use Rattle.tx_plan.specs.declared.key_records.RecordKind.{RecordKind}
 use Rattle.tx_plan.specs.Cells.{Write, CommitOf, Rollback, Writes, is_long}
-use Rattle.tx_plan.specs.Stored.{HasWrite, kept, kept_write}
 use Rattle.tx_plan.specs.cases.Collect.{is_visible, is_put, commit_is, none_above, keeps}
-use Rattle.tx_plan.specs.Collecting.{NewestBelow, DroppedOn, long_among, stored_put, stored_visible, stored_long, recorded}
+use Rattle.tx_plan.specs.Collecting.{NoneUpto, IsNext, DroppedOn, long_among, past}
 use Rattle.tx_plan.proofs.LockRows.{contains_next, contains_first, contains_cases, contains_none}
 
 -- ---- what a record says
-
-put_kept : (m : Mutation) → stored_put (kept m) ≡ is_put m
-put_kept (Put v) = refl
-put_kept Delete = refl
-put_kept Lock = refl
-
-visible_kept : (m : Mutation) → stored_visible (kept m) ≡ is_visible m
-visible_kept (Put v) = refl
-visible_kept Delete = refl
-visible_kept Lock = refl
-
-long_kept : (m : Mutation) → stored_long (kept m) ≡ is_long m
-long_kept (Put v) = elim (cases_Bool (is_long (Put v))) [ inl e ↦ (rw e refl) | inr e ↦ (rw e refl) ]
-long_kept Delete = refl
-long_kept Lock = refl
-
-tested : (stored : StoredMutation → Bool) (test : Mutation → Bool) → ((m : Mutation) → stored (kept m) ≡ test m) → (at : ℕ) (whole : Write) → recorded stored (kept_write at whole) ≡ commit_is test (Some whole)
-tested stored test same at (CommitOf rec) = same rec.mutation
-tested stored test same at Rollback = refl
-
-test_is : (stored : StoredMutation → Bool) (test : Mutation → Bool) → ((m : Mutation) → stored (kept m) ≡ test m) → (write : Writes) (at : ℕ) (rec : WriteRec) → HasWrite write at rec → recorded stored rec ≡ commit_is test (write at)
-test_is stored test same write at rec has = ap (recorded stored) has.keeps ∙ tested stored test same at has.whole ∙ ap (commit_is test) (sym has.stands)
-
-pub put_is : (write : Writes) (at : ℕ) (rec : WriteRec) → HasWrite write at rec → recorded stored_put rec ≡ commit_is is_put (write at)
-put_is = test_is stored_put is_put put_kept
-
-pub visible_is : (write : Writes) (at : ℕ) (rec : WriteRec) → HasWrite write at rec → recorded stored_visible rec ≡ commit_is is_visible (write at)
-visible_is = test_is stored_visible is_visible visible_kept
-
-pub long_is : (write : Writes) (at : ℕ) (rec : WriteRec) → HasWrite write at rec → recorded stored_long rec ≡ commit_is is_long (write at)
-long_is = test_is stored_long is_long long_kept
 
 put_visible : (o : Option Write) → commit_is is_put o ≡ true → commit_is is_visible o ≡ true
 put_visible None e = absurd (cc (e))
@@ -196,7 +163,7 @@ drops_gap write safe (suc n) at lt none =
 
 -- collection of a key has come down to `below`
 pub record CollectedTo (write : Writes) (safe below : ℕ) (followed : Bool) (stay : Option ℕ) (records values : ℕ) : Type 0 where
-  pub upto : below ≤ safe
+  pub upto : below ≤ safe + 1
   pub seen : followed ≡ true → SeenFrom write below safe
   pub unseen : followed ≡ false → UnseenFrom write below safe
   pub stays : (q : ℕ) → stay ≡ Some q → (q < safe) × (write q ≢ None) × (keeps write safe q ≡ true)
@@ -204,16 +171,19 @@ pub record CollectedTo (write : Writes) (safe below : ℕ) (followed : Bool) (st
   pub counted : records + length (drops write safe below) ≡ length (drops write safe safe)
   pub long : values + long_among write (drops write safe below) ≡ long_among write (drops write safe safe)
 
-pub collect_starts : (write : Writes) (safe : ℕ) (followed : Bool) → followed ≡ commit_is is_visible (write safe) → CollectedTo write safe safe followed None 0 0
-collect_starts write safe followed is = record {
+pub collect_starts : (write : Writes) (safe : ℕ) → CollectedTo write safe (safe + 1) false None 0 0
+collect_starts write safe = record {
   upto = omega arith;
-  seen = λ e. record { at = safe; from = omega arith; upto = omega arith; visible = sym is ∙ e };
-  unseen = λ e q low high. (let same : safe ≡ q = omega arith in subst (λ x. commit_is is_visible (write x) ≡ false) same (sym is ∙ e));
+  seen = λ e. absurd (cc (e));
+  unseen = λ e q low high. absurd (omega arith);
   stays = λ q e. absurd (cc (e));
   only = λ q low lt ne e. absurd (omega arith);
-  counted = omega arith;
-  long = omega arith;
+  counted = (let l = ap (λ (l : List ℕ). length l) top in omega (arith, l));
+  long = (let l = ap (long_among write) top in omega (arith, l));
 }
+  where
+    top : drops write safe (safe + 1) ≡ drops write safe safe
+    top = rw (add-one, and_right (is_standing (write safe)) (not (keeps write safe safe)) (rw (keeps_above write safe safe (omega arith)) refl)) refl
 
 pub length_drops : (write : Writes) (safe n : ℕ) → length (drops write safe n) ≤ n
 length_drops write safe zero = omega arith
@@ -233,26 +203,23 @@ long_length write (q ∷ times) =
       | inr short ↦ (rw short (omega arith))
     ]
 
-module _ (write : Writes) (safe below : ℕ) (followed : Bool) (stay : Option ℕ) (records values : ℕ) (so : CollectedTo write safe below followed stay records values) (at : ℕ) (next : NewestBelow write below at) where
-  stands_there : write at ≢ None
-  stands_there = next.stands
-
-  in_range : at < safe
-  in_range = omega (arith, next.below, so.upto)
+module _ (write : Writes) (safe below : ℕ) (followed : Bool) (stay : Option ℕ) (records values : ℕ) (so : CollectedTo write safe below followed stay records values) (at : ℕ) (low : at < below) (there : write at ≢ None) (newest : (q : ℕ) → at < q → q < below → write q ≡ None) where
+  in_range : at ≤ safe
+  in_range = omega (arith, low, so.upto)
 
   -- a timestamp from here on is this one, one with no record, or was met before
   met : (q : ℕ) → at ≤ q → (q ≡ at) ⊎ ((write q ≡ None) ⊎ (below ≤ q))
   met q low = elim (cases_lt q below) [
     | inl lt ↦ elim (cases_order q at) [
       | inl e ↦ inl e
-      | inr n ↦ elim n [ inl x ↦ absurd (omega arith) | inr x ↦ inr (inl (next.newest q x lt)) ]
+      | inr n ↦ elim n [ inl x ↦ absurd (omega arith) | inr x ↦ inr (inl (newest q x lt)) ]
     ]
     | inr ge ↦ inr (inr ge)
   ]
 
   seen_next : (after : Bool) → after ≡ (followed || commit_is is_visible (write at)) → after ≡ true → SeenFrom write at safe
   seen_next after is e = elim (or_cases followed (commit_is is_visible (write at)) (sym is ∙ e)) [
-    | inl old ↦ (let s = so.seen old in record { at = s.at; from = omega (arith, s.from, next.below); upto = s.upto; visible = s.visible })
+    | inl old ↦ (let s = so.seen old in record { at = s.at; from = omega (arith, s.from, low); upto = s.upto; visible = s.visible })
     | inr new ↦ record { at = at; from = omega arith; upto = omega (arith, in_range); visible = new }
   ]
 
@@ -271,19 +238,19 @@ module _ (write : Writes) (safe below : ℕ) (followed : Bool) (stay : Option �
       ]
 
   drops_here : drops write safe below ≡ drops write safe (suc at)
-  drops_here = drops_gap write safe below at next.below next.newest
+  drops_here = drops_gap write safe below at low newest
 
-  keeps_here : commit_is is_put (write at) ≡ true → followed ≡ false → keeps write safe at ≡ true
-  keeps_here put old = keeps_put write safe at in_range put (λ q low high. unseen_past old q (omega arith) high)
+  keeps_here : at < safe → commit_is is_put (write at) ≡ true → followed ≡ false → keeps write safe at ≡ true
+  keeps_here lt put old = keeps_put write safe at lt put (λ q low high. unseen_past old q (omega arith) high)
 
   -- a put that nothing seen follows stays
-  pub collect_keeps : (after : Bool) → commit_is is_put (write at) ≡ true → followed ≡ false → after ≡ (followed || commit_is is_visible (write at)) → CollectedTo write safe at after (Some at) records values
-  collect_keeps after put old is = record {
+  pub collect_keeps : (after : Bool) → at < safe → commit_is is_put (write at) ≡ true → followed ≡ false → after ≡ (followed || commit_is is_visible (write at)) → CollectedTo write safe at after (Some at) records values
+  collect_keeps after low put old is = record {
     upto = omega (arith, in_range);
     seen = seen_next after is;
     unseen = unseen_next after is;
-    stays = λ q e. (let same : at ≡ q = cc (e) in subst (λ x. (x < safe) × (write x ≢ None) × (keeps write safe x ≡ true)) same (in_range, stands_there, keeps_here put old));
-    only = λ q low lt ne e. (elim (met q low) [
+    stays = λ q e. (let same : at ≡ q = cc (e) in subst (λ x. (x < safe) × (write x ≢ None) × (keeps write safe x ≡ true)) same (low, there, keeps_here low put old));
+    only = λ q from lt ne e. (elim (met q from) [
       | inl same ↦ ap Some (sym same)
       | inr n ↦ elim n [
         | inl none ↦ absurd (ne none)
@@ -295,51 +262,69 @@ module _ (write : Writes) (safe below : ℕ) (followed : Bool) (stay : Option �
   }
     where
       same_drops : drops write safe below ≡ drops write safe at
-      same_drops = drops_here ∙ (rw (and_right (is_standing (write at)) (not (keeps write safe at)) (rw (keeps_here put old) refl)) refl)
+      same_drops = drops_here ∙ (rw (and_right (is_standing (write at)) (not (keeps write safe at)) (rw (keeps_here low put old) refl)) refl)
+
+  -- the record at the safe point stays
+  pub collect_passes : (after : Bool) → safe ≤ at → after ≡ (followed || commit_is is_visible (write at)) → CollectedTo write safe at after stay records values
+  collect_passes after le is = record {
+    upto = omega (arith, in_range);
+    seen = seen_next after is;
+    unseen = unseen_next after is;
+    stays = so.stays;
+    only = λ q from lt ne k. (elim (met q from) [
+      | inl same ↦ absurd (omega (arith, same, lt, le))
+      | inr n ↦ elim n [ inl none ↦ absurd (ne none) | inr ge ↦ so.only q ge lt ne k ]
+    ]);
+    counted = ap (λ l. records + length l) (sym same_drops) ∙ so.counted;
+    long = ap (λ l. values + long_among write l) (sym same_drops) ∙ so.long;
+  }
+    where
+      same_drops : drops write safe below ≡ drops write safe at
+      same_drops = drops_here ∙ (rw (and_right (is_standing (write at)) (not (keeps write safe at)) (rw (keeps_above write safe at le) refl)) refl)
 
   -- a record that is no put, or that something seen follows, goes
-  goes_here : (commit_is is_put (write at) && not followed) ≡ false → keeps write safe at ≡ false
-  goes_here e = elim (and_cases (commit_is is_put (write at)) (not followed) e) [
-    | inl put ↦ drops_other write safe at in_range put
-    | inr old ↦ (let s = so.seen (not_false followed old) in drops_followed write safe at in_range (record { at = s.at; from = omega (arith, s.from, next.below); upto = s.upto; visible = s.visible }))
+  goes_here : at < safe → (commit_is is_put (write at) && not followed) ≡ false → keeps write safe at ≡ false
+  goes_here lt e = elim (and_cases (commit_is is_put (write at)) (not followed) e) [
+    | inl put ↦ drops_other write safe at lt put
+    | inr old ↦ (let s = so.seen (not_false followed old) in drops_followed write safe at lt (record { at = s.at; from = omega (arith, s.from, low); upto = s.upto; visible = s.visible }))
   ]
     where
       not_false : (b : Bool) → not b ≡ false → b ≡ true
       not_false true h = refl
       not_false false h = absurd (cc (h))
 
-  drops_first : (commit_is is_put (write at) && not followed) ≡ false → drops write safe below ≡ at ∷ drops write safe at
-  drops_first e = drops_here ∙ (rw (ne_standing (write at) stands_there, goes_here e) refl)
+  drops_first : at < safe → (commit_is is_put (write at) && not followed) ≡ false → drops write safe below ≡ at ∷ drops write safe at
+  drops_first lt e = drops_here ∙ (rw (ne_standing (write at) there, goes_here lt e) refl)
 
-  pub collect_drops : (after : Bool) (gone : ℕ) → (commit_is is_put (write at) && not followed) ≡ false → after ≡ (followed || commit_is is_visible (write at)) → gone ≡ cond (commit_is is_long (write at)) (values + 1) values → CollectedTo write safe at after stay (records + 1) gone
-  collect_drops after gone e is gone_is = record {
+  pub collect_drops : (after : Bool) (gone : ℕ) → at < safe → (commit_is is_put (write at) && not followed) ≡ false → after ≡ (followed || commit_is is_visible (write at)) → gone ≡ cond (commit_is is_long (write at)) (values + 1) values → CollectedTo write safe at after stay (records + 1) gone
+  collect_drops after gone low e is gone_is = record {
     upto = omega (arith, in_range);
     seen = seen_next after is;
     unseen = unseen_next after is;
     stays = so.stays;
-    only = λ q low lt ne k. (elim (met q low) [
-      | inl same ↦ (let goes = goes_here e in let stays : keeps write safe at ≡ true = subst (λ x. keeps write safe x ≡ true) same k in absurd (cc (goes, stays)))
+    only = λ q from lt ne k. (elim (met q from) [
+      | inl same ↦ (let goes = goes_here low e in let stays : keeps write safe at ≡ true = subst (λ x. keeps write safe x ≡ true) same k in absurd (cc (goes, stays)))
       | inr n ↦ elim n [ inl none ↦ absurd (ne none) | inr ge ↦ so.only q ge lt ne k ]
     ]);
-    counted = (let l = ap (λ (x : List ℕ). length x) (drops_first e) in omega (arith, l, so.counted));
+    counted = (let l = ap (λ (x : List ℕ). length x) (drops_first low e) in omega (arith, l, so.counted));
     long = long_here;
   }
     where
       long_here : gone + long_among write (drops write safe at) ≡ long_among write (drops write safe safe)
       long_here =
-          let l = ap (long_among write) (drops_first e) in
+          let l = ap (long_among write) (drops_first low e) in
           elim (cases_Bool (commit_is is_long (write at))) [
             | inl longer ↦ (let g : gone ≡ values + 1 = gone_is ∙ (rw longer refl) in let m : long_among write (at ∷ drops write safe at) ≡ suc (long_among write (drops write safe at)) = (rw longer refl) in omega (arith, l, m, g, so.long))
             | inr short ↦ (let g : gone ≡ values = gone_is ∙ (rw short refl) in let m : long_among write (at ∷ drops write safe at) ≡ long_among write (drops write safe at) = (rw short refl) in omega (arith, l, m, g, so.long))
           ]
 
   -- there is room to count it
-  pub collect_fits : (commit_is is_put (write at) && not followed) ≡ false → records + 1 ≤ safe
-  collect_fits e = let l = ap (λ (x : List ℕ). length x) (drops_first e) in omega (arith, l, so.counted, length_drops write safe safe)
+  pub collect_fits : at < safe → (commit_is is_put (write at) && not followed) ≡ false → records + 1 ≤ safe
+  collect_fits low e = let l = ap (λ (x : List ℕ). length x) (drops_first low e) in omega (arith, l, so.counted, length_drops write safe safe)
 
-  pub values_fit : (commit_is is_put (write at) && not followed) ≡ false → commit_is is_long (write at) ≡ true → values + 1 ≤ safe
-  values_fit e longer =
-      let l = ap (long_among write) (drops_first e) in
+  pub values_fit : at < safe → (commit_is is_put (write at) && not followed) ≡ false → commit_is is_long (write at) ≡ true → values + 1 ≤ safe
+  values_fit low e longer =
+      let l = ap (long_among write) (drops_first low e) in
       let m : long_among write (at ∷ drops write safe at) ≡ suc (long_among write (drops write safe at)) = (rw longer refl) in
       omega (arith, l, m, so.long, long_length write (drops write safe safe), length_drops write safe safe)
 
@@ -367,9 +352,68 @@ goes_followed put followed e = and_right put (not followed) (rw e refl)
 pub goes_no_put : (put result followed : Bool) → result ≡ put → result ≡ false → (put && not followed) ≡ false
 goes_no_put put result followed is e = and_left put (not followed) (sym is ∙ e)
 
--- what has been followed after a record
-pub after_followed : (followed seen : Bool) → followed ≡ true → followed ≡ (followed || seen)
-after_followed followed seen e = (rw e refl)
+-- ---- a step of the loop
 
-pub after_seen : (seen result followed : Bool) → followed ≡ false → result ≡ seen → result ≡ (followed || seen)
-after_seen seen result followed e is = is ∙ (rw e refl)
+-- a record that is no put, or that something seen follows
+abbrev pub Goes : RecordKind → Bool → Type 0
+Goes kind followed = ((kind.puts ≡ true) × (followed ≡ true)) ⊎ (kind.puts ≡ false)
+
+module _ (write now : Writes) (safe bound at : ℕ) (kind : RecordKind) (below : Option ℕ) (followed : Bool) (stay : Option ℕ) (records values : ℕ) (same : now ≡ write) (is : below ≡ Some bound) (so : CollectedTo write safe (past below) followed stay records values) (came : IsNext now bound at kind) where
+  next : IsNext write bound at kind
+  next = subst (λ (w : Writes). IsNext w bound at kind) same came
+
+  to : CollectedTo write safe (bound + 1) followed stay records values
+  to = subst (λ n. CollectedTo write safe n followed stay records values) (ap past is) so
+
+  low : at < bound + 1
+  low = omega (arith, next.upto)
+
+  newest : (q : ℕ) → at < q → q < bound + 1 → write q ≡ None
+  newest q above under = next.newest q above (omega (arith, under))
+
+  goes : Goes kind followed → (commit_is is_put (write at) && not followed) ≡ false
+  goes (inl v) = goes_followed (commit_is is_put (write at)) followed v.1
+  goes (inr v) = goes_no_put (commit_is is_put (write at)) kind.puts followed next.is.puts v
+
+  seen : (after : Bool) → after ≡ (followed || kind.is_seen) → after ≡ (followed || commit_is is_visible (write at))
+  seen after e = e ∙ ap (λ b. followed || b) next.is.is_seen
+
+  -- there is room to count it
+  pub step_fits : at < safe → Goes kind followed → records + 1 ≤ safe
+  step_fits lt gone = collect_fits write safe (bound + 1) followed stay records values to at low next.there newest lt (goes gone)
+
+  pub step_values : at < safe → Goes kind followed → kind.has_long_value ≡ true → values + 1 ≤ safe
+  step_values lt gone long = values_fit write safe (bound + 1) followed stay records values to at low next.there newest lt (goes gone) (sym next.is.has_long_value ∙ long)
+
+  -- it is met
+  pub step_keeps : (after : Bool) → after ≡ (followed || kind.is_seen) → at < safe → kind.puts ≡ true → followed ≡ false → CollectedTo write safe at after (Some at) records values
+  step_keeps after e lt put old = collect_keeps write safe (bound + 1) followed stay records values to at low next.there newest after lt (sym next.is.puts ∙ put) old (seen after e)
+
+  pub step_drops : (after : Bool) (gone : ℕ) → after ≡ (followed || kind.is_seen) → at < safe → Goes kind followed → gone ≡ cond kind.has_long_value (values + 1) values → CollectedTo write safe at after stay (records + 1) gone
+  step_drops after gone e lt g is_gone = collect_drops write safe (bound + 1) followed stay records values to at low next.there newest after gone lt (goes g) (seen after e) (is_gone ∙ ap (λ b. cond b (values + 1) values) next.is.has_long_value)
+
+  pub step_passes : (after : Bool) → after ≡ (followed || kind.is_seen) → safe ≤ at → CollectedTo write safe at after stay records values
+  step_passes after e le = collect_passes write safe (bound + 1) followed stay records values to at low next.there newest after le (seen after e)
+
+-- where no record comes next, all has been counted
+pub step_ends : (write now : Writes) (safe bound : ℕ) (below : Option ℕ) (followed : Bool) (stay : Option ℕ) (records values : ℕ) → now ≡ write → below ≡ Some bound → CollectedTo write safe (past below) followed stay records values → NoneUpto now bound → (records ≡ length (drops write safe safe)) × (values ≡ long_among write (drops write safe safe))
+step_ends write now safe bound below followed stay records values same is so none =
+    collect_ends write safe (past below) followed stay records values so (λ q lt. subst (λ (w : Writes). NoneUpto w bound) same none q (omega (arith, lt, ap past is)))
+
+-- where the walk is at an end
+pub all_ended : (write : Writes) (safe : ℕ) (below : Option ℕ) (followed : Bool) (stay : Option ℕ) (records values : ℕ) → below ≡ None → CollectedTo write safe (past below) followed stay records values → (records ≡ length (drops write safe safe)) × (values ≡ long_among write (drops write safe safe))
+all_ended write safe below followed stay records values is so = collect_ends write safe (past below) followed stay records values so (λ q lt. absurd (omega (arith, lt, ap past is)))
+
+-- how many values have gone by then
+pub gone_long : (long : Bool) (values : ℕ) → long ≡ true → values + 1 ≡ cond long (values + 1) values
+gone_long long values e = (rw e refl)
+
+pub gone_short : (long : Bool) (values : ℕ) → long ≡ false → values ≡ cond long (values + 1) values
+gone_short long values e = (rw e refl)
+
+-- what was seen by then
+pub after_true : (after followed seen : Bool) → followed ≡ true → after ≡ followed → after ≡ (followed || seen)
+after_true after followed seen f e = e ∙ f ∙ (rw f refl)
+
+pub after_other : (after followed seen : Bool) → followed ≡ false → after ≡ seen → after ≡ (followed || seen)
+after_other after followed seen f e = e ∙ (rw f refl)

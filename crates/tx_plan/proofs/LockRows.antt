@@ -1,6 +1,6 @@
 -- The locks of a region that started below a timestamp, from a walk over its locks.
 use Rattle.std.proofs.Common.{◌≡◌, ◌⊎◌, inl, inr, refl, sym, ap, ◌∙◌, subst, cond, List, [], ◌∷◌, ◌++◌, append_assoc, append-nil, ℕ, zero, suc, ◌<◌, ◌≤◌, arith, Some}
-use Rattle.std.specs.Prelude.{IsTrue, bytes_eq, nat_lt, Contains}
+use Rattle.std.specs.Prelude.{IsTrue, bytes_eq, nat_lt, Contains, Option, None, MatchOption, option_map}
 use Rattle.std.proofs.lemmas.Bool.{cases_Bool, lt-ltb, le-ltb, ltb-true}
 use Rattle.tx_types.specs.declared.key.Key.{Key}
 use Rattle.tx_types.specs.declared.lock.LockInfo.{LockInfo}
@@ -9,6 +9,8 @@ use Rattle.tx_plan.specs.Cells.{Lock, Cells, info_of}
 use Rattle.tx_plan.specs.Walks.{LockRow, LocksInOrder, lock_by, IsLockWalk}
 use Rattle.tx_plan.specs.cases.LocksBelow.{IsLockBelow, AreRising, AllBelow}
 use Rattle.tx_plan.specs.cases.Collect.{SomeLockBelow, IsFirstBelow}
+use Rattle.tx_plan.specs.Views.{LockComesNext, lock_head_of, info_on}
+use Rattle.tx_plan.specs.declared.view.LockHead.{LockHead}
 use Rattle.tx_plan.proofs.KeyOrder.{lt_trans, lt_other, lt_itself, key_same, same_key}
 
 -- what is told of the rows whose locks started below s
@@ -89,7 +91,7 @@ lock_later k x (z ∷ rows) lt h y lock e =
       | inr other ↦ (let past : lock_by rows y ≡ Some lock = (let e2 : lock_by (z ∷ rows) y ≡ lock_by rows y = rw other refl in sym e2 ∙ e) in lock_later k x rows (before_later k z rows lt rest.1) rest.0 y lock past)
     ]
 
-rows_stand : (cells : Key → Cells) (rows : List LockRow) → LocksInOrder rows → ((k : Key) (lock : Lock) → lock_by rows k ≡ Some lock → (cells k).lock ≡ Some lock) → RowsStand cells rows
+pub rows_stand : (cells : Key → Cells) (rows : List LockRow) → LocksInOrder rows → ((k : Key) (lock : Lock) → lock_by rows k ≡ Some lock → (cells k).lock ≡ Some lock) → RowsStand cells rows
 rows_stand cells [] h all = tt
 rows_stand cells (x ∷ rows) h all =
     let rest = rest_in_order x rows h in
@@ -145,6 +147,35 @@ none_told cells s all some = contains_none some.0 (all.each some.0 some.1)
 
 -- ---- a loop over the rows
 
+-- the rows of a walk are what is in the region
+pub walk_stands : (cells : Key → Cells) (rows : List LockRow) → IsLockWalk cells rows → RowsStand cells rows
+walk_stands cells rows walk = rows_stand cells rows walk.rising (λ k lock e. walk.all k ∙ e)
+
+-- the lock that comes next
+pub next_lock : (rows rest : List LockRow) (found : Option (Key × LockHead)) (k : Key) (head : LockHead) → MatchOption found (rows ≡ []) (λ (x : Key × LockHead). LockComesNext rows rest x.0 x.1) → found ≡ Some (k, head) → LockComesNext rows rest k head
+next_lock rows rest found k head next e = subst (λ (o : Option (Key × LockHead)). MatchOption o (rows ≡ []) (λ (x : Key × LockHead). LockComesNext rows rest x.0 x.1)) e next
+
+-- no lock comes next
+pub no_next : (rows rest : List LockRow) (found : Option (Key × LockHead)) → MatchOption found (rows ≡ []) (λ (x : Key × LockHead). LockComesNext rows rest x.0 x.1) → found ≡ None → rows ≡ []
+no_next rows rest found next e = subst (λ (o : Option (Key × LockHead)). MatchOption o (rows ≡ []) (λ (x : Key × LockHead). LockComesNext rows rest x.0 x.1)) e next
+
+module _ (cells : Key → Cells) (rows rest : List LockRow) (k : Key) (head : LockHead) (next : LockComesNext rows rest k head) (there : RowsStand cells rows) where
+  row : LockRow
+  row = record { key = k; lock = next.lock }
+
+  here : RowsStand cells (record { key = k; lock = next.lock } ∷ rest)
+  here = subst (RowsStand cells) next.first there
+
+  pub rest_stands : RowsStand cells rest
+  rest_stands = here.1
+
+  pub same_start : head.start ≡ next.lock.start
+  same_start = ap (λ (h : LockHead). h.start) next.shown
+
+  -- what is told on its key is told of it
+  pub told_here : info_on (cells k) k ≡ Some (info_of k next.lock)
+  told_here = ap (option_map (info_of k)) here.0
+
 pub told_more : (s : ℕ) (x : LockRow) (rest : List LockRow) (infos all : List LockInfo) → infos ++ told_below s (x ∷ rest) ≡ all → x.lock.start < s → (infos ++ info_of x.key x.lock ∷ []) ++ told_below s rest ≡ all
 told_more s x rest infos all e below =
     let first : told_below s (x ∷ rest) ≡ info_of x.key x.lock ∷ told_below s rest = (rw (lt-ltb x.lock.start s below) refl) in
@@ -157,6 +188,14 @@ told_same s x rest infos all e above =
 
 pub told_end : (s : ℕ) (rest : List LockRow) (infos all : List LockInfo) → infos ++ told_below s rest ≡ all → rest ≡ [] → infos ≡ all
 told_end s rest infos all e none = sym (append-nil infos) ∙ ap (λ r. infos ++ told_below s r) (sym none) ∙ e
+
+pub step_told : (cells : Key → Cells) (s : ℕ) (rows rest : List LockRow) (k : Key) (head : LockHead) (infos all : List LockInfo) (next : LockComesNext rows rest k head) → infos ++ told_below s rows ≡ all → head.start < s → (infos ++ info_of k next.lock ∷ []) ++ told_below s rest ≡ all
+step_told cells s rows rest k head infos all next e below =
+    told_more s (record { key = k; lock = next.lock }) rest infos all (ap (λ (r : List LockRow). infos ++ told_below s r) (sym next.first) ∙ e) (subst (λ n. n < s) (ap (λ (h : LockHead). h.start) next.shown) below)
+
+pub step_same : (cells : Key → Cells) (s : ℕ) (rows rest : List LockRow) (k : Key) (head : LockHead) (infos all : List LockInfo) (next : LockComesNext rows rest k head) → infos ++ told_below s rows ≡ all → s ≤ head.start → infos ++ told_below s rest ≡ all
+step_same cells s rows rest k head infos all next e above =
+    told_same s (record { key = k; lock = next.lock }) rest infos all (ap (λ (r : List LockRow). infos ++ told_below s r) (sym next.first) ∙ e) (subst (λ n. s ≤ n) (ap (λ (h : LockHead). h.start) next.shown) above)
 
 -- ---- the first of a walk
 
@@ -171,3 +210,18 @@ first_of_walk cells s x rest all walk e below =
 pub none_of_walk : (cells : Key → Cells) (s : ℕ) (rest all : List LockRow) → IsLockWalk cells all → told_below s rest ≡ told_below s all → rest ≡ [] → SomeLockBelow cells s → ⊥
 none_of_walk cells s rest all walk e none some =
     none_told cells s (subst (AllBelow cells s) (sym e ∙ ap (told_below s) none) (told_all cells s all walk)) some
+
+pub step_passes : (s : ℕ) (rows rest : List LockRow) (k : Key) (head : LockHead) (all : List LockInfo) (next : LockComesNext rows rest k head) → told_below s rows ≡ all → s ≤ head.start → told_below s rest ≡ all
+step_passes s rows rest k head all next e above =
+    passes_same s (record { key = k; lock = next.lock }) rest all (ap (told_below s) (sym next.first) ∙ e) (subst (λ n. s ≤ n) (ap (λ (h : LockHead). h.start) next.shown) above)
+
+-- what is told where a lock below s comes next
+pub step_first : (cells : Key → Cells) (s : ℕ) (rows rest all : List LockRow) (k : Key) (head : LockHead) (info : Option LockInfo) → IsLockWalk cells all → RowsStand cells rows → told_below s rows ≡ told_below s all → LockComesNext rows rest k head → head.start < s → info ≡ info_on (cells k) k → MatchOption info (SomeLockBelow cells s → ⊥) (λ i. IsFirstBelow cells s i)
+step_first cells s rows rest all k head info walk there told next below is =
+    let x : LockRow = record { key = k; lock = next.lock } in
+    let first : IsFirstBelow cells s (info_of k next.lock) = first_of_walk cells s x rest all walk (ap (told_below s) (sym next.first) ∙ told) (subst (λ n. n < s) (same_start cells rows rest k head next there) below) in
+    subst (λ (o : Option LockInfo). MatchOption o (SomeLockBelow cells s → ⊥) (λ i. IsFirstBelow cells s i)) (sym (is ∙ told_here cells rows rest k head next there)) first
+
+-- what is told of the lock that came next, where something is
+pub told_of_next : (cells now : Key → Cells) (rows rest : List LockRow) (k : Key) (head : LockHead) (info : Option LockInfo) (next : LockComesNext rows rest k head) → RowsStand cells rows → now ≡ cells → info ≡ info_on (now k) k → info ≡ Some (info_of k next.lock)
+told_of_next cells now rows rest k head info next there same is = is ∙ ap (λ (f : Key → Cells). info_on (f k) k) same ∙ told_here cells rows rest k head next there

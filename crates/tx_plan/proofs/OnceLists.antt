@@ -25,32 +25,3 @@ once_append (x ∷ xs) ys a b apart =
       | inl old ↦ once_other x xs a y old e
       | inr new ↦ apart x (contains_first x xs) (subst (Contains ys) (sym e) new)
     ])) (once_append xs ys (once_rest x xs a) b (λ z c d. apart z (contains_next x xs z c) d))
-
--- ---- such a list is no longer than one that has all of it
-
--- a list without what stands at an index
-abbrev without : {X : Type 0} → List X → ℕ → List X
-without [] k = []
-without (y ∷ ys) zero = ys
-without (y ∷ ys) (suc k) = y ∷ without ys k
-
-length_without : {X : Type 0} (ys : List X) (k : ℕ) → k < length ys → length (without ys k) + 1 ≡ length ys
-length_without [] k lt = absurd (omega (arith, lt))
-length_without (y ∷ ys) zero lt = omega arith
-length_without (y ∷ ys) (suc k) lt = let rest = length_without ys k (omega (arith, lt)) in omega (arith, rest)
-
-still_contained : {X : Type 0} (ys : List X) (k : ℕ) (d z : X) → k < length ys → Contains ys z → (slice_index_or ys k d ≡ z → ⊥) → Contains (without ys k) z
-still_contained [] k d z lt c other = absurd (contains_none z c)
-still_contained (y ∷ ys) zero d z lt c other = elim (contains_cases y ys z c) [ inl e ↦ absurd (other e) | inr later ↦ later ]
-still_contained (y ∷ ys) (suc k) d z lt c other =
-    elim (contains_cases y ys z c) [
-      | inl e ↦ subst (Contains (y ∷ without ys k)) e (contains_first y (without ys k))
-      | inr later ↦ contains_next y (without ys k) z (still_contained ys k d z (omega (arith, lt)) later other)
-    ]
-
-pub fewer : {X : Type 0} (xs ys : List X) → Once xs → ((x : X) → Contains xs x → Contains ys x) → length xs ≤ length ys
-fewer [] ys once all = omega arith
-fewer (x ∷ xs) ys once all =
-    let at = all x (contains_first x xs) in
-    let rest = fewer xs (without ys at.0) (once_rest x xs once) (λ z c. still_contained ys at.0 x z at.1 (all z (contains_next x xs z c)) (λ e. once_other x xs once z c (sym at.2 ∙ e))) in
-    omega (arith, rest, length_without ys at.0 at.1)

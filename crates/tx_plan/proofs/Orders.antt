@@ -7,7 +7,7 @@ use Rattle.std.specs.declared.cmp.Ordering.TheVariants.{Less, Equal, Greater}
 use Rattle.std.proofs.lemmas.Bool.{cases_order}
 use Rattle.std.proofs.lemmas.Map.Keys.{ge_from_not_lt}
 use Rattle.tx_plan.specs.Cells.{Lock}
-use Rattle.tx_plan.specs.Traces.{OwnLock}
+use Rattle.tx_plan.specs.Own.{OwnLock}
 
 -- a test that said no
 pub not_below : (a b : ℕ) → false ≡ is_lt (nat_cmp a b) → a < b → ⊥

@@ -1,8 +1,9 @@
 -- A scan that walks the rows of a region: what it has found so far, at each row, and where it ends.
-use Rattle.std.proofs.Common.{◌≡◌, ◌⊎◌, inl, inr, refl, sym, ap, ◌∙◌, subst, Bool, true, false, cond, List, [], ◌∷◌, ◌++◌, length, length-append, ℕ, ◌<◌, ◌≤◌, arith, Some, None}
-use Rattle.std.specs.Prelude.{IsTrue, bytes_eq, ◌&&◌, ◌||◌, nat_lt, max}
+use Rattle.std.proofs.Common.{◌≡◌, ◌⊎◌, inl, inr, refl, sym, ap, ◌∙◌, subst, Bool, true, false, cond, List, [], ◌∷◌, ◌++◌, length, length-append, ℕ, ◌<◌, ◌≤◌, arith, Option, Some, None}
+use Rattle.std.specs.Prelude.{IsTrue, bytes_eq, ◌&&◌, ◌||◌, nat_lt, max, MatchOption, option_map}
 use Rattle.std.proofs.lemmas.Bool.{and_parts, and_from, or_cases, or_right, or_left, cases_Bool, le-ltb}
 use Rattle.tx_types.specs.declared.key.Key.{Key}
+use Rattle.tx_types.specs.declared.lock.LockInfo.{LockInfo}
 use Rattle.tx_types.specs.declared.value.Value.{Value}
 use Rattle.tx_types.specs.declared.mutation.KeyValue.{KeyValue}
 use Rattle.tx_plan.specs.declared.body.Scan.{Scan}
@@ -12,6 +13,10 @@ use Rattle.tx_types.specs.Keys.{key_lt, key_le, IsRising, value_in, reaches}
 use Rattle.tx_plan.specs.Cells.{Lock, Cells, no_cells, info_of}
 use Rattle.tx_plan.specs.Reads.{Blocks, Finds, Reads, Walked, in_range, covered, raised}
 use Rattle.tx_plan.specs.Walks.{KeyRow, AreInOrder, IsWalk}
+use Rattle.tx_plan.specs.declared.view.ReadView.{ReadView}
+use Rattle.tx_plan.specs.declared.planned.PlannedAnswer.TheVariants as planned
+use Rattle.tx_plan.specs.Plans.{answer_with}
+use Rattle.tx_plan.specs.Views.{ComesNext, IsBlocked, info_on}
 use Rattle.tx_plan.specs.cases.Scan.{GivesRows, MeetsLock}
 use Rattle.tx_plan.proofs.KeyOrder.{ordered, lt_trans, le_itself, lt_le, lt_other, lt_itself, lt_back, le_lt, lt_then_le, same_key, key_same, other_key}
 use Rattle.tx_plan.proofs.WalkRows.{comes_before, AreLeft, left_first, left_rest, first_cells, first_before_rest, gap_none, start_none}
@@ -237,16 +242,56 @@ pub scan_ends_range : (cells : Key → Cells) (b : Scan) (x : KeyRow) (rest : Li
 scan_ends_range cells b x rest rows a so past e = scan_ends cells b (x ∷ rest) rows a so e (λ k w. (let both = and_parts (in_range b k) (nat_lt (length rows) b.limit || reaches rows k) w in lt_then_le k b.to x.key (and_parts (key_le b.from k) (key_lt k b.to) both.0).1 past))
 
 -- where the limit is reached
-pub scan_ends_limit : (cells : Key → Cells) (b : Scan) (x : KeyRow) (rest : List KeyRow) (rows : List KeyValue) (a : Answer) → Scanned cells b (x ∷ rest) rows → b.limit ≤ length rows → a ≡ Rows rows → GivesRows cells b a
-scan_ends_limit cells b x rest rows a so full e = scan_ends cells b (x ∷ rest) rows a so e through
+pub scan_ends_limit : (cells : Key → Cells) (b : Scan) (rest : List KeyRow) (rows : List KeyValue) (a : Answer) → Scanned cells b rest rows → b.limit ≤ length rows → a ≡ Rows rows → GivesRows cells b a
+scan_ends_limit cells b rest rows a so full e = scan_ends cells b rest rows a so e (through rest so)
   where
-    through : (k : Key) → IsTrue (covered b rows k) → IsTrue (key_lt k x.key)
-    through k w =
+    through : (left : List KeyRow) → Scanned cells b left rows → (k : Key) → IsTrue (covered b rows k) → IsTrue (comes_before left k)
+    through [] there k w = refl
+    through (x ∷ left) there k w =
         let both = and_parts (in_range b k) (nat_lt (length rows) b.limit || reaches rows k) w in
         elim (or_cases (nat_lt (length rows) b.limit) (reaches rows k) both.1) [
           | inl lt ↦ (let ge : nat_lt (length rows) b.limit ≡ false = le-ltb (length rows) b.limit full in absurd (cc (lt, ge)))
-          | inr r ↦ reaches_below rows k x.key r (λ j v h. (and_parts (key_le b.from j) (key_lt j x.key) (so.walked.inside j v h)).1)
+          | inr r ↦ reaches_below rows k x.key r (λ j v h. (and_parts (key_le b.from j) (key_lt j x.key) (there.walked.inside j v h)).1)
         ]
+
+-- ---- a step of the loop
+
+-- the key that comes next
+pub next_key : (left rest : List KeyRow) (at : ℕ) (found : Option (Key × ReadView)) (k : Key) (view : ReadView) → MatchOption found (left ≡ []) (λ (x : Key × ReadView). ComesNext left rest at x.0 x.1) → found ≡ Some (k, view) → ComesNext left rest at k view
+next_key left rest at found k view next e = subst (λ (o : Option (Key × ReadView)). MatchOption o (left ≡ []) (λ (x : Key × ReadView). ComesNext left rest at x.0 x.1)) e next
+
+-- no key comes next
+pub no_key : (left rest : List KeyRow) (at : ℕ) (found : Option (Key × ReadView)) → MatchOption found (left ≡ []) (λ (x : Key × ReadView). ComesNext left rest at x.0 x.1) → found ≡ None → left ≡ []
+no_key left rest at found next e = subst (λ (o : Option (Key × ReadView)). MatchOption o (left ≡ []) (λ (x : Key × ReadView). ComesNext left rest at x.0 x.1)) e next
+
+module _ (cells : Key → Cells) (b : Scan) (left rest : List KeyRow) (k : Key) (view : ReadView) (rows : List KeyValue) (so : Scanned cells b left rows) (next : ComesNext left rest b.at k view) where
+  abbrev row : KeyRow
+  row = record { key = k; cells = next.cells }
+
+  there : Scanned cells b (row ∷ rest) rows
+  there = subst (λ r. Scanned cells b r rows) next.first so
+
+  on_key : cells k ≡ next.cells
+  on_key = first_cells cells (key_le b.from) row rest there.left
+
+  -- the range ends before it
+  pub step_ends : (a : Answer) → IsTrue (key_le b.to k) → a ≡ Rows rows → GivesRows cells b a
+  step_ends a past e = scan_ends_range cells b row rest rows a there past e
+
+  -- its lock blocks the scan
+  pub step_blocked : (now : Key → Cells) (info : Option LockInfo) (a : Answer) → now ≡ cells → info ≡ info_on (now k) k → a ≡ answer_with info planned.KeyIsLocked → IsBlocked next.cells.lock b.at b.bypass → IsTrue (key_lt k b.to) → length rows < b.limit → MeetsLock cells b a
+  step_blocked now info a same is e blocked short more =
+      let lock = blocked.0 in
+      let found : info ≡ Some (info_of k lock) = is ∙ ap (λ (f : Key → Cells). info_on (f k) k) same ∙ ap (λ (c : Cells). info_on c k) on_key ∙ ap (option_map (info_of k)) blocked.1.stands in
+      scan_meets cells b row rest rows there lock a blocked.1 (e ∙ ap (λ (o : Option LockInfo). answer_with o planned.KeyIsLocked) found) short more
+
+  -- it is free and has a value
+  pub step_gives : (v : Value) → view.value ≡ Some v → (IsBlocked next.cells.lock b.at b.bypass → ⊥) → IsTrue (key_lt k b.to) → length rows < b.limit → Scanned cells b rest (rows ++ row_of k v ∷ [])
+  step_gives v e free short more = scan_gives cells b row rest rows there v (λ lock blocks. free (lock, blocks)) (subst (Reads next.cells.write b.at) e next.shows.value) short more
+
+  -- it is free and has none
+  pub step_skips : view.value ≡ None → (IsBlocked next.cells.lock b.at b.bypass → ⊥) → Scanned cells b rest rows
+  step_skips e free = scan_skips cells b row rest rows there (λ lock blocks. free (lock, blocks)) (subst (Reads next.cells.write b.at) e next.shows.value)
 
 -- a scan that was not refused raises the greatest timestamp read
 pub scan_raises : (cells : Key → Cells) (b : Scan) (a : Answer) (max_read : ℕ) → MeetsLock cells b a ⊎ GivesRows cells b a → raised a b.at max_read ≡ max max_read b.at

@@ -48,9 +48,13 @@ AnswersBy Promise region loaded (Collect b) a = AnswersCollect region.cells regi
 abbrev pub Answers : Region → ℕ → ℕ → Body → Answer → Type 0
 Answers region loaded top = AnswersBy (MayPromise region.max_read top) region loaded
 
--- What a region of this store answers: the same, with the least minimum.
+-- What a region of this store answers: the same, with the least minimum. `mark` is the greatest timestamp that was read.
+abbrev pub AnswersFrom : ℕ → Region → ℕ → Body → Answer → Type 0
+AnswersFrom mark region loaded = AnswersBy (λ start m. m ≡ least_minimum mark start) region loaded
+
+-- by the region's own mark
 abbrev pub AnswersLeast : Region → ℕ → Body → Answer → Type 0
-AnswersLeast region loaded = AnswersBy (λ start m. m ≡ least_minimum region.max_read start) region loaded
+AnswersLeast region loaded = AnswersFrom region.max_read region loaded
 
 -- what an answer leaves of the region: the answer tells the change
 abbrev pub leaves : Region → Body → Answer → Region

@@ -1,12 +1,10 @@
 -- What a walk over the keys of a region passes.
-use Rattle.std.specs.Prelude.{◌≡◌, Bool, true, cond, List, [], ◌∷◌, drop, Option, Some, None, bytes_eq, IsTrue}
-use Rattle.tx_types.specs.declared.lock.LockRec.{LockRec}
+use Rattle.std.specs.Prelude.{◌≡◌, Bool, true, cond, List, [], ◌∷◌, Option, Some, None, bytes_eq, IsTrue}
 use Rattle.tx_types.specs.declared.key.Key.{Key}
 use Rattle.tx_types.specs.Keys.{key_lt}
 use Rattle.tx_plan.specs.Cells.{Lock, Cells, no_cells}
-use Rattle.tx_plan.specs.Stored.{KeepsLock}
 
--- a key and what stands on it
+-- a key and what is on it
 pub record KeyRow : Type 0 where
   pub key : Key
   pub cells : Cells
@@ -22,12 +20,12 @@ abbrev pub KeysPass : (Key → Bool) → List KeyRow → Type 0
 KeysPass within [] = Unit {0}
 KeysPass within (x ∷ rows) = IsTrue (within x.key) × KeysPass within rows
 
--- what the rows say stands on a key: nothing where none is of it
+-- what the rows say is on a key: nothing where none is of it
 abbrev pub cells_by : List KeyRow → Key → Cells
 cells_by [] k = no_cells
 cells_by (x ∷ rows) k = cond (bytes_eq x.key k) x.cells (cells_by rows k)
 
--- a walk over a part of a region: in the order of the keys, each key of the part on which something stands, and no other
+-- a walk over a part of a region: in the order of the keys, each key of the part on which there is something, and no other
 pub record IsWalk (cells : Key → Cells) (within : Key → Bool) (rows : List KeyRow) : Type 0 where
   pub rising : AreInOrder rows
   pub inside : KeysPass within rows
@@ -39,7 +37,7 @@ every_key k = true
 
 -- ---- locks
 
--- a key and the lock that stands on it
+-- a key and the lock on it
 pub record LockRow : Type 0 where
   pub key : Key
   pub lock : Lock
@@ -50,7 +48,7 @@ LocksInOrder [] = Unit {0}
 LocksInOrder (x ∷ []) = Unit {0}
 LocksInOrder (x ∷ y ∷ rows) = IsTrue (key_lt x.key y.key) × LocksInOrder (y ∷ rows)
 
--- the lock that the rows say stands on a key
+-- the lock that the rows say is on a key
 abbrev pub lock_by : List LockRow → Key → Option Lock
 lock_by [] k = None
 lock_by (x ∷ rows) k = cond (bytes_eq x.key k) (Some x.lock) (lock_by rows k)
@@ -59,9 +57,3 @@ lock_by (x ∷ rows) k = cond (bytes_eq x.key k) (Some x.lock) (lock_by rows k)
 pub record IsLockWalk (cells : Key → Cells) (rows : List LockRow) : Type 0 where
   pub rising : LocksInOrder rows
   pub all : (k : Key) → (cells k).lock ≡ lock_by rows k
-
--- the first row is of this key, and this record keeps its lock
-pub record IsFirstLock (rows : List LockRow) (k : Key) (rec : LockRec) : Type 0 where
-  pub lock : Lock
-  pub keeps : KeepsLock rec lock
-  pub first : rows ≡ (record { key = k; lock = lock }) ∷ drop 1 rows

@@ -7,46 +7,38 @@ use tx_types::{Mode, Ts};
 pub enum KeyChange {
     /// Nothing.
     Nothing,
+    /// The key is locked. What the lock does to the key, and the rest of it, is the prewrite's.
+    Lock(NewLock),
     /// The lock lives so long from now on, in ticks after its start.
     Ttl(u32),
     /// The lock has this minimum commit timestamp from now on.
     Minimum(Ts),
-    /// The lock goes, and its commit record stands at `commit` in place of what stood there. It keeps the lock's
-    /// mutation, whose value stays where it is.
-    Settle {
+    /// The lock goes, and its commit record is at `commit` in place of what was there. It keeps the lock's mutation,
+    /// whose value stays where it is.
+    Commit {
         commit: Ts,
         overlapped_rollback: bool,
     },
-    /// The transaction that started at `start` is rolled back.
+    /// The transaction that started at `start` is rolled back. Its lock goes with the value that it puts.
     RollBack {
         start: Ts,
-        removed: Removed,
+        removes_lock: bool,
         left: Left,
     },
-}
-
-/// What a rollback removes.
-#[derive(Clone, Copy, Debug)]
-pub enum Removed {
-    Nothing,
-    /// The lock.
-    Lock,
-    /// The lock, and the value that the `default` family holds under the key and the start.
-    LockAndValue,
 }
 
 /// How a rollback is left at its start.
 #[derive(Clone, Copy, Debug)]
 pub enum Left {
-    /// It stands there already.
-    Standing,
-    /// As a rollback record, in place of what stood there.
+    /// It is there already.
+    Already,
+    /// As a rollback record.
     Record,
-    /// As the mark on the commit record that stands there.
+    /// As the mark on the commit record that is there.
     Mark,
 }
 
-/// How a lock that a request asks for is put: the rest of it is the request's.
+/// How a prewrite locks its key.
 #[derive(Clone, Copy, Debug)]
 pub struct NewLock {
     /// An async lock lists the request's other keys, a two-phase one none.

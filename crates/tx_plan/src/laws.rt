@@ -3,7 +3,7 @@ ghost use Rattle.std.specs.Prelude.{◌≡◌, ◌≤◌, ℕ};
 ghost use Rattle.tx_plan.specs.declared.body.Body.{Body};
 ghost use Rattle.tx_plan.specs.declared.answer.Answer.{Answer};
 ghost use Rattle.tx_plan.specs.Cells.{Cells, Region};
-ghost use Rattle.tx_plan.specs.Traces.{OwnRollback, leave_rollback};
+ghost use Rattle.tx_plan.specs.Own.{OwnRollback, leave_rollback};
 ghost use Rattle.tx_plan.specs.Answers.{Answers, AnswersLeast};
 
 /// Leaving a rollback that stands already changes no record.

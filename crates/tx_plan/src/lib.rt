@@ -4,18 +4,17 @@
 
 mod answer;
 mod body;
-mod cells;
-mod history;
+mod key_records;
 mod key_change;
 mod laws;
 mod lists;
-mod plain;
 mod plan;
 mod planned;
 #[cfg(test)]
 mod table_tests;
 #[cfg(test)]
 mod tests;
+mod view;
 mod walk;
 
 pub use answer::Answer;
@@ -23,26 +22,23 @@ pub use body::{
     BatchRollback, Body, CheckSecondaryLocks, CheckTxnStatus, Collect, Commit, Get, LocksBelow,
     Prewrite, RaiseSafe, ResolveLock, Scan, TxnHeartBeat,
 };
-pub use cells::{CommitAt, KeyCells};
-pub use history::KeyHistory;
-pub use key_change::{KeyChange, Left, NewLock, Removed};
+pub use key_records::{KeyCollection, KeyRecords, RecordKind, collect_key};
+pub use key_change::{KeyChange, Left, NewLock};
 pub use laws::{least_minimum_is_free, rollback_left_again_stays};
 pub use lists::{Infos, Starts};
-pub use plain::{PlainCells, PlainLock, PlainLocks, PlainRegion, PlainRow, PlainWalk, PlainWrite};
 pub use plan::batch_rollback::plan_batch_rollback;
 pub use plan::check_secondary_locks::plan_check_secondary_locks;
 pub use plan::check_txn_status::plan_check_txn_status;
-pub use plan::collect::{KeyCollection, plan_collect_key, plan_collect_refusal};
-pub use plan::collect_region::{CollectPlan, KeyDrop, KeyDrops, plan_collect};
+pub use plan::collect::{Dropped, collect_refusal};
 pub use plan::commit::plan_commit;
 pub use plan::get::plan_get;
-pub use plan::locks_below::plan_locks_below;
+pub use plan::locks_below::{first_below, infos_below};
 pub use plan::prewrite::plan_prewrite;
 pub use plan::raise_safe::{SafePlan, plan_raise_safe};
-pub use plan::reads::ReadPlan;
 pub use plan::resolve_lock::plan_resolve_lock;
-pub use plan::scan::plan_scan;
+pub use plan::scan::{plan_scan, scan_refusal, scan_walk};
 pub use plan::txn_heart_beat::plan_txn_heart_beat;
-pub use planned::{LockPlanned, Planned};
+pub use planned::{Planned, PlannedAnswer};
 pub use tx_types::RegionNo;
-pub use walk::{KeyWalk, LockWalk, RegionCells};
+pub use view::{CommitAt, LockHead, ReadView, RecordHead, TxnView};
+pub use walk::{LockWalk, ReadWalk};

@@ -1,16 +1,16 @@
-//! The rows of the case tables, one file a command, on cells in plain lists. The region collected up to 3 and has 3 as
-//! its safe point, the seat loaded 20, 11 is the greatest timestamp read, and the transaction in question started at 5.
+//! The rows of the case tables, one file a command, as docs/PROTOCOL.md shows them. What a scan, LocksBelow and Collect
+//! find on keys is tested with the families, which make the walks.
 mod batch_rollback;
-mod cells;
 mod check_secondary_locks;
 mod check_txn_status;
 mod collect;
 mod commit;
 mod get;
-mod locks_below;
 mod prewrite;
 mod raise_safe;
 mod resolve_lock;
 mod scan;
 mod shown;
+mod told;
 mod txn_heart_beat;
+mod views;

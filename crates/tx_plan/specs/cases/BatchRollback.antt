@@ -5,7 +5,7 @@ use Rattle.tx_plan.specs.declared.answer.Answer.{Answer}
 use Rattle.tx_plan.specs.declared.answer.Answer.TheVariants.{RolledBack, AlreadyCommitted, BelowSafePoint}
 use Rattle.tx_plan.specs.Tables.{Case, CaseOf}
 use Rattle.tx_plan.specs.Cells.{Cells}
-use Rattle.tx_plan.specs.Traces.{OwnLock, OwnCommit, roll_back}
+use Rattle.tx_plan.specs.Own.{OwnLock, OwnCommit, roll_back}
 
 -- A start below the last collection is refused. The transaction's lock is rolled back; where it is committed, that is told; else its
 -- rollback stands already, or is left. Another's lock stays.

@@ -5,7 +5,7 @@ use Rattle.tx_plan.specs.declared.answer.Answer.{Answer}
 use Rattle.tx_plan.specs.declared.answer.Answer.TheVariants.{Committed, Missing, Locked, BelowSafePoint}
 use Rattle.tx_plan.specs.Tables.{Case, CaseOf}
 use Rattle.tx_plan.specs.Cells.{Cells, info_of}
-use Rattle.tx_plan.specs.Traces.{OwnLock, OwnCommit, leave_rollback}
+use Rattle.tx_plan.specs.Own.{OwnLock, OwnCommit, leave_rollback}
 
 -- A start below the last collection is refused. The transaction's lock or commit is told; else its rollback stands already, or is left.
 abbrev pub AnswersCheckSecondaryLocks : Cells → ℕ → CheckSecondaryLocks → Answer → Type 0

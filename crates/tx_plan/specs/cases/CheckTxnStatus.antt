@@ -6,7 +6,7 @@ use Rattle.tx_plan.specs.declared.answer.Answer.{Answer}
 use Rattle.tx_plan.specs.declared.answer.Answer.TheVariants.{Committed, RolledBack, Locked, BelowSafePoint, FutureTimestamp, TxnNotFound}
 use Rattle.tx_plan.specs.Tables.{Case, CaseOf}
 use Rattle.tx_plan.specs.Cells.{Lock, Cells, info_of, with_lock}
-use Rattle.tx_plan.specs.Traces.{OwnLock, OwnCommit, OwnRollback, on_own_lock, roll_back}
+use Rattle.tx_plan.specs.Own.{OwnLock, OwnCommit, OwnRollback, on_own_lock, roll_back}
 
 -- a lock is expired where its time to live is over
 abbrev pub IsExpired : Lock → ℕ → Type 0

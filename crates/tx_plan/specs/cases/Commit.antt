@@ -5,7 +5,7 @@ use Rattle.tx_plan.specs.declared.answer.Answer.{Answer}
 use Rattle.tx_plan.specs.declared.answer.Answer.TheVariants.{Committed, WriteConflict, AlreadyRolledBack, CommitTsExpired, TxnLockNotFound, BelowSafePoint}
 use Rattle.tx_plan.specs.Tables.{Case, CaseOf}
 use Rattle.tx_plan.specs.Cells.{Lock, Writes, Cells}
-use Rattle.tx_plan.specs.Traces.{OwnLock, OwnCommit, OthersCommit, OwnRollback, settle}
+use Rattle.tx_plan.specs.Own.{OwnLock, OwnCommit, OthersCommit, OwnRollback, settle}
 
 -- The cases where the transaction's lock stands: a commit below the lock's minimum, or at a timestamp where another's commit record
 -- stands, is refused; else it is done.

@@ -6,7 +6,7 @@ use Rattle.tx_plan.specs.declared.answer.Answer.{Answer}
 use Rattle.tx_plan.specs.declared.answer.Answer.TheVariants.{Prewritten, KeyIsLocked, WriteConflict, AlreadyRolledBack, AlreadyCommitted, BelowSafePoint, FutureTimestamp}
 use Rattle.tx_plan.specs.Tables.{Case, CaseOf}
 use Rattle.tx_plan.specs.Cells.{Lock, CommitRecord, CommitOf, Writes, Cells, info_of, with_lock}
-use Rattle.tx_plan.specs.Traces.{OwnLock, OwnCommit, OwnRollback}
+use Rattle.tx_plan.specs.Own.{OwnLock, OwnCommit, OwnRollback}
 
 -- the least minimum of an async lock: above each read of the region, and above the start
 abbrev pub least_minimum : ℕ → ℕ → ℕ

@@ -7,7 +7,7 @@ use Rattle.tx_plan.specs.declared.answer.Answer.{Answer}
 use Rattle.tx_plan.specs.declared.answer.Answer.TheVariants.{Resolved, BelowSafePoint}
 use Rattle.tx_plan.specs.Tables.{Case, CaseOf}
 use Rattle.tx_plan.specs.Cells.{Lock, Writes, Cells}
-use Rattle.tx_plan.specs.Traces.{OwnLock, on_own_lock, roll_back, settle}
+use Rattle.tx_plan.specs.Own.{OwnLock, on_own_lock, roll_back, settle}
 use Rattle.tx_plan.specs.cases.Commit.{SettlesLock}
 
 -- The cases where the transaction's lock stands: it is rolled back, or committed with the refusals of a commit.

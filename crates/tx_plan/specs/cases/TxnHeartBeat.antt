@@ -5,7 +5,7 @@ use Rattle.tx_plan.specs.declared.answer.Answer.{Answer}
 use Rattle.tx_plan.specs.declared.answer.Answer.TheVariants.{Ttl, TxnLockNotFound, BelowSafePoint}
 use Rattle.tx_plan.specs.Tables.{Case, CaseOf}
 use Rattle.tx_plan.specs.Cells.{Lock, Cells, with_lock}
-use Rattle.tx_plan.specs.Traces.{OwnLock, on_own_lock}
+use Rattle.tx_plan.specs.Own.{OwnLock, on_own_lock}
 
 -- A start below the last collection is refused. The time to live of the transaction's lock becomes the greater of its own and the
 -- one that is asked for; where no lock of the transaction stands, that is refused.

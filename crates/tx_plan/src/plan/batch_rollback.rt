@@ -1,34 +1,35 @@
 //! BatchRollback: a transaction is rolled back on a key.
-ghost use Rattle.std.specs.Prelude.{◌≡◌};
+ghost use Rattle.std.specs.Prelude.{◌≡◌, ℕ, None};
+ghost use Rattle.tx_plan.specs.Cells.{Cells};
 ghost use Rattle.tx_plan.specs.Changes.{changed, Applies};
+ghost use Rattle.tx_plan.specs.Plans.{answer_with};
+ghost use Rattle.tx_plan.specs.Views.{Shows, info_on};
 ghost use Rattle.tx_plan.specs.cases.BatchRollback.{AnswersBatchRollback, leaves_batch_rollback};
 
 use crate::answer::Answer;
 use crate::body::BatchRollback;
-use crate::cells::KeyCells;
+use crate::plan::own::own_lock;
 use crate::plan::rolling::roll_back;
-use crate::plan::traces::own_lock;
 use crate::planned::Planned;
+use crate::view::TxnView;
 use tx_types::Ts;
 
-/// The answer to a BatchRollback on a key with these cells, in a region that collected up to `collected`, and the
-/// change. `BelowSafePoint` where the transaction started below that, `AlreadyCommitted` where its commit record
-/// stands and its lock does not.
-pub fn plan_batch_rollback<K: KeyCells>(cells: &K, collected: Ts, body: &BatchRollback) -> Planned
-    ensures answers { AnswersBatchRollback (K.cells cells.now) collected body.now result.answer }
-    ensures leaves { changed (K.cells cells.now) result.change ≡ leaves_batch_rollback (K.cells cells.now) body.now result.answer }
-    ensures applies { Applies (K.cells cells.now) result.change }
+/// The answer to a BatchRollback that sees this of its key, in a region that collected up to `collected`, and the change.
+/// `BelowSafePoint` where the transaction started below that, `AlreadyCommitted` where it is committed on the key and has
+/// no lock there.
+pub fn plan_batch_rollback(view: &TxnView, collected: Ts, body: &BatchRollback) -> Planned
+    ensures answers { (cells : Cells) (commit : ℕ) → Shows cells body.now.start commit view.now → AnswersBatchRollback cells collected body.now (answer_with (info_on cells body.now.key) result.answer) }
+    ensures leaves { (cells : Cells) (commit : ℕ) → Shows cells body.now.start commit view.now → changed cells result.change ≡ leaves_batch_rollback cells body.now (answer_with (info_on cells body.now.key) result.answer) }
+    ensures applies { (cells : Cells) (commit : ℕ) → Shows cells body.now.start commit view.now → Applies cells result.change }
+    ensures unread { result.read ≡ None }
 {
     if body.start < collected {
-        return Planned::told(Answer::BelowSafePoint { safe: collected });
+        return Planned::given(Answer::BelowSafePoint { safe: collected });
     }
-    if own_lock(cells, body.start).is_none() {
-        if let Some(commit) = cells.own_commit(body.start) {
-            return Planned::told(Answer::AlreadyCommitted { commit });
+    if own_lock(view, body.start).is_none() {
+        if let Some(commit) = view.own_commit {
+            return Planned::given(Answer::AlreadyCommitted { commit });
         }
     }
-    Planned {
-        answer: Answer::RolledBack,
-        change: roll_back(cells, body.start),
-    }
+    Planned::changes(Answer::RolledBack, roll_back(view, body.start))
 }

@@ -1,43 +1,40 @@
-//! CheckSecondaryLocks: what stands of an async transaction on a key; where nothing does, it never will.
-ghost use Rattle.std.specs.Prelude.{◌≡◌, IfOk, IfErr};
+//! CheckSecondaryLocks: what there is of an async transaction on a key; where there is nothing, there never will be.
+ghost use Rattle.std.specs.Prelude.{◌≡◌, ℕ, None};
+ghost use Rattle.tx_plan.specs.Cells.{Cells};
 ghost use Rattle.tx_plan.specs.Changes.{changed, Applies};
+ghost use Rattle.tx_plan.specs.Plans.{answer_with};
+ghost use Rattle.tx_plan.specs.Views.{Shows, info_on};
 ghost use Rattle.tx_plan.specs.cases.CheckSecondaryLocks.{AnswersCheckSecondaryLocks, leaves_check_secondary_locks};
 
 use crate::answer::Answer;
 use crate::body::CheckSecondaryLocks;
-use crate::cells::KeyCells;
+use crate::plan::own::own_lock;
 use crate::plan::rolling::leave_rollback;
-use crate::plan::traces::own_lock;
-use crate::planned::Planned;
-use std::alloc::Global;
-use tx_types::{Fault, Ts};
+use crate::planned::{Planned, PlannedAnswer};
+use crate::view::TxnView;
+use tx_types::Ts;
 
-/// The answer to a CheckSecondaryLocks on a key with these cells, in a region that collected up to `collected`, and the
-/// change: where nothing of the transaction stands, its rollback is left. `BelowSafePoint` where it started below
-/// `collected`. `OutOfMemory` where there is no room to tell of the lock.
-pub fn plan_check_secondary_locks<K: KeyCells>(
-    alloc: Global,
-    cells: &K,
+/// The answer to a CheckSecondaryLocks that sees this of its key, in a region that collected up to `collected`, and the
+/// change: where there is nothing of the transaction, its rollback is left. `BelowSafePoint` where it started below
+/// `collected`.
+pub fn plan_check_secondary_locks(
+    view: &TxnView,
     collected: Ts,
     body: &CheckSecondaryLocks,
-) -> Result<Planned, Fault>
-    ensures answers { IfOk result (λ planned. AnswersCheckSecondaryLocks (K.cells cells.now) collected body.now planned.answer) }
-    ensures leaves { IfOk result (λ planned. changed (K.cells cells.now) planned.change ≡ leaves_check_secondary_locks (K.cells cells.now) body.now planned.answer) }
-    ensures applies { IfOk result (λ planned. Applies (K.cells cells.now) planned.change) }
-    ensures err { IfErr result (λ e. e ≡ Fault.OutOfMemory) }
+) -> Planned
+    ensures answers { (cells : Cells) (commit : ℕ) → Shows cells body.now.start commit view.now → AnswersCheckSecondaryLocks cells collected body.now (answer_with (info_on cells body.now.key) result.answer) }
+    ensures leaves { (cells : Cells) (commit : ℕ) → Shows cells body.now.start commit view.now → changed cells result.change ≡ leaves_check_secondary_locks cells body.now (answer_with (info_on cells body.now.key) result.answer) }
+    ensures applies { (cells : Cells) (commit : ℕ) → Shows cells body.now.start commit view.now → Applies cells result.change }
+    ensures unread { result.read ≡ None }
 {
     if body.start < collected {
-        return Ok(Planned::told(Answer::BelowSafePoint { safe: collected }));
+        return Planned::given(Answer::BelowSafePoint { safe: collected });
     }
-    if let Some(lock) = own_lock(cells, body.start) {
-        let info = lock.info(alloc, &body.key)?;
-        return Ok(Planned::told(Answer::Locked(info)));
+    if let Some(lock) = own_lock(view, body.start) {
+        return Planned::unchanged(PlannedAnswer::Locked { min: lock.min });
     }
-    if let Some(commit) = cells.own_commit(body.start) {
-        return Ok(Planned::told(Answer::Committed(commit)));
+    if let Some(commit) = view.own_commit {
+        return Planned::given(Answer::Committed(commit));
     }
-    Ok(Planned {
-        answer: Answer::Missing,
-        change: leave_rollback(cells, body.start),
-    })
+    Planned::changes(Answer::Missing, leave_rollback(view, body.start))
 }

@@ -1,42 +1,43 @@
 //! Commit: a transaction's lock becomes its commit record.
-ghost use Rattle.std.specs.Prelude.{◌≡◌};
+ghost use Rattle.std.specs.Prelude.{◌≡◌, None};
+ghost use Rattle.tx_plan.specs.Cells.{Cells};
 ghost use Rattle.tx_plan.specs.Changes.{changed, Applies};
+ghost use Rattle.tx_plan.specs.Plans.{answer_with};
+ghost use Rattle.tx_plan.specs.Views.{Shows, info_on};
 ghost use Rattle.tx_plan.specs.cases.Commit.{AnswersCommit, leaves_commit};
 
 use crate::answer::Answer;
 use crate::body::Commit;
-use crate::cells::KeyCells;
-use crate::plan::settling::settle_lock;
-use crate::plan::traces::{is_rolled_back, own_lock};
+use crate::plan::committing::{commit_lock, commit_refusal};
+use crate::plan::own::{is_rolled_back, own_lock};
 use crate::planned::Planned;
+use crate::view::TxnView;
 use tx_types::Ts;
 
-/// The answer to a Commit on a key with these cells, in a region that collected up to `collected`, and the change.
-/// `BelowSafePoint` where the transaction started below that. While its lock stands: `CommitTsExpired` below the
-/// lock's minimum, `WriteConflict` where another's commit record stands at the commit timestamp. Without its lock:
-/// `AlreadyRolledBack` where its rollback stands, `TxnLockNotFound` where nothing of it does.
-pub fn plan_commit<K: KeyCells>(cells: &K, collected: Ts, body: &Commit) -> Planned
-    ensures answers { AnswersCommit (K.cells cells.now) collected body.now result.answer }
-    ensures leaves { changed (K.cells cells.now) result.change ≡ leaves_commit (K.cells cells.now) body.now result.answer }
-    ensures applies { Applies (K.cells cells.now) result.change }
+/// The answer to a Commit
+pub fn plan_commit(view: &TxnView, collected: Ts, body: &Commit) -> Planned
+    ensures answers { (cells : Cells) → Shows cells body.now.start body.now.commit view.now → AnswersCommit cells collected body.now (answer_with (info_on cells body.now.key) result.answer) }
+    ensures leaves { (cells : Cells) → Shows cells body.now.start body.now.commit view.now → changed cells result.change ≡ leaves_commit cells body.now (answer_with (info_on cells body.now.key) result.answer) }
+    ensures applies { (cells : Cells) → Shows cells body.now.start body.now.commit view.now → Applies cells result.change }
+    ensures unread { result.read ≡ None }
 {
     if body.start < collected {
-        return Planned::told(Answer::BelowSafePoint { safe: collected });
+        return Planned::given(Answer::BelowSafePoint { safe: collected });
     }
-    if let Some(lock) = own_lock(cells, body.start) {
-        return match settle_lock(cells, body.start, body.commit, lock) {
-            Ok(change) => Planned {
-                answer: Answer::Committed(body.commit),
-                change,
-            },
-            Err(refusal) => Planned::told(refusal),
+    if let Some(lock) = own_lock(view, body.start) {
+        return match commit_refusal(view, &lock, body.start, body.commit) {
+            Some(refusal) => Planned::given(refusal),
+            None => Planned::changes(
+                Answer::Committed(body.commit),
+                commit_lock(view, body.commit),
+            ),
         };
     }
-    if let Some(commit) = cells.own_commit(body.start) {
-        return Planned::told(Answer::Committed(commit));
+    if let Some(commit) = view.own_commit {
+        return Planned::given(Answer::Committed(commit));
     }
-    if is_rolled_back(cells, body.start) {
-        return Planned::told(Answer::AlreadyRolledBack);
+    if is_rolled_back(view, body.start) {
+        return Planned::given(Answer::AlreadyRolledBack);
     }
-    Planned::told(Answer::TxnLockNotFound)
+    Planned::given(Answer::TxnLockNotFound)
 }

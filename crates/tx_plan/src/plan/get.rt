@@ -1,52 +1,42 @@
 //! Get: the value of a key at a timestamp, or the lock that stops the read.
-ghost use Rattle.std.specs.Prelude.{◌≡◌, IfOk, IfErr};
-ghost use Rattle.tx_plan.specs.Cells.{Region, with_max_read};
+ghost use Rattle.std.specs.Prelude.{◌≡◌};
+ghost use Rattle.tx_plan.specs.Cells.{Cells, Region};
+ghost use Rattle.tx_plan.specs.Plans.{answer_with, with_read};
+ghost use Rattle.tx_plan.specs.Views.{ShowsRead, info_on};
 ghost use Rattle.tx_plan.specs.cases.Get.{AnswersGet, leaves_get};
 
 use crate::answer::Answer;
 use crate::body::Get;
-use crate::cells::KeyCells;
-use crate::plan::reads::{ReadPlan, blocking_lock, later_of};
-use std::alloc::Global;
-use tx_types::{Fault, Ts};
+use crate::key_change::KeyChange;
+use crate::plan::reads::{is_blocked, read_refusal};
+use crate::planned::{Planned, PlannedAnswer};
+use crate::view::ReadView;
+use tx_types::Ts;
 
-/// The answer to a Get on the cells of its key, of a region with this safe point and greatest timestamp read, whose seat
-/// loaded `loaded`. `BelowSafePoint` where the read lies below the safe point, `FutureTimestamp` where it lies above
-/// `loaded`, `KeyIsLocked` where a lock blocks it. `OutOfMemory` where there is no room to tell of the lock or to share
-/// the value.
-pub fn plan_get<C: KeyCells>(
-    alloc: Global,
-    cells: &C,
-    safe: Ts,
-    loaded: Ts,
-    max_read: Ts,
-    body: &Get,
-) -> Result<ReadPlan, Fault>
-    ensures answer { IfOk result (λ plan. AnswersGet (C.cells cells.now) safe loaded body.now plan.answer) }
-    ensures leaves { IfOk result (λ plan. (region : Region) → region.max_read ≡ max_read → leaves_get region body.now plan.answer ≡ with_max_read region plan.max_read) }
-    ensures err { IfErr result (λ e. e ≡ Fault.OutOfMemory) }
+/// The answer to a Get that sees this of its key, in a region with this safe point whose seat loaded `loaded`.
+/// `BelowSafePoint` where the read lies below the safe point, `FutureTimestamp` where it lies above `loaded`,
+/// `KeyIsLocked` where a lock blocks it. A read that is not refused by its timestamp counts, also where a lock stopped
+/// it.
+pub fn plan_get(view: ReadView, safe: Ts, loaded: Ts, body: &Get) -> Planned
+    ensures answers { (cells : Cells) → ShowsRead cells body.now.at view → AnswersGet cells safe loaded body.now (answer_with (info_on cells body.now.key) result.answer) }
+    ensures leaves { (cells : Cells) → ShowsRead cells body.now.at view → (region : Region) → leaves_get region body.now (answer_with (info_on cells body.now.key) result.answer) ≡ with_read region result.read }
+    ensures same { result.change ≡ KeyChange.Nothing }
 {
-    if body.at < safe {
-        return Ok(ReadPlan {
-            answer: Answer::BelowSafePoint { safe },
-            max_read,
-        });
+    if let Some(refusal) = read_refusal(body.at, safe, loaded) {
+        return Planned::given(refusal);
     }
-    if body.at > loaded {
-        return Ok(ReadPlan {
-            answer: Answer::FutureTimestamp { last: loaded },
-            max_read,
-        });
-    }
-    let answer = match blocking_lock(cells, body.at, &body.bypass) {
-        Some(lock) => Answer::KeyIsLocked(lock.info(alloc, &body.key)?),
-        None => match cells.value_at(body.at) {
-            Some(value) => Answer::Found(value.clone()?),
-            None => Answer::Nothing,
-        },
+    let ReadView { lock, value } = view;
+    let answer = if is_blocked(&lock, body.at, &body.bypass) {
+        PlannedAnswer::KeyIsLocked
+    } else {
+        match value {
+            Some(value) => PlannedAnswer::Given(Answer::Found(value)),
+            None => PlannedAnswer::Given(Answer::Nothing),
+        }
     };
-    Ok(ReadPlan {
+    Planned {
         answer,
-        max_read: later_of(max_read, body.at),
-    })
+        change: KeyChange::Nothing,
+        read: Some(body.at),
+    }
 }

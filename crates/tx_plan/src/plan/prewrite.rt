@@ -1,104 +1,98 @@
 //! Prewrite: a lock on a key, the first phase of a commit.
-ghost use Rattle.std.specs.Prelude.{◌≡◌, ◌<◌, ◌↔◌, IsTrue, None, IfOk, IfErr, IfSome};
-ghost use Rattle.tx_plan.specs.Cells.{Lock, Cells};
-ghost use Rattle.tx_plan.specs.Stored.{KeepsLock};
-ghost use Rattle.tx_plan.specs.Changes.{after_put};
+ghost use Rattle.std.specs.Prelude.{◌≡◌, ◌<◌, ◌↔◌, ℕ, IsTrue, Option, None, IfSome};
+ghost use Rattle.tx_types.specs.declared.lock.LockInfo.{LockInfo};
+ghost use Rattle.tx_plan.specs.Cells.{Cells};
+ghost use Rattle.tx_plan.specs.Changes.{new_lock, after_put, CanPut};
 ghost use Rattle.tx_plan.specs.Locking.{AnswersLock};
-ghost use Rattle.tx_plan.specs.cases.Prewrite.{AnswersPrewrite, leaves_prewrite, least_minimum, named_minimum, IsWithin};
+ghost use Rattle.tx_plan.specs.Plans.{answer_with};
+ghost use Rattle.tx_plan.specs.Views.{Shows, info_on, named_in};
+ghost use Rattle.tx_plan.specs.cases.Prewrite.{AnswersPrewrite, leaves_prewrite, least_minimum, IsWithin};
 
 use crate::answer::Answer;
 use crate::body::Prewrite;
-use crate::cells::KeyCells;
-use crate::key_change::NewLock;
-use crate::plan::traces::{is_rolled_back, own_lock};
-use crate::planned::LockPlanned;
-use std::alloc::Global;
-use tx_types::{Fault, LockMode, LockRec, Mode, Ts};
+use crate::key_change::{KeyChange, NewLock};
+use crate::plan::own::{is_rolled_back, own_lock};
+use crate::planned::{Planned, PlannedAnswer};
+use crate::view::{LockHead, TxnView};
+use tx_types::{Mode, Ts};
 
-/// The answer to a Prewrite on a key with these cells, in a region with this safe point and this greatest timestamp
-/// read, whose seat loaded `loaded`, and the lock that is put. An async lock promises the least minimum, which lies
-/// above each read of the region; where the transaction's greatest commit timestamp does not allow that, the lock is a
-/// two-phase one. `BelowSafePoint` and `FutureTimestamp` where the start lies below `safe` or above `loaded`;
-/// `AlreadyRolledBack` and `AlreadyCommitted` where the transaction's own record stands and its lock does not;
-/// `KeyIsLocked` where another's lock stands; `WriteConflict`, with the newest commit record, where one stands above
-/// the start. `OutOfMemory` where there is no room to tell of the lock.
-pub fn plan_prewrite<K: KeyCells>(
-    alloc: Global,
-    cells: &K,
-    safe: Ts,
-    loaded: Ts,
-    max_read: Ts,
-    body: &Prewrite,
-) -> Result<LockPlanned, Fault>
+/// The answer to a Prewrite that sees this of its key, in a region with this safe point, whose seat loaded `loaded` and
+/// in which nothing above `max_read` was read, and the lock that is put. An async lock promises the least minimum, which
+/// lies above each read; where the transaction's greatest commit timestamp does not allow that, the lock is a two-phase
+/// one. `BelowSafePoint` and `FutureTimestamp` where the start lies below `safe` or above `loaded`; `AlreadyRolledBack`
+/// and `AlreadyCommitted` where the transaction's own record is there and its lock is not; `KeyIsLocked` by another's
+/// lock; `WriteConflict`, with the newest commit record, where there is one above the start.
+pub fn plan_prewrite(view: &TxnView, safe: Ts, loaded: Ts, max_read: Ts, body: &Prewrite) -> Planned
     requires room { loaded < u64.MAX }
     requires above { max_read < u64.MAX }
-    ensures answers { IfOk result (λ planned. AnswersPrewrite (K.cells cells.now) safe loaded (λ m. m ≡ least_minimum max_read body.now.start) body.now planned.answer) }
-    ensures leaves { IfOk result (λ planned. after_put (K.cells cells.now) body.now planned.lock ≡ leaves_prewrite (K.cells cells.now) body.now planned.answer) }
-    ensures free { IfOk result (λ planned. IfSome planned.lock (λ _. (K.cells cells.now).lock ≡ None)) }
-    ensures err { IfErr result (λ e. e ≡ Fault.OutOfMemory) }
+    ensures answers { (cells : Cells) (commit : ℕ) → Shows cells body.now.start commit view.now → AnswersPrewrite cells safe loaded (λ m. m ≡ least_minimum max_read body.now.start) body.now (answer_with (info_on cells body.now.key) result.answer) }
+    ensures leaves { (cells : Cells) (commit : ℕ) → Shows cells body.now.start commit view.now → after_put cells body.now (new_lock result.change) ≡ leaves_prewrite cells body.now (answer_with (info_on cells body.now.key) result.answer) }
+    ensures applies { (cells : Cells) (commit : ℕ) → Shows cells body.now.start commit view.now → IfSome (new_lock result.change) (λ new. CanPut cells body.now new) }
+    ensures unread { result.read ≡ None }
 {
     if body.start < safe {
-        return Ok(LockPlanned::told(Answer::BelowSafePoint { safe }));
+        return Planned::given(Answer::BelowSafePoint { safe });
     }
     if loaded < body.start {
-        return Ok(LockPlanned::told(Answer::FutureTimestamp { last: loaded }));
+        return Planned::given(Answer::FutureTimestamp { last: loaded });
     }
-    if let Some(lock) = own_lock(cells, body.start) {
-        return Ok(LockPlanned::told(Answer::Prewritten(named_minimum(lock))));
+    if let Some(lock) = own_lock(view, body.start) {
+        return Planned::given(Answer::Prewritten(named_minimum(&lock)));
     }
-    if is_rolled_back(cells, body.start) {
-        return Ok(LockPlanned::told(Answer::AlreadyRolledBack));
+    if is_rolled_back(view, body.start) {
+        return Planned::given(Answer::AlreadyRolledBack);
     }
-    if let Some(commit) = cells.own_commit(body.start) {
-        return Ok(LockPlanned::told(Answer::AlreadyCommitted { commit }));
+    if let Some(commit) = view.own_commit {
+        return Planned::given(Answer::AlreadyCommitted { commit });
     }
-    if let Some(lock) = cells.lock() {
-        let info = lock.info(alloc, &body.key)?;
-        return Ok(LockPlanned::told(Answer::KeyIsLocked(info)));
+    if view.lock.is_some() {
+        return Planned::unchanged(PlannedAnswer::KeyIsLocked);
     }
-    if let Some(newest) = cells.newest_above(body.start) {
-        return Ok(LockPlanned::told(Answer::WriteConflict {
+    if let Some(newest) = view.newest_above {
+        return Planned::given(Answer::WriteConflict {
             start: newest.start,
             commit: newest.commit,
-        }));
+        });
     }
-    Ok(lock_key(max_read, body))
+    lock_key(max_read, body)
 }
 
-// The minimum that an answer names of a lock that stands.
-fn named_minimum(lock: &LockRec) -> Ts
-    ensures { (whole : Lock) → KeepsLock lock.now whole → result ≡ named_minimum whole }
+// The minimum that an answer names of a lock that is there.
+fn named_minimum(lock: &LockHead) -> Ts
+    ensures { result ≡ named_in lock.now }
 {
     match lock.mode {
-        LockMode::TwoPhase => Ts::ZERO,
-        LockMode::Async(_) => lock.min,
+        Mode::TwoPhase => Ts::ZERO,
+        Mode::Async => lock.min,
     }
 }
 
 // The answer of a free key, and the lock that is put.
-fn lock_key(max_read: Ts, body: &Prewrite) -> LockPlanned
+fn lock_key(max_read: Ts, body: &Prewrite) -> Planned
     requires room { body.now.start < u64.MAX }
     requires above { max_read < u64.MAX }
-    ensures answers { AnswersLock (λ m. m ≡ least_minimum max_read body.now.start) body.now result.answer }
-    ensures leaves { (cells : Cells) → cells.lock ≡ None → after_put cells body.now result.lock ≡ leaves_prewrite cells body.now result.answer }
+    ensures answers { (info : Option LockInfo) → AnswersLock (λ m. m ≡ least_minimum max_read body.now.start) body.now (answer_with info result.answer) }
+    ensures leaves { (cells : Cells) → cells.lock ≡ None → after_put cells body.now (new_lock result.change) ≡ leaves_prewrite cells body.now (answer_with (info_on cells body.now.key) result.answer) }
+    ensures minimum { IfSome (new_lock result.change) (λ new. body.now.start < new.min) }
+    ensures unread { result.read ≡ None }
 {
     let min = Ts::new(max_read.get().max(body.start.get()) + 1);
     if body.mode == Mode::Async && is_within(body.max_commit, min) {
-        return LockPlanned {
-            answer: Answer::Prewritten(min),
-            lock: Some(NewLock {
+        return Planned::changes(
+            Answer::Prewritten(min),
+            KeyChange::Lock(NewLock {
                 mode: Mode::Async,
                 min,
             }),
-        };
+        );
     }
-    LockPlanned {
-        answer: Answer::Prewritten(Ts::ZERO),
-        lock: Some(NewLock {
+    Planned::changes(
+        Answer::Prewritten(Ts::ZERO),
+        KeyChange::Lock(NewLock {
             mode: Mode::TwoPhase,
             min: Ts::new(body.start.get() + 1),
         }),
-    }
+    )
 }
 
 // Whether a greatest commit timestamp allows this minimum.

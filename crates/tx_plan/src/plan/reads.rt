@@ -1,54 +1,48 @@
-//! What the plans of the two reads share: the lock that blocks a read, and the greatest timestamp read.
-ghost use Rattle.std.specs.Prelude.{◌≡◌, ◌↔◌, IsTrue, MatchOption, max, Contains};
+//! What the two reads share: the refusals by their timestamp, and the lock that blocks them.
+ghost use Rattle.std.specs.Prelude.{◌≡◌, ◌↔◌, IsTrue, Option, MatchOption, Contains, option_map};
 ghost use Rattle.tx_plan.specs.Cells.{Lock};
-ghost use Rattle.tx_plan.specs.Reads.{Blocks};
-ghost use Rattle.tx_plan.specs.Blocking.{HasBlocking, IsStoredVisible};
+ghost use Rattle.tx_plan.specs.Refusals.{MayRead, RefusesRead};
+ghost use Rattle.tx_plan.specs.Views.{IsBlocked, IsSeenKind, lock_head_of};
 
 use crate::answer::Answer;
-use crate::cells::KeyCells;
 use crate::lists::Starts;
-use tx_types::{LockRec, StoredMutation, Ts};
+use crate::view::LockHead;
+use tx_types::{LockKind, Ts};
 
-/// What a region makes of a read: its answer, and the greatest timestamp that was read in it from then on.
-#[derive(Debug, Drop)]
-pub struct ReadPlan {
-    pub answer: Answer,
-    pub max_read: Ts,
-}
-
-/// The later of two timestamps.
-pub fn later_of(a: Ts, b: Ts) -> Ts
-    ensures { result ≡ max a b }
+/// Why a read at this timestamp is refused, in a region with this safe point whose seat loaded `loaded`: `BelowSafePoint`,
+/// or `FutureTimestamp` above `loaded`.
+pub fn read_refusal(at: Ts, safe: Ts, loaded: Ts) -> Option<Answer>
+    ensures { MatchOption result (MayRead safe loaded at) (λ a. RefusesRead safe loaded at a) }
 {
-    Ts::new(a.get().max(b.get()))
+    if at < safe {
+        return Some(Answer::BelowSafePoint { safe });
+    }
+    if loaded < at {
+        return Some(Answer::FutureTimestamp { last: loaded });
+    }
+    None
 }
 
-/// Whether the transaction that started then is among these.
+/// Whether the lock on a key, of which this is asked, blocks a read at this timestamp that passes these transactions by.
+pub fn is_blocked(lock: &Option<LockHead>, at: Ts, bypass: &Starts) -> bool
+    ensures { (found : Option Lock) → lock.now ≡ option_map lock_head_of found → IsTrue result ↔ IsBlocked found at bypass.now }
+{
+    match lock {
+        Some(lock) => is_seen(lock.kind) && lock.min <= at && !is_among(bypass, lock.start),
+        None => false,
+    }
+}
+
+// Whether the transaction that started then is among these.
 fn is_among(starts: &Starts, start: Ts) -> bool
     ensures { IsTrue result ↔ Contains starts.now start }
 {
     starts.as_slice().contains(&start)
 }
 
-/// Whether reads see what a lock or a commit record does to its key.
-fn is_visible(mutation: &StoredMutation) -> bool
-    ensures { IsTrue result ↔ IsStoredVisible mutation.now }
+// Whether reads see what a lock of this kind does to its key.
+fn is_seen(kind: LockKind) -> bool
+    ensures { IsTrue result ↔ IsSeenKind kind }
 {
-    match mutation {
-        StoredMutation::Put(_) | StoredMutation::Delete => true,
-        StoredMutation::Lock => false,
-    }
-}
-
-/// The lock that blocks a read of the key at this timestamp, which passes these transactions by.
-pub fn blocking_lock<'a, C: KeyCells>(cells: &'a C, at: Ts, bypass: &Starts) -> Option<&'a LockRec>
-    ensures { MatchOption result ((lock : Lock) → Blocks (C.cells cells.now).lock at bypass.now lock → ⊥) (λ rec. HasBlocking (C.cells cells.now).lock at bypass.now rec.now) }
-{
-    match cells.lock() {
-        Some(lock)
-            if is_visible(&lock.mutation) && lock.min <= at && !is_among(bypass, lock.start) => {
-            Some(lock)
-        }
-        _ => None,
-    }
+    kind != LockKind::Lock
 }

@@ -1,61 +1,54 @@
 //! How a transaction is rolled back on a key.
-ghost use Rattle.std.specs.Prelude.{◌≡◌};
-ghost use Rattle.tx_plan.specs.Traces.{leave_rollback, roll_back, without_own};
-ghost use Rattle.tx_plan.specs.Changes.{changed, Applies, StandsRemoved, StandsLeft, after_left, after_removed};
+ghost use Rattle.std.specs.Prelude.{◌≡◌, ◌↔◌, ℕ, IsTrue};
+ghost use Rattle.tx_plan.specs.Cells.{Lock, Cells};
+ghost use Rattle.tx_plan.specs.Own.{OwnLock, leave_rollback, roll_back};
+ghost use Rattle.tx_plan.specs.Changes.{changed, Applies, IsLeft, after_left};
+ghost use Rattle.tx_plan.specs.Views.{Shows};
 
-use crate::cells::KeyCells;
-use crate::key_change::{KeyChange, Left, Removed};
-use crate::plan::traces::own_lock;
-use tx_types::{StoredMutation, StoredValue, Ts, WriteRec};
-
-// What a rollback of the transaction removes: its lock, where it stands, with the value.
-fn removed_of<K: KeyCells>(cells: &K, start: Ts) -> Removed
-    ensures lock { after_removed (K.cells cells.now).lock result ≡ without_own (K.cells cells.now).lock start }
-    ensures stands { StandsRemoved (K.cells cells.now).lock start result }
-{
-    match own_lock(cells, start) {
-        None => Removed::Nothing,
-        Some(lock) => match &lock.mutation {
-            StoredMutation::Put(StoredValue::InDefault) => Removed::LockAndValue,
-            _ => Removed::Lock,
-        },
-    }
-}
+use crate::key_change::{KeyChange, Left};
+use crate::plan::own::own_lock;
+use crate::view::{RecordHead, TxnView};
+use tx_types::Ts;
 
 // How the transaction's rollback is left: the mark goes on another's commit record alone.
-fn left_of<K: KeyCells>(cells: &K, start: Ts) -> Left
-    ensures writes { after_left (K.cells cells.now).write start result ≡ (leave_rollback (K.cells cells.now) start).write }
-    ensures stands { StandsLeft (K.cells cells.now).write start result }
+fn left_of(view: &TxnView, start: Ts) -> Left
+    ensures writes { (cells : Cells) (commit : ℕ) → Shows cells start commit view.now → after_left cells.write start result ≡ (leave_rollback cells start).write }
+    ensures is { (cells : Cells) (commit : ℕ) → Shows cells start commit view.now → IsLeft cells.write start result }
 {
-    match cells.record_at(start) {
+    match view.at_start {
         None => Left::Record,
-        Some(WriteRec::Rollback(_)) => Left::Standing,
-        Some(WriteRec::Commit(rec)) if rec.start == start => Left::Record,
-        Some(WriteRec::Commit(rec)) if rec.overlapped_rollback => Left::Standing,
-        Some(WriteRec::Commit(_)) => Left::Mark,
+        Some(RecordHead::Rollback) => Left::Already,
+        Some(RecordHead::Commit { start: other, .. }) if other == start => Left::Record,
+        Some(
+            RecordHead::Commit {
+                overlapped_rollback,
+                ..
+            },
+        ) if overlapped_rollback => Left::Already,
+        Some(RecordHead::Commit { .. }) => Left::Mark,
     }
 }
 
-/// Leaves the transaction's rollback; its lock stays, if one stands.
-pub fn leave_rollback<K: KeyCells>(cells: &K, start: Ts) -> KeyChange
-    ensures leaves { changed (K.cells cells.now) result ≡ leave_rollback (K.cells cells.now) start }
-    ensures applies { Applies (K.cells cells.now) result }
+/// Leaves the transaction's rollback; a lock on the key stays.
+pub fn leave_rollback(view: &TxnView, start: Ts) -> KeyChange
+    ensures leaves { (cells : Cells) (commit : ℕ) → Shows cells start commit view.now → changed cells result ≡ leave_rollback cells start }
+    ensures applies { (cells : Cells) (commit : ℕ) → Shows cells start commit view.now → Applies cells result }
 {
     KeyChange::RollBack {
         start,
-        removed: Removed::Nothing,
-        left: left_of(cells, start),
+        removes_lock: false,
+        left: left_of(view, start),
     }
 }
 
-/// Rolls the transaction back: its lock is removed where it stands, and its rollback is left.
-pub fn roll_back<K: KeyCells>(cells: &K, start: Ts) -> KeyChange
-    ensures leaves { changed (K.cells cells.now) result ≡ roll_back (K.cells cells.now) start }
-    ensures applies { Applies (K.cells cells.now) result }
+/// Rolls the transaction back: its lock goes where it is there, and its rollback is left.
+pub fn roll_back(view: &TxnView, start: Ts) -> KeyChange
+    ensures leaves { (cells : Cells) (commit : ℕ) → Shows cells start commit view.now → changed cells result ≡ roll_back cells start }
+    ensures applies { (cells : Cells) (commit : ℕ) → Shows cells start commit view.now → Applies cells result }
 {
     KeyChange::RollBack {
         start,
-        removed: removed_of(cells, start),
-        left: left_of(cells, start),
+        removes_lock: own_lock(view, start).is_some(),
+        left: left_of(view, start),
     }
 }

@@ -1,52 +1,43 @@
 //! The rows of BatchRollback.
-use crate::table_tests::cells::*;
-use crate::table_tests::shown::{same, shown};
+use crate::table_tests::shown::{BELOW, SAME, Short, is, plan};
+use crate::table_tests::views::*;
 use crate::{BatchRollback, plan_batch_rollback};
-use std::test::Fail;
 use tx_types::Ts;
 
-fn rolls_back(rt: &HostRuntime, cells: Cells, start: u64, wanted: &str) -> Result<(), Fail> {
+const OVERLAP: Seen = Seen {
+    at_start: CommitOf(4),
+    ..LOCKED
+};
+
+const DONE: Short = ("RolledBack", 0, 0);
+
+// Start, what is seen of the key, the answer and the change.
+const ROWS: [(u64, Seen, Short, Short); 8] = [
+    (2, FREE, BELOW, SAME),
+    (5, LOCKED, DONE, ("rollback", 5, 1)),
+    (5, OVERLAP, DONE, ("mark", 5, 1)),
+    (5, COMMITTED, ("AlreadyCommitted", 8, 0), SAME),
+    (5, ROLLED_BACK, DONE, ("rolled back", 5, 0)),
+    (5, MARKED, DONE, ("rolled back", 5, 0)),
+    (5, FREE, DONE, ("rollback", 5, 0)),
+    (5, OTHERS, DONE, ("rollback", 5, 0)),
+];
+
+fn rolls_back(rt: &HostRuntime, start: u64, seen: Seen) -> (Short, Short) {
+    let Ok(key) = key(rt) else {
+        return (SAME, SAME);
+    };
     let body = BatchRollback {
-        key: key(rt)?,
+        key,
         start: Ts::new(start),
     };
-    let planned = plan_batch_rollback(&cells_of(rt, cells)?, Ts::new(3), &body);
-    same(shown(rt, &planned)?, wanted)
+    plan(&plan_batch_rollback(&view_of(seen), Ts::new(3), &body))
 }
 
 #[test]
-fn rows_of_batch_rollback(rt: HostRuntime) -> Result<(), Fail> {
-    for (cells, start, wanted) in [
-        (Free(&[]), 2, "BelowSafePoint 3"),
-        (Locked(5, &[]), 5, "RolledBack, roll back 5 Lock Record"),
-        (Long(5), 5, "RolledBack, roll back 5 LockAndValue Record"),
-        (
-            Locked(5, &[LockOf(5, 4)]),
-            5,
-            "RolledBack, roll back 5 Lock Mark",
-        ),
-    ] {
-        rolls_back(&rt, cells, start, wanted)?;
+fn rows_of_batch_rollback(rt: HostRuntime) {
+    for (start, seen, answer, change) in ROWS {
+        let given = rolls_back(&rt, start, seen);
+        assert!(rt; is(given.0, answer) && is(given.1, change), "{} {}", answer.0, change.0);
     }
-    Ok(())
-}
-
-#[test]
-fn rows_of_batch_rollback_without_its_lock(rt: HostRuntime) -> Result<(), Fail> {
-    for (cells, wanted) in [
-        (Free(&[LockOf(8, 5)]), "AlreadyCommitted 8"),
-        (
-            Free(&[Rollback(5)]),
-            "RolledBack, roll back 5 Nothing Standing",
-        ),
-        (
-            Free(&[Marked(5, 4)]),
-            "RolledBack, roll back 5 Nothing Standing",
-        ),
-        (Free(&[]), "RolledBack, roll back 5 Nothing Record"),
-        (Long(4), "RolledBack, roll back 5 Nothing Record"),
-    ] {
-        rolls_back(&rt, cells, 5, wanted)?;
-    }
-    Ok(())
 }

@@ -1,39 +1,36 @@
 //! The rows of CheckSecondaryLocks.
-use crate::table_tests::cells::*;
-use crate::table_tests::shown::{same, shown};
+use crate::table_tests::shown::{BELOW, SAME, Short, is, plan};
+use crate::table_tests::views::*;
 use crate::{CheckSecondaryLocks, plan_check_secondary_locks};
-use std::test::Fail;
 use tx_types::Ts;
 
-fn finds(rt: &HostRuntime, cells: Cells, start: u64, wanted: &str) -> Result<(), Fail> {
+const MISSING: Short = ("Missing", 0, 0);
+
+// Start, what is seen of the key, the answer and the change.
+const ROWS: [(u64, Seen, Short, Short); 6] = [
+    (2, FREE, BELOW, SAME),
+    (5, ASYNC, ("Locked", 7, 0), SAME),
+    (5, COMMITTED, ("Committed", 8, 0), SAME),
+    (5, ROLLED_BACK, MISSING, ("rolled back", 5, 0)),
+    (5, SHARED, MISSING, ("mark", 5, 0)),
+    (5, OTHERS, MISSING, ("rollback", 5, 0)),
+];
+
+fn finds(rt: &HostRuntime, start: u64, seen: Seen) -> (Short, Short) {
+    let Ok(key) = key(rt) else {
+        return (SAME, SAME);
+    };
     let body = CheckSecondaryLocks {
-        key: key(rt)?,
+        key,
         start: Ts::new(start),
     };
-    let cells = cells_of(rt, cells)?;
-    let planned = plan_check_secondary_locks(rt.alloc(), &cells, Ts::new(3), &body)?;
-    same(shown(rt, &planned)?, wanted)
+    plan(&plan_check_secondary_locks(&view_of(seen), Ts::new(3), &body))
 }
 
 #[test]
-fn rows_of_check_secondary_locks(rt: HostRuntime) -> Result<(), Fail> {
-    for (cells, start, wanted) in [
-        (Free(&[]), 2, "BelowSafePoint 3"),
-        (Async(5), 5, "Locked 7"),
-        (Free(&[LockOf(8, 5)]), 5, "Committed 8"),
-        (
-            Free(&[Rollback(5)]),
-            5,
-            "Missing, roll back 5 Nothing Standing",
-        ),
-        (
-            Free(&[LockOf(5, 4)]),
-            5,
-            "Missing, roll back 5 Nothing Mark",
-        ),
-        (Locked(4, &[]), 5, "Missing, roll back 5 Nothing Record"),
-    ] {
-        finds(&rt, cells, start, wanted)?;
+fn rows_of_check_secondary_locks(rt: HostRuntime) {
+    for (start, seen, answer, change) in ROWS {
+        let given = finds(&rt, start, seen);
+        assert!(rt; is(given.0, answer) && is(given.1, change), "{} {}", answer.0, change.0);
     }
-    Ok(())
 }

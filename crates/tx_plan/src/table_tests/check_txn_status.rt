@@ -1,8 +1,7 @@
 //! The rows of CheckTxnStatus.
-use crate::table_tests::cells::*;
-use crate::table_tests::shown::{same, shown};
+use crate::table_tests::shown::{BELOW, FUTURE, SAME, Short, is, plan};
+use crate::table_tests::views::*;
 use crate::{CheckTxnStatus, plan_check_txn_status};
-use std::test::Fail;
 use tx_types::Ts;
 
 #[derive(Clone, Copy)]
@@ -22,113 +21,79 @@ const LIVE: Check = Check {
     force_sync_commit: false,
 };
 
+const EARLY: Check = Check { start: 2, ..LIVE };
+
+const UNDRAWN: Check = Check { caller: 21, ..LIVE };
+
+const PUSHING: Check = Check { caller: 7, ..LIVE };
+
+const EXPIRED: Check = Check {
+    current: 16,
+    ..LIVE
+};
+
+const WANTED: Check = Check {
+    rollback_if_not_exist: true,
+    ..LIVE
+};
+
 const FORCED: Check = Check {
     force_sync_commit: true,
     ..LIVE
 };
 
-fn checks(rt: &HostRuntime, cells: Cells, check: Check, wanted: &str) -> Result<(), Fail> {
+const FORCED_PUSHING: Check = Check {
+    force_sync_commit: true,
+    ..PUSHING
+};
+
+const FORCED_EXPIRED: Check = Check {
+    force_sync_commit: true,
+    ..EXPIRED
+};
+
+const DONE: Short = ("RolledBack", 0, 0);
+const TOLD: Short = ("Locked", 7, 0);
+const PUSHED: Short = ("Locked", 8, 0);
+
+// What is asked, what is seen of the key, the answer and the change.
+const ROWS: [(Check, Seen, Short, Short); 15] = [
+    (EARLY, LOCKED, BELOW, SAME),
+    (UNDRAWN, LOCKED, FUTURE, SAME),
+    (EXPIRED, ASYNC, TOLD, SAME),
+    (PUSHING, ASYNC, TOLD, SAME),
+    (EXPIRED, LOCKED, DONE, ("rollback", 5, 1)),
+    (PUSHING, LOCKED, PUSHED, ("minimum", 8, 0)),
+    (LIVE, LOCKED, TOLD, SAME),
+    (FORCED, ASYNC, TOLD, SAME),
+    (FORCED_PUSHING, ASYNC, PUSHED, ("minimum", 8, 0)),
+    (FORCED_EXPIRED, ASYNC, DONE, ("rollback", 5, 1)),
+    (LIVE, COMMITTED, ("Committed", 8, 0), SAME),
+    (LIVE, ROLLED_BACK, DONE, ("rolled back", 5, 0)),
+    (LIVE, MARKED, DONE, ("rolled back", 5, 0)),
+    (WANTED, OTHERS, DONE, ("rollback", 5, 0)),
+    (LIVE, OTHERS, ("TxnNotFound", 0, 0), SAME),
+];
+
+fn checks(rt: &HostRuntime, check: Check, seen: Seen) -> (Short, Short) {
+    let Ok(key) = key(rt) else {
+        return (SAME, SAME);
+    };
     let body = CheckTxnStatus {
-        key: key(rt)?,
+        key,
         start: Ts::new(check.start),
         caller: Ts::new(check.caller),
         current: Ts::new(check.current),
         rollback_if_not_exist: check.rollback_if_not_exist,
         force_sync_commit: check.force_sync_commit,
     };
-    let cells = cells_of(rt, cells)?;
-    let planned = plan_check_txn_status(rt.alloc(), &cells, Ts::new(3), Ts::new(20), &body)?;
-    same(shown(rt, &planned)?, wanted)
+    plan(&plan_check_txn_status(&view_of(seen), Ts::new(3), Ts::new(20), &body))
 }
 
 #[test]
-fn rows_of_check_txn_status(rt: HostRuntime) -> Result<(), Fail> {
-    for (cells, check, wanted) in [
-        (
-            Locked(2, &[]),
-            Check { start: 2, ..LIVE },
-            "BelowSafePoint 3",
-        ),
-        (
-            Locked(5, &[]),
-            Check { caller: 21, ..LIVE },
-            "FutureTimestamp 20",
-        ),
-        (Locked(5, &[]), LIVE, "Locked 7"),
-        (
-            Locked(5, &[]),
-            Check { caller: 7, ..LIVE },
-            "Locked 8, minimum 8",
-        ),
-        (
-            Long(5),
-            Check {
-                current: 16,
-                ..LIVE
-            },
-            "RolledBack, roll back 5 LockAndValue Record",
-        ),
-    ] {
-        checks(&rt, cells, check, wanted)?;
+fn rows_of_check_txn_status(rt: HostRuntime) {
+    for (check, seen, answer, change) in ROWS {
+        let given = checks(&rt, check, seen);
+        assert!(rt; is(given.0, answer) && is(given.1, change), "{} {}", answer.0, change.0);
     }
-    Ok(())
-}
-
-#[test]
-fn rows_of_check_txn_status_without_its_lock(rt: HostRuntime) -> Result<(), Fail> {
-    let missing = Check {
-        rollback_if_not_exist: true,
-        ..LIVE
-    };
-    for (cells, check, wanted) in [
-        (Free(&[LockOf(8, 5)]), LIVE, "Committed 8"),
-        (
-            Free(&[Rollback(5)]),
-            LIVE,
-            "RolledBack, roll back 5 Nothing Standing",
-        ),
-        (
-            Locked(4, &[]),
-            missing,
-            "RolledBack, roll back 5 Nothing Record",
-        ),
-        (Locked(4, &[]), LIVE, "TxnNotFound"),
-    ] {
-        checks(&rt, cells, check, wanted)?;
-    }
-    Ok(())
-}
-
-#[test]
-fn rows_of_a_forced_check(rt: HostRuntime) -> Result<(), Fail> {
-    let unforced = Check {
-        caller: 9,
-        current: 16,
-        ..LIVE
-    };
-    for (cells, check, wanted) in [
-        (Async(5), unforced, "Locked 7"),
-        (
-            Async(5),
-            Check {
-                caller: 9,
-                ..FORCED
-            },
-            "Locked 10, minimum 10",
-        ),
-        (Async(5), FORCED, "Locked 7"),
-        (
-            Async(5),
-            Check {
-                current: 16,
-                ..FORCED
-            },
-            "RolledBack, roll back 5 Lock Record",
-        ),
-        (Free(&[LockOf(8, 5)]), FORCED, "Committed 8"),
-        (Free(&[]), FORCED, "TxnNotFound"),
-    ] {
-        checks(&rt, cells, check, wanted)?;
-    }
-    Ok(())
 }

@@ -1,51 +1,51 @@
 //! The rows of Commit.
-use crate::table_tests::cells::*;
-use crate::table_tests::shown::{same, shown};
+use crate::table_tests::shown::{BELOW, SAME, Short, is, plan};
+use crate::table_tests::views::*;
 use crate::{Commit, plan_commit};
-use std::test::Fail;
 use tx_types::Ts;
 
-fn commits(
-    rt: &HostRuntime,
-    cells: Cells,
-    start: u64,
-    commit: u64,
-    wanted: &str,
-) -> Result<(), Fail> {
+type Row = (u64, u64, Seen, Short, Short);
+
+const CONFLICT: Seen = Seen {
+    at_commit: CommitOf(4),
+    ..LOCKED
+};
+
+const OVERLAP: Seen = Seen {
+    at_commit: Rollback,
+    ..LOCKED
+};
+
+// Start and commit timestamp, what is seen of the key, the answer and the change.
+const ROWS: [Row; 10] = [
+    (2, 9, FREE, BELOW, SAME),
+    (5, 6, LOCKED, ("CommitTsExpired", 7, 0), SAME),
+    (5, 9, CONFLICT, ("WriteConflict", 4, 9), SAME),
+    (5, 9, LOCKED, ("Committed", 9, 0), ("commit", 9, 0)),
+    (5, 9, OVERLAP, ("Committed", 9, 0), ("commit", 9, 1)),
+    (5, 9, COMMITTED, ("Committed", 8, 0), SAME),
+    (5, 9, ROLLED_BACK, ("AlreadyRolledBack", 0, 0), SAME),
+    (5, 9, MARKED, ("AlreadyRolledBack", 0, 0), SAME),
+    (5, 9, SHARED, ("TxnLockNotFound", 0, 0), SAME),
+    (5, 9, OTHERS, ("TxnLockNotFound", 0, 0), SAME),
+];
+
+fn commits(rt: &HostRuntime, start: u64, commit: u64, seen: Seen) -> (Short, Short) {
+    let Ok(key) = key(rt) else {
+        return (SAME, SAME);
+    };
     let body = Commit {
-        key: key(rt)?,
+        key,
         start: Ts::new(start),
         commit: Ts::new(commit),
     };
-    let planned = plan_commit(&cells_of(rt, cells)?, Ts::new(3), &body);
-    same(shown(rt, &planned)?, wanted)
+    plan(&plan_commit(&view_of(seen), Ts::new(3), &body))
 }
 
 #[test]
-fn rows_of_commit(rt: HostRuntime) -> Result<(), Fail> {
-    for (cells, start, commit, wanted) in [
-        (Free(&[]), 2, 9, "BelowSafePoint 3"),
-        (Locked(5, &[]), 5, 6, "CommitTsExpired 7"),
-        (Locked(5, &[LockOf(9, 4)]), 5, 9, "WriteConflict 4 9"),
-        (
-            Locked(5, &[LockOf(9, 4)]),
-            5,
-            10,
-            "Committed 10, settle 10 false",
-        ),
-        (
-            Locked(5, &[Rollback(9)]),
-            5,
-            9,
-            "Committed 9, settle 9 true",
-        ),
-        (Free(&[LockOf(8, 5)]), 5, 9, "Committed 8"),
-        (Free(&[Rollback(5)]), 5, 9, "AlreadyRolledBack"),
-        (Free(&[Marked(5, 4)]), 5, 9, "AlreadyRolledBack"),
-        (Free(&[LockOf(5, 4)]), 5, 9, "TxnLockNotFound"),
-        (Locked(4, &[]), 5, 9, "TxnLockNotFound"),
-    ] {
-        commits(&rt, cells, start, commit, wanted)?;
+fn rows_of_commit(rt: HostRuntime) {
+    for (start, commit, seen, answer, change) in ROWS {
+        let given = commits(&rt, start, commit, seen);
+        assert!(rt; is(given.0, answer) && is(given.1, change), "{} {commit}", answer.0);
     }
-    Ok(())
 }

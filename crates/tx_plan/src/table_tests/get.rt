@@ -1,102 +1,76 @@
 //! The rows of Get.
-use crate::table_tests::cells::*;
-use crate::table_tests::shown::{read, same};
-use crate::{Get, plan_get};
-use std::test::Fail;
-use tx_types::Ts;
+use crate::table_tests::shown::{BELOW, FUTURE, SAME, Short, is, read};
+use crate::table_tests::views::*;
+use crate::{Get, ReadView, Starts, plan_get};
+use tx_types::{Fault, LockKind, Ts, Value};
 
-fn reads_past(
-    rt: &HostRuntime,
-    cells: Cells,
-    at: u64,
-    met: &[u64],
-    wanted: &str,
-) -> Result<(), Fail> {
-    let body = Get {
-        key: key(rt)?,
+const LOCK_ONLY: Seen = Seen {
+    lock: Some(Held {
+        kind: LockKind::Lock,
+        ..OWN
+    }),
+    ..FREE
+};
+
+const NONE: u64 = 0;
+const NOTHING: Short = ("Nothing", 0, 0);
+const FOUND: Short = ("Found", 1, 0);
+const BLOCKED: Short = ("KeyIsLocked", 0, 0);
+
+// Timestamp, a transaction that is passed by, what is seen of the key and its value, the answer and the timestamp read.
+const ROWS: [(u64, u64, Seen, &str, Short, u64); 11] = [
+    (2, NONE, LOCKED, "", BELOW, 0),
+    (21, NONE, LOCKED, "", FUTURE, 0),
+    (3, NONE, LOCKED, "", NOTHING, 3),
+    (6, NONE, LOCKED, "x", FOUND, 6),
+    (7, NONE, LOCKED, "x", BLOCKED, 7),
+    (20, NONE, ASYNC, "", BLOCKED, 20),
+    (12, 4, LOCKED, "x", BLOCKED, 12),
+    (12, 5, LOCKED, "x", FOUND, 12),
+    (12, NONE, LOCK_ONLY, "x", FOUND, 12),
+    (12, NONE, FREE, "x", FOUND, 12),
+    (12, NONE, FREE, "", NOTHING, 12),
+];
+
+fn value_of(rt: &HostRuntime, text: &str) -> Result<Option<Value>, Fault> {
+    if text.is_empty() {
+        return Ok(None);
+    }
+    Ok(Some(Value::new(rt.alloc(), text.as_bytes())?))
+}
+
+fn get(rt: &HostRuntime, at: u64, passed: u64) -> Result<Get, Fault> {
+    let key = key(rt)?;
+    let mut bypass = Starts::new(rt.alloc());
+    bypass.push(Ts::new(passed))?;
+    Ok(Get {
+        key,
         at: Ts::new(at),
-        bypass: starts_of(rt, met)?,
+        bypass,
+    })
+}
+
+fn view(rt: &HostRuntime, seen: Seen, text: &str) -> Result<ReadView, Fault> {
+    Ok(ReadView {
+        lock: lock_of(seen.lock),
+        value: value_of(rt, text)?,
+    })
+}
+
+fn reads(rt: &HostRuntime, at: u64, passed: u64, seen: Seen, text: &str) -> (Short, u64) {
+    let Ok(body) = get(rt, at, passed) else {
+        return (SAME, 0);
     };
-    let cells = cells_of(rt, cells)?;
-    let plan = plan_get(
-        rt.alloc(),
-        &cells,
-        Ts::new(3),
-        Ts::new(20),
-        Ts::new(11),
-        &body,
-    )?;
-    same(read(rt, &plan)?, wanted)
-}
-
-fn reads(rt: &HostRuntime, cells: Cells, at: u64, wanted: &str) -> Result<(), Fail> {
-    reads_past(rt, cells, at, &[], wanted)
+    let Ok(view) = view(rt, seen, text) else {
+        return (SAME, 0);
+    };
+    read(&plan_get(view, Ts::new(3), Ts::new(20), &body))
 }
 
 #[test]
-fn rows_of_a_refused_get(rt: HostRuntime) -> Result<(), Fail> {
-    for (at, wanted) in [
-        (2, "BelowSafePoint 3, read 11"),
-        (3, "Nothing, read 11"),
-        (20, "KeyIsLocked k 5, read 20"),
-        (21, "FutureTimestamp 20, read 11"),
-    ] {
-        reads(&rt, Locked(5, &[]), at, wanted)?;
+fn rows_of_get(rt: HostRuntime) {
+    for (at, passed, seen, text, answer, read) in ROWS {
+        let given = reads(&rt, at, passed, seen, text);
+        assert!(rt; is(given.0, answer) && given.1 == read, "{} {at}", answer.0);
     }
-    Ok(())
-}
-
-#[test]
-fn rows_of_a_get_that_meets_a_lock(rt: HostRuntime) -> Result<(), Fail> {
-    for (cells, at, wanted) in [
-        (Locked(5, &[]), 6, "Nothing, read 11"),
-        (Locked(5, &[]), 7, "KeyIsLocked k 5, read 11"),
-        (Locked(5, &[]), 12, "KeyIsLocked k 5, read 12"),
-        (Async(5), 12, "KeyIsLocked k 5, read 12"),
-        (LockOnly(5), 12, "Nothing, read 12"),
-    ] {
-        reads(&rt, cells, at, wanted)?;
-    }
-    Ok(())
-}
-
-#[test]
-fn a_get_passes_locks_by(rt: HostRuntime) -> Result<(), Fail> {
-    let cells = Locked(5, &[PutOf(8, 4, "x")]);
-    for (met, wanted) in [(5, "Found x, read 12"), (4, "KeyIsLocked k 5, read 12")] {
-        reads_past(&rt, cells, 12, &[met], wanted)?;
-    }
-    Ok(())
-}
-
-#[test]
-fn rows_of_a_get_of_a_value(rt: HostRuntime) -> Result<(), Fail> {
-    for (cells, at, wanted) in [
-        (Free(&[Put(8, "x")]), 7, "Nothing, read 11"),
-        (Free(&[Put(8, "x")]), 8, "Found x, read 11"),
-        (Free(&[Put(8, "x")]), 12, "Found x, read 12"),
-        (Free(&[]), 12, "Nothing, read 12"),
-    ] {
-        reads(&rt, cells, at, wanted)?;
-    }
-    Ok(())
-}
-
-#[test]
-fn a_get_sees_the_newest_put_or_delete(rt: HostRuntime) -> Result<(), Fail> {
-    let cells = Free(&[Rollback(12), Lock(11), Delete(10), Put(8, "x")]);
-    for (at, wanted) in [
-        (9, "Found x, read 11"),
-        (10, "Nothing, read 11"),
-        (12, "Nothing, read 12"),
-    ] {
-        reads(&rt, cells, at, wanted)?;
-    }
-    Ok(())
-}
-
-#[test]
-fn a_get_sees_no_lock_record_and_no_rollback(rt: HostRuntime) -> Result<(), Fail> {
-    let cells = Free(&[Rollback(12), Lock(11), Put(8, "x")]);
-    reads(&rt, cells, 12, "Found x, read 12")
 }

@@ -1,100 +1,103 @@
 //! The rows of Prewrite.
-use crate::table_tests::cells::*;
-use crate::table_tests::shown::{new_lock, same};
+use crate::table_tests::shown::{BELOW, FUTURE, SAME, Short, is, plan};
+use crate::table_tests::views::*;
 use crate::{Prewrite, plan_prewrite};
-use std::test::Fail;
-use tx_types::{Fault, Mode, Mutation, Secondaries, Ts};
+use tx_types::{Mode, Mutation, Secondaries, Ts};
 
-fn prewrite(
-    rt: &HostRuntime,
+#[derive(Clone, Copy)]
+struct Asked {
     start: u64,
     mode: Mode,
-    max_commit: Option<Ts>,
-) -> Result<Prewrite, Fault> {
-    Ok(Prewrite {
-        key: key(rt)?,
+    max_commit: Option<u64>,
+}
+
+const TWO_PHASE: Asked = Asked {
+    start: 5,
+    mode: Mode::TwoPhase,
+    max_commit: None,
+};
+
+const UNBOUNDED: Asked = Asked {
+    mode: Mode::Async,
+    ..TWO_PHASE
+};
+
+const ALLOWED: Asked = Asked {
+    max_commit: Some(12),
+    ..UNBOUNDED
+};
+
+const FALLS_BACK: Asked = Asked {
+    max_commit: Some(11),
+    ..UNBOUNDED
+};
+
+const UNREAD: Asked = Asked {
+    start: 15,
+    ..UNBOUNDED
+};
+
+const EARLY: Asked = Asked {
+    start: 2,
+    ..TWO_PHASE
+};
+
+const UNDRAWN: Asked = Asked {
+    start: 21,
+    ..TWO_PHASE
+};
+
+const CONFLICT: Seen = Seen {
+    newest: Some((8, 10)),
+    ..FREE
+};
+
+const LOCKED_IN_TWO_PHASES: Short = ("two-phase lock", 6, 0);
+
+// What is asked, what is seen of the key, the answer and the change.
+const ROWS: [(Asked, Seen, Short, Short); 15] = [
+    (EARLY, FREE, BELOW, SAME),
+    (UNDRAWN, FREE, FUTURE, SAME),
+    (TWO_PHASE, LOCKED, ("Prewritten", 0, 0), SAME),
+    (TWO_PHASE, ASYNC, ("Prewritten", 7, 0), SAME),
+    (TWO_PHASE, ROLLED_BACK, ("AlreadyRolledBack", 0, 0), SAME),
+    (TWO_PHASE, MARKED, ("AlreadyRolledBack", 0, 0), SAME),
+    (TWO_PHASE, COMMITTED, ("AlreadyCommitted", 8, 0), SAME),
+    (TWO_PHASE, OTHERS, ("KeyIsLocked", 0, 0), SAME),
+    (TWO_PHASE, CONFLICT, ("WriteConflict", 8, 10), SAME),
+    (TWO_PHASE, SHARED, ("Prewritten", 0, 0), LOCKED_IN_TWO_PHASES),
+    (TWO_PHASE, FREE, ("Prewritten", 0, 0), LOCKED_IN_TWO_PHASES),
+    (UNBOUNDED, FREE, ("Prewritten", 12, 0), ("async lock", 12, 0)),
+    (UNREAD, FREE, ("Prewritten", 16, 0), ("async lock", 16, 0)),
+    (ALLOWED, FREE, ("Prewritten", 12, 0), ("async lock", 12, 0)),
+    (FALLS_BACK, FREE, ("Prewritten", 0, 0), LOCKED_IN_TWO_PHASES),
+];
+
+// Of a region in which 11 was read.
+fn prewrites(rt: &HostRuntime, asked: Asked, seen: Seen) -> (Short, Short) {
+    let Ok(key) = key(rt) else {
+        return (SAME, SAME);
+    };
+    let Ok(primary) = key.clone() else {
+        return (SAME, SAME);
+    };
+    let body = Prewrite {
+        key,
         mutation: Mutation::Delete,
-        start: Ts::new(start),
-        primary: key(rt)?,
-        mode,
-        max_commit,
+        start: Ts::new(asked.start),
+        primary,
+        mode: asked.mode,
+        max_commit: asked.max_commit.map(Ts::new),
         ttl: 10,
         others: Secondaries::new(rt.alloc()),
-    })
-}
-
-fn prewrites(rt: &HostRuntime, cells: Cells, body: &Prewrite, wanted: &str) -> Result<(), Fail> {
-    let cells = cells_of(rt, cells)?;
-    let planned = plan_prewrite(
-        rt.alloc(),
-        &cells,
-        Ts::new(3),
-        Ts::new(20),
-        Ts::new(11),
-        body,
-    )?;
-    same(new_lock(rt, &planned)?, wanted)
-}
-
-fn two_phase(rt: &HostRuntime, cells: Cells, start: u64, wanted: &str) -> Result<(), Fail> {
-    let body = prewrite(rt, start, Mode::TwoPhase, None)?;
-    prewrites(rt, cells, &body, wanted)
-}
-
-fn asynchronous(
-    rt: &HostRuntime,
-    start: u64,
-    max_commit: Option<u64>,
-    wanted: &str,
-) -> Result<(), Fail> {
-    let body = prewrite(rt, start, Mode::Async, max_commit.map(Ts::new))?;
-    prewrites(rt, Free(&[]), &body, wanted)
+    };
+    plan(&plan_prewrite(&view_of(seen), Ts::new(3), Ts::new(20), Ts::new(11), &body))
 }
 
 #[test]
-fn rows_of_prewrite(rt: HostRuntime) -> Result<(), Fail> {
-    for (cells, start, wanted) in [
-        (Free(&[]), 2, "BelowSafePoint 3"),
-        (Free(&[]), 21, "FutureTimestamp 20"),
-        (Locked(5, &[]), 5, "Prewritten 0"),
-        (Async(5), 5, "Prewritten 7"),
-        (Free(&[Rollback(5)]), 5, "AlreadyRolledBack"),
-        (Free(&[Marked(5, 4)]), 5, "AlreadyRolledBack"),
-    ] {
-        two_phase(&rt, cells, start, wanted)?;
+fn rows_of_prewrite(rt: HostRuntime) {
+    for (asked, seen, answer, change) in ROWS {
+        let given = prewrites(&rt, asked, seen);
+        assert!(rt; is(given.0, answer) && is(given.1, change), "{} {}", answer.0, change.0);
     }
-    Ok(())
-}
-
-#[test]
-fn rows_of_prewrite_by_the_records(rt: HostRuntime) -> Result<(), Fail> {
-    for (cells, wanted) in [
-        (Free(&[LockOf(8, 5)]), "AlreadyCommitted 8"),
-        (Locked(4, &[]), "KeyIsLocked k 4"),
-        (Free(&[LockOf(9, 4)]), "WriteConflict 4 9"),
-        (Free(&[LockOf(5, 4)]), "Prewritten 0, lock TwoPhase 6"),
-        (Free(&[]), "Prewritten 0, lock TwoPhase 6"),
-    ] {
-        two_phase(&rt, cells, 5, wanted)?;
-    }
-    Ok(())
-}
-
-#[test]
-fn conflicts_name_the_newest_record(rt: HostRuntime) -> Result<(), Fail> {
-    let cells = Free(&[LockOf(10, 8), LockOf(9, 4)]);
-    two_phase(&rt, cells, 5, "WriteConflict 8 10")
-}
-
-#[test]
-fn async_locks_have_the_least_minimum(rt: HostRuntime) -> Result<(), Fail> {
-    for (start, max_commit, wanted) in [
-        (5, None, "Prewritten 12, lock Async 12"),
-        (15, None, "Prewritten 16, lock Async 16"),
-        (5, Some(12), "Prewritten 12, lock Async 12"),
-        (5, Some(11), "Prewritten 0, lock TwoPhase 6"),
-    ] {
-        asynchronous(&rt, start, max_commit, wanted)?;
-    }
-    Ok(())
 }

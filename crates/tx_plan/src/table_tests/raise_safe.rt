@@ -1,29 +1,26 @@
 //! The rows of RaiseSafe.
-use crate::table_tests::shown::{same, told};
+use crate::table_tests::shown::{BELOW, FUTURE, Short, answer, is};
 use crate::{RaiseSafe, RegionNo, plan_raise_safe};
-use std::test::Fail;
 use tx_types::Ts;
 
-fn raises(rt: &HostRuntime, safe: u64, wanted: &str) -> Result<(), Fail> {
+const DONE: Short = ("Raised", 0, 0);
+
+// What is asked of a region whose safe point is 3, the answer, and its safe point from then on.
+const ROWS: [(u64, Short, u64); 4] = [(21, FUTURE, 3), (2, BELOW, 3), (3, DONE, 3), (20, DONE, 20)];
+
+fn raises(safe: u64) -> (Short, u64) {
     let body = RaiseSafe {
         region: RegionNo::new(0),
         safe: Ts::new(safe),
     };
     let plan = plan_raise_safe(Ts::new(3), Ts::new(20), &body);
-    let answer = told(rt, &plan.answer)?;
-    let text = format!(in rt.alloc(); "{answer}, safe {}", plan.safe)?;
-    same(text, wanted)
+    (answer(&plan.answer), plan.safe.get())
 }
 
 #[test]
-fn rows_of_raise_safe(rt: HostRuntime) -> Result<(), Fail> {
-    for (safe, wanted) in [
-        (21, "FutureTimestamp 20, safe 3"),
-        (2, "BelowSafePoint 3, safe 3"),
-        (3, "Raised, safe 3"),
-        (20, "Raised, safe 20"),
-    ] {
-        raises(&rt, safe, wanted)?;
+fn rows_of_raise_safe(rt: HostRuntime) {
+    for (asked, wanted, safe) in ROWS {
+        let given = raises(asked);
+        assert!(rt; is(given.0, wanted) && given.1 == safe, "{asked}");
     }
-    Ok(())
 }

@@ -1,126 +1,105 @@
-//! Answers and changes as text, for the tests of the plans.
-use crate::{Answer, Infos, KeyChange, LockPlanned, Planned, ReadPlan};
-use std::test::Fail;
-use tx_types::{Key, KeyValues};
+//! What a plan gives, in short: a word and two numbers for the answer, and the same for the change.
+use crate::{Answer, KeyChange, Left, NewLock, Planned, PlannedAnswer};
+use tx_types::Mode;
 
-pub fn text(key: &Key) -> Result<&str, Fail> {
-    Ok(std::str::from_utf8(key.as_bytes())?)
+pub type Short = (&'static str, u64, u64);
+
+/// No change.
+pub const SAME: Short = ("", 0, 0);
+
+pub fn is(given: Short, wanted: Short) -> bool {
+    given.0 == wanted.0 && given.1 == wanted.1 && given.2 == wanted.2
 }
 
-/// Fails where this is not told.
-pub fn same(told: String, wanted: &str) -> Result<(), Fail> {
-    if told.as_str() == wanted {
-        Ok(())
-    } else {
-        Err(Fail::new(format_args!("{told}, and not {wanted}")))
+/// An answer of `BelowSafePoint` at 3 and of `FutureTimestamp` at 20: the regions of these tables.
+pub const BELOW: Short = ("BelowSafePoint", 3, 0);
+pub const FUTURE: Short = ("FutureTimestamp", 20, 0);
+
+// A refusal.
+fn refusal(answer: &Answer) -> Short {
+    match answer {
+        Answer::KeyIsLocked(info) => ("KeyIsLocked", info.start.get(), 0),
+        Answer::WriteConflict { start, commit } => ("WriteConflict", start.get(), commit.get()),
+        Answer::AlreadyRolledBack => ("AlreadyRolledBack", 0, 0),
+        Answer::AlreadyCommitted { commit } => ("AlreadyCommitted", commit.get(), 0),
+        Answer::CommitTsExpired { min } => ("CommitTsExpired", min.get(), 0),
+        Answer::TxnLockNotFound => ("TxnLockNotFound", 0, 0),
+        Answer::BelowSafePoint { safe } => ("BelowSafePoint", safe.get(), 0),
+        Answer::FutureTimestamp { last } => ("FutureTimestamp", last.get(), 0),
+        Answer::TxnNotFound => ("TxnNotFound", 0, 0),
+        _ => ("", 0, 0),
     }
 }
 
-fn rows_told(rt: &HostRuntime, rows: &KeyValues) -> Result<String, Fail> {
-    let mut told = format!(in rt.alloc(); "Rows")?;
-    for row in rows.as_slice() {
-        let value = std::str::from_utf8(row.value.as_bytes())?;
-        told = format!(in rt.alloc(); "{told} {}={value}", text(&row.key)?)?;
+pub fn answer(answer: &Answer) -> Short {
+    match answer {
+        Answer::Found(value) => ("Found", value.as_bytes().len() as u64, 0),
+        Answer::Nothing => ("Nothing", 0, 0),
+        Answer::Rows(rows) => ("Rows", rows.as_slice().len() as u64, 0),
+        Answer::Prewritten(min) => ("Prewritten", min.get(), 0),
+        Answer::Committed(commit) => ("Committed", commit.get(), 0),
+        Answer::RolledBack => ("RolledBack", 0, 0),
+        Answer::Ttl(ttl) => ("Ttl", u64::from(*ttl), 0),
+        Answer::Missing => ("Missing", 0, 0),
+        Answer::Resolved => ("Resolved", 0, 0),
+        Answer::Raised => ("Raised", 0, 0),
+        other => refusal(other),
     }
-    Ok(told)
 }
 
-fn locks_told(rt: &HostRuntime, infos: &Infos) -> Result<String, Fail> {
-    let mut told = format!(in rt.alloc(); "Locks")?;
-    for info in infos.as_slice() {
-        told = format!(in rt.alloc(); "{told} {}:{}", text(&info.key)?, info.start)?;
+fn planned(planned: &PlannedAnswer) -> Short {
+    match planned {
+        PlannedAnswer::Given(given) => answer(given),
+        PlannedAnswer::KeyIsLocked => ("KeyIsLocked", 0, 0),
+        PlannedAnswer::Locked { min } => ("Locked", min.get(), 0),
     }
-    Ok(told)
 }
 
-// What is found or listed.
-fn found_told(rt: &HostRuntime, answer: &Answer) -> Result<String, Fail> {
-    let told = match answer {
-        Answer::Found(value) => {
-            format!(in rt.alloc(); "Found {}", std::str::from_utf8(value.as_bytes())?)?
-        }
-        Answer::Rows(rows) => rows_told(rt, rows)?,
-        Answer::Locks(infos) => locks_told(rt, infos)?,
-        Answer::Collected { records, values } => {
-            format!(in rt.alloc(); "Collected {records} {values}")?
-        }
-        other => format!(in rt.alloc(); "{other:?}")?,
-    };
-    Ok(told)
+fn new_lock(new: NewLock) -> Short {
+    match new.mode {
+        Mode::TwoPhase => ("two-phase lock", new.min.get(), 0),
+        Mode::Async => ("async lock", new.min.get(), 0),
+    }
 }
 
-// A lock that is told, or what else is.
-fn lock_told(rt: &HostRuntime, answer: &Answer) -> Result<String, Fail> {
-    let told = match answer {
-        Answer::Locked(info) => format!(in rt.alloc(); "Locked {}", info.min)?,
-        Answer::KeyIsLocked(info) => {
-            format!(in rt.alloc(); "KeyIsLocked {} {}", text(&info.key)?, info.start)?
-        }
-        Answer::LocksRemain(info) => {
-            format!(in rt.alloc(); "LocksRemain {} {}", text(&info.key)?, info.start)?
-        }
-        other => found_told(rt, other)?,
-    };
-    Ok(told)
+// How a rollback is left, of which transaction, and whether its lock goes.
+fn rolled_back(start: u64, removes_lock: bool, left: Left) -> Short {
+    let removes = u64::from(removes_lock);
+    match left {
+        Left::Already => ("rolled back", start, removes),
+        Left::Record => ("rollback", start, removes),
+        Left::Mark => ("mark", start, removes),
+    }
 }
 
-// A refusal that names a timestamp, or what else is told.
-fn refusal_told(rt: &HostRuntime, answer: &Answer) -> Result<String, Fail> {
-    let told = match answer {
-        Answer::WriteConflict { start, commit } => {
-            format!(in rt.alloc(); "WriteConflict {start} {commit}")?
-        }
-        Answer::AlreadyCommitted { commit } => {
-            format!(in rt.alloc(); "AlreadyCommitted {commit}")?
-        }
-        Answer::CommitTsExpired { min } => format!(in rt.alloc(); "CommitTsExpired {min}")?,
-        Answer::BelowSafePoint { safe } => format!(in rt.alloc(); "BelowSafePoint {safe}")?,
-        Answer::FutureTimestamp { last } => format!(in rt.alloc(); "FutureTimestamp {last}")?,
-        other => lock_told(rt, other)?,
-    };
-    Ok(told)
-}
-
-pub fn told(rt: &HostRuntime, answer: &Answer) -> Result<String, Fail> {
-    let told = match answer {
-        Answer::Prewritten(min) => format!(in rt.alloc(); "Prewritten {min}")?,
-        Answer::Committed(commit) => format!(in rt.alloc(); "Committed {commit}")?,
-        Answer::Ttl(ttl) => format!(in rt.alloc(); "Ttl {ttl}")?,
-        other => refusal_told(rt, other)?,
-    };
-    Ok(told)
-}
-
-pub fn shown(rt: &HostRuntime, planned: &Planned) -> Result<String, Fail> {
-    let alloc = rt.alloc();
-    let answer = told(rt, &planned.answer)?;
-    let text = match planned.change {
-        KeyChange::Nothing => answer,
-        KeyChange::Ttl(ttl) => format!(in alloc; "{answer}, ttl {ttl}")?,
-        KeyChange::Minimum(min) => format!(in alloc; "{answer}, minimum {min}")?,
-        KeyChange::Settle {
+fn change(change: KeyChange) -> Short {
+    match change {
+        KeyChange::Nothing => SAME,
+        KeyChange::Lock(new) => new_lock(new),
+        KeyChange::Ttl(ttl) => ("ttl", u64::from(ttl), 0),
+        KeyChange::Minimum(min) => ("minimum", min.get(), 0),
+        KeyChange::Commit {
             commit,
             overlapped_rollback,
-        } => format!(in alloc; "{answer}, settle {commit} {overlapped_rollback}")?,
+        } => ("commit", commit.get(), u64::from(overlapped_rollback)),
         KeyChange::RollBack {
             start,
-            removed,
+            removes_lock,
             left,
-        } => format!(in alloc; "{answer}, roll back {start} {removed:?} {left:?}")?,
-    };
-    Ok(text)
+        } => rolled_back(start.get(), removes_lock, left),
+    }
 }
 
-pub fn new_lock(rt: &HostRuntime, planned: &LockPlanned) -> Result<String, Fail> {
-    let answer = told(rt, &planned.answer)?;
-    let text = match &planned.lock {
-        None => answer,
-        Some(lock) => format!(in rt.alloc(); "{answer}, lock {:?} {}", lock.mode, lock.min)?,
-    };
-    Ok(text)
+/// The answer and the change.
+pub fn plan(given: &Planned) -> (Short, Short) {
+    (planned(&given.answer), change(given.change))
 }
 
-pub fn read(rt: &HostRuntime, plan: &ReadPlan) -> Result<String, Fail> {
-    let answer = told(rt, &plan.answer)?;
-    Ok(format!(in rt.alloc(); "{answer}, read {}", plan.max_read)?)
+/// The answer, and the timestamp that was read, or 0.
+pub fn read(given: &Planned) -> (Short, u64) {
+    let at = match given.read {
+        Some(at) => at.get(),
+        None => 0,
+    };
+    (planned(&given.answer), at)
 }

@@ -1,33 +1,33 @@
-use Rattle.std.proofs.Common.{inl, inr, refl}
+use Rattle.std.proofs.Common.{inl, inr}
 use Rattle.tx_plan.specs.declared.answer.Answer.TheVariants.{Committed}
-use Rattle.tx_plan.proofs.Orders.{not_below, not_true}
+use Rattle.tx_plan.proofs.Orders.{not_below}
+use Rattle.tx_plan.proofs.LockCommits.{refused_commit, not_refused, commit_applies}
 use Rattle.tx_plan.proofs.plan.commit.plan_commit.Goals as goal
 
-pub returns-in-Ok-clause-answers : goal.returns-in-Ok-clause-answers
-returns-in-Ok-clause-answers g c =
+pub returns-in-Some-commit_refusal-clause-answers : goal.returns-in-Some-commit_refusal-clause-answers
+returns-in-Some-commit_refusal-clause-answers c cells shows =
     let b = c.args.body.now in
-    let own = c.in-Some.ensures in
-    let settled = c.in-Ok.ensures in
-    inr (not_below b.start c.args.collected c.if-lt.ensures, inl (own.lock, own.stands, settled.answers own.lock (Committed b.commit) own.stands))
+    let own = c.in-Some.ensures cells b.commit shows in
+    let refuses = c.in-Some-commit_refusal.ensures cells shows own in
+    rw c.given-in-Some-commit_refusal.ensures (inr (not_below b.start c.args.collected c.if-lt.ensures, inl (own.lock, own.stands, refuses.decides (Committed b.commit))))
 
-pub returns-in-Err-clause-answers : goal.returns-in-Err-clause-answers
-returns-in-Err-clause-answers g c =
+pub returns-in-Some-commit_refusal-clause-leaves : goal.returns-in-Some-commit_refusal-clause-leaves
+returns-in-Some-commit_refusal-clause-leaves c cells shows =
     let b = c.args.body.now in
-    let own = c.in-Some.ensures in
-    let settled = c.in-Err.ensures in
-    rw c.told-in-Err.ensures (inr (not_below b.start c.args.collected c.if-lt.ensures, inl (own.lock, own.stands, settled.answers own.lock (Committed b.commit) own.stands)))
+    let own = c.in-Some.ensures cells b.commit shows in
+    let refuses = c.in-Some-commit_refusal.ensures cells shows own in
+    rw c.given-in-Some-commit_refusal.ensures (refused_commit cells b c.in-Some-commit_refusal.refusal refuses.refusal)
 
-pub returns-in-Some-own_commit-clause-answers : goal.returns-in-Some-own_commit-clause-answers
-returns-in-Some-own_commit-clause-answers g c =
+pub returns-in-None-clause-answers : goal.returns-in-None-clause-answers
+returns-in-None-clause-answers c cells shows =
     let b = c.args.body.now in
-    rw c.told-in-Some-own_commit.ensures (inr (not_below b.start c.args.collected c.if-lt.ensures, inr (c.in_default.ensures, inl (c.in-Some-own_commit.commit, c.in-Some-own_commit.ensures, refl))))
+    let own = c.in-Some.ensures cells b.commit shows in
+    let may = c.in-None.ensures cells shows own in
+    rw c.changes.ensures (inr (not_below b.start c.args.collected c.if-lt.ensures, inl (own.lock, own.stands, not_refused cells b.start b.commit c.in-Some.lock own may (Committed b.commit))))
 
-pub returns-then-is_rolled_back-clause-answers : goal.returns-then-is_rolled_back-clause-answers
-returns-then-is_rolled_back-clause-answers g c =
+pub returns-in-None-clause-applies : goal.returns-in-None-clause-applies
+returns-in-None-clause-applies c cells shows =
     let b = c.args.body.now in
-    rw c.told-then-is_rolled_back.ensures (inr (not_below b.start c.args.collected c.if-lt.ensures, inr (c.in_default.ensures, inr (c.in_default-own_commit.ensures, inl (c.is_rolled_back.ensures.0 c.if-is_rolled_back.true, refl)))))
-
-pub returns-clause-answers : goal.returns-clause-answers
-returns-clause-answers g c =
-    let b = c.args.body.now in
-    rw c.told-2.ensures (inr (not_below b.start c.args.collected c.if-lt.ensures, inr (c.in_default.ensures, inr (c.in_default-own_commit.ensures, inr (λ own. not_true c.is_rolled_back.result c.if-is_rolled_back.false (c.is_rolled_back.ensures.1 own), refl)))))
+    let own = c.in-Some.ensures cells b.commit shows in
+    let may = c.in-None.ensures cells shows own in
+    rw (c.changes.ensures, c.commit_lock.ensures cells b.start shows) (commit_applies cells b.start b.commit c.in-Some.lock own may)

@@ -1,106 +1,53 @@
-use Rattle.std.proofs.Common.{◌≤◌, inl, inr, refl, sym, ap, ◌∙◌, arith}
-use Rattle.std.proofs.lemmas.Map.Keys.{ge_from_not_lt}
-use Rattle.tx_plan.specs.declared.answer.Answer.TheVariants.{Prewritten, KeyIsLocked}
-use Rattle.tx_plan.proofs.Orders.{not_below, is_below, not_true}
-use Rattle.tx_plan.proofs.ReadPlans.{info_kept}
-use Rattle.tx_plan.proofs.Checking.{locked_stays}
+use Rattle.std.proofs.Common.{inl, inr, refl, sym, ap, ◌∙◌}
+use Rattle.tx_plan.specs.declared.answer.Answer.TheVariants.{Prewritten}
+use Rattle.tx_plan.specs.Views.{named_in, info_on}
+use Rattle.tx_plan.proofs.Orders.{not_below, not_true}
+use Rattle.tx_plan.proofs.Seen.{own_commit, no_commit, newest, none_above, no_lock}
 use Rattle.tx_plan.proofs.plan.prewrite.plan_prewrite.Goals as goal
 
-pub returns-then-lt-clause-answers : goal.returns-then-lt-clause-answers
-returns-then-lt-clause-answers g c = rw c.told.ensures (inl (is_below c.args.body.now.start c.args.safe c.if-lt.ensures, refl))
-
-pub returns-then-lt-2-clause-answers : goal.returns-then-lt-2-clause-answers
-returns-then-lt-2-clause-answers g c =
-    let b = c.args.body.now in
-    rw c.told-then-lt-2.ensures (inr (not_below b.start c.args.safe c.if-lt.ensures, inl (is_below c.args.loaded b.start c.if-lt-2.ensures, refl)))
-
 pub returns-in-Some-clause-answers : goal.returns-in-Some-clause-answers
-returns-in-Some-clause-answers g c =
+returns-in-Some-clause-answers c cells commit shows =
     let b = c.args.body.now in
-    let own = c.in-Some.ensures in
-    rw c.told-in-Some.ensures (inr (
-      not_below b.start c.args.safe c.if-lt.ensures,
-      inr (
-        not_below c.args.loaded b.start c.if-lt-2.ensures,
-        inl (own.lock, own.stands, ap Prewritten (c.named_minimum.ensures own.lock own.keeps)),
-      ),
-    ))
-
-pub returns-in-Some-clause-leaves : goal.returns-in-Some-clause-leaves
-returns-in-Some-clause-leaves g c =
-    let own = c.in-Some.ensures in
-    rw c.told-in-Some.ensures (locked_stays (g.K.KeyCells.cells c.args.cells.now) c.args.body.now own.lock c.named_minimum.result own.stands.stands)
-
-pub returns-then-is_rolled_back-clause-answers : goal.returns-then-is_rolled_back-clause-answers
-returns-then-is_rolled_back-clause-answers g c =
-    let b = c.args.body.now in
-    rw c.told-then-is_rolled_back.ensures (inr (
-      not_below b.start c.args.safe c.if-lt.ensures,
-      inr (
-        not_below c.args.loaded b.start c.if-lt-2.ensures,
-        inr (
-          c.in_default.ensures,
-          inl (c.is_rolled_back.ensures.0 c.if-is_rolled_back.true, refl),
-        ),
-      ),
-    ))
+    let own = c.in-Some.ensures cells commit shows in
+    rw (c.given-in-Some.ensures, c.named_minimum.ensures) (inr (not_below b.start c.args.safe c.if-lt.ensures, inr (not_below c.args.loaded b.start c.if-lt-2.ensures, inl (own.lock, own.stands, ap Prewritten (ap named_in own.shown)))))
 
 pub returns-in-Some-own_commit-clause-answers : goal.returns-in-Some-own_commit-clause-answers
-returns-in-Some-own_commit-clause-answers g c =
+returns-in-Some-own_commit-clause-answers c cells commit shows =
     let b = c.args.body.now in
-    rw c.told-in-Some-own_commit.ensures (inr (
+    rw c.given-in-Some-own_commit.ensures (inr (
       not_below b.start c.args.safe c.if-lt.ensures,
       inr (
         not_below c.args.loaded b.start c.if-lt-2.ensures,
         inr (
-          c.in_default.ensures,
+          c.in_default.ensures cells commit shows,
           inr (
-            λ own. not_true c.is_rolled_back.result c.if-is_rolled_back.false (c.is_rolled_back.ensures.1 own),
-            inl (c.in-Some-own_commit.commit, c.in-Some-own_commit.ensures, refl),
-          ),
-        ),
-      ),
-    ))
-
-pub returns-in-Some-lock-clause-answers : goal.returns-in-Some-lock-clause-answers
-returns-in-Some-lock-clause-answers g c =
-    let b = c.args.body.now in
-    let has = c.in-Some-lock.ensures in
-    rw c.told-in-Some-lock.ensures (inr (
-      not_below b.start c.args.safe c.if-lt.ensures,
-      inr (
-        not_below c.args.loaded b.start c.if-lt-2.ensures,
-        inr (
-          c.in_default.ensures,
-          inr (
-            λ own. not_true c.is_rolled_back.result c.if-is_rolled_back.false (c.is_rolled_back.ensures.1 own),
-            inr (
-              c.in_default-own_commit.ensures,
-              inl (has.lock, has.stands, ap KeyIsLocked (c.in_ok-info.ensures.ok ∙ info_kept b.key c.in-Some-lock.lock.now has.lock has.keeps)),
-            ),
+            λ own. not_true c.is_rolled_back.result c.if-is_rolled_back.false ((c.is_rolled_back.ensures cells commit shows).1 own),
+            inl (c.in-Some-own_commit.commit, own_commit cells b.start commit c.args.view.now shows c.in-Some-own_commit.commit c.in-Some-own_commit.is, refl),
           ),
         ),
       ),
     ))
 
 pub returns-in-Some-newest_above-clause-answers : goal.returns-in-Some-newest_above-clause-answers
-returns-in-Some-newest_above-clause-answers g c =
+returns-in-Some-newest_above-clause-answers c cells commit shows =
     let b = c.args.body.now in
-    let newest = c.in-Some-newest_above.ensures in
+    let view = c.args.view.now in
     let at = c.in-Some-newest_above.newest in
-    rw c.told-in-Some-newest_above.ensures (inr (
+    let found = newest cells b.start commit view shows at c.in-Some-newest_above.is in
+    let free = no_lock cells b.start commit view shows (sym c.is_some.ensures ∙ c.if-is_some.false) in
+    rw c.given-in-Some-newest_above.ensures (inr (
       not_below b.start c.args.safe c.if-lt.ensures,
       inr (
         not_below c.args.loaded b.start c.if-lt-2.ensures,
         inr (
-          c.in_default.ensures,
+          c.in_default.ensures cells commit shows,
           inr (
-            λ own. not_true c.is_rolled_back.result c.if-is_rolled_back.false (c.is_rolled_back.ensures.1 own),
+            λ own. not_true c.is_rolled_back.result c.if-is_rolled_back.false ((c.is_rolled_back.ensures cells commit shows).1 own),
             inr (
-              c.in_default-own_commit.ensures,
+              no_commit cells b.start commit view shows c.in_default-own_commit.is,
               inr (
-                λ lock stands. (cc (c.in_default-lock.ensures, stands)),
-                inl (record { at = at.commit; rec = newest.rec; stands = newest.stands; above = newest.above }, (at.start, at.commit, newest, refl)),
+                λ lock stands. (cc (free, stands)),
+                inl (record { at = at.commit; rec = found.rec; stands = found.stands; above = found.above }, (at.start, at.commit, found, refl)),
               ),
             ),
           ),
@@ -109,32 +56,26 @@ returns-in-Some-newest_above-clause-answers g c =
     ))
 
 pub returns-clause-answers : goal.returns-clause-answers
-returns-clause-answers g c =
+returns-clause-answers c cells commit shows =
     let b = c.args.body.now in
+    let view = c.args.view.now in
+    let free = no_lock cells b.start commit view shows (sym c.is_some.ensures ∙ c.if-is_some.false) in
     inr (
       not_below b.start c.args.safe c.if-lt.ensures,
       inr (
         not_below c.args.loaded b.start c.if-lt-2.ensures,
         inr (
-          c.in_default.ensures,
+          c.in_default.ensures cells commit shows,
           inr (
-            λ own. not_true c.is_rolled_back.result c.if-is_rolled_back.false (c.is_rolled_back.ensures.1 own),
+            λ own. not_true c.is_rolled_back.result c.if-is_rolled_back.false ((c.is_rolled_back.ensures cells commit shows).1 own),
             inr (
-              c.in_default-own_commit.ensures,
+              no_commit cells b.start commit view shows c.in_default-own_commit.is,
               inr (
-                λ lock stands. (cc (c.in_default-lock.ensures, stands)),
-                inr (c.in_default-newest_above.ensures, c.lock_key.ensures.answers),
+                λ lock stands. (cc (free, stands)),
+                inr (none_above cells b.start commit view shows c.in_default-newest_above.is, c.lock_key.ensures.answers (info_on cells b.key)),
               ),
             ),
           ),
         ),
       ),
     )
-
-pub returns-clause-leaves : goal.returns-clause-leaves
-returns-clause-leaves g c = c.lock_key.ensures.leaves (g.K.KeyCells.cells c.args.cells.now) c.in_default-lock.ensures
-
-pub lock_key-requires-clause-room : goal.lock_key-requires-clause-room
-lock_key-requires-clause-room g c =
-    let upto : c.args.body.now.start ≤ c.args.loaded = ge_from_not_lt c.args.loaded c.args.body.now.start (sym c.if-lt-2.ensures) in
-    omega (arith, upto, c.requires.room)
