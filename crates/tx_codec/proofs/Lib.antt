@@ -9,3 +9,4 @@ pub mod Numerals
 pub mod Parts
 pub mod KeyLists
 pub mod LockParts
+pub mod OneSpelling

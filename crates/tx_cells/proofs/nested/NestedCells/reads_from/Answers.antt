@@ -1,0 +1,19 @@
+use Rattle.std.proofs.Common.{sym, subst, ◌∙◌, ◌&&◌, true}
+use Rattle.std.proofs.Math.Bool.{and-true}
+use Rattle.std.specs.Ordering.{nat_cmp, is_le}
+use Rattle.std.specs.Cmp.Lexicographic.{slice_cmp}
+use Rattle.tx_types.specs.declared.key.Key.{Key}
+use Rattle.tx_types.specs.Keys.{key_le}
+use Rattle.tx_plan.specs.Walks.{IsWalk}
+use Rattle.tx_cells.specs.Contents.{cells_in}
+use Rattle.tx_cells.specs.Nested.{nested_content, key_rows}
+use Rattle.tx_cells.proofs.NestedRows.{filter_walk, filter_same}
+use Rattle.tx_cells.proofs.nested.NestedCells.reads_from.Goals as goal
+
+pub returns-clause-walk : goal.returns-clause-walk
+returns-clause-walk c =
+    let from = c.args.from.now in
+    let es = c.args.self.now.keys.entries in
+    subst (λ w. IsWalk (cells_in (nested_content c.args.self.now)) (key_le from) (key_rows w))
+      (filter_same (key_le from) (λ (k : Key). key_le from k && true) (λ k. sym (and-true (key_le from k))) es ∙ sym (c.range.ensures.between tt))
+      (filter_walk (key_le from) es c.range.ensures.ordered)

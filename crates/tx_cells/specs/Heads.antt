@@ -1,0 +1,52 @@
+-- What is asked of lock records and write records.
+use Rattle.std.specs.Prelude.{ℕ, Bool, true, false}
+use Rattle.tx_types.specs.Kinds.{stored_kind}
+use Rattle.tx_types.specs.Locks.{mode_of}
+use Rattle.tx_types.specs.declared.value.StoredValue.{StoredValue}
+use Rattle.tx_types.specs.declared.value.StoredValue.TheVariants.{Inline, InDefault}
+use Rattle.tx_types.specs.declared.mutation.StoredMutation.{StoredMutation}
+use Rattle.tx_types.specs.declared.mutation.StoredMutation.TheVariants.{Put, Delete, Lock}
+use Rattle.tx_types.specs.declared.lock.LockRec.{LockRec}
+use Rattle.tx_types.specs.declared.write.WriteRec.{WriteRec}
+use Rattle.tx_types.specs.declared.write.WriteRec.TheVariants as stored
+use Rattle.tx_plan.specs.declared.view.RecordHead.{RecordHead}
+use Rattle.tx_plan.specs.declared.view.RecordHead.TheVariants as head
+use Rattle.tx_plan.specs.declared.view.LockHead.{LockHead}
+
+-- the head of a write record, and of a lock record
+abbrev pub write_head : WriteRec → RecordHead
+write_head (stored.Commit rec) = head.Commit (stored_kind rec.mutation) rec.start rec.overlapped_rollback
+write_head (stored.Rollback start) = head.Rollback
+
+abbrev pub lock_head : LockRec → LockHead
+lock_head rec = record { start = rec.start; min = rec.min; ttl = rec.ttl; kind = stored_kind rec.mutation; mode = mode_of rec.mode }
+
+-- whether a write record is a rollback
+abbrev pub is_rollback : WriteRec → Bool
+is_rollback (stored.Commit rec) = false
+is_rollback (stored.Rollback start) = true
+
+-- the start of the transaction of a write record
+abbrev pub start_in : WriteRec → ℕ
+start_in (stored.Commit rec) = rec.start
+start_in (stored.Rollback start) = start
+
+-- whether a write record has the mark
+abbrev pub is_marked : WriteRec → Bool
+is_marked (stored.Commit rec) = rec.overlapped_rollback
+is_marked (stored.Rollback start) = false
+
+-- whether a mutation puts a value that is kept apart from its record, in the `default` family
+abbrev pub is_apart : StoredValue → Bool
+is_apart (Inline v) = false
+is_apart InDefault = true
+
+abbrev pub keeps_apart : StoredMutation → Bool
+keeps_apart (Put v) = is_apart v
+keeps_apart Delete = false
+keeps_apart Lock = false
+
+-- the same of a write record
+abbrev pub write_keeps_apart : WriteRec → Bool
+write_keeps_apart (stored.Commit rec) = keeps_apart rec.mutation
+write_keeps_apart (stored.Rollback start) = false

@@ -1,0 +1,94 @@
+//! What a read sees of its key.
+ghost use Rattle.std.specs.Prelude.{◌≡◌, IfOk, IfErr};
+ghost use Rattle.std.specs.BTreeMap as tree;
+ghost use Rattle.tx_plan.specs.Reads.{Reads};
+ghost use Rattle.tx_plan.specs.Views.{ShowsRead};
+ghost use Rattle.tx_cells.specs.Contents.{cells_of};
+ghost use Rattle.tx_cells.specs.Spelt.{version_cmp};
+ghost use Rattle.tx_cells.specs.Histories.{IsSeen, value_kept};
+
+use super::FlatCells;
+use super::searches::{FlatHistory, head_on};
+use crate::history::{Seen, seen_at};
+use crate::spelling::VersionBytes;
+use std::alloc::Global;
+use std::collections::BTreeMap;
+use tx_plan::ReadView;
+use tx_types::{CommitRec, Fault, Key, StoredMutation, StoredValue, Ts, Value, WriteRec};
+
+/// The value that a record of this version's transaction keeps.
+fn stored_value(
+    values: &BTreeMap<VersionBytes, Value>,
+    version: &VersionBytes,
+    value: StoredValue,
+) -> Result<Option<Value>, Fault>
+    ensures value { IfOk result (λ found. found ≡ value_kept (tree.get version_cmp values.now version.now) value) }
+    ensures err { IfErr result (λ e. e ≡ Fault.OutOfMemory) }
+{
+    match value {
+        StoredValue::Inline(value) => Ok(Some(value.as_value().clone()?)),
+        StoredValue::InDefault => match values.get(version) {
+            Some(value) => Ok(Some(value.clone()?)),
+            None => Ok(None),
+        },
+    }
+}
+
+impl FlatCells {
+    ghost use Rattle.tx_cells.specs.Flats.{flat_content};
+
+    // The value that a read at this timestamp sees by this record of the version's key, the newest put or delete.
+    fn value_of(
+        &self,
+        alloc: Global,
+        mut version: VersionBytes,
+        at: Ts,
+        seen: Seen,
+    ) -> Result<Option<Value>, Fault>
+        requires { IsSeen (flat_content self.now version.0).write at seen.commit seen.start seen.kind }
+        ensures value { IfOk result (λ value. Reads (cells_of (flat_content self.now version.0)).write at value) }
+        ensures err { IfErr result (λ e. e ≡ Fault.OutOfMemory) }
+    {
+        let _ = at;
+        version.set_at(seen.commit);
+        let rec = match self.writes.get(&version) {
+            Some(bytes) => bytes.read(alloc)?,
+            None => return Ok(None),
+        };
+        let WriteRec::Commit(rec) = rec else {
+            return Ok(None);
+        };
+        let CommitRec {
+            mutation,
+            start,
+            ..
+        } = rec;
+        match mutation {
+            StoredMutation::Put(value) => {
+                version.set_at(start);
+                stored_value(&self.values, &version, value)
+            }
+            StoredMutation::Delete | StoredMutation::Lock => Ok(None),
+        }
+    }
+
+    /// What a read at this timestamp sees of its key.
+    pub(crate) fn read_of(&self, alloc: Global, key: &Key, at: Ts) -> Result<ReadView, Fault>
+        ensures shows { IfOk result (λ view. ShowsRead (cells_of (flat_content self.now key.now)) at view) }
+        ensures err { IfErr result (λ e. e ≡ Fault.OutOfMemory) }
+    {
+        let lock = head_on(&self.locks, alloc, key)?;
+        let version = VersionBytes::new(alloc, key, at)?;
+        let mut history = FlatHistory {
+            writes: &self.writes,
+            version,
+        };
+        match seen_at(&mut history, at) {
+            Some(seen) => {
+                let value = self.value_of(alloc, history.version, at, seen)?;
+                Ok(ReadView { lock, value })
+            }
+            None => Ok(ReadView { lock, value: None }),
+        }
+    }
+}

@@ -1,0 +1,103 @@
+//! Look-ups in what is held under keys and versions. The versions of a key are from the newest to the oldest.
+ghost use Rattle.std.specs.Prelude.{◌≡◌, ◌≤◌, ℕ, None, Some, IfSome, IfNone, IsSome, IfOk, IfErr, option_map};
+ghost use Rattle.std.specs.BTreeMap as tree;
+ghost use Rattle.std.specs.Ordering.{nat_cmp};
+ghost use Rattle.std.specs.Cmp.Lexicographic.{slice_cmp};
+ghost use Rattle.tx_cells.specs.Spelt.{version_cmp};
+ghost use Rattle.tx_cells.specs.Heads.{write_head, lock_head};
+
+use crate::history::History;
+use crate::records::{LockBytes, WriteBytes};
+use crate::spelling::{KeyBytes, VersionBytes};
+use std::alloc::Global;
+use std::collections::BTreeMap;
+use tx_plan::{LockHead, RecordHead};
+use tx_types::{Fault, Key, Ts};
+
+/// What is asked of a write record.
+pub(super) fn head_of(bytes: &WriteBytes) -> RecordHead
+    ensures { result ≡ write_head bytes.now }
+{
+    if bytes.is_rollback() {
+        return RecordHead::Rollback;
+    }
+    RecordHead::Commit {
+        kind: bytes.kind(),
+        start: bytes.start(),
+        overlapped_rollback: bytes.is_marked(),
+    }
+}
+
+/// What is asked of a lock.
+pub(super) fn lock_head_of(bytes: &LockBytes) -> LockHead
+    ensures { result ≡ lock_head bytes.now }
+{
+    LockHead {
+        start: bytes.start(),
+        min: bytes.min(),
+        ttl: bytes.ttl(),
+        kind: bytes.kind(),
+        mode: bytes.mode(),
+    }
+}
+
+/// What is asked of the lock on this key.
+pub(super) fn head_on(
+    locks: &BTreeMap<KeyBytes, LockBytes>,
+    alloc: Global,
+    key: &Key,
+) -> Result<Option<LockHead>, Fault>
+    ensures ok { IfOk result (λ head. head ≡ option_map lock_head (tree.get (slice_cmp nat_cmp) locks.now key.now)) }
+    ensures err { IfErr result (λ e. e ≡ Fault.OutOfMemory) }
+{
+    let key = KeyBytes::new(alloc, key)?;
+    match locks.get(&key) {
+        Some(bytes) => Ok(Some(lock_head_of(bytes))),
+        None => Ok(None),
+    }
+}
+
+/// What is asked of the record of this version.
+pub(super) fn head_at(
+    writes: &BTreeMap<VersionBytes, WriteBytes>,
+    version: &VersionBytes,
+) -> Option<RecordHead>
+    ensures { result ≡ option_map write_head (tree.get version_cmp writes.now version.now) }
+{
+    match writes.get(version) {
+        Some(bytes) => Some(head_of(bytes)),
+        None => None,
+    }
+}
+
+/// What is asked of the record nearest to a version of its key, at its timestamp or below.
+fn head_upto(
+    writes: &BTreeMap<VersionBytes, WriteBytes>,
+    bound: &VersionBytes,
+) -> Option<(Ts, RecordHead)>
+    ensures found { IfSome result (λ x. (x.0 ≤ bound.now.1) × (option_map write_head (tree.get version_cmp writes.now (bound.now.0, x.0)) ≡ Some x.1)) }
+    ensures nearest { IfSome result (λ x. (q : ℕ) → q ≤ bound.now.1 → IsSome (tree.get version_cmp writes.now (bound.now.0, q)) → q ≤ x.0) }
+    ensures none { IfNone result ((q : ℕ) → q ≤ bound.now.1 → tree.get version_cmp writes.now (bound.now.0, q) ≡ None) }
+{
+    let (version, bytes) = writes.range(bound..).next()?;
+    if !version.is_beside(bound) {
+        return None;
+    }
+    Some((version.at(), head_of(bytes)))
+}
+
+/// The write records of one key.
+#[derive(Drop)]
+pub(super) struct FlatHistory<'a> {
+    pub writes: &'a BTreeMap<VersionBytes, WriteBytes>,
+    pub version: VersionBytes,
+}
+
+impl<'a> History for FlatHistory<'a> {
+    ghost writes = { λ h c. tree.get version_cmp h.writes.now (h.version.0, c) };
+
+    fn upto(&mut self, bound: Ts) -> Option<(Ts, RecordHead)> {
+        self.version.set_at(bound);
+        head_upto(self.writes, &self.version)
+    }
+}

@@ -1,0 +1,64 @@
+//! A lock that is put.
+ghost use Rattle.std.specs.Prelude.{◌≡◌, Some, OnOk, OnErr, IfErr};
+ghost use Rattle.tx_plan.specs.Changes.{CanPut, after_put};
+ghost use Rattle.tx_cells.specs.Contents.{cells_of};
+ghost use Rattle.tx_cells.specs.Afterwards.{OnlyOn, put_on};
+
+use super::NestedCells;
+use super::key::KeyFamilies;
+use crate::putting::{apart, lock_record};
+use std::alloc::Global;
+use tx_plan::{NewLock, Prewrite};
+use tx_types::Fault;
+
+impl KeyFamilies {
+    ghost use Rattle.tx_cells.specs.Nested.{held};
+
+    // Puts the lock that a prewrite asks for. `OutOfMemory` leaves the key as it was.
+    fn put_lock(&mut self, body: &Prewrite, new: NewLock) -> Result<(), Fault>
+        requires { CanPut (cells_of (held self.old)) body.now new }
+        ensures ok { OnOk result (held self.new ≡ put_on (held self.old) body.now new) }
+        ensures same { OnErr result (held self.new ≡ held self.old) }
+        ensures err { IfErr result (λ e. e ≡ Fault.OutOfMemory) }
+    {
+        let rec = lock_record(body, new)?;
+        match apart(&body.mutation)? {
+            Some(value) => {
+                self.values.insert(body.start, value)?;
+                self.lock = Some(rec);
+                Ok(())
+            }
+            None => {
+                self.lock = Some(rec);
+                Ok(())
+            }
+        }
+    }
+}
+
+impl NestedCells {
+    ghost use Rattle.tx_cells.specs.Nested.{nested_content};
+
+    /// Puts the lock that a prewrite asks for.
+    pub(crate) fn put_lock_of(
+        &mut self,
+        alloc: Global,
+        body: &Prewrite,
+        new: NewLock,
+    ) -> Result<(), Fault>
+        requires { CanPut (cells_of (nested_content self.old body.now.key)) body.now new }
+        ensures content { OnOk result (OnlyOn body.now.key (put_on (nested_content self.old body.now.key) body.now new) (nested_content self.old) (nested_content self.new)) }
+        ensures cells { OnOk result (cells_of (nested_content self.new body.now.key) ≡ after_put (cells_of (nested_content self.old body.now.key)) body.now (Some new)) }
+        ensures same { OnErr result (nested_content self.new ≡ nested_content self.old) }
+        ensures err { IfErr result (λ e. e ≡ Fault.OutOfMemory) }
+    {
+        if let Some(on_key) = self.keys.get_mut(&body.key) {
+            return on_key.put_lock(body, new);
+        }
+        let key = body.key.clone()?;
+        let mut on_key = KeyFamilies::new(alloc);
+        on_key.put_lock(body, new)?;
+        self.keys.insert(key, on_key)?;
+        Ok(())
+    }
+}

@@ -1,0 +1,99 @@
+//! Walks over the keys, and over the locks.
+ghost use Rattle.std.specs.Prelude.{◌≡◌, [], List, IfOk, IfErr, MatchOption};
+ghost use Rattle.tx_types.specs.declared.key.Key.{Key};
+ghost use Rattle.tx_types.specs.Keys.{key_le};
+ghost use Rattle.tx_plan.specs.Cells.{Cells};
+ghost use Rattle.tx_plan.specs.Walks.{KeyRow, LockRow, IsWalk, IsLockWalk};
+
+use super::NestedCells;
+use super::key::KeyFamilies;
+use std::alloc::Global;
+use std::collections::btree_map::{Iter, Range};
+use tx_plan::{LockHead, LockWalk, ReadView, ReadWalk};
+use tx_types::{Fault, Key, LockInfo, Ts};
+
+/// A walk over keys, rising.
+#[derive(Drop)]
+pub(crate) struct NestedReads<'a> {
+    cells: &'a NestedCells,
+    keys: Range<'a, Key, KeyFamilies>,
+}
+
+impl<'a> ReadWalk for NestedReads<'a> {
+    ghost use Rattle.tx_cells.specs.Contents.{cells_in};
+    ghost use Rattle.tx_cells.specs.Nested.{nested_content, key_rows};
+
+    ghost cells = { λ w. cells_in (nested_content w.cells.now) };
+
+    ghost rest = { λ w. key_rows w.keys };
+
+    fn next(&mut self, alloc: Global, at: Ts) -> Result<Option<(Key, ReadView)>, Fault> {
+        let _ = alloc;
+        let Some((key, on_key)) = self.keys.next() else {
+            return Ok(None);
+        };
+        let view = on_key.read(at)?;
+        Ok(Some((key.clone()?, view)))
+    }
+
+    fn lock_info(&self, alloc: Global, key: &Key) -> Result<Option<LockInfo>, Fault> {
+        self.cells.lock_info_of(alloc, key)
+    }
+}
+
+/// A walk over the locks, keys rising.
+#[derive(Drop)]
+pub(crate) struct NestedLocks<'a> {
+    cells: &'a NestedCells,
+    keys: Iter<'a, Key, KeyFamilies>,
+}
+
+impl<'a> LockWalk for NestedLocks<'a> {
+    ghost use Rattle.tx_cells.specs.Contents.{cells_in};
+    ghost use Rattle.tx_cells.specs.Nested.{nested_content, lock_rows};
+
+    ghost cells = { λ w. cells_in (nested_content w.cells.now) };
+
+    ghost rest = { λ w. lock_rows w.keys };
+
+    fn next(&mut self, alloc: Global) -> Result<Option<(Key, LockHead)>, Fault> {
+        let _ = alloc;
+        'keys: while let Some((key, on_key)) = self.keys.next() {
+            if let Some(head) = on_key.lock_head() {
+                return Ok(Some((key.clone()?, head)));
+            }
+        }
+        Ok(None)
+    }
+
+    fn lock_info(&self, alloc: Global, key: &Key) -> Result<Option<LockInfo>, Fault> {
+        self.cells.lock_info_of(alloc, key)
+    }
+}
+
+impl NestedCells {
+    ghost use Rattle.tx_cells.specs.Contents.{cells_in};
+    ghost use Rattle.tx_cells.specs.Nested.{nested_content, key_rows, lock_rows};
+
+    /// A walk over the keys from this one on.
+    pub(super) fn reads_from(&self, from: &Key) -> NestedReads<'_>
+        ensures same { result.cells.now ≡ self.now }
+        ensures walk { IsWalk (cells_in (nested_content self.now)) (key_le from.now) (key_rows result.keys) }
+    {
+        NestedReads {
+            cells: self,
+            keys: self.keys.range(from..),
+        }
+    }
+
+    /// A walk over all locks.
+    pub(super) fn locks(&self) -> NestedLocks<'_>
+        ensures same { result.cells.now ≡ self.now }
+        ensures walk { IsLockWalk (cells_in (nested_content self.now)) (lock_rows result.keys) }
+    {
+        NestedLocks {
+            cells: self,
+            keys: self.keys.iter(),
+        }
+    }
+}
