@@ -1,13 +1,9 @@
 -- Small facts on options, tests, results and keys.
-use Rattle.std.proofs.Common.{◌≡◌, ◌≢◌, ◌⊎◌, inl, inr, Bool, true, false, not, is_some, cond, Option, Some, None, Result, Ok, Err, bytes_eq, refl, ap, ◌∙◌}
-use Rattle.std.specs.Prelude.{IfOk, OnErr}
+use Rattle.std.proofs.Common.{◌≡◌, ◌≢◌, ◌⊎◌, inl, inr, true, false, cond, Bool, Result, Ok, Err, bytes_eq, refl}
+use Rattle.std.specs.Prelude.{IfOk, OnOk}
 use Rattle.std.proofs.lemmas.Bool.{cases_Bool}
 use Rattle.std.proofs.lemmas.Slice.Eq.{bytes_eq-Decides}
 use Rattle.tx_types.specs.declared.key.Key.{Key}
-
--- what two options hold
-pub some_same : {X : Type 0} (x y : X) → Some x ≡ Some y → x ≡ y
-some_same x y e = cc
 
 -- a test of two keys, with what it means
 pub key_test : (a b : Key) → ((bytes_eq a b ≡ true) × (a ≡ b)) ⊎ ((bytes_eq a b ≡ false) × (a ≢ b))
@@ -29,22 +25,7 @@ pub if_ok : {T E : Type 0} (r : Result T E) (P Q : T → Type 0) → ((x : T) �
 if_ok (Ok x) P Q step p = step x p
 if_ok (Err e) P Q step p = tt
 
--- by two things that are known of it
-pub if_ok_both : {T E : Type 0} (r : Result T E) (P Q R : T → Type 0) → ((x : T) → P x → Q x → R x) → IfOk r P → IfOk r Q → IfOk r R
-if_ok_both (Ok x) P Q R step p q = step x p q
-if_ok_both (Err e) P Q R step p q = tt
-
--- what holds at an error, by what is known there
-pub on_err : {T E : Type 0} (r : Result T E) (P Q : Type 0) → (P → Q) → OnErr r P → OnErr r Q
-on_err (Ok x) P Q step p = tt
-on_err (Err e) P Q step p = step p
-
--- what always holds, holds at an error
-pub always_err : {T E : Type 0} (r : Result T E) (P : Type 0) → P → OnErr r P
-always_err (Ok x) P p = tt
-always_err (Err e) P p = p
-
--- nothing is there, where a test says so
-pub none_there : {X : Type 0} (o : Option X) (b : Bool) → is_some o ≡ not b → b ≡ true → o ≡ None
-none_there None b told test = refl
-none_there (Some x) b told test = absurd (cc (told ∙ ap not test))
+-- what holds where a result is no error, by two things that are known there
+pub on_ok_both : {T E : Type 0} (r : Result T E) (P Q R : Type 0) → (P → Q → R) → OnOk r P → OnOk r Q → OnOk r R
+on_ok_both (Ok x) P Q R step p q = step p q
+on_ok_both (Err e) P Q R step p q = tt

@@ -1,5 +1,3 @@
-pub mod Basics
-pub mod KeySearches
-pub mod MapChanges
-pub mod Settles
-pub mod RegionCells
+mod Basics
+mod Carrying
+mod Taking

@@ -1,3 +1,3 @@
-pub mod Dated
-pub mod Placed
 pub mod Regions
+pub mod Calls
+pub mod Taking

@@ -1,12 +1,10 @@
-//! One region: what stands on its keys, in maps, and the calls by which requests are answered and change it, as the case
-//! tables of `tx_plan` have it.
+//! One region. Its records answer each request by its case table, over any families. `Region` joins them with a seat of the journal:
+//! each answer is one event of its seat.
 #![tactic(auto)]
 
-mod cells;
-mod locking;
+mod commands;
+mod records;
 mod region;
-mod searches;
-#[cfg(test)]
-mod tests;
 
+pub use records::Records;
 pub use region::Region;

@@ -1,112 +1,171 @@
-//! The region's calls.
-//!
-//! An example, on a key where nothing stands, after a read at 7. A prewrite of an async transaction that started at 4 puts a
-//! lock with the minimum 8: a get at 7 gives nothing, and one at 8 meets the lock. The commit at 9 takes the lock away and
-//! leaves a commit record at 9: a get at 9 gives the value, and one at 8 nothing.
-ghost use Rattle.std.specs.Prelude.{◌≡◌, ◌<◌, ◌≤◌, ℕ, max, IfOk, IfErr, OnErr};
-ghost use Rattle.tx_plan.specs.Cells.{new_region, with_max_read};
-ghost use Rattle.tx_plan.specs.Answers.{AnswersLeast, leaves};
-ghost use Rattle.tx_plan.specs.declared.body.Body.TheVariants as request;
-ghost use Rattle.tx_plan.specs.cases.Get.{AnswersGet, leaves_get};
-ghost use Rattle.tx_region.specs.Regions.{region_of};
+//! A region: a seat and records, which are what the seat's own events left.
+ghost use Rattle.std.specs.Prelude.{◌≡◌, ◌≤◌, ◌↔◌, ℕ, [], length, IsTrue, IfOk, IfErr, IfSome, IfNone};
+ghost use Rattle.tx_types.specs.declared.key.Key.{Key};
+ghost use Rattle.tx_plan.specs.declared.body.Body.{Body};
+ghost use Rattle.tx_plan.specs.declared.answer.Answer.{Answer};
+ghost use Rattle.tx_cells.specs.Contents.{nothing_held};
+ghost use Rattle.tx_core.specs.declared.event.Taken.{Taken as TakenOf};
+ghost use Rattle.tx_core.specs.declared.event.Event.TheVariants as events;
+ghost use Rattle.tx_core.specs.Histories.{last, left, Begins};
+ghost use Rattle.tx_core.specs.Recording.{MayRecord, part};
+ghost use Rattle.tx_core.specs.Worlds.{Holds};
+ghost use Rattle.tx_journal.specs.Known.{greatest_ts, HasSeen, HasRecorded};
+ghost use Rattle.tx_region.specs.Taking.{Answered};
 
-use crate::cells::OneKey;
+use crate::records::Records;
 use std::alloc::Global;
-use std::collections::BTreeMap;
-use tx_plan::{Answer, Commit, Get, Prewrite, ReadPlan, plan_commit, plan_get};
+use std::marker::Model;
+use tx_cells::{Families, KeyCopy};
+use tx_core::{Answer, Body, Event, RegionNo, SeatNo, Taken};
+use tx_journal::{Journal, Naming, Reply, Request, Seat, Told};
 use tx_types::{Fault, Key, Ts};
 
-/// What stands on the keys of a region, the greatest timestamp that was read in it, its safe point, and the safe point of
-/// the last collection. Contracts see the region of the case tables by `region_of`.
-#[derive(Debug, Drop)]
-pub struct Region {
-    alloc: Global,
-    keys: BTreeMap<Key, OneKey>,
-    max_read: Ts,
-    safe: Ts,
-    collected: Ts,
+/// A region of the journal `J`. Contracts see its seat: its number, its ticks and the events that it knows.
+pub struct Region<J: Naming, F: Families> {
+    journal: Journal<J>,
+    seat: Seat<J>,
+    records: Records<F>,
 }
 
-impl Region {
-    /// A region in which nothing happened.
-    pub fn new(alloc: Global) -> Region
-        ensures region { region_of result ≡ new_region }
-        ensures read { result.max_read ≡ 0 }
+impl<J: Naming, F: Families> Model for Region<J, F> {
+    ghost use Rattle.std.specs.Prelude.{◌≡◌, ◌≤◌, length};
+    ghost use Rattle.tx_core.specs.Histories.{left};
+    ghost use Rattle.tx_journal.specs.Known.{Known};
+    ghost use Rattle.tx_region.specs.Regions.{region_of};
+
+    ghost Value = { Known };
+
+    ghost view = { λ r. r.seat };
+
+    ghost invariant = { λ r. (region_of F.content r.records ≡ left r.seat.events r.seat.seat) × (r.seat.seat ≤ length J.bounds) };
+}
+
+// The request and the answer of an event that a region took.
+fn parts_of(event: Event) -> (Body, Answer)
+    requires { (x : TakenOf) × (event ≡ events.Took x) }
+    ensures { (x : TakenOf) → event ≡ events.Took x → (result.0 ≡ x.body) × (result.1 ≡ x.answer) }
+{
+    match event {
+        Event::Took(taken) => (taken.body, taken.answer),
+        _ => unreachable!(),
+    }
+}
+
+// Records that the region of this seat, which loaded `loaded`, answered a request so, and hands back what was asked and
+// answered.
+fn record_taken<J: Naming>(
+    seat: &mut Seat<J>,
+    loaded: Ts,
+    body: Body,
+    answer: Answer,
+) -> (Body, Answer)
+    requires { MayRecord J.bounds seat.old.seat seat.old.events (events.Took record { region = seat.old.seat; body = body; loaded = loaded; answer = answer }) }
+    ensures parts { (result.0 ≡ body) × (result.1 ≡ answer) }
+    ensures same { (seat.new.seat ≡ seat.old.seat) × (seat.new.ticks ≡ seat.old.ticks) }
+    ensures added { HasRecorded J.bounds seat.old.seat seat.old.events (events.Took record { region = seat.old.seat; body = body; loaded = loaded; answer = answer }) seat.new.events }
+{
+    let region = RegionNo::new(seat.number().get());
+    let event = Event::Took(Taken {
+        region,
+        body,
+        loaded,
+        answer,
+    });
+    seat.record(&event);
+    parts_of(event)
+}
+
+impl<J: Naming, F: Families> Region<J, F> {
+    /// A region in which nothing happened, with the next seat of its journal.
+    pub fn new(alloc: Global, journal: Journal<J>, seat: Seat<J>, families: F) -> Region<J, F>
+        requires seat { (seat.events ≡ []) × (seat.seat ≤ length J.bounds) }
+        requires empty { (k : Key) → F.content families k ≡ nothing_held }
+        ensures { result ≡ seat }
     {
         Region {
-            alloc,
-            keys: BTreeMap::new(alloc),
-            max_read: Ts::ZERO,
-            safe: Ts::ZERO,
-            collected: Ts::ZERO,
+            journal,
+            seat,
+            records: Records::new(alloc, families),
         }
     }
 
-    /// Answers a Get, by a seat that loaded `loaded`. It raises the greatest timestamp read. `OutOfMemory` leaves the
-    /// region as it was.
-    pub fn get(&mut self, loaded: Ts, body: &Get) -> Result<Answer, Fault>
-        ensures ok { IfOk result (λ a. AnswersLeast (region_of self.old) loaded (request.Get body.now) a × (region_of self.new ≡ leaves (region_of self.old) (request.Get body.now) a)) }
-        ensures read { self.new.max_read ≤ max self.old.max_read loaded }
-        ensures same { OnErr result (region_of self.new ≡ region_of self.old) }
-        ensures err { IfErr result (λ e. e ≡ Fault.OutOfMemory) }
+    /// Its number.
+    pub fn number(&self) -> SeatNo
+        ensures { result ≡ self.now.seat }
     {
-        let plan = self.read_plan(loaded, body)?;
-        self.max_read = plan.max_read;
-        Ok(plan.answer)
+        self.seat.number()
     }
 
-    // What the region makes of a Get.
-    fn read_plan(&self, loaded: Ts, body: &Get) -> Result<ReadPlan, Fault>
-        ensures answer { IfOk result (λ plan. AnswersGet ((region_of self.now).cells body.now.key) self.now.safe loaded body.now plan.answer) }
-        ensures leaves { IfOk result (λ plan. leaves_get (region_of self.now) body.now plan.answer ≡ with_max_read (region_of self.now) plan.max_read) }
-        ensures err { IfErr result (λ e. e ≡ Fault.OutOfMemory) }
+    /// What it knows.
+    pub fn tell(&mut self) -> Told<J>
+        ensures same { self.new ≡ self.old }
+        ensures told { result ≡ self.old.events }
     {
-        let (safe, max_read) = (self.safe, self.max_read);
-        match self.keys.get(&body.key) {
-            Some(cells) => plan_get(self.alloc, cells, safe, loaded, max_read, body),
-            None => {
-                let cells = OneKey::new(self.alloc);
-                plan_get(self.alloc, &cells, safe, loaded, max_read, body)
+        self.seat.tell()
+    }
+
+    /// A copy of what was told.
+    pub fn copy(&self, told: &mut Told<J>) -> Told<J>
+        ensures same { told.new ≡ told.old }
+        ensures copy { result ≡ told.old }
+    {
+        self.seat.copy(told)
+    }
+
+    /// Knows the longer of what it knows and what was told.
+    pub fn learn(&mut self, told: Told<J>)
+        ensures same { (self.new.seat ≡ self.old.seat) × (self.new.ticks ≡ self.old.ticks) }
+        ensures seen { HasSeen J.bounds self.old.seat self.old.events self.new.events }
+        ensures told { Begins told self.new.events }
+        ensures own { part self.old.seat self.new.events ≡ part self.old.seat self.old.events }
+    {
+        self.seat.learn(told);
+    }
+
+    // Knows what was told, and then the last number that was drawn.
+    fn load(&mut self, told: &mut Told<J>) -> Ts
+        ensures told { told.new ≡ told.old }
+        ensures same { (self.new.seat ≡ self.old.seat) × (self.new.ticks ≡ self.old.ticks) }
+        ensures seen { HasSeen J.bounds self.old.seat self.old.events self.new.events }
+        ensures heard { Begins told.old self.new.events }
+        ensures last { (result ≡ last self.new.events) × (result ≤ greatest_ts) }
+    {
+        let told = self.seat.copy(told);
+        self.seat.learn(told);
+        self.seat.last()
+    }
+
+    /// Answers a request that it holds, and records that it did, by one event; where memory is refused it does neither.
+    pub fn take(&mut self, request: Request<J>) -> Reply<J>
+        requires holds { Holds J.bounds self.old.seat request.body }
+        ensures request { result.request ≡ request }
+        ensures same { (self.new.seat ≡ self.old.seat) × (self.new.ticks ≡ self.old.ticks) }
+        ensures told { self.new.events ≡ result.events }
+        ensures answered { IfSome result.answer (Answered J.bounds self.old.seat self.old.events result) }
+        ensures refused { IfNone result.answer (HasSeen J.bounds self.old.seat self.old.events self.new.events) }
+    {
+        let (mut by, body) = request.into_parts();
+        let loaded = self.load(&mut by);
+        match self.records.answer(loaded, &body) {
+            Err(_) => {
+                let told = self.seat.tell();
+                Reply::new(Request::new(by, body), None, told)
+            }
+            Ok(answer) => {
+                let (body, answer) = record_taken(&mut self.seat, loaded, body, answer);
+                let told = self.seat.tell();
+                Reply::new(Request::new(by, body), Some(answer), told)
             }
         }
     }
+}
 
-    /// Answers a Prewrite, by a seat that loaded `loaded`, and puts the lock. `OutOfMemory` leaves the region as it was.
-    pub fn prewrite(&mut self, loaded: Ts, body: Prewrite) -> Result<Answer, Fault>
-        requires room { (loaded < u64.MAX) × (self.old.max_read < u64.MAX) }
-        ensures ok { IfOk result (λ a. AnswersLeast (region_of self.old) loaded (request.Prewrite body) a × (region_of self.new ≡ leaves (region_of self.old) (request.Prewrite body) a)) }
-        ensures read { self.new.max_read ≡ self.old.max_read }
-        ensures same { OnErr result (region_of self.new ≡ region_of self.old) }
-        ensures err { IfErr result (λ e. e ≡ Fault.OutOfMemory) }
-    {
-        let (alloc, safe, max_read) = (self.alloc, self.safe, self.max_read);
-        if let Some(cells) = self.keys.get_mut(&body.key) {
-            return cells.prewrite(alloc, safe, loaded, max_read, body);
-        }
-        let key = body.key.clone()?;
-        let mut cells = OneKey::new(alloc);
-        let answer = cells.prewrite(alloc, safe, loaded, max_read, body)?;
-        if cells.lock.is_none() {
-            return Ok(answer);
-        }
-        self.keys.insert(key, cells)?;
-        Ok(answer)
-    }
-
-    /// Answers a Commit, and settles the lock. `OutOfMemory` leaves the region as it was.
-    pub fn commit(&mut self, body: &Commit) -> Result<Answer, Fault>
-        ensures ok { IfOk result (λ a. (loaded : ℕ) → AnswersLeast (region_of self.old) loaded (request.Commit body.now) a × (region_of self.new ≡ leaves (region_of self.old) (request.Commit body.now) a)) }
-        ensures read { self.new.max_read ≡ self.old.max_read }
-        ensures same { OnErr result (region_of self.new ≡ region_of self.old) }
-        ensures err { IfErr result (λ e. e ≡ Fault.OutOfMemory) }
-    {
-        let collected = self.collected;
-        match self.keys.get_mut(&body.key) {
-            Some(cells) => cells.commit(collected, body),
-            None => {
-                let cells = OneKey::new(self.alloc);
-                Ok(plan_commit(&cells, collected, body).answer)
-            }
-        }
+impl<J: Naming, F: Families + Drop> Drop for Region<J, F> {
+    fn drop(self) {
+        let Self {
+            journal: _,
+            seat: _,
+            records: _,
+        } = self;
     }
 }

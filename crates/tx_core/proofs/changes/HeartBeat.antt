@@ -3,7 +3,7 @@ use Rattle.std.proofs.Common.{◌≡◌, ◌≢◌, ℕ, inl, inr, Some, None, r
 use Rattle.tx_types.specs.declared.key.Key.{Key}
 use Rattle.tx_machine.specs.Keys.{mutation_at}
 use Rattle.tx_plan.specs.Cells.{Lock, Cells, with_lock}
-use Rattle.tx_plan.specs.Traces.{on_own_lock}
+use Rattle.tx_plan.specs.Own.{on_own_lock}
 use Rattle.tx_core.specs.Histories.{set_of, is_first}
 use Rattle.tx_core.proofs.Basics.{some_same}
 use Rattle.tx_core.proofs.view.View.{View, IsLock, IsAlone, Inv, Held}

@@ -2,7 +2,7 @@
 use Rattle.std.proofs.Common.{◌≡◌, ◌≢◌, ℕ, ◌⊎◌, inl, inr, cond, Option, Some, None, bytes_eq, refl, sym, ap, subst, ◌∙◌}
 use Rattle.tx_types.specs.declared.key.Key.{Key}
 use Rattle.tx_plan.specs.Cells.{Lock, CommitRecord, CommitOf, Cells}
-use Rattle.tx_plan.specs.Traces.{on_own_lock}
+use Rattle.tx_plan.specs.Own.{on_own_lock}
 use Rattle.tx_core.proofs.Basics.{nat_test, key_test, some_same}
 use Rattle.tx_core.proofs.view.View.{View, OnCells, Records, Kept, Inv}
 

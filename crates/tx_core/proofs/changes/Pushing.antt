@@ -3,7 +3,7 @@ use Rattle.std.proofs.Common.{◌≡◌, ◌≢◌, ℕ, ◌≤◌, ◌==◌, �
 use Rattle.std.proofs.lemmas.Bool.{eq-eqb}
 use Rattle.tx_types.specs.declared.key.Key.{Key}
 use Rattle.tx_plan.specs.Cells.{Lock, Cells, with_lock}
-use Rattle.tx_plan.specs.Traces.{OwnLock, OwnRollback, on_own_lock}
+use Rattle.tx_plan.specs.Own.{OwnLock, OwnRollback, on_own_lock}
 use Rattle.tx_core.specs.Histories.{set_of, is_first}
 use Rattle.tx_core.proofs.Basics.{nat_test, key_test, cond_true, cond_false, some_same}
 use Rattle.tx_core.proofs.view.View.{View, OnCells, IsLock, IsAlone, Inv, IsPrimary, IsCommitted, FellBack, Held, one_first, first_within, does_declared}

@@ -9,7 +9,7 @@ use Rattle.tx_types.specs.declared.mutation.Mode.TheVariants as mode
 use Rattle.tx_plan.specs.declared.body.Body.TheVariants.{Prewrite, Commit, BatchRollback, RaiseSafe, Collect}
 use Rattle.tx_plan.specs.declared.answer.Answer.TheVariants.{Prewritten, Committed, RolledBack, Raised, Collected, BelowSafePoint}
 use Rattle.tx_plan.specs.Cells.{Write, CommitOf, Rollback}
-use Rattle.tx_plan.specs.Traces.{OwnCommit}
+use Rattle.tx_plan.specs.Own.{OwnCommit}
 use Rattle.tx_plan.specs.cases.Collect.{IsDropped, AllDropped}
 use Rattle.tx_plan.specs.cases.LocksBelow.{IsLockBelow}
 use Rattle.tx_machine.specs.declared.step.Step.TheVariants as step

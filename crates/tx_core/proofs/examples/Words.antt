@@ -5,7 +5,7 @@ use Rattle.tx_types.specs.declared.value.Value.{Value}
 use Rattle.tx_types.specs.declared.mutation.Mutation.{Mutation}
 use Rattle.tx_types.specs.declared.mutation.Mode.TheVariants as mode
 use Rattle.tx_plan.specs.Cells.{Lock}
-use Rattle.tx_plan.specs.Traces.{OwnRollback}
+use Rattle.tx_plan.specs.Own.{OwnRollback}
 use Rattle.tx_machine.specs.Keys.{mutation_at}
 use Rattle.tx_core.specs.Histories.{History, drawer, set_at}
 use Rattle.tx_core.specs.Decisions.{Acceptance, accepted}

@@ -10,7 +10,7 @@ use Rattle.tx_plan.specs.declared.body.Prewrite.{Prewrite}
 use Rattle.tx_plan.specs.declared.answer.Answer.{Answer}
 use Rattle.tx_plan.specs.declared.answer.Answer.TheVariants.{Prewritten, Committed, RolledBack, Missing, Locked, Resolved, Ttl, Raised, Collected}
 use Rattle.tx_plan.specs.Cells.{Lock, Cells, Region, with_cells, with_lock}
-use Rattle.tx_plan.specs.Traces.{on_own_lock, without_own, roll_back, settle, settled}
+use Rattle.tx_plan.specs.Own.{on_own_lock, without_own, roll_back, settle, settled}
 use Rattle.tx_plan.specs.Answers.{leaves}
 use Rattle.tx_plan.specs.cases.Prewrite.{lock_of, leaves_prewrite}
 use Rattle.tx_plan.specs.cases.Commit.{leaves_commit}

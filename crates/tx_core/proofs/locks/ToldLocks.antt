@@ -15,7 +15,7 @@ use Rattle.tx_plan.specs.declared.body.CheckTxnStatus.{CheckTxnStatus}
 use Rattle.tx_plan.specs.declared.answer.Answer.{Answer}
 use Rattle.tx_plan.specs.declared.answer.Answer.TheVariants.{Locked}
 use Rattle.tx_plan.specs.Cells.{Lock, Cells, Region, info_of, with_cells, with_lock}
-use Rattle.tx_plan.specs.Traces.{OwnLock, on_own_lock}
+use Rattle.tx_plan.specs.Own.{OwnLock, on_own_lock}
 use Rattle.tx_plan.specs.Answers.{Answers, leaves}
 use Rattle.tx_plan.specs.Reads.{read_answer}
 use Rattle.tx_plan.specs.cases.ResolveLock.{ResolvesLock}

@@ -8,7 +8,7 @@ use Rattle.tx_plan.specs.declared.body.Body.TheVariants.{Get, Scan, Prewrite, Co
 use Rattle.tx_plan.specs.declared.answer.Answer.{Answer}
 use Rattle.tx_plan.specs.declared.answer.Answer.TheVariants.{Raised, Collected}
 use Rattle.tx_plan.specs.Cells.{Cells, Region, no_cells, with_cells}
-use Rattle.tx_plan.specs.Traces.{OwnCommit}
+use Rattle.tx_plan.specs.Own.{OwnCommit}
 use Rattle.tx_plan.specs.Answers.{AnswersBy, AnswersLeast, leaves}
 use Rattle.tx_plan.specs.cases.Prewrite.{least_minimum}
 use Rattle.tx_plan.specs.cases.Collect.{keeps, kept}

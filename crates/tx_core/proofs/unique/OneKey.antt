@@ -18,7 +18,7 @@ use Rattle.tx_plan.specs.declared.answer.Answer.TheVariants.{Prewritten, KeyIsLo
 use Rattle.tx_plan.specs.Tables.{Case}
 use Rattle.tx_plan.specs.Cells.{Lock, CommitRecord, CommitOf, Writes, Cells, info_of}
 use Rattle.tx_plan.specs.Reads.{read_answer}
-use Rattle.tx_plan.specs.Traces.{OwnCommit}
+use Rattle.tx_plan.specs.Own.{OwnCommit}
 use Rattle.tx_plan.specs.cases.Get.{AnswersGet}
 use Rattle.tx_plan.specs.cases.Prewrite.{IsWithin, named_minimum, NewestAbove, AnswersPrewrite}
 use Rattle.tx_plan.specs.cases.Commit.{SettlesLock, AnswersCommit}

@@ -1,0 +1,60 @@
+-- What carrying out a plan makes of a region.
+use Rattle.std.proofs.Common.{◌≡◌, ℕ, inl, inr, cond, bytes_eq, None, sym, ap, subst, ◌∙◌}
+use Rattle.tx_types.specs.declared.key.Key.{Key}
+use Rattle.tx_plan.specs.declared.answer.Answer.{Answer}
+use Rattle.tx_plan.specs.declared.planned.Planned.{Planned}
+use Rattle.tx_plan.specs.Cells.{Cells, Region, with_cells}
+use Rattle.tx_plan.specs.Changes.{changed}
+use Rattle.tx_plan.specs.Plans.{answer_with, with_read}
+use Rattle.tx_plan.specs.Views.{info_on}
+use Rattle.tx_cells.specs.Contents.{OnKey, Content, cells_of, cells_in}
+use Rattle.tx_cells.specs.Afterwards.{OnlyOn}
+use Rattle.tx_region.specs.Calls.{CarriesOut}
+use Rattle.tx_region.proofs.Basics.{key_test, cond_true, cond_false}
+
+-- the region of a content
+abbrev pub region_by : Content → ℕ → ℕ → ℕ → Region
+region_by content max_read safe collected = record { cells = cells_in content; max_read = max_read; safe = safe; collected = collected }
+
+-- the cells of each key, where families hold something else on one key
+cells_on : (before after : Content) (key : Key) (x : OnKey) (cells : Cells) → OnlyOn key x before after → cells_of (after key) ≡ cells
+    → (q : Key) → cells_of (after q) ≡ cond (bytes_eq key q) cells (cells_of (before q))
+cells_on before after key x cells only put q =
+    elim (key_test key q) [
+      | inl t ↦ ap (λ (k : Key). cells_of (after k)) (sym t.1) ∙ (put ∙ sym (cond_true _ _ _ t.0))
+      | inr t ↦ ap cells_of (only.others q (λ e. t.1 (sym e))) ∙ sym (cond_false _ _ _ t.0)
+    ]
+
+-- so one key of the region has other cells
+pub region_put : (before after : Content) (m s c : ℕ) (key : Key) (x : OnKey) (cells : Cells) → OnlyOn key x before after → cells_of (after key) ≡ cells
+    → region_by after m s c ≡ with_cells (region_by before m s c) key cells
+region_put before after m s c key x cells only put =
+    λ i. record { cells = λ q. cells_on before after key x cells only put q i; max_read = m; safe = s; collected = c }
+
+-- a region whose families hold the same
+pub region_same : (before after : Content) (m s c : ℕ) → after ≡ before → region_by after m s c ≡ region_by before m s c
+region_same before after m s c same = ap (λ x. region_by x m s c) same
+
+-- a key that gets the cells that it had
+pub with_same : (region : Region) (key : Key) → with_cells region key (region.cells key) ≡ region
+with_same region key = λ i. record { cells = λ q. at q i; max_read = region.max_read; safe = region.safe; collected = region.collected }
+  where
+    at : (q : Key) → cond (bytes_eq key q) (region.cells key) (region.cells q) ≡ region.cells q
+    at q =
+        elim (key_test key q) [
+          | inl t ↦ cond_true _ _ _ t.0 ∙ ap region.cells t.1
+          | inr t ↦ cond_false _ _ _ t.0
+        ]
+
+-- ---- a command that changes one key, by its table and what its answers leave of the cells
+
+-- a plan that reads nothing is carried out as its table has it
+pub on_key : (before after : Region) (key : Key) (planned : Planned) (a : Answer) (Table : Cells → Answer → Type 0) (left : Cells → Answer → Cells)
+    → CarriesOut before key planned a after → planned.read ≡ None
+    → Table (before.cells key) (answer_with (info_on (before.cells key) key) planned.answer)
+    → changed (before.cells key) planned.change ≡ left (before.cells key) (answer_with (info_on (before.cells key) key) planned.answer)
+    → Table (before.cells key) a × (after ≡ with_cells before key (left (before.cells key) a))
+on_key before after key planned a Table left out unread answers leaves = (
+  subst (λ x. Table (before.cells key) x) (sym out.answer) answers,
+  out.leaves ∙ (ap (λ r. with_read (with_cells before key (changed (before.cells key) planned.change)) r) unread ∙ ap (λ x. with_cells before key x) (leaves ∙ ap (λ x. left (before.cells key) x) (sym out.answer))),
+)

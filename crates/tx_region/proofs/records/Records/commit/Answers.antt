@@ -1,0 +1,20 @@
+use Rattle.tx_plan.specs.cases.Commit.{AnswersCommit, leaves_commit}
+use Rattle.tx_region.specs.Regions.{region_of}
+use Rattle.tx_region.proofs.Basics.{if_ok}
+use Rattle.tx_region.proofs.Carrying.{on_key}
+use Rattle.tx_region.proofs.records.Records.commit.Goals as goal
+
+pub carry_out-requires : goal.carry_out-requires
+carry_out-requires g c = c.plan_commit-planned.ensures.applies _ c.in_ok-view.ensures.shows
+
+pub returns-clause-ok : goal.returns-clause-ok
+returns-clause-ok g c =
+    let content = g.F.Families.content in
+    let before = region_of content c.args.self.now in
+    let b = c.args.body.now in
+    let cells = before.cells b.key in
+    let plan = c.plan_commit-planned.ensures in
+    let shows = c.in_ok-view.ensures.shows in
+    λ loaded. if_ok c.carry_out.result _ _ (λ a out.
+    let done = on_key before (region_of content c.carry_out.new.self) b.key c.plan_commit-planned.result a (λ x y. AnswersCommit x before.collected b y) (λ x y. leaves_commit x b y) out plan.unread (plan.answers cells shows) (plan.leaves cells shows) in
+    record { answers = done.0; leaves = done.1 }) c.carry_out.ensures.ok

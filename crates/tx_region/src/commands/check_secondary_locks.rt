@@ -1,0 +1,25 @@
+//! CheckSecondaryLocks: what there is of an async transaction on a key; where there is nothing, there never will be.
+ghost use Rattle.std.specs.Prelude.{◌≡◌, ℕ, IfOk, IfErr, OnErr};
+ghost use Rattle.tx_plan.specs.declared.body.Body.TheVariants as request;
+ghost use Rattle.tx_region.specs.Regions.{region_of};
+ghost use Rattle.tx_region.specs.Calls.{Executes};
+
+use crate::records::Records;
+use tx_cells::Families;
+use tx_plan::{Answer, CheckSecondaryLocks, plan_check_secondary_locks};
+use tx_types::Fault;
+
+impl<F: Families> Records<F> {
+    /// Answers a CheckSecondaryLocks. `OutOfMemory` leaves the region as it was.
+    pub fn check_secondary_locks(&mut self, body: &CheckSecondaryLocks) -> Result<Answer, Fault>
+        ensures ok { (loaded : ℕ) → IfOk result (λ a. Executes (region_of F.content self.old) loaded (request.CheckSecondaryLocks body.now) a (region_of F.content self.new)) }
+        ensures same { OnErr result (region_of F.content self.new ≡ region_of F.content self.old) }
+        ensures err { IfErr result (λ e. e ≡ Fault.OutOfMemory) }
+    {
+        let view = self
+            .families
+            .view(self.alloc, &body.key, body.start, body.start)?;
+        let planned = plan_check_secondary_locks(&view, self.collected, body);
+        self.carry_out(&body.key, planned)
+    }
+}

@@ -1,0 +1,30 @@
+//! Collect: the region drops the records below its safe point that no read needs any more.
+ghost use Rattle.std.specs.Prelude.{◌≡◌, ℕ, IfOk, IfErr, OnErr};
+ghost use Rattle.tx_plan.specs.declared.body.Body.TheVariants as request;
+ghost use Rattle.tx_region.specs.Regions.{region_of};
+ghost use Rattle.tx_region.specs.Calls.{Executes};
+
+use crate::records::Records;
+use tx_cells::{Dropped, Families};
+use tx_plan::{Answer, Collect};
+use tx_types::Fault;
+
+impl<F: Families> Records<F> {
+    /// Answers a Collect. `OutOfMemory` leaves the region as it was: what is dropped is counted before the first drop.
+    pub fn collect(&mut self, body: &Collect) -> Result<Answer, Fault>
+        ensures ok { (loaded : ℕ) → IfOk result (λ a. Executes (region_of F.content self.old) loaded (request.Collect body.now) a (region_of F.content self.new)) }
+        ensures same { OnErr result (region_of F.content self.new ≡ region_of F.content self.old) }
+        ensures err { IfErr result (λ e. e ≡ Fault.OutOfMemory) }
+    {
+        if body.safe != self.safe {
+            return Ok(Answer::BelowSafePoint { safe: self.safe });
+        }
+        if let Some(info) = self.families.first_below(self.alloc, body.safe)? {
+            return Ok(Answer::LocksRemain(info));
+        }
+        let Dropped { records, values } = self.families.count_below(self.alloc, body.safe)?;
+        self.families.drop_below(body.safe);
+        self.collected = body.safe;
+        Ok(Answer::Collected { records, values })
+    }
+}

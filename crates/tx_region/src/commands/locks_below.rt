@@ -1,0 +1,21 @@
+//! LocksBelow: the locks of the region that started below a timestamp.
+ghost use Rattle.std.specs.Prelude.{◌≡◌, ℕ, IfOk, IfErr, OnErr};
+ghost use Rattle.tx_plan.specs.declared.body.Body.TheVariants as request;
+ghost use Rattle.tx_region.specs.Regions.{region_of};
+ghost use Rattle.tx_region.specs.Calls.{Executes};
+
+use crate::records::Records;
+use tx_cells::Families;
+use tx_plan::{Answer, LocksBelow};
+use tx_types::Fault;
+
+impl<F: Families> Records<F> {
+    /// Answers a LocksBelow. Nothing changes.
+    pub fn locks_below(&self, body: &LocksBelow) -> Result<Answer, Fault>
+        ensures ok { (loaded : ℕ) → IfOk result (λ a. Executes (region_of F.content self.now) loaded (request.LocksBelow body.now) a (region_of F.content self.now)) }
+        ensures err { IfErr result (λ e. e ≡ Fault.OutOfMemory) }
+    {
+        let infos = self.families.locks_below(self.alloc, body.safe)?;
+        Ok(Answer::Locks(infos))
+    }
+}

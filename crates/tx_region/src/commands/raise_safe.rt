@@ -1,0 +1,20 @@
+//! RaiseSafe: the region's safe point rises.
+ghost use Rattle.tx_plan.specs.declared.body.Body.TheVariants as request;
+ghost use Rattle.tx_region.specs.Regions.{region_of};
+ghost use Rattle.tx_region.specs.Calls.{Executes};
+
+use crate::records::Records;
+use tx_cells::Families;
+use tx_plan::{Answer, RaiseSafe, SafePlan, plan_raise_safe};
+use tx_types::Ts;
+
+impl<F: Families> Records<F> {
+    /// Answers a RaiseSafe, by a seat that loaded `loaded`. It takes no memory.
+    pub fn raise_safe(&mut self, loaded: Ts, body: &RaiseSafe) -> Answer
+        ensures { Executes (region_of F.content self.old) loaded (request.RaiseSafe body.now) result (region_of F.content self.new) }
+    {
+        let SafePlan { answer, safe } = plan_raise_safe(self.safe, loaded, body);
+        self.safe = safe;
+        answer
+    }
+}
