@@ -19,7 +19,7 @@ use Rattle.tx_cells.specs.Afterwards.{after}
 use Rattle.tx_cells.proofs.CellsAfter.{LockAlone, cells_after}
 
 pub dated_in : (x : OnKey) → IsWhole x → AreDated x.write
-dated_in x w c rec e = w.sound.write_dated c _ (stands_commit x c rec e)
+dated_in x w c rec e = w.sound.commit_above c _ (stands_commit x c rec e)
 
 pub dated : (x : OnKey) → ∥ IsWhole x ∥₁ → AreDated x.write
 dated x t c rec e = ∥∥₁_elim t le_prop (λ w. dated_in x w c rec e)
@@ -47,7 +47,7 @@ pub whole_at : {K : Type 0} (on : K → OnKey) → ∥ ((key : K) → IsWhole (o
 whole_at on t key = ∥∥₁_map t (λ w. w key)
 
 pub lock_alone : (x : OnKey) → ∥ IsWhole x ∥₁ → LockAlone x
-lock_alone x t lock c e own = ∥∥₁_elim t (λ a b. absurd a) (λ w. w.sound.lock_alone lock c e own)
+lock_alone x t lock c e own = ∥∥₁_elim t (λ a b. absurd a) (λ w. w.sound.uncommitted lock c e own)
 
 -- what is held of a key after a step that keeps what it meets
 pub stays_whole : (x y z : OnKey) → ∥ IsWhole x ∥₁ → (IsWhole x → IsWhole y) → z ≡ y → ∥ IsWhole z ∥₁

@@ -41,9 +41,9 @@ bytes_flip : (a b : Key) → bytes_eq a b ≡ bytes_eq b a
 bytes_flip a b = elim (cases_Bool (bytes_eq a b)) [
   | inl e ↦ e ∙ sym ((bytes_eq-Decides b a).1 (sym ((bytes_eq-Decides a b).0 e)))
   | inr e ↦ elim (cases_Bool (bytes_eq b a)) [
-      | inl f ↦ (let back : bytes_eq a b ≡ true = (bytes_eq-Decides a b).1 (sym ((bytes_eq-Decides b a).0 f)) in absurd (cc (e, back)))
-      | inr f ↦ e ∙ sym f
-    ]
+    | inl f ↦ (let back : bytes_eq a b ≡ true = (bytes_eq-Decides a b).1 (sym ((bytes_eq-Decides b a).0 f)) in absurd (cc (e, back)))
+    | inr f ↦ e ∙ sym f
+  ]
 ]
 
 at_is : (k j : Key) → is_eq (slice_cmp nat_cmp k j) ≡ bytes_eq j k

@@ -24,10 +24,10 @@ use Rattle.tx_plan.specs.Cells.{is_long}
 use Rattle.tx_plan.specs.Changes.{Applies, IsLeft, IsRemoved, CommitsAt, CanPut, changed, after_put}
 use Rattle.tx_cells.specs.Heads.{keeps_apart}
 use Rattle.tx_cells.specs.Contents.{OnKey, cells_of, lock_of, IsWhole, IsKept, LockKeeps, WriteKeeps}
-use Rattle.tx_cells.specs.Sound.{IsSound}
+use Rattle.tx_plan.specs.Sound.{IsSound}
 use Rattle.tx_cells.specs.Afterwards.{after, after_left, with_lock, with_ttl, with_min, with_record, without_value, with_value, with_mark, marked, on_lock, commit_of, put_on, lock_put, stored_of, apart_of}
 use Rattle.tx_cells.proofs.Showing.{stands_commit}
-use Rattle.tx_cells.proofs.SoundAfter.{sound_after, sound_put}
+use Rattle.tx_plan.proofs.Sound.{sound_changed, sound_put}
 use Rattle.tx_cells.proofs.CellsAfter.{cells_after, cells_put, without_apart, with_apart, alone, uncommitted}
 
 -- the timestamps of a change fit
@@ -103,7 +103,7 @@ module _ (x : OnKey) (rec : LockRec) (c : ℕ) (o : Bool) (w : IsWhole x) (e : x
 
   none_here : (r : CommitRec) → x.write c ≡ Some (Commit r) → ⊥
   none_here r f = elim (cases_eq r.start can.lock.start) [
-    | inl own ↦ w.sound.lock_alone can.lock c can.stands (record { rec = _; stands = stands_commit x c r f; own = own })
+    | inl own ↦ w.sound.uncommitted can.lock c can.stands (record { rec = _; stands = stands_commit x c r f; own = own })
     | inr other ↦ can.unconflicted _ (record { stands = stands_commit x c r f; other = other })
   ]
 
@@ -174,7 +174,7 @@ left_on x t left.Record w is q b e = (b, put_elsewhere x.write t q (Rollback t) 
   where
     not_here : q ≡ t → ⊥
     not_here same = elim (cases_eq b.start t) [
-      | inl own ↦ (let d = w.sound.write_dated q _ (stands_commit x q b e) in omega (arith, d, own, same))
+      | inl own ↦ (let d = w.sound.commit_above q _ (stands_commit x q b e) in omega (arith, d, own, same))
       | inr other ↦ is _ (record { stands = stands_commit x t b (ap x.write (sym same) ∙ e); other = other })
     ]
 left_on x t left.Mark w is q b e = elim (cases_Bool (t == q)) [
@@ -221,7 +221,7 @@ module _ (x : OnKey) (t : ℕ) (how : Left) (w : IsWhole x) (is : IsLeft (cells_
     lock_kept = λ r f. absurd (cc f);
     write_kept = λ q r f. (
         let b = left_back x.write t how q r f in
-        let apart = without_apart x.value t r.start (λ own. alone x t w.sound.lock_alone removed q b.0 b.1 (b.2.start ∙ own)) in
+        let apart = without_apart x.value t r.start (λ own. alone x t w.sound.uncommitted removed q b.0 b.1 (b.2.start ∙ own)) in
         subst (λ (v : Option Value). IsKept v r.mutation) (sym apart) (kept_before q r f));
     value_kept = λ s there. (
         let other : s ≡ t → ⊥ = λ same. there (ap (λ b. cond b None (x.value s)) (eq-eqb t s (sym same))) in
@@ -248,7 +248,7 @@ pub on_same : (x : OnKey) (rec : LockRec) (f : LockRec → OnKey) → x.lock ≡
 on_same x rec f e = ap (λ (o : Option LockRec). elim o [ None ↦ x | Some r ↦ f r ]) e
 
 pub whole_after : (x : OnKey) (made : KeyChange) → IsWhole x → Applies (cells_of x) made → Fits made → IsWhole (after x made)
-whole_after x made w applies fits = go made applies fits (subst IsSound (sym (cells_after x made w.sound.lock_alone applies)) (sound_after (cells_of x) made w.sound applies))
+whole_after x made w applies fits = go made applies fits (subst IsSound (sym (cells_after x made w.sound.uncommitted applies)) (sound_changed (cells_of x) made w.sound applies))
   where
     go : (k : KeyChange) → Applies (cells_of x) k → Fits k → IsSound (cells_of (after x k)) → IsWhole (after x k)
     go change.Nothing applies fits sound = w

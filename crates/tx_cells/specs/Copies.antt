@@ -1,5 +1,6 @@
 -- What is shown of a key.
 use Rattle.std.specs.Prelude.{◌≡◌, ◌↔◌, ℕ, ◌<◌, List, [], ◌∷◌, Option, Some, Contains, IsSome, option_map}
+use Rattle.tx_types.specs.declared.write.WriteRec.{WriteRec}
 use Rattle.tx_plan.specs.declared.view.RecordHead.{RecordHead}
 use Rattle.tx_cells.specs.declared.copies.RecordAt.{RecordAt}
 use Rattle.tx_cells.specs.declared.copies.KeyCopy.{KeyCopy}
@@ -15,6 +16,10 @@ AreFalling (x ∷ y ∷ times) = (y < x) × AreFalling (y ∷ times)
 abbrev pub times_of : List RecordAt → List ℕ
 times_of [] = []
 times_of (x ∷ xs) = x.at ∷ times_of xs
+
+-- what is shown of a write record
+abbrev pub record_at : ℕ × WriteRec → RecordAt
+record_at e = record { at = e.0; head = write_head e.1 }
 
 -- it shows the head of the lock, the write records from the newest on, and the starts of the values that are kept apart, from the
 -- newest on

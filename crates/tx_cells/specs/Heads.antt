@@ -12,6 +12,7 @@ use Rattle.tx_types.specs.declared.write.WriteRec.TheVariants as stored
 use Rattle.tx_plan.specs.declared.view.RecordHead.{RecordHead}
 use Rattle.tx_plan.specs.declared.view.RecordHead.TheVariants as head
 use Rattle.tx_plan.specs.declared.view.LockHead.{LockHead}
+use Rattle.tx_plan.specs.declared.key_records.RecordKind.{RecordKind}
 
 -- the head of a write record, and of a lock record
 abbrev pub write_head : WriteRec → RecordHead
@@ -50,3 +51,13 @@ keeps_apart Lock = false
 abbrev pub write_keeps_apart : WriteRec → Bool
 write_keeps_apart (stored.Commit rec) = keeps_apart rec.mutation
 write_keeps_apart (stored.Rollback start) = false
+
+-- what collection asks of a mutation, and of a write record
+abbrev pub mutation_kind : StoredMutation → RecordKind
+mutation_kind (Put v) = record { puts = true; is_seen = true; has_long_value = is_apart v }
+mutation_kind Delete = record { puts = false; is_seen = true; has_long_value = false }
+mutation_kind Lock = record { puts = false; is_seen = false; has_long_value = false }
+
+abbrev pub record_kind : WriteRec → RecordKind
+record_kind (stored.Commit rec) = mutation_kind rec.mutation
+record_kind (stored.Rollback start) = record { puts = false; is_seen = false; has_long_value = false }

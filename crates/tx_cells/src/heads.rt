@@ -1,9 +1,9 @@
 //! What is asked of records that are kept as they are.
 ghost use Rattle.std.specs.Prelude.{◌≡◌, option_map};
-ghost use Rattle.tx_cells.specs.Heads.{write_head, lock_head};
+ghost use Rattle.tx_cells.specs.Heads.{write_head, lock_head, is_apart, keeps_apart, record_kind};
 
-use tx_plan::{LockHead, RecordHead};
-use tx_types::{LockRec, WriteRec};
+use tx_plan::{LockHead, RecordHead, RecordKind};
+use tx_types::{LockRec, StoredMutation, StoredValue, WriteRec};
 
 /// What is asked of a write record.
 pub(crate) fn head_of(rec: &WriteRec) -> RecordHead
@@ -39,5 +39,56 @@ pub(crate) fn head_on(lock: &Option<LockRec>) -> Option<LockHead>
     match lock {
         Some(rec) => Some(lock_head_of(rec)),
         None => None,
+    }
+}
+
+/// Whether the value is kept apart from its record.
+fn is_apart(value: &StoredValue) -> bool
+    ensures { result ≡ is_apart value.now }
+{
+    match value {
+        StoredValue::Inline(_) => false,
+        StoredValue::InDefault => true,
+    }
+}
+
+/// Whether the mutation puts a value that is kept apart.
+pub(crate) fn keeps_apart(mutation: &StoredMutation) -> bool
+    ensures { result ≡ keeps_apart mutation.now }
+{
+    match mutation {
+        StoredMutation::Put(value) => is_apart(value),
+        StoredMutation::Delete => false,
+        StoredMutation::Lock => false,
+    }
+}
+
+/// What collection asks of a write record.
+pub(crate) fn kind_of(rec: &WriteRec) -> RecordKind
+    ensures { result ≡ record_kind rec.now }
+{
+    let WriteRec::Commit(rec) = rec else {
+        return RecordKind {
+            puts: false,
+            is_seen: false,
+            has_long_value: false,
+        };
+    };
+    match &rec.mutation {
+        StoredMutation::Put(value) => RecordKind {
+            puts: true,
+            is_seen: true,
+            has_long_value: is_apart(value),
+        },
+        StoredMutation::Delete => RecordKind {
+            puts: false,
+            is_seen: true,
+            has_long_value: false,
+        },
+        StoredMutation::Lock => RecordKind {
+            puts: false,
+            is_seen: false,
+            has_long_value: false,
+        },
     }
 }

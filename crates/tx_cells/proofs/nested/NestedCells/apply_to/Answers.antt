@@ -18,7 +18,7 @@ returns-in-Some-clause-content c =
     let new = tree.get (slice_cmp nat_cmp) (c.get_mut.follows.lender c.apply.new.self) in
     let there : old key ≡ Some c.in-Some.on_key.now = sym c.in-Some.ensures.value in
     on_ok c.apply.result _ _ (λ ok. placed old new key (Some c.apply.new.self) (after (held_on (old key)) c.args.change) ((c.get_mut.follows.holds c.apply.new.self).3 (rw there refl)).0
-        (ok ∙ ap (λ (o : Option KeyFamilies). after (held_on o) c.args.change) (sym there))) c.apply.ensures.ok
+    (ok ∙ ap (λ (o : Option KeyFamilies). after (held_on o) c.args.change) (sym there))) c.apply.ensures.ok
 
 pub returns-in-Some-clause-cells : goal.returns-in-Some-clause-cells
 returns-in-Some-clause-cells c =
@@ -27,7 +27,7 @@ returns-in-Some-clause-cells c =
     let new = tree.get (slice_cmp nat_cmp) (c.get_mut.follows.lender c.apply.new.self) in
     let there : old key ≡ Some c.in-Some.on_key.now = sym c.in-Some.ensures.value in
     on_ok c.apply.result _ _ (λ cells. ap (λ (o : Option KeyFamilies). cells_of (held_on o)) (at_key old new key (Some c.apply.new.self) ((c.get_mut.follows.holds c.apply.new.self).3 (rw there refl)).0)
-        ∙ cells ∙ ap (λ (o : Option KeyFamilies). changed (cells_of (held_on o)) c.args.change) (sym there)) c.apply.ensures.cells
+    ∙ cells ∙ ap (λ (o : Option KeyFamilies). changed (cells_of (held_on o)) c.args.change) (sym there)) c.apply.ensures.cells
 
 pub returns-in-Some-clause-same : goal.returns-in-Some-clause-same
 returns-in-Some-clause-same c =
@@ -36,7 +36,7 @@ returns-in-Some-clause-same c =
     let new = tree.get (slice_cmp nat_cmp) (c.get_mut.follows.lender c.apply.new.self) in
     let there : old key ≡ Some c.in-Some.on_key.now = sym c.in-Some.ensures.value in
     on_err c.apply.result _ _ (λ same. unplaced old new key (Some c.apply.new.self) ((c.get_mut.follows.holds c.apply.new.self).3 (rw there refl)).0
-        (same ∙ ap held_on (sym there))) c.apply.ensures.same
+    (same ∙ ap held_on (sym there))) c.apply.ensures.same
 
 pub apply-requires-2 : goal.apply-requires-2
 apply-requires-2 c =
@@ -52,7 +52,7 @@ returns-clause-content c =
     let new = tree.get (slice_cmp nat_cmp) c.insert.new.self in
     let absent : old key ≡ None = sym c.in_default-get_mut.ensures.value in
     first_placed old there new c.in_ok-key.key key (Some c.apply-2.new.self) (after (held_on (old key)) c.args.change) (ap (tree.get (slice_cmp nat_cmp)) c.get_mut.follows.holds-at-none) c.in_ok-key.ensures.ok c.in_ok-insert.ensures.updates.0
-      (c.in_ok-apply.ensures.ok ∙ ap (λ (x : OnKey). after x c.args.change) (c.new-on_key.ensures ∙ sym (ap held_on absent)))
+    (c.in_ok-apply.ensures.ok ∙ ap (λ (x : OnKey). after x c.args.change) (c.new-on_key.ensures ∙ sym (ap held_on absent)))
 
 pub returns-clause-cells : goal.returns-clause-cells
 returns-clause-cells c =

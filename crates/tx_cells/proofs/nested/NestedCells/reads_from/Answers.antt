@@ -15,5 +15,5 @@ returns-clause-walk c =
     let from = c.args.from.now in
     let es = c.args.self.now.keys.entries in
     subst (λ w. IsWalk (cells_in (nested_content c.args.self.now)) (key_le from) (key_rows w))
-      (filter_same (key_le from) (λ (k : Key). key_le from k && true) (λ k. sym (and-true (key_le from k))) es ∙ sym (c.range.ensures.between tt))
-      (filter_walk (key_le from) es c.range.ensures.ordered)
+    (filter_same (key_le from) (λ (k : Key). key_le from k && true) (λ k. sym (and-true (key_le from k))) es ∙ sym (c.range.ensures.between tt))
+    (filter_walk (key_le from) es c.range.ensures.ordered)

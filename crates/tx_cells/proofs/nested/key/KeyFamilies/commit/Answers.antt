@@ -38,6 +38,8 @@ invariant_of-self-2 c =
     let write : tree.get nat_cmp c.insert.new.self ≡ with_record x.write c.args.commit (Commit (commit_of c.in-Some.lock c.args.overlapped_rollback)) =
     same_maps (λ q. with_at x.write (tree.get nat_cmp c.insert.new.self) c.args.commit _ c.in_ok-insert.ensures.updates.0 q ∙ ap (λ r. with_record x.write c.args.commit r q) rec) in
     let fits : c.args.commit < 2 ^ 64 = omega (arith, c.get-ticks.ensures, c.get-ticks.type_inv) in
-    record { whole = stays_whole x (after x made) _ c.args.self.now.whole (λ w. whole_after x made w c.requires fits)
-      (ap (λ (f : ℕ → Option WriteRec). on_key None f x.value) write
-        ∙ sym (on_same x c.in-Some.lock (λ (r : LockRec). on_key None (with_record x.write c.args.commit (Commit (commit_of r c.args.overlapped_rollback))) x.value) c.in-Some.is)) }
+    record {
+      whole = stays_whole x (after x made) _ c.args.self.now.whole (λ w. whole_after x made w c.requires fits)
+          (ap (λ (f : ℕ → Option WriteRec). on_key None f x.value) write
+          ∙ sym (on_same x c.in-Some.lock (λ (r : LockRec). on_key None (with_record x.write c.args.commit (Commit (commit_of r c.args.overlapped_rollback))) x.value) c.in-Some.is));
+    }

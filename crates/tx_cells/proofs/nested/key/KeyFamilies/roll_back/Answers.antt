@@ -27,8 +27,10 @@ invariant_of-self-then-not-removes_lock c =
     let made = change.RollBack c.args.start c.args.removes_lock c.args.left in
     let stays : c.args.removes_lock ≡ false = cc (c.if-not-removes_lock.true) in
     let fits : c.args.start < 2 ^ 64 = omega (arith, c.get-ticks.ensures, c.get-ticks.type_inv) in
-    record { whole = stays_whole x (after x made) _ c.args.self.now.whole (λ w. whole_after x made w c.requires fits)
-      (ap (λ (f : ℕ → Option WriteRec). on_key x.lock f x.value) (same_maps c.in_ok-leave.ensures.ok) ∙ ap (λ (b : Bool). after x (change.RollBack c.args.start b c.args.left)) (sym stays)) }
+    record {
+      whole = stays_whole x (after x made) _ c.args.self.now.whole (λ w. whole_after x made w c.requires fits)
+          (ap (λ (f : ℕ → Option WriteRec). on_key x.lock f x.value) (same_maps c.in_ok-leave.ensures.ok) ∙ ap (λ (b : Bool). after x (change.RollBack c.args.start b c.args.left)) (sym stays));
+    }
 
 pub invariant_of-self-2 : goal.invariant_of-self-2
 invariant_of-self-2 c =
@@ -37,9 +39,11 @@ invariant_of-self-2 c =
     let goes : c.args.removes_lock ≡ true = cc (c.if-not-removes_lock.false) in
     let fits : c.args.start < 2 ^ 64 = omega (arith, c.get-ticks.ensures, c.get-ticks.type_inv) in
     let value : tree.get nat_cmp c.remove.new.self ≡ without_value x.value c.args.start = same_maps (without_at x.value (tree.get nat_cmp c.remove.new.self) c.args.start c.remove.ensures.updates.0) in
-    record { whole = stays_whole x (after x made) _ c.args.self.now.whole (λ w. whole_after x made w c.requires fits)
-      (ap (λ (f : ℕ → Option WriteRec). on_key None f (tree.get nat_cmp c.remove.new.self)) (same_maps c.in_ok-leave.ensures.ok) ∙ ap (λ (f : ℕ → Option Value). on_key None (after_left x.write c.args.start c.args.left) f) value
-        ∙ ap (λ (b : Bool). after x (change.RollBack c.args.start b c.args.left)) (sym goes)) }
+    record {
+      whole = stays_whole x (after x made) _ c.args.self.now.whole (λ w. whole_after x made w c.requires fits)
+          (ap (λ (f : ℕ → Option WriteRec). on_key None f (tree.get nat_cmp c.remove.new.self)) (same_maps c.in_ok-leave.ensures.ok) ∙ ap (λ (f : ℕ → Option Value). on_key None (after_left x.write c.args.start c.args.left) f) value
+          ∙ ap (λ (b : Bool). after x (change.RollBack c.args.start b c.args.left)) (sym goes));
+    }
 
 pub returns-clause-ok : goal.returns-clause-ok
 returns-clause-ok c =

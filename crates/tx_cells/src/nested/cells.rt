@@ -1,0 +1,70 @@
+//! What is shown of a key.
+ghost use Rattle.std.specs.Prelude.{◌≡◌, map, reverse, IfOk, IfErr};
+ghost use Rattle.std.specs.BTreeMap.{keys};
+ghost use Rattle.tx_cells.specs.Copies.{Copies, record_at};
+
+use super::NestedCells;
+use super::key::KeyFamilies;
+use crate::copies::{KeyCopy, RecordAt};
+use crate::heads::{head_of, head_on};
+use std::alloc::Global;
+use std::collections::BTreeMap;
+use tx_types::{Fault, Key, Ts, Value, WriteRec};
+
+/// The heads of the records, from the newest on.
+fn heads(alloc: Global, writes: &BTreeMap<Ts, WriteRec>) -> Result<Vec<RecordAt>, Fault>
+    ensures ok { IfOk result (λ heads. heads.items ≡ map record_at (reverse writes.now.entries)) }
+    ensures err { IfErr result (λ e. e ≡ Fault.OutOfMemory) }
+{
+    let heads = writes.iter().rev().map(|(at, rec)| RecordAt {
+        at: *at,
+        head: head_of(rec),
+    });
+    Ok(heads.collect(alloc)?)
+}
+
+/// The starts of the values, from the newest on.
+fn starts(alloc: Global, values: &BTreeMap<Ts, Value>) -> Result<Vec<Ts>, Fault>
+    ensures ok { IfOk result (λ starts. starts.items ≡ reverse (keys values.now)) }
+    ensures err { IfErr result (λ e. e ≡ Fault.OutOfMemory) }
+{
+    Ok(values.keys().rev().copied().collect(alloc)?)
+}
+
+impl KeyFamilies {
+    ghost use Rattle.tx_cells.specs.Nested.{held};
+
+    // What is shown of the key.
+    fn copy(&self, alloc: Global) -> Result<KeyCopy, Fault>
+        ensures copies { IfOk result (λ copy. Copies (held self.now) copy) }
+        ensures err { IfErr result (λ e. e ≡ Fault.OutOfMemory) }
+    {
+        let lock = head_on(&self.lock);
+        let records = heads(alloc, &self.writes)?;
+        let values = starts(alloc, &self.values)?;
+        Ok(KeyCopy {
+            lock,
+            records,
+            values,
+        })
+    }
+}
+
+impl NestedCells {
+    ghost use Rattle.tx_cells.specs.Nested.{nested_content};
+
+    /// What is shown of this key.
+    pub(crate) fn copy_of(&self, alloc: Global, key: &Key) -> Result<KeyCopy, Fault>
+        ensures copies { IfOk result (λ copy. Copies (nested_content self.now key.now) copy) }
+        ensures err { IfErr result (λ e. e ≡ Fault.OutOfMemory) }
+    {
+        match self.keys.get(key) {
+            Some(on_key) => on_key.copy(alloc),
+            None => Ok(KeyCopy {
+                lock: None,
+                records: Vec::new(alloc),
+                values: Vec::new(alloc),
+            }),
+        }
+    }
+}
