@@ -1,3 +1,4 @@
 mod Basics
 mod Carrying
 mod Taking
+mod Routes

@@ -5,6 +5,8 @@
 mod commands;
 mod records;
 mod region;
+mod routing;
 
 pub use records::Records;
 pub use region::Region;
+pub use routing::route;

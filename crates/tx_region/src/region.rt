@@ -3,7 +3,8 @@ ghost use Rattle.std.specs.Prelude.{◌≡◌, ◌≤◌, ◌↔◌, ℕ, [], le
 ghost use Rattle.tx_types.specs.declared.key.Key.{Key};
 ghost use Rattle.tx_plan.specs.declared.body.Body.{Body};
 ghost use Rattle.tx_plan.specs.declared.answer.Answer.{Answer};
-ghost use Rattle.tx_cells.specs.Contents.{nothing_held};
+ghost use Rattle.tx_cells.specs.Contents.{OnKey, cells_of, nothing_held};
+ghost use Rattle.tx_cells.specs.Copies.{Copies};
 ghost use Rattle.tx_core.specs.declared.event.Taken.{Taken as TakenOf};
 ghost use Rattle.tx_core.specs.declared.event.Event.TheVariants as events;
 ghost use Rattle.tx_core.specs.Histories.{last, left, Begins};
@@ -13,6 +14,7 @@ ghost use Rattle.tx_journal.specs.Known.{greatest_ts, HasSeen, HasRecorded};
 ghost use Rattle.tx_region.specs.Taking.{Answered};
 
 use crate::records::Records;
+use crate::routing::holds;
 use std::alloc::Global;
 use std::marker::Model;
 use tx_cells::{Families, KeyCopy};
@@ -94,6 +96,21 @@ impl<J: Naming, F: Families> Region<J, F> {
         ensures { result ≡ self.now.seat }
     {
         self.seat.number()
+    }
+
+    /// Whether it holds what a request speaks of: its key, or the whole range of a scan, or the request names it.
+    pub fn holds(&self, body: &Body) -> bool
+        ensures { IsTrue result ↔ Holds J.bounds self.now.seat body.now }
+    {
+        holds(self.journal.bounds(), self.seat.number().get(), body)
+    }
+
+    /// What is shown of a key.
+    pub fn cells_of(&self, key: &Key) -> Result<KeyCopy, Fault>
+        ensures copies { IfOk result (λ copy. (x : OnKey) × Copies x copy × (cells_of x ≡ (left self.now.events self.now.seat).cells key.now)) }
+        ensures err { IfErr result (λ e. e ≡ Fault.OutOfMemory) }
+    {
+        self.records.cells_of(key)
     }
 
     /// What it knows.
