@@ -15,7 +15,8 @@ use Rattle.tx_core.specs.Worlds.{Holds}
 use Rattle.tx_core.proofs.seats.Answering.{left_on, left_took}
 use Rattle.tx_core.proofs.seats.Numbers.{left_upto}
 use Rattle.tx_core.proofs.seats.Recording.{may_take_least}
-use Rattle.tx_core.proofs.seats.Staying.{last_was, allowed_on}
+use Rattle.tx_core.proofs.seats.Staying.{last_was}
+use Rattle.tx_core.proofs.seats.StaysAllowed.{allowed_on}
 use Rattle.tx_journal.specs.Known.{Known, HasSeen, HasRecorded}
 use Rattle.tx_journal.specs.Replies.{Given}
 use Rattle.tx_region.specs.Taking.{Answered}

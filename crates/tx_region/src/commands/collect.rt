@@ -5,8 +5,8 @@ ghost use Rattle.tx_region.specs.Regions.{region_of};
 ghost use Rattle.tx_region.specs.Calls.{Executes};
 
 use crate::records::Records;
-use tx_cells::{Dropped, Families};
-use tx_plan::{Answer, Collect};
+use tx_cells::Families;
+use tx_plan::{Answer, Collect, Dropped};
 use tx_types::Fault;
 
 impl<F: Families> Records<F> {
