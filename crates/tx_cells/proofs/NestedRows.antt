@@ -17,7 +17,7 @@ use Rattle.tx_types.specs.declared.lock.LockRec.{LockRec}
 use Rattle.tx_types.specs.Keys.{key_lt, key_le}
 use Rattle.tx_plan.specs.declared.view.LockHead.{LockHead}
 use Rattle.tx_plan.specs.Cells.{Lock, Cells, no_cells}
-use Rattle.tx_plan.specs.Walks.{KeyRow, LockRow, AreInOrder, KeysPass, cells_by, IsWalk, LocksInOrder, lock_by, IsLockWalk}
+use Rattle.tx_plan.specs.Walks.{KeyRow, LockRow, AreInOrder, KeysPass, cells_by, IsWalk, every_key, LocksInOrder, lock_by, IsLockWalk}
 use Rattle.tx_plan.specs.Views.{lock_head_of}
 use Rattle.tx_cells.specs.declared.nested.key.KeyFamilies.{KeyFamilies}
 use Rattle.tx_cells.specs.Contents.{cells_of, lock_of}
@@ -26,13 +26,13 @@ use Rattle.tx_cells.specs.Nested.{held, held_on, key_rows, before_row, lock_rows
 use Rattle.tx_cells.proofs.Maps.{key_is}
 use Rattle.tx_cells.proofs.Showing.{lock_heads}
 
-abbrev Entries : Type 0
+abbrev pub Entries : Type 0
 Entries = List (Key × KeyFamilies)
 
-abbrev InOrder : Entries → Type 0
+abbrev pub InOrder : Entries → Type 0
 InOrder es = IsStrictlySortedBy (slice_cmp nat_cmp) (keys_of es)
 
-abbrev find : Key → Entries → Option KeyFamilies
+abbrev pub find : Key → Entries → Option KeyFamilies
 find k es = lookup (tree.is_at (slice_cmp nat_cmp k)) es
 
 -- ---- keys
@@ -46,13 +46,13 @@ bytes_flip a b = elim (cases_Bool (bytes_eq a b)) [
   ]
 ]
 
-at_is : (k j : Key) → is_eq (slice_cmp nat_cmp k j) ≡ bytes_eq j k
+pub at_is : (k j : Key) → is_eq (slice_cmp nat_cmp k j) ≡ bytes_eq j k
 at_is k j = key_is k j ∙ bytes_flip k j
 
 lt_of : (j k : Key) → slice_cmp nat_cmp j k ≡ Less → IsTrue (key_lt j k)
 lt_of j k e = ap is_lt e
 
-apart : (k j : Key) → slice_cmp nat_cmp k j ≡ Less → bytes_eq j k ≡ false
+pub apart : (k j : Key) → slice_cmp nat_cmp k j ≡ Less → bytes_eq j k ≡ false
 apart k j e = sym (at_is k j) ∙ ap is_eq e
 
 -- ---- rows of keys
@@ -98,9 +98,17 @@ filter_walk p es s = record {
 pub filter_same : (p q : Key → Bool) → ((k : Key) → p k ≡ q k) → (es : Entries) → filter (λ e. p e.0) es ≡ filter (λ e. q e.0) es
 filter_same p q same es = λ i. filter (λ e. same e.0 i) es
 
+-- a walk over all keys
+pub whole_walk : (es : Entries) → InOrder es → IsWalk (λ k. cells_of (held_on (find k es))) every_key (key_rows es)
+whole_walk es s = record { rising = rows_rise es s; inside = pass es; all = λ k w. rows_cells es k }
+  where
+    pass : (fs : Entries) → KeysPass every_key (key_rows fs)
+    pass [] = tt
+    pass (f ∷ fs) = (refl, pass fs)
+
 -- ---- rows of locks
 
-abbrev IsAfter : Key → Entries → Type 0
+abbrev pub IsAfter : Key → Entries → Type 0
 IsAfter k es = AllByRecursion (λ j. slice_cmp nat_cmp k j ≡ Less) (keys_of es)
 
 abbrev IsBefore : Key → List LockRow → Type 0

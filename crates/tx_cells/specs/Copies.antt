@@ -1,5 +1,6 @@
 -- What is shown of a key.
-use Rattle.std.specs.Prelude.{◌≡◌, ◌↔◌, ℕ, ◌<◌, List, [], ◌∷◌, Option, Some, Contains, IsSome, option_map}
+use Rattle.std.specs.Prelude.{◌≡◌, ◌↔◌, ℕ, ◌<◌, List, [], ◌∷◌, ◌++◌, Option, Some, Contains, IsSome, option_map}
+use Rattle.tx_types.specs.declared.value.Value.{Value}
 use Rattle.tx_types.specs.declared.write.WriteRec.{WriteRec}
 use Rattle.tx_plan.specs.declared.view.RecordHead.{RecordHead}
 use Rattle.tx_cells.specs.declared.copies.RecordAt.{RecordAt}
@@ -17,9 +18,17 @@ abbrev pub times_of : List RecordAt → List ℕ
 times_of [] = []
 times_of (x ∷ xs) = x.at ∷ times_of xs
 
--- what is shown of a write record
+-- entries in the order of their timestamps, shown from the newest on
 abbrev pub record_at : ℕ × WriteRec → RecordAt
 record_at e = record { at = e.0; head = write_head e.1 }
+
+abbrev pub records_down : List (ℕ × WriteRec) → List RecordAt
+records_down [] = []
+records_down (e ∷ es) = records_down es ++ record_at e ∷ []
+
+abbrev pub starts_down : List (ℕ × Value) → List ℕ
+starts_down [] = []
+starts_down (e ∷ es) = starts_down es ++ e.0 ∷ []
 
 -- it shows the head of the lock, the write records from the newest on, and the starts of the values that are kept apart, from the
 -- newest on

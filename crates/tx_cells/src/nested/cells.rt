@@ -1,7 +1,8 @@
 //! What is shown of a key.
-ghost use Rattle.std.specs.Prelude.{◌≡◌, map, reverse, IfOk, IfErr};
-ghost use Rattle.std.specs.BTreeMap.{keys};
-ghost use Rattle.tx_cells.specs.Copies.{Copies, record_at};
+ghost use Rattle.std.specs.Prelude.{◌≡◌, IfOk, IfErr};
+ghost use Rattle.std.specs.BTreeMap.{IsOrdered};
+ghost use Rattle.std.specs.Ordering.{nat_cmp};
+ghost use Rattle.tx_cells.specs.Copies.{Copies, records_down, starts_down};
 
 use super::NestedCells;
 use super::key::KeyFamilies;
@@ -13,22 +14,33 @@ use tx_types::{Fault, Key, Ts, Value, WriteRec};
 
 /// The heads of the records, from the newest on.
 fn heads(alloc: Global, writes: &BTreeMap<Ts, WriteRec>) -> Result<Vec<RecordAt>, Fault>
-    ensures ok { IfOk result (λ heads. heads.items ≡ map record_at (reverse writes.now.entries)) }
+    ensures ordered { IsOrdered nat_cmp writes.now }
+    ensures ok { IfOk result (λ heads. heads.items ≡ records_down writes.now.entries) }
     ensures err { IfErr result (λ e. e ≡ Fault.OutOfMemory) }
 {
-    let heads = writes.iter().rev().map(|(at, rec)| RecordAt {
-        at: *at,
-        head: head_of(rec),
-    });
-    Ok(heads.collect(alloc)?)
+    let mut heads = Vec::new(alloc);
+    let mut entries = writes.iter();
+    'records: while let Some((at, rec)) = entries.next_back() {
+        heads.push(RecordAt {
+            at: *at,
+            head: head_of(rec),
+        })?;
+    }
+    Ok(heads)
 }
 
 /// The starts of the values, from the newest on.
 fn starts(alloc: Global, values: &BTreeMap<Ts, Value>) -> Result<Vec<Ts>, Fault>
-    ensures ok { IfOk result (λ starts. starts.items ≡ reverse (keys values.now)) }
+    ensures ordered { IsOrdered nat_cmp values.now }
+    ensures ok { IfOk result (λ starts. starts.items ≡ starts_down values.now.entries) }
     ensures err { IfErr result (λ e. e ≡ Fault.OutOfMemory) }
 {
-    Ok(values.keys().rev().copied().collect(alloc)?)
+    let mut starts = Vec::new(alloc);
+    let mut entries = values.iter();
+    'values: while let Some((start, _)) = entries.next_back() {
+        starts.push(*start)?;
+    }
+    Ok(starts)
 }
 
 impl KeyFamilies {

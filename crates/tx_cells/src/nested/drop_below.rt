@@ -87,13 +87,19 @@ impl KeyFamilies {
 }
 
 impl NestedCells {
-    ghost use Rattle.tx_cells.specs.Nested.{nested_content};
+    ghost use Rattle.tx_cells.specs.Nested.{held, nested_content};
 
     /// Drops what no read at this safe point or above needs any more, and the keys of which nothing is held then.
     pub(crate) fn drop_of(&mut self, safe: Ts)
         ensures content { (k : Key) → Collected safe (nested_content self.old k) (nested_content self.new k) }
         ensures cells { (k : Key) → cells_of (nested_content self.new k) ≡ kept (cells_of (nested_content self.old k)) safe }
     {
-        self.keys.retain(|_, on_key| on_key.collect(safe));
+        self.keys.retain(
+            |_, on_key: &mut KeyFamilies| -> bool
+                ensures content { Collected safe (held on_key.old) (held on_key.new) }
+                ensures cells { cells_of (held on_key.new) ≡ kept (cells_of (held on_key.old)) safe }
+                ensures empty { result ≡ false → held on_key.new ≡ nothing_held }
+            { on_key.collect(safe) },
+        );
     }
 }

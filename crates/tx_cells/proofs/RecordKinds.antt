@@ -1,0 +1,60 @@
+-- What collection asks of a record, as it is kept and in the cells.
+use Rattle.std.proofs.Common.{◌≡◌, ℕ, true, false, length, Option, Some, None, refl, sym, ap, ◌∙◌}
+use Rattle.std.proofs.lemmas.Bool.{lt-ltb, le-ltb}
+use Rattle.tx_types.specs.declared.limits.TheConstants.{MAX_INLINE_BYTES}
+use Rattle.tx_types.specs.declared.value.Value.{Value}
+use Rattle.tx_types.specs.declared.value.StoredValue.TheVariants.{Inline, InDefault}
+use Rattle.tx_types.specs.declared.mutation.StoredMutation.{StoredMutation}
+use Rattle.tx_types.specs.declared.mutation.StoredMutation.TheVariants as stored
+use Rattle.tx_types.specs.declared.write.WriteRec.{WriteRec}
+use Rattle.tx_types.specs.declared.write.CommitRec.{CommitRec}
+use Rattle.tx_types.specs.declared.write.WriteRec.TheVariants.{Commit, Rollback}
+use Rattle.tx_plan.specs.Cells.{is_long}
+use Rattle.tx_plan.specs.Collecting.{IsKind, IsNext}
+use Rattle.tx_plan.specs.cases.Collect.{commit_is, is_put, is_visible}
+use Rattle.std.specs.Prelude.{option_map, ◌<◌, ◌≤◌, ◌≢◌}
+use Rattle.tx_cells.specs.Heads.{record_kind}
+use Rattle.tx_cells.specs.Contents.{OnKey, cells_of, write_of, whole, IsKept, IsWhole}
+use Rattle.tx_cells.proofs.Facts.{write_kept}
+
+puts_same : (apart : Option Value) (m : StoredMutation) → (record_kind (Commit (record { mutation = m; start = 0; overlapped_rollback = false }))).puts ≡ is_put (whole apart m)
+puts_same apart (stored.Put (Inline v)) = refl
+puts_same None (stored.Put InDefault) = refl
+puts_same (Some v) (stored.Put InDefault) = refl
+puts_same apart stored.Delete = refl
+puts_same apart stored.Lock = refl
+
+seen_same : (apart : Option Value) (m : StoredMutation) → (record_kind (Commit (record { mutation = m; start = 0; overlapped_rollback = false }))).is_seen ≡ is_visible (whole apart m)
+seen_same apart (stored.Put (Inline v)) = refl
+seen_same None (stored.Put InDefault) = refl
+seen_same (Some v) (stored.Put InDefault) = refl
+seen_same apart stored.Delete = refl
+seen_same apart stored.Lock = refl
+
+long_same : (apart : Option Value) (m : StoredMutation) → IsKept apart m → (record_kind (Commit (record { mutation = m; start = 0; overlapped_rollback = false }))).has_long_value ≡ is_long (whole apart m)
+long_same apart (stored.Put (Inline v)) k = sym (le-ltb MAX_INLINE_BYTES (length v) k)
+long_same None (stored.Put InDefault) k = absurd k
+long_same (Some v) (stored.Put InDefault) k = sym (lt-ltb MAX_INLINE_BYTES (length v) k)
+long_same apart stored.Delete k = refl
+long_same apart stored.Lock k = refl
+
+pub kind_is : (x : OnKey) → ∥ IsWhole x ∥₁ → (c : ℕ) (rec : WriteRec) → x.write c ≡ Some rec → IsKind ((cells_of x).write c) (record_kind rec)
+kind_is x t c (Rollback start) e = (
+    let here = ap (option_map (write_of x.value)) e in
+    record { puts = sym (ap (commit_is is_put) here); is_seen = sym (ap (commit_is is_visible) here); has_long_value = sym (ap (commit_is is_long) here) })
+kind_is x t c (Commit rec) e = (
+    let here = ap (option_map (write_of x.value)) e in
+    record {
+      puts = puts_same (x.value rec.start) rec.mutation ∙ sym (ap (commit_is is_put) here);
+      is_seen = seen_same (x.value rec.start) rec.mutation ∙ sym (ap (commit_is is_visible) here);
+      has_long_value = long_same (x.value rec.start) rec.mutation (write_kept x t c rec e) ∙ sym (ap (commit_is is_long) here);
+    })
+
+-- the newest record at a bound or below
+pub is_next : (x : OnKey) → ∥ IsWhole x ∥₁ → (bound c : ℕ) (rec : WriteRec) → x.write c ≡ Some rec → c ≤ bound → ((q : ℕ) → c < q → q ≤ bound → x.write q ≡ None) → IsNext (cells_of x).write bound c (record_kind rec)
+is_next x t bound c rec e upto newest = record {
+  upto = upto;
+  there = λ none. (let here : (cells_of x).write c ≡ Some (write_of x.value rec) = ap (option_map (write_of x.value)) e in cc (here, none));
+  newest = λ q lt le. ap (option_map (write_of x.value)) (newest q lt le);
+  is = kind_is x t c rec e;
+}
