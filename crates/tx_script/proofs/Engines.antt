@@ -41,7 +41,7 @@ stands_finished : (old new : Engine) (name : List ℕ) (s : State) (o : Outcome)
     → length new.sessions.entries + 1 ≡ length old.sessions.entries → new.begun ≡ old.begun → (scene : Scene) → Stands old scene → Stands new (finished scene name s o)
 stands_finished old new name s o store sets less seats scene stands =
     record {
-      store = subst (λ x. Holds x (finished scene name s o).history) (sym store) (record { region = stands.store.region; number = stands.store.number; read = stands.store.read });
+      store = subst (λ x. Holds x (finished scene name s o).history) (sym store) (record { region = stands.store.region; number = stands.store.number });
       session = λ q. sets q ∙ ap (λ (x : Option State). cond (bytes_eq name q) None x) (stands.session q);
       live = (let count = stands.live in omega (arith, less, count));
       begun = seats ∙ stands.begun;

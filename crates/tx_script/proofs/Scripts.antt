@@ -292,4 +292,3 @@ pub record Counts (engine : Engine) (number : ℕ) : Type 0 where
   pub lines : number ≤ max_lines
   pub last : engine.store.last ≤ number
   pub begun : engine.begun ≤ number
-  pub read : engine.store.region.max_read ≤ engine.store.last

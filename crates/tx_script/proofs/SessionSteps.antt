@@ -8,7 +8,7 @@ use Rattle.tx_core.specs.declared.event.Declaration.{Declaration}
 use Rattle.tx_core.specs.declared.event.Event.TheVariants.{Took}
 use Rattle.tx_core.specs.Histories.{History, last, left}
 use Rattle.tx_core.proofs.Basics.{key_test}
-use Rattle.tx_region.specs.Regions.{region_of}
+use Rattle.tx_region.specs.Calls.{Executes}
 use Rattle.tx_client.specs.Buffers.{buffered}
 use Rattle.tx_client.specs.declared.state.Phase.{Phase}
 use Rattle.tx_client.specs.Sessions.{State, Due, declaration, heard, missed, with_declared, with_drawn}
@@ -18,7 +18,7 @@ use Rattle.tx_script.specs.declared.reply.Reply.TheVariants as reply
 use Rattle.tx_script.specs.Replies.{alone, with_number, answer_words, reply_words}
 use Rattle.tx_script.specs.Scenes.{Scene, Turn, goes, asks, is_key, with_session, declared_in, declared, drew, took, read_of, gets_by, gets, sends}
 use Rattle.tx_script.specs.Play.{Leads}
-use Rattle.tx_script.specs.Stands.{Holds, Moves, SessionGoes}
+use Rattle.tx_script.specs.Stands.{Holds, Moves, SessionGoes, region_in}
 
 -- ---- scenes that follow
 
@@ -34,8 +34,8 @@ keeps : (scene : Scene) (name : List ℕ) (s : State) → scene.session name ≡
 keeps scene name s is = record { session = set_same scene.session name s is; live = refl; begun = refl }
 
 -- a store whose region and number are the same
-holds_too : (from to : Store) (h : History) → region_of to.region ≡ region_of from.region → to.last ≡ from.last → Holds from h → Holds to h
-holds_too from to h region number holds = record { region = region ∙ holds.region; number = number ∙ holds.number; read = holds.read }
+holds_too : (from to : Store) (h : History) → region_in to ≡ region_in from → to.last ≡ from.last → Holds from h → Holds to h
+holds_too from to h region number holds = record { region = region ∙ holds.region; number = number ∙ holds.number }
 
 -- what a turn of which the words are known leads to
 led : (turn : Turn) (next : Scene) (r : Reply) (later : List Bool) → turn ≡ goes next (reply_words r) later
@@ -46,14 +46,14 @@ led turn next r later e = rw e (refl, refl, refl)
 
 module _ (old : State) (turn : List ℕ → Scene → List Bool → Turn) where
   -- nothing changes
-  pub stays : (from to : Store) (refused : List Bool) (r : Reply) → region_of to.region ≡ region_of from.region → to.last ≡ from.last
+  pub stays : (from to : Store) (refused : List Bool) (r : Reply) → region_in to ≡ region_in from → to.last ≡ from.last
       → ((name : List ℕ) (scene : Scene) (later : List Bool) → turn name scene (refused ++ later) ≡ goes scene (reply_words r) later)
       → SessionGoes old old from to turn r
   stays from to refused r region number e = λ name scene holds is.
       (refused, scene, (keeps scene name old is, holds_too from to scene.history region number holds), λ later. led _ scene r later (e name scene later))
 
   -- the session has another state
-  pub changes : (new : State) (from to : Store) (refused : List Bool) (r : Reply) → region_of to.region ≡ region_of from.region → to.last ≡ from.last
+  pub changes : (new : State) (from to : Store) (refused : List Bool) (r : Reply) → region_in to ≡ region_in from → to.last ≡ from.last
       → ((name : List ℕ) (scene : Scene) (later : List Bool) → turn name scene (refused ++ later) ≡ goes (with_session scene name new) (reply_words r) later)
       → SessionGoes old new from to turn r
   changes new from to refused r region number e = λ name scene holds is.
@@ -62,7 +62,7 @@ module _ (old : State) (turn : List ℕ → Scene → List Bool → Turn) where
   -- a declaration is no event of the store
   holds_declared : (store : Store) (h : History) (d : Option Declaration) → Holds store h → Holds store (declared_in h d)
   holds_declared store h None holds = holds
-  holds_declared store h (Some d) holds = record { region = holds.region; number = holds.number; read = holds.read }
+  holds_declared store h (Some d) holds = record { region = holds.region; number = holds.number }
 
   -- the session declares its buffer
   pub declares_so : (ttl : ℕ) (store : Store)
@@ -76,15 +76,14 @@ module _ (old : State) (turn : List ℕ → Scene → List Bool → Turn) where
   )
 
   -- the session draws
-  pub draws_so : (from to : Store) → to.region ≡ from.region → to.last ≡ from.last + 1
+  pub draws_so : (from to : Store) → region_in to ≡ region_in from → to.last ≡ from.last + 1
       → ((name : List ℕ) (scene : Scene) (later : List Bool) → turn name scene later ≡ goes (drew scene name old) (with_number (codes "drawn") (last scene.history + 1)) later)
       → SessionGoes old (with_drawn old to.last) from to turn (reply.Drawn to.last)
   draws_so from to region number e = λ name scene holds is.
-      let next : to.last ≡ last scene.history + 1 = number ∙ ap (λ n. n + 1) holds.number in
-      let read : (left scene.history 0).max_read ≤ last scene.history + 1 = omega (arith, holds.read) in (
+      let next : to.last ≡ last scene.history + 1 = number ∙ ap (λ n. n + 1) holds.number in (
         [],
         drew scene name old,
-        (rw next (record { session = λ q. refl; live = refl; begun = refl }), record { region = ap region_of region ∙ holds.region; number = next; read = read }),
+        (rw next (record { session = λ q. refl; live = refl; begun = refl }), record { region = region ∙ holds.region; number = next }),
         λ later. rw next (led _ (drew scene name old) (reply.Drawn (last scene.history + 1)) later (e name scene later)),
       )
 
@@ -97,29 +96,20 @@ some_of (Some x) some = (x, refl)
 
 -- the store after the region answered so
 pub record Answered (from to : Store) (body : Body) (a : Answer) : Type 0 where
-  pub answers : AnswersLeast (region_of from.region) from.last body a
-  pub region : region_of to.region ≡ leaves (region_of from.region) body a
+  pub executed : Executes (region_in from) from.last body a (region_in to)
   pub number : to.last ≡ from.last
-  pub read : to.region.max_read ≤ to.last
 
 module _ (from to : Store) (body : Body) (a : Answer) (so : Answered from to body a) (h : History) (holds : Holds from h) where
   -- what the region left is what the event leaves
-  left_region : region_of to.region ≡ leaves (left h 0) body a
-  left_region = so.region ∙ ap (λ r. leaves r body a) holds.region
-
-  left_number : to.last ≡ last h
-  left_number = so.number ∙ holds.number
+  left_region : region_in to ≡ leaves (left h 0) body a
+  left_region = so.executed.leaves ∙ ap (λ r. leaves r body a) holds.region
 
   pub holds_took : Holds to (Took (record { region = 0; body = body; loaded = last h; answer = a }) ∷ h)
-  holds_took = record {
-    region = left_region;
-    number = left_number;
-    read = subst (λ r. r.max_read ≤ last h) left_region (subst (λ n. to.region.max_read ≤ n) left_number so.read);
-  }
+  holds_took = record { region = left_region; number = so.number ∙ holds.number }
 
   -- the answer is one of the case tables
   pub answers_here : AnswersLeast (left h 0) (last h) body a
-  answers_here = subst (λ n. AnswersLeast (left h 0) n body a) holds.number (subst (λ r. AnswersLeast r from.last body a) holds.region so.answers)
+  answers_here = subst (λ n. AnswersLeast (left h 0) n body a) holds.number (subst (λ r. AnswersLeast r from.last body a) holds.region so.executed.answers)
 
 -- what a turn that asks leads to
 led_on : (turn : Turn) (h : History) (body : Body) (a : Answer) (more : Answer → Turn) (next : Scene) (later : List Bool)
@@ -165,7 +155,7 @@ module _ (old : State) (turn : List ℕ → Scene → List Bool → Turn) (x : P
       stays old turn store store (true ∷ []) reply.OutOfMemory refl refl (λ name scene later. e name scene (true ∷ later) ∙ ap (λ d. sends (true ∷ later) name scene old x d) is)
 
   -- the region is refused memory
-  pub refused_so : (due : Due) (from to : Store) → o ≡ Some due → region_of to.region ≡ region_of from.region → to.last ≡ from.last
+  pub refused_so : (due : Due) (from to : Store) → o ≡ Some due → region_in to ≡ region_in from → to.last ≡ from.last
       → SessionGoes old (missed old) from to turn reply.OutOfMemory
   refused_so due from to is region number =
       changes old turn (missed old) from to (false ∷ true ∷ []) reply.OutOfMemory region number (λ name scene later. e name scene (false ∷ true ∷ later) ∙ ap (λ d. sends (false ∷ true ∷ later) name scene old x d) is)

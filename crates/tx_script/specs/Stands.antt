@@ -3,7 +3,9 @@ use Rattle.std.specs.Prelude.{◌≡◌, ◌≤◌, ℕ, List, [], ◌∷◌, �
 use Rattle.std.specs.Map.{update}
 use Rattle.std.specs.BTreeMap.{get_by_text}
 use Rattle.tx_types.specs.declared.fault.Cause.{Cause}
+use Rattle.tx_plan.specs.Cells.{Region}
 use Rattle.tx_core.specs.Histories.{History, last, left}
+use Rattle.tx_cells.specs.Nested.{nested_content}
 use Rattle.tx_region.specs.Regions.{region_of}
 use Rattle.tx_client.specs.Sessions.{State}
 use Rattle.tx_script.specs.declared.engine.Engine.{Engine}
@@ -15,11 +17,14 @@ use Rattle.tx_script.specs.Replies.{reply_words}
 use Rattle.tx_script.specs.Scenes.{Scene, Turn, stops}
 use Rattle.tx_script.specs.Play.{Leads, line_turn}
 
--- the oracle and the region hold what a history left of them; no read was above the last number
+-- the region of the case tables that the store's records are
+abbrev pub region_in : Store → Region
+region_in store = region_of nested_content store.records
+
+-- the oracle and the region hold what a history left of them
 pub record Holds (store : Store) (h : History) : Type 0 where
-  pub region : region_of store.region ≡ left h 0
+  pub region : region_in store ≡ left h 0
   pub number : store.last ≡ last h
-  pub read : (left h 0).max_read ≤ last h
 
 -- the engine holds a scene
 pub record Stands (engine : Engine) (scene : Scene) : Type 0 where

@@ -54,7 +54,6 @@ impl Engine {
     pub fn new(alloc: Global) -> Engine
         ensures stands { Stands result opening }
         ensures last { result.store.last ≡ 0 }
-        ensures read { result.store.region.max_read ≤ result.store.last }
         ensures begun { result.begun ≡ 0 }
     {
         Engine {
@@ -73,8 +72,6 @@ impl Engine {
         ensures ok { OnOk result ((scene : Scene) → Stands self.old scene → Stands self.new (began scene name.now)) }
         ensures same { OnErr result ((scene : Scene) → Stands self.old scene → Stands self.new scene) }
         ensures last { self.new.store.last ≤ self.old.store.last + 1 }
-        ensures region { self.new.store.region ≡ self.old.store.region }
-        ensures low { self.old.store.last ≤ self.new.store.last }
         ensures begun { self.new.begun ≤ self.old.begun + 1 }
     {
         let seat = SeatNo::new(self.begun + 1);
@@ -87,11 +84,9 @@ impl Engine {
 
     fn begin(&mut self, name: &str) -> Result<Reply, Cause>
         requires room { (self.old.store.last < MAX_LINES) × (self.old.begun < MAX_LINES) }
-        requires read { self.old.store.region.max_read ≤ self.old.store.last }
         ensures goes { IfOk result (λ reply. EngineGoes self.old self.new (λ scene refused. begins refused name.now scene) reply) }
         ensures stops { IfErr result (λ cause. EngineStops self.old (λ scene refused. begins refused name.now scene) cause) }
         ensures last { self.new.store.last ≤ self.old.store.last + 1 }
-        ensures read { self.new.store.region.max_read ≤ self.new.store.last }
         ensures begun { self.new.begun ≤ self.old.begun + 1 }
     {
         if !is_name(name) || self.sessions.contains_key(name) {
@@ -125,10 +120,10 @@ impl Engine {
     // Plays a step of the session of this name, which has to be live.
     fn session_step(&mut self, name: &str, step: &Step<'_>) -> Result<Reply, Cause>
         requires named { session_of (asked step.now) ≡ Some name.now }
-        requires room { (self.old.store.last < MAX_LINES) × (self.old.store.region.max_read ≤ self.old.store.last) }
+        requires room { self.old.store.last < MAX_LINES }
         ensures goes { IfOk result (λ reply. EngineGoes self.old self.new (λ scene refused. turn refused (asked step.now) scene) reply) }
         ensures stops { IfErr result (λ cause. EngineStops self.old (λ scene refused. turn refused (asked step.now) scene) cause) }
-        ensures last { (self.new.store.last ≤ self.old.store.last + 1) × (self.new.store.region.max_read ≤ self.new.store.last) }
+        ensures last { self.new.store.last ≤ self.old.store.last + 1 }
         ensures begun { self.new.begun ≡ self.old.begun }
     {
         match self.sessions.get_mut(name) {
@@ -140,11 +135,9 @@ impl Engine {
     /// Plays one step. A growth of a session or the region that is refused is the reply `OutOfMemory`.
     pub fn play(&mut self, step: &Step<'_>) -> Result<Reply, Cause>
         requires room { (self.old.store.last < MAX_LINES) × (self.old.begun < MAX_LINES) }
-        requires read { self.old.store.region.max_read ≤ self.old.store.last }
         ensures goes { IfOk result (λ reply. EngineGoes self.old self.new (λ scene refused. turn refused (asked step.now) scene) reply) }
         ensures stops { IfErr result (λ cause. EngineStops self.old (λ scene refused. turn refused (asked step.now) scene) cause) }
         ensures last { self.new.store.last ≤ self.old.store.last + 1 }
-        ensures read { self.new.store.region.max_read ≤ self.new.store.last }
         ensures begun { self.new.begun ≤ self.old.begun + 1 }
     {
         match *step {

@@ -28,9 +28,7 @@ fn play_line(
 ) -> Result<Result<Reply, Cause>, Broken>
     requires short { length line.now ≤ MAX_LINE_BYTES }
     requires room { (engine.old.store.last < number) × (engine.old.begun < number) }
-    requires read { engine.old.store.region.max_read ≤ engine.old.store.last }
     ensures early { IfOk result (λ turned. OnOk turned ((number ≤ MAX_LINES) × (engine.new.store.last ≤ number) × (engine.new.begun ≤ number))) }
-    ensures low { IfOk result (λ turned. OnOk turned (engine.new.store.region.max_read ≤ engine.new.store.last)) }
     ensures goes { IfOk result (λ turned. IfOk turned (λ reply. EngineGoes engine.old engine.new (λ scene refused. line_turn refused number line.now scene) reply)) }
     ensures stops { IfOk result (λ turned. IfErr turned (λ cause. EngineStops engine.old (λ scene refused. line_turn refused number line.now scene) cause)) }
 {
@@ -69,9 +67,7 @@ fn next<R: Read>(
     number: u64,
 ) -> Result<Turned, Broken>
     requires room { (engine.old.store.last < number) × (engine.old.begun < number) }
-    requires read { engine.old.store.region.max_read ≤ engine.old.store.last }
     // At any reader.
-    ensures low { IfOk result (λ turned. (reply : Reply) → turned ≡ Turned.Goes reply → engine.new.store.region.max_read ≤ engine.new.store.last) }
     ensures early { IfOk result (λ turned. (reply : Reply) → turned ≡ Turned.Goes reply → (number ≤ MAX_LINES) × (engine.new.store.last ≤ number) × (engine.new.begun ≤ number)) }
     // Where the bytes are known.
     ensures turns { IfOk result (λ turned. IfSome (R.remaining reader.old)

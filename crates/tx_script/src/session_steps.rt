@@ -1,12 +1,11 @@
 //! The steps of one live session.
 ghost use Rattle.std.specs.Prelude.{◌≡◌, ◌<◌, ◌≤◌, ◌+◌, List, Bool, length, true, false, None, IfOk, IfErr, OnOk, OnErr, IfSome, IfNone};
-ghost use Rattle.tx_region.specs.Regions.{region_of};
 ghost use Rattle.tx_client.specs.Buffers.{touched, buffered};
 ghost use Rattle.tx_client.specs.Sessions.{is_declared, with_buffer};
 ghost use Rattle.tx_types.specs.declared.mutation.Mutation.TheVariants as mutation;
 ghost use Rattle.tx_script.specs.Scenes.{puts, gets, declares, prewrites, draws, commits, session_turn, Scene, goes, gets_by, is_key as key_test, is_full as full_test};
 ghost use Rattle.tx_script.specs.Replies.{answer_words};
-ghost use Rattle.tx_script.specs.Stands.{SessionGoes, SessionStops};
+ghost use Rattle.tx_script.specs.Stands.{SessionGoes, SessionStops, region_in};
 ghost use Rattle.tx_script.specs.Steps.{asked};
 
 use crate::reply::Reply;
@@ -81,11 +80,10 @@ fn in_buffer(session: &Session, key: &Key) -> Result<Option<Answer>, Fault>
 
 // The answer of the buffer, else of the store.
 fn read(alloc: Global, session: &Session, store: &mut Store, key: &str) -> Result<Answer, Fault>
-    requires room { store.old.region.max_read ≤ store.old.last }
     requires fits { key_test key.now ≡ true }
     ensures goes { IfOk result (λ answer. SessionGoes session.now session.now store.old store.new (λ name scene refused. gets refused key.now scene session.now) (Reply.Answered answer)) }
-    ensures same { OnErr result (region_of store.new.region ≡ region_of store.old.region) }
-    ensures last { (store.new.last ≡ store.old.last) × (store.new.region.max_read ≤ store.new.last) }
+    ensures same { OnErr result (region_in store.new ≡ region_in store.old) }
+    ensures last { store.new.last ≡ store.old.last }
 {
     let key = Key::new(alloc, key.as_bytes())?;
     if let Some(answer) = in_buffer(session, &key)? {
@@ -96,13 +94,12 @@ fn read(alloc: Global, session: &Session, store: &mut Store, key: &str) -> Resul
         at: session.start(),
         bypass: Starts::new(alloc),
     };
-    store.region.get(store.last, &body)
+    store.get(&body)
 }
 
 fn get(alloc: Global, session: &Session, store: &mut Store, key: &str) -> Reply
-    requires room { (store.old.last < MAX_LINES) × (store.old.region.max_read ≤ store.old.last) }
     ensures goes { SessionGoes session.now session.now store.old store.new (λ name scene refused. gets refused key.now scene session.now) result }
-    ensures last { (store.new.last ≤ store.old.last + 1) × (store.new.region.max_read ≤ store.new.last) }
+    ensures last { store.new.last ≡ store.old.last }
 {
     if !is_key(key) {
         return Reply::KeyLength;
@@ -127,10 +124,10 @@ fn declare(alloc: Global, session: &mut Session, ttl: u32) -> Result<Reply, Caus
 }
 
 fn prewrite(alloc: Global, session: &mut Session, store: &mut Store) -> Result<Reply, Cause>
-    requires room { (store.old.last < MAX_LINES) × (store.old.region.max_read ≤ store.old.last) }
+    requires room { store.old.last < MAX_LINES }
     ensures goes { IfOk result (λ reply. SessionGoes session.old session.new store.old store.new (λ name scene refused. prewrites refused name scene session.old) reply) }
     ensures stops { IfErr result (λ cause. SessionStops (λ name scene refused. prewrites refused name scene session.old) cause) }
-    ensures last { (store.new.last ≤ store.old.last + 1) × (store.new.region.max_read ≤ store.new.last) }
+    ensures last { store.new.last ≡ store.old.last }
 {
     if !session.is_declared() {
         return Err(Cause::Order);
@@ -141,7 +138,7 @@ fn prewrite(alloc: Global, session: &mut Session, store: &mut Store) -> Result<R
     let Some((place, body)) = due else {
         return Ok(Reply::Done);
     };
-    match store.region.prewrite(store.last, body) {
+    match store.prewrite(&body) {
         Ok(answer) => {
             session.hear(Phase::Prewrite, place, &answer);
             Ok(Reply::Answered(answer))
@@ -154,10 +151,9 @@ fn prewrite(alloc: Global, session: &mut Session, store: &mut Store) -> Result<R
 }
 
 fn commit(session: &mut Session, store: &mut Store) -> Result<Reply, Cause>
-    requires room { (store.old.last < MAX_LINES) × (store.old.region.max_read ≤ store.old.last) }
     ensures goes { IfOk result (λ reply. SessionGoes session.old session.new store.old store.new (λ name scene refused. commits refused name scene session.old) reply) }
     ensures stops { IfErr result (λ cause. SessionStops (λ name scene refused. commits refused name scene session.old) cause) }
-    ensures last { (store.new.last ≤ store.old.last + 1) × (store.new.region.max_read ≤ store.new.last) }
+    ensures last { store.new.last ≡ store.old.last }
 {
     if !session.is_declared() {
         return Err(Cause::Order);
@@ -174,7 +170,7 @@ fn commit(session: &mut Session, store: &mut Store) -> Result<Reply, Cause>
     let Some((place, body)) = due else {
         return Ok(Reply::Done);
     };
-    match store.region.commit(&body) {
+    match store.commit(&body) {
         Ok(answer) => {
             session.hear(Phase::Commit, place, &answer);
             Ok(Reply::Answered(answer))
@@ -187,10 +183,10 @@ fn commit(session: &mut Session, store: &mut Store) -> Result<Reply, Cause>
 }
 
 fn draw(session: &mut Session, store: &mut Store) -> Result<Reply, Cause>
-    requires room { (store.old.last < MAX_LINES) × (store.old.region.max_read ≤ store.old.last) }
+    requires room { store.old.last < MAX_LINES }
     ensures goes { IfOk result (λ reply. SessionGoes session.old session.new store.old store.new (λ name scene refused. draws refused name scene session.old) reply) }
     ensures stops { IfErr result (λ cause. SessionStops (λ name scene refused. draws refused name scene session.old) cause) }
-    ensures last { (store.new.last ≤ store.old.last + 1) × (store.new.region.max_read ≤ store.new.last) }
+    ensures last { store.new.last ≤ store.old.last + 1 }
 {
     if !session.can_draw() {
         return Err(Cause::Order);
@@ -207,10 +203,10 @@ pub(crate) fn act(
     store: &mut Store,
     step: &Step<'_>,
 ) -> Result<Reply, Cause>
-    requires room { (store.old.last < MAX_LINES) × (store.old.region.max_read ≤ store.old.last) }
+    requires room { store.old.last < MAX_LINES }
     ensures goes { IfOk result (λ reply. SessionGoes session.old session.new store.old store.new (λ name scene refused. session_turn refused name (asked step.now) scene session.old) reply) }
     ensures stops { IfErr result (λ cause. SessionStops (λ name scene refused. session_turn refused name (asked step.now) scene session.old) cause) }
-    ensures last { (store.new.last ≤ store.old.last + 1) × (store.new.region.max_read ≤ store.new.last) }
+    ensures last { store.new.last ≤ store.old.last + 1 }
 {
     match *step {
         Step::Put(_, key, value) => put(alloc, session, key, value),

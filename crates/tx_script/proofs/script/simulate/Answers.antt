@@ -7,7 +7,7 @@ pub lines-init : goal.lines-init
 lines-init g c =
     let known = g.R.Read.remaining c.args.reader.now in
     let held = g.W.Write.contents c.args.writer.now in
-    (record { lines = omega arith; last = omega (arith, c.new-engine.ensures.last); begun = omega (arith, c.new-engine.ensures.begun); read = c.new-engine.ensures.read }, so_far known held c.new-engine.result c.new-engine.ensures.stands)
+    (record { lines = omega arith; last = omega (arith, c.new-engine.ensures.last); begun = omega (arith, c.new-engine.ensures.begun) }, so_far known held c.new-engine.result c.new-engine.ensures.stands)
 
 pub returns-in_err-next-clause-breaks : goal.returns-in_err-next-clause-breaks
 returns-in_err-next-clause-breaks g c =
@@ -31,7 +31,7 @@ returns-in_err-tell-in-Goes-clause-breaks g c =
 pub lines-preserved : goal.lines-preserved
 lines-preserved g c =
     let turns = rw c.in-Goes.is at c.in_ok-next.ensures.turns in (
-      (let early = c.in_ok-next.ensures.early c.in-Goes.reply c.in-Goes.is in record { lines = omega (arith, early.0); last = omega (arith, early.1); begun = omega (arith, early.2); read = c.in_ok-next.ensures.low c.in-Goes.reply c.in-Goes.is }),
+      (let early = c.in_ok-next.ensures.early c.in-Goes.reply c.in-Goes.is in record { lines = omega (arith, early.0); last = omega (arith, early.1); begun = omega (arith, early.2) }),
       if_some _ (λ input soon. goes_on soon (g.R.Read.remaining c.next.new.reader) c.next.new.engine c.in-Goes.reply turns (g.W.Write.contents c.tell.new.writer) c.in_ok-tell-in-Goes.ensures.all) c.lines.invariant.1,
     )
 

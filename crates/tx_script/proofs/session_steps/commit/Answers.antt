@@ -1,4 +1,4 @@
-use Rattle.std.proofs.Common.{◌≡◌, true, false, [], refl, sym, arith}
+use Rattle.std.proofs.Common.{◌≡◌, true, false, [], refl, sym}
 use Rattle.tx_plan.specs.declared.body.Body.TheVariants as request
 use Rattle.tx_client.specs.declared.state.Phase.TheVariants as phase
 use Rattle.tx_client.specs.Sessions.{is_declared, has_primary, can_commit, due_commit}
@@ -38,14 +38,9 @@ returns-in-Ok-commit-clause-goes c =
     rw c.hear.ensures
     (sent c.args.session.now (λ name scene refused. commits refused name scene c.args.session.now) phase.Commit (due_commit c.args.session.now)
     (λ name scene refused. rw (primary, may, declared) refl)
-    (record { place = c.in-Some.place; body = request.Commit c.in-Some.body }) c.args.store.now (record { last = c.args.store.now.last; region = c.commit.new.self })
+    (record { place = c.in-Some.place; body = request.Commit c.in-Some.body }) c.args.store.now c.commit.new.self
     c.in-Ok-commit.answer (sym (rw c.in-Some.is at c.in-Ok.ensures.ok))
-    (record {
-      answers = (c.in-Ok-commit.ensures.ok c.args.store.now.last).0;
-      region = (c.in-Ok-commit.ensures.ok c.args.store.now.last).1;
-      number = refl;
-      read = omega (arith, c.commit.ensures.read, c.requires.room.1);
-    }))
+    (record { executed = c.in-Ok-commit.ensures.ok; number = c.commit.ensures.last }))
 
 pub returns-clause-goes : goal.returns-clause-goes
 returns-clause-goes c =
@@ -55,5 +50,5 @@ returns-clause-goes c =
     rw c.miss.ensures
     (refused_so c.args.session.now (λ name scene refused. commits refused name scene c.args.session.now) phase.Commit (due_commit c.args.session.now)
     (λ name scene refused. rw (primary, may, declared) refl)
-    (record { place = c.in-Some.place; body = request.Commit c.in-Some.body }) c.args.store.now (record { last = c.args.store.now.last; region = c.commit.new.self })
-    (sym (rw c.in-Some.is at c.in-Ok.ensures.ok)) c.in-Err.ensures.same refl)
+    (record { place = c.in-Some.place; body = request.Commit c.in-Some.body }) c.args.store.now c.commit.new.self
+    (sym (rw c.in-Some.is at c.in-Ok.ensures.ok)) c.in-Err.ensures.same c.commit.ensures.last)

@@ -17,4 +17,4 @@ pub returns-clause-goes : goal.returns-clause-goes
 returns-clause-goes c =
     let key : is_key c.args.key.now ≡ true = sym c.if-not-is_key.ensures in
     stays c.args.session.now (λ name scene refused. gets refused c.args.key.now scene c.args.session.now) c.args.store.now c.read.new.store (true ∷ []) OutOfMemory
-    c.in-Err.ensures.same c.read.ensures.last.0 (λ name scene later. rw key refl)
+    c.in-Err.ensures.same c.read.ensures.last (λ name scene later. rw key refl)

@@ -1,4 +1,4 @@
-use Rattle.std.proofs.Common.{◌≡◌, true, refl, sym, arith}
+use Rattle.std.proofs.Common.{◌≡◌, true, refl, sym}
 use Rattle.tx_plan.specs.declared.body.Body.TheVariants as request
 use Rattle.tx_client.specs.declared.state.Phase.TheVariants as phase
 use Rattle.tx_client.specs.Sessions.{is_declared, due_prewrite}
@@ -18,23 +18,15 @@ returns-in_default-due-clause-goes c =
     nothing_due c.args.session.now (λ name scene refused. prewrites refused name scene c.args.session.now) phase.Prewrite (due_prewrite c.args.session.now)
     (λ name scene refused. rw declared refl) c.args.store.now (sym (rw c.in_default-due.is at c.in-Ok.ensures.ok))
 
-pub prewrite-requires : goal.prewrite-requires
-prewrite-requires c = record { room = (omega (arith, c.requires.room), omega (arith, c.requires.room)) }
-
 pub returns-in-Ok-prewrite-clause-goes : goal.returns-in-Ok-prewrite-clause-goes
 returns-in-Ok-prewrite-clause-goes c =
     let declared : is_declared c.args.session.now ≡ true = sym c.if-not-is_declared.ensures in
     rw c.hear.ensures
     (sent c.args.session.now (λ name scene refused. prewrites refused name scene c.args.session.now) phase.Prewrite (due_prewrite c.args.session.now)
     (λ name scene refused. rw declared refl)
-    (record { place = c.in-Some.place; body = request.Prewrite c.in-Some.body }) c.args.store.now (record { last = c.args.store.now.last; region = c.prewrite.new.self })
+    (record { place = c.in-Some.place; body = request.Prewrite c.in-Some.body }) c.args.store.now c.prewrite.new.self
     c.in-Ok-prewrite.answer (sym (rw c.in-Some.is at c.in-Ok.ensures.ok))
-    (record {
-      answers = (c.in-Ok-prewrite.ensures.ok).0;
-      region = (c.in-Ok-prewrite.ensures.ok).1;
-      number = refl;
-      read = omega (arith, c.prewrite.ensures.read, c.requires.room.1);
-    }))
+    (record { executed = c.in-Ok-prewrite.ensures.ok; number = c.prewrite.ensures.last }))
 
 pub returns-clause-goes : goal.returns-clause-goes
 returns-clause-goes c =
@@ -42,5 +34,5 @@ returns-clause-goes c =
     rw c.miss.ensures
     (refused_so c.args.session.now (λ name scene refused. prewrites refused name scene c.args.session.now) phase.Prewrite (due_prewrite c.args.session.now)
     (λ name scene refused. rw declared refl)
-    (record { place = c.in-Some.place; body = request.Prewrite c.in-Some.body }) c.args.store.now (record { last = c.args.store.now.last; region = c.prewrite.new.self })
-    (sym (rw c.in-Some.is at c.in-Ok.ensures.ok)) c.in-Err.ensures.same refl)
+    (record { place = c.in-Some.place; body = request.Prewrite c.in-Some.body }) c.args.store.now c.prewrite.new.self
+    (sym (rw c.in-Some.is at c.in-Ok.ensures.ok)) c.in-Err.ensures.same c.prewrite.ensures.last)

@@ -1,4 +1,4 @@
-use Rattle.std.proofs.Common.{◌≡◌, refl, ◌∙◌, arith}
+use Rattle.std.proofs.Common.{◌≡◌, refl, ◌∙◌}
 use Rattle.std.proofs.lemmas.Result.{IfOk-weaker}
 use Rattle.tx_plan.specs.declared.body.Body.TheVariants as request
 use Rattle.tx_script.proofs.SessionSteps.{reads_buffer, reads_region}
@@ -13,13 +13,8 @@ returns-in-Some-clause-goes c =
 pub returns-clause-goes : goal.returns-clause-goes
 returns-clause-goes c =
     let key : c.in_ok-key.key ≡ c.args.key.now = c.in_ok-key.ensures.ok ∙ c.as_bytes.ensures.value in
-    IfOk-weaker c.get.result _ _ (λ a said. reads_region c.args.session.now c.args.key.now c.args.store.now (record { last = c.args.store.now.last; region = c.get.new.self })
+    IfOk-weaker c.get.result _ _ (λ a said. reads_region c.args.session.now c.args.key.now c.args.store.now c.get.new.self
     (request.Get (record { key = c.in_ok-key.key; at = c.start.result; bypass = c.new-2.result })) a c.requires.fits
     (λ later scene. rw key at (rw c.in_default.is at c.in_ok-answer.ensures.none) later scene)
     (rw (key, c.start.ensures, c.new-2.ensures) refl)
-    (record {
-      answers = said.0;
-      region = said.1;
-      number = refl;
-      read = omega (arith, c.get.ensures.read, c.requires.room);
-    })) c.get.ensures.ok
+    (record { executed = said; number = c.get.ensures.last })) c.get.ensures.ok
