@@ -5,7 +5,7 @@ use Rattle.tx_types.specs.declared.mutation.Fate.TheVariants.{Committed, Aborted
 use Rattle.tx_machine.specs.Keys.{mutation_at}
 use Rattle.tx_machine.specs.Machine.{Open, Done}
 use Rattle.tx_plan.specs.Cells.{Lock, Cells, with_lock}
-use Rattle.tx_plan.specs.Traces.{OwnLock, OwnRollback, on_own_lock, leave_rollback, without_own, roll_back, settled, settle}
+use Rattle.tx_plan.specs.Own.{OwnLock, OwnRollback, on_own_lock, leave_rollback, without_own, roll_back, lock_committed as settled, commit_lock as settle}
 use Rattle.tx_core.specs.Histories.{set_of}
 use Rattle.tx_core.proofs.Basics.{nat_same, cond_true, some_same}
 use Rattle.tx_core.proofs.View.{View, Inv, IsPrimary, IsCommitted, IsAborted, FellBack, one_first, does_declared}

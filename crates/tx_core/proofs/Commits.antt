@@ -10,7 +10,7 @@ use Rattle.tx_plan.specs.declared.body.Body.TheVariants as body
 use Rattle.tx_plan.specs.declared.answer.Answer.{Answer}
 use Rattle.tx_plan.specs.declared.answer.Answer.TheVariants.{Committed, WriteConflict, AlreadyRolledBack, CommitTsExpired, TxnLockNotFound, BelowSafePoint}
 use Rattle.tx_plan.specs.Cells.{Lock}
-use Rattle.tx_plan.specs.Traces.{OwnLock, OwnCommit, settled, settle}
+use Rattle.tx_plan.specs.Own.{OwnLock, OwnCommit, lock_committed as settled, commit_lock as settle}
 use Rattle.tx_plan.specs.cases.Commit.{AnswersCommit, leaves_commit}
 use Rattle.tx_core.specs.Histories.{History, declared, is_first, set_of, set_at, left}
 use Rattle.tx_core.specs.Decisions.{Settles, NoEffect, is_own, accepted, first_decided, decided}

@@ -11,7 +11,7 @@ use Rattle.tx_types.specs.declared.mutation.Fate.TheVariants.{Committed, Aborted
 use Rattle.tx_machine.specs.Keys.{mutation_at}
 use Rattle.tx_machine.specs.Machine.{State, Open, Done}
 use Rattle.tx_plan.specs.Cells.{Lock}
-use Rattle.tx_plan.specs.Traces.{OwnLock}
+use Rattle.tx_plan.specs.Own.{OwnLock}
 use Rattle.tx_core.specs.Histories.{set_of, is_first}
 use Rattle.tx_core.specs.Decisions.{Acceptance, async_minimum, greater, greatest}
 use Rattle.tx_core.proofs.Basics.{nat_test, key_test, key_same, cond_true, cond_false, some_same, some_of, is_some}

@@ -6,7 +6,7 @@ use Rattle.tx_types.specs.declared.mutation.Fate.TheVariants.{Committed, Aborted
 use Rattle.tx_machine.specs.Keys.{mutation_at}
 use Rattle.tx_machine.specs.Machine.{State, Open, Done}
 use Rattle.tx_plan.specs.Cells.{Lock, Cells}
-use Rattle.tx_plan.specs.Traces.{OwnLock, OwnRollback}
+use Rattle.tx_plan.specs.Own.{OwnLock, OwnRollback}
 use Rattle.tx_core.specs.declared.event.Declaration.{Declaration}
 use Rattle.tx_core.specs.Histories.{set_of, is_first}
 use Rattle.tx_core.specs.Decisions.{Acceptance, greatest}

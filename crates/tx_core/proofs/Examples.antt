@@ -7,7 +7,7 @@ use Rattle.tx_types.specs.declared.mutation.Mode.TheVariants as mode
 use Rattle.tx_plan.specs.declared.body.Body.TheVariants.{Get, Prewrite, Commit}
 use Rattle.tx_plan.specs.declared.answer.Answer.TheVariants.{Found, Nothing, Prewritten, Committed}
 use Rattle.tx_plan.specs.Cells.{CommitRecord, CommitOf, Rollback}
-use Rattle.tx_plan.specs.Traces.{OthersCommit}
+use Rattle.tx_plan.specs.Own.{OthersCommit}
 use Rattle.tx_plan.specs.cases.Prewrite.{lock_of}
 use Rattle.tx_core.specs.declared.event.Declaration.{Declaration}
 use Rattle.tx_core.specs.declared.event.Taken.{Taken}

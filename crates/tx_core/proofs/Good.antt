@@ -12,7 +12,7 @@ use Rattle.tx_plan.specs.declared.answer.Answer.{Answer}
 use Rattle.tx_plan.specs.declared.answer.Answer.TheVariants.{Found, Nothing, Rows, KeyIsLocked}
 use Rattle.tx_plan.specs.Cells.{Lock, Region, Cells, with_cells, with_max_read}
 use Rattle.tx_plan.specs.Reads.{raised}
-use Rattle.tx_plan.specs.Traces.{OwnCommit, OwnRollback}
+use Rattle.tx_plan.specs.Own.{OwnCommit, OwnRollback}
 use Rattle.tx_plan.specs.Answers.{leaves, start_in}
 use Rattle.tx_core.specs.declared.event.Taken.{Taken}
 use Rattle.tx_core.specs.declared.event.Event.TheVariants.{Took}

@@ -4,7 +4,7 @@ use Rattle.tx_types.specs.declared.key.Key.{Key}
 use Rattle.tx_types.specs.declared.mutation.Mutation.{Mutation}
 use Rattle.tx_machine.specs.Keys.{mutation_at}
 use Rattle.tx_plan.specs.Cells.{Lock, CommitRecord, CommitOf, Cells, with_lock}
-use Rattle.tx_plan.specs.Traces.{on_own_lock}
+use Rattle.tx_plan.specs.Own.{on_own_lock}
 use Rattle.tx_core.specs.Histories.{set_of, is_first}
 use Rattle.tx_core.specs.Decisions.{Acceptance}
 use Rattle.tx_core.proofs.Basics.{some_same}

@@ -5,7 +5,7 @@ use Rattle.tx_types.specs.declared.mutation.Mutation.{Mutation}
 use Rattle.tx_types.specs.Keys.{IsVisible}
 use Rattle.tx_machine.specs.Machine.{Open}
 use Rattle.tx_plan.specs.Cells.{Lock, CommitRecord, CommitOf, Cells}
-use Rattle.tx_plan.specs.Traces.{OwnRollback, on_own_lock}
+use Rattle.tx_plan.specs.Own.{OwnRollback, on_own_lock}
 use Rattle.tx_core.specs.Histories.{set_of, is_first}
 use Rattle.tx_core.specs.Decisions.{Acceptance}
 use Rattle.tx_core.proofs.Basics.{nat_test, key_test, some_same}

@@ -8,7 +8,7 @@ use Rattle.tx_types.specs.declared.mutation.Mode.TheVariants.{TwoPhase, Async}
 use Rattle.tx_types.specs.Keys.{IsVisible}
 use Rattle.tx_machine.specs.Machine.{Open, IsRead}
 use Rattle.tx_plan.specs.Cells.{Lock, CommitRecord, CommitOf, Writes, with_lock}
-use Rattle.tx_plan.specs.Traces.{OwnCommit, OwnRollback}
+use Rattle.tx_plan.specs.Own.{OwnCommit, OwnRollback}
 use Rattle.tx_core.specs.declared.event.Declaration.{Declaration}
 use Rattle.tx_core.specs.Histories.{set_of, is_first}
 use Rattle.tx_core.specs.Decisions.{Acceptance, Puts, first_accepted, accepted_by}

@@ -6,7 +6,7 @@ use Rattle.tx_types.specs.declared.mutation.Mode.TheVariants.{TwoPhase}
 use Rattle.tx_types.specs.declared.mutation.Fate.TheVariants.{Committed, Aborted}
 use Rattle.tx_machine.specs.Machine.{State, Open, Done}
 use Rattle.tx_plan.specs.Cells.{Lock, with_lock}
-use Rattle.tx_plan.specs.Traces.{OwnLock, OwnRollback}
+use Rattle.tx_plan.specs.Own.{OwnLock, OwnRollback}
 use Rattle.tx_core.specs.Histories.{set_of}
 use Rattle.tx_core.specs.Decisions.{Acceptance, first_accepted, greatest}
 use Rattle.tx_core.proofs.Basics.{nat_test, cond_true, cond_false, some_same, none_is}

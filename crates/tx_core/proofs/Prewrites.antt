@@ -13,7 +13,7 @@ use Rattle.tx_plan.specs.declared.body.Body.TheVariants as body
 use Rattle.tx_plan.specs.declared.answer.Answer.{Answer}
 use Rattle.tx_plan.specs.declared.answer.Answer.TheVariants.{Prewritten, KeyIsLocked, WriteConflict, AlreadyRolledBack, AlreadyCommitted, BelowSafePoint, FutureTimestamp}
 use Rattle.tx_plan.specs.Cells.{Lock, CommitRecord, CommitOf, with_lock, info_of}
-use Rattle.tx_plan.specs.Traces.{OwnLock, OwnRollback}
+use Rattle.tx_plan.specs.Own.{OwnLock, OwnRollback}
 use Rattle.tx_plan.specs.Tables.{Case}
 use Rattle.tx_plan.specs.cases.Prewrite.{AnswersPrewrite, IsWithin, MayPromise, leaves_prewrite, lock_of, locked, named_minimum}
 use Rattle.tx_core.specs.declared.event.Declaration.{Declaration}

@@ -5,7 +5,7 @@ use Rattle.tx_types.specs.declared.key.Key.{Key}
 use Rattle.tx_types.specs.declared.mutation.Mutation.{Mutation}
 use Rattle.tx_types.specs.Keys.{IsVisible}
 use Rattle.tx_plan.specs.Cells.{Lock, CommitRecord, CommitOf, Writes, Cells, with_lock}
-use Rattle.tx_plan.specs.Traces.{OwnLock, OwnRollback, on_own_lock}
+use Rattle.tx_plan.specs.Own.{OwnLock, OwnRollback, on_own_lock}
 use Rattle.tx_core.specs.Histories.{set_of, is_first}
 use Rattle.tx_core.specs.Decisions.{Acceptance}
 use Rattle.tx_core.proofs.Basics.{nat_test, key_test, cond_true, cond_false, some_same}

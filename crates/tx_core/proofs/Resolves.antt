@@ -10,8 +10,8 @@ use Rattle.tx_plan.specs.declared.body.Body.TheVariants as body
 use Rattle.tx_plan.specs.declared.answer.Answer.{Answer}
 use Rattle.tx_plan.specs.declared.answer.Answer.TheVariants.{Resolved, CommitTsExpired, WriteConflict, BelowSafePoint}
 use Rattle.tx_plan.specs.Cells.{Lock}
-use Rattle.tx_plan.specs.Traces.{OwnLock, on_own_lock, roll_back, settled, settle}
-use Rattle.tx_plan.specs.cases.Commit.{SettlesLock}
+use Rattle.tx_plan.specs.Own.{OwnLock, on_own_lock, roll_back, lock_committed as settled, commit_lock as settle}
+use Rattle.tx_plan.specs.cases.Commit.{CommitsLock as SettlesLock}
 use Rattle.tx_plan.specs.cases.ResolveLock.{ResolvesLock, AnswersResolveLock, resolve, leaves_resolve_lock}
 use Rattle.tx_core.specs.Histories.{History, is_first, set_at, left}
 use Rattle.tx_core.specs.Decisions.{Settles, RollsBack, NoEffect, is_own, effect_of_fate, accepted, first_decided, decided}

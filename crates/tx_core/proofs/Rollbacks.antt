@@ -11,7 +11,7 @@ use Rattle.tx_plan.specs.declared.body.Body.TheVariants as body
 use Rattle.tx_plan.specs.declared.answer.Answer.{Answer}
 use Rattle.tx_plan.specs.declared.answer.Answer.TheVariants.{RolledBack, AlreadyCommitted, BelowSafePoint}
 use Rattle.tx_plan.specs.Cells.{Lock}
-use Rattle.tx_plan.specs.Traces.{OwnLock, OwnCommit, roll_back}
+use Rattle.tx_plan.specs.Own.{OwnLock, OwnCommit, roll_back}
 use Rattle.tx_plan.specs.cases.BatchRollback.{AnswersBatchRollback, leaves_batch_rollback}
 use Rattle.tx_core.specs.Histories.{History, declared, is_first, set_of, left}
 use Rattle.tx_core.specs.Decisions.{RollsBack, accepted, first_decided, decided}

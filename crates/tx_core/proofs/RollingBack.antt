@@ -4,7 +4,7 @@ use Rattle.std.proofs.lemmas.Bool.{eqb-true, eq-eqb, ne_eqb}
 use Rattle.tx_types.specs.declared.key.Key.{Key}
 use Rattle.tx_types.specs.Keys.{IsVisible}
 use Rattle.tx_plan.specs.Cells.{Lock, CommitRecord, Write, CommitOf, Rollback, Cells, with_lock}
-use Rattle.tx_plan.specs.Traces.{OwnRollback, on_own_lock, marked, rolled, leave_rollback, without_own, roll_back}
+use Rattle.tx_plan.specs.Own.{OwnRollback, on_own_lock, marked, rolled, leave_rollback, without_own, roll_back}
 use Rattle.tx_core.proofs.Basics.{nat_test, nat_same, chosen, cond_true, cond_false, some_same}
 use Rattle.tx_core.proofs.View.{View, Inv, Does, IsCommitted, IsAborted, Written, Held}
 use Rattle.tx_core.proofs.Keyed.{keyed, keyed_same, keyed_to, own_cases, inv_written}

@@ -11,7 +11,7 @@ use Rattle.tx_plan.specs.declared.body.Body.TheVariants as body
 use Rattle.tx_plan.specs.declared.answer.Answer.{Answer}
 use Rattle.tx_plan.specs.declared.answer.Answer.TheVariants.{Missing, Committed, Locked, BelowSafePoint}
 use Rattle.tx_plan.specs.Cells.{Lock, info_of}
-use Rattle.tx_plan.specs.Traces.{OwnLock, OwnCommit, leave_rollback}
+use Rattle.tx_plan.specs.Own.{OwnLock, OwnCommit, leave_rollback}
 use Rattle.tx_plan.specs.cases.CheckSecondaryLocks.{AnswersCheckSecondaryLocks, leaves_check_secondary_locks}
 use Rattle.tx_core.specs.Histories.{History, declared, set_of, set_at, left}
 use Rattle.tx_core.specs.Decisions.{RollsBack, accepted, first_decided, decided}

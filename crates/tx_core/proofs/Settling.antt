@@ -6,7 +6,7 @@ use Rattle.tx_types.specs.declared.mutation.Mutation.{Mutation}
 use Rattle.tx_types.specs.declared.mutation.Fate.TheVariants.{Committed}
 use Rattle.tx_machine.specs.Machine.{Done}
 use Rattle.tx_plan.specs.Cells.{Lock, CommitRecord, Write, CommitOf, Rollback}
-use Rattle.tx_plan.specs.Traces.{OwnRollback, is_rollback, commit_of, settled, settle}
+use Rattle.tx_plan.specs.Own.{OwnRollback, is_rollback, commit_of, lock_committed as settled, commit_lock as settle}
 use Rattle.tx_core.proofs.Basics.{nat_test, chosen, cond_true, cond_false}
 use Rattle.tx_core.proofs.View.{View, Inv, Does, IsCommitted, IsAborted, Written, Held, Gone}
 use Rattle.tx_core.proofs.Keyed.{keyed, keyed_same, keyed_to, own_cases, inv_written}

@@ -12,7 +12,7 @@ use Rattle.tx_plan.specs.declared.body.CheckTxnStatus.{CheckTxnStatus}
 use Rattle.tx_plan.specs.declared.answer.Answer.{Answer}
 use Rattle.tx_plan.specs.declared.answer.Answer.TheVariants.{Prewritten, Committed, RolledBack, Locked}
 use Rattle.tx_plan.specs.Cells.{Lock, info_of}
-use Rattle.tx_plan.specs.Traces.{OwnLock}
+use Rattle.tx_plan.specs.Own.{OwnLock}
 use Rattle.tx_plan.specs.Answers.{Answers}
 use Rattle.tx_plan.specs.Tables.{Case}
 use Rattle.tx_plan.specs.cases.Prewrite.{AnswersPrewrite, IsWithin, MayPromise, lock_of, named_minimum}

@@ -5,7 +5,7 @@ use Rattle.tx_types.specs.declared.value.Value.{Value}
 use Rattle.tx_types.specs.declared.mutation.Fate.{Fate}
 use Rattle.tx_machine.specs.Machine.{State, Open, Done}
 use Rattle.tx_plan.specs.Cells.{Lock, Cells}
-use Rattle.tx_plan.specs.Traces.{OwnLock}
+use Rattle.tx_plan.specs.Own.{OwnLock}
 use Rattle.tx_core.specs.declared.event.Declaration.{Declaration}
 use Rattle.tx_core.specs.Decisions.{Acceptance}
 use Rattle.tx_core.proofs.Basics.{nat_test, key_same, key_true, some_of, none_is}

@@ -12,7 +12,7 @@ use Rattle.tx_plan.specs.declared.body.Body.TheVariants as body
 use Rattle.tx_plan.specs.declared.answer.Answer.{Answer}
 use Rattle.tx_plan.specs.declared.answer.Answer.TheVariants.{Committed, RolledBack, Locked, BelowSafePoint, FutureTimestamp, TxnNotFound}
 use Rattle.tx_plan.specs.Cells.{Lock, info_of}
-use Rattle.tx_plan.specs.Traces.{OwnLock, OwnCommit, OwnRollback, roll_back}
+use Rattle.tx_plan.specs.Own.{OwnLock, OwnCommit, OwnRollback, roll_back}
 use Rattle.tx_plan.specs.cases.CheckTxnStatus.{AnswersCheckTxnStatus, ChecksLock, with_minimum, leaves_check_txn_status}
 use Rattle.tx_core.specs.Histories.{History, declared, is_first, set_of, left}
 use Rattle.tx_core.specs.Decisions.{RollsBack, NoEffect, accepted, first_decided, decided}

@@ -11,7 +11,7 @@ use Rattle.tx_types.specs.Keys.{IsVisible}
 use Rattle.tx_machine.specs.Keys.{mutation_at}
 use Rattle.tx_machine.specs.Machine.{State, Open, Done, Reading, IsRead}
 use Rattle.tx_plan.specs.Cells.{Lock, CommitRecord, CommitOf, Cells}
-use Rattle.tx_plan.specs.Traces.{OwnLock, OwnCommit, OwnRollback}
+use Rattle.tx_plan.specs.Own.{OwnLock, OwnCommit, OwnRollback}
 use Rattle.std.proofs.lemmas.Bool.{cases_Bool}
 use Rattle.tx_core.specs.declared.event.Declaration.{Declaration}
 use Rattle.tx_core.specs.Histories.{set_of, is_first}

@@ -13,7 +13,7 @@ use Rattle.tx_plan.specs.Cells as cells
 use Rattle.tx_types.specs.Keys.{IsVisible}
 use Rattle.tx_plan.specs.Cells.{CommitRecord, CommitOf, Write, Writes}
 use Rattle.tx_plan.specs.Whole.{whole_write, whole_commit}
-use Rattle.tx_plan.specs.Traces.{OwnCommit}
+use Rattle.tx_plan.specs.Own.{OwnCommit}
 use Rattle.tx_plan.specs.Reads.{Finds, NoneWritten}
 use Rattle.tx_plan.specs.cases.Prewrite.{NewestAbove}
 use Rattle.tx_region.proofs.Basics.{some_same}

@@ -7,7 +7,7 @@ use Rattle.tx_plan.specs.declared.body.Commit.{Commit}
 use Rattle.tx_plan.specs.declared.key_change.KeyChange.TheVariants as change
 use Rattle.tx_plan.specs.Cells.{Lock, CommitRecord, CommitOf, Cells, with_write}
 use Rattle.tx_plan.specs.Changes.{changed, committed}
-use Rattle.tx_plan.specs.Traces.{OwnLock, is_rollback, settle, settled}
+use Rattle.tx_plan.specs.Own.{OwnLock, is_rollback, settle, settled}
 use Rattle.tx_plan.specs.cases.Commit.{leaves_commit}
 use Rattle.tx_region.proofs.Basics.{some_same, cond_true}
 

@@ -3,7 +3,7 @@ ghost use Rattle.std.specs.Prelude.{◌≡◌, ◌<◌, ◌≤◌, ◌↔◌, �
 ghost use Rattle.tx_plan.specs.Cells.{Lock, no_cells, with_lock};
 ghost use Rattle.tx_plan.specs.Whole.{whole_lock};
 ghost use Rattle.tx_plan.specs.Changes.{changed};
-ghost use Rattle.tx_plan.specs.Traces.{OwnLock, is_rollback, settle};
+ghost use Rattle.tx_plan.specs.Own.{OwnLock, is_rollback, settle};
 ghost use Rattle.tx_plan.specs.cases.Prewrite.{AnswersPrewrite, leaves_prewrite, least_minimum};
 ghost use Rattle.tx_plan.specs.cases.Commit.{AnswersCommit, leaves_commit};
 ghost use Rattle.tx_plan.specs.declared.key_change.KeyChange.TheVariants as change;

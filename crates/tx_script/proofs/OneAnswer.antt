@@ -17,10 +17,10 @@ use Rattle.tx_plan.specs.Tables.{Case, CaseOf}
 use Rattle.tx_types.specs.Keys.{IsVisible}
 use Rattle.tx_plan.specs.Cells.{Lock, CommitRecord, CommitOf, Writes, Cells, info_of}
 use Rattle.tx_plan.specs.Reads.{Finds, Reads, read_answer}
-use Rattle.tx_plan.specs.Traces.{OwnCommit}
+use Rattle.tx_plan.specs.Own.{OwnCommit}
 use Rattle.tx_plan.specs.cases.Get.{AnswersGet}
 use Rattle.tx_plan.specs.cases.Prewrite.{IsWithin, named_minimum, NewestAbove, AnswersPrewrite}
-use Rattle.tx_plan.specs.cases.Commit.{SettlesLock, AnswersCommit}
+use Rattle.tx_plan.specs.cases.Commit.{CommitsLock as SettlesLock, AnswersCommit}
 use Rattle.tx_plan.specs.Answers.{AnswersLeast}
 use Rattle.tx_core.specs.Histories.{History, last, left}
 use Rattle.tx_core.specs.Decisions.{decided}

@@ -38,6 +38,11 @@ fn rolls_back(rt: &HostRuntime, start: u64, seen: Seen) -> (Short, Short) {
 fn rows_of_batch_rollback(rt: HostRuntime) {
     for (start, seen, answer, change) in ROWS {
         let given = rolls_back(&rt, start, seen);
-        assert!(rt; is(given.0, answer) && is(given.1, change), "{} {}", answer.0, change.0);
+        assert!(rt;
+            is(given.0, answer) && is(given.1, change),
+            "{} {}",
+            answer.0,
+            change.0
+        );
     }
 }

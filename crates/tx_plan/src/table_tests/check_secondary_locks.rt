@@ -31,6 +31,11 @@ fn finds(rt: &HostRuntime, start: u64, seen: Seen) -> (Short, Short) {
 fn rows_of_check_secondary_locks(rt: HostRuntime) {
     for (start, seen, answer, change) in ROWS {
         let given = finds(&rt, start, seen);
-        assert!(rt; is(given.0, answer) && is(given.1, change), "{} {}", answer.0, change.0);
+        assert!(rt;
+            is(given.0, answer) && is(given.1, change),
+            "{} {}",
+            answer.0,
+            change.0
+        );
     }
 }

@@ -53,7 +53,9 @@ const FORCED_EXPIRED: Check = Check {
 };
 
 const DONE: Short = ("RolledBack", 0, 0);
+
 const TOLD: Short = ("Locked", 7, 0);
+
 const PUSHED: Short = ("Locked", 8, 0);
 
 // What is asked, what is seen of the key, the answer and the change.
@@ -94,6 +96,11 @@ fn checks(rt: &HostRuntime, check: Check, seen: Seen) -> (Short, Short) {
 fn rows_of_check_txn_status(rt: HostRuntime) {
     for (check, seen, answer, change) in ROWS {
         let given = checks(&rt, check, seen);
-        assert!(rt; is(given.0, answer) && is(given.1, change), "{} {}", answer.0, change.0);
+        assert!(rt;
+            is(given.0, answer) && is(given.1, change),
+            "{} {}",
+            answer.0,
+            change.0
+        );
     }
 }

@@ -46,6 +46,10 @@ fn commits(rt: &HostRuntime, start: u64, commit: u64, seen: Seen) -> (Short, Sho
 fn rows_of_commit(rt: HostRuntime) {
     for (start, commit, seen, answer, change) in ROWS {
         let given = commits(&rt, start, commit, seen);
-        assert!(rt; is(given.0, answer) && is(given.1, change), "{} {commit}", answer.0);
+        assert!(rt;
+            is(given.0, answer) && is(given.1, change),
+            "{} {commit}",
+            answer.0
+        );
     }
 }

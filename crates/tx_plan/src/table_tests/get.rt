@@ -13,8 +13,11 @@ const LOCK_ONLY: Seen = Seen {
 };
 
 const NONE: u64 = 0;
+
 const NOTHING: Short = ("Nothing", 0, 0);
+
 const FOUND: Short = ("Found", 1, 0);
+
 const BLOCKED: Short = ("KeyIsLocked", 0, 0);
 
 // Timestamp, a transaction that is passed by, what is seen of the key and its value, the answer and the timestamp read.

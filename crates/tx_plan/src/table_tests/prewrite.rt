@@ -65,9 +65,19 @@ const ROWS: [(Asked, Seen, Short, Short); 15] = [
     (TWO_PHASE, COMMITTED, ("AlreadyCommitted", 8, 0), SAME),
     (TWO_PHASE, OTHERS, ("KeyIsLocked", 0, 0), SAME),
     (TWO_PHASE, CONFLICT, ("WriteConflict", 8, 10), SAME),
-    (TWO_PHASE, SHARED, ("Prewritten", 0, 0), LOCKED_IN_TWO_PHASES),
+    (
+        TWO_PHASE,
+        SHARED,
+        ("Prewritten", 0, 0),
+        LOCKED_IN_TWO_PHASES,
+    ),
     (TWO_PHASE, FREE, ("Prewritten", 0, 0), LOCKED_IN_TWO_PHASES),
-    (UNBOUNDED, FREE, ("Prewritten", 12, 0), ("async lock", 12, 0)),
+    (
+        UNBOUNDED,
+        FREE,
+        ("Prewritten", 12, 0),
+        ("async lock", 12, 0),
+    ),
     (UNREAD, FREE, ("Prewritten", 16, 0), ("async lock", 16, 0)),
     (ALLOWED, FREE, ("Prewritten", 12, 0), ("async lock", 12, 0)),
     (FALLS_BACK, FREE, ("Prewritten", 0, 0), LOCKED_IN_TWO_PHASES),
@@ -98,6 +108,11 @@ fn prewrites(rt: &HostRuntime, asked: Asked, seen: Seen) -> (Short, Short) {
 fn rows_of_prewrite(rt: HostRuntime) {
     for (asked, seen, answer, change) in ROWS {
         let given = prewrites(&rt, asked, seen);
-        assert!(rt; is(given.0, answer) && is(given.1, change), "{} {}", answer.0, change.0);
+        assert!(rt;
+            is(given.0, answer) && is(given.1, change),
+            "{} {}",
+            answer.0,
+            change.0
+        );
     }
 }

@@ -15,6 +15,7 @@ const OVERLAP: Seen = Seen {
 };
 
 const DONE: Short = ("Resolved", 0, 0);
+
 const ABORTED: Option<u64> = None;
 
 // Start, the commit timestamp of a committed transaction, what is seen of the key, the answer and the change.
@@ -52,6 +53,11 @@ fn resolves(rt: &HostRuntime, start: u64, commit: Option<u64>, seen: Seen) -> (S
 fn rows_of_resolve_lock(rt: HostRuntime) {
     for (start, commit, seen, answer, change) in ROWS {
         let given = resolves(&rt, start, commit, seen);
-        assert!(rt; is(given.0, answer) && is(given.1, change), "{} {}", answer.0, change.0);
+        assert!(rt;
+            is(given.0, answer) && is(given.1, change),
+            "{} {}",
+            answer.0,
+            change.0
+        );
     }
 }

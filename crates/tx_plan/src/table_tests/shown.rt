@@ -13,6 +13,7 @@ pub fn is(given: Short, wanted: Short) -> bool {
 
 /// An answer of `BelowSafePoint` at 3 and of `FutureTimestamp` at 20: the regions of these tables.
 pub const BELOW: Short = ("BelowSafePoint", 3, 0);
+
 pub const FUTURE: Short = ("FutureTimestamp", 20, 0);
 
 // A refusal.

@@ -31,6 +31,10 @@ fn beats(rt: &HostRuntime, start: u64, ttl: u32, seen: Seen) -> (Short, Short) {
 fn rows_of_txn_heart_beat(rt: HostRuntime) {
     for (start, ttl, seen, answer, change) in ROWS {
         let given = beats(&rt, start, ttl, seen);
-        assert!(rt; is(given.0, answer) && is(given.1, change), "{} {ttl}", answer.0);
+        assert!(rt;
+            is(given.0, answer) && is(given.1, change),
+            "{} {ttl}",
+            answer.0
+        );
     }
 }
