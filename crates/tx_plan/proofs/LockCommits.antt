@@ -12,7 +12,7 @@ use Rattle.tx_plan.specs.Own.{is_rollback}
 use Rattle.tx_plan.specs.Views.{HasOwnHead}
 use Rattle.tx_plan.specs.Committing.{MayCommitAt, IsRefusal}
 use Rattle.tx_plan.specs.Changes.{CommitsAt}
-use Rattle.tx_plan.specs.cases.Commit.{SettlesLock, leaves_commit}
+use Rattle.tx_plan.specs.cases.Commit.{CommitsLock, leaves_commit}
 use Rattle.tx_plan.specs.cases.ResolveLock.{ResolvesLock, leaves_resolve_lock}
 
 -- a refusal changes nothing
@@ -27,12 +27,12 @@ refused_resolve cells b (CommitTsExpired min) is = refl
 refused_resolve cells b _ is = absurd is
 
 -- a transaction that is known to be committed is resolved as a commit is
-pub resolves : (write : Writes) (start c : ℕ) (lock : Lock) (f : Fate) (a : Answer) → f ≡ Committed c → SettlesLock write start c lock Resolved a → ResolvesLock write start lock f a
-resolves write start c lock f a e settles = subst (λ (g : Fate). ResolvesLock write start lock g a) (sym e) settles
+pub resolves : (write : Writes) (start c : ℕ) (lock : Lock) (f : Fate) (a : Answer) → f ≡ Committed c → CommitsLock write start c lock Resolved a → ResolvesLock write start lock f a
+resolves write start c lock f a e commits = subst (λ (g : Fate). ResolvesLock write start lock g a) (sym e) commits
 
 module _ (cells : Cells) (start c : ℕ) (head : LockHead) (own : HasOwnHead cells.lock start head) (may : MayCommitAt cells.write start c own.lock) where
   -- where nothing refuses it, it is done
-  pub not_refused : (done : Answer) → SettlesLock cells.write start c own.lock done done
+  pub not_refused : (done : Answer) → CommitsLock cells.write start c own.lock done done
   not_refused done = inr (λ below. omega (arith, below, may.upto), inr (may.unconflicted, refl))
 
   -- and what it takes for granted is so

@@ -6,7 +6,7 @@ use Rattle.tx_plan.specs.declared.answer.Answer.{Answer}
 use Rattle.tx_plan.specs.declared.answer.Answer.TheVariants.{WriteConflict, CommitTsExpired}
 use Rattle.tx_plan.specs.Cells.{Lock, CommitRecord, Writes}
 use Rattle.tx_plan.specs.Own.{OthersCommit}
-use Rattle.tx_plan.specs.cases.Commit.{SettlesLock}
+use Rattle.tx_plan.specs.cases.Commit.{CommitsLock}
 
 -- a transaction's lock may be committed at c: not below its minimum, and not where another transaction committed
 pub record MayCommitAt (write : Writes) (start c : ℕ) (lock : Lock) : Type 0 where
@@ -22,7 +22,7 @@ IsRefusal _ = ⊥
 -- this refuses to commit the lock at c
 pub record RefusesCommit (write : Writes) (start c : ℕ) (lock : Lock) (a : Answer) : Type 0 where
   pub refusal : IsRefusal a
-  pub decides : (done : Answer) → SettlesLock write start c lock done a
+  pub decides : (done : Answer) → CommitsLock write start c lock done a
 
 -- the timestamp at which a transaction of this fate is committed, or 0
 abbrev pub commit_in : Fate → ℕ

@@ -59,10 +59,10 @@ is_rollback (Some (CommitOf rec)) = false
 abbrev pub commit_of : Lock → Option Write → CommitRecord
 commit_of lock before = record { mutation = lock.mutation; start = lock.start; overlapped_rollback = is_rollback before }
 
--- settle a lock at c: it is removed, and its commit record stands at c
-abbrev pub settled : Cells → ℕ → Lock → Cells
-settled cells c lock = record { lock = None; write = with_write cells.write c (CommitOf (commit_of lock (cells.write c))) }
+-- commit a lock at c: it is removed, and its commit record is at c
+abbrev pub lock_committed : Cells → ℕ → Lock → Cells
+lock_committed cells c lock = record { lock = None; write = with_write cells.write c (CommitOf (commit_of lock (cells.write c))) }
 
--- settle its lock at c, where it stands
-abbrev pub settle : Cells → ℕ → ℕ → Cells
-settle cells t c = on_own_lock cells t (λ lock. settled cells c lock)
+-- commit its lock at c, where it is there
+abbrev pub commit_lock : Cells → ℕ → ℕ → Cells
+commit_lock cells t c = on_own_lock cells t (λ lock. lock_committed cells c lock)

@@ -1,5 +1,6 @@
 //! What is asked of a region: one struct a command, and `Body`, which is any of them.
 ghost use Rattle.std.specs.Prelude.{◌≡◌, IfOk, IfErr};
+ghost use Rattle.tx_plan.specs.Committing.{commit_in};
 
 use crate::lists::Starts;
 use tx_types::{Fate, Fault, Key, Mode, Mutation, RegionNo, Secondaries, Ts};
@@ -93,6 +94,18 @@ pub struct ResolveLock {
     pub key: Key,
     pub start: Ts,
     pub fate: Fate,
+}
+
+impl ResolveLock {
+    /// The timestamp at which the transaction is committed, or 0: its plan sees what is there.
+    pub fn commit(&self) -> Ts
+        ensures { result ≡ commit_in self.now.fate }
+    {
+        match self.fate {
+            Fate::Committed(commit) => commit,
+            Fate::Aborted => Ts::ZERO,
+        }
+    }
 }
 
 /// Asks a region to raise its safe point.

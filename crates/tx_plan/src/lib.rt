@@ -4,8 +4,8 @@
 
 mod answer;
 mod body;
-mod key_records;
 mod key_change;
+mod key_records;
 mod laws;
 mod lists;
 mod plan;
@@ -22,9 +22,9 @@ pub use body::{
     BatchRollback, Body, CheckSecondaryLocks, CheckTxnStatus, Collect, Commit, Get, LocksBelow,
     Prewrite, RaiseSafe, ResolveLock, Scan, TxnHeartBeat,
 };
-pub use key_records::{KeyCollection, KeyRecords, RecordKind, collect_key};
 pub use key_change::{KeyChange, Left, NewLock};
-pub use laws::{least_minimum_is_free, rollback_left_again_stays};
+pub use key_records::{KeyCollection, KeyRecords, RecordKind, collect_key};
+pub use laws::{cells_stay_sound, least_minimum_is_free, rollback_left_again_stays};
 pub use lists::{Infos, Starts};
 pub use plan::batch_rollback::plan_batch_rollback;
 pub use plan::check_secondary_locks::plan_check_secondary_locks;

@@ -5,7 +5,7 @@ use Rattle.tx_types.specs.declared.mutation.Fate.TheVariants.{Committed, Aborted
 use Rattle.tx_machine.specs.Keys.{mutation_at}
 use Rattle.tx_machine.specs.Machine.{Open, Done}
 use Rattle.tx_plan.specs.Cells.{Lock, Cells, with_lock}
-use Rattle.tx_plan.specs.Own.{OwnLock, OwnRollback, on_own_lock, leave_rollback, without_own, roll_back, settled, settle}
+use Rattle.tx_plan.specs.Own.{OwnLock, OwnRollback, on_own_lock, leave_rollback, without_own, roll_back, lock_committed, commit_lock}
 use Rattle.tx_core.specs.Histories.{set_of}
 use Rattle.tx_core.proofs.Basics.{nat_same, cond_true, some_same}
 use Rattle.tx_core.proofs.view.View.{View, Inv, IsPrimary, IsCommitted, IsAborted, FellBack, one_first, does_declared}
@@ -31,9 +31,9 @@ ends_lengthen w k t ttl ends =
 -- it is committed: its lock is settled
 pub ends_settle : (w : View) (k : Key) (t c : ℕ) → Inv w → Ends w → IsCommitted w.decided t c → Ends (settling w k t c)
 ends_settle w k t c i ends end =
-    elim (own_cases (w.cells k) t (λ lock. settled (w.cells k) c lock)) [
-      | inl x ↦ keyed_to w k (settled (w.cells k) c x.0) (settle (w.cells k) t c) Ends (sym x.3) (ends_keyed w k (settled (w.cells k) c x.0) ends (λ lock e. absurd (cc (e))) (kept_rollback w k x.0 c i x.1 (ap w.decided x.2 ∙ end)))
-      | inr x ↦ keyed_to w k (w.cells k) (settle (w.cells k) t c) Ends (sym x.1) (subst Ends (sym (keyed_same w k)) ends)
+    elim (own_cases (w.cells k) t (λ lock. lock_committed (w.cells k) c lock)) [
+      | inl x ↦ keyed_to w k (lock_committed (w.cells k) c x.0) (commit_lock (w.cells k) t c) Ends (sym x.3) (ends_keyed w k (lock_committed (w.cells k) c x.0) ends (λ lock e. absurd (cc (e))) (kept_rollback w k x.0 c i x.1 (ap w.decided x.2 ∙ end)))
+      | inr x ↦ keyed_to w k (w.cells k) (commit_lock (w.cells k) t c) Ends (sym x.1) (subst Ends (sym (keyed_same w k)) ends)
     ]
 
 -- it is aborted: it is rolled back, with the lock
@@ -57,15 +57,15 @@ ends_resolve_back w k t ends =
 -- it had a two-phase key and was open
 pub ends_finish : (w : View) (k : Key) (t c : ℕ) (lock : Lock) → Inv w → Ends w → CanDecide w t c → FellBack w.accepted t → IsPrimary w.declared t k → OwnLock (w.cells k).lock t lock → Ends (settling (deciding w t c) k t c)
 ends_finish w k t c lock i ends may fell first own =
-    elim (own_cases (w.cells k) t (λ l. settled (w.cells k) c l)) [
-      | inl x ↦ keyed_to (deciding w t c) k (settled (w.cells k) c x.0) (settle (w.cells k) t c) Ends (sym x.3) (done x.0 x.1 x.2)
+    elim (own_cases (w.cells k) t (λ l. lock_committed (w.cells k) c l)) [
+      | inl x ↦ keyed_to (deciding w t c) k (lock_committed (w.cells k) c x.0) (commit_lock (w.cells k) t c) Ends (sym x.3) (done x.0 x.1 x.2)
       | inr x ↦ absurd (x.0 lock own.stands own.own)
     ]
   where
     now : (deciding w t c).decided t ≡ Done (Committed c)
     now = cond_true (t == t) (Done (Committed c)) (w.decided t) (nat_same t)
 
-    done : (old : Lock) → (w.cells k).lock ≡ Some old → old.start ≡ t → Ends (keyed (deciding w t c) k (settled (w.cells k) c old))
+    done : (old : Lock) → (w.cells k).lock ≡ Some old → old.start ≡ t → Ends (keyed (deciding w t c) k (lock_committed (w.cells k) c old))
     done old stands mine =
         record {
           all_async = λ u d most. still_decided w t c i may u (Committed d) (ends.all_async u d most);
@@ -84,14 +84,14 @@ ends_finish w k t c lock i ends may fell first own =
               ];
         }
       where
-        gone : (q : Key) (other : Lock) (u : ℕ) → k ≡ q → OwnLock ((keyed (deciding w t c) k (settled (w.cells k) c old)).cells q).lock u other → ⊥
-        gone q other u same at = at_cells (deciding w t c) k q (settled (w.cells k) c old) (λ x cells. cells.lock ≡ Some other → ⊥) (λ e. (cc (e))) (λ apart e. apart same) at.stands
+        gone : (q : Key) (other : Lock) (u : ℕ) → k ≡ q → OwnLock ((keyed (deciding w t c) k (lock_committed (w.cells k) c old)).cells q).lock u other → ⊥
+        gone q other u same at = at_cells (deciding w t c) k q (lock_committed (w.cells k) c old) (λ x cells. cells.lock ≡ Some other → ⊥) (λ e. (cc (e))) (λ apart e. apart same) at.stands
 
-        stood : (q : Key) (other : Lock) (u : ℕ) → OwnLock ((keyed (deciding w t c) k (settled (w.cells k) c old)).cells q).lock u other → OwnLock (w.cells q).lock u other
-        stood q other u at = record { stands = at_cells (deciding w t c) k q (settled (w.cells k) c old) (λ x cells. cells.lock ≡ Some other → (w.cells x).lock ≡ Some other) (λ e. absurd (cc (e))) (λ apart e. e) at.stands; own = at.own }
+        stood : (q : Key) (other : Lock) (u : ℕ) → OwnLock ((keyed (deciding w t c) k (lock_committed (w.cells k) c old)).cells q).lock u other → OwnLock (w.cells q).lock u other
+        stood q other u at = record { stands = at_cells (deciding w t c) k q (lock_committed (w.cells k) c old) (λ x cells. cells.lock ≡ Some other → (w.cells x).lock ≡ Some other) (λ e. absurd (cc (e))) (λ apart e. e) at.stands; own = at.own }
 
-        kept : (q : Key) (u : ℕ) → IsAborted (deciding w t c).decided u → OwnRollback (w.cells q).write u → OwnRollback ((keyed (deciding w t c) k (settled (w.cells k) c old)).cells q).write u
-        kept q u end = at_cells (deciding w t c) k q (settled (w.cells k) c old) (λ x cells. OwnRollback (w.cells x).write u → OwnRollback cells.write u) (kept_rollback (deciding w t c) k old c (inv_decide w t c i may) stands (ap (deciding w t c).decided mine ∙ now) u end) (λ apart own. own)
+        kept : (q : Key) (u : ℕ) → IsAborted (deciding w t c).decided u → OwnRollback (w.cells q).write u → OwnRollback ((keyed (deciding w t c) k (lock_committed (w.cells k) c old)).cells q).write u
+        kept q u end = at_cells (deciding w t c) k q (lock_committed (w.cells k) c old) (λ x cells. OwnRollback (w.cells x).write u → OwnRollback cells.write u) (kept_rollback (deciding w t c) k old c (inv_decide w t c i may) stands (ap (deciding w t c).decided mine ∙ now) u end) (λ apart own. own)
 
 -- ---- of a transaction that this aborts
 

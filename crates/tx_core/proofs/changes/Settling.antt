@@ -6,14 +6,14 @@ use Rattle.tx_types.specs.declared.mutation.Mutation.{Mutation}
 use Rattle.tx_types.specs.declared.mutation.Fate.TheVariants.{Committed}
 use Rattle.tx_machine.specs.Machine.{Done}
 use Rattle.tx_plan.specs.Cells.{Lock, CommitRecord, Write, CommitOf, Rollback}
-use Rattle.tx_plan.specs.Own.{OwnRollback, is_rollback, commit_of, settled, settle}
+use Rattle.tx_plan.specs.Own.{OwnRollback, is_rollback, commit_of, lock_committed, commit_lock}
 use Rattle.tx_core.proofs.Basics.{nat_test, chosen, cond_true, cond_false}
 use Rattle.tx_core.proofs.view.View.{View, OnCells, Inv, Does, IsCommitted, IsAborted, Written, Held, Gone}
 use Rattle.tx_core.proofs.changes.Keyed.{keyed, keyed_same, keyed_to, own_cases, inv_written}
 
 -- the lock of the transaction on k becomes its commit record at c, where it stands
 abbrev pub settling : View → Key → ℕ → ℕ → View
-settling w k t c = keyed w k (settle (w.cells k) t c)
+settling w k t c = keyed w k (commit_lock (w.cells k) t c)
 
 -- commit records that stand in one place are one
 pub commit_same : (x y : CommitRecord) → Some (CommitOf x) ≡ Some (CommitOf y) → x ≡ y
@@ -34,7 +34,7 @@ module _ (w : View) (k : Key) (lock : Lock) (c : ℕ) (i : Inv w) (stands : (w.c
       ]
 
   -- rollbacks of aborted transactions are kept, by the mark where the record takes the place of one
-  pub kept_rollback : (t : ℕ) → IsAborted w.decided t → OwnRollback (w.cells k).write t → OwnRollback (settled (w.cells k) c lock).write t
+  pub kept_rollback : (t : ℕ) → IsAborted w.decided t → OwnRollback (w.cells k).write t → OwnRollback (lock_committed (w.cells k) c lock).write t
   kept_rollback t gone own =
       elim (nat_test c t) [
         | inl x ↦ elim own [
@@ -49,14 +49,14 @@ module _ (w : View) (k : Key) (lock : Lock) (c : ℕ) (i : Inv w) (stands : (w.c
       ]
 
   -- the records after it: the new one, and those before
-  was_record : (d : ℕ) (rec : CommitRecord) → (settled (w.cells k) c lock).write d ≡ Some (CommitOf rec) → ((c ≡ d) × (commit_of lock ((w.cells k).write c) ≡ rec)) ⊎ ((w.cells k).write d ≡ Some (CommitOf rec))
+  was_record : (d : ℕ) (rec : CommitRecord) → (lock_committed (w.cells k) c lock).write d ≡ Some (CommitOf rec) → ((c ≡ d) × (commit_of lock ((w.cells k).write c) ≡ rec)) ⊎ ((w.cells k).write d ≡ Some (CommitOf rec))
   was_record d rec e =
       elim (chosen (c == d) (Some (CommitOf (commit_of lock ((w.cells k).write c)))) ((w.cells k).write d) (Some (CommitOf rec)) e) [
         | inl x ↦ inl (eqb-true c d x.0, commit_same (commit_of lock ((w.cells k).write c)) rec x.1)
         | inr x ↦ inr x.1
       ]
 
-  new_rollbacks : (t : ℕ) → OwnRollback (settled (w.cells k) c lock).write t → IsAborted w.decided t
+  new_rollbacks : (t : ℕ) → OwnRollback (lock_committed (w.cells k) c lock).write t → IsAborted w.decided t
   new_rollbacks t own =
       elim own [
         | inl back ↦ elim (chosen (c == t) (Some (CommitOf (commit_of lock ((w.cells k).write c)))) ((w.cells k).write t) (Some Rollback) back) [ inl x ↦ absurd (cc (x.1)) | inr x ↦ (i.keys k).records.rolled t (inl x.1) ]
@@ -66,7 +66,7 @@ module _ (w : View) (k : Key) (lock : Lock) (c : ℕ) (i : Inv w) (stands : (w.c
         ]
       ]
 
-  new_complete : (u d : ℕ) (m : Mutation) → IsCommitted w.decided u d → Written (w.cells k) u d ⊎ Held (w.cells k) u ⊎ Gone w.decided w.declared k d (w.collected k) m → Written (settled (w.cells k) c lock) u d ⊎ Held (settled (w.cells k) c lock) u ⊎ Gone w.decided w.declared k d (w.collected k) m
+  new_complete : (u d : ℕ) (m : Mutation) → IsCommitted w.decided u d → Written (w.cells k) u d ⊎ Held (w.cells k) u ⊎ Gone w.decided w.declared k d (w.collected k) m → Written (lock_committed (w.cells k) c lock) u d ⊎ Held (lock_committed (w.cells k) c lock) u ⊎ Gone w.decided w.declared k d (w.collected k) m
   new_complete u d m e old =
       elim old [
         | inl x ↦ inl (elim (nat_test c d) [
@@ -81,9 +81,9 @@ module _ (w : View) (k : Key) (lock : Lock) (c : ℕ) (i : Inv w) (stands : (w.c
       ]
 
   -- the invariants stay
-  pub inv_settled : Inv (keyed w k (settled (w.cells k) c lock))
+  pub inv_settled : Inv (keyed w k (lock_committed (w.cells k) c lock))
   inv_settled =
-      inv_written w k (settled (w.cells k) c lock) i record {
+      inv_written w k (lock_committed (w.cells k) c lock) i record {
         stood = λ other e. absurd (cc (e));
         unwritten = λ other e. absurd (cc (e));
         records = record {
@@ -109,7 +109,7 @@ module _ (w : View) (k : Key) (lock : Lock) (c : ℕ) (i : Inv w) (stands : (w.c
 -- where a transaction is committed at c, its lock on a key may be settled, if it stands
 pub inv_settle : (w : View) (k : Key) (t c : ℕ) → Inv w → IsCommitted w.decided t c → Inv (settling w k t c)
 inv_settle w k t c i end =
-    elim (own_cases (w.cells k) t (λ lock. settled (w.cells k) c lock)) [
-      | inl x ↦ keyed_to w k (settled (w.cells k) c x.0) (settle (w.cells k) t c) Inv (sym x.3) (inv_settled w k x.0 c i x.1 (ap w.decided x.2 ∙ end))
-      | inr x ↦ keyed_to w k (w.cells k) (settle (w.cells k) t c) Inv (sym x.1) (subst Inv (sym (keyed_same w k)) i)
+    elim (own_cases (w.cells k) t (λ lock. lock_committed (w.cells k) c lock)) [
+      | inl x ↦ keyed_to w k (lock_committed (w.cells k) c x.0) (commit_lock (w.cells k) t c) Inv (sym x.3) (inv_settled w k x.0 c i x.1 (ap w.decided x.2 ∙ end))
+      | inr x ↦ keyed_to w k (w.cells k) (commit_lock (w.cells k) t c) Inv (sym x.1) (subst Inv (sym (keyed_same w k)) i)
     ]

@@ -10,7 +10,7 @@ use Rattle.tx_plan.specs.declared.body.Prewrite.{Prewrite}
 use Rattle.tx_plan.specs.declared.answer.Answer.{Answer}
 use Rattle.tx_plan.specs.declared.answer.Answer.TheVariants.{Prewritten, Committed, RolledBack, Missing, Locked, Resolved, Ttl, Raised, Collected}
 use Rattle.tx_plan.specs.Cells.{Lock, Cells, Region, with_cells, with_lock}
-use Rattle.tx_plan.specs.Own.{on_own_lock, without_own, roll_back, settle, settled}
+use Rattle.tx_plan.specs.Own.{on_own_lock, without_own, roll_back, commit_lock, lock_committed}
 use Rattle.tx_plan.specs.Answers.{leaves}
 use Rattle.tx_plan.specs.cases.Prewrite.{lock_of, leaves_prewrite}
 use Rattle.tx_plan.specs.cases.Commit.{leaves_commit}
@@ -61,8 +61,8 @@ own_changed cells t f does lock e =
       | inr x ↦ stood cells.lock lock (ap (λ (c : Cells). c.lock) (sym x.1) ∙ e)
     ]
 
-settle_left : (cells : Cells) (t c : ℕ) (lock : Lock) → (settle cells t c).lock ≡ Some lock → Stood cells.lock lock
-settle_left cells t c = own_changed cells t (λ lock. settled cells c lock) (λ old lock is e. absurd (cc (e)))
+settle_left : (cells : Cells) (t c : ℕ) (lock : Lock) → (commit_lock cells t c).lock ≡ Some lock → Stood cells.lock lock
+settle_left cells t c = own_changed cells t (λ lock. lock_committed cells c lock) (λ old lock is e. absurd (cc (e)))
 
 -- its own lock, put back with another minimum or time to live
 put_back : (cells : Cells) (t : ℕ) (f : Lock → Lock) → ((old : Lock) → SameLock old (f old)) → (lock : Lock) → (on_own_lock cells t (λ old. with_lock cells (Some (f old)))).lock ≡ Some lock → Stood cells.lock lock

@@ -10,7 +10,7 @@ use Rattle.tx_plan.specs.declared.body.Body.TheVariants as body
 use Rattle.tx_plan.specs.declared.answer.Answer.{Answer}
 use Rattle.tx_plan.specs.declared.answer.Answer.TheVariants.{Committed, WriteConflict, AlreadyRolledBack, CommitTsExpired, TxnLockNotFound, BelowSafePoint}
 use Rattle.tx_plan.specs.Cells.{Lock}
-use Rattle.tx_plan.specs.Own.{OwnLock, OwnCommit, settled, settle}
+use Rattle.tx_plan.specs.Own.{OwnLock, OwnCommit, lock_committed, commit_lock}
 use Rattle.tx_plan.specs.cases.Commit.{AnswersCommit, leaves_commit}
 use Rattle.tx_core.specs.Histories.{History, declared, is_first, set_of, set_at, left}
 use Rattle.tx_core.specs.Decisions.{Settles, NoEffect, is_own, accepted, first_decided, decided}
@@ -45,7 +45,7 @@ module _ (bounds : List Key) (h : History) (good : Good bounds h) (b : Commit) (
     -- of a transaction that was decided so before
     follows : IsCommitted (decided h) b.start b.commit → Next bounds h (took (route bounds b.key) (body.Commit b) l (Committed b.commit))
     follows end =
-        assemble bounds h b.key (body.Commit b) l (Committed b.commit) b.start (λ c. leaves_commit c b (Committed b.commit)) (on_key (Committed b.commit)) (Settles b.key b.start b.commit) settles (decided h) (accepted h) (shown_in h) (settle (cells_at bounds h b.key) b.start b.commit) (shadow h) same_fate
+        assemble bounds h b.key (body.Commit b) l (Committed b.commit) b.start (λ c. leaves_commit c b (Committed b.commit)) (on_key (Committed b.commit)) (Settles b.key b.start b.commit) settles (decided h) (accepted h) (shown_in h) (commit_lock (cells_at bounds h b.key) b.start b.commit) (shadow h) same_fate
         (λ u q. refl)
         (λ u. refl)
         refl
@@ -66,7 +66,7 @@ module _ (bounds : List Key) (h : History) (good : Good bounds h) (b : Commit) (
     decides fell first may =
         let w = decide.deciding (view bounds h) b.start b.commit in
         let sound = sound_settle (step.Commit b.start b.commit ∷ shadow h) w b.key b.start b.commit (sound_decide (shadow h) (view bounds h) b.start b.commit good.sound may) now in
-        assemble bounds h b.key (body.Commit b) l (Committed b.commit) b.start (λ c. leaves_commit c b (Committed b.commit)) (on_key (Committed b.commit)) (Settles b.key b.start b.commit) settles w.decided (accepted h) (shown_in h) (settle (cells_at bounds h b.key) b.start b.commit) (step.Commit b.start b.commit ∷ shadow h) new_fate
+        assemble bounds h b.key (body.Commit b) l (Committed b.commit) b.start (λ c. leaves_commit c b (Committed b.commit)) (on_key (Committed b.commit)) (Settles b.key b.start b.commit) settles w.decided (accepted h) (shown_in h) (commit_lock (cells_at bounds h b.key) b.start b.commit) (step.Commit b.start b.commit ∷ shadow h) new_fate
         (λ u q. refl)
         (λ u. refl)
         refl
@@ -105,7 +105,7 @@ module _ (bounds : List Key) (h : History) (good : Good bounds h) (b : Commit) (
       quiet bounds h good b.key (body.Commit b) l (Committed c) b.start (λ x. leaves_commit x b (Committed c)) (on_key (Committed c))
       (ap (λ y. cond y (Settles b.key b.start b.commit) NoEffect) (not_own (cells_at bounds h b.key).lock b.start (λ lock e mine. unlocked lock (record { stands = e; own = mine }))))
       (λ u n. refl)
-      (elim (own_cases (cells_at bounds h b.key) b.start (λ lock. settled (cells_at bounds h b.key) b.commit lock)) [
+      (elim (own_cases (cells_at bounds h b.key) b.start (λ lock. lock_committed (cells_at bounds h b.key) b.commit lock)) [
         | inl x ↦ absurd (unlocked x.0 (record { stands = x.1; own = x.2 }))
         | inr x ↦ x.1
       ])

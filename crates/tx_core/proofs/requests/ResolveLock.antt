@@ -10,8 +10,8 @@ use Rattle.tx_plan.specs.declared.body.Body.TheVariants as body
 use Rattle.tx_plan.specs.declared.answer.Answer.{Answer}
 use Rattle.tx_plan.specs.declared.answer.Answer.TheVariants.{Resolved, CommitTsExpired, WriteConflict, BelowSafePoint}
 use Rattle.tx_plan.specs.Cells.{Lock}
-use Rattle.tx_plan.specs.Own.{OwnLock, on_own_lock, roll_back, settled, settle}
-use Rattle.tx_plan.specs.cases.Commit.{SettlesLock}
+use Rattle.tx_plan.specs.Own.{OwnLock, on_own_lock, roll_back, lock_committed, commit_lock}
+use Rattle.tx_plan.specs.cases.Commit.{CommitsLock}
 use Rattle.tx_plan.specs.cases.ResolveLock.{ResolvesLock, AnswersResolveLock, resolve, leaves_resolve_lock}
 use Rattle.tx_core.specs.Histories.{History, is_first, set_at, left}
 use Rattle.tx_core.specs.Decisions.{Settles, NoEffect, is_own, effect_of_fate, accepted, first_decided, decided}
@@ -58,7 +58,7 @@ module _ (bounds : List Key) (h : History) (good : Good bounds h) (b : ResolveLo
     -- it is settled
     settles : (c : ℕ) → b.fate ≡ fate.Committed c → IsCommitted (decided h) b.start c → Next bounds h (took (route bounds b.key) (body.ResolveLock b) l Resolved)
     settles c p end =
-        assemble bounds h b.key (body.ResolveLock b) l Resolved b.start (λ x. leaves_resolve_lock x b Resolved) (on_key Resolved) (Settles b.key b.start c) (has_effect (fate.Committed c) p) (decided h) (accepted h) (shown_in h) (settle (cells_at bounds h b.key) b.start c) (shadow h) same_fate
+        assemble bounds h b.key (body.ResolveLock b) l Resolved b.start (λ x. leaves_resolve_lock x b Resolved) (on_key Resolved) (Settles b.key b.start c) (has_effect (fate.Committed c) p) (decided h) (accepted h) (shown_in h) (commit_lock (cells_at bounds h b.key) b.start c) (shadow h) same_fate
         (λ u q. refl)
         (λ u. refl)
         (ap (resolve (cells_at bounds h b.key) b.start) p)
@@ -75,7 +75,7 @@ module _ (bounds : List Key) (h : History) (good : Good bounds h) (b : ResolveLo
             ]
 
     -- the refusals of a commit
-    by_commit : (c : ℕ) (a : Answer) → b.fate ≡ fate.Committed c → IsCommitted (decided h) b.start c → SettlesLock (cells_at bounds h b.key).write b.start c lock Resolved a → Next bounds h (took (route bounds b.key) (body.ResolveLock b) l a)
+    by_commit : (c : ℕ) (a : Answer) → b.fate ≡ fate.Committed c → IsCommitted (decided h) b.start c → CommitsLock (cells_at bounds h b.key).write b.start c lock Resolved a → Next bounds h (took (route bounds b.key) (body.ResolveLock b) l a)
     by_commit c a p end (inl x) = silent a (CommitTsExpired lock.min) x.1 (quiet bounds h good b.key (body.ResolveLock b) l (CommitTsExpired lock.min) b.start (λ x. leaves_resolve_lock x b (CommitTsExpired lock.min)) (on_key (CommitTsExpired lock.min)) refl (λ u n. refl) refl tt)
     by_commit c a p end (inr (no0, inl (rec, x, e))) = silent a (WriteConflict rec.start c) e (quiet bounds h good b.key (body.ResolveLock b) l (WriteConflict rec.start c) b.start (λ x. leaves_resolve_lock x b (WriteConflict rec.start c)) (on_key (WriteConflict rec.start c)) refl (λ u n. refl) refl tt)
     by_commit c a p end (inr (no0, inr (no1, e))) = silent a Resolved e (settles c p end)
@@ -94,7 +94,7 @@ module _ (bounds : List Key) (h : History) (good : Good bounds h) (b : ResolveLo
         | inr x ↦ x.1
       ]
   nothing (fate.Committed c) unlocked =
-      elim (own_cases (cells_at bounds h b.key) b.start (λ lock. settled (cells_at bounds h b.key) c lock)) [
+      elim (own_cases (cells_at bounds h b.key) b.start (λ lock. lock_committed (cells_at bounds h b.key) c lock)) [
         | inl x ↦ absurd (unlocked x.0 (record { stands = x.1; own = x.2 }))
         | inr x ↦ x.1
       ]

@@ -21,7 +21,7 @@ use Rattle.tx_plan.specs.Reads.{read_answer}
 use Rattle.tx_plan.specs.Own.{OwnCommit}
 use Rattle.tx_plan.specs.cases.Get.{AnswersGet}
 use Rattle.tx_plan.specs.cases.Prewrite.{IsWithin, named_minimum, NewestAbove, AnswersPrewrite}
-use Rattle.tx_plan.specs.cases.Commit.{SettlesLock, AnswersCommit}
+use Rattle.tx_plan.specs.cases.Commit.{CommitsLock, AnswersCommit}
 use Rattle.tx_plan.specs.cases.BatchRollback.{AnswersBatchRollback}
 use Rattle.tx_plan.specs.cases.TxnHeartBeat.{AnswersTxnHeartBeat}
 use Rattle.tx_plan.specs.cases.CheckTxnStatus.{ChecksLock, AnswersCheckTxnStatus}
@@ -76,11 +76,11 @@ one_prewrite cells safe loaded least q a b own =
 
 -- ---- commits, and locks that are resolved
 
-one_settling : (write : Writes) (start commit : ℕ) (lock also : Lock) (done a b : Answer) → lock ≡ also → SettlesLock write start commit lock done a → SettlesLock write start commit also done b → a ≡ b
+one_settling : (write : Writes) (start commit : ℕ) (lock also : Lock) (done a b : Answer) → lock ≡ also → CommitsLock write start commit lock done a → CommitsLock write start commit also done b → a ≡ b
 one_settling write start commit lock also done a b e x y =
     one_case (same _ a b)
     (one_case_of (λ r s z w. alike (λ (rec : CommitRecord). WriteConflict rec.start commit) r s a b (one_record write commit r s z.stands w.stands))
-    (same done a b)) x (subst (λ l. SettlesLock write start commit l done b) (sym e) y)
+    (same done a b)) x (subst (λ l. CommitsLock write start commit l done b) (sym e) y)
 
 pub one_commit : (cells : Cells) (collected : ℕ) (q : Commit) (a b : Answer) → OneCommit cells.write q.start → AnswersCommit cells collected q a → AnswersCommit cells collected q b → a ≡ b
 one_commit cells collected q a b own =

@@ -5,27 +5,27 @@ use Rattle.tx_plan.specs.declared.answer.Answer.{Answer}
 use Rattle.tx_plan.specs.declared.answer.Answer.TheVariants.{Committed, WriteConflict, AlreadyRolledBack, CommitTsExpired, TxnLockNotFound, BelowSafePoint}
 use Rattle.tx_plan.specs.Tables.{Case, CaseOf}
 use Rattle.tx_plan.specs.Cells.{Lock, Writes, Cells}
-use Rattle.tx_plan.specs.Own.{OwnLock, OwnCommit, OthersCommit, OwnRollback, settle}
+use Rattle.tx_plan.specs.Own.{OwnLock, OwnCommit, OthersCommit, OwnRollback, commit_lock}
 
 -- The cases where the transaction's lock stands: a commit below the lock's minimum, or at a timestamp where another's commit record
 -- stands, is refused; else it is done.
-abbrev pub SettlesLock : Writes → ℕ → ℕ → Lock → Answer → Answer → Type 0
-SettlesLock write start commit lock done a =
+abbrev pub CommitsLock : Writes → ℕ → ℕ → Lock → Answer → Answer → Type 0
+CommitsLock write start commit lock done a =
     Case (commit < lock.min) (a ≡ CommitTsExpired lock.min)
     (CaseOf (λ rec. OthersCommit write start commit rec) (λ rec. a ≡ WriteConflict rec.start commit)
     (a ≡ done))
 
--- A start below the last collection is refused. The transaction's lock is settled; where it is gone, what stands of the transaction
+-- A start below the last collection is refused. The transaction's lock is committed; where it is gone, what stands of the transaction
 -- is told.
 abbrev pub AnswersCommit : Cells → ℕ → Commit → Answer → Type 0
 AnswersCommit cells collected b a =
     Case (b.start < collected) (a ≡ BelowSafePoint collected)
-    (CaseOf (λ lock. OwnLock cells.lock b.start lock) (λ lock. SettlesLock cells.write b.start b.commit lock (Committed b.commit) a)
+    (CaseOf (λ lock. OwnLock cells.lock b.start lock) (λ lock. CommitsLock cells.write b.start b.commit lock (Committed b.commit) a)
     (CaseOf (λ c. OwnCommit cells.write b.start c) (λ c. a ≡ Committed c)
     (Case (OwnRollback cells.write b.start) (a ≡ AlreadyRolledBack)
     (a ≡ TxnLockNotFound))))
 
--- Where it is committed and its lock stands, the lock is settled.
+-- Where it answers that the transaction is committed and its lock stands, the lock becomes its commit record.
 abbrev pub leaves_commit : Cells → Commit → Answer → Cells
-leaves_commit cells b (Committed c) = settle cells b.start b.commit
+leaves_commit cells b (Committed c) = commit_lock cells b.start b.commit
 leaves_commit cells b _ = cells

@@ -7,13 +7,13 @@ use Rattle.tx_plan.specs.declared.answer.Answer.{Answer}
 use Rattle.tx_plan.specs.declared.answer.Answer.TheVariants.{Resolved, BelowSafePoint}
 use Rattle.tx_plan.specs.Tables.{Case, CaseOf}
 use Rattle.tx_plan.specs.Cells.{Lock, Writes, Cells}
-use Rattle.tx_plan.specs.Own.{OwnLock, on_own_lock, roll_back, settle}
-use Rattle.tx_plan.specs.cases.Commit.{SettlesLock}
+use Rattle.tx_plan.specs.Own.{OwnLock, on_own_lock, roll_back, commit_lock}
+use Rattle.tx_plan.specs.cases.Commit.{CommitsLock}
 
 -- The cases where the transaction's lock stands: it is rolled back, or committed with the refusals of a commit.
 abbrev pub ResolvesLock : Writes → ℕ → Lock → Fate → Answer → Type 0
 ResolvesLock write start lock fate.Aborted a = a ≡ Resolved
-ResolvesLock write start lock (fate.Committed c) a = SettlesLock write start c lock Resolved a
+ResolvesLock write start lock (fate.Committed c) a = CommitsLock write start c lock Resolved a
 
 -- A start below the last collection is refused. The transaction's lock is resolved; where there is none, nothing is to be done.
 abbrev pub AnswersResolveLock : Cells → ℕ → ResolveLock → Answer → Type 0
@@ -25,9 +25,9 @@ AnswersResolveLock cells collected b a =
 -- what resolving does to the transaction's lock
 abbrev pub resolve : Cells → ℕ → Fate → Cells
 resolve cells start fate.Aborted = on_own_lock cells start (λ lock. roll_back cells start)
-resolve cells start (fate.Committed c) = settle cells start c
+resolve cells start (fate.Committed c) = commit_lock cells start c
 
--- Where it is resolved and the transaction's lock stands, the lock is rolled back, or settled.
+-- Where it is resolved and the transaction's lock stands, the lock is rolled back, or committed.
 abbrev pub leaves_resolve_lock : Cells → ResolveLock → Answer → Cells
 leaves_resolve_lock cells b Resolved = resolve cells b.start b.fate
 leaves_resolve_lock cells b _ = cells

@@ -1,43 +1,49 @@
 //! The rows of BatchRollback.
-use crate::table_tests::shown::{BELOW, SAME, Short, is, plan};
-use crate::table_tests::views::*;
+use crate::table_tests::shown::Word::*;
+use crate::table_tests::shown::{BELOW, SAME, Short, is_plan};
+use crate::table_tests::views::Seen::*;
+use crate::table_tests::views::{Seen, key, view_of};
 use crate::{BatchRollback, plan_batch_rollback};
-use tx_types::Ts;
+use tx_types::{Fault, Ts};
 
-const OVERLAP: Seen = Seen {
-    at_start: CommitOf(4),
-    ..LOCKED
-};
-
-const DONE: Short = ("RolledBack", 0, 0);
+const DONE: Short = (RolledBack, 0, 0);
 
 // Start, what is seen of the key, the answer and the change.
-const ROWS: [(u64, Seen, Short, Short); 8] = [
-    (2, FREE, BELOW, SAME),
-    (5, LOCKED, DONE, ("rollback", 5, 1)),
-    (5, OVERLAP, DONE, ("mark", 5, 1)),
-    (5, COMMITTED, ("AlreadyCommitted", 8, 0), SAME),
-    (5, ROLLED_BACK, DONE, ("rolled back", 5, 0)),
-    (5, MARKED, DONE, ("rolled back", 5, 0)),
-    (5, FREE, DONE, ("rollback", 5, 0)),
-    (5, OTHERS, DONE, ("rollback", 5, 0)),
+type Row = (u64, Seen, Short, Short);
+
+const ROWS: [Row; 8] = [
+    (2, Free, BELOW, SAME),
+    (5, Own, DONE, (Rollback, 5, 1)),
+    (5, OwnAndStart, DONE, (Mark, 5, 1)),
+    (5, Done, (AlreadyCommitted, 8, 0), SAME),
+    (5, Undone, DONE, (Stays, 5, 0)),
+    (5, Marked, DONE, (Stays, 5, 0)),
+    (5, Free, DONE, (Rollback, 5, 0)),
+    (5, Others, DONE, (Rollback, 5, 0)),
 ];
 
-fn rolls_back(rt: &HostRuntime, start: u64, seen: Seen) -> (Short, Short) {
-    let Ok(key) = key(rt) else {
-        return (SAME, SAME);
-    };
-    let body = BatchRollback {
-        key,
-        start: Ts::new(start),
-    };
-    plan(&plan_batch_rollback(&view_of(seen), Ts::new(3), &body))
+fn body(rt: &HostRuntime, row: Row) -> Result<BatchRollback, Fault> {
+    let key = key(rt)?;
+    let start = Ts::new(row.0);
+    Ok(BatchRollback { key, start })
+}
+
+fn plans(body: &BatchRollback, row: Row) -> bool {
+    let (_, seen, answer, change) = row;
+    let given = plan_batch_rollback(&view_of(seen), Ts::new(3), body);
+    is_plan(&given, answer, change)
+}
+
+fn holds(rt: &HostRuntime, row: Row) -> bool {
+    match body(rt, row) {
+        Ok(body) => plans(&body, row),
+        Err(_) => false,
+    }
 }
 
 #[test]
 fn rows_of_batch_rollback(rt: HostRuntime) {
-    for (start, seen, answer, change) in ROWS {
-        let given = rolls_back(&rt, start, seen);
-        assert!(rt; is(given.0, answer) && is(given.1, change), "{} {}", answer.0, change.0);
+    for row in ROWS {
+        assert!(rt; holds(&rt, row));
     }
 }

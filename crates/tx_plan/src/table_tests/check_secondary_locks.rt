@@ -1,36 +1,47 @@
 //! The rows of CheckSecondaryLocks.
-use crate::table_tests::shown::{BELOW, SAME, Short, is, plan};
-use crate::table_tests::views::*;
+use crate::table_tests::shown::Word::*;
+use crate::table_tests::shown::{BELOW, SAME, Short, is_plan};
+use crate::table_tests::views::Seen::*;
+use crate::table_tests::views::{Seen, key, view_of};
 use crate::{CheckSecondaryLocks, plan_check_secondary_locks};
-use tx_types::Ts;
+use tx_types::{Fault, Ts};
 
-const MISSING: Short = ("Missing", 0, 0);
+const NONE: Short = (Missing, 0, 0);
 
 // Start, what is seen of the key, the answer and the change.
-const ROWS: [(u64, Seen, Short, Short); 6] = [
-    (2, FREE, BELOW, SAME),
-    (5, ASYNC, ("Locked", 7, 0), SAME),
-    (5, COMMITTED, ("Committed", 8, 0), SAME),
-    (5, ROLLED_BACK, MISSING, ("rolled back", 5, 0)),
-    (5, SHARED, MISSING, ("mark", 5, 0)),
-    (5, OTHERS, MISSING, ("rollback", 5, 0)),
+type Row = (u64, Seen, Short, Short);
+
+const ROWS: [Row; 6] = [
+    (2, Free, BELOW, SAME),
+    (5, OwnAsync, (Locked, 7, 0), SAME),
+    (5, Done, (Committed, 8, 0), SAME),
+    (5, Undone, NONE, (Stays, 5, 0)),
+    (5, Shared, NONE, (Mark, 5, 0)),
+    (5, Others, NONE, (Rollback, 5, 0)),
 ];
 
-fn finds(rt: &HostRuntime, start: u64, seen: Seen) -> (Short, Short) {
-    let Ok(key) = key(rt) else {
-        return (SAME, SAME);
-    };
-    let body = CheckSecondaryLocks {
-        key,
-        start: Ts::new(start),
-    };
-    plan(&plan_check_secondary_locks(&view_of(seen), Ts::new(3), &body))
+fn body(rt: &HostRuntime, row: Row) -> Result<CheckSecondaryLocks, Fault> {
+    let key = key(rt)?;
+    let start = Ts::new(row.0);
+    Ok(CheckSecondaryLocks { key, start })
+}
+
+fn plans(body: &CheckSecondaryLocks, row: Row) -> bool {
+    let (_, seen, answer, change) = row;
+    let given = plan_check_secondary_locks(&view_of(seen), Ts::new(3), body);
+    is_plan(&given, answer, change)
+}
+
+fn holds(rt: &HostRuntime, row: Row) -> bool {
+    match body(rt, row) {
+        Ok(body) => plans(&body, row),
+        Err(_) => false,
+    }
 }
 
 #[test]
 fn rows_of_check_secondary_locks(rt: HostRuntime) {
-    for (start, seen, answer, change) in ROWS {
-        let given = finds(&rt, start, seen);
-        assert!(rt; is(given.0, answer) && is(given.1, change), "{} {}", answer.0, change.0);
+    for row in ROWS {
+        assert!(rt; holds(&rt, row));
     }
 }

@@ -1,99 +1,81 @@
 //! The rows of CheckTxnStatus.
-use crate::table_tests::shown::{BELOW, FUTURE, SAME, Short, is, plan};
-use crate::table_tests::views::*;
+use crate::table_tests::shown::Word::*;
+use crate::table_tests::shown::{BELOW, FUTURE, SAME, Short, is_plan};
+use crate::table_tests::views::Seen::*;
+use crate::table_tests::views::{Seen, key, view_of};
 use crate::{CheckTxnStatus, plan_check_txn_status};
-use tx_types::Ts;
+use tx_types::{Fault, Ts};
 
-#[derive(Clone, Copy)]
-struct Check {
-    start: u64,
-    caller: u64,
-    current: u64,
-    rollback_if_not_exist: bool,
-    force_sync_commit: bool,
-}
+// Start, the caller's timestamp, and the time against which the lock is held.
+type Times = (u64, u64, u64);
 
-const LIVE: Check = Check {
-    start: 5,
-    caller: 6,
-    current: 15,
-    rollback_if_not_exist: false,
-    force_sync_commit: false,
-};
+const LIVE: Times = (5, 6, 15);
 
-const EARLY: Check = Check { start: 2, ..LIVE };
+const PUSHING: Times = (5, 7, 15);
 
-const UNDRAWN: Check = Check { caller: 21, ..LIVE };
+const EXPIRED: Times = (5, 6, 16);
 
-const PUSHING: Check = Check { caller: 7, ..LIVE };
+const DONE: Short = (RolledBack, 0, 0);
 
-const EXPIRED: Check = Check {
-    current: 16,
-    ..LIVE
-};
+const TOLD: Short = (Locked, 7, 0);
 
-const WANTED: Check = Check {
-    rollback_if_not_exist: true,
-    ..LIVE
-};
+const PUSHED: Short = (Locked, 8, 0);
 
-const FORCED: Check = Check {
-    force_sync_commit: true,
-    ..LIVE
-};
+const NO: bool = false;
 
-const FORCED_PUSHING: Check = Check {
-    force_sync_commit: true,
-    ..PUSHING
-};
+const YES: bool = true;
 
-const FORCED_EXPIRED: Check = Check {
-    force_sync_commit: true,
-    ..EXPIRED
-};
+// The times, whether a rollback is wanted where there is nothing, whether the check is forced, what is seen of the key, the
+// answer and the change.
+type Row = (Times, bool, bool, Seen, Short, Short);
 
-const DONE: Short = ("RolledBack", 0, 0);
-const TOLD: Short = ("Locked", 7, 0);
-const PUSHED: Short = ("Locked", 8, 0);
-
-// What is asked, what is seen of the key, the answer and the change.
-const ROWS: [(Check, Seen, Short, Short); 15] = [
-    (EARLY, LOCKED, BELOW, SAME),
-    (UNDRAWN, LOCKED, FUTURE, SAME),
-    (EXPIRED, ASYNC, TOLD, SAME),
-    (PUSHING, ASYNC, TOLD, SAME),
-    (EXPIRED, LOCKED, DONE, ("rollback", 5, 1)),
-    (PUSHING, LOCKED, PUSHED, ("minimum", 8, 0)),
-    (LIVE, LOCKED, TOLD, SAME),
-    (FORCED, ASYNC, TOLD, SAME),
-    (FORCED_PUSHING, ASYNC, PUSHED, ("minimum", 8, 0)),
-    (FORCED_EXPIRED, ASYNC, DONE, ("rollback", 5, 1)),
-    (LIVE, COMMITTED, ("Committed", 8, 0), SAME),
-    (LIVE, ROLLED_BACK, DONE, ("rolled back", 5, 0)),
-    (LIVE, MARKED, DONE, ("rolled back", 5, 0)),
-    (WANTED, OTHERS, DONE, ("rollback", 5, 0)),
-    (LIVE, OTHERS, ("TxnNotFound", 0, 0), SAME),
+const ROWS: [Row; 15] = [
+    ((2, 6, 15), NO, NO, Own, BELOW, SAME),
+    ((5, 21, 15), NO, NO, Own, FUTURE, SAME),
+    (EXPIRED, NO, NO, OwnAsync, TOLD, SAME),
+    (PUSHING, NO, NO, OwnAsync, TOLD, SAME),
+    (EXPIRED, NO, NO, Own, DONE, (Rollback, 5, 1)),
+    (PUSHING, NO, NO, Own, PUSHED, (Minimum, 8, 0)),
+    (LIVE, NO, NO, Own, TOLD, SAME),
+    (LIVE, NO, YES, OwnAsync, TOLD, SAME),
+    (PUSHING, NO, YES, OwnAsync, PUSHED, (Minimum, 8, 0)),
+    (EXPIRED, NO, YES, OwnAsync, DONE, (Rollback, 5, 1)),
+    (LIVE, NO, NO, Done, (Committed, 8, 0), SAME),
+    (LIVE, NO, NO, Undone, DONE, (Stays, 5, 0)),
+    (LIVE, NO, NO, Marked, DONE, (Stays, 5, 0)),
+    (LIVE, YES, NO, Others, DONE, (Rollback, 5, 0)),
+    (LIVE, NO, NO, Others, (TxnNotFound, 0, 0), SAME),
 ];
 
-fn checks(rt: &HostRuntime, check: Check, seen: Seen) -> (Short, Short) {
-    let Ok(key) = key(rt) else {
-        return (SAME, SAME);
-    };
-    let body = CheckTxnStatus {
+fn body(rt: &HostRuntime, row: Row) -> Result<CheckTxnStatus, Fault> {
+    let ((start, caller, current), rollback_if_not_exist, force_sync_commit, ..) = row;
+    let key = key(rt)?;
+    Ok(CheckTxnStatus {
         key,
-        start: Ts::new(check.start),
-        caller: Ts::new(check.caller),
-        current: Ts::new(check.current),
-        rollback_if_not_exist: check.rollback_if_not_exist,
-        force_sync_commit: check.force_sync_commit,
-    };
-    plan(&plan_check_txn_status(&view_of(seen), Ts::new(3), Ts::new(20), &body))
+        start: Ts::new(start),
+        caller: Ts::new(caller),
+        current: Ts::new(current),
+        rollback_if_not_exist,
+        force_sync_commit,
+    })
+}
+
+fn plans(body: &CheckTxnStatus, row: Row) -> bool {
+    let (_, _, _, seen, answer, change) = row;
+    let given = plan_check_txn_status(&view_of(seen), Ts::new(3), Ts::new(20), body);
+    is_plan(&given, answer, change)
+}
+
+fn holds(rt: &HostRuntime, row: Row) -> bool {
+    match body(rt, row) {
+        Ok(body) => plans(&body, row),
+        Err(_) => false,
+    }
 }
 
 #[test]
 fn rows_of_check_txn_status(rt: HostRuntime) {
-    for (check, seen, answer, change) in ROWS {
-        let given = checks(&rt, check, seen);
-        assert!(rt; is(given.0, answer) && is(given.1, change), "{} {}", answer.0, change.0);
+    for row in ROWS {
+        assert!(rt; holds(&rt, row));
     }
 }

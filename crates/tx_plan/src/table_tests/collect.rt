@@ -4,9 +4,11 @@ use crate::{Collect, RegionNo, collect_refusal};
 use tx_types::Ts;
 
 // What is asked of a region whose safe point is 3, and why it is refused.
-const ROWS: [(u64, Short); 3] = [(2, BELOW), (4, BELOW), (3, SAME)];
+type Row = (u64, Short);
 
-fn refuses(safe: u64) -> Short {
+const ROWS: [Row; 3] = [(2, BELOW), (4, BELOW), (3, SAME)];
+
+fn refusal(safe: u64) -> Short {
     let body = Collect {
         region: RegionNo::new(0),
         safe: Ts::new(safe),
@@ -20,6 +22,6 @@ fn refuses(safe: u64) -> Short {
 #[test]
 fn rows_of_a_refused_collect(rt: HostRuntime) {
     for (safe, wanted) in ROWS {
-        assert!(rt; is(refuses(safe), wanted), "{safe}");
+        assert!(rt; is(refusal(safe), wanted));
     }
 }

@@ -1,103 +1,110 @@
 //! The rows of Prewrite.
-use crate::table_tests::shown::{BELOW, FUTURE, SAME, Short, is, plan};
-use crate::table_tests::views::*;
+use crate::table_tests::shown::Word::*;
+use crate::table_tests::shown::{BELOW, FUTURE, SAME, Short, is_plan};
+use crate::table_tests::views::Seen::*;
+use crate::table_tests::views::{Seen, key, view_of};
 use crate::{Prewrite, plan_prewrite};
-use tx_types::{Mode, Mutation, Secondaries, Ts};
+use tx_types::{Fault, Mode, Mutation, Secondaries, Ts};
 
-#[derive(Clone, Copy)]
-struct Asked {
-    start: u64,
-    mode: Mode,
-    max_commit: Option<u64>,
-}
+const TWO_PHASE: Mode = Mode::TwoPhase;
 
-const TWO_PHASE: Asked = Asked {
-    start: 5,
-    mode: Mode::TwoPhase,
-    max_commit: None,
-};
+const ASYNC: Mode = Mode::Async;
 
-const UNBOUNDED: Asked = Asked {
-    mode: Mode::Async,
-    ..TWO_PHASE
-};
+// No greatest commit timestamp.
+const NO_BOUND: u64 = 0;
 
-const ALLOWED: Asked = Asked {
-    max_commit: Some(12),
-    ..UNBOUNDED
-};
+const PLAIN: Short = (Prewritten, 0, 0);
 
-const FALLS_BACK: Asked = Asked {
-    max_commit: Some(11),
-    ..UNBOUNDED
-};
+const PLAIN_LOCK: Short = (TwoPhaseLock, 6, 0);
 
-const UNREAD: Asked = Asked {
-    start: 15,
-    ..UNBOUNDED
-};
+// Start, mode and greatest commit timestamp, what is seen of the key, the answer and the change. 11 was read.
+type Row = (u64, Mode, u64, Seen, Short, Short);
 
-const EARLY: Asked = Asked {
-    start: 2,
-    ..TWO_PHASE
-};
-
-const UNDRAWN: Asked = Asked {
-    start: 21,
-    ..TWO_PHASE
-};
-
-const CONFLICT: Seen = Seen {
-    newest: Some((8, 10)),
-    ..FREE
-};
-
-const LOCKED_IN_TWO_PHASES: Short = ("two-phase lock", 6, 0);
-
-// What is asked, what is seen of the key, the answer and the change.
-const ROWS: [(Asked, Seen, Short, Short); 15] = [
-    (EARLY, FREE, BELOW, SAME),
-    (UNDRAWN, FREE, FUTURE, SAME),
-    (TWO_PHASE, LOCKED, ("Prewritten", 0, 0), SAME),
-    (TWO_PHASE, ASYNC, ("Prewritten", 7, 0), SAME),
-    (TWO_PHASE, ROLLED_BACK, ("AlreadyRolledBack", 0, 0), SAME),
-    (TWO_PHASE, MARKED, ("AlreadyRolledBack", 0, 0), SAME),
-    (TWO_PHASE, COMMITTED, ("AlreadyCommitted", 8, 0), SAME),
-    (TWO_PHASE, OTHERS, ("KeyIsLocked", 0, 0), SAME),
-    (TWO_PHASE, CONFLICT, ("WriteConflict", 8, 10), SAME),
-    (TWO_PHASE, SHARED, ("Prewritten", 0, 0), LOCKED_IN_TWO_PHASES),
-    (TWO_PHASE, FREE, ("Prewritten", 0, 0), LOCKED_IN_TWO_PHASES),
-    (UNBOUNDED, FREE, ("Prewritten", 12, 0), ("async lock", 12, 0)),
-    (UNREAD, FREE, ("Prewritten", 16, 0), ("async lock", 16, 0)),
-    (ALLOWED, FREE, ("Prewritten", 12, 0), ("async lock", 12, 0)),
-    (FALLS_BACK, FREE, ("Prewritten", 0, 0), LOCKED_IN_TWO_PHASES),
+const ROWS: [Row; 15] = [
+    (2, TWO_PHASE, NO_BOUND, Free, BELOW, SAME),
+    (21, TWO_PHASE, NO_BOUND, Free, FUTURE, SAME),
+    (5, TWO_PHASE, NO_BOUND, Own, PLAIN, SAME),
+    (5, TWO_PHASE, NO_BOUND, OwnAsync, (Prewritten, 7, 0), SAME),
+    (
+        5,
+        TWO_PHASE,
+        NO_BOUND,
+        Undone,
+        (AlreadyRolledBack, 0, 0),
+        SAME,
+    ),
+    (
+        5,
+        TWO_PHASE,
+        NO_BOUND,
+        Marked,
+        (AlreadyRolledBack, 0, 0),
+        SAME,
+    ),
+    (5, TWO_PHASE, NO_BOUND, Done, (AlreadyCommitted, 8, 0), SAME),
+    (5, TWO_PHASE, NO_BOUND, Others, (KeyIsLocked, 0, 0), SAME),
+    (5, TWO_PHASE, NO_BOUND, Newer, (WriteConflict, 8, 10), SAME),
+    (5, TWO_PHASE, NO_BOUND, Shared, PLAIN, PLAIN_LOCK),
+    (5, TWO_PHASE, NO_BOUND, Free, PLAIN, PLAIN_LOCK),
+    (
+        5,
+        ASYNC,
+        NO_BOUND,
+        Free,
+        (Prewritten, 12, 0),
+        (AsyncLock, 12, 0),
+    ),
+    (
+        15,
+        ASYNC,
+        NO_BOUND,
+        Free,
+        (Prewritten, 16, 0),
+        (AsyncLock, 16, 0),
+    ),
+    (5, ASYNC, 12, Free, (Prewritten, 12, 0), (AsyncLock, 12, 0)),
+    (5, ASYNC, 11, Free, PLAIN, PLAIN_LOCK),
 ];
 
-// Of a region in which 11 was read.
-fn prewrites(rt: &HostRuntime, asked: Asked, seen: Seen) -> (Short, Short) {
-    let Ok(key) = key(rt) else {
-        return (SAME, SAME);
-    };
-    let Ok(primary) = key.clone() else {
-        return (SAME, SAME);
-    };
-    let body = Prewrite {
+fn bound(max_commit: u64) -> Option<Ts> {
+    if max_commit == NO_BOUND {
+        return None;
+    }
+    Some(Ts::new(max_commit))
+}
+
+fn body(rt: &HostRuntime, row: Row) -> Result<Prewrite, Fault> {
+    let (start, mode, max_commit, ..) = row;
+    let key = key(rt)?;
+    let primary = key.clone()?;
+    Ok(Prewrite {
         key,
         mutation: Mutation::Delete,
-        start: Ts::new(asked.start),
+        start: Ts::new(start),
         primary,
-        mode: asked.mode,
-        max_commit: asked.max_commit.map(Ts::new),
+        mode,
+        max_commit: bound(max_commit),
         ttl: 10,
         others: Secondaries::new(rt.alloc()),
-    };
-    plan(&plan_prewrite(&view_of(seen), Ts::new(3), Ts::new(20), Ts::new(11), &body))
+    })
+}
+
+fn plans(body: &Prewrite, row: Row) -> bool {
+    let (_, _, _, seen, answer, change) = row;
+    let given = plan_prewrite(&view_of(seen), Ts::new(3), Ts::new(20), Ts::new(11), body);
+    is_plan(&given, answer, change)
+}
+
+fn holds(rt: &HostRuntime, row: Row) -> bool {
+    match body(rt, row) {
+        Ok(body) => plans(&body, row),
+        Err(_) => false,
+    }
 }
 
 #[test]
 fn rows_of_prewrite(rt: HostRuntime) {
-    for (asked, seen, answer, change) in ROWS {
-        let given = prewrites(&rt, asked, seen);
-        assert!(rt; is(given.0, answer) && is(given.1, change), "{} {}", answer.0, change.0);
+    for row in ROWS {
+        assert!(rt; holds(&rt, row));
     }
 }

@@ -1,57 +1,59 @@
 //! The rows of ResolveLock.
-use crate::table_tests::shown::{BELOW, SAME, Short, is, plan};
-use crate::table_tests::views::*;
+use crate::table_tests::shown::Word::*;
+use crate::table_tests::shown::{BELOW, SAME, Short, is_plan};
+use crate::table_tests::views::Seen::*;
+use crate::table_tests::views::{Seen, key, view_of};
 use crate::{ResolveLock, plan_resolve_lock};
-use tx_types::{Fate, Ts};
+use tx_types::{Fate, Fault, Ts};
 
-const CONFLICT: Seen = Seen {
-    at_commit: CommitOf(4),
-    ..LOCKED
-};
+const DONE: Short = (Resolved, 0, 0);
 
-const OVERLAP: Seen = Seen {
-    at_commit: Rollback,
-    ..LOCKED
-};
-
-const DONE: Short = ("Resolved", 0, 0);
-const ABORTED: Option<u64> = None;
+const ABORTED: u64 = 0;
 
 // Start, the commit timestamp of a committed transaction, what is seen of the key, the answer and the change.
-const ROWS: [(u64, Option<u64>, Seen, Short, Short); 8] = [
-    (2, Some(9), LOCKED, BELOW, SAME),
-    (5, ABORTED, LOCKED, DONE, ("rollback", 5, 1)),
-    (5, Some(9), LOCKED, DONE, ("commit", 9, 0)),
-    (5, Some(9), OVERLAP, DONE, ("commit", 9, 1)),
-    (5, Some(6), LOCKED, ("CommitTsExpired", 7, 0), SAME),
-    (5, Some(9), CONFLICT, ("WriteConflict", 4, 9), SAME),
-    (5, ABORTED, OTHERS, DONE, SAME),
-    (5, Some(9), ROLLED_BACK, DONE, SAME),
+type Row = (u64, u64, Seen, Short, Short);
+
+const ROWS: [Row; 8] = [
+    (2, 9, Own, BELOW, SAME),
+    (5, ABORTED, Own, DONE, (Rollback, 5, 1)),
+    (5, 9, Own, DONE, (Commit, 9, 0)),
+    (5, 9, OwnAndRollback, DONE, (Commit, 9, 1)),
+    (5, 6, Own, (CommitTsExpired, 7, 0), SAME),
+    (5, 9, OwnAndCommit, (WriteConflict, 4, 9), SAME),
+    (5, ABORTED, Others, DONE, SAME),
+    (5, 9, Undone, DONE, SAME),
 ];
 
-fn fate_of(commit: Option<u64>) -> Fate {
-    match commit {
-        Some(at) => Fate::Committed(Ts::new(at)),
-        None => Fate::Aborted,
+fn fate_of(commit: u64) -> Fate {
+    if commit == ABORTED {
+        return Fate::Aborted;
     }
+    Fate::Committed(Ts::new(commit))
 }
 
-fn resolves(rt: &HostRuntime, start: u64, commit: Option<u64>, seen: Seen) -> (Short, Short) {
-    let Ok(key) = key(rt) else {
-        return (SAME, SAME);
-    };
-    let body = ResolveLock {
-        key,
-        start: Ts::new(start),
-        fate: fate_of(commit),
-    };
-    plan(&plan_resolve_lock(&view_of(seen), Ts::new(3), &body))
+fn body(rt: &HostRuntime, row: Row) -> Result<ResolveLock, Fault> {
+    let key = key(rt)?;
+    let start = Ts::new(row.0);
+    let fate = fate_of(row.1);
+    Ok(ResolveLock { key, start, fate })
+}
+
+fn plans(body: &ResolveLock, row: Row) -> bool {
+    let (_, _, seen, answer, change) = row;
+    let given = plan_resolve_lock(&view_of(seen), Ts::new(3), body);
+    is_plan(&given, answer, change)
+}
+
+fn holds(rt: &HostRuntime, row: Row) -> bool {
+    match body(rt, row) {
+        Ok(body) => plans(&body, row),
+        Err(_) => false,
+    }
 }
 
 #[test]
 fn rows_of_resolve_lock(rt: HostRuntime) {
-    for (start, commit, seen, answer, change) in ROWS {
-        let given = resolves(&rt, start, commit, seen);
-        assert!(rt; is(given.0, answer) && is(given.1, change), "{} {}", answer.0, change.0);
+    for row in ROWS {
+        assert!(rt; holds(&rt, row));
     }
 }

@@ -1,48 +1,89 @@
-//! What a plan gives, in short: a word and two numbers for the answer, and the same for the change.
+//! What a plan gives, in short.
 use crate::{Answer, KeyChange, Left, NewLock, Planned, PlannedAnswer};
 use tx_types::Mode;
 
-pub type Short = (&'static str, u64, u64);
-
-/// No change.
-pub const SAME: Short = ("", 0, 0);
-
-pub fn is(given: Short, wanted: Short) -> bool {
-    given.0 == wanted.0 && given.1 == wanted.1 && given.2 == wanted.2
+/// The words of answers and changes.
+#[derive(Clone, Copy)]
+pub enum Word {
+    Other,
+    Found,
+    Nothing,
+    Rows,
+    Prewritten,
+    Committed,
+    RolledBack,
+    Lives,
+    Missing,
+    Locked,
+    Resolved,
+    Raised,
+    KeyIsLocked,
+    WriteConflict,
+    AlreadyRolledBack,
+    AlreadyCommitted,
+    CommitTsExpired,
+    TxnLockNotFound,
+    BelowSafePoint,
+    FutureTimestamp,
+    TxnNotFound,
+    TwoPhaseLock,
+    AsyncLock,
+    Ttl,
+    Minimum,
+    Commit,
+    /// The rollback is there already.
+    Stays,
+    /// A rollback record.
+    Rollback,
+    /// The mark on another's commit record.
+    Mark,
 }
 
-/// An answer of `BelowSafePoint` at 3 and of `FutureTimestamp` at 20: the regions of these tables.
-pub const BELOW: Short = ("BelowSafePoint", 3, 0);
-pub const FUTURE: Short = ("FutureTimestamp", 20, 0);
+/// A word and two numbers.
+pub type Short = (Word, u64, u64);
+
+/// No change.
+pub const SAME: Short = (Word::Other, 0, 0);
+
+/// The refusals by the numbers of the regions in these tables.
+pub const BELOW: Short = (Word::BelowSafePoint, 3, 0);
+
+pub const FUTURE: Short = (Word::FutureTimestamp, 20, 0);
+
+pub fn is(given: Short, wanted: Short) -> bool {
+    given.0 as u8 == wanted.0 as u8 && given.1 == wanted.1 && given.2 == wanted.2
+}
 
 // A refusal.
 fn refusal(answer: &Answer) -> Short {
     match answer {
-        Answer::KeyIsLocked(info) => ("KeyIsLocked", info.start.get(), 0),
-        Answer::WriteConflict { start, commit } => ("WriteConflict", start.get(), commit.get()),
-        Answer::AlreadyRolledBack => ("AlreadyRolledBack", 0, 0),
-        Answer::AlreadyCommitted { commit } => ("AlreadyCommitted", commit.get(), 0),
-        Answer::CommitTsExpired { min } => ("CommitTsExpired", min.get(), 0),
-        Answer::TxnLockNotFound => ("TxnLockNotFound", 0, 0),
-        Answer::BelowSafePoint { safe } => ("BelowSafePoint", safe.get(), 0),
-        Answer::FutureTimestamp { last } => ("FutureTimestamp", last.get(), 0),
-        Answer::TxnNotFound => ("TxnNotFound", 0, 0),
-        _ => ("", 0, 0),
+        Answer::WriteConflict { start, commit } => {
+            (Word::WriteConflict, start.get(), commit.get())
+        }
+        Answer::AlreadyRolledBack => (Word::AlreadyRolledBack, 0, 0),
+        Answer::AlreadyCommitted { commit } => (Word::AlreadyCommitted, commit.get(), 0),
+        Answer::CommitTsExpired { min } => (Word::CommitTsExpired, min.get(), 0),
+        Answer::TxnLockNotFound => (Word::TxnLockNotFound, 0, 0),
+        Answer::BelowSafePoint { safe } => (Word::BelowSafePoint, safe.get(), 0),
+        Answer::FutureTimestamp { last } => (Word::FutureTimestamp, last.get(), 0),
+        Answer::TxnNotFound => (Word::TxnNotFound, 0, 0),
+        _ => SAME,
     }
 }
 
+/// An answer.
 pub fn answer(answer: &Answer) -> Short {
     match answer {
-        Answer::Found(value) => ("Found", value.as_bytes().len() as u64, 0),
-        Answer::Nothing => ("Nothing", 0, 0),
-        Answer::Rows(rows) => ("Rows", rows.as_slice().len() as u64, 0),
-        Answer::Prewritten(min) => ("Prewritten", min.get(), 0),
-        Answer::Committed(commit) => ("Committed", commit.get(), 0),
-        Answer::RolledBack => ("RolledBack", 0, 0),
-        Answer::Ttl(ttl) => ("Ttl", u64::from(*ttl), 0),
-        Answer::Missing => ("Missing", 0, 0),
-        Answer::Resolved => ("Resolved", 0, 0),
-        Answer::Raised => ("Raised", 0, 0),
+        Answer::Found(value) => (Word::Found, value.as_bytes().len() as u64, 0),
+        Answer::Nothing => (Word::Nothing, 0, 0),
+        Answer::Rows(rows) => (Word::Rows, rows.as_slice().len() as u64, 0),
+        Answer::Prewritten(min) => (Word::Prewritten, min.get(), 0),
+        Answer::Committed(commit) => (Word::Committed, commit.get(), 0),
+        Answer::RolledBack => (Word::RolledBack, 0, 0),
+        Answer::Ttl(ttl) => (Word::Lives, u64::from(*ttl), 0),
+        Answer::Missing => (Word::Missing, 0, 0),
+        Answer::Resolved => (Word::Resolved, 0, 0),
+        Answer::Raised => (Word::Raised, 0, 0),
         other => refusal(other),
     }
 }
@@ -50,15 +91,15 @@ pub fn answer(answer: &Answer) -> Short {
 fn planned(planned: &PlannedAnswer) -> Short {
     match planned {
         PlannedAnswer::Given(given) => answer(given),
-        PlannedAnswer::KeyIsLocked => ("KeyIsLocked", 0, 0),
-        PlannedAnswer::Locked { min } => ("Locked", min.get(), 0),
+        PlannedAnswer::KeyIsLocked => (Word::KeyIsLocked, 0, 0),
+        PlannedAnswer::Locked { min } => (Word::Locked, min.get(), 0),
     }
 }
 
 fn new_lock(new: NewLock) -> Short {
     match new.mode {
-        Mode::TwoPhase => ("two-phase lock", new.min.get(), 0),
-        Mode::Async => ("async lock", new.min.get(), 0),
+        Mode::TwoPhase => (Word::TwoPhaseLock, new.min.get(), 0),
+        Mode::Async => (Word::AsyncLock, new.min.get(), 0),
     }
 }
 
@@ -66,9 +107,9 @@ fn new_lock(new: NewLock) -> Short {
 fn rolled_back(start: u64, removes_lock: bool, left: Left) -> Short {
     let removes = u64::from(removes_lock);
     match left {
-        Left::Already => ("rolled back", start, removes),
-        Left::Record => ("rollback", start, removes),
-        Left::Mark => ("mark", start, removes),
+        Left::Already => (Word::Stays, start, removes),
+        Left::Record => (Word::Rollback, start, removes),
+        Left::Mark => (Word::Mark, start, removes),
     }
 }
 
@@ -76,12 +117,12 @@ fn change(change: KeyChange) -> Short {
     match change {
         KeyChange::Nothing => SAME,
         KeyChange::Lock(new) => new_lock(new),
-        KeyChange::Ttl(ttl) => ("ttl", u64::from(ttl), 0),
-        KeyChange::Minimum(min) => ("minimum", min.get(), 0),
+        KeyChange::Ttl(ttl) => (Word::Ttl, u64::from(ttl), 0),
+        KeyChange::Minimum(min) => (Word::Minimum, min.get(), 0),
         KeyChange::Commit {
             commit,
             overlapped_rollback,
-        } => ("commit", commit.get(), u64::from(overlapped_rollback)),
+        } => (Word::Commit, commit.get(), u64::from(overlapped_rollback)),
         KeyChange::RollBack {
             start,
             removes_lock,
@@ -90,16 +131,16 @@ fn change(change: KeyChange) -> Short {
     }
 }
 
-/// The answer and the change.
-pub fn plan(given: &Planned) -> (Short, Short) {
-    (planned(&given.answer), change(given.change))
+/// Whether a plan gives this answer and this change.
+pub fn is_plan(given: &Planned, wanted: Short, makes: Short) -> bool {
+    is(planned(&given.answer), wanted) && is(change(given.change), makes)
 }
 
-/// The answer, and the timestamp that was read, or 0.
-pub fn read(given: &Planned) -> (Short, u64) {
+/// Whether a plan gives this answer, and counts as a read at this timestamp; 0 is none.
+pub fn is_read(given: &Planned, wanted: Short, read: u64) -> bool {
     let at = match given.read {
         Some(at) => at.get(),
         None => 0,
     };
-    (planned(&given.answer), at)
+    is(planned(&given.answer), wanted) && at == read
 }

@@ -1,36 +1,47 @@
 //! The rows of TxnHeartBeat.
-use crate::table_tests::shown::{BELOW, SAME, Short, is, plan};
-use crate::table_tests::views::*;
+use crate::table_tests::shown::Word::*;
+use crate::table_tests::shown::{BELOW, SAME, Short, is_plan};
+use crate::table_tests::views::Seen::*;
+use crate::table_tests::views::{Seen, key, view_of};
 use crate::{TxnHeartBeat, plan_txn_heart_beat};
-use tx_types::Ts;
+use tx_types::{Fault, Ts};
 
-const NOT_FOUND: Short = ("TxnLockNotFound", 0, 0);
+const NOT_FOUND: Short = (TxnLockNotFound, 0, 0);
 
 // Start, the time to live that is asked for, what is seen of the key, the answer and the change.
-const ROWS: [(u64, u32, Seen, Short, Short); 5] = [
-    (2, 20, LOCKED, BELOW, SAME),
-    (5, 20, LOCKED, ("Ttl", 20, 0), ("ttl", 20, 0)),
-    (5, 4, LOCKED, ("Ttl", 10, 0), ("ttl", 10, 0)),
-    (5, 20, OTHERS, NOT_FOUND, SAME),
-    (5, 20, COMMITTED, NOT_FOUND, SAME),
+type Row = (u64, u32, Seen, Short, Short);
+
+const ROWS: [Row; 5] = [
+    (2, 20, Own, BELOW, SAME),
+    (5, 20, Own, (Lives, 20, 0), (Ttl, 20, 0)),
+    (5, 4, Own, (Lives, 10, 0), (Ttl, 10, 0)),
+    (5, 20, Others, NOT_FOUND, SAME),
+    (5, 20, Done, NOT_FOUND, SAME),
 ];
 
-fn beats(rt: &HostRuntime, start: u64, ttl: u32, seen: Seen) -> (Short, Short) {
-    let Ok(key) = key(rt) else {
-        return (SAME, SAME);
-    };
-    let body = TxnHeartBeat {
-        key,
-        start: Ts::new(start),
-        ttl,
-    };
-    plan(&plan_txn_heart_beat(&view_of(seen), Ts::new(3), &body))
+fn body(rt: &HostRuntime, row: Row) -> Result<TxnHeartBeat, Fault> {
+    let key = key(rt)?;
+    let start = Ts::new(row.0);
+    let ttl = row.1;
+    Ok(TxnHeartBeat { key, start, ttl })
+}
+
+fn plans(body: &TxnHeartBeat, row: Row) -> bool {
+    let (_, _, seen, answer, change) = row;
+    let given = plan_txn_heart_beat(&view_of(seen), Ts::new(3), body);
+    is_plan(&given, answer, change)
+}
+
+fn holds(rt: &HostRuntime, row: Row) -> bool {
+    match body(rt, row) {
+        Ok(body) => plans(&body, row),
+        Err(_) => false,
+    }
 }
 
 #[test]
 fn rows_of_txn_heart_beat(rt: HostRuntime) {
-    for (start, ttl, seen, answer, change) in ROWS {
-        let given = beats(&rt, start, ttl, seen);
-        assert!(rt; is(given.0, answer) && is(given.1, change), "{} {ttl}", answer.0);
+    for row in ROWS {
+        assert!(rt; holds(&rt, row));
     }
 }

@@ -1,144 +1,102 @@
-//! What is seen of a key, spelt in copied data.
-pub use self::At::{CommitOf, MarkedBy, Nothing, Rollback};
+//! What is seen of a key, in a word.
 use crate::{CommitAt, LockHead, RecordHead, TxnView};
 use tx_types::{Fault, Key, LockKind, Mode, Ts};
 
-/// What is at a timestamp: a commit record of the transaction that started at the number, with or without the mark.
+/// What the transaction that started at 5 sees of a key. Locks live 10 ticks and may be committed from 7 on.
 #[derive(Clone, Copy)]
-pub enum At {
-    Nothing,
-    CommitOf(u64),
-    MarkedBy(u64),
-    Rollback,
+pub enum Seen {
+    /// Nothing.
+    Free,
+    /// Its own lock.
+    Own,
+    /// Its own async lock.
+    OwnAsync,
+    /// Its own lock, and the commit record of the transaction that started at 4, where it started.
+    OwnAndStart,
+    /// Its own lock, and another's commit record at the commit timestamp.
+    OwnAndCommit,
+    /// Its own lock, and a rollback at the commit timestamp.
+    OwnAndRollback,
+    /// A lock that changes nothing, of its own.
+    OwnLockOnly,
+    /// The lock of the transaction that started at 4.
+    Others,
+    /// Its commit record, at 8.
+    Done,
+    /// Its rollback.
+    Undone,
+    /// Its rollback, as the mark on another's commit record.
+    Marked,
+    /// Another's commit record where it started.
+    Shared,
+    /// The commit record at 10 of the transaction that started at 8.
+    Newer,
 }
 
-/// A lock that lives 10 ticks and may be committed from 7 on.
-#[derive(Clone, Copy)]
-pub struct Held {
-    pub start: u64,
-    pub mode: Mode,
-    pub kind: LockKind,
-}
-
-/// What the transaction that started at 5 sees of a key.
-#[derive(Clone, Copy)]
-pub struct Seen {
-    pub lock: Option<Held>,
-    pub at_start: At,
-    pub at_commit: At,
-    pub own_commit: Option<u64>,
-    /// Start and commit timestamp of the newest commit above its start.
-    pub newest: Option<(u64, u64)>,
-}
-
-/// A key on which there is nothing.
-pub const FREE: Seen = Seen {
-    lock: None,
-    at_start: Nothing,
-    at_commit: Nothing,
-    own_commit: None,
-    newest: None,
-};
-
-pub const OWN: Held = Held {
-    start: 5,
-    mode: Mode::TwoPhase,
-    kind: LockKind::Delete,
-};
-
-/// A key with the transaction's own lock.
-pub const LOCKED: Seen = Seen {
-    lock: Some(OWN),
-    ..FREE
-};
-
-/// A key with its own async lock.
-pub const ASYNC: Seen = Seen {
-    lock: Some(Held {
-        mode: Mode::Async,
-        ..OWN
-    }),
-    ..FREE
-};
-
-/// A key with the lock of the transaction that started at 4.
-pub const OTHERS: Seen = Seen {
-    lock: Some(Held { start: 4, ..OWN }),
-    ..FREE
-};
-
-/// A key on which the transaction is committed at 8.
-pub const COMMITTED: Seen = Seen {
-    own_commit: Some(8),
-    newest: Some((5, 8)),
-    ..FREE
-};
-
-/// A key on which the transaction is rolled back.
-pub const ROLLED_BACK: Seen = Seen {
-    at_start: Rollback,
-    ..FREE
-};
-
-/// A key on which its rollback is the mark on another's commit record.
-pub const MARKED: Seen = Seen {
-    at_start: MarkedBy(4),
-    ..FREE
-};
-
-/// A key on which another transaction committed at its start.
-pub const SHARED: Seen = Seen {
-    at_start: CommitOf(4),
-    ..FREE
-};
-
-fn head_of(at: At) -> Option<RecordHead> {
-    match at {
-        Nothing => None,
-        CommitOf(start) => Some(RecordHead::Commit {
-            kind: LockKind::Lock,
-            start: Ts::new(start),
-            overlapped_rollback: false,
-        }),
-        MarkedBy(start) => Some(RecordHead::Commit {
-            kind: LockKind::Lock,
-            start: Ts::new(start),
-            overlapped_rollback: true,
-        }),
-        Rollback => Some(RecordHead::Rollback),
+/// What is asked of the lock.
+pub fn lock_of(seen: Seen) -> Option<LockHead> {
+    match seen {
+        Seen::Own | Seen::OwnAndStart | Seen::OwnAndCommit | Seen::OwnAndRollback => {
+            lock(5, Mode::TwoPhase, LockKind::Delete)
+        }
+        Seen::OwnAsync => lock(5, Mode::Async, LockKind::Put),
+        Seen::OwnLockOnly => lock(5, Mode::TwoPhase, LockKind::Lock),
+        Seen::Others => lock(4, Mode::TwoPhase, LockKind::Delete),
+        _ => None,
     }
 }
 
-pub fn lock_of(held: Option<Held>) -> Option<LockHead> {
-    match held {
-        Some(held) => Some(LockHead {
-            start: Ts::new(held.start),
-            min: Ts::new(7),
-            ttl: 10,
-            kind: held.kind,
-            mode: held.mode,
-        }),
-        None => None,
+fn lock(start: u64, mode: Mode, kind: LockKind) -> Option<LockHead> {
+    Some(LockHead {
+        start: Ts::new(start),
+        min: Ts::new(7),
+        ttl: 10,
+        kind,
+        mode,
+    })
+}
+
+fn commit_by_four(overlapped_rollback: bool) -> Option<RecordHead> {
+    Some(RecordHead::Commit {
+        kind: LockKind::Lock,
+        start: Ts::new(4),
+        overlapped_rollback,
+    })
+}
+
+fn at_start(seen: Seen) -> Option<RecordHead> {
+    match seen {
+        Seen::Undone => Some(RecordHead::Rollback),
+        Seen::Marked => commit_by_four(true),
+        Seen::Shared | Seen::OwnAndStart => commit_by_four(false),
+        _ => None,
     }
 }
 
-fn newest_of(newest: Option<(u64, u64)>) -> Option<CommitAt> {
-    match newest {
-        Some((start, commit)) => Some(CommitAt {
-            start: Ts::new(start),
-            commit: Ts::new(commit),
-        }),
-        None => None,
+fn at_commit(seen: Seen) -> Option<RecordHead> {
+    match seen {
+        Seen::OwnAndCommit => commit_by_four(false),
+        Seen::OwnAndRollback => Some(RecordHead::Rollback),
+        _ => None,
     }
+}
+
+fn newest(seen: Seen) -> Option<CommitAt> {
+    let (start, commit) = match seen {
+        Seen::Done => (Ts::new(5), Ts::new(8)),
+        Seen::Newer => (Ts::new(8), Ts::new(10)),
+        _ => return None,
+    };
+    Some(CommitAt { start, commit })
 }
 
 pub fn view_of(seen: Seen) -> TxnView {
     TxnView {
-        lock: lock_of(seen.lock),
-        at_start: head_of(seen.at_start),
-        at_commit: head_of(seen.at_commit),
-        own_commit: seen.own_commit.map(Ts::new),
-        newest_above: newest_of(seen.newest),
+        lock: lock_of(seen),
+        at_start: at_start(seen),
+        at_commit: at_commit(seen),
+        own_commit: matches!(seen, Seen::Done).then_some(Ts::new(8)),
+        newest_above: newest(seen),
     }
 }
 

@@ -7,7 +7,7 @@ abbrev pub invariant-locks : goal.invariant-locks
 invariant-locks g l = record {
   same : g.L.LockWalk.cells l.walk ≡ g.L.LockWalk.cells l.fn.walk;
   there : RowsStand (g.L.LockWalk.cells l.fn.walk) (g.L.LockWalk.rest l.walk);
-  told : told_below l.safe (g.L.LockWalk.rest l.walk) ≡ told_below l.safe (g.L.LockWalk.rest l.fn.walk)
+  told : told_below l.safe (g.L.LockWalk.rest l.walk) ≡ told_below l.safe (g.L.LockWalk.rest l.fn.walk);
 }
 
 abbrev pub decreases-locks : goal.decreases-locks

@@ -6,7 +6,7 @@ use Rattle.tx_plan.proofs.plan.scan.scan_walk.Given as goal
 abbrev pub invariant-keys : goal.invariant-keys
 invariant-keys g l = record {
   same : g.W.ReadWalk.cells l.walk ≡ g.W.ReadWalk.cells l.fn.walk;
-  found : Scanned (g.W.ReadWalk.cells l.fn.walk) l.body (g.W.ReadWalk.rest l.walk) l.rows
+  found : Scanned (g.W.ReadWalk.cells l.fn.walk) l.body (g.W.ReadWalk.rest l.walk) l.rows;
 }
 
 abbrev pub decreases-keys : goal.decreases-keys
