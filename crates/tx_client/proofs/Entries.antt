@@ -1,15 +1,22 @@
 -- The buffer by places: what it declares, and what stands in it.
-use Rattle.std.proofs.Common.{◌≡◌, ℕ, ◌+◌, ◌<◌, ◌≤◌, inl, inr, zero, suc, Bool, true, false, cond, length, List, [], ◌∷◌, Some, None, bytes_eq, refl, ap, subst, arith}
+use Rattle.std.proofs.Common.{◌≡◌, ℕ, ◌+◌, ◌<◌, ◌≤◌, inl, inr, zero, suc, Bool, true, false, cond, map, length, nat_lt, List, [], ◌∷◌, Option, Some, None, is_some, bytes_eq, refl, sym, ap, subst, ◌∙◌, arith}
 use Rattle.tx_types.specs.declared.key.Key.{Key}
 use Rattle.tx_types.specs.declared.mutation.Change.{Change}
+use Rattle.tx_types.specs.declared.mutation.Mode.{Mode}
+use Rattle.tx_types.specs.declared.mutation.Mode.TheVariants.{TwoPhase, Async}
 use Rattle.tx_types.specs.declared.mutation.Mutation.{Mutation}
+use Rattle.tx_types.specs.declared.mutation.Mutation.TheVariants as mutation
 use Rattle.tx_machine.specs.Keys.{mutation_at, IsDistinct}
 use Rattle.tx_core.specs.Histories.{is_first}
+use Rattle.tx_core.specs.Allowed.{other_keys, listed_on}
 use Rattle.tx_core.proofs.Basics.{key_test, key_same}
+use Rattle.tx_client.specs.declared.state.Terms.{Terms}
 use Rattle.tx_client.specs.declared.state.Phase.{Phase}
 use Rattle.tx_client.specs.declared.state.Progress.{Progress}
-use Rattle.tx_client.specs.Buffers.{Entries, touched, changes_of, key_at, mutation_in, with_progress, wants, place_from, first_place, fresh}
-use Rattle.tx_client.specs.Sessions.{declaration, declaration_of}
+use Rattle.tx_client.specs.Buffers.{Entries, buffered, touched, locked, changes_of, keys_of, key_at, mutation_in, with_progress, wants, place_from, first_place, fresh}
+use Rattle.tx_client.specs.Sessions.{others_at, declaration, declaration_of}
+use Rattle.tx_client.specs.Facts.{Few}
+use Rattle.tx_types.specs.declared.limits.TheConstants.{MAX_ASYNC_KEYS}
 
 -- ---- places
 
@@ -38,10 +45,31 @@ mutation_there (e ∷ es) (suc i) lt d =
       | inr y ↦ rw y.0 rest
     ]
 
--- the key of the first place is the primary
+-- the key of the first place is the primary, that of no other is
 pub first_there : (es : Entries) → 0 < length es → is_first (changes_of es) (key_at es 0) ≡ true
 first_there [] lt = absurd (omega (arith, lt))
 first_there (e ∷ es) lt = key_same e.0
+
+later_there : (es : Entries) (i : ℕ) → suc i < length es → IsDistinct (changes_of es) → is_first (changes_of es) (key_at es (suc i)) ≡ false
+later_there [] i lt d = absurd (omega (arith, lt))
+later_there (e ∷ es) i lt d =
+    elim (key_test e.0 (key_at es i)) [
+      | inl y ↦ (let none : mutation_at (changes_of es) (key_at es i) ≡ None = subst (λ k. mutation_at (changes_of es) k ≡ None) y.1 d.0 in
+          let some = mutation_there es i (omega (arith, lt)) d.1 in
+          absurd (cc (none, some)))
+      | inr y ↦ y.0
+    ]
+
+keys_are : (es : Entries) → keys_of es ≡ map (λ (c : Change). c.key) (changes_of es)
+keys_are [] = refl
+keys_are (e ∷ es) = ap (λ (l : List Key). e.0 ∷ l) (keys_are es)
+
+-- the other keys that a prewrite lists are those that its transaction's declaration gives it
+pub others_listed : (m : Mode) (es : Entries) (i : ℕ) → i < length es → IsDistinct (changes_of es) → others_at m es i ≡ elim m [ TwoPhase ↦ [] | Async ↦ cond (is_first (changes_of es) (key_at es i)) (other_keys (changes_of es)) [] ]
+others_listed TwoPhase es i lt d = refl
+others_listed Async [] i lt d = absurd (omega (arith, lt))
+others_listed Async (e ∷ es) zero lt d = rw (key_same e.0) (keys_are es)
+others_listed Async (e ∷ es) (suc i) lt d = rw (later_there (e ∷ es) i lt d) refl
 
 -- progress is no part of a write set
 pub changes_with : (es : Entries) (i : ℕ) (p : Progress) → changes_of (with_progress es i p) ≡ changes_of es
@@ -49,10 +77,10 @@ changes_with [] i p = refl
 changes_with (e ∷ es) zero p = refl
 changes_with (e ∷ es) (suc i) p = ap (λ (l : List Change). record { key = e.0; mutation = e.1.mutation } ∷ l) (changes_with es i p)
 
-pub declaration_with : (t : ℕ) (es : Entries) (i : ℕ) (p : Progress) (ttl : ℕ) → declaration t (with_progress es i p) ttl ≡ declaration t es ttl
-declaration_with t [] i p ttl = refl
-declaration_with t (e ∷ es) zero p ttl = refl
-declaration_with t (e ∷ es) (suc i) p ttl = ap (λ (l : List Change). Some (record (declaration_of t es ttl) { changes = record { key = e.0; mutation = e.1.mutation } ∷ l })) (changes_with es i p)
+pub declaration_with : (t : ℕ) (es : Entries) (i : ℕ) (p : Progress) (terms : Terms) → declaration t (with_progress es i p) terms ≡ declaration t es terms
+declaration_with t [] i p terms = refl
+declaration_with t (e ∷ es) zero p terms = refl
+declaration_with t (e ∷ es) (suc i) p terms = ap (λ (l : List Change). Some (record (declaration_of t es terms) { changes = record { key = e.0; mutation = e.1.mutation } ∷ l })) (changes_with es i p)
 
 -- ---- a key is touched
 
@@ -77,3 +105,15 @@ distinct_touched (e ∷ es) k m d = go (bytes_eq k e.0) refl (distinct_touched e
     go : (b : Bool) → bytes_eq k e.0 ≡ b → IsDistinct (changes_of (touched es k m)) → IsDistinct (changes_of (cond b ((e.0, fresh m) ∷ es) (e ∷ touched es k m)))
     go true is rest = (d.0, d.1)
     go false is rest = (absent_touched es k e.0 m is d.0, rest)
+
+-- ---- how many keys there are
+
+length_with : (es : Entries) (i : ℕ) (p : Progress) → length (with_progress es i p) ≡ length es
+length_with [] i p = refl
+length_with (e ∷ es) zero p = refl
+length_with (e ∷ es) (suc i) p = (let rest = length_with es i p in omega (arith, rest))
+
+-- progress adds no key
+pub few_with : (es fs : Entries) (i : ℕ) (p : Progress) (o : Option Terms) → Few o es → fs ≡ with_progress es i p → Few o fs
+few_with es fs i p None few e = tt
+few_with es fs i p (Some terms) few e = ap (λ n. elim terms.mode [ TwoPhase ↦ false | Async ↦ nat_lt MAX_ASYNC_KEYS n ]) (ap length e ∙ length_with es i p) ∙ few

@@ -1,89 +1,173 @@
 -- What an answer to a session's request tells, its state may keep.
-use Rattle.std.proofs.Common.{◌≡◌, ◌≢◌, ℕ, inl, zero, suc, true, List, [], ◌∷◌, Option, Some, None, refl, sym, ap, subst, ◌∙◌}
+use Rattle.std.proofs.Common.{◌≡◌, ◌≢◌, ℕ, inl, inr, zero, suc, true, List, [], ◌∷◌, Option, Some, None, refl, sym, ap, subst, ◌∙◌}
+use Rattle.std.specs.Prelude.{Contains}
+use Rattle.std.proofs.lemmas.List.Elements.{Contains-push}
 use Rattle.tx_types.specs.declared.key.Key.{Key}
+use Rattle.tx_types.specs.declared.lock.LockInfo.{LockInfo}
 use Rattle.tx_types.specs.declared.mutation.Fate.{Fate}
+use Rattle.tx_types.specs.declared.mutation.Fate.TheVariants as fate
 use Rattle.tx_machine.specs.Keys.{IsDistinct}
+use Rattle.tx_plan.specs.declared.body.Body.{Body}
 use Rattle.tx_plan.specs.declared.answer.Answer.{Answer}
-use Rattle.tx_plan.specs.declared.answer.Answer.TheVariants.{Prewritten, Committed, CommitTsExpired}
+use Rattle.tx_plan.specs.declared.answer.Answer.TheVariants.{Prewritten, Committed, RolledBack, Missing, Locked, KeyIsLocked, CommitTsExpired}
 use Rattle.tx_plan.specs.Answers.{start_in}
-use Rattle.tx_core.specs.declared.event.Taken.{Taken}
-use Rattle.tx_core.specs.declared.event.Event.TheVariants.{Took}
-use Rattle.tx_core.specs.Histories.{History, Begins}
-use Rattle.tx_core.specs.Decisions.{accepted, fate_in}
-use Rattle.tx_core.specs.Worlds.{route, Holds, WasTold, IsWorldRun}
-use Rattle.tx_core.proofs.seats.Staying.{among_on}
-use Rattle.tx_core.proofs.runs.Consequences.{prewritten_accepted}
+use Rattle.tx_core.specs.declared.event.UnknownCause.{UnknownCause}
+use Rattle.tx_core.specs.Histories.{History, declared}
+use Rattle.tx_core.specs.Decisions.{fate_in, infos_in}
+use Rattle.tx_core.specs.Worlds.{WasTold, MayAnswer, IsWorldRun}
+use Rattle.tx_core.specs.Laws.{WasToldOf}
+use Rattle.tx_client.specs.declared.state.Terms.{Terms}
 use Rattle.tx_client.specs.declared.state.Phase.{Phase}
 use Rattle.tx_client.specs.declared.state.Phase.TheVariants as phase
 use Rattle.tx_client.specs.declared.state.Progress.{Progress}
-use Rattle.tx_client.specs.Buffers.{Entries, key_at, progress_at, with_progress}
-use Rattle.tx_client.specs.Sessions.{State, Due, first_settled, drawn_after, marked_by, prewrite_of, heard, missed}
+use Rattle.tx_client.specs.declared.state.Came.{Came}
+use Rattle.tx_client.specs.declared.state.Came.TheVariants as came
+use Rattle.tx_client.specs.declared.state.Due.{Due}
+use Rattle.tx_client.specs.Buffers.{Entries, changes_of, key_at, progress_at, with_progress, promised}
+use Rattle.tx_client.specs.Sessions.{State, first_settled, committed_by, met_by, drawn_after, sent_by, marked_by, marked, with_sent, missed, heard, after_came, after_read, prewrite_of, rollback_of, check_of, outcome_of}
+use Rattle.tx_client.specs.Facts.{WasAnswered, CameSo, standing, Mark, Marks, IsSession, IsFor}
 use Rattle.tx_client.proofs.Entries.{changes_with, declaration_with}
-use Rattle.tx_client.proofs.Sessions.{standing, Marks, IsSession, accepted_still}
-use Rattle.tx_client.proofs.Due.{IsFor, names_start}
+use Rattle.tx_client.proofs.Due.{names_start}
+use Rattle.tx_client.proofs.Marking.{prewritten_mark, checked_mark, rolled_unlocked}
+use Rattle.tx_client.proofs.Promising.{promised_greatest}
 
--- ---- marks
+-- ---- marks by places
 
-marks_at : (h : History) (t : ℕ) (es : Entries) (i : ℕ) → Marks h t es → (progress_at es i).accepted ≡ true → accepted h t (key_at es i) ≢ None
-marks_at h t [] i m so = absurd (cc (so))
-marks_at h t (e ∷ es) zero m so = m.0 so
-marks_at h t (e ∷ es) (suc i) m so = marks_at h t es i m.1 so
+mark_at : (h : History) (t : ℕ) (es : Entries) (i : ℕ) → Marks h t es → Mark h t (key_at es i) (progress_at es i).accepted
+mark_at h t [] i m = tt
+mark_at h t (e ∷ es) zero m = m.0
+mark_at h t (e ∷ es) (suc i) m = mark_at h t es i m.1
 
-marks_with : (h : History) (t : ℕ) (es : Entries) (i : ℕ) (p : Progress) → Marks h t es → (p.accepted ≡ true → accepted h t (key_at es i) ≢ None) → Marks h t (with_progress es i p)
-marks_with h t [] i p m f = tt
-marks_with h t (e ∷ es) zero p m f = (f, m.1)
-marks_with h t (e ∷ es) (suc i) p m f = (m.0, marks_with h t es i p m.1 f)
+marks_with : (h : History) (t : ℕ) (es : Entries) (i : ℕ) (p : Progress) → Marks h t es → Mark h t (key_at es i) p.accepted → Marks h t (with_progress es i p)
+marks_with h t [] i p m new = tt
+marks_with h t (e ∷ es) zero p m new = (new, m.1)
+marks_with h t (e ∷ es) (suc i) p m new = (m.0, marks_with h t es i p m.1 new)
 
 -- progress is no part of what stands declared
-standing_with : (t : ℕ) (es : Entries) (i : ℕ) (p : Progress) (o : Option ℕ) → standing t (with_progress es i p) o ≡ standing t es o
+standing_with : (t : ℕ) (es : Entries) (i : ℕ) (p : Progress) (o : Option Terms) → standing t (with_progress es i p) o ≡ standing t es o
 standing_with t es i p None = refl
-standing_with t es i p (Some ttl) = declaration_with t es i p ttl
+standing_with t es i p (Some terms) = declaration_with t es i p terms
 
--- ---- fates
+-- what was sent is not accepted by that
+sent_accepted : (x : Phase) (p : Progress) → (sent_by x p).accepted ≡ p.accepted
+sent_accepted phase.Prewrite p = refl
+sent_accepted phase.Commit p = refl
+sent_accepted phase.Abort p = refl
 
--- an answer gives up a drawn number, or keeps it
+-- ---- answers
+
+-- an answer gives up a drawn timestamp, or keeps it
 drawn_was : (a : Answer) (o : Option ℕ) (c : ℕ) → drawn_after a o ≡ Some c → o ≡ Some c
 drawn_was (CommitTsExpired m) o c e = absurd (cc (e))
 drawn_was _ o c e = e
 
--- ---- answers
+-- a lock that is met was told of
+met_told : (h : History) (b : Body) (a : Answer) → WasAnswered h b a → (o : Option LockInfo) → ((info : LockInfo) → o ≡ Some info → WasToldOf h info) → (info : LockInfo) → met_by a o ≡ Some info → WasToldOf h info
+met_told h b (KeyIsLocked found) was o old info e =
+    let same : found ≡ info = cc (e) in
+    subst (WasToldOf h) same (record { by = was.by; among = was.among; told = subst (λ (xs : List LockInfo). Contains xs found) (ap infos_in (sym was.told)) (Contains-push [] found) })
+met_told h b _ was o old info e = old info e
 
--- An answer that stands in the history, to what the session sent.
-module _ (bounds : List Key) (before h : History) (y : Taken) (run : IsWorldRun bounds (Took y ∷ before)) (b : Begins (Took y ∷ before) h) (s : State) (due : Due) (is : IsSession h s) (body : y.body ≡ due.body) where
-  -- a prewrite that was answered so is accepted
-  prewritten : IsFor s phase.Prewrite due → (m : ℕ) → y.answer ≡ Prewritten m → accepted h s.start (key_at s.buffer due.place) ≢ None
-  prewritten f m e =
-      let sent : y.body ≡ (prewrite_of s f.0 f.1).body = body ∙ ap (λ (d : Due). d.body) f.2 in
-      let at : y.region ≡ route bounds (key_at s.buffer f.1) = sym (subst (Holds bounds y.region) sent run.1.holds) in
-      let now : accepted (Took y ∷ before) s.start (key_at s.buffer f.1) ≢ None = prewritten_accepted bounds before run.0 y _ m at sent e in
+module _ (bounds : List Key) (h : History) (run : IsWorldRun bounds h) (i : ℕ) (s : State) (is : IsSession h i s) where
+  -- a fate that an answer tells was told
+  answer_told : (x : Phase) (due : Due) → IsFor s x due → (a : Answer) → WasAnswered h due.body a → (end : Fate) → fate_in a ≡ Some end → MayAnswer h s.start (outcome_of end)
+  answer_told x due f a was end e = by_end end (record { by = was.by; among = was.among; of = ap start_in was.asked ∙ names_start s x due f; tells = ap fate_in was.told ∙ e })
+    where
+      by_end : (end : Fate) → WasTold h s.start end → MayAnswer h s.start (outcome_of end)
+      by_end (fate.Committed c) told = inl told
+      by_end fate.Aborted told = told
+
+  -- where each key has an async lock
+  promise_told : (es : Entries) → declared h s.start ≡ standing s.start es s.declared → IsDistinct (changes_of es) → Marks h s.start es → (end : Fate) → committed_by (promised es) ≡ Some end → MayAnswer h s.start (outcome_of end)
+  promise_told es stands distinct marks end e = go (promised es) refl e
+    where
+      go : (o : Option ℕ) → promised es ≡ o → committed_by o ≡ Some end → MayAnswer h s.start (outcome_of end)
+      go None at e = absurd (cc (e))
+      go (Some c) at e = (let same : fate.Committed c ≡ end = cc (e) in subst (λ q. MayAnswer h s.start (outcome_of q)) same (inr (promised_greatest bounds h run s.start es s.declared c stands distinct marks at)))
+
+  -- the mark that an answer makes is true
+  new_mark : (x : Phase) (due : Due) → IsFor s x due → (a : Answer) → WasAnswered h due.body a → (p : Progress) → Mark h s.start (key_at s.buffer due.place) p.accepted → Mark h s.start (key_at s.buffer due.place) (marked_by x a p).accepted
+  new_mark phase.Prewrite due f (Prewritten m) was p old =
       let place : f.1 ≡ due.place = sym (ap (λ (d : Due). d.place) f.2) in
-      subst (λ i. accepted h s.start (key_at s.buffer i) ≢ None) place (accepted_still (Took y ∷ before) h b s.start (key_at s.buffer f.1) now)
+      subst (λ n. Mark h s.start (key_at s.buffer n) (Some m)) place (prewritten_mark bounds h run _ m (subst (λ (d : Due). WasAnswered h d.body (Prewritten m)) f.2 was))
+  new_mark phase.Commit due f (Committed c) was p old = old
+  new_mark phase.Abort due f RolledBack was p old = old
+  new_mark phase.Abort due f Missing was p old = old
+  new_mark phase.Abort due (inl f) (Locked info) was p old = absurd (rolled_unlocked bounds h run _ info (subst (λ (d : Due). WasAnswered h d.body (Locked info)) f.1 was))
+  new_mark phase.Abort due (inr f) (Locked info) was p old =
+      let place : f.0 ≡ due.place = sym (ap (λ (d : Due). d.place) f.1) in
+      subst (λ n. Mark h s.start (key_at s.buffer n) (Some _)) place (checked_mark bounds h run _ info (subst (λ (d : Due). WasAnswered h d.body (Locked info)) f.1 was))
+  new_mark _ due f a was p old = old
 
-  -- a mark that an answer makes is true
-  marked : (x : Phase) → IsFor s x due → (p : Progress) → (p.accepted ≡ true → accepted h s.start (key_at s.buffer due.place) ≢ None) → (a : Answer) → y.answer ≡ a → (marked_by x a p).accepted ≡ true → accepted h s.start (key_at s.buffer due.place) ≢ None
-  marked phase.Prewrite f p old (Prewritten m) e so = prewritten f m e
-  marked phase.Commit f p old (Committed c) e so = old so
-  marked _ f p old _ e so = old so
+  -- what is known of the fate, after an answer
+  settled : (x : Phase) (due : Due) → IsFor s x due → (a : Answer) → WasAnswered h due.body a → (es : Entries) → declared h s.start ≡ standing s.start es s.declared → IsDistinct (changes_of es) → Marks h s.start es → (end : Fate)
+      → first_settled (first_settled s.decision (fate_in a)) (committed_by (promised es)) ≡ Some end → MayAnswer h s.start (outcome_of end)
+  settled x due f a was es stands distinct marks end e = go s.decision (fate_in a) refl refl e
+    where
+      go : (o told : Option Fate) → s.decision ≡ o → fate_in a ≡ told → first_settled (first_settled o told) (committed_by (promised es)) ≡ Some end → MayAnswer h s.start (outcome_of end)
+      go None None at tells e = promise_told es stands distinct marks end e
+      go None (Some q) at tells e = answer_told x due f a was end (tells ∙ e)
+      go (Some old) told at tells e = is.settled end (at ∙ e)
 
-  -- a fate that is known was told
-  settled : (x : Phase) → IsFor s x due → (a : Answer) → y.answer ≡ a → (o : Option Fate) (end : Fate) → s.decision ≡ o → first_settled o (fate_in a) ≡ Some end → WasTold h s.start end
-  settled x f a e None end was q = record { by = y; among = among_on (Took y ∷ before) h b (Took y) (inl refl); of = ap start_in body ∙ names_start s x due f; tells = ap fate_in e ∙ q }
-  settled x f a e (Some old) end was q = is.settled end (was ∙ q)
-
-  pub heard_ok : (x : Phase) → IsFor s x due → (a : Answer) → y.answer ≡ a → IsSession h (heard s x due.place a)
-  heard_ok x f a e =
+  -- a request of a phase was answered
+  pub heard_ok : (x : Phase) (due : Due) → IsFor s x due → (a : Answer) → WasAnswered h due.body a → IsSession h i (heard s x due.place a)
+  heard_ok x due f a was =
       let p : Progress = progress_at s.buffer due.place in
+      let q : Progress = marked_by x a (sent_by x p) in
+      let stands : declared h s.start ≡ standing s.start (marked s x due.place a) s.declared = is.stands ∙ sym (standing_with s.start s.buffer due.place q s.declared) in
+      let distinct : IsDistinct (changes_of (marked s x due.place a)) = subst IsDistinct (sym (changes_with s.buffer due.place q)) is.distinct in
+      let old : Mark h s.start (key_at s.buffer due.place) (sent_by x p).accepted = subst (Mark h s.start (key_at s.buffer due.place)) (sym (sent_accepted x p)) (mark_at h s.start s.buffer due.place is.marks) in
+      let marks : Marks h s.start (marked s x due.place a) = marks_with h s.start s.buffer due.place q is.marks (new_mark x due f a was (sent_by x p) old) in
       record {
         drew_start = is.drew_start;
         begun = is.begun;
         unanswered = is.unanswered;
-        stands = is.stands ∙ sym (standing_with s.start s.buffer due.place (marked_by x a p) s.declared);
-        distinct = subst IsDistinct (sym (changes_with s.buffer due.place (marked_by x a p))) is.distinct;
-        marks = marks_with h s.start s.buffer due.place (marked_by x a p) is.marks (marked x f p (marks_at h s.start s.buffer due.place is.marks) a e);
-        ready = λ c q. is.ready c (drawn_was a s.drawn c q);
-        settled = λ end q. settled x f a e s.decision end refl q;
+        stands = stands;
+        distinct = distinct;
+        marks = marks;
+        passes = is.passes;
+        met = met_told h due.body a was s.met is.met;
+        ready = λ c e. is.ready c (drawn_was a s.drawn c e);
+        settled = settled x due f a was (marked s x due.place a) stands distinct marks;
       }
 
--- a request that was refused for want of memory
-pub missed_ok : (h : History) (s : State) → IsSession h s → IsSession h (missed s)
-missed_ok h s is = record { drew_start = is.drew_start; begun = is.begun; unanswered = is.unanswered; stands = is.stands; distinct = is.distinct; marks = is.marks; ready = is.ready; settled = is.settled }
+  -- it was not answered
+  pub missed_ok : (x : Phase) (n : ℕ) (why : UnknownCause) → IsSession h i (missed s x n why)
+  missed_ok x n why =
+      let p : Progress = progress_at s.buffer n in
+      record {
+        drew_start = is.drew_start;
+        begun = is.begun;
+        unanswered = is.unanswered;
+        stands = is.stands ∙ sym (standing_with s.start s.buffer n (sent_by x p) s.declared);
+        distinct = subst IsDistinct (sym (changes_with s.buffer n (sent_by x p))) is.distinct;
+        marks = marks_with h s.start s.buffer n (sent_by x p) is.marks (subst (Mark h s.start (key_at s.buffer n)) (sym (sent_accepted x p)) (mark_at h s.start s.buffer n is.marks));
+        passes = is.passes;
+        met = is.met;
+        ready = is.ready;
+        settled = is.settled;
+      }
+
+  -- whatever came of a request of a phase
+  pub came_ok : (x : Phase) (due : Due) → IsFor s x due → (c : Came) → CameSo h due.body c → IsSession h i (after_came s x due.place c)
+  came_ok x due f came.Lost was = missed_ok x due.place _
+  came_ok x due f came.Unsaid was = missed_ok x due.place _
+  came_ok x due f (came.Said a) was = heard_ok x due f a was
+
+  -- a read was answered
+  pub read_ok : (b : Body) (c : Came) → CameSo h b c → IsSession h i (after_read s c)
+  read_ok b came.Lost was = is
+  read_ok b came.Unsaid was = is
+  read_ok b (came.Said a) was =
+      record {
+        drew_start = is.drew_start;
+        begun = is.begun;
+        unanswered = is.unanswered;
+        stands = is.stands;
+        distinct = is.distinct;
+        marks = is.marks;
+        passes = is.passes;
+        met = met_told h b a was s.met is.met;
+        ready = is.ready;
+        settled = is.settled;
+      }

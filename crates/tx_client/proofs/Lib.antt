@@ -1,7 +1,14 @@
+pub mod two_phases
 pub mod Places
 pub mod Finding
 pub mod Entries
-pub mod Sessions
+pub mod Kept
 pub mod Due
+pub mod Marking
+pub mod Promising
 pub mod Heard
 pub mod Events
+pub mod Calling
+pub mod Looking
+pub mod Routing
+pub mod Scanning

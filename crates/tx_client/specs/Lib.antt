@@ -1,2 +1,8 @@
+pub mod two_phase
 pub mod Buffers
 pub mod Sessions
+pub mod Senders
+pub mod Walks
+pub mod Facts
+pub mod Calls
+pub mod Statuses

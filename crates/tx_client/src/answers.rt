@@ -1,11 +1,11 @@
 //! What an answer does to a session's state.
 ghost use Rattle.std.specs.Prelude.{◌≡◌};
 ghost use Rattle.tx_core.specs.Decisions.{fate_in};
-ghost use Rattle.tx_client.specs.Sessions.{cause_of, drawn_after, marked_by};
+ghost use Rattle.tx_client.specs.Sessions.{first_settled, committed_by, cause_of, drawn_after, sent_by, marked_by, minimum_in};
 
 use crate::state::{Phase, Progress};
 use tx_core::{Answer, UnknownCause};
-use tx_types::{Fate, Ts};
+use tx_types::{Fate, LockInfo, Mode, Ts};
 
 /// What it tells of the transaction's fate.
 pub(crate) fn settled(answer: &Answer) -> Option<Fate>
@@ -30,7 +30,7 @@ pub(crate) fn cause(answer: &Answer) -> Option<UnknownCause>
     }
 }
 
-/// The drawn number that is left.
+/// The drawn timestamp that is left.
 pub(crate) fn drawn(answer: &Answer, drawn: Option<Ts>) -> Option<Ts>
     ensures { result ≡ drawn_after answer.now drawn }
 {
@@ -40,19 +40,70 @@ pub(crate) fn drawn(answer: &Answer, drawn: Option<Ts>) -> Option<Ts>
     }
 }
 
-/// What it says of its key.
+/// What is known of a key once a request went out.
+pub(crate) fn sent(phase: Phase, progress: Progress) -> Progress
+    ensures { result ≡ sent_by phase progress }
+{
+    match phase {
+        Phase::Prewrite => Progress {
+            sent: true,
+            ..progress
+        },
+        Phase::Commit | Phase::Abort => progress,
+    }
+}
+
+// The minimum that a lock counts with.
+fn minimum(info: &LockInfo) -> Ts
+    ensures { result ≡ minimum_in info.now }
+{
+    match info.mode {
+        Mode::TwoPhase => Ts::ZERO,
+        Mode::Async => info.min,
+    }
+}
+
+/// What an answer says of its key.
 pub(crate) fn marked(phase: Phase, answer: &Answer, progress: Progress) -> Progress
     ensures { result ≡ marked_by phase answer.now progress }
 {
     match (phase, answer) {
-        (Phase::Prewrite, Answer::Prewritten(_)) => Progress {
-            accepted: true,
+        (Phase::Prewrite, Answer::Prewritten(minimum)) => Progress {
+            accepted: Some(*minimum),
             ..progress
         },
         (Phase::Commit, Answer::Committed(_)) => Progress {
             committed: true,
             ..progress
         },
+        (Phase::Abort, Answer::RolledBack | Answer::Missing) => Progress {
+            rolled: true,
+            ..progress
+        },
+        (Phase::Abort, Answer::Locked(info)) => Progress {
+            accepted: Some(minimum(info)),
+            ..progress
+        },
         _ => progress,
+    }
+}
+
+/// What was known first stands.
+pub(crate) fn first(known: Option<Fate>, new: Option<Fate>) -> Option<Fate>
+    ensures { result ≡ first_settled known new }
+{
+    match known {
+        Some(fate) => Some(fate),
+        None => new,
+    }
+}
+
+/// A transaction that is committed here, if somewhere.
+pub(crate) fn committed(commit: Option<Ts>) -> Option<Fate>
+    ensures { result ≡ committed_by commit }
+{
+    match commit {
+        Some(commit) => Some(Fate::Committed(commit)),
+        None => None,
     }
 }

@@ -1,14 +1,24 @@
 //! The write buffer: keys in the order in which they were first touched.
-ghost use Rattle.std.specs.Prelude.{◌≡◌, ◌<◌, length, IfOk, IfErr, IfSome, OnOk, OnErr, is_some, option_map, bytes_eq};
+ghost use Rattle.std.specs.Prelude.{◌≡◌, ◌<◌, ◌≤◌, length, IfOk, IfErr, IfSome, OnOk, OnErr, is_some, max, option_map};
 ghost use Rattle.tx_machine.specs.Keys.{IsDistinct};
-ghost use Rattle.tx_client.specs.Buffers.{Entries, key_at, mutation_in, progress_at, with_progress, first_place, wants, not_empty, changes_of, touched, buffered};
+ghost use Rattle.tx_types.specs.declared.mutation.Mode.TheVariants.{Async};
+ghost use Rattle.tx_client.specs.Buffers.{Entries, key_at, mutation_in, progress_at, with_progress, first_place, wants, is_full, not_empty, changes_of, touched, buffered, has_two_phase_lock, async_minimum, promised, is_zero};
+ghost use Rattle.tx_client.specs.Sessions.{others_at};
 
 use crate::state::{Entry, Phase, Progress};
 use indexmap::IndexMap;
 use std::alloc::Global;
-use tx_types::{Change, Changes, Fault, Key, Mutation};
+use tx_types::limits::MAX_KEYS;
+use tx_types::{Change, Changes, Fault, Key, Mutation, Secondaries, Ts};
 
 pub(crate) type Buffer = IndexMap<Key, Entry>;
+
+/// Whether the key would be one too many.
+pub(crate) fn is_full(buffer: &Buffer, key: &Key) -> bool
+    ensures { result ≡ is_full buffer.now.entries key.now }
+{
+    !(find(buffer, key).is_some() || buffer.len() < MAX_KEYS)
+}
 
 /// Sets what is done to a key, of which then nothing was answered yet.
 pub(crate) fn touch(buffer: &mut Buffer, key: Key, mutation: Mutation) -> Result<(), Fault>
@@ -17,8 +27,10 @@ pub(crate) fn touch(buffer: &mut Buffer, key: Key, mutation: Mutation) -> Result
     ensures err { IfErr result (λ e. e ≡ Fault.OutOfMemory) }
 {
     let progress = Progress {
-        accepted: false,
+        sent: false,
+        accepted: None,
         committed: false,
+        rolled: false,
     };
     buffer.insert(key, Entry { mutation, progress })?;
     Ok(())
@@ -34,35 +46,13 @@ pub(crate) fn find<'a>(buffer: &'a Buffer, key: &Key) -> Option<&'a Mutation>
     }
 }
 
-// Whether the key at a place has these bytes.
-fn is_at(buffer: &Buffer, i: usize, bytes: &[u8]) -> bool
-    requires { i < length buffer.now.entries }
-    ensures { result ≡ bytes_eq (key_at buffer.now.entries i) bytes.now }
-{
-    match buffer.get_index(i) {
-        Some((key, _)) => key.as_bytes() == bytes,
-        None => unreachable!(),
-    }
-}
-
-/// Whether it has the key of these bytes.
-pub(crate) fn has_bytes(buffer: &Buffer, bytes: &[u8]) -> bool
-    ensures { result ≡ is_some (buffered buffer.now.entries bytes.now) }
-{
-    for i in 0..buffer.len() {
-        if is_at(buffer, i, bytes) {
-            return true;
-        }
-    }
-    false
-}
-
 fn wants_more(phase: Phase, progress: Progress) -> bool
     ensures { result ≡ wants phase progress }
 {
     match phase {
-        Phase::Prewrite => !progress.accepted,
+        Phase::Prewrite => progress.accepted.is_none(),
         Phase::Commit => !progress.committed,
+        Phase::Abort => progress.sent && !progress.rolled,
     }
 }
 
@@ -142,4 +132,68 @@ pub(crate) fn changes_in(alloc: Global, buffer: &Buffer) -> Result<Changes, Faul
         changes.push(Change { key, mutation })?;
     }
     Ok(changes)
+}
+
+/// All keys but the first.
+pub(crate) fn other_keys(alloc: Global, buffer: &Buffer) -> Result<Secondaries, Fault>
+    requires { length buffer.now.entries ≤ 256 }
+    ensures ok { IfOk result (λ keys. keys ≡ others_at Async buffer.now.entries 0) }
+    ensures err { IfErr result (λ e. e ≡ Fault.OutOfMemory) }
+{
+    let mut keys = Secondaries::new(alloc);
+    for i in 1..buffer.len() {
+        keys.push(key_of(buffer, i)?)?;
+    }
+    Ok(keys)
+}
+
+fn is_two_phase(progress: Progress) -> bool
+    ensures { result ≡ is_zero progress.accepted }
+{
+    progress.accepted == Some(Ts::ZERO)
+}
+
+/// Whether some key has a two-phase lock.
+pub(crate) fn has_two_phase_lock(buffer: &Buffer) -> bool
+    ensures { result ≡ has_two_phase_lock buffer.now.entries }
+{
+    for i in 0..buffer.len() {
+        if is_two_phase(progress_of(buffer, i)) {
+            return true;
+        }
+    }
+    false
+}
+
+// The minimum of an async lock.
+fn async_minimum(progress: Progress) -> Option<Ts>
+    ensures { result ≡ async_minimum progress.accepted }
+{
+    match progress.accepted {
+        Some(minimum) if minimum > Ts::ZERO => Some(minimum),
+        _ => None,
+    }
+}
+
+fn later(a: Ts, b: Ts) -> Ts
+    ensures { result ≡ max a b }
+{
+    if a < b { b } else { a }
+}
+
+/// The greatest minimum, where each key has an async lock.
+pub(crate) fn promised(buffer: &Buffer) -> Option<Ts>
+    ensures { result ≡ promised buffer.now.entries }
+{
+    if !has_keys(buffer) {
+        return None;
+    }
+    let mut greatest = Ts::ZERO;
+    for i in 0..buffer.len() {
+        let Some(minimum) = async_minimum(progress_of(buffer, i)) else {
+            return None;
+        };
+        greatest = later(greatest, minimum);
+    }
+    Some(greatest)
 }

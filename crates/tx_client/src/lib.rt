@@ -1,13 +1,16 @@
 //! Sessions: the rules by which a client runs one transaction over a store.
-//!
-//! A session is its state and pure functions of it: what is due of it, and what an answer does to it (specs/Sessions.antt).
-//! Whoever drives it sends what is due and tells it the answers.
 #![tactic(auto)]
 
 mod answers;
 mod buffer;
+mod resolved;
+mod sender;
 mod session;
 mod state;
+mod transaction;
+pub mod two_phase;
 
+pub use resolved::{Decision, Met, Resolved, Status, WaitCause};
+pub use sender::{Lost, Sender};
 pub use session::Session;
-pub use state::{Entry, Phase, Progress};
+pub use state::{Came, Entry, Miss, Phase, Progress, Terms};

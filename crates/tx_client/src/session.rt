@@ -1,301 +1,429 @@
-//! One transaction, as its client runs it.
-ghost use Rattle.std.specs.Prelude.{◌≡◌, ◌<◌, length, true, false, Some, IsTrue, IfOk, IfErr, OnOk, OnErr, IfSome, is_some, option_map};
-ghost use Rattle.tx_machine.specs.Keys.{IsDistinct};
-ghost use Rattle.tx_plan.specs.declared.body.Body.TheVariants as request;
-ghost use Rattle.tx_client.specs.Buffers.{touched, buffered, changes_of};
-ghost use Rattle.tx_client.specs.Sessions.{begun, with_buffer, with_declared, with_drawn, is_declared, has_primary, declaration, due_prewrite, due_commit, prewrite_of, commit_of, commit_at, can_draw, can_commit, heard, missed, finish_of};
+//! Sessions: one transaction each, run over a way to the regions.
+ghost use Rattle.std.specs.Prelude.{◌≡◌, ◌<◌, ◌+◌, ◌⊎◌, length, true, false, Some, None, IfOk, IfErr, IfSome, OnOk, OnErr, option_map};
+ghost use Rattle.tx_types.specs.declared.fault.Fault.TheVariants as fault;
+ghost use Rattle.tx_core.specs.declared.event.Event.TheVariants.{Declared, Answered, Stopped};
+ghost use Rattle.tx_core.specs.Allowed.{Allowed};
+ghost use Rattle.tx_core.specs.Recording.{MayRecord};
+ghost use Rattle.tx_journal.specs.Known.{DrawsNothing};
+ghost use Rattle.tx_journal.specs.Replies.{IsGiven};
+ghost use Rattle.tx_client.specs.declared.state.Phase.TheVariants as phase;
+ghost use Rattle.tx_client.specs.Buffers.{touched, locked, is_full};
+ghost use Rattle.tx_client.specs.Sessions.{begun, is_declared, has_primary, declaration, exceeds, due_prewrite, due_commit, due_abort, can_draw, can_commit, can_abort, with_passed, finish_of};
+ghost use Rattle.tx_client.specs.Statuses.{lies_above};
+ghost use Rattle.tx_client.specs.Senders.{IsHeld, IsWay, came_by};
+ghost use Rattle.tx_client.specs.Walks.{Sends, due_walk, heartbeat_walk};
+ghost use Rattle.tx_client.specs.Facts.{CameSo, IsFor};
+ghost use Rattle.tx_client.specs.Calls.{seated, HasHeard, BeganAt, Records, Draws, RecordsDeclared, Asks, IsDecidedSo};
 
-use crate::answers::{cause, drawn, marked, settled};
-use crate::buffer::{
-    Buffer, changes_in, find, has_bytes, has_keys, key_of, mutation_of, note, place_of,
-    progress_of, touch,
-};
-use crate::state::Phase;
-use indexmap::IndexMap;
+mod reads;
+
+use crate::resolved::{Decision, Met, Resolved};
+use crate::sender::Sender;
+use crate::state::{Came, Due, Miss, Phase, Terms};
+use crate::transaction::Transaction;
 use std::alloc::Global;
 use std::marker::Model;
-use tx_core::{Answer, Commit, Declaration, Outcome, Prewrite, SeatNo, UnknownCause};
-use tx_types::{Fate, Fault, Key, Mode, Mutation, Secondaries, Ts};
+use tx_core::{Answer, Body, Declaration, Event, Outcome};
+use tx_journal::{Naming, Reply, Request, Seat, Told};
+use tx_types::{Fault, Key, Mutation, Ts, Value};
 
-/// One two-phase transaction: its write buffer, what was answered of each key, and what is known of its fate. Contracts
-/// see its state.
-#[derive(Debug, Drop)]
-pub struct Session {
-    seat: SeatNo,
-    start: Ts,
-    buffer: Buffer,
-    declared: Option<u32>,
-    drawn: Option<Ts>,
-    decision: Option<Fate>,
-    cause: Option<UnknownCause>,
+/// A session: one transaction, and the seat that it was begun with. Contracts see its state and what its seat knows. What it
+/// knows of its transaction is so in what its seat has seen.
+#[derive(Drop)]
+pub struct Session<J: Naming> {
+    seat: Seat<J>,
+    transaction: Transaction,
 }
 
-impl Model for Session {
-    ghost use Rattle.tx_client.specs.Sessions.{State};
+impl<J: Naming> Model for Session<J> {
+    ghost use Rattle.tx_client.specs.Calls.{Seated};
+    ghost use Rattle.tx_client.specs.Facts.{IsSeated};
 
-    ghost Value = { State };
+    ghost Value = { Seated };
 
-    ghost view = { λ s. record { seat = s.seat; start = s.start; buffer = s.buffer.entries; declared = s.declared; drawn = s.drawn; decision = s.decision; cause = s.cause } };
+    ghost view = { λ s. record { state = s.transaction; seat = s.seat } };
+
+    ghost invariant = { λ s. IsSeated J.bounds s.seat s.transaction };
 }
 
-impl Session {
-    /// A session whose seat drew this start. It takes no memory.
-    pub fn begin(alloc: Global, seat: SeatNo, start: Ts) -> Session
-        ensures { result ≡ begun seat start }
-    {
-        Session {
-            seat,
-            start,
-            buffer: IndexMap::new(alloc),
-            declared: None,
-            drawn: None,
-            decision: None,
-            cause: None,
-        }
+// Records the event, and lets it go.
+fn add<J: Naming>(seat: &mut Seat<J>, event: Event)
+    requires quiet { DrawsNothing event }
+    requires right { MayRecord J.bounds seat.old.seat seat.old.events event }
+    ensures { Records J.bounds seat.old event seat.new }
+{
+    seat.record(&event);
+}
+
+// Records what was declared, if anything was.
+fn record_declared<J: Naming>(seat: &mut Seat<J>, declaration: Option<Declaration>)
+    requires { IfSome declaration (λ d. MayRecord J.bounds seat.old.seat seat.old.events (Declared d)) }
+    ensures { RecordsDeclared J.bounds seat.old declaration seat.new }
+{
+    if let Some(declaration) = declaration {
+        add(seat, Event::Declared(declaration));
     }
+}
 
-    /// The seat that draws for it.
-    pub fn seat(&self) -> SeatNo
-        ensures { result ≡ self.now.seat }
+// Records what was answered.
+fn record_answered<J: Naming>(seat: &mut Seat<J>, start: Ts, outcome: &Outcome)
+    requires { MayRecord J.bounds seat.old.seat seat.old.events (Answered start outcome.now) }
+    ensures { Records J.bounds seat.old (Answered start outcome.now) seat.new }
+{
+    add(seat, Event::Answered(start, *outcome));
+}
+
+// The answer of a reply, and its history.
+fn parts_of<J: Naming>(reply: Reply<J>) -> (Option<Answer>, Told<J>)
+    ensures parts { (result.0 ≡ reply.answer) × (result.1 ≡ reply.events) }
+    ensures given { IsGiven J.bounds reply }
+{
+    let (_, answer, told) = reply.into_parts();
+    (answer, told)
+}
+
+// What a reply comes to.
+fn came_by(answer: Option<Answer>) -> Came
+    ensures { result ≡ came_by answer }
+{
+    match answer {
+        Some(answer) => Came::Said(answer),
+        None => Came::Unsaid,
+    }
+}
+
+impl<J: Naming> Session<J> {
+    /// Begins a transaction at a timestamp that its seat draws. It takes no memory. A seat whose ticks are spent is handed back.
+    pub fn begin(alloc: Global, mut seat: Seat<J>) -> Result<Session<J>, Seat<J>>
+        ensures ok { IfOk result (λ s. (s.state ≡ begun s.state.start) × BeganAt J.bounds seat s.state.start s.seat) }
+        ensures spent { IfErr result (λ s. (s ≡ seat) × (seat.ticks < 1)) }
     {
-        self.seat
+        let Ok(start) = seat.draw(1) else {
+            return Err(seat);
+        };
+        add(&mut seat, Event::Began(start));
+        Ok(Session {
+            seat,
+            transaction: Transaction::begin(alloc, start),
+        })
     }
 
     /// Its start timestamp.
     pub fn start(&self) -> Ts
-        ensures { result ≡ self.now.start }
+        ensures { result ≡ self.now.state.start }
     {
-        self.start
+        self.transaction.start()
     }
 
     /// Whether `declare` went well.
     pub fn is_declared(&self) -> bool
-        ensures { result ≡ is_declared self.now }
+        ensures { result ≡ is_declared self.now.state }
     {
-        self.declared.is_some()
+        self.transaction.is_declared()
     }
 
     /// Whether a buffer that is not empty was declared.
     pub fn has_primary(&self) -> bool
-        ensures { result ≡ has_primary self.now }
+        ensures { result ≡ has_primary self.now.state }
     {
-        self.declared.is_some() && has_keys(&self.buffer)
+        self.transaction.has_primary()
     }
 
-    /// What the buffer does to a key, where it has the key.
-    pub fn buffered(&self, key: &Key) -> Option<&Mutation>
-        ensures { option_map (λ m. m.now) result ≡ buffered self.now.buffer key.now }
-    {
-        find(&self.buffer, key)
-    }
-
-    /// How many keys the buffer has.
-    pub fn key_count(&self) -> usize
-        ensures { result ≡ length self.now.buffer }
-    {
-        self.buffer.len()
-    }
-
-    /// Whether the buffer has the key of these bytes. It looks at each of its keys.
-    pub fn has_key(&self, key: &[u8]) -> bool
-        ensures { result ≡ is_some (buffered self.now.buffer key.now) }
-    {
-        has_bytes(&self.buffer, key)
-    }
-
-    /// Enters a change of a key into the buffer. A key that is there keeps its place. `OutOfMemory` leaves the session as
-    /// it was.
-    pub fn touch(&mut self, key: Key, mutation: Mutation) -> Result<(), Fault>
-        requires { is_declared self.old ≡ false }
-        ensures ok { OnOk result (self.new ≡ with_buffer self.old (touched self.old.buffer key mutation)) }
-        ensures same { OnErr result (self.new ≡ self.old) }
-        ensures err { IfErr result (λ e. e ≡ Fault.OutOfMemory) }
-    {
-        touch(&mut self.buffer, key, mutation)
-    }
-
-    /// Fixes the write set: what is declared, which is nothing where the buffer is empty. `ttl` is the time to live of the
-    /// locks, in ticks. `OutOfMemory` leaves the session as it was.
-    pub fn declare(&mut self, alloc: Global, ttl: u32) -> Result<Option<Declaration>, Fault>
-        requires { is_declared self.old ≡ false }
-        ensures ok { IfOk result (λ declared. declared ≡ declaration self.old.start self.old.buffer ttl) }
-        ensures distinct { OnOk result (IsDistinct (changes_of self.old.buffer)) }
-        ensures state { OnOk result (self.new ≡ with_declared self.old ttl) }
-        ensures same { OnErr result (self.new ≡ self.old) }
-        ensures err { IfErr result (λ e. e ≡ Fault.OutOfMemory) }
-    {
-        let changes = changes_in(alloc, &self.buffer)?;
-        self.declared = Some(ttl);
-        if !has_keys(&self.buffer) {
-            return Ok(None);
-        }
-        Ok(Some(Declaration {
-            start: self.start,
-            changes,
-            mode: Mode::TwoPhase,
-            ttl,
-            max_commit: None,
-        }))
-    }
-
-    // The prewrite of the key at a place.
-    fn prewrite_at(&self, alloc: Global, place: usize, ttl: u32) -> Result<Prewrite, Fault>
-        requires { place < length self.now.buffer }
-        ensures ok { IfOk result (λ body. request.Prewrite body ≡ (prewrite_of self.now ttl place).body) }
-        ensures err { IfErr result (λ e. e ≡ Fault.OutOfMemory) }
-    {
-        let key = key_of(&self.buffer, place)?;
-        let mutation = mutation_of(&self.buffer, place)?;
-        let primary = key_of(&self.buffer, 0)?;
-        Ok(Prewrite {
-            key,
-            mutation,
-            start: self.start,
-            primary,
-            mode: Mode::TwoPhase,
-            max_commit: None,
-            ttl,
-            others: Secondaries::new(alloc),
-        })
-    }
-
-    /// The prewrite that is due, and the place of its key: of the first key in buffer order that has no accepted answer.
-    pub fn due_prewrite(&self, alloc: Global) -> Result<Option<(usize, Prewrite)>, Fault>
-        ensures ok { IfOk result (λ due. option_map (λ x. record { place = x.0; body = request.Prewrite x.1 }) due ≡ due_prewrite self.now) }
-        ensures within { IfOk result (λ due. IfSome due (λ x. x.0 < length self.now.buffer)) }
-        ensures err { IfErr result (λ e. e ≡ Fault.OutOfMemory) }
-        ensures some { OnErr result (is_some (due_prewrite self.now) ≡ true) }
-    {
-        let Some(ttl) = self.declared else {
-            return Ok(None);
-        };
-        let Some(place) = place_of(&self.buffer, Phase::Prewrite) else {
-            return Ok(None);
-        };
-        let body = self.prewrite_at(alloc, place, ttl)?;
-        Ok(Some((place, body)))
-    }
-
-    // The commit of the key at a place.
-    fn commit_at(&self, place: usize, commit: Ts) -> Result<Commit, Fault>
-        requires { place < length self.now.buffer }
-        ensures ok { IfOk result (λ body. request.Commit body ≡ (commit_of self.now commit place).body) }
-        ensures err { IfErr result (λ e. e ≡ Fault.OutOfMemory) }
-    {
-        let key = key_of(&self.buffer, place)?;
-        Ok(Commit {
-            key,
-            start: self.start,
-            commit,
-        })
-    }
-
-    // The commit of the key at a place, if there is one.
-    fn commit_place(
-        &self,
-        place: Option<usize>,
-        commit: Ts,
-    ) -> Result<Option<(usize, Commit)>, Fault>
-        requires { IfSome place (λ i. i < length self.now.buffer) }
-        ensures ok { IfOk result (λ due. option_map (λ x. record { place = x.0; body = request.Commit x.1 }) due ≡ commit_at self.now commit place) }
-        ensures within { IfOk result (λ due. IfSome due (λ x. x.0 < length self.now.buffer)) }
-        ensures err { IfErr result (λ e. e ≡ Fault.OutOfMemory) }
-        ensures some { OnErr result (is_some place ≡ true) }
-    {
-        match place {
-            None => Ok(None),
-            Some(place) => {
-                let body = self.commit_at(place, commit)?;
-                Ok(Some((place, body)))
-            }
-        }
-    }
-
-    /// The commit that is due, and the place of its key: of the primary at the drawn number, and once it is committed of
-    /// each key in buffer order.
-    pub fn due_commit(&self) -> Result<Option<(usize, Commit)>, Fault>
-        requires { has_primary self.now ≡ true }
-        ensures ok { IfOk result (λ due. option_map (λ x. record { place = x.0; body = request.Commit x.1 }) due ≡ due_commit self.now) }
-        ensures within { IfOk result (λ due. IfSome due (λ x. x.0 < length self.now.buffer)) }
-        ensures err { IfErr result (λ e. e ≡ Fault.OutOfMemory) }
-        ensures some { OnErr result (is_some (due_commit self.now) ≡ true) }
-    {
-        match self.decision {
-            None => match self.drawn {
-                Some(commit) => self.commit_place(Some(0), commit),
-                None => Ok(None),
-            },
-            Some(Fate::Committed(commit)) => {
-                self.commit_place(place_of(&self.buffer, Phase::Commit), commit)
-            }
-            Some(Fate::Aborted) => Ok(None),
-        }
-    }
-
-    /// Whether a commit timestamp may be drawn: each key of a declared set is accepted, nothing is decided, and none is
-    /// drawn.
+    /// Whether a commit timestamp may be drawn: each key of a declared set is locked, some in two phases, nothing is decided,
+    /// and none is drawn.
     pub fn can_draw(&self) -> bool
-        ensures { result ≡ can_draw self.now }
+        ensures { result ≡ can_draw self.now.state }
     {
-        self.decision.is_none()
-            && self.drawn.is_none()
-            && self.has_primary()
-            && place_of(&self.buffer, Phase::Prewrite).is_none()
+        self.transaction.can_draw()
     }
 
-    /// Takes the commit timestamp that its seat drew.
-    pub fn drew(&mut self, commit: Ts)
-        requires { can_draw self.old ≡ true }
-        ensures { self.new ≡ with_drawn self.old commit }
-    {
-        self.drawn = Some(commit);
-    }
-
-    /// Whether a commit may be asked: the transaction is committed, or a number is drawn.
+    /// Whether a commit may be asked: the transaction is committed, or a timestamp is drawn; of nothing declared, always.
     pub fn can_commit(&self) -> bool
-        ensures { result ≡ can_commit self.now }
+        ensures { result ≡ can_commit self.now.state }
     {
-        match self.decision {
-            None => self.drawn.is_some(),
-            Some(Fate::Committed(_)) => true,
-            Some(Fate::Aborted) => false,
+        self.transaction.can_commit()
+    }
+
+    /// Whether an abort may be asked: the transaction is aborted, or undecided, and then of an async one some key has no
+    /// accepted lock; of nothing declared, always.
+    pub fn can_abort(&self) -> bool
+        ensures { result ≡ can_abort self.now.state }
+    {
+        self.transaction.can_abort()
+    }
+
+    /// What its seat has seen, to be handed to others.
+    pub fn tell(&mut self) -> Told<J>
+        ensures same { self.new ≡ self.old }
+        ensures told { result ≡ self.old.seat.events }
+    {
+        self.seat.tell()
+    }
+
+    /// Learns what others were told.
+    pub fn hear_of(&mut self, told: Told<J>)
+        ensures state { self.new.state ≡ self.old.state }
+        ensures heard { HasHeard J.bounds self.old.seat told self.new.seat }
+    {
+        self.seat.learn(told);
+    }
+}
+
+impl<J: Naming> Session<J> {
+    /// Enters a put into the buffer. A key that is there keeps its place. A refusal leaves the session as it was.
+    pub fn put(&mut self, key: Key, value: Value) -> Result<(), Fault>
+        requires { is_declared self.old.state ≡ false }
+        ensures ok { OnOk result ((is_full self.old.state.buffer key ≡ false) × (self.new ≡ seated (record self.old.state { buffer = touched self.old.state.buffer key (Mutation.Put value) }) self.old.seat)) }
+        ensures same { OnErr result (self.new ≡ self.old) }
+        ensures err { IfErr result (λ e. (e ≡ fault.OutOfMemory) ⊎ ((e ≡ fault.TooManyKeys) × (is_full self.old.state.buffer key ≡ true))) }
+    {
+        self.transaction.touch(key, Mutation::Put(value))
+    }
+
+    /// Enters a delete into the buffer. A key that is there keeps its place. A refusal leaves the session as it was.
+    pub fn delete(&mut self, key: Key) -> Result<(), Fault>
+        requires { is_declared self.old.state ≡ false }
+        ensures ok { OnOk result ((is_full self.old.state.buffer key ≡ false) × (self.new ≡ seated (record self.old.state { buffer = touched self.old.state.buffer key Mutation.Delete }) self.old.seat)) }
+        ensures same { OnErr result (self.new ≡ self.old) }
+        ensures err { IfErr result (λ e. (e ≡ fault.OutOfMemory) ⊎ ((e ≡ fault.TooManyKeys) × (is_full self.old.state.buffer key ≡ true))) }
+    {
+        self.transaction.touch(key, Mutation::Delete)
+    }
+
+    /// Enters a lock into the buffer, where the key is not there. A refusal leaves the session as it was.
+    pub fn lock(&mut self, key: Key) -> Result<(), Fault>
+        requires { is_declared self.old.state ≡ false }
+        ensures ok { OnOk result ((is_full self.old.state.buffer key ≡ false) × (self.new ≡ seated (record self.old.state { buffer = locked self.old.state.buffer key }) self.old.seat)) }
+        ensures same { OnErr result (self.new ≡ self.old) }
+        ensures err { IfErr result (λ e. (e ≡ fault.OutOfMemory) ⊎ ((e ≡ fault.TooManyKeys) × (is_full self.old.state.buffer key ≡ true))) }
+    {
+        self.transaction.lock(key)
+    }
+
+    /// Fixes the write set, and records it where it is not empty. `TooManyKeys` where it is to commit asynchronously and has
+    /// more than 256 keys. A refusal leaves the session as it was.
+    pub fn declare(&mut self, alloc: Global, terms: Terms) -> Result<(), Fault>
+        requires { is_declared self.old.state ≡ false }
+        ensures ok { OnOk result ((exceeds self.old.state.buffer terms ≡ false) × (self.new.state ≡ record self.old.state { declared = Some terms }) × RecordsDeclared J.bounds self.old.seat (declaration self.old.state.start self.old.state.buffer terms) self.new.seat) }
+        ensures same { OnErr result (self.new ≡ self.old) }
+        ensures err { IfErr result (λ e. (e ≡ fault.OutOfMemory) ⊎ ((e ≡ fault.TooManyKeys) × (exceeds self.old.state.buffer terms ≡ true))) }
+    {
+        if self.transaction.exceeds(&terms) {
+            return Err(Fault::TooManyKeys);
+        }
+        let declaration = self.transaction.declaration(alloc, &terms)?;
+        record_declared(&mut self.seat, declaration);
+        self.transaction.declare(terms);
+        Ok(())
+    }
+}
+
+impl<J: Naming> Session<J> {
+    // Sends a request, once, and learns what is told.
+    pub(crate) fn ask<S: Sender<Request<J>, Reply<J>>>(
+        &mut self,
+        body: Body,
+        sender: &mut S,
+    ) -> Came
+        requires way { IsWay J.bounds S.fits S.sends S.keys_between }
+        requires held { IsHeld J.bounds body }
+        requires allowed { Allowed self.old.seat.events body }
+        ensures state { self.new.state ≡ self.old.state }
+        ensures asked { Asks S.sends J.bounds self.old.seat body sender.old sender.new result self.new.seat }
+        ensures told { CameSo self.new.seat.events body result }
+    {
+        let told = self.seat.tell();
+        match sender.send(Request::new(told, body)) {
+            Err(_) => Came::Lost,
+            Ok(reply) => {
+                let (answer, told) = parts_of(reply);
+                self.seat.learn(told);
+                came_by(answer)
+            }
         }
     }
 
-    /// Hears the answer to the request of a place. The first answer that tells of the transaction's fate decides.
-    pub fn hear(&mut self, phase: Phase, place: usize, answer: &Answer)
-        requires { place < length self.old.buffer }
-        ensures { self.new ≡ heard self.old phase place answer.now }
+    // Sends the request of a phase that is due.
+    fn pursue<S: Sender<Request<J>, Reply<J>>>(
+        &mut self,
+        phase: Phase,
+        due: Due,
+        sender: &mut S,
+    ) -> Result<Option<Answer>, Miss>
+        requires way { IsWay J.bounds S.fits S.sends S.keys_between }
+        requires within { due.place < length self.old.state.buffer }
+        requires allowed { Allowed self.old.seat.events due.body }
+        requires right { IsFor self.old.state phase due }
+        ensures { Sends S.sends J.bounds self.old.seat sender.old (due_walk self.old.state phase (Some due)) (self.new.state, result) sender.new self.new.seat }
     {
-        let progress = marked(phase, answer, progress_of(&self.buffer, place));
-        note(&mut self.buffer, place, progress);
-        self.drawn = drawn(answer, self.drawn);
-        self.cause = cause(answer);
-        if self.decision.is_none() {
-            self.decision = settled(answer);
+        let Due { place, body } = due;
+        let came = self.ask(body, sender);
+        self.transaction.after(phase, place, came)
+    }
+
+    /// Sends the prewrite that is due: of the first key in buffer order that has no accepted lock. None where there is none.
+    pub fn prewrite_next<S: Sender<Request<J>, Reply<J>>>(
+        &mut self,
+        alloc: Global,
+        sender: &mut S,
+    ) -> Result<Option<Answer>, Miss>
+        requires way { IsWay J.bounds S.fits S.sends S.keys_between }
+        requires can { is_declared self.old.state ≡ true }
+        ensures { Sends S.sends J.bounds self.old.seat sender.old (due_walk self.old.state phase.Prewrite (due_prewrite self.old.state)) (self.new.state, result) sender.new self.new.seat }
+    {
+        match self.transaction.due_prewrite(alloc) {
+            Err(_) => Err(Miss::NoMemory),
+            Ok(None) => Ok(None),
+            Ok(Some(due)) => self.pursue(Phase::Prewrite, due, sender),
         }
     }
 
-    /// Hears that a request was refused for want of memory.
-    pub fn miss(&mut self)
-        ensures { self.new ≡ missed self.old }
+    /// Draws the commit timestamp. `OracleSpent` where the seat's ticks are spent; the session is then as it was.
+    pub fn draw_commit(&mut self) -> Result<Ts, Fault>
+        requires { can_draw self.old.state ≡ true }
+        ensures ok { IfOk result (λ c. (self.new.state ≡ record self.old.state { drawn = Some c }) × Draws J.bounds self.old.seat c self.new.seat) }
+        ensures spent { IfErr result (λ e. (e ≡ fault.OracleSpent) × (self.old.seat.ticks < 1) × (self.new ≡ self.old)) }
     {
-        self.cause = Some(UnknownCause::OutOfMemory);
+        let commit = self.seat.draw(1)?;
+        self.transaction.drew(commit);
+        Ok(commit)
     }
 
-    /// The outcome, where there is one: the fate where it is known, read-only where nothing was declared, unknown where
-    /// there is a cause.
-    pub fn outcome(&self) -> Option<Outcome>
-        ensures { result ≡ finish_of self.now }
+    /// Sends the commit that is due: of the primary at the drawn timestamp, and once the transaction is committed of each key
+    /// in buffer order. None where there is none.
+    pub fn commit_next<S: Sender<Request<J>, Reply<J>>>(
+        &mut self,
+        sender: &mut S,
+    ) -> Result<Option<Answer>, Miss>
+        requires way { IsWay J.bounds S.fits S.sends S.keys_between }
+        requires can { can_commit self.old.state ≡ true }
+        ensures { Sends S.sends J.bounds self.old.seat sender.old (due_walk self.old.state phase.Commit (due_commit self.old.state)) (self.new.state, result) sender.new self.new.seat }
     {
-        match self.decision {
-            Some(Fate::Committed(commit)) => Some(Outcome::Committed(commit)),
-            Some(Fate::Aborted) => Some(Outcome::Aborted),
-            None if !self.has_primary() => Some(Outcome::ReadOnly),
-            None => match self.cause {
-                Some(cause) => Some(Outcome::Unknown(cause)),
-                None => None,
-            },
+        match self.transaction.due_commit() {
+            Err(_) => Err(Miss::NoMemory),
+            Ok(None) => Ok(None),
+            Ok(Some(due)) => self.pursue(Phase::Commit, due, sender),
         }
+    }
+
+    /// Sends the request of an abort that is due: what may decide, and once the transaction is aborted a rollback of each key
+    /// that was sent a prewrite. None where there is none.
+    pub fn abort_next<S: Sender<Request<J>, Reply<J>>>(
+        &mut self,
+        sender: &mut S,
+    ) -> Result<Option<Answer>, Miss>
+        requires way { IsWay J.bounds S.fits S.sends S.keys_between }
+        requires can { can_abort self.old.state ≡ true }
+        ensures { Sends S.sends J.bounds self.old.seat sender.old (due_walk self.old.state phase.Abort (due_abort self.old.state)) (self.new.state, result) sender.new self.new.seat }
+    {
+        match self.transaction.due_abort() {
+            Err(_) => Err(Miss::NoMemory),
+            Ok(None) => Ok(None),
+            Ok(Some(due)) => self.pursue(Phase::Abort, due, sender),
+        }
+    }
+
+    /// Asks that the primary's lock live so long after the start, in ticks. It changes nothing of the session.
+    pub fn heartbeat<S: Sender<Request<J>, Reply<J>>>(
+        &mut self,
+        ttl: u32,
+        sender: &mut S,
+    ) -> Result<Option<Answer>, Miss>
+        requires way { IsWay J.bounds S.fits S.sends S.keys_between }
+        requires can { has_primary self.old.state ≡ true }
+        ensures { Sends S.sends J.bounds self.old.seat sender.old (heartbeat_walk self.old.state ttl) (self.new.state, result) sender.new self.new.seat }
+    {
+        let Ok(body) = self.transaction.heartbeat(ttl) else {
+            return Err(Miss::NoMemory);
+        };
+        match self.ask(body, sender) {
+            Came::Lost => Err(Miss::NoReply),
+            Came::Unsaid => Err(Miss::NoMemory),
+            Came::Said(answer) => Ok(Some(answer)),
+        }
+    }
+}
+
+impl<J: Naming> Session<J> {
+    // The outcome, where there is one.
+    fn outcome(&self) -> Option<Outcome>
+        ensures { result ≡ finish_of self.now.state }
+    {
+        self.transaction.outcome()
+    }
+
+    /// What is known of its transaction's fate, with what proves it.
+    pub fn decision(&mut self) -> Option<Decision<J>>
+        ensures same { self.new ≡ self.old }
+        ensures decision { result ≡ option_map (λ fate. record { start = self.old.state.start; fate = fate; events = self.old.seat.events }) self.old.state.decision }
+    {
+        let fate = self.transaction.decision()?;
+        let told = self.seat.tell();
+        Some(Decision::new(self.transaction.start(), fate, told))
+    }
+
+    /// The lock that last stood in its way, with what proves that it did.
+    pub fn met(&mut self) -> Result<Option<Met<J>>, Fault>
+        ensures same { self.new ≡ self.old }
+        ensures ok { IfOk result (λ met. met ≡ option_map (λ info. record { info = info; events = self.old.seat.events }) self.old.state.met) }
+        ensures err { IfErr result (λ e. e ≡ fault.OutOfMemory) }
+    {
+        let Some(info) = self.transaction.met()? else {
+            return Ok(None);
+        };
+        let told = self.seat.tell();
+        Ok(Some(Met::new(info, told)))
+    }
+
+    /// Learns what a resolver found: its reads may then pass by a transaction that is aborted, or commits above its start.
+    /// `OutOfMemory` leaves the session as it was.
+    pub fn learn(&mut self, resolved: Resolved<J>) -> Result<(), Fault>
+        ensures ok { OnOk result ((self.new.state ≡ with_passed self.old.state resolved.start (lies_above resolved.status self.old.state.start)) × HasHeard J.bounds self.old.seat resolved.events self.new.seat) }
+        ensures same { OnErr result (self.new ≡ self.old) }
+        ensures err { IfErr result (λ e. e ≡ fault.OutOfMemory) }
+    {
+        let (start, status, told) = resolved.into_parts();
+        let may = status.lies_above(self.transaction.start());
+        self.transaction.pass(start, may)?;
+        self.seat.learn(told);
+        Ok(())
+    }
+
+    // Its seat.
+    fn into_seat(self) -> Seat<J>
+        ensures { result ≡ self.seat }
+    {
+        let Session {
+            seat,
+            transaction: _,
+        } = self;
+        seat
+    }
+
+    /// Ends the transaction with its outcome: the fate where it is known, read-only where nothing was declared, unknown where
+    /// there is a cause. Where there is none, the session comes back.
+    pub fn finish(self) -> Result<(Outcome, Seat<J>), Session<J>>
+        ensures ended { IfOk result (λ r. (finish_of self.state ≡ Some r.0) × Records J.bounds self.seat (Answered self.state.start r.0) r.1 × IsDecidedSo self.seat.events self.state.start r.0) }
+        ensures open_yet { IfErr result (λ s. (finish_of self.state ≡ None) × (s ≡ self)) }
+    {
+        match self.outcome() {
+            None => Err(self),
+            Some(outcome) => {
+                let start = self.transaction.start();
+                let mut seat = self.into_seat();
+                record_answered(&mut seat, start, &outcome);
+                Ok((outcome, seat))
+            }
+        }
+    }
+
+    /// Leaves the transaction as it is.
+    pub fn stop(self) -> Seat<J>
+        ensures { Records J.bounds self.seat (Stopped self.seat.seat) result }
+    {
+        let mut seat = self.into_seat();
+        let number = seat.number();
+        add(&mut seat, Event::Stopped(number));
+        seat
     }
 }

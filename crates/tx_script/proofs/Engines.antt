@@ -8,7 +8,7 @@ use Rattle.tx_types.specs.declared.fault.Cause.TheVariants as cause
 use Rattle.tx_core.specs.declared.event.Outcome.{Outcome}
 use Rattle.tx_core.specs.Histories.{last}
 use Rattle.tx_core.proofs.Basics.{some_same}
-use Rattle.tx_client.specs.Sessions.{State, finish_of}
+use Rattle.tx_client.specs.two_phase.Sessions.{State, finish_of}
 use Rattle.tx_script.specs.declared.engine.Engine.{Engine}
 use Rattle.tx_script.specs.declared.reply.Reply.{Reply}
 use Rattle.tx_script.specs.declared.reply.Reply.TheVariants as reply

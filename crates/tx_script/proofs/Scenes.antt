@@ -16,8 +16,8 @@ use Rattle.tx_core.proofs.Basics.{key_test, some_same}
 use Rattle.tx_core.proofs.seats.Beginnings.{extends_all, extends_next}
 use Rattle.tx_core.proofs.seats.Staying.{last_was}
 use Rattle.tx_core.proofs.seats.Numbers.{left_upto}
-use Rattle.tx_client.specs.Sessions.{State}
-use Rattle.tx_client.proofs.Sessions.{IsSession, others_act}
+use Rattle.tx_client.specs.two_phase.Sessions.{State}
+use Rattle.tx_client.proofs.two_phases.Sessions.{IsSession, others_act}
 use Rattle.tx_script.specs.Scenes.{Scene, opening, took, with_session}
 
 -- What has happened is a world run over one region, and each live session's state holds of it; the sessions have seats of their own,

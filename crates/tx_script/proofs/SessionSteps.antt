@@ -9,9 +9,9 @@ use Rattle.tx_core.specs.declared.event.Event.TheVariants.{Took}
 use Rattle.tx_core.specs.Histories.{History, last, left}
 use Rattle.tx_core.proofs.Basics.{key_test}
 use Rattle.tx_region.specs.Calls.{Executes}
-use Rattle.tx_client.specs.Buffers.{buffered}
-use Rattle.tx_client.specs.declared.state.Phase.{Phase}
-use Rattle.tx_client.specs.Sessions.{State, Due, declaration, heard, missed, with_declared, with_drawn}
+use Rattle.tx_client.specs.two_phase.Buffers.{buffered}
+use Rattle.tx_client.specs.declared.two_phase.state.Phase.{Phase}
+use Rattle.tx_client.specs.two_phase.Sessions.{State, Due, declaration, heard, missed, with_declared, with_drawn}
 use Rattle.tx_script.specs.declared.store.Store.{Store}
 use Rattle.tx_script.specs.declared.reply.Reply.{Reply}
 use Rattle.tx_script.specs.declared.reply.Reply.TheVariants as reply

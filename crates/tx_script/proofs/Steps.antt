@@ -14,14 +14,14 @@ use Rattle.tx_core.specs.Worlds.{Holds, IsWorldRun}
 use Rattle.tx_core.proofs.Basics.{some_same, is_some as something}
 use Rattle.tx_core.proofs.seats.Beginnings.{extends_all, extends_next, begins_all}
 use Rattle.tx_core.proofs.seats.Staying.{drawer_new, began_drawn}
-use Rattle.tx_client.specs.declared.state.Phase.{Phase}
-use Rattle.tx_client.specs.declared.state.Phase.TheVariants as phase
-use Rattle.tx_client.specs.Buffers.{touched, buffered}
-use Rattle.tx_client.specs.Sessions.{State, begun, with_buffer, with_declared, with_drawn, is_declared, has_primary, declaration, Due, due_prewrite, due_commit, can_draw, can_commit, heard, missed, finish_of}
-use Rattle.tx_client.proofs.Sessions.{IsSession}
-use Rattle.tx_client.proofs.Due.{IsFor, prewrite_allowed, commit_allowed}
-use Rattle.tx_client.proofs.Heard.{heard_ok, missed_ok}
-use Rattle.tx_client.proofs.Events.{begun_ok, touched_ok, declared_none, may_declare, declared_owner, declared_ok, drew_ok, may_finish}
+use Rattle.tx_client.specs.declared.two_phase.state.Phase.{Phase}
+use Rattle.tx_client.specs.declared.two_phase.state.Phase.TheVariants as phase
+use Rattle.tx_client.specs.two_phase.Buffers.{touched, buffered}
+use Rattle.tx_client.specs.two_phase.Sessions.{State, begun, with_buffer, with_declared, with_drawn, is_declared, has_primary, declaration, Due, due_prewrite, due_commit, can_draw, can_commit, heard, missed, finish_of}
+use Rattle.tx_client.proofs.two_phases.Sessions.{IsSession}
+use Rattle.tx_client.proofs.two_phases.Due.{IsFor, prewrite_allowed, commit_allowed}
+use Rattle.tx_client.proofs.two_phases.Heard.{heard_ok, missed_ok}
+use Rattle.tx_client.proofs.two_phases.Events.{begun_ok, touched_ok, declared_none, may_declare, declared_owner, declared_ok, drew_ok, may_finish}
 use Rattle.tx_script.specs.Steps.{Asked, begin, put, get, declare, prewrite, draw, commit, finish}
 use Rattle.tx_script.specs.Scenes.{Scene, Turn, is_refused, later_of, with_session, declared_in, began, declared, drew, took, begins, is_name, is_key, is_value, is_full, puts, read_of, gets_by, gets, declares, requests, sends, prewrites, commits, draws, finishes_by, finishes, in_session, turn}
 use Rattle.tx_script.proofs.AllLead.{AllLead}

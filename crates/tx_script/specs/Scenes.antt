@@ -15,10 +15,10 @@ use Rattle.tx_core.specs.declared.event.Declaration.{Declaration}
 use Rattle.tx_core.specs.declared.event.Outcome.{Outcome}
 use Rattle.tx_core.specs.declared.event.Event.TheVariants.{Drawn, Began, Declared, Answered, Took}
 use Rattle.tx_core.specs.Histories.{History, last}
-use Rattle.tx_client.specs.declared.state.Phase.{Phase}
-use Rattle.tx_client.specs.declared.state.Phase.TheVariants as phase
-use Rattle.tx_client.specs.Buffers.{Entries, touched, buffered}
-use Rattle.tx_client.specs.Sessions.{State, begun, with_buffer, with_declared, with_drawn, is_declared, has_primary, declaration, Due, due_prewrite, due_commit, can_draw, can_commit, heard, missed, finish_of}
+use Rattle.tx_client.specs.declared.two_phase.state.Phase.{Phase}
+use Rattle.tx_client.specs.declared.two_phase.state.Phase.TheVariants as phase
+use Rattle.tx_client.specs.two_phase.Buffers.{Entries, touched, buffered}
+use Rattle.tx_client.specs.two_phase.Sessions.{State, begun, with_buffer, with_declared, with_drawn, is_declared, has_primary, declaration, Due, due_prewrite, due_commit, can_draw, can_commit, heard, missed, finish_of}
 use Rattle.tx_script.specs.Steps.{Asked, begin, put, get, declare, prewrite, draw, commit, finish}
 use Rattle.tx_script.specs.Replies.{alone, with_number, answer_words, outcome_words}
 

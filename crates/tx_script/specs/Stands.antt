@@ -7,7 +7,7 @@ use Rattle.tx_plan.specs.Cells.{Region}
 use Rattle.tx_core.specs.Histories.{History, last, left}
 use Rattle.tx_cells.specs.Nested.{nested_content}
 use Rattle.tx_region.specs.Regions.{region_of}
-use Rattle.tx_client.specs.Sessions.{State}
+use Rattle.tx_client.specs.two_phase.Sessions.{State}
 use Rattle.tx_script.specs.declared.engine.Engine.{Engine}
 use Rattle.tx_script.specs.declared.store.Store.{Store}
 use Rattle.tx_script.specs.declared.reply.Reply.{Reply}

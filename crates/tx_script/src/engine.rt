@@ -12,7 +12,7 @@ use crate::step::Step;
 use crate::store::Store;
 use std::alloc::{AllocError, Global};
 use std::collections::BTreeMap;
-use tx_client::Session;
+use tx_client::two_phase::Session;
 use tx_core::SeatNo;
 use tx_types::limits::{MAX_LINES, MAX_LIVE_SESSIONS, MAX_NAME_BYTES};
 use tx_types::{Cause, Ts};

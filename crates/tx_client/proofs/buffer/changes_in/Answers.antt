@@ -1,4 +1,4 @@
-use Rattle.std.proofs.Common.{◌≡◌, ◌∙◌, ◌<◌, ◌+◌, ◌++◌, suc, sym, ap, take, length, arith, [], ◌∷◌}
+use Rattle.std.proofs.Common.{◌≡◌, ◌∙◌, ◌<◌, ◌+◌, ◌++◌, suc, sym, ap, take, length, arith, List, [], ◌∷◌}
 use Rattle.tx_types.specs.declared.mutation.Change.{Change}
 use Rattle.tx_client.specs.Buffers.{changes_of}
 use Rattle.tx_client.proofs.Places.{distinct_changes, front_more}

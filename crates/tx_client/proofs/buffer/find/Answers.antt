@@ -1,4 +1,4 @@
-use Rattle.std.proofs.Common.{◌∙◌, ap, option_map}
+use Rattle.std.proofs.Common.{◌≡◌, ◌∙◌, ap, option_map}
 use Rattle.tx_client.specs.declared.state.Entry.{Entry}
 use Rattle.tx_client.proofs.Finding.{found}
 use Rattle.tx_client.proofs.buffer.find.Goals as goal

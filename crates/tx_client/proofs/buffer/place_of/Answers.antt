@@ -1,4 +1,4 @@
-use Rattle.std.proofs.Common.{arith, sym, ◌<◌, ◌≡◌, length, true}
+use Rattle.std.proofs.Common.{arith, sym, ◌∙◌, ◌<◌, ◌≤◌, ◌≡◌, length, true}
 use Rattle.tx_client.specs.Buffers.{wants, progress_at}
 use Rattle.tx_client.proofs.Places.{first_found, place_none}
 use Rattle.tx_client.proofs.buffer.place_of.Goals as goal

@@ -1,5 +1,5 @@
 use Rattle.std.proofs.Common.{◌≡◌, true, refl, sym, ◌∙◌}
-use Rattle.tx_client.specs.Sessions.{can_draw}
+use Rattle.tx_client.specs.two_phase.Sessions.{can_draw}
 use Rattle.tx_script.specs.Scenes.{draws}
 use Rattle.tx_script.proofs.SessionSteps.{draws_so}
 use Rattle.tx_script.proofs.session_steps.draw.Goals as goal

@@ -1,7 +1,7 @@
 use Rattle.std.proofs.Common.{◌≡◌, true, refl, sym}
 use Rattle.tx_plan.specs.declared.body.Body.TheVariants as request
-use Rattle.tx_client.specs.declared.state.Phase.TheVariants as phase
-use Rattle.tx_client.specs.Sessions.{is_declared, due_prewrite}
+use Rattle.tx_client.specs.declared.two_phase.state.Phase.TheVariants as phase
+use Rattle.tx_client.specs.two_phase.Sessions.{is_declared, due_prewrite}
 use Rattle.tx_script.specs.Scenes.{prewrites}
 use Rattle.tx_script.proofs.SessionSteps.{nothing_due, not_sent, refused_so, sent}
 use Rattle.tx_script.proofs.session_steps.prewrite.Goals as goal

@@ -1,7 +1,7 @@
 use Rattle.std.proofs.Common.{◌≡◌, Some, sym, refl}
 use Rattle.std.specs.BTreeMap.{get_by_text}
 use Rattle.std.proofs.lemmas.Map.Text.{btree_map_updates_text}
-use Rattle.tx_client.specs.Sessions.{finish_of}
+use Rattle.tx_client.specs.two_phase.Sessions.{finish_of}
 use Rattle.tx_script.proofs.Engines.{finish_goes, one_less}
 use Rattle.tx_script.proofs.engine.Engine.finish.Goals as goal
 

@@ -1,7 +1,7 @@
 use Rattle.std.proofs.Common.{◌≡◌, ◌<◌, sym, length, true, arith, bytes_eq}
-use Rattle.tx_client.specs.Buffers.{key_at}
-use Rattle.tx_client.proofs.Finding.{stands_at, stands_nowhere}
-use Rattle.tx_client.proofs.buffer.has_bytes.Goals as goal
+use Rattle.tx_client.specs.two_phase.Buffers.{key_at}
+use Rattle.tx_client.proofs.two_phases.Finding.{stands_at, stands_nowhere}
+use Rattle.tx_client.proofs.two_phase.buffer.has_bytes.Goals as goal
 
 pub returns-then-is_at : goal.returns-then-is_at
 returns-then-is_at c =

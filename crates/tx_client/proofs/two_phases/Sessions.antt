@@ -14,8 +14,8 @@ use Rattle.tx_core.proofs.seats.Beginnings.{extends_begins}
 use Rattle.tx_core.proofs.seats.Staying.{drawer_on, began_on, declared_on, accepted_on, told_on}
 use Rattle.tx_core.proofs.seats.StaysDecided.{two_phase_on, all_accepted_on, drew_on}
 use Rattle.tx_core.proofs.seats.Recording.{undeclared_on, unanswered_on}
-use Rattle.tx_client.specs.Buffers.{Entries, changes_of}
-use Rattle.tx_client.specs.Sessions.{State, declaration}
+use Rattle.tx_client.specs.two_phase.Buffers.{Entries, changes_of}
+use Rattle.tx_client.specs.two_phase.Sessions.{State, declaration}
 
 -- what stands declared: nothing before declare, and nothing of an empty buffer
 abbrev pub standing : ℕ → Entries → Option ℕ → Option Declaration

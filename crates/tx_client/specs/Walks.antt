@@ -1,0 +1,177 @@
+-- Requests that are sent one after another, by what came of those before.
+use Rattle.std.specs.Prelude.{◌≡◌, ◌⊎◌, ◌||◌, not, cond, ℕ, zero, suc, ◌-◌, Bool, true, false, List, [], ◌∷◌, ◌++◌, length, nat_lt, Option, Some, None, Result, Ok, Err}
+use Rattle.tx_types.specs.declared.key.Key.{Key}
+use Rattle.tx_types.specs.declared.mutation.KeyValue.{KeyValue}
+use Rattle.tx_types.specs.declared.mutation.Mutation.{Mutation}
+use Rattle.tx_types.specs.declared.mutation.Mutation.TheVariants as mutation
+use Rattle.tx_plan.specs.declared.body.Body.{Body}
+use Rattle.tx_plan.specs.declared.answer.Answer.{Answer}
+use Rattle.tx_plan.specs.declared.answer.Answer.TheVariants as answer
+use Rattle.tx_types.specs.Keys.{key_lt}
+use Rattle.tx_journal.specs.Known.{Known}
+use Rattle.tx_journal.specs.Replies.{Asked}
+use Rattle.tx_client.specs.declared.state.Phase.{Phase}
+use Rattle.tx_client.specs.declared.state.Came.{Came}
+use Rattle.tx_client.specs.declared.state.Came.TheVariants as came
+use Rattle.tx_client.specs.declared.state.Part.{Part}
+use Rattle.tx_client.specs.declared.state.Part.TheVariants as part
+use Rattle.tx_client.specs.declared.state.Miss.{Miss}
+use Rattle.tx_client.specs.declared.state.Miss.TheVariants.{NoReply, NoMemory}
+use Rattle.tx_client.specs.declared.state.Due.{Due}
+use Rattle.tx_client.specs.Buffers.{buffered}
+use Rattle.tx_client.specs.Sessions.{State, heartbeat_of, read_of, scan_of, after_came, after_read}
+use Rattle.tx_client.specs.Senders.{Reached, came_of, Learns}
+
+-- What a caller sends next by what came so far: a request, and what follows by what comes of it; a growth of its own, and what follows where
+-- that is refused; or the end.
+pub data Walk (R : Type 0) : Type 0 where
+  asks : (body : Body) (more : Came → Walk R) → Walk R
+  grows : (more short : Walk R) → Walk R
+  ends : (result : R) → Walk R
+
+-- one walk after another, by what the first came to
+abbrev pub then_walk : {A B : Type 0} → Walk A → (A → Walk B) → Walk B
+then_walk (asks body more) next = asks body (λ c. then_walk (more c) next)
+then_walk (grows more short) next = grows (then_walk more next) (then_walk short next)
+then_walk (ends r) next = next r
+
+module _ {S R : Type 0} (sends : S → Asked → Reached → S → Type 0) (bounds : List Key) where
+  -- The Sender's values are joined by just these sends, each by one who had seen what the seat then knew, and the seat learns what is told.
+  abbrev pub Sends : Known → S → Walk R → R → S → Known → Type 0
+  Sends k from (ends r) result to new = (result ≡ r) × (to ≡ from) × (new ≡ k)
+  Sends k from (grows more short) result to new = Sends k from short result to new ⊎ Sends k from more result to new
+  Sends k from (asks body more) result to new = (reached : Reached) × (mid : S) × (then_known : Known) × sends from (record { by = k.events; body = body }) reached mid × Learns bounds k reached then_known × Sends then_known mid (more (came_of reached)) result to new
+
+  -- What is left of a walk: whatever it comes to, the whole comes to.
+  abbrev pub Continues : Known → S → Walk R → Known → S → Walk R → Type 0
+  Continues k from w now at left = (result : R) (to : S) (new : Known) → Sends now at left result to new → Sends k from w result to new
+
+-- ---- the calls of a session: each comes to the session's state and to what the call answers
+
+-- memory is refused
+abbrev pub short : {R : Type 0} → State → Walk (State × Result R Miss)
+short s = ends (s, Err NoMemory)
+
+-- a lock that an answer names stays with the session, and the caller has a copy
+abbrev pub handed : {R : Type 0} → State → Result R Miss → Came → Walk (State × Result R Miss)
+handed s r (came.Said (answer.KeyIsLocked info)) = grows (ends (s, r)) (short s)
+handed s r _ = ends (s, r)
+
+-- no answer to a request is no answer of the call
+abbrev pub returned : Came → Result (Option Answer) Miss
+returned came.Lost = Err NoReply
+returned came.Unsaid = Err NoMemory
+returned (came.Said a) = Ok (Some a)
+
+-- the request of a phase that is due, if there is one
+abbrev pub due_walk : State → Phase → Option Due → Walk (State × Result (Option Answer) Miss)
+due_walk s x None = ends (s, Ok None)
+due_walk s x (Some due) = grows (asks due.body (λ c. handed (after_came s x due.place c) (returned c) c)) (short s)
+
+-- a heartbeat changes nothing
+abbrev pub heartbeat_walk : State → ℕ → Walk (State × Result (Option Answer) Miss)
+heartbeat_walk s ttl = grows (asks (heartbeat_of s ttl) (λ c. ends (s, returned c))) (short s)
+
+abbrev pub read : Came → Result Answer Miss
+read came.Lost = Err NoReply
+read came.Unsaid = Err NoMemory
+read (came.Said a) = Ok a
+
+-- a read
+abbrev pub look_walk : State → Body → Walk (State × Result Answer Miss)
+look_walk s body = asks body (λ c. handed (after_read s c) (read c) c)
+
+-- the read of a key: what the buffer puts or deletes is answered from there
+abbrev pub get_by : State → Key → Option Mutation → Walk (State × Result Answer Miss)
+get_by s k (Some (mutation.Put v)) = grows (ends (s, Ok (answer.Found v))) (short s)
+get_by s k (Some mutation.Delete) = ends (s, Ok answer.Nothing)
+get_by s k _ = grows (look_walk s (read_of s k)) (short s)
+
+abbrev pub get_walk : State → Key → Walk (State × Result Answer Miss)
+get_walk s k = get_by s k (buffered s.buffer k)
+
+-- ---- what a call gives of what came
+
+-- an answer is handed on, but for the copy of a lock that it names
+abbrev pub IsHanded : Answer → Result Answer Miss → Type 0
+IsHanded (answer.KeyIsLocked info) r = (r ≡ Err NoMemory) ⊎ (r ≡ Ok (answer.KeyIsLocked info))
+IsHanded a r = r ≡ Ok a
+
+abbrev pub Returns : Came → Result (Option Answer) Miss → Type 0
+Returns (came.Said (answer.KeyIsLocked info)) r = (r ≡ Err NoMemory) ⊎ (r ≡ Ok (Some (answer.KeyIsLocked info)))
+Returns c r = r ≡ returned c
+
+abbrev pub ReadsAs : Came → Result Answer Miss → Type 0
+ReadsAs (came.Said (answer.KeyIsLocked info)) r = (r ≡ Err NoMemory) ⊎ (r ≡ Ok (answer.KeyIsLocked info))
+ReadsAs c r = r ≡ read c
+
+-- what the buffer answers to a read
+abbrev pub IsBuffered : Option Mutation → Option (Result Answer Miss) → Type 0
+IsBuffered (Some (mutation.Put v)) r = (r ≡ Some (Err NoMemory)) ⊎ (r ≡ Some (Ok (answer.Found v)))
+IsBuffered (Some mutation.Delete) r = r ≡ Some (Ok answer.Nothing)
+IsBuffered _ r = r ≡ None
+
+-- ---- a scan
+
+abbrev pub lesser : Key → Key → Key
+lesser j k = cond (key_lt k j) k j
+
+abbrev pub greater : Key → Key → Key
+greater j k = cond (key_lt j k) k j
+
+-- where the region n begins, where a range that begins at `from` begins in the region 0, and where it ends at most
+abbrev pub low_of : Key → List Key → ℕ → Key
+low_of from bounds zero = from
+low_of from [] (suc n) = from
+low_of from (bound ∷ bounds) (suc n) = low_of bound bounds n
+
+abbrev pub high_of : Key → List Key → ℕ → Key
+high_of to [] n = to
+high_of to (bound ∷ bounds) zero = lesser to bound
+high_of to (bound ∷ bounds) (suc n) = high_of to bounds n
+
+-- the read of a range that is not empty
+abbrev pub part_of : State → Key → Key → ℕ → Option Body
+part_of s from to limit = cond (key_lt from to) (Some (scan_of s from to limit)) None
+
+-- rows are enough, or more are read
+abbrev pub enough : ℕ → List KeyValue → Part
+enough limit rows = cond (nat_lt (length rows) limit) (part.More rows) (part.Done (Ok (answer.Rows rows)))
+
+-- a region's rows come after those before it; any other answer is the scan's
+abbrev pub rows_after : State → ℕ → List KeyValue → Answer → Walk (State × Part)
+rows_after s limit rows (answer.Rows found) = grows (ends (s, enough limit (rows ++ found))) (ends (s, part.Done (Err NoMemory)))
+rows_after s limit rows a = ends (s, part.Done (Ok a))
+
+abbrev pub part_after : State → ℕ → List KeyValue → Result Answer Miss → Walk (State × Part)
+part_after s limit rows (Err why) = ends (s, part.Done (Err why))
+part_after s limit rows (Ok a) = rows_after s limit rows a
+
+abbrev pub look_part : State → Body → ℕ → List KeyValue → Walk (State × Part)
+look_part s body limit rows = then_walk (look_walk s body) (λ x. part_after x.0 limit rows x.1)
+
+-- what a part comes to by what its read answered
+abbrev pub IsPart : ℕ → List KeyValue → Result Answer Miss → Part → Type 0
+IsPart limit rows (Ok (answer.Rows found)) p = (p ≡ part.Done (Err NoMemory)) ⊎ (p ≡ enough limit (rows ++ found))
+IsPart limit rows r p = p ≡ part.Done r
+
+-- the part of a range that lies in one region, where it is not empty, with the limit less the rows so far
+abbrev pub part_walk : State → Key → Key → ℕ → List KeyValue → Walk (State × Part)
+part_walk s from to limit rows =
+    grows
+    (cond (key_lt from to) (look_part s (scan_of s from to (limit - length rows)) limit rows) (ends (s, part.More rows)))
+    (ends (s, part.Done (Err NoMemory)))
+
+-- what a scan comes to by its next part
+abbrev pub scan_after : State → Part → (State → List KeyValue → Walk (State × Result Answer Miss)) → Walk (State × Result Answer Miss)
+scan_after s (part.More rows) on = on s rows
+scan_after s (part.Done r) on = ends (s, r)
+
+-- the regions' parts of a range in order, from the region that lies at or above `low` on, with the bounds above that
+abbrev pub scan_from : Key → Key → ℕ → Key → List Key → State → List KeyValue → Walk (State × Result Answer Miss)
+scan_from from to limit low [] s rows = then_walk (part_walk s (greater from low) to limit rows) (λ x. scan_after x.0 x.1 (λ t all. ends (t, Ok (answer.Rows all))))
+scan_from from to limit low (bound ∷ bounds) s rows = then_walk (part_walk s (greater from low) (lesser to bound) limit rows) (λ x. scan_after x.0 x.1 (scan_from from to limit bound bounds))
+
+-- The rows of a range: the regions' parts are read in order, until the rows are enough or one is not answered by rows.
+abbrev pub scan_walk : State → List Key → Key → Key → ℕ → Walk (State × Result Answer Miss)
+scan_walk s bounds from to limit = scan_from from to limit from bounds s []

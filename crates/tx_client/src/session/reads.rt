@@ -1,0 +1,239 @@
+//! Reads: of a key, and of a range over several regions.
+ghost use Rattle.std.specs.Prelude.{◌≡◌, ◌≤◌, ◌⊎◌, ◌++◌, ◌-◌, length, slice_get, nat_lt, IfOk, IfErr, IfSome, Ok, Err};
+ghost use Rattle.tx_types.specs.declared.fault.Fault.TheVariants as fault;
+ghost use Rattle.tx_core.specs.Allowed.{Allowed};
+ghost use Rattle.tx_journal.specs.Known.{AreRising};
+ghost use Rattle.tx_client.specs.declared.state.Miss.TheVariants.{NoMemory};
+ghost use Rattle.tx_client.specs.declared.state.Part.TheVariants as part;
+ghost use Rattle.tx_client.specs.Sessions.{read_of, scan_of};
+ghost use Rattle.tx_client.specs.Senders.{IsHeld, IsWay};
+ghost use Rattle.tx_client.specs.Walks.{Sends, look_walk, get_walk, part_walk, look_part, IsPart, scan_walk, part_of, low_of, high_of, enough, lesser, greater};
+
+use crate::sender::Sender;
+use crate::session::Session;
+use crate::state::{Miss, Part};
+use std::alloc::Global;
+use std::convert::TryFrom;
+use tx_core::{Answer, Body};
+use tx_journal::{Naming, Reply, Request};
+use tx_types::{Fault, Key, KeyValues};
+
+impl<J: Naming> Session<J> {
+    // Sends a read.
+    fn look<S: Sender<Request<J>, Reply<J>>>(
+        &mut self,
+        body: Body,
+        sender: &mut S,
+    ) -> Result<Answer, Miss>
+        requires way { IsWay J.bounds S.fits S.sends S.keys_between }
+        requires held { IsHeld J.bounds body }
+        requires allowed { Allowed self.old.seat.events body }
+        ensures { Sends S.sends J.bounds self.old.seat sender.old (look_walk self.old.state body) (self.new.state, result) sender.new self.new.seat }
+    {
+        let came = self.ask(body, sender);
+        self.transaction.after_read(came)
+    }
+
+    // Reads a key of the store.
+    fn read<S: Sender<Request<J>, Reply<J>>>(
+        &mut self,
+        key: &Key,
+        sender: &mut S,
+    ) -> Result<Answer, Miss>
+        requires way { IsWay J.bounds S.fits S.sends S.keys_between }
+        ensures { (result ≡ Err NoMemory) × (self.new ≡ self.old) × (sender.new ≡ sender.old) ⊎ Sends S.sends J.bounds self.old.seat sender.old (look_walk self.old.state (read_of self.old.state key.now)) (self.new.state, result) sender.new self.new.seat }
+    {
+        match self.transaction.read(key) {
+            Ok(body) => self.look(body, sender),
+            Err(_) => Err(Miss::NoMemory),
+        }
+    }
+
+    /// Reads a key at the session's start: what the buffer puts or deletes is answered from there.
+    pub fn get<S: Sender<Request<J>, Reply<J>>>(
+        &mut self,
+        key: &Key,
+        sender: &mut S,
+    ) -> Result<Answer, Miss>
+        requires way { IsWay J.bounds S.fits S.sends S.keys_between }
+        ensures { Sends S.sends J.bounds self.old.seat sender.old (get_walk self.old.state key.now) (self.new.state, result) sender.new self.new.seat }
+    {
+        match self.transaction.answer_of(key) {
+            Some(result) => result,
+            None => self.read(key, sender),
+        }
+    }
+}
+
+// The lesser of two keys.
+fn lesser(j: &Key, k: &Key) -> Result<Key, Fault>
+    ensures ok { IfOk result (λ key. key ≡ lesser j.now k.now) }
+    ensures err { IfErr result (λ e. e ≡ fault.OutOfMemory) }
+{
+    if k < j { k.clone() } else { j.clone() }
+}
+
+// The greater of two keys.
+fn greater(j: &Key, k: &Key) -> Result<Key, Fault>
+    ensures ok { IfOk result (λ key. key ≡ greater j.now k.now) }
+    ensures err { IfErr result (λ e. e ≡ fault.OutOfMemory) }
+{
+    if j < k { k.clone() } else { j.clone() }
+}
+
+// Where the part of a range in the region n begins.
+fn low_key(bounds: &[Key], n: usize, from: &Key) -> Result<Key, Fault>
+    requires { n ≤ length bounds.now }
+    ensures ok { IfOk result (λ key. key ≡ greater from.now (low_of from.now bounds.now n)) }
+    ensures err { IfErr result (λ e. e ≡ fault.OutOfMemory) }
+{
+    if n == 0 {
+        return from.clone();
+    }
+    greater(from, &bounds[n - 1])
+}
+
+// Where it ends.
+fn high_key(bounds: &[Key], n: usize, to: &Key) -> Result<Key, Fault>
+    ensures ok { IfOk result (λ key. key ≡ high_of to.now bounds.now n) }
+    ensures err { IfErr result (λ e. e ≡ fault.OutOfMemory) }
+{
+    if n < bounds.len() {
+        return lesser(to, &bounds[n]);
+    }
+    to.clone()
+}
+
+// The rows, with what was found after them.
+fn append(mut rows: KeyValues, found: KeyValues) -> Result<KeyValues, Fault>
+    ensures ok { IfOk result (λ all. all ≡ rows ++ found) }
+    ensures err { IfErr result (λ e. e ≡ fault.OutOfMemory) }
+{
+    for row in found.as_slice() {
+        rows.push(row.clone()?)?;
+    }
+    Ok(rows)
+}
+
+// More rows were found.
+fn joined(limit: u32, rows: KeyValues, found: KeyValues) -> Part
+    ensures { (result ≡ part.Done (Err NoMemory)) ⊎ (result ≡ enough limit (rows ++ found)) }
+{
+    let Ok(all) = append(rows, found) else {
+        return Part::Done(Err(Miss::NoMemory));
+    };
+    if all.as_slice().len() < limit as usize {
+        Part::More(all)
+    } else {
+        Part::Done(Ok(Answer::Rows(all)))
+    }
+}
+
+// What a part comes to by what its read answered.
+fn part_by(limit: u32, rows: KeyValues, answered: Result<Answer, Miss>) -> Part
+    ensures { IsPart limit rows answered result }
+{
+    match answered {
+        Ok(Answer::Rows(found)) => joined(limit, rows, found),
+        other => Part::Done(other),
+    }
+}
+
+// The limit less the rows so far.
+fn left(limit: u32, rows: &KeyValues) -> u32
+    ensures { result ≡ limit - length rows.now }
+{
+    match u32::try_from(rows.as_slice().len()) {
+        Ok(count) => limit.saturating_sub(count),
+        Err(_) => 0,
+    }
+}
+
+impl<J: Naming> Session<J> {
+    // The read of the part of a range that lies in the region n, where it is not empty.
+    fn part_of(
+        &self,
+        bounds: &[Key],
+        n: usize,
+        from: &Key,
+        to: &Key,
+        limit: u32,
+    ) -> Result<Option<Body>, Fault>
+        requires { n ≤ length bounds.now }
+        ensures ok { IfOk result (λ body. body ≡ part_of self.now.state (greater from.now (low_of from.now bounds.now n)) (high_of to.now bounds.now n) limit) }
+        ensures allowed { IfOk result (λ body. IfSome body (λ b. Allowed self.now.seat.events b)) }
+        ensures err { IfErr result (λ e. e ≡ fault.OutOfMemory) }
+    {
+        let low = low_key(bounds, n, from)?;
+        let high = high_key(bounds, n, to)?;
+        if low < high {
+            Ok(Some(self.transaction.scan(low, high, limit)?))
+        } else {
+            Ok(None)
+        }
+    }
+
+    // Sends the read of a part.
+    fn look_part<S: Sender<Request<J>, Reply<J>>>(
+        &mut self,
+        body: Body,
+        limit: u32,
+        rows: KeyValues,
+        sender: &mut S,
+    ) -> Part
+        requires way { IsWay J.bounds S.fits S.sends S.keys_between }
+        requires held { IsHeld J.bounds body }
+        requires allowed { Allowed self.old.seat.events body }
+        ensures { Sends S.sends J.bounds self.old.seat sender.old (look_part self.old.state body limit rows) (self.new.state, result) sender.new self.new.seat }
+    {
+        let answered = self.look(body, sender);
+        part_by(limit, rows, answered)
+    }
+
+    // Reads the part of a range that lies in the region n.
+    fn read_part<S: Sender<Request<J>, Reply<J>>>(
+        &mut self,
+        n: usize,
+        from: &Key,
+        to: &Key,
+        limit: u32,
+        rows: KeyValues,
+        sender: &mut S,
+    ) -> Part
+        requires way { IsWay J.bounds S.fits S.sends S.keys_between }
+        requires rising { AreRising J.bounds }
+        requires within { n ≤ length J.bounds }
+        ensures { Sends S.sends J.bounds self.old.seat sender.old (part_walk self.old.state (greater from.now (low_of from.now J.bounds n)) (high_of to.now J.bounds n) limit rows) (self.new.state, result) sender.new self.new.seat }
+    {
+        let left = left(limit, &rows);
+        match self.part_of(sender.bounds(), n, from, to, left) {
+            Err(_) => Part::Done(Err(Miss::NoMemory)),
+            Ok(None) => Part::More(rows),
+            Ok(Some(body)) => self.look_part(body, limit, rows, sender),
+        }
+    }
+
+    /// Reads the first `limit` keys with a value at the session's start, from `from` up to but not including `to`: the regions'
+    /// parts in order, each with the limit less the rows so far. The buffer is not looked at.
+    pub fn scan<S: Sender<Request<J>, Reply<J>>>(
+        &mut self,
+        alloc: Global,
+        from: &Key,
+        to: &Key,
+        limit: u32,
+        sender: &mut S,
+    ) -> Result<Answer, Miss>
+        requires way { IsWay J.bounds S.fits S.sends S.keys_between }
+        requires rising { AreRising J.bounds }
+        ensures { Sends S.sends J.bounds self.old.seat sender.old (scan_walk self.old.state J.bounds from.now to.now limit) (self.new.state, result) sender.new self.new.seat }
+    {
+        let mut rows = KeyValues::new(alloc);
+        for n in 0..sender.bounds().len() + 1 {
+            match self.read_part(n, from, to, limit, rows, sender) {
+                Part::More(more) => rows = more,
+                Part::Done(result) => return result,
+            }
+        }
+        Ok(Answer::Rows(rows))
+    }
+}
