@@ -2,6 +2,7 @@
 use Rattle.std.specs.Prelude.{◌≡◌, ℕ}
 use Rattle.tx_types.specs.declared.key.Key.{Key}
 use Rattle.tx_plan.specs.declared.body.Body.{Body}
+use Rattle.tx_plan.specs.declared.body.Body.TheVariants.{RaiseSafe}
 use Rattle.tx_plan.specs.declared.answer.Answer.{Answer}
 use Rattle.tx_plan.specs.declared.planned.Planned.{Planned}
 use Rattle.tx_plan.specs.Cells.{Region, with_cells}
@@ -19,3 +20,8 @@ pub record Executes (before : Region) (loaded : ℕ) (body : Body) (a : Answer) 
 pub record CarriesOut (before : Region) (key : Key) (planned : Planned) (a : Answer) (after : Region) : Type 0 where
   pub answer : a ≡ answer_with (info_on (before.cells key) key) planned.answer
   pub leaves : after ≡ with_read (with_cells before key (changed (before.cells key) planned.change)) planned.read
+
+-- requests that take no memory
+abbrev pub TakesNoMemory : Body → Type 0
+TakesNoMemory (RaiseSafe b) = Unit {0}
+TakesNoMemory _ = ⊥

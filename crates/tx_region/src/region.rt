@@ -1,5 +1,5 @@
 //! A region: a seat and records, which are what the seat's own events left.
-ghost use Rattle.std.specs.Prelude.{◌≡◌, ◌≤◌, ◌↔◌, ℕ, [], length, IsTrue, IfOk, IfErr, IfSome, IfNone};
+ghost use Rattle.std.specs.Prelude.{◌≡◌, ◌≤◌, ◌↔◌, ℕ, [], length, IsTrue, IfOk, IfErr, IfSome, IfNone, IsSome};
 ghost use Rattle.tx_types.specs.declared.key.Key.{Key};
 ghost use Rattle.tx_plan.specs.declared.body.Body.{Body};
 ghost use Rattle.tx_plan.specs.declared.answer.Answer.{Answer};
@@ -11,6 +11,7 @@ ghost use Rattle.tx_core.specs.Histories.{last, left, Begins};
 ghost use Rattle.tx_core.specs.Recording.{MayRecord, part};
 ghost use Rattle.tx_core.specs.Worlds.{Holds};
 ghost use Rattle.tx_journal.specs.Known.{greatest_ts, HasSeen, HasRecorded};
+ghost use Rattle.tx_region.specs.Calls.{TakesNoMemory};
 ghost use Rattle.tx_region.specs.Taking.{Answered};
 
 use crate::records::Records;
@@ -153,12 +154,14 @@ impl<J: Naming, F: Families> Region<J, F> {
     }
 
     /// Answers a request that it holds, and records that it did, by one event; where memory is refused it does neither.
+    /// RaiseSafe takes none.
     pub fn take(&mut self, request: Request<J>) -> Reply<J>
         requires holds { Holds J.bounds self.old.seat request.body }
         ensures request { result.request ≡ request }
         ensures same { (self.new.seat ≡ self.old.seat) × (self.new.ticks ≡ self.old.ticks) }
         ensures told { self.new.events ≡ result.events }
         ensures answered { IfSome result.answer (Answered J.bounds self.old.seat self.old.events result) }
+        ensures always { TakesNoMemory request.body → IsSome result.answer }
         ensures refused { IfNone result.answer (HasSeen J.bounds self.old.seat self.old.events self.new.events) }
     {
         let (mut by, body) = request.into_parts();

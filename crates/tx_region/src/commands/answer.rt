@@ -1,7 +1,7 @@
 //! Any command.
-ghost use Rattle.std.specs.Prelude.{◌≡◌, ◌<◌, IfOk, IfErr, OnErr};
+ghost use Rattle.std.specs.Prelude.{◌≡◌, ◌<◌, IfOk, IfErr, OnErr, IsOk};
 ghost use Rattle.tx_region.specs.Regions.{region_of};
-ghost use Rattle.tx_region.specs.Calls.{Executes};
+ghost use Rattle.tx_region.specs.Calls.{Executes, TakesNoMemory};
 
 use crate::records::Records;
 use tx_cells::Families;
@@ -9,10 +9,12 @@ use tx_plan::{Answer, Body};
 use tx_types::{Fault, Ts};
 
 impl<F: Families> Records<F> {
-    /// Answers a request of any command, by a seat that loaded `loaded`. `OutOfMemory` leaves the region as it was.
+    /// Answers a request of any command, by a seat that loaded `loaded`. `OutOfMemory` leaves the region as it was; a
+    /// RaiseSafe takes no memory.
     pub fn answer(&mut self, loaded: Ts, body: &Body) -> Result<Answer, Fault>
         requires room { (loaded < u64.MAX) × (self.old.max_read < u64.MAX) }
         ensures ok { IfOk result (λ a. Executes (region_of F.content self.old) loaded body.now a (region_of F.content self.new)) }
+        ensures always { TakesNoMemory body.now → IsOk result }
         ensures same { OnErr result (region_of F.content self.new ≡ region_of F.content self.old) }
         ensures err { IfErr result (λ e. e ≡ Fault.OutOfMemory) }
     {
