@@ -1,14 +1,27 @@
 pub mod two_phases
+-- The buffer by places.
 pub mod Places
+-- Keys that are looked up in a buffer.
 pub mod Finding
+-- The buffer by places: what it declares, and what stands in it.
 pub mod Entries
+-- What holds of a session's state stays so while others act.
 pub mod Kept
+-- What is due of a session is allowed.
 pub mod Due
+-- What an answer says of a key's lock is so.
 pub mod Marking
+-- Where each key of a buffer has an async lock, its transaction is committed at the greatest of their minimums.
 pub mod Promising
+-- What an answer to a session's request tells, its state may keep.
 pub mod Heard
+-- A session's own events may come, and keep what holds of its state: its begin, its puts, its declaration, its draw, and its end.
 pub mod Events
+-- What the calls of a session ask of its state and of its seat, and keep.
 pub mod Calling
+-- What a send comes to is what its walk says.
 pub mod Looking
+-- Some region holds each part of a scan.
 pub mod Routing
+-- A scan is its regions' parts in order.
 pub mod Scanning

@@ -1,4 +1,8 @@
+-- Small facts on options, tests, results and keys.
 mod Basics
+-- What carrying out a plan makes of a region.
 mod Carrying
+-- How a region comes to its answer.
 mod Taking
+-- How many of the keys between the regions lie at a key or below it.
 pub mod Routes
