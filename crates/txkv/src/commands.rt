@@ -7,10 +7,10 @@ use std::{env, io};
 static ABOUT: &str = "The transaction layer of a key-value store, in one process";
 
 static EXAMPLES: &str = "Examples:
-  txkv simulate < examples/commit_then_read.script   Run a script of sessions
-  txkv check < examples/commit_then_read.trace       Check a trace of machine steps
-  txkv simulate --help                               Show the steps of a script
-  txkv check --help                                  Show the steps of a trace
+  txkv simulate < commit_then_read.script   Run a script of sessions
+  txkv check < commit_then_read.trace       Check a trace of machine steps
+  txkv simulate --help                      Show the steps of a script
+  txkv check --help                         Show the steps of a trace
 
 Status: 0 well, 2 a fault of the input or the command line, 3 the verdict no, 4 a read, a write or a growth failed.";
 
@@ -30,7 +30,7 @@ static SIMULATE_HELP: &str = "A script has one step a line, each a JSON array; s
 Each reply is the number of the line and the step's words; docs/SCRIPT.md has all replies, refusals and causes.
 
 Examples:
-  txkv simulate < examples/commit_then_read.script   One transaction and a reader
+  txkv simulate < commit_then_read.script     One transaction and a reader
   echo '[\"begin\",\"A\"]' | txkv simulate           [1,\"start\",1], status 0
   echo '[\"get\",\"A\",\"a\"]' | txkv simulate         [1,\"E16\",\"name\"], no session is live, status 2";
 
@@ -48,8 +48,8 @@ static CHECK_HELP: &str = "A trace has one step a line, each a JSON array:
   [\"answer\",3,\"committed\",4]         It is told what became of it, also by [\"answer\",3,\"aborted\"]
 
 Examples:
-  txkv check < examples/commit_then_read.trace   [\"check\",\"yes\"], status 0
-  txkv check < examples/lost_update.trace        [\"check\",\"no\",10], the first line refused, status 3
+  txkv check < commit_then_read.trace   [\"check\",\"yes\"], status 0
+  txkv check < lost_update.trace        [\"check\",\"no\",10], the first line refused, status 3
   echo '[\"draw\"]' | txkv check                   [1,\"E16\",\"form\"], the first line that is no step, status 2";
 
 /// What the command line asks for.
