@@ -69,7 +69,7 @@ either (Err e) F P old good new ok same was now = subst P (sym same) was
 
 -- the seat has seen more, and made no event
 pub seen_seated : (bounds : List Key) (k new : Known) (s : State) → IsSeated bounds k s → new.seat ≡ k.seat → HasSeen bounds k.seat k.events new.events → IsSeated bounds new s
-seen_seated bounds k new s is number seen = (seen.run, subst (λ i. IsSession new.events i s) (sym number) (others_act bounds k.events new.events seen.run k.seat s seen.goes_on is.1))
+seen_seated bounds k new s is number seen = (seen.run, subst (λ i. IsSession new.events i s) (sym number) (others_act bounds k.events new.events seen.run k.seat s seen.extends is.1))
 
 -- it drew a start, and recorded that it began there
 pub began_seated : (bounds : List Key) (k mid new : Known) (t : ℕ) → mid.seat ≡ k.seat → HasDrawn bounds k.seat k.events 1 t mid.events → Records bounds mid (Began t) new → IsSeated bounds new (begun t)

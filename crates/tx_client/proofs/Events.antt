@@ -58,7 +58,7 @@ begun_ok bounds h i t run by new =
 pub began_ok : (bounds : List Key) (i t : ℕ) (old mid new : History) → HasDrawn bounds i old 1 t mid → HasRecorded bounds i mid (Began t) new → IsSession new i (begun t)
 began_ok bounds i t old mid new drew r =
     let first : IsWorldRun bounds (Drawn i t ∷ drew.before) = subst (IsWorldRun bounds) drew.is drew.run in
-    let goes : Extends i (Drawn i t ∷ drew.before) r.before = subst (λ x. Extends i x r.before) drew.is r.goes_on in
+    let goes : Extends i (Drawn i t ∷ drew.before) r.before = subst (λ x. Extends i x r.before) drew.is r.extends in
     let run : IsWorldRun bounds (Began t ∷ r.before) = subst (IsWorldRun bounds) r.is r.run in
     let by : drawer (Drawn i t ∷ drew.before) t ≡ Some i = drawer_new i t drew.before in
     subst (λ x. IsSession x i (begun t)) (sym r.is)
@@ -174,7 +174,7 @@ declared_next bounds h i s terms d run is e =
 pub declared_ok : (bounds : List Key) (i : ℕ) (s : State) (terms : Terms) (d : Declaration) (old new : History) → IsSession old i s → declaration s.start s.buffer terms ≡ Some d → HasRecorded bounds i old (Declared d) new → IsSession new i (record s { declared = Some terms })
 declared_ok bounds i s terms d old new is e r =
     let run : IsWorldRun bounds (Declared d ∷ r.before) = subst (IsWorldRun bounds) r.is r.run in
-    subst (λ x. IsSession x i (record s { declared = Some terms })) (sym r.is) (declared_next bounds r.before i s terms d run (others_act bounds old r.before run.0 i s r.goes_on is) e)
+    subst (λ x. IsSession x i (record s { declared = Some terms })) (sym r.is) (declared_next bounds r.before i s terms d run (others_act bounds old r.before run.0 i s r.extends is) e)
 
 -- ---- it draws a commit timestamp
 
@@ -270,7 +270,7 @@ module _ (bounds : List Key) (h : History) (i : ℕ) (s : State) (is : IsSession
 pub drew_ok : (bounds : List Key) (i : ℕ) (s : State) (c : ℕ) (old new : History) → IsSession old i s → can_draw s ≡ true → HasDrawn bounds i old 1 c new → IsSession new i (record s { drawn = Some c })
 drew_ok bounds i s c old new is can d =
     let run : IsWorldRun bounds (Drawn i c ∷ d.before) = subst (IsWorldRun bounds) d.is d.run in
-    subst (λ x. IsSession x i (record s { drawn = Some c })) (sym d.is) (drawn_next bounds d.before i s (others_act bounds old d.before run.0 i s d.goes_on is) can c run)
+    subst (λ x. IsSession x i (record s { drawn = Some c })) (sym d.is) (drawn_next bounds d.before i s (others_act bounds old d.before run.0 i s d.extends is) can c run)
 
 -- ---- it ends
 

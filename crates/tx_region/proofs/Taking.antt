@@ -43,7 +43,7 @@ module _ (bounds : List Key) (n : ℕ) (inside : n ≤ length bounds) (had by po
     module _ (new : History) (added : HasRecorded bounds n point (Took event) new) where
       -- what the event leaves is what the answer leaves
       pub left_now : left new n ≡ leaves (left point n) body a
-      left_now = ap (λ h. left h n) added.is ∙ left_took n point added.before event refl added.goes_on
+      left_now = ap (λ h. left h n) added.is ∙ left_took n point added.before event refl added.extends
 
       pub answered : (g : Given) → g.request.by ≡ by → g.request.body ≡ body → g.events ≡ new → Answered bounds n had g a
       answered g said asked told =
@@ -55,10 +55,10 @@ module _ (bounds : List Key) (n : ℕ) (inside : n ≤ length bounds) (had by po
               run = added'.run;
               ends = added'.is;
               sender = subst (λ h. Begins h point) (sym said) heard;
-              region = here.goes_on;
-              began = added'.goes_on;
+              region = here.extends;
+              began = added'.extends;
             };
-            least = subst (λ (p : Body × ℕ × Region). AnswersLeast p.2 p.1 p.0 a) (λ i. (sym asked i, is_last i, left_on n had point here.goes_on i)) least;
+            least = subst (λ (p : Body × ℕ × Region). AnswersLeast p.2 p.1 p.0 a) (λ i. (sym asked i, is_last i, left_on n had point here.extends i)) least;
           }
 
 pub if_some_is : {X : Type 0} (o : Option X) (x : X) (P : X → Type 0) → o ≡ Some x → P x → IfSome o P

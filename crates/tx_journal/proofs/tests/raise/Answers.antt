@@ -33,7 +33,7 @@ record-requires-clause-right g c =
     let region = c.new-number.ensures in
     let body : c.into_parts-by.result.1 ≡ RaiseSafe record { region = 0; safe = 0 } = c.into_parts-by.ensures.parts.1 ∙ (ap (λ r. r.body) c.requires.copy ∙ c.requires.body) in
     subst (λ (p : ℕ × ℕ × Body). MayRecord bounds p.0 l (Took record { region = p.1; body = p.2; loaded = c.last-loaded.result; answer = Raised })) (λ i. (sym seat i, sym region i, sym body i))
-    (may_raise bounds l c.last-loaded.result here.goes_on c.last-loaded.ensures.last.0)
+    (may_raise bounds l c.last-loaded.result here.extends c.last-loaded.ensures.last.0)
 
 pub new-requires : goal.new-requires
 new-requires g c =

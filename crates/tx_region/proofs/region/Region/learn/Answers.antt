@@ -7,5 +7,5 @@ pub invariant_of-self : goal.invariant_of-self
 invariant_of-self g c =
     let s = c.self.inside in
     let number = c.learn.ensures.same.0 in
-    let still = left_on s.seat.seat s.seat.events c.learn.new.self.events c.learn.ensures.seen.goes_on in
+    let still = left_on s.seat.seat s.seat.events c.learn.new.self.events c.learn.ensures.seen.extends in
     (c.self.invariant.0 ∙ sym still ∙ ap (λ n. left c.learn.new.self.events n) (sym number), subst (λ n. n ≤ length g.J.Naming.bounds) (sym number) c.self.invariant.1)

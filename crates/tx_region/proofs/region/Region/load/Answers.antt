@@ -14,7 +14,7 @@ invariant_of-self g c =
     let number = c.last.ensures.same.0 ∙ c.learn.ensures.same.0 in
     let then = subst (λ m. HasSeen g.J.Naming.bounds m c.learn.new.self.events point) c.learn.ensures.same.0 c.last.ensures.seen in
     let here = seen_more g.J.Naming.bounds n s.seat.events c.learn.new.self.events point c.learn.ensures.seen then in
-    let still = left_on n s.seat.events point here.goes_on in
+    let still = left_on n s.seat.events point here.extends in
     (c.self.invariant.0 ∙ sym still ∙ ap (λ m. left point m) (sym number), subst (λ m. m ≤ length g.J.Naming.bounds) (sym number) c.self.invariant.1)
 
 pub returns-clause-seen : goal.returns-clause-seen
@@ -29,4 +29,4 @@ returns-clause-heard g c =
     let learnt = c.learn.new.self.events in
     let point = c.last.new.self.events in
     let sender = subst (λ h. Begins h learnt) c.copy-told.ensures.copy c.learn.ensures.told in
-    begins_more c.args.told.now learnt point sender (extends_begins c.learn.new.self.seat learnt point c.last.ensures.seen.goes_on)
+    begins_more c.args.told.now learnt point sender (extends_begins c.learn.new.self.seat learnt point c.last.ensures.seen.extends)
