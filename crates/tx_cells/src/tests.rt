@@ -1,0 +1,79 @@
+//! The same scenarios on every representation of the families.
+mod asks;
+mod finds;
+mod scenarios;
+mod steps;
+
+use crate::{Families, NestedCells};
+use scenarios::{LONG_VALUE, MARKS, SCANS, SURVIVORS};
+use std::alloc::Global;
+use steps::{Step, goes, steps_that_go};
+
+/// A name, and the steps.
+type Scenario = (&'static str, &'static [Step]);
+
+const SCENARIOS: [Scenario; 4] = [
+    ("long values", &LONG_VALUE),
+    ("marks", &MARKS),
+    ("scans", &SCANS),
+    ("survivors", &SURVIVORS),
+];
+
+/// How many versions one key has.
+const VERSIONS: u64 = 20_000;
+
+/// Of the nth version: the timestamps of its transaction, and how many bytes its value has.
+fn version(n: u64) -> (u64, u64, usize) {
+    let start = n.wrapping_mul(2);
+    (start, start.wrapping_add(1), (n % 250) as usize)
+}
+
+fn commits<F: Families>(alloc: Global, families: &mut F, n: u64) -> bool {
+    let (start, commit, bytes) = version(n);
+    goes(alloc, families, Step::Put((b'k', start), bytes))
+        && goes(alloc, families, Step::Commit((b'k', start), commit))
+}
+
+// A read at the commit timestamp sees the version, and so does one right before the next.
+fn sees<F: Families>(alloc: Global, families: &mut F, n: u64) -> bool {
+    let (_, commit, bytes) = version(n);
+    goes(alloc, families, Step::Sees((b'k', commit), bytes))
+        && goes(
+            alloc,
+            families,
+            Step::Sees((b'k', commit.wrapping_add(1)), bytes),
+        )
+}
+
+// Whether each of many versions of one key is found.
+fn finds_versions<F: Families>(alloc: Global, families: &mut F) -> bool {
+    (1..=VERSIONS).all(|n| commits(alloc, families, n))
+        && (1..=VERSIONS).all(|n| sees(alloc, families, n))
+        && goes(alloc, families, Step::SeesNone((b'k', 2)))
+}
+
+fn nested(alloc: Global, steps: &[Step]) -> usize {
+    let mut families = NestedCells::new(alloc);
+    let went = steps_that_go(alloc, &mut families, steps);
+    drop(families);
+    went
+}
+
+#[test]
+fn scenarios_on_nested_maps(rt: HostRuntime) {
+    for (name, steps) in SCENARIOS {
+        assert_eq!(rt; nested(rt.alloc(), steps), steps.len(), "{name}");
+    }
+}
+
+fn nested_versions(alloc: Global) -> bool {
+    let mut families = NestedCells::new(alloc);
+    let found = finds_versions(alloc, &mut families);
+    drop(families);
+    found
+}
+
+#[test]
+fn versions_in_nested_maps(rt: HostRuntime) {
+    assert!(rt; nested_versions(rt.alloc()));
+}
