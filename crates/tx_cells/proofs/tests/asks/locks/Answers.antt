@@ -9,4 +9,4 @@ put_lock-requires g c =
     let b = c.args.body.now in
     let cells = cells_of (g.F.Families.content c.args.families.now b.key) in
     subst (λ (change : KeyChange). IfSome (new_lock change) (λ new. CanPut cells b new)) (sym c.change_of.ensures)
-        (c.plan_prewrite-planned.ensures.applies cells b.start c.in_ok-view.ensures.shows)
+    (c.plan_prewrite-planned.ensures.applies cells b.start c.in_ok-view.ensures.shows)
