@@ -52,8 +52,8 @@ fn finds_versions<F: Families>(alloc: Global, families: &mut F) -> bool {
         && goes(alloc, families, Step::SeesNone((b'k', 2)))
 }
 
-fn nested(alloc: Global, steps: &[Step]) -> usize {
-    let mut families = NestedCells::new(alloc);
+// How many steps go as the rules say, on families that hold nothing.
+fn go<F: Families + Drop>(alloc: Global, mut families: F, steps: &[Step]) -> usize {
     let went = steps_that_go(alloc, &mut families, steps);
     drop(families);
     went
@@ -62,12 +62,13 @@ fn nested(alloc: Global, steps: &[Step]) -> usize {
 #[test]
 fn scenarios_on_nested_maps(rt: HostRuntime) {
     for (name, steps) in SCENARIOS {
-        assert_eq!(rt; nested(rt.alloc(), steps), steps.len(), "{name}");
+        let nested = NestedCells::new(rt.alloc());
+        assert_eq!(rt; go(rt.alloc(), nested, steps), steps.len(), "{name}");
     }
 }
 
-fn nested_versions(alloc: Global) -> bool {
-    let mut families = NestedCells::new(alloc);
+// Whether each of many versions of one key is found in families that hold nothing.
+fn has_versions<F: Families + Drop>(alloc: Global, mut families: F) -> bool {
     let found = finds_versions(alloc, &mut families);
     drop(families);
     found
@@ -75,5 +76,5 @@ fn nested_versions(alloc: Global) -> bool {
 
 #[test]
 fn versions_in_nested_maps(rt: HostRuntime) {
-    assert!(rt; nested_versions(rt.alloc()));
+    assert!(rt; has_versions(rt.alloc(), NestedCells::new(rt.alloc())));
 }
