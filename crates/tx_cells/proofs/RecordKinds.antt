@@ -1,5 +1,5 @@
 -- What collection asks of a record, as it is kept and in the cells.
-use Rattle.std.proofs.Common.{◌≡◌, ℕ, true, false, length, Option, Some, None, refl, sym, ap, ◌∙◌}
+use Rattle.std.proofs.Common.{◌≡◌, ℕ, Bool, true, false, length, Option, Some, None, refl, sym, ap, ◌∙◌}
 use Rattle.std.proofs.lemmas.Bool.{lt-ltb, le-ltb}
 use Rattle.tx_types.specs.declared.limits.TheConstants.{MAX_INLINE_BYTES}
 use Rattle.tx_types.specs.declared.value.Value.{Value}
@@ -13,7 +13,11 @@ use Rattle.tx_plan.specs.Cells.{is_long}
 use Rattle.tx_plan.specs.Collecting.{IsKind, IsNext}
 use Rattle.tx_plan.specs.cases.Collect.{commit_is, is_put, is_visible}
 use Rattle.std.specs.Prelude.{option_map, ◌<◌, ◌≤◌, ◌≢◌}
-use Rattle.tx_cells.specs.Heads.{record_kind}
+use Rattle.tx_types.specs.declared.mutation.LockKind.{LockKind}
+use Rattle.tx_types.specs.declared.mutation.LockKind.TheVariants as kind
+use Rattle.tx_types.specs.Kinds.{stored_kind}
+use Rattle.tx_plan.specs.declared.key_records.RecordKind.{RecordKind}
+use Rattle.tx_cells.specs.Heads.{record_kind, is_rollback, keeps_apart, write_keeps_apart}
 use Rattle.tx_cells.specs.Contents.{OnKey, cells_of, write_of, whole, IsKept, IsWhole}
 use Rattle.tx_cells.proofs.Facts.{write_kept}
 
@@ -38,6 +42,23 @@ long_same (Some v) (stored.Put InDefault) k = sym (lt-ltb MAX_INLINE_BYTES (leng
 long_same apart stored.Delete k = refl
 long_same apart stored.Lock k = refl
 
+-- whether a record puts, and whether reads see it
+pub kind_puts : (write : ℕ → Option WriteRec) (value : ℕ → Option Value) (c : ℕ) (rec : WriteRec) → write c ≡ Some rec → (record_kind rec).puts ≡ commit_is is_put (option_map (write_of value) (write c))
+kind_puts write value c (Rollback start) e = sym (ap (λ (o : Option WriteRec). commit_is is_put (option_map (write_of value) o)) e)
+kind_puts write value c (Commit rec) e = puts_same (value rec.start) rec.mutation ∙ sym (ap (λ (o : Option WriteRec). commit_is is_put (option_map (write_of value) o)) e)
+
+pub kind_seen : (write : ℕ → Option WriteRec) (value : ℕ → Option Value) (c : ℕ) (rec : WriteRec) → write c ≡ Some rec → (record_kind rec).is_seen ≡ commit_is is_visible (option_map (write_of value) (write c))
+kind_seen write value c (Rollback start) e = sym (ap (λ (o : Option WriteRec). commit_is is_visible (option_map (write_of value) o)) e)
+kind_seen write value c (Commit rec) e = seen_same (value rec.start) rec.mutation ∙ sym (ap (λ (o : Option WriteRec). commit_is is_visible (option_map (write_of value) o)) e)
+
+-- what is visible is a record, which reads see
+pub seen_there : (write : ℕ → Option WriteRec) (value : ℕ → Option Value) (q : ℕ) → commit_is is_visible (option_map (write_of value) (write q)) ≡ true → (rec : WriteRec) × (write q ≡ Some rec) × ((record_kind rec).is_seen ≡ true)
+seen_there write value q e = go (write q) refl
+  where
+    go : (o : Option WriteRec) → write q ≡ o → (rec : WriteRec) × (write q ≡ Some rec) × ((record_kind rec).is_seen ≡ true)
+    go None f = (let none = ap (λ (o : Option WriteRec). commit_is is_visible (option_map (write_of value) o)) f in absurd (cc (none, e)))
+    go (Some rec) f = (rec, f, kind_seen write value q rec f ∙ e)
+
 pub kind_is : (x : OnKey) → ∥ IsWhole x ∥₁ → (c : ℕ) (rec : WriteRec) → x.write c ≡ Some rec → IsKind ((cells_of x).write c) (record_kind rec)
 kind_is x t c (Rollback start) e = (
     let here = ap (option_map (write_of x.value)) e in
@@ -58,3 +79,28 @@ is_next x t bound c rec e upto newest = record {
   newest = λ q lt le. ap (option_map (write_of x.value)) (newest q lt le);
   is = kind_is x t c rec e;
 }
+
+-- ---- of a commit record, by its kind
+
+abbrev pub kind_by : LockKind → Bool → RecordKind
+kind_by kind.Put apart = record { puts = true; is_seen = true; has_long_value = apart }
+kind_by kind.Delete apart = record { puts = false; is_seen = true; has_long_value = false }
+kind_by kind.Lock apart = record { puts = false; is_seen = false; has_long_value = false }
+
+kind_by_stored : (m : StoredMutation) → kind_by (stored_kind m) (keeps_apart m) ≡ record_kind (Commit (record { mutation = m; start = 0; overlapped_rollback = false }))
+kind_by_stored (stored.Put v) = refl
+kind_by_stored stored.Delete = refl
+kind_by_stored stored.Lock = refl
+
+pub kind_by_is : (w : WriteRec) (k : LockKind) → is_rollback w ≡ false → ((rec : CommitRec) → w ≡ Commit rec → k ≡ stored_kind rec.mutation) → kind_by k (write_keeps_apart w) ≡ record_kind w
+kind_by_is (Commit rec) k n h = ap (λ (k : LockKind). kind_by k (keeps_apart rec.mutation)) (h rec refl) ∙ kind_by_stored rec.mutation
+kind_by_is (Rollback start) k n h = absurd (cc n)
+
+pub apart_is : (w : WriteRec) → write_keeps_apart w ≡ (record_kind w).has_long_value
+apart_is (Rollback start) = refl
+apart_is (Commit rec) = by_mutation rec.mutation
+  where
+    by_mutation : (m : StoredMutation) → keeps_apart m ≡ (record_kind (Commit (record { mutation = m; start = 0; overlapped_rollback = false }))).has_long_value
+    by_mutation (stored.Put v) = refl
+    by_mutation stored.Delete = refl
+    by_mutation stored.Lock = refl

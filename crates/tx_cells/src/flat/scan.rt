@@ -1,16 +1,26 @@
-//! The locks below a timestamp: the loops of the plans over a walk.
-ghost use Rattle.std.specs.Prelude.{◌≡◌, IfOk, IfErr, MatchOption};
+//! Scans, and the locks below a timestamp: the loops of the plans over walks.
+ghost use Rattle.std.specs.Prelude.{◌≡◌, ◌⊎◌, IfOk, IfErr, MatchOption};
+ghost use Rattle.tx_plan.specs.cases.Scan.{MeetsLock, GivesRows};
 ghost use Rattle.tx_plan.specs.cases.LocksBelow.{AllBelow};
 ghost use Rattle.tx_plan.specs.cases.Collect.{SomeLockBelow, IsFirstBelow};
 ghost use Rattle.tx_cells.specs.Contents.{cells_in};
 
 use super::FlatCells;
 use std::alloc::Global;
-use tx_plan::{Infos, first_below, infos_below};
+use tx_plan::{Answer, Infos, Scan, first_below, infos_below, scan_walk};
 use tx_types::{Fault, LockInfo, Ts};
 
 impl FlatCells {
     ghost use Rattle.tx_cells.specs.Flats.{flat_content};
+
+    /// The rows of a scan, or the lock that stops it.
+    pub(crate) fn scan_of(&self, alloc: Global, body: &Scan) -> Result<Answer, Fault>
+        ensures answers { IfOk result (λ a. MeetsLock (cells_in (flat_content self.now)) body.now a ⊎ GivesRows (cells_in (flat_content self.now)) body.now a) }
+        ensures err { IfErr result (λ e. e ≡ Fault.OutOfMemory) }
+    {
+        let walk = self.reads_from(&body.from)?;
+        scan_walk(alloc, walk, body)
+    }
 
     /// What is told of the locks that started below a timestamp.
     pub(crate) fn infos_of(&self, alloc: Global, safe: Ts) -> Result<Infos, Fault>

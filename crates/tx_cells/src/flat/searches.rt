@@ -4,15 +4,15 @@ ghost use Rattle.std.specs.BTreeMap as tree;
 ghost use Rattle.std.specs.Ordering.{nat_cmp};
 ghost use Rattle.std.specs.Cmp.Lexicographic.{slice_cmp};
 ghost use Rattle.tx_cells.specs.Spelt.{version_cmp};
-ghost use Rattle.tx_cells.specs.Heads.{write_head, lock_head};
+ghost use Rattle.tx_cells.specs.Heads.{write_head, lock_head, record_kind};
 
 use crate::history::History;
 use crate::records::{LockBytes, WriteBytes};
 use crate::spelling::{KeyBytes, VersionBytes};
 use std::alloc::Global;
 use std::collections::BTreeMap;
-use tx_plan::{LockHead, RecordHead};
-use tx_types::{Fault, Key, Ts};
+use tx_plan::{LockHead, RecordHead, RecordKind};
+use tx_types::{Fault, Key, LockKind, Ts};
 
 /// What is asked of a write record.
 pub(super) fn head_of(bytes: &WriteBytes) -> RecordHead
@@ -25,6 +25,36 @@ pub(super) fn head_of(bytes: &WriteBytes) -> RecordHead
         kind: bytes.kind(),
         start: bytes.start(),
         overlapped_rollback: bytes.is_marked(),
+    }
+}
+
+/// What collection asks of a write record.
+pub(super) fn kind_of(bytes: &WriteBytes) -> RecordKind
+    ensures { result ≡ record_kind bytes.now }
+{
+    if bytes.is_rollback() {
+        return RecordKind {
+            puts: false,
+            is_seen: false,
+            has_long_value: false,
+        };
+    }
+    match bytes.kind() {
+        LockKind::Put => RecordKind {
+            puts: true,
+            is_seen: true,
+            has_long_value: bytes.keeps_value_apart(),
+        },
+        LockKind::Delete => RecordKind {
+            puts: false,
+            is_seen: true,
+            has_long_value: false,
+        },
+        LockKind::Lock => RecordKind {
+            puts: false,
+            is_seen: false,
+            has_long_value: false,
+        },
     }
 }
 

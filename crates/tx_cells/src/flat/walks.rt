@@ -1,8 +1,9 @@
-//! Walks over the locks.
+//! Walks over the keys, and over the locks.
 ghost use Rattle.std.specs.Prelude.{◌≡◌, [], List, IfOk, IfErr, MatchOption};
 ghost use Rattle.tx_types.specs.declared.key.Key.{Key};
 ghost use Rattle.tx_plan.specs.Cells.{Cells};
-ghost use Rattle.tx_plan.specs.Walks.{LockRow, IsLockWalk};
+ghost use Rattle.tx_types.specs.Keys.{key_le};
+ghost use Rattle.tx_plan.specs.Walks.{KeyRow, LockRow, IsWalk, IsLockWalk};
 
 use super::FlatCells;
 use super::searches::lock_head_of;
@@ -10,8 +11,37 @@ use crate::records::LockBytes;
 use crate::spelling::KeyBytes;
 use std::alloc::Global;
 use std::collections::btree_map::Iter;
-use tx_plan::{LockHead, LockWalk};
-use tx_types::{Fault, Key, LockInfo};
+use tx_plan::{LockHead, LockWalk, ReadView, ReadWalk};
+use tx_types::{Fault, Key, LockInfo, Ts};
+
+/// A walk over keys, rising.
+#[derive(Drop)]
+pub(crate) struct FlatReads<'a> {
+    cells: &'a FlatCells,
+    upcoming: Option<Key>,
+}
+
+impl<'a> ReadWalk for FlatReads<'a> {
+    ghost use Rattle.tx_cells.specs.Contents.{cells_in};
+    ghost use Rattle.tx_cells.specs.Flats.{flat_content, rows_from};
+
+    ghost cells = { λ w. cells_in (flat_content w.cells.now) };
+
+    ghost rest = { λ w. rows_from w.cells.now w.upcoming };
+
+    fn next(&mut self, alloc: Global, at: Ts) -> Result<Option<(Key, ReadView)>, Fault> {
+        let Some(key) = self.upcoming.take() else {
+            return Ok(None);
+        };
+        let view = self.cells.read_of(alloc, &key, at)?;
+        self.upcoming = self.cells.next_key(alloc, &key)?;
+        Ok(Some((key, view)))
+    }
+
+    fn lock_info(&self, alloc: Global, key: &Key) -> Result<Option<LockInfo>, Fault> {
+        self.cells.lock_info_of(alloc, key)
+    }
+}
 
 /// A walk over the locks, keys rising.
 #[derive(Drop)]
@@ -42,7 +72,20 @@ impl<'a> LockWalk for FlatLocks<'a> {
 
 impl FlatCells {
     ghost use Rattle.tx_cells.specs.Contents.{cells_in};
-    ghost use Rattle.tx_cells.specs.Flats.{flat_content, lock_rows_in};
+    ghost use Rattle.tx_cells.specs.Flats.{flat_content, rows_from, lock_rows_in};
+
+    /// A walk over the keys from this one on.
+    pub(super) fn reads_from(&self, from: &Key) -> Result<FlatReads<'_>, Fault>
+        ensures same { IfOk result (λ walk. walk.cells.now ≡ self.now) }
+        ensures walk { IfOk result (λ walk. IsWalk (cells_in (flat_content self.now)) (key_le from.now) (rows_from self.now walk.upcoming)) }
+        ensures err { IfErr result (λ e. e ≡ Fault.OutOfMemory) }
+    {
+        let upcoming = Some(from.clone()?);
+        Ok(FlatReads {
+            cells: self,
+            upcoming,
+        })
+    }
 
     /// A walk over all locks.
     pub(super) fn walk_locks(&self) -> FlatLocks<'_>

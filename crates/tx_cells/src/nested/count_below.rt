@@ -1,23 +1,13 @@
 //! How much collection drops.
-ghost use Rattle.std.specs.Prelude.{◌≡◌, ◌+◌, ℕ, List, length, IfOk, IfErr};
+ghost use Rattle.std.specs.Prelude.{◌≡◌, ℕ, List, length, IfOk, IfErr};
 ghost use Rattle.tx_types.specs.declared.key.Key.{Key};
 ghost use Rattle.tx_plan.specs.cases.Collect.{AllDropped, long_values};
 ghost use Rattle.tx_cells.specs.Contents.{cells_in};
 
 use super::NestedCells;
+use crate::counting::sum;
 use tx_plan::Dropped;
 use tx_types::{Fault, Ts};
-
-/// The sum. `OutOfMemory` where a number does not hold it.
-fn sum(a: u64, b: u64) -> Result<u64, Fault>
-    ensures ok { IfOk result (λ n. n ≡ a + b) }
-    ensures err { IfErr result (λ e. e ≡ Fault.OutOfMemory) }
-{
-    match a.checked_add(b) {
-        Some(n) => Ok(n),
-        None => Err(Fault::OutOfMemory),
-    }
-}
 
 impl NestedCells {
     ghost use Rattle.tx_cells.specs.Nested.{nested_content};
