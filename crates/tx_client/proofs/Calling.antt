@@ -25,15 +25,16 @@ use Rattle.tx_core.specs.Worlds.{route, IsWorldRun}
 use Rattle.tx_core.specs.Recording.{MayRecord}
 use Rattle.tx_core.proofs.seats.Staying.{among_on}
 use Rattle.tx_journal.specs.Known.{Known, HasSeen, HasDrawn, HasRecorded}
-use Rattle.tx_journal.specs.Replies.{Given, IsTold, IsGiven}
+use Rattle.tx_journal.specs.Replies.{Asked, Given, IsTold, IsGiven}
 use Rattle.tx_client.specs.declared.state.Terms.{Terms}
+use Rattle.tx_client.specs.declared.state.Came.{Came}
 use Rattle.tx_client.specs.declared.state.Phase.{Phase}
 use Rattle.tx_client.specs.declared.state.Phase.TheVariants as phase
 use Rattle.tx_client.specs.declared.state.Due.{Due}
 use Rattle.tx_client.specs.Sessions.{State, begun, is_declared, has_primary, can_draw, declaration, with_passed, unknown_by, undecided, finish_by, finish_of}
-use Rattle.tx_client.specs.Senders.{IsHeld, came_by}
+use Rattle.tx_client.specs.Senders.{IsHeld, Reached, came_by, Learns}
 use Rattle.tx_client.specs.Facts.{CameSo, IsFor, IsSession, IsSeated}
-use Rattle.tx_client.specs.Calls.{Records, RecordsDeclared, IsDecidedSo}
+use Rattle.tx_client.specs.Calls.{Records, RecordsDeclared, Asks, IsDecidedSo}
 use Rattle.tx_client.proofs.Kept.{others_act}
 use Rattle.tx_client.proofs.Events.{began_ok, declared_none, may_declare_buffer, declared_ok, drew_ok, may_finish, passed_ok}
 use Rattle.tx_client.proofs.Due.{known_decided}
@@ -70,6 +71,14 @@ either (Err e) F P old good new ok same was now = subst P (sym same) was
 -- the seat has seen more, and made no event
 pub seen_seated : (bounds : List Key) (k new : Known) (s : State) → IsSeated bounds k s → new.seat ≡ k.seat → HasSeen bounds k.seat k.events new.events → IsSeated bounds new s
 seen_seated bounds k new s is number seen = (seen.run, subst (λ i. IsSession new.events i s) (sym number) (others_act bounds k.events new.events seen.run k.seat s seen.extends is.1))
+
+-- it asked
+pub asked_seated : {S : Type 0} (sends : S → Asked → Reached → S → Type 0) (bounds : List Key) (k new : Known) (s : State) (body : Body) (from to : S) (c : Came) → IsSeated bounds k s → Asks sends bounds k body from to c new → IsSeated bounds new s
+asked_seated sends bounds k new s body from to c is a = go a.reached a.learns
+  where
+    go : (r : Reached) → Learns bounds k r new → IsSeated bounds new s
+    go (Err l) same = subst (λ x. IsSeated bounds x s) (sym same) is
+    go (Ok g) (number, ticks, seen, told) = seen_seated bounds k new s is number seen
 
 -- it drew a start, and recorded that it began there
 pub began_seated : (bounds : List Key) (k mid new : Known) (t : ℕ) → mid.seat ≡ k.seat → HasDrawn bounds k.seat k.events 1 t mid.events → Records bounds mid (Began t) new → IsSeated bounds new (begun t)

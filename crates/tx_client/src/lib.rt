@@ -2,6 +2,7 @@
 #![tactic(auto)]
 
 mod answers;
+mod asking;
 mod buffer;
 mod resolved;
 mod sender;
@@ -10,6 +11,7 @@ mod state;
 mod transaction;
 pub mod two_phase;
 
+pub use asking::ask;
 pub use resolved::{Decision, Met, Resolved, Status, WaitCause};
 pub use sender::{Lost, Sender};
 pub use session::Session;

@@ -5,18 +5,18 @@ ghost use Rattle.tx_core.specs.declared.event.Event.TheVariants.{Declared, Answe
 ghost use Rattle.tx_core.specs.Allowed.{Allowed};
 ghost use Rattle.tx_core.specs.Recording.{MayRecord};
 ghost use Rattle.tx_journal.specs.Known.{DrawsNothing};
-ghost use Rattle.tx_journal.specs.Replies.{IsGiven};
 ghost use Rattle.tx_client.specs.declared.state.Phase.TheVariants as phase;
 ghost use Rattle.tx_client.specs.Buffers.{touched, locked, is_full};
 ghost use Rattle.tx_client.specs.Sessions.{begun, is_declared, has_primary, declaration, exceeds, due_prewrite, due_commit, due_abort, can_draw, can_commit, can_abort, with_passed, finish_of};
 ghost use Rattle.tx_client.specs.Statuses.{lies_above};
-ghost use Rattle.tx_client.specs.Senders.{IsHeld, IsWay, came_by};
+ghost use Rattle.tx_client.specs.Senders.{IsHeld, IsWay};
 ghost use Rattle.tx_client.specs.Walks.{Sends, due_walk, heartbeat_walk};
 ghost use Rattle.tx_client.specs.Facts.{CameSo, IsFor};
 ghost use Rattle.tx_client.specs.Calls.{seated, HasHeard, BeganAt, Records, Draws, RecordsDeclared, Asks, IsDecidedSo};
 
 mod reads;
 
+use crate::asking::ask;
 use crate::resolved::{Decision, Met, Resolved};
 use crate::sender::Sender;
 use crate::state::{Came, Due, Miss, Phase, Terms};
@@ -71,25 +71,6 @@ fn record_answered<J: Naming>(seat: &mut Seat<J>, start: Ts, outcome: &Outcome)
     ensures { Records J.bounds seat.old (Answered start outcome.now) seat.new }
 {
     add(seat, Event::Answered(start, *outcome));
-}
-
-// The answer of a reply, and its history.
-fn parts_of<J: Naming>(reply: Reply<J>) -> (Option<Answer>, Told<J>)
-    ensures parts { (result.0 ≡ reply.answer) × (result.1 ≡ reply.events) }
-    ensures given { IsGiven J.bounds reply }
-{
-    let (_, answer, told) = reply.into_parts();
-    (answer, told)
-}
-
-// What a reply comes to.
-fn came_by(answer: Option<Answer>) -> Came
-    ensures { result ≡ came_by answer }
-{
-    match answer {
-        Some(answer) => Came::Said(answer),
-        None => Came::Unsaid,
-    }
 }
 
 impl<J: Naming> Session<J> {
@@ -232,15 +213,7 @@ impl<J: Naming> Session<J> {
         ensures asked { Asks S.sends J.bounds self.old.seat body sender.old sender.new result self.new.seat }
         ensures told { CameSo self.new.seat.events body result }
     {
-        let told = self.seat.tell();
-        match sender.send(Request::new(told, body)) {
-            Err(_) => Came::Lost,
-            Ok(reply) => {
-                let (answer, told) = parts_of(reply);
-                self.seat.learn(told);
-                came_by(answer)
-            }
-        }
+        ask(&mut self.seat, body, sender)
     }
 
     // Sends the request of a phase that is due.

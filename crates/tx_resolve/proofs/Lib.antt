@@ -1,0 +1,10 @@
+-- What a resolver knows stays so while it asks, and how sends follow one another.
+pub mod Knowing
+-- What a resolver asks is allowed.
+pub mod Allowing
+-- What answers to a resolver tell is so.
+pub mod Finding
+-- Where each key had an async lock, their transaction is committed at the greatest minimum.
+pub mod Greatest
+-- The other keys are asked one after another.
+pub mod Others
