@@ -6,6 +6,8 @@ mod commands;
 mod records;
 mod region;
 mod routing;
+#[cfg(test)]
+mod table_tests;
 
 pub use records::Records;
 pub use region::Region;

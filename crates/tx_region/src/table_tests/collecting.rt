@@ -1,0 +1,137 @@
+//! The rows of RaiseSafe, LocksBelow and Collect.
+use crate::table_tests::asked::Ask::{
+    self, BatchRollback, Collect, Commit, Get, LocksBelow, Prewrite, RaiseSafe,
+};
+use crate::table_tests::asked::What::*;
+use crate::table_tests::rows::{RegionRow, Row, first_wrong, first_wrong_in_region};
+use crate::table_tests::shown::Word::*;
+use crate::table_tests::shown::{BARE, FUTURE, RAISED, Short};
+use crate::table_tests::states::*;
+use tx_cells::NestedCells;
+
+// A read at 6.
+const READ: &[Ask] = &[Get(b'k', 6, 0)];
+
+const RAISE_SAFE: [RegionRow; 5] = [
+    (SAFE, RaiseSafe(21), FUTURE, [0, 3, 0]),
+    (SAFE, RaiseSafe(2), (BelowSafePoint, 3, 0), [0, 3, 0]),
+    (SAFE, RaiseSafe(3), RAISED, [0, 3, 0]),
+    (SAFE, RaiseSafe(20), RAISED, [0, 20, 0]),
+    (READ, RaiseSafe(5), RAISED, [6, 5, 0]),
+];
+
+// Locks on `a` by 3 and on `c` by 7.
+const TWO_LOCKS: &[Ask] = &[Prewrite(b'c', 7, Lock), Prewrite(b'a', 3, Put(1))];
+
+const LOCKS_BELOW: [RegionRow; 5] = [
+    (FREE, LocksBelow(20), (Locks, 0, 0), [0, 0, 0]),
+    (TWO_LOCKS, LocksBelow(3), (Locks, 0, 0), [0, 0, 0]),
+    (TWO_LOCKS, LocksBelow(4), (Locks, 1, 3), [0, 0, 0]),
+    (TWO_LOCKS, LocksBelow(7), (Locks, 1, 3), [0, 0, 0]),
+    (TWO_LOCKS, LocksBelow(8), (Locks, 2, 7), [0, 0, 0]),
+];
+
+const SAFE_5: &[Ask] = &[RaiseSafe(5)];
+
+// Of these locks the first by key is met.
+const REMAINING: &[Ask] = &[
+    Prewrite(b'c', 4, Lock),
+    Prewrite(b'a', 3, Lock),
+    RaiseSafe(5),
+];
+
+// This lock did not start below the safe point.
+const LATER_LOCK: &[Ask] = &[Prewrite(b'a', 5, Lock), RaiseSafe(5)];
+
+const NONE_GO: Short = (Collected, 0, 0);
+
+const COLLECT: [RegionRow; 5] = [
+    (SAFE_5, Collect(4), (BelowSafePoint, 5, 0), [0, 5, 0]),
+    (SAFE_5, Collect(6), (BelowSafePoint, 5, 0), [0, 5, 0]),
+    (REMAINING, Collect(5), (LocksRemain, 3, 4), [0, 5, 0]),
+    (LATER_LOCK, Collect(5), NONE_GO, [0, 5, 5]),
+    (FREE, Collect(0), NONE_GO, [0, 0, 0]),
+];
+
+// A put at 2, a newer one at 4, and a rollback at the safe point.
+const TWO_PUTS: &[Ask] = &[
+    Prewrite(b'k', 1, Put(300)),
+    Commit(b'k', 1, 2),
+    Prewrite(b'k', 3, Put(300)),
+    Commit(b'k', 3, 4),
+    BatchRollback(b'k', 5),
+    RaiseSafe(5),
+];
+
+// A put at 2 that is deleted at 4.
+const DELETED: &[Ask] = &[
+    Prewrite(b'k', 1, Put(300)),
+    Commit(b'k', 1, 2),
+    Prewrite(b'k', 3, Delete),
+    Commit(b'k', 3, 4),
+    RaiseSafe(5),
+];
+
+// A put at 2, and one at the safe point.
+const PUT_AT_SAFE: &[Ask] = &[
+    Prewrite(b'k', 1, Put(1)),
+    Commit(b'k', 1, 2),
+    Prewrite(b'k', 4, Put(1)),
+    Commit(b'k', 4, 5),
+    RaiseSafe(5),
+];
+
+// A put at 2, a lock's record at the safe point, a rollback and a lock's record below it.
+const PUT_AND_OTHERS: &[Ask] = &[
+    Prewrite(b'k', 1, Put(1)),
+    Commit(b'k', 1, 2),
+    Prewrite(b'k', 2, Lock),
+    Commit(b'k', 2, 3),
+    BatchRollback(b'k', 4),
+    Prewrite(b'k', 3, Lock),
+    Commit(b'k', 3, 5),
+    RaiseSafe(5),
+];
+
+const TWO_AND_LONG: [u64; 6] = [0, 0, 2, 5, 0, 1];
+
+const TWO: [u64; 6] = [0, 0, 2, 5, 0, 0];
+
+const COLLECT_ON_KEY: [Row; 4] = [
+    (TWO_PUTS, Collect(5), (Collected, 1, 1), TWO_AND_LONG),
+    (DELETED, Collect(5), (Collected, 2, 1), BARE),
+    (PUT_AT_SAFE, Collect(5), (Collected, 1, 0), AT_5),
+    (PUT_AND_OTHERS, Collect(5), (Collected, 2, 0), TWO),
+];
+
+#[test]
+fn rows_of_raise_safe(rt: HostRuntime) {
+    assert_eq!(rt;
+        first_wrong_in_region::<NestedCells>(rt.alloc(), &RAISE_SAFE),
+        None
+    );
+}
+
+#[test]
+fn rows_of_locks_below(rt: HostRuntime) {
+    assert_eq!(rt;
+        first_wrong_in_region::<NestedCells>(rt.alloc(), &LOCKS_BELOW),
+        None
+    );
+}
+
+#[test]
+fn rows_of_collect(rt: HostRuntime) {
+    assert_eq!(rt;
+        first_wrong_in_region::<NestedCells>(rt.alloc(), &COLLECT),
+        None
+    );
+}
+
+#[test]
+fn rows_of_collect_on_a_key(rt: HostRuntime) {
+    assert_eq!(rt;
+        first_wrong::<NestedCells>(rt.alloc(), &COLLECT_ON_KEY),
+        None
+    );
+}

@@ -1,0 +1,54 @@
+//! The rows of Prewrite.
+use crate::table_tests::asked::Ask::{self, Async, Get, Prewrite};
+use crate::table_tests::asked::What::*;
+use crate::table_tests::rows::{Row, first_wrong};
+use crate::table_tests::shown::Word::*;
+use crate::table_tests::shown::{ALREADY_ROLLED_BACK, BARE, FUTURE, Short};
+use crate::table_tests::states::*;
+use tx_cells::NestedCells;
+
+// In two phases, and async.
+const PLAIN: Ask = Prewrite(b'k', 5, Put(1));
+
+const PROMISING: Ask = Async(b'k', 5, 0);
+
+const LOCKED: Short = (Prewritten, 0, 0);
+
+// A read at 11.
+const READ: &[Ask] = &[Get(b'k', 11, 0)];
+
+const LOCK_12: [u64; 6] = [12, 10, 0, 0, 0, 0];
+
+const LOCK_16: [u64; 6] = [16, 10, 0, 0, 0, 0];
+
+const LOCK_AND_LONG: [u64; 6] = [6, 10, 0, 0, 0, 1];
+
+const LOCK_ON_5: [u64; 6] = [6, 10, 1, 5, 0, 0];
+
+const AT_10: [u64; 6] = [0, 0, 1, 10, 0, 0];
+
+const ROWS: [Row; 18] = [
+    (SAFE, Prewrite(b'k', 2, Lock), (BelowSafePoint, 3, 0), BARE),
+    (FREE, Prewrite(b'k', 21, Lock), FUTURE, BARE),
+    (OWN, PLAIN, LOCKED, LOCK_6),
+    (ASYNC, PROMISING, (Prewritten, 7, 0), LOCK_7),
+    (UNDONE, PLAIN, ALREADY_ROLLED_BACK, AT_5),
+    (MARKED, PLAIN, ALREADY_ROLLED_BACK, MARK_5),
+    (DONE, PLAIN, (AlreadyCommitted, 8, 0), AT_8),
+    (OTHERS, PLAIN, (KeyIsLocked, 4, 5), LOCK_5),
+    (NEWER, PLAIN, (WriteConflict, 8, 10), AT_10),
+    (SHARED, PLAIN, LOCKED, LOCK_ON_5),
+    (FREE, Prewrite(b'k', 5, Put(255)), LOCKED, LOCK_6),
+    (FREE, Prewrite(b'k', 5, Put(256)), LOCKED, LOCK_AND_LONG),
+    (FREE, Prewrite(b'k', 5, Delete), LOCKED, LOCK_6),
+    (FREE, Prewrite(b'k', 5, Lock), LOCKED, LOCK_6),
+    (READ, PROMISING, (Prewritten, 12, 0), LOCK_12),
+    (READ, Async(b'k', 15, 0), (Prewritten, 16, 0), LOCK_16),
+    (READ, Async(b'k', 5, 12), (Prewritten, 12, 0), LOCK_12),
+    (READ, Async(b'k', 5, 11), LOCKED, LOCK_6),
+];
+
+#[test]
+fn rows_of_prewrite(rt: HostRuntime) {
+    assert_eq!(rt; first_wrong::<NestedCells>(rt.alloc(), &ROWS), None);
+}
