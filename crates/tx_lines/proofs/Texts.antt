@@ -72,3 +72,11 @@ if_ok (Err e) x a b is f = tt
 pub on_ok : {T E : Type 0} {P Q : Type 0} (r : Result T E) → OnOk r P → (P → Q) → OnOk r Q
 on_ok (Ok v) p f = f p
 on_ok (Err e) p f = tt
+
+abbrev pub committed_text : List ℕ
+committed_text = codes ",\"committed\""
+
+-- the word and a number, as they are written
+pub committed_is : (old : List ℕ) (n : ℕ) → old ++ (committed_text ++ 44 ∷ decimal n) ≡ old ++ members_text (item (string (codes "committed")) (item (number (unsigned n)) no_items))
+unfolding escape_byte
+committed_is old n = ap (λ t. old ++ (committed_text ++ 44 ∷ t)) (sym (append-nil (decimal n)))

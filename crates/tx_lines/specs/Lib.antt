@@ -3,3 +3,4 @@ pub mod Output
 pub mod Parts
 pub mod Scan
 pub mod Texts
+pub mod Replies

@@ -5,10 +5,12 @@
 //! is the judge. Nothing is allocated for a plain line.
 #![tactic(auto)]
 
+mod answer;
 mod end;
 mod lines;
 mod output;
 mod part;
+mod reply;
 mod scan;
 mod text;
 mod value;
@@ -17,6 +19,7 @@ pub use end::{Broken, End};
 pub use lines::{Found, read_line};
 pub use output::{finish, send};
 pub use part::{MAX_PARTS, Part, Parts, parts_of};
+pub use reply::{REFUSAL_BYTES, Reply, put_reply};
 pub use scan::scanned;
 pub use text::{put_number, put_text};
 pub use value::value_of;

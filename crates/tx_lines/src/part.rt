@@ -9,7 +9,7 @@ use arrayvec::ArrayVec;
 use serde_json::Value;
 
 /// The most members that a step has.
-pub const MAX_PARTS: usize = 6;
+pub const MAX_PARTS: usize = 7;
 
 /// A member: a string, a whole number from 0 to 2^64 - 1, or what else a value may be.
 #[derive(Clone, Copy, Debug, Drop)]

@@ -9,7 +9,7 @@ use itoa::Buffer;
 use std::alloc::AllocError;
 
 /// Appends a number in decimal digits.
-pub fn put_number(out: &mut Vec<u8>, n: u64) -> Result<(), AllocError>
+pub(crate) fn put_digits(out: &mut Vec<u8>, n: u64) -> Result<(), AllocError>
     ensures { OnOk result (out.new.items ≡ out.old.items ++ decimal n) }
 {
     let mut buffer = Buffer::new();
@@ -82,8 +82,8 @@ fn put_escaped(out: &mut Vec<u8>, bytes: &[u8]) -> Result<(), AllocError>
     Ok(())
 }
 
-/// Appends bytes as a JSON string, `null` where they are no UTF-8.
-pub fn put_text(out: &mut Vec<u8>, bytes: &[u8]) -> Result<(), AllocError>
+// Bytes as a string, `null` where they are no UTF-8.
+fn put_string(out: &mut Vec<u8>, bytes: &[u8]) -> Result<(), AllocError>
     ensures { OnOk result (out.new.items ≡ out.old.items ++ compact_text (text_of bytes.now)) }
 {
     if str::from_utf8(bytes).is_err() {
@@ -92,4 +92,28 @@ pub fn put_text(out: &mut Vec<u8>, bytes: &[u8]) -> Result<(), AllocError>
     out.extend_from_slice(b"\"")?;
     put_escaped(out, bytes)?;
     out.extend_from_slice(b"\"")
+}
+
+/// Appends a comma and a number.
+pub fn put_number(out: &mut Vec<u8>, n: u64) -> Result<(), AllocError>
+    ensures { OnOk result (out.new.items ≡ out.old.items ++ 44 ∷ decimal n) }
+{
+    out.extend_from_slice(b",")?;
+    put_digits(out, n)
+}
+
+/// Appends a comma and bytes as a JSON string, `null` where they are no UTF-8.
+pub fn put_text(out: &mut Vec<u8>, bytes: &[u8]) -> Result<(), AllocError>
+    ensures { OnOk result (out.new.items ≡ out.old.items ++ 44 ∷ compact_text (text_of bytes.now)) }
+{
+    out.extend_from_slice(b",")?;
+    put_string(out, bytes)
+}
+
+/// Appends a word, as it is written, a comma and a number.
+pub(crate) fn put_stamped(out: &mut Vec<u8>, word: &[u8], n: u64) -> Result<(), AllocError>
+    ensures { OnOk result (out.new.items ≡ out.old.items ++ (word.now ++ 44 ∷ decimal n)) }
+{
+    out.extend_from_slice(word)?;
+    put_number(out, n)
 }

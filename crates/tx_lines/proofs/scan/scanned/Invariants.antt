@@ -7,4 +7,4 @@ abbrev pub invariant-parts : goal.invariant-parts
 invariant-parts l = (l.at ≤ length l.line) × ReadParts l.line l.parts.items (drop l.at l.line)
 
 abbrev pub decreases-parts : goal.decreases-parts
-decreases-parts l = 6 - array_vec_len l.parts
+decreases-parts l = 7 - array_vec_len l.parts

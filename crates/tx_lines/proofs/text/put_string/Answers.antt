@@ -2,7 +2,7 @@ use Rattle.std.proofs.Common.{rules, ◌≡◌, ◌++◌, ◌∷◌, [], ap, ◌
 use Rattle.std.specs.Prelude.{IsUtf8}
 use Rattle.json.specs.Print.{escape}
 use Rattle.tx_lines.proofs.Texts.{text_is, null_is, if_ok}
-use Rattle.tx_lines.proofs.text.put_text.Goals as goal
+use Rattle.tx_lines.proofs.text.put_string.Goals as goal
 
 pub returns-then-is_err : goal.returns-then-is_err
 returns-then-is_err c =
