@@ -15,9 +15,8 @@ returns-then-is_over c =
 
 pub parts-preserved : goal.parts-preserved
 parts-preserved c =
-    let left = drop c.in_ok-at-2.at c.args.line.now in
-    (
+    let left = drop c.in_ok-at-2.at c.args.line.now in (
       c.in_ok-at-2.ensures.range,
       subst (λ parts. ReadParts c.args.line.now parts left) (sym c.push.ensures.items)
-      (read_more c.args.line.now c.parts.parts.items c.in_ok-part.part _ _ left c.parts.invariant.1 c.in_ok-part.ensures.begins c.in_ok-at-2.ensures.same),
+          (read_more c.args.line.now c.parts.parts.items c.in_ok-part.part _ _ left c.parts.invariant.1 c.in_ok-part.ensures.begins c.in_ok-at-2.ensures.same),
     )
