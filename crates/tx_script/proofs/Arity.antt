@@ -2,6 +2,8 @@
 use Rattle.std.proofs.Common.{◌≡◌, ◌≢◌, List, [], ◌∷◌, None, length, refl}
 use Rattle.serde_json.specs.View.{items_view}
 use Rattle.serde_json.specs.declared.value.Value.{Value}
+use Rattle.tx_lines.specs.declared.part.Part.{Part}
+use Rattle.tx_lines.specs.Parts.{parts_items}
 use Rattle.tx_script.specs.MachineSteps.{change_of_items, row_of_items, step_of_items}
 
 -- a change has two or three members
@@ -20,7 +22,7 @@ no_row (v ∷ w ∷ []) a = absurd (a refl)
 no_row (v ∷ w ∷ x ∷ more) a = refl
 
 -- a step has two, three, four or six
-pub no_step : (members : List Value) → length members ≢ 2 → length members ≢ 3 → length members ≢ 4 → length members ≢ 6 → step_of_items (items_view members) ≡ None
+pub no_step : (members : List Part) → length members ≢ 2 → length members ≢ 3 → length members ≢ 4 → length members ≢ 6 → step_of_items (parts_items members) ≡ None
 no_step [] a b c d = refl
 no_step (v ∷ []) a b c d = refl
 no_step (v ∷ w ∷ []) a b c d = absurd (a refl)

@@ -10,10 +10,10 @@ use Rattle.tx_core.specs.Histories.{last}
 use Rattle.tx_core.proofs.Basics.{some_same}
 use Rattle.tx_client.specs.two_phase.Sessions.{State, finish_of}
 use Rattle.tx_script.specs.declared.engine.Engine.{Engine}
-use Rattle.tx_script.specs.declared.reply.Reply.{Reply}
-use Rattle.tx_script.specs.declared.reply.Reply.TheVariants as reply
+use Rattle.tx_lines.specs.declared.reply.Reply.{Reply}
+use Rattle.tx_lines.specs.declared.reply.Reply.TheVariants as reply
 use Rattle.tx_script.specs.Steps.{Asked, begin, put, get, declare, prewrite, draw, commit, finish}
-use Rattle.tx_script.specs.Replies.{reply_words, with_number}
+use Rattle.tx_lines.specs.Replies.{reply_words, with_number}
 use Rattle.tx_script.specs.Scenes.{Scene, Turn, goes, began, finished, begins, finishes, finishes_by, calls, in_session, session_of, session_turn, puts, gets, declares, prewrites, draws, commits, turn, is_name}
 use Rattle.tx_script.specs.Play.{Leads}
 use Rattle.tx_script.specs.Stands.{Holds, Stands, EngineGoes, EngineStops, SessionGoes, SessionStops}

@@ -1,7 +1,3 @@
--- Small facts on lists, and on the lines of a text.
-pub mod TextLines
--- The line of E12.
-pub mod Refusals
 -- Lists of members, read one by one.
 pub mod Members
 -- Values with too few or too many members.

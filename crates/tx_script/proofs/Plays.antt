@@ -3,8 +3,8 @@ use Rattle.std.proofs.Common.{ℕ, ◌+◌, Bool, List, [], ◌∷◌, length, n
 use Rattle.serde_json.specs.Data.{Data, Items}
 use Rattle.tx_types.specs.declared.fault.Cause.{Cause}
 use Rattle.tx_core.specs.Worlds.{IsWorldRun}
-use Rattle.tx_script.specs.Lines.{max_line, max_lines}
-use Rattle.tx_script.specs.Check.{json_of}
+use Rattle.tx_lines.specs.Lines.{max_line, max_lines}
+use Rattle.tx_lines.specs.Parts.{json_of}
 use Rattle.tx_script.specs.Steps.{Asked, script_step_of}
 use Rattle.tx_script.specs.Scenes.{Scene, opening, Turn, goes, asks, stops}
 use Rattle.tx_script.specs.Play.{asked_turn, value_turn, line_turn, Leads, Played, Plays, IsPlay}

@@ -1,11 +1,11 @@
 -- Values with too few or too many members for a step of a script.
 use Rattle.std.proofs.Common.{◌≡◌, ◌≢◌, List, [], ◌∷◌, None, length, refl}
-use Rattle.serde_json.specs.View.{items_view}
-use Rattle.serde_json.specs.declared.value.Value.{Value}
+use Rattle.tx_lines.specs.declared.part.Part.{Part}
+use Rattle.tx_lines.specs.Parts.{parts_items}
 use Rattle.tx_script.specs.Steps.{script_step_of_items}
 
 -- a step has two, three or four
-pub no_script_step : (members : List Value) → length members ≢ 2 → length members ≢ 3 → length members ≢ 4 → None ≡ script_step_of_items (items_view members)
+pub no_script_step : (members : List Part) → length members ≢ 2 → length members ≢ 3 → length members ≢ 4 → None ≡ script_step_of_items (parts_items members)
 no_script_step [] a b c = refl
 no_script_step (v ∷ []) a b c = refl
 no_script_step (v ∷ w ∷ []) a b c = absurd (a refl)

@@ -6,18 +6,19 @@ use Rattle.std.proofs.KnownBytes.{Appends-nil, Appends-trans, Appends-kept}
 use Rattle.serde_json.specs.Data.{Data, Items}
 use Rattle.tx_types.specs.declared.fault.Cause.{Cause}
 use Rattle.tx_types.specs.declared.fault.Cause.TheVariants as cause
-use Rattle.tx_script.specs.declared.end.Broken.{Broken}
-use Rattle.tx_script.specs.declared.end.Broken.TheVariants.{Output}
-use Rattle.tx_script.specs.declared.end.End.TheVariants.{Well, Faulted}
+use Rattle.tx_lines.specs.declared.end.Broken.{Broken}
+use Rattle.tx_lines.specs.declared.end.Broken.TheVariants.{Output}
+use Rattle.tx_lines.specs.declared.end.End.TheVariants.{Well, Faulted}
 use Rattle.tx_script.specs.declared.script.Turned.{Turned}
-use Rattle.tx_script.specs.declared.reply.Reply.{Reply}
+use Rattle.tx_lines.specs.declared.reply.Reply.{Reply}
 use Rattle.tx_script.specs.declared.engine.Engine.{Engine}
-use Rattle.tx_script.specs.Lines.{lines_of, max_line, max_lines}
-use Rattle.tx_script.specs.Output.{BreaksText}
-use Rattle.tx_script.specs.Check.{json_of}
-use Rattle.tx_script.specs.Steps.{Asked, script_step_of}
-use Rattle.tx_script.specs.Replies.{reply_words, fault_words, reply_text, render}
-use Rattle.tx_script.specs.Scenes.{Scene, opening, Turn, goes, asks, stops, turn}
+use Rattle.tx_lines.specs.Lines.{lines_of, max_line, max_lines}
+use Rattle.tx_lines.specs.Output.{BreaksText}
+use Rattle.tx_lines.specs.Parts.{json_of}
+use Rattle.tx_script.specs.Steps.{script_step_of}
+use Rattle.tx_lines.specs.Replies.{reply_words, reply_text}
+use Rattle.tx_script.specs.Replies.{fault_words, render}
+use Rattle.tx_script.specs.Scenes.{Scene, opening, Turn, goes, asks, stops}
 use Rattle.tx_script.specs.Play.{value_turn, asked_turn, line_turn, Leads, Played, before, Plays, IsPlay, EndsScript, BreaksScript}
 use Rattle.tx_script.specs.Stands.{Stands, GoesOn, EngineGoes, EngineStops, PlaysLine}
 use Rattle.tx_script.proofs.Plays.{is_play}
@@ -51,11 +52,8 @@ module _ (refused : List Bool) (number : ℕ) (line : List ℕ) (scene : Scene) 
   pub json_turn : json_of line ≡ None → line_turn refused number line scene ≡ stops cause.Json
   json_turn e = line_is ∙ ap (λ o. value_turn refused o scene) e
 
-  pub form_turn : (d : Data) → json_of line ≡ Some d → script_step_of d ≡ None → line_turn refused number line scene ≡ stops cause.Form
-  form_turn d e none = line_is ∙ ap (λ o. value_turn refused o scene) e ∙ ap (λ o. asked_turn refused o scene) none
-
-  pub step_turn : (d : Data) (step : Asked) → json_of line ≡ Some d → script_step_of d ≡ Some step → line_turn refused number line scene ≡ turn refused step scene
-  step_turn d step e some = line_is ∙ ap (λ o. value_turn refused o scene) e ∙ ap (λ o. asked_turn refused o scene) some
+  pub said_turn : (d : Data) → json_of line ≡ Some d → line_turn refused number line scene ≡ asked_turn refused (script_step_of d) scene
+  said_turn d e = line_is ∙ ap (λ o. value_turn refused o scene) e
 
 pub lines_turn : (refused : List Bool) (number : ℕ) (line : List ℕ) (scene : Scene) → length line ≤ max_line → max_lines < number → line_turn refused number line scene ≡ stops cause.Lines
 lines_turn refused number line scene short late = rw (le-ltb max_line (length line) short, lt-ltb max_lines number late) refl

@@ -1,5 +1,5 @@
 -- The steps of one session: which scene follows, and that the store holds what it holds then.
-use Rattle.std.proofs.Common.{◌≡◌, ℕ, ◌+◌, ◌≤◌, inl, inr, Bool, true, false, List, [], ◌∷◌, ◌++◌, Option, Some, None, is_some, bytes_eq, codes, refl, ap, subst, ◌∙◌, arith}
+use Rattle.std.proofs.Common.{◌≡◌, ℕ, ◌+◌, inl, inr, Bool, true, false, List, [], ◌∷◌, ◌++◌, Option, Some, None, is_some, bytes_eq, codes, refl, ap, subst, ◌∙◌}
 use Rattle.std.specs.Map.{update}
 use Rattle.tx_plan.specs.declared.body.Body.{Body}
 use Rattle.tx_plan.specs.declared.answer.Answer.{Answer}
@@ -13,9 +13,9 @@ use Rattle.tx_client.specs.two_phase.Buffers.{buffered}
 use Rattle.tx_client.specs.declared.two_phase.state.Phase.{Phase}
 use Rattle.tx_client.specs.two_phase.Sessions.{State, Due, declaration, heard, missed, with_declared, with_drawn}
 use Rattle.tx_script.specs.declared.store.Store.{Store}
-use Rattle.tx_script.specs.declared.reply.Reply.{Reply}
-use Rattle.tx_script.specs.declared.reply.Reply.TheVariants as reply
-use Rattle.tx_script.specs.Replies.{alone, with_number, answer_words, reply_words}
+use Rattle.tx_lines.specs.declared.reply.Reply.{Reply}
+use Rattle.tx_lines.specs.declared.reply.Reply.TheVariants as reply
+use Rattle.tx_lines.specs.Replies.{alone, with_number, answer_words, reply_words}
 use Rattle.tx_script.specs.Scenes.{Scene, Turn, goes, asks, is_key, with_session, declared_in, declared, drew, took, read_of, gets_by, gets, sends}
 use Rattle.tx_script.specs.Play.{Leads}
 use Rattle.tx_script.specs.Stands.{Holds, Moves, SessionGoes, region_in}

@@ -8,7 +8,7 @@ use Rattle.tx_machine.specs.Machine.{empty, table_of, IsRun}
 use Rattle.tx_machine.specs.Representation.{Represents}
 use Rattle.tx_script.specs.declared.checker.Turn.TheVariants as turn
 use Rattle.tx_script.specs.declared.words.Verdict.TheVariants.{Yes, No, Fault}
-use Rattle.tx_script.specs.Lines.{lines_of}
+use Rattle.tx_lines.specs.Lines.{lines_of}
 use Rattle.tx_script.specs.Check.{step_in, Says, Reaches, IsVerdict}
 use Rattle.tx_script.proofs.Verdicts.{only}
 use Rattle.tx_script.specs.Turns.{Turns}

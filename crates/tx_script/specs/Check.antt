@@ -1,28 +1,24 @@
 -- What a check of a trace says. Lists of steps that a run is made of are newest first.
 use Rattle.std.specs.Prelude.{◌≡◌, ◌⊎◌, ℕ, ◌+◌, List, [], ◌∷◌, ◌++◌, reverse, nat_lt, length, Option, Some, None, Result, Ok, Err, if◌then◌else◌}
-use Rattle.std.specs.Str.{is_utf8}
 use Rattle.std.specs.Io.KnownBytes.{Appends}
 use Rattle.serde_json.specs.Data.{Data}
-use Rattle.serde_json.specs.Read.{read}
 use Rattle.tx_types.specs.declared.fault.Cause.{Cause}
 use Rattle.tx_types.specs.declared.fault.Cause.TheVariants.{Json, Form, Long, Lines}
 use Rattle.tx_machine.specs.declared.step.Step.{Step}
 use Rattle.tx_machine.specs.Machine.{Admits, table_of, IsRun}
-use Rattle.tx_script.specs.declared.end.Broken.{Broken}
-use Rattle.tx_script.specs.declared.end.Broken.TheVariants.{Output}
-use Rattle.tx_script.specs.declared.end.End.{End}
-use Rattle.tx_script.specs.declared.end.End.TheVariants.{Well, Faulted}
-use Rattle.tx_script.specs.declared.end.End.TheVariants as ended
+use Rattle.tx_lines.specs.declared.end.Broken.{Broken}
+use Rattle.tx_lines.specs.declared.end.Broken.TheVariants.{Output}
+use Rattle.tx_lines.specs.declared.end.End.{End}
+use Rattle.tx_lines.specs.declared.end.End.TheVariants.{Well, Faulted}
+use Rattle.tx_lines.specs.declared.end.End.TheVariants as ended
 use Rattle.tx_script.specs.declared.words.Verdict.{Verdict}
 use Rattle.tx_script.specs.declared.words.Verdict.TheVariants.{Yes, No, Fault}
-use Rattle.tx_script.specs.Lines.{lines_of, max_line, max_lines}
+use Rattle.tx_lines.specs.Lines.{lines_of, max_line, max_lines}
+use Rattle.tx_lines.specs.Parts.{json_of}
 use Rattle.tx_script.specs.MachineSteps.{step_of}
-use Rattle.tx_script.specs.Output.{AppendsPart}
-use Rattle.tx_script.specs.Words.{words, line_text}
-
--- the value of a line, as `serde_json` reads it
-abbrev pub json_of : List ℕ → Option Data
-json_of line = if is_utf8 line then read line else None
+use Rattle.tx_lines.specs.Output.{AppendsPart}
+use Rattle.tx_lines.specs.Texts.{line_text}
+use Rattle.tx_script.specs.Words.{words}
 
 -- a value that says no step is `form`
 abbrev pub step_of_form : Option Step → Result Step Cause

@@ -1,5 +1,3 @@
-pub mod Lines
-pub mod Output
 pub mod Words
 pub mod MachineSteps
 pub mod Check

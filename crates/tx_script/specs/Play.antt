@@ -8,12 +8,12 @@ use Rattle.tx_plan.specs.declared.answer.Answer.{Answer}
 use Rattle.tx_plan.specs.Answers.{AnswersLeast}
 use Rattle.tx_core.specs.Histories.{History, last, left}
 use Rattle.tx_core.specs.Worlds.{IsWorldRun}
-use Rattle.tx_script.specs.declared.end.Broken.{Broken}
-use Rattle.tx_script.specs.declared.end.Broken.TheVariants.{Output}
-use Rattle.tx_script.specs.declared.end.End.{End}
-use Rattle.tx_script.specs.declared.end.End.TheVariants.{Well, Faulted}
-use Rattle.tx_script.specs.Lines.{lines_of, max_line, max_lines}
-use Rattle.tx_script.specs.Check.{json_of}
+use Rattle.tx_lines.specs.declared.end.Broken.{Broken}
+use Rattle.tx_lines.specs.declared.end.Broken.TheVariants.{Output}
+use Rattle.tx_lines.specs.declared.end.End.{End}
+use Rattle.tx_lines.specs.declared.end.End.TheVariants.{Well, Faulted}
+use Rattle.tx_lines.specs.Lines.{lines_of, max_line, max_lines}
+use Rattle.tx_lines.specs.Parts.{json_of}
 use Rattle.tx_script.specs.Steps.{Asked, script_step_of}
 use Rattle.tx_script.specs.Replies.{fault_words, render}
 use Rattle.tx_script.specs.Scenes.{Scene, opening, Turn, goes, asks, stops, turn}

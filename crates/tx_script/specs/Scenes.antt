@@ -20,7 +20,7 @@ use Rattle.tx_client.specs.declared.two_phase.state.Phase.TheVariants as phase
 use Rattle.tx_client.specs.two_phase.Buffers.{Entries, touched, buffered}
 use Rattle.tx_client.specs.two_phase.Sessions.{State, begun, with_buffer, with_declared, with_drawn, is_declared, has_primary, declaration, Due, due_prewrite, due_commit, can_draw, can_commit, heard, missed, finish_of}
 use Rattle.tx_script.specs.Steps.{Asked, begin, put, get, declare, prewrite, draw, commit, finish}
-use Rattle.tx_script.specs.Replies.{alone, with_number, answer_words, outcome_words}
+use Rattle.tx_lines.specs.Replies.{alone, with_number, answer_words, outcome_words}
 
 -- where a script stands: what has happened, the live sessions by name, how many they are, and how many sessions have begun
 pub record Scene : Type 0 where

@@ -1,5 +1,5 @@
 -- What the engine of a script holds of a scene, and what a step of it leaves.
-use Rattle.std.specs.Prelude.{◌≡◌, ◌≤◌, ℕ, List, [], ◌∷◌, ◌++◌, Bool, Option, Some, length, bytes_eq}
+use Rattle.std.specs.Prelude.{◌≡◌, ℕ, List, [], ◌∷◌, ◌++◌, Bool, Option, Some, length, bytes_eq}
 use Rattle.std.specs.Map.{update}
 use Rattle.std.specs.BTreeMap.{get_by_text}
 use Rattle.tx_types.specs.declared.fault.Cause.{Cause}
@@ -10,10 +10,10 @@ use Rattle.tx_region.specs.Regions.{region_of}
 use Rattle.tx_client.specs.two_phase.Sessions.{State}
 use Rattle.tx_script.specs.declared.engine.Engine.{Engine}
 use Rattle.tx_script.specs.declared.store.Store.{Store}
-use Rattle.tx_script.specs.declared.reply.Reply.{Reply}
+use Rattle.tx_lines.specs.declared.reply.Reply.{Reply}
 use Rattle.tx_script.specs.declared.script.Turned.{Turned}
-use Rattle.tx_script.specs.Lines.{lines_of}
-use Rattle.tx_script.specs.Replies.{reply_words}
+use Rattle.tx_lines.specs.Lines.{lines_of}
+use Rattle.tx_lines.specs.Replies.{reply_words}
 use Rattle.tx_script.specs.Scenes.{Scene, Turn, stops}
 use Rattle.tx_script.specs.Play.{Leads, line_turn}
 

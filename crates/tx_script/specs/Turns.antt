@@ -6,7 +6,7 @@ use Rattle.tx_machine.specs.Machine.{Table, Admits, after}
 use Rattle.tx_machine.specs.Representation.{Represents}
 use Rattle.tx_script.specs.declared.checker.Turn.{Turn}
 use Rattle.tx_script.specs.declared.checker.Turn.TheVariants.{End, Made, Refused, Faulted}
-use Rattle.tx_script.specs.Lines.{lines_of}
+use Rattle.tx_lines.specs.Lines.{lines_of}
 use Rattle.tx_script.specs.Check.{step_in}
 
 -- what came of the first line of these bytes, which has this number, at a machine

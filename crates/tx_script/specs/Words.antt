@@ -1,7 +1,6 @@
--- The words of replies and causes, and the lines that say them.
-use Rattle.std.specs.Prelude.{ℕ, List, [], ◌∷◌, ◌++◌, codes}
-use Rattle.serde_json.specs.Data.{Items, no_items, item, number, unsigned, string, array}
-use Rattle.serde_json.specs.Written.{compact_text}
+-- The words of verdicts and causes.
+use Rattle.std.specs.Prelude.{ℕ, List, codes}
+use Rattle.serde_json.specs.Data.{Items, no_items, item, number, unsigned, string}
 use Rattle.tx_types.specs.declared.fault.Cause.{Cause}
 use Rattle.tx_types.specs.declared.fault.Cause.TheVariants.{Json, Form, Name, Order, Long, Lines, Sessions}
 use Rattle.tx_script.specs.declared.words.Verdict.{Verdict}
@@ -22,7 +21,3 @@ abbrev pub words : Verdict → Items
 words Yes = item (string (codes "check")) (item (string (codes "yes")) no_items)
 words (No n) = item (string (codes "check")) (item (string (codes "no")) (item (number (unsigned n)) no_items))
 words (Fault n cause) = item (number (unsigned n)) (item (string (codes "E16")) (item (string (word_of cause)) no_items))
-
--- the line that says words: their compact JSON array, and a newline
-abbrev pub line_text : Items → List ℕ
-line_text items = compact_text (array items) ++ 10 ∷ []

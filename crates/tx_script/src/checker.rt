@@ -2,19 +2,19 @@
 ghost use Rattle.std.specs.Prelude.{◌≡◌, ◌≤◌, length, IfOk, IfErr, IfSome};
 ghost use Rattle.tx_machine.specs.Machine.{Table, Admits, after};
 ghost use Rattle.tx_machine.specs.Representation.{Represents};
-ghost use Rattle.tx_script.specs.Check.{step_in, IsVerdict, Ends, Breaks, end_of};
+ghost use Rattle.serde_json.specs.View.{view};
+ghost use Rattle.tx_lines.specs.Parts.{parts_items};
+ghost use Rattle.tx_script.specs.MachineSteps.{step_of, step_of_items};
+ghost use Rattle.tx_script.specs.Check.{step_of_form, step_in, IsVerdict, Ends, Breaks, end_of};
 ghost use Rattle.tx_script.specs.Turns.{Turns};
-ghost use Rattle.tx_script.specs.Lines.{lines_of};
+ghost use Rattle.tx_lines.specs.Lines.{lines_of};
 
-use crate::lines::{Found, read_line};
 use crate::machine_step::{Unread, machine_step};
-use crate::output::{finish, send};
 use crate::words::{Verdict, verdict_line};
-use crate::{Broken, End};
 use serde_json::Value;
-use serde_json::error::Category;
 use std::alloc::Global;
-use std::io::{Read, Write};
+use std::io::{BufRead, Write};
+use tx_lines::{Broken, End, Found, Part, finish, parts_of, read_line, scanned, send, value_of};
 use tx_machine::{Machine, Refused, Step};
 use tx_types::Cause;
 use tx_types::limits::{MAX_LINE_BYTES, MAX_LINES};
@@ -23,7 +23,7 @@ use tx_types::limits::{MAX_LINE_BYTES, MAX_LINES};
 /// make, or `[n,"E16",cause]` with the first line that is no step. Nothing is written before all of it is known.
 ///
 /// `Input` where a read failed, `Output` where a write or the flush failed, `Memory` where a growth was refused.
-pub fn check<R: Read, W: Write>(
+pub fn check<R: BufRead, W: Write>(
     alloc: Global,
     reader: &mut R,
     writer: &mut W,
@@ -53,7 +53,7 @@ fn end_of_check(verdict: Verdict) -> End
 }
 
 // Reads the lines up to the first that is refused or is no step.
-fn judge<R: Read>(alloc: Global, reader: &mut R) -> Result<Verdict, Broken>
+fn judge<R: BufRead>(alloc: Global, reader: &mut R) -> Result<Verdict, Broken>
     ensures { IfOk result (λ verdict. IfSome (R.remaining reader.old) (λ input. IsVerdict (lines_of input) verdict)) }
 {
     let mut machine = Machine::new(alloc);
@@ -79,7 +79,7 @@ enum Turn {
 }
 
 // Reads the next line and has the machine make its step.
-fn next<R: Read>(
+fn next<R: BufRead>(
     alloc: Global,
     reader: &mut R,
     line: &mut Vec<u8>,
@@ -108,7 +108,29 @@ fn next<R: Read>(
     }
 }
 
-/// The step that the line of this number says, or why it says none.
+// The step that these members say, or that they say none.
+fn members_step(alloc: Global, members: &[Part<'_>]) -> Result<Result<Step, Cause>, Broken>
+    ensures { IfOk result (λ found. found ≡ step_of_form (step_of_items (parts_items members.now))) }
+{
+    match machine_step(alloc, members) {
+        Ok(step) => Ok(Ok(step)),
+        Err(Unread::Form) => Ok(Err(Cause::Form)),
+        Err(Unread::Memory) => Err(Broken::Memory),
+    }
+}
+
+// The step that a value says, or that it says none.
+fn value_step(alloc: Global, value: &Value) -> Result<Result<Step, Cause>, Broken>
+    ensures { IfOk result (λ found. found ≡ step_of_form (step_of (view value.now))) }
+{
+    match parts_of(value) {
+        None => Ok(Err(Cause::Form)),
+        Some(parts) => members_step(alloc, parts.as_slice()),
+    }
+}
+
+/// The step that the line of this number says, or why it says none: a plain line is read straight from its bytes, any other
+/// by its JSON value.
 pub(crate) fn line_step(
     alloc: Global,
     number: u64,
@@ -121,18 +143,11 @@ pub(crate) fn line_step(
     if number > MAX_LINES {
         return Ok(Err(Cause::Lines));
     }
-    let value = match Value::from_slice(alloc, line) {
-        Ok(value) => value,
-        Err(e) => {
-            if e.classify() == Category::Memory {
-                return Err(Broken::Memory);
-            }
-            return Ok(Err(Cause::Json));
-        }
-    };
-    match machine_step(alloc, &value) {
-        Ok(step) => Ok(Ok(step)),
-        Err(Unread::Form) => Ok(Err(Cause::Form)),
-        Err(Unread::Memory) => Err(Broken::Memory),
+    if let Some(parts) = scanned(line) {
+        return members_step(alloc, parts.as_slice());
+    }
+    match value_of(alloc, line)? {
+        Ok(value) => value_step(alloc, &value),
+        Err(cause) => Ok(Err(cause)),
     }
 }

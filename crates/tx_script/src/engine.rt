@@ -6,7 +6,6 @@ ghost use Rattle.tx_script.specs.Scenes.{Scene, opening, began, begins, in_sessi
 ghost use Rattle.tx_script.specs.Stands.{Stands, EngineGoes, EngineStops, SessionGoes};
 ghost use Rattle.tx_script.specs.Steps.{asked};
 
-use crate::reply::Reply;
 use crate::session_steps::act;
 use crate::step::Step;
 use crate::store::Store;
@@ -14,6 +13,7 @@ use std::alloc::{AllocError, Global};
 use std::collections::BTreeMap;
 use tx_client::two_phase::Session;
 use tx_core::SeatNo;
+use tx_lines::Reply;
 use tx_types::limits::{MAX_LINES, MAX_LIVE_SESSIONS, MAX_NAME_BYTES};
 use tx_types::{Cause, Ts};
 

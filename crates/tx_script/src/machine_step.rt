@@ -1,11 +1,13 @@
-//! Steps of the one-step machine, read from the JSON value of a trace's line.
+//! Steps of the one-step machine, read from the members of a trace's line.
 ghost use Rattle.std.specs.Prelude.{◌≡◌, Some, None, MatchResult};
 ghost use Rattle.serde_json.specs.Find.{as_array, as_str};
 ghost use Rattle.serde_json.specs.View.{view, items_view};
-ghost use Rattle.tx_script.specs.MachineSteps.{number_of, key_of, value_of, found_of, limit_of, plain_of, put_of, change_of, list_of, row_of, two_of, three_of, aborted_of, committed_of, four_of, scan_of, six_of, step_of};
+ghost use Rattle.tx_lines.specs.Parts.{part_data, parts_items};
+ghost use Rattle.tx_script.specs.MachineSteps.{number_of, key_of, value_of, found_of, limit_of, plain_of, put_of, change_of, list_of, row_of, two_of, three_of, aborted_of, committed_of, four_of, scan_of, six_of, step_of_items};
 
 use serde_json::Value as Json;
 use std::alloc::Global;
+use tx_lines::Part;
 use tx_machine::{ScanRead, Step};
 use tx_types::limits::MAX_SCAN_ROWS;
 use tx_types::{Change, Changes, Fate, Fault, Key, KeyValue, KeyValues, Mutation, Ts, Value};
@@ -19,11 +21,12 @@ pub(crate) enum Unread {
     Memory,
 }
 
-/// The step that a line's value says; `Form` where it says none.
-pub(crate) fn machine_step(alloc: Global, value: &Json) -> Result<Step, Unread>
-    ensures { MatchResult result (λ step. step_of (view value.now) ≡ Some step) (λ e. e ≡ Unread.Form → step_of (view value.now) ≡ None) }
+/// The step that a line's members say; `Form` where they say none.
+pub(crate) fn machine_step(alloc: Global, members: &[Part<'_>]) -> Result<Step, Unread>
+    ensures { MatchResult result (λ step. step_of_items (parts_items members.now) ≡ Some step)
+        (λ e. e ≡ Unread.Form → step_of_items (parts_items members.now) ≡ None) }
 {
-    match list(value)? {
+    match members {
         [word, first] => two(word, first),
         [word, first, second] => three(alloc, word, first, second),
         [word, first, second, third] => four(alloc, word, first, second, third),
@@ -34,9 +37,9 @@ pub(crate) fn machine_step(alloc: Global, value: &Json) -> Result<Step, Unread>
 
 // ---- the steps, by how many members they have
 
-fn two(word: &Json, first: &Json) -> Result<Step, Unread>
-    ensures { MatchResult result (λ step. two_of (view word.now) (view first.now) ≡ Some step)
-        (λ e. e ≡ Unread.Form → two_of (view word.now) (view first.now) ≡ None) }
+fn two(word: &Part<'_>, first: &Part<'_>) -> Result<Step, Unread>
+    ensures { MatchResult result (λ step. two_of (part_data word.now) (part_data first.now) ≡ Some step)
+        (λ e. e ≡ Unread.Form → two_of (part_data word.now) (part_data first.now) ≡ None) }
 {
     let word = text(word)?;
     if word == "draw" {
@@ -50,9 +53,14 @@ fn two(word: &Json, first: &Json) -> Result<Step, Unread>
     }
 }
 
-fn three(alloc: Global, word: &Json, first: &Json, second: &Json) -> Result<Step, Unread>
-    ensures { MatchResult result (λ step. three_of (view word.now) (view first.now) (view second.now) ≡ Some step)
-        (λ e. e ≡ Unread.Form → three_of (view word.now) (view first.now) (view second.now) ≡ None) }
+fn three(
+    alloc: Global,
+    word: &Part<'_>,
+    first: &Part<'_>,
+    second: &Part<'_>,
+) -> Result<Step, Unread>
+    ensures { MatchResult result (λ step. three_of (part_data word.now) (part_data first.now) (part_data second.now) ≡ Some step)
+        (λ e. e ≡ Unread.Form → three_of (part_data word.now) (part_data first.now) (part_data second.now) ≡ None) }
 {
     let word = text(word)?;
     if word == "declare" {
@@ -68,13 +76,13 @@ fn three(alloc: Global, word: &Json, first: &Json, second: &Json) -> Result<Step
 
 fn four(
     alloc: Global,
-    word: &Json,
-    first: &Json,
-    second: &Json,
-    third: &Json,
+    word: &Part<'_>,
+    first: &Part<'_>,
+    second: &Part<'_>,
+    third: &Part<'_>,
 ) -> Result<Step, Unread>
-    ensures { MatchResult result (λ step. four_of (view word.now) (view first.now) (view second.now) (view third.now) ≡ Some step)
-        (λ e. e ≡ Unread.Form → four_of (view word.now) (view first.now) (view second.now) (view third.now) ≡ None) }
+    ensures { MatchResult result (λ step. four_of (part_data word.now) (part_data first.now) (part_data second.now) (part_data third.now) ≡ Some step)
+        (λ e. e ≡ Unread.Form → four_of (part_data word.now) (part_data first.now) (part_data second.now) (part_data third.now) ≡ None) }
 {
     let word = text(word)?;
     if word == "read" {
@@ -90,15 +98,15 @@ fn four(
 
 fn six(
     alloc: Global,
-    word: &Json,
-    at: &Json,
-    from: &Json,
-    to: &Json,
-    limit: &Json,
-    rows: &Json,
+    word: &Part<'_>,
+    at: &Part<'_>,
+    from: &Part<'_>,
+    to: &Part<'_>,
+    limit: &Part<'_>,
+    rows: &Part<'_>,
 ) -> Result<Step, Unread>
-    ensures { MatchResult result (λ step. six_of (view word.now) (view at.now) (view from.now) (view to.now) (view limit.now) (view rows.now) ≡ Some step)
-        (λ e. e ≡ Unread.Form → six_of (view word.now) (view at.now) (view from.now) (view to.now) (view limit.now) (view rows.now) ≡ None) }
+    ensures { MatchResult result (λ step. six_of (part_data word.now) (part_data at.now) (part_data from.now) (part_data to.now) (part_data limit.now) (part_data rows.now) ≡ Some step)
+        (λ e. e ≡ Unread.Form → six_of (part_data word.now) (part_data at.now) (part_data from.now) (part_data to.now) (part_data limit.now) (part_data rows.now) ≡ None) }
 {
     if text(word)? == "scan" {
         Ok(Step::Scan(scan(alloc, at, from, to, limit, rows)?))
@@ -109,14 +117,14 @@ fn six(
 
 fn scan(
     alloc: Global,
-    at: &Json,
-    from: &Json,
-    to: &Json,
-    limit: &Json,
-    rows: &Json,
+    at: &Part<'_>,
+    from: &Part<'_>,
+    to: &Part<'_>,
+    limit: &Part<'_>,
+    rows: &Part<'_>,
 ) -> Result<ScanRead, Unread>
-    ensures { MatchResult result (λ scan. scan_of (view at.now) (view from.now) (view to.now) (view limit.now) (view rows.now) ≡ Some scan)
-        (λ e. e ≡ Unread.Form → scan_of (view at.now) (view from.now) (view to.now) (view limit.now) (view rows.now) ≡ None) }
+    ensures { MatchResult result (λ scan. scan_of (part_data at.now) (part_data from.now) (part_data to.now) (part_data limit.now) (part_data rows.now) ≡ Some scan)
+        (λ e. e ≡ Unread.Form → scan_of (part_data at.now) (part_data from.now) (part_data to.now) (part_data limit.now) (part_data rows.now) ≡ None) }
 {
     let at = timestamp(at)?;
     let from = key(alloc, from)?;
@@ -134,17 +142,17 @@ fn scan(
 
 // ---- their members
 
-fn list(value: &Json) -> Result<&[Json], Unread>
-    ensures { MatchResult result (λ items. as_array (view value.now) ≡ Some (items_view items.now)) (λ _. as_array (view value.now) ≡ None) }
+fn list<'a>(value: &Part<'a>) -> Result<&'a [Json], Unread>
+    ensures { MatchResult result (λ items. as_array (part_data value.now) ≡ Some (items_view items.now)) (λ _. as_array (part_data value.now) ≡ None) }
 {
     match value.as_array() {
-        Some(items) => Ok(items.as_slice()),
+        Some(items) => Ok(items),
         None => Err(Unread::Form),
     }
 }
 
-fn text(value: &Json) -> Result<&str, Unread>
-    ensures { MatchResult result (λ text. as_str (view value.now) ≡ Some text.now) (λ _. as_str (view value.now) ≡ None) }
+fn text<'a>(value: &Part<'a>) -> Result<&'a str, Unread>
+    ensures { MatchResult result (λ text. as_str (part_data value.now) ≡ Some text.now) (λ _. as_str (part_data value.now) ≡ None) }
 {
     match value.as_str() {
         Some(text) => Ok(text),
@@ -152,8 +160,8 @@ fn text(value: &Json) -> Result<&str, Unread>
     }
 }
 
-fn timestamp(value: &Json) -> Result<Ts, Unread>
-    ensures { MatchResult result (λ t. number_of (view value.now) ≡ Some t) (λ _. number_of (view value.now) ≡ None) }
+fn timestamp(value: &Part<'_>) -> Result<Ts, Unread>
+    ensures { MatchResult result (λ t. number_of (part_data value.now) ≡ Some t) (λ _. number_of (part_data value.now) ≡ None) }
 {
     match value.as_u64() {
         Some(number) => Ok(Ts::new(number)),
@@ -161,8 +169,8 @@ fn timestamp(value: &Json) -> Result<Ts, Unread>
     }
 }
 
-fn row_limit(value: &Json) -> Result<u32, Unread>
-    ensures { MatchResult result (λ n. limit_of (view value.now) ≡ Some n) (λ _. limit_of (view value.now) ≡ None) }
+fn row_limit(value: &Part<'_>) -> Result<u32, Unread>
+    ensures { MatchResult result (λ n. limit_of (part_data value.now) ≡ Some n) (λ _. limit_of (part_data value.now) ≡ None) }
 {
     match value.as_u64() {
         Some(number) if number >= 1 && number <= u64::from(MAX_SCAN_ROWS) => Ok(number as u32),
@@ -170,8 +178,8 @@ fn row_limit(value: &Json) -> Result<u32, Unread>
     }
 }
 
-fn key(alloc: Global, value: &Json) -> Result<Key, Unread>
-    ensures { MatchResult result (λ key. key_of (view value.now) ≡ Some key) (λ e. e ≡ Unread.Form → key_of (view value.now) ≡ None) }
+fn key(alloc: Global, value: &Part<'_>) -> Result<Key, Unread>
+    ensures { MatchResult result (λ key. key_of (part_data value.now) ≡ Some key) (λ e. e ≡ Unread.Form → key_of (part_data value.now) ≡ None) }
 {
     let text = text(value)?;
     match Key::new(alloc, text.as_bytes()) {
@@ -181,8 +189,8 @@ fn key(alloc: Global, value: &Json) -> Result<Key, Unread>
     }
 }
 
-fn plain_value(alloc: Global, value: &Json) -> Result<Value, Unread>
-    ensures { MatchResult result (λ v. value_of (view value.now) ≡ Some v) (λ e. e ≡ Unread.Form → value_of (view value.now) ≡ None) }
+fn plain_value(alloc: Global, value: &Part<'_>) -> Result<Value, Unread>
+    ensures { MatchResult result (λ v. value_of (part_data value.now) ≡ Some v) (λ e. e ≡ Unread.Form → value_of (part_data value.now) ≡ None) }
 {
     let text = text(value)?;
     match Value::new(alloc, text.as_bytes()) {
@@ -192,8 +200,8 @@ fn plain_value(alloc: Global, value: &Json) -> Result<Value, Unread>
     }
 }
 
-fn found(alloc: Global, value: &Json) -> Result<Option<Value>, Unread>
-    ensures { MatchResult result (λ found. found_of (view value.now) ≡ Some found) (λ e. e ≡ Unread.Form → found_of (view value.now) ≡ None) }
+fn found(alloc: Global, value: &Part<'_>) -> Result<Option<Value>, Unread>
+    ensures { MatchResult result (λ found. found_of (part_data value.now) ≡ Some found) (λ e. e ≡ Unread.Form → found_of (part_data value.now) ≡ None) }
 {
     if value.is_null() {
         return Ok(None);
@@ -201,8 +209,8 @@ fn found(alloc: Global, value: &Json) -> Result<Option<Value>, Unread>
     Ok(Some(plain_value(alloc, value)?))
 }
 
-fn aborted(word: &Json) -> Result<Fate, Unread>
-    ensures { MatchResult result (λ fate. aborted_of (view word.now) ≡ Some fate) (λ _. aborted_of (view word.now) ≡ None) }
+fn aborted(word: &Part<'_>) -> Result<Fate, Unread>
+    ensures { MatchResult result (λ fate. aborted_of (part_data word.now) ≡ Some fate) (λ _. aborted_of (part_data word.now) ≡ None) }
 {
     if text(word)? == "aborted" {
         Ok(Fate::Aborted)
@@ -211,8 +219,8 @@ fn aborted(word: &Json) -> Result<Fate, Unread>
     }
 }
 
-fn committed(word: &Json, at: &Json) -> Result<Fate, Unread>
-    ensures { MatchResult result (λ fate. committed_of (view word.now) (view at.now) ≡ Some fate) (λ _. committed_of (view word.now) (view at.now) ≡ None) }
+fn committed(word: &Part<'_>, at: &Part<'_>) -> Result<Fate, Unread>
+    ensures { MatchResult result (λ fate. committed_of (part_data word.now) (part_data at.now) ≡ Some fate) (λ _. committed_of (part_data word.now) (part_data at.now) ≡ None) }
 {
     if text(word)? == "committed" {
         Ok(Fate::Committed(timestamp(at)?))
@@ -221,8 +229,8 @@ fn committed(word: &Json, at: &Json) -> Result<Fate, Unread>
     }
 }
 
-fn changes(alloc: Global, value: &Json) -> Result<Changes, Unread>
-    ensures { MatchResult result (λ changes. list_of change_of (view value.now) ≡ Some changes) (λ e. e ≡ Unread.Form → list_of change_of (view value.now) ≡ None) }
+fn changes(alloc: Global, value: &Part<'_>) -> Result<Changes, Unread>
+    ensures { MatchResult result (λ changes. list_of change_of (part_data value.now) ≡ Some changes) (λ e. e ≡ Unread.Form → list_of change_of (part_data value.now) ≡ None) }
 {
     let mut changes = Changes::new(alloc);
     for item in list(value)? {
@@ -236,17 +244,17 @@ fn changes(alloc: Global, value: &Json) -> Result<Changes, Unread>
 fn change(alloc: Global, value: &Json) -> Result<Change, Unread>
     ensures { MatchResult result (λ change. change_of (view value.now) ≡ Some change) (λ e. e ≡ Unread.Form → change_of (view value.now) ≡ None) }
 {
-    let (name, mutation) = match list(value)? {
-        [name, word] => (name, plain(word)?),
-        [name, word, value] => (name, put(alloc, word, value)?),
+    let (name, mutation) = match list(&Part::of(value))? {
+        [name, word] => (name, plain(&Part::of(word))?),
+        [name, word, value] => (name, put(alloc, &Part::of(word), &Part::of(value))?),
         _ => return Err(Unread::Form),
     };
-    let key = key(alloc, name)?;
+    let key = key(alloc, &Part::of(name))?;
     Ok(Change { key, mutation })
 }
 
-fn plain(word: &Json) -> Result<Mutation, Unread>
-    ensures { MatchResult result (λ m. plain_of (view word.now) ≡ Some m) (λ _. plain_of (view word.now) ≡ None) }
+fn plain(word: &Part<'_>) -> Result<Mutation, Unread>
+    ensures { MatchResult result (λ m. plain_of (part_data word.now) ≡ Some m) (λ _. plain_of (part_data word.now) ≡ None) }
 {
     let word = text(word)?;
     if word == "delete" {
@@ -258,9 +266,9 @@ fn plain(word: &Json) -> Result<Mutation, Unread>
     }
 }
 
-fn put(alloc: Global, word: &Json, value: &Json) -> Result<Mutation, Unread>
-    ensures { MatchResult result (λ m. put_of (view word.now) (view value.now) ≡ Some m)
-        (λ e. e ≡ Unread.Form → put_of (view word.now) (view value.now) ≡ None) }
+fn put(alloc: Global, word: &Part<'_>, value: &Part<'_>) -> Result<Mutation, Unread>
+    ensures { MatchResult result (λ m. put_of (part_data word.now) (part_data value.now) ≡ Some m)
+        (λ e. e ≡ Unread.Form → put_of (part_data word.now) (part_data value.now) ≡ None) }
 {
     if text(word)? == "put" {
         Ok(Mutation::Put(plain_value(alloc, value)?))
@@ -269,8 +277,8 @@ fn put(alloc: Global, word: &Json, value: &Json) -> Result<Mutation, Unread>
     }
 }
 
-fn key_values(alloc: Global, value: &Json) -> Result<KeyValues, Unread>
-    ensures { MatchResult result (λ rows. list_of row_of (view value.now) ≡ Some rows) (λ e. e ≡ Unread.Form → list_of row_of (view value.now) ≡ None) }
+fn key_values(alloc: Global, value: &Part<'_>) -> Result<KeyValues, Unread>
+    ensures { MatchResult result (λ rows. list_of row_of (part_data value.now) ≡ Some rows) (λ e. e ≡ Unread.Form → list_of row_of (part_data value.now) ≡ None) }
 {
     let mut rows = KeyValues::new(alloc);
     for item in list(value)? {
@@ -284,10 +292,10 @@ fn key_values(alloc: Global, value: &Json) -> Result<KeyValues, Unread>
 fn row(alloc: Global, value: &Json) -> Result<KeyValue, Unread>
     ensures { MatchResult result (λ row. row_of (view value.now) ≡ Some row) (λ e. e ≡ Unread.Form → row_of (view value.now) ≡ None) }
 {
-    match list(value)? {
+    match list(&Part::of(value))? {
         [name, value] => {
-            let key = key(alloc, name)?;
-            let value = plain_value(alloc, value)?;
+            let key = key(alloc, &Part::of(name))?;
+            let value = plain_value(alloc, &Part::of(value))?;
             Ok(KeyValue { key, value })
         }
         _ => Err(Unread::Form),

@@ -1,25 +1,57 @@
 //! A script from its first byte to its last.
-ghost use Rattle.std.specs.Prelude.{◌≡◌, ◌<◌, ◌≤◌, length, string_bytes, OnOk, IfOk, IfErr, IfSome};
+ghost use Rattle.std.specs.Prelude.{◌≡◌, ◌<◌, ◌≤◌, ◌+◌, length, string_bytes, OnOk, IfOk, IfErr, IfSome};
 ghost use Rattle.std.specs.Io.KnownBytes.{Keeps, Appends};
-ghost use Rattle.tx_script.specs.Output.{BreaksText};
-ghost use Rattle.tx_script.specs.Replies.{reply_words, fault_words, reply_text};
-ghost use Rattle.tx_script.specs.Play.{line_turn, EndsScript, BreaksScript};
+ghost use Rattle.serde_json.specs.View.{view};
+ghost use Rattle.tx_lines.specs.Output.{BreaksText};
+ghost use Rattle.tx_lines.specs.Parts.{parts_items};
+ghost use Rattle.tx_lines.specs.Replies.{reply_words, reply_text};
+ghost use Rattle.tx_script.specs.Replies.{fault_words};
+ghost use Rattle.tx_script.specs.Steps.{script_step_of, script_step_of_items};
+ghost use Rattle.tx_script.specs.Play.{asked_turn, line_turn, EndsScript, BreaksScript};
 ghost use Rattle.tx_script.specs.Stands.{EngineGoes, EngineStops, PlaysLine};
 
 use crate::engine::Engine;
-use crate::lines::{Found, read_line};
-use crate::output::{finish, send};
-use crate::reply::{REFUSAL_BYTES, Reply, fault_line, refusal_line, reply_line};
 use crate::step::script_step;
-use crate::{Broken, End};
+use crate::words::fault_line;
 use serde_json::Value;
-use serde_json::error::Category;
-use std::alloc::{AllocError, Global};
-use std::io::{Read, Write};
+use std::alloc::Global;
+use std::io::{BufRead, Write};
+use tx_lines::{
+    Broken, End, Found, Part, REFUSAL_BYTES, Reply, finish, parts_of, put_reply, read_line,
+    scanned, send, value_of,
+};
 use tx_types::Cause;
 use tx_types::limits::{MAX_LINE_BYTES, MAX_LINES};
 
-// Plays a line that is not too long.
+// Plays the step that these members say.
+fn play_members(engine: &mut Engine, members: &[Part<'_>]) -> Result<Reply, Cause>
+    requires room { (engine.old.store.last < MAX_LINES) × (engine.old.begun < MAX_LINES) }
+    ensures goes { IfOk result (λ reply. EngineGoes engine.old engine.new (λ scene refused. asked_turn refused (script_step_of_items (parts_items members.now)) scene) reply) }
+    ensures stops { IfErr result (λ cause. EngineStops engine.old (λ scene refused. asked_turn refused (script_step_of_items (parts_items members.now)) scene) cause) }
+    ensures last { engine.new.store.last ≤ engine.old.store.last + 1 }
+    ensures begun { engine.new.begun ≤ engine.old.begun + 1 }
+{
+    match script_step(members) {
+        None => Err(Cause::Form),
+        Some(step) => engine.play(&step),
+    }
+}
+
+// Plays the step that a value says.
+fn play_value(engine: &mut Engine, value: &Value) -> Result<Reply, Cause>
+    requires room { (engine.old.store.last < MAX_LINES) × (engine.old.begun < MAX_LINES) }
+    ensures goes { IfOk result (λ reply. EngineGoes engine.old engine.new (λ scene refused. asked_turn refused (script_step_of (view value.now)) scene) reply) }
+    ensures stops { IfErr result (λ cause. EngineStops engine.old (λ scene refused. asked_turn refused (script_step_of (view value.now)) scene) cause) }
+    ensures last { engine.new.store.last ≤ engine.old.store.last + 1 }
+    ensures begun { engine.new.begun ≤ engine.old.begun + 1 }
+{
+    match parts_of(value) {
+        None => Err(Cause::Form),
+        Some(parts) => play_members(engine, parts.as_slice()),
+    }
+}
+
+// Plays a line that is not too long: a plain one straight from its bytes, any other by its JSON value.
 fn play_line(
     alloc: Global,
     engine: &mut Engine,
@@ -35,18 +67,12 @@ fn play_line(
     if number > MAX_LINES {
         return Ok(Err(Cause::Lines));
     }
-    let value = match Value::from_slice(alloc, line) {
-        Ok(value) => value,
-        Err(e) => {
-            if e.classify() == Category::Memory {
-                return Err(Broken::Memory);
-            }
-            return Ok(Err(Cause::Json));
-        }
-    };
-    match script_step(&value) {
-        None => Ok(Err(Cause::Form)),
-        Some(step) => Ok(engine.play(&step)),
+    if let Some(parts) = scanned(line) {
+        return Ok(play_members(engine, parts.as_slice()));
+    }
+    match value_of(alloc, line)? {
+        Ok(value) => Ok(play_value(engine, &value)),
+        Err(cause) => Ok(Err(cause)),
     }
 }
 
@@ -59,7 +85,7 @@ enum Turned {
 }
 
 // Reads the next line and plays it.
-fn next<R: Read>(
+fn next<R: BufRead>(
     alloc: Global,
     reader: &mut R,
     line: &mut Vec<u8>,
@@ -83,39 +109,20 @@ fn next<R: Read>(
     }
 }
 
-// Writes the line of E12, or the first few bytes of it before a failure.
-fn tell_refusal<W: Write>(writer: &mut W, room: &mut String, number: u64) -> Result<(), Broken>
-    ensures all { OnOk result (Appends (W.contents writer.old) (W.contents writer.new) (reply_text (number, reply_words Reply.OutOfMemory))) }
-    ensures part { IfErr result (λ e. BreaksText e (W.contents writer.old) (W.contents writer.new) (reply_text (number, reply_words Reply.OutOfMemory))) }
-{
-    refusal_line(room, number)?;
-    send(writer, room.as_bytes())
-}
-
-// Writes the line of a reply, or the first few bytes of it before a failure. The line of E12 takes the room that is kept
-// for it.
+// Writes the line of a reply, or the first few bytes of it before a failure. It is made in `text`, which is kept from line
+// to line.
 fn tell<W: Write>(
-    alloc: Global,
     writer: &mut W,
-    room: &mut String,
+    text: &mut Vec<u8>,
     number: u64,
     reply: Reply,
 ) -> Result<(), Broken>
     ensures all { OnOk result (Appends (W.contents writer.old) (W.contents writer.new) (reply_text (number, reply_words reply))) }
     ensures part { IfErr result (λ e. BreaksText e (W.contents writer.old) (W.contents writer.new) (reply_text (number, reply_words reply))) }
 {
-    if let Reply::OutOfMemory = reply {
-        return tell_refusal(writer, room, number);
-    }
-    let text = owned_line(alloc, number, reply)?;
-    send(writer, text.as_bytes())
-}
-
-// The line of a reply, which it lets go.
-fn owned_line(alloc: Global, number: u64, reply: Reply) -> Result<String, AllocError>
-    ensures { IfOk result (λ s. string_bytes s ≡ reply_text (number, reply_words reply)) }
-{
-    reply_line(alloc, number, &reply)
+    text.clear();
+    put_reply(text, number, &reply)?;
+    send(writer, text.as_slice())
 }
 
 // Writes the line of a fault, or the first few bytes of it before a failure.
@@ -138,7 +145,7 @@ fn tell_fault<W: Write>(
 ///
 /// `Input` where a read failed, `Output` where a write or the flush failed, `Memory` where a growth was refused outside of
 /// a step's own calls, for which the reply is E12.
-pub fn simulate<R: Read, W: Write>(
+pub fn simulate<R: BufRead, W: Write>(
     alloc: Global,
     reader: &mut R,
     writer: &mut W,
@@ -152,7 +159,7 @@ pub fn simulate<R: Read, W: Write>(
 {
     let mut engine = Engine::new(alloc);
     let mut line = Vec::new(alloc);
-    let mut room = String::with_capacity(alloc, REFUSAL_BYTES)?;
+    let mut text = Vec::with_capacity(alloc, REFUSAL_BYTES)?;
     let mut number = 0;
     'lines: loop {
         match next(alloc, reader, &mut line, &mut engine, number + 1)? {
@@ -162,7 +169,7 @@ pub fn simulate<R: Read, W: Write>(
             }
             Turned::Goes(reply) => {
                 number += 1;
-                tell(alloc, writer, &mut room, number, reply)?;
+                tell(writer, &mut text, number, reply)?;
             }
             Turned::Stops(cause) => {
                 tell_fault(alloc, writer, number + 1, cause)?;

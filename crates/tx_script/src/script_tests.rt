@@ -1,9 +1,9 @@
 //! Scripts with their replies, on readers and writers in memory.
-use crate::reply::{REFUSAL_BYTES, refusal_line};
-use crate::tests::{Drip, Torn};
+use crate::tests::{Drip, torn};
 use crate::{Broken, End, simulate};
 use std::process::Abort;
 use std::test::Fail;
+use tx_lines::{REFUSAL_BYTES, Reply, put_reply};
 
 // Checks that the script ends so, and that these replies alone are written.
 fn replies<R: Abort + AllocGlobal>(rt: &R, script: &str, end: End, text: &str) -> Result<(), Fail> {
@@ -158,10 +158,7 @@ fn failing_writer_has_a_beginning_of_the_replies(rt: HostRuntime) -> Result<(), 
 #[test]
 fn failing_reader_has_the_replies_before(rt: HostRuntime) -> Result<(), Fail> {
     let script = "[\"begin\",\"A\"]\n[\"finish\",\"A\"]\n";
-    let mut reader = Torn {
-        bytes: script.as_bytes(),
-        good: 20,
-    };
+    let mut reader = torn(rt.alloc(), script, 20)?;
     let mut writer = Vec::new(rt.alloc());
     let ended = simulate(rt.alloc(), &mut reader, &mut writer);
     assert_eq!(rt; ended, Err(Broken::Input));
@@ -171,13 +168,14 @@ fn failing_reader_has_the_replies_before(rt: HostRuntime) -> Result<(), Fail> {
 
 #[test]
 fn want_of_memory_has_a_line_of_its_own(rt: HostRuntime) -> Result<(), Fail> {
-    let mut room = String::with_capacity(rt.alloc(), REFUSAL_BYTES)?;
+    let mut text = Vec::with_capacity(rt.alloc(), REFUSAL_BYTES)?;
     for (number, line) in [
         (2, "[2,\"E12\"]\n"),
         (u64::MAX, "[18446744073709551615,\"E12\"]\n"),
     ] {
-        refusal_line(&mut room, number)?;
-        assert_eq!(rt; room.as_str(), line);
+        text.clear();
+        put_reply(&mut text, number, &Reply::OutOfMemory)?;
+        assert_eq!(rt; text.as_slice(), line.as_bytes());
         assert!(rt; line.len() <= REFUSAL_BYTES);
     }
     Ok(())

@@ -4,16 +4,16 @@ ghost use Rattle.tx_client.specs.two_phase.Buffers.{touched, buffered};
 ghost use Rattle.tx_client.specs.two_phase.Sessions.{is_declared, with_buffer};
 ghost use Rattle.tx_types.specs.declared.mutation.Mutation.TheVariants as mutation;
 ghost use Rattle.tx_script.specs.Scenes.{puts, gets, declares, prewrites, draws, commits, session_turn, Scene, goes, gets_by, is_key as key_test, is_full as full_test};
-ghost use Rattle.tx_script.specs.Replies.{answer_words};
+ghost use Rattle.tx_lines.specs.Replies.{answer_words};
 ghost use Rattle.tx_script.specs.Stands.{SessionGoes, SessionStops, region_in};
 ghost use Rattle.tx_script.specs.Steps.{asked};
 
-use crate::reply::Reply;
 use crate::step::Step;
 use crate::store::Store;
 use std::alloc::Global;
 use tx_client::two_phase::{Phase, Session};
 use tx_core::{Answer, Get, Starts};
+use tx_lines::Reply;
 use tx_types::limits::{MAX_KEY_BYTES, MAX_KEYS, MAX_LINES, MAX_VALUE_BYTES};
 use tx_types::{Cause, Fault, Key, Mutation, Value};
 

@@ -1,9 +1,9 @@
-//! The steps of a script, read from the JSON value of a line.
+//! The steps of a script, read from the members of a line.
 ghost use Rattle.std.specs.Prelude.{◌≡◌, option_map};
-ghost use Rattle.serde_json.specs.View.{view, items_view};
-ghost use Rattle.tx_script.specs.Steps.{asked, ttl_of, step_two, step_three, put_step, declare_step, step_four, script_step_of, script_step_of_items};
+ghost use Rattle.tx_lines.specs.Parts.{part_data, parts_items};
+ghost use Rattle.tx_script.specs.Steps.{asked, ttl_of, step_two, step_three, put_step, declare_step, step_four, script_step_of_items};
 
-use serde_json::Value;
+use tx_lines::Part;
 
 /// A step, over the text of its line: the name of its session first.
 #[derive(Clone, Copy, Debug)]
@@ -19,16 +19,9 @@ pub(crate) enum Step<'a> {
     Finish(&'a str),
 }
 
-/// The step that a line's value says, if it is one.
-pub(crate) fn script_step(value: &Value) -> Option<Step<'_>>
-    ensures { option_map asked result ≡ script_step_of (view value.now) }
-{
-    let members = value.as_array()?;
-    members_step(members.as_slice())
-}
-
-fn members_step(members: &[Value]) -> Option<Step<'_>>
-    ensures { option_map asked result ≡ script_step_of_items (items_view members.now) }
+/// The step that a line's members say, if they say one.
+pub(crate) fn script_step<'a>(members: &[Part<'a>]) -> Option<Step<'a>>
+    ensures { option_map asked result ≡ script_step_of_items (parts_items members.now) }
 {
     match members {
         [word, name] => two(word.as_str()?, name),
@@ -38,8 +31,8 @@ fn members_step(members: &[Value]) -> Option<Step<'_>>
     }
 }
 
-fn two<'a>(word: &'a str, name: &'a Value) -> Option<Step<'a>>
-    ensures { option_map asked result ≡ step_two word.now (view name.now) }
+fn two<'a>(word: &str, name: &Part<'a>) -> Option<Step<'a>>
+    ensures { option_map asked result ≡ step_two word.now (part_data name.now) }
 {
     if word == "begin" {
         Some(Step::Begin(name.as_str()?))
@@ -56,8 +49,8 @@ fn two<'a>(word: &'a str, name: &'a Value) -> Option<Step<'a>>
     }
 }
 
-fn three<'a>(word: &'a str, name: &'a Value, key: &'a Value) -> Option<Step<'a>>
-    ensures { option_map asked result ≡ step_three word.now (view name.now) (view key.now) }
+fn three<'a>(word: &str, name: &Part<'a>, key: &Part<'a>) -> Option<Step<'a>>
+    ensures { option_map asked result ≡ step_three word.now (part_data name.now) (part_data key.now) }
 {
     if word == "get" {
         Some(Step::Get(name.as_str()?, key.as_str()?))
@@ -66,8 +59,8 @@ fn three<'a>(word: &'a str, name: &'a Value, key: &'a Value) -> Option<Step<'a>>
     }
 }
 
-fn four<'a>(word: &'a str, name: &'a Value, second: &'a Value, third: &'a Value) -> Option<Step<'a>>
-    ensures { option_map asked result ≡ step_four word.now (view name.now) (view second.now) (view third.now) }
+fn four<'a>(word: &str, name: &Part<'a>, second: &Part<'a>, third: &Part<'a>) -> Option<Step<'a>>
+    ensures { option_map asked result ≡ step_four word.now (part_data name.now) (part_data second.now) (part_data third.now) }
 {
     if word == "put" {
         put(name, second, third)
@@ -78,14 +71,14 @@ fn four<'a>(word: &'a str, name: &'a Value, second: &'a Value, third: &'a Value)
     }
 }
 
-fn put<'a>(name: &'a Value, key: &'a Value, value: &'a Value) -> Option<Step<'a>>
-    ensures { option_map asked result ≡ put_step (view name.now) (view key.now) (view value.now) }
+fn put<'a>(name: &Part<'a>, key: &Part<'a>, value: &Part<'a>) -> Option<Step<'a>>
+    ensures { option_map asked result ≡ put_step (part_data name.now) (part_data key.now) (part_data value.now) }
 {
     Some(Step::Put(name.as_str()?, key.as_str()?, value.as_str()?))
 }
 
-fn declare<'a>(name: &'a Value, mode: &'a Value, ttl: &'a Value) -> Option<Step<'a>>
-    ensures { option_map asked result ≡ declare_step (view name.now) (view mode.now) (view ttl.now) }
+fn declare<'a>(name: &Part<'a>, mode: &Part<'a>, ttl: &Part<'a>) -> Option<Step<'a>>
+    ensures { option_map asked result ≡ declare_step (part_data name.now) (part_data mode.now) (part_data ttl.now) }
 {
     let name = name.as_str()?;
     if mode.as_str()? == "two-phase" {
@@ -95,8 +88,8 @@ fn declare<'a>(name: &'a Value, mode: &'a Value, ttl: &'a Value) -> Option<Step<
     }
 }
 
-fn time_to_live(value: &Value) -> Option<u32>
-    ensures { result ≡ ttl_of (view value.now) }
+fn time_to_live(value: &Part<'_>) -> Option<u32>
+    ensures { result ≡ ttl_of (part_data value.now) }
 {
     let ticks = value.as_u64()?;
     if ticks <= u64::from(u32::MAX) {

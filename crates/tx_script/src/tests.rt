@@ -5,7 +5,7 @@ use crate::checker::line_step;
 use crate::{Broken, End, check};
 use std::alloc::Global;
 use std::io;
-use std::io::{ErrorKind, Read, Write};
+use std::io::{BufReader, ErrorKind, Read, Write};
 use std::process::Abort;
 use std::test::Fail;
 use tx_types::Cause;
@@ -244,13 +244,16 @@ impl Read for Torn<'_> {
     }
 }
 
+// A reader of this text that reads a byte at a time, and fails once it has made some reads.
+pub(crate) fn torn(alloc: Global, text: &str, good: usize) -> io::Result<BufReader<Torn<'_>>> {
+    let bytes = text.as_bytes();
+    BufReader::with_capacity(alloc, 1, Torn { bytes, good })
+}
+
 #[test]
 fn failing_reader_ends_without_a_verdict(rt: HostRuntime) -> Result<(), Fail> {
     for good in 0..=COMMIT_THEN_READ.len() {
-        let mut reader = Torn {
-            bytes: COMMIT_THEN_READ.as_bytes(),
-            good,
-        };
+        let mut reader = torn(rt.alloc(), COMMIT_THEN_READ, good)?;
         let mut writer = Vec::new(rt.alloc());
         let ended = check(rt.alloc(), &mut reader, &mut writer);
         assert_eq!(rt; ended, Err(Broken::Input), "after {good} reads");

@@ -1,9 +1,12 @@
-//! The words of every reply and cause, and the lines that say them.
+//! The words of verdicts and causes, and the lines that say them.
 ghost use Rattle.std.specs.Prelude.{◌≡◌, false, ◌∷◌, ◌++◌, [], IfOk, string_bytes};
 ghost use Rattle.serde_json.specs.Data.{array};
 ghost use Rattle.serde_json.specs.View.{view};
 ghost use Rattle.serde_json.specs.Written.{has_float, compact_text};
-ghost use Rattle.tx_script.specs.Words.{word_of, words, line_text};
+ghost use Rattle.tx_lines.specs.Replies.{reply_text};
+ghost use Rattle.tx_lines.specs.Texts.{line_text};
+ghost use Rattle.tx_script.specs.Replies.{fault_words};
+ghost use Rattle.tx_script.specs.Words.{word_of, words};
 
 use serde_json::{Value, json};
 use std::alloc::{AllocError, Global};
@@ -45,12 +48,27 @@ fn verdict_value(alloc: Global, verdict: Verdict) -> Result<Value, AllocError>
     }
 }
 
+fn line_of(alloc: Global, value: &Value) -> Result<String, AllocError>
+    requires { has_float (view value.now) ≡ false }
+    ensures { IfOk result (λ s. string_bytes s ≡ compact_text (view value.now) ++ 10 ∷ []) }
+{
+    let mut text = value.to_string(alloc)?;
+    text.push('\n')?;
+    Ok(text)
+}
+
 /// The line that says a verdict, with its newline.
 pub(crate) fn verdict_line(alloc: Global, verdict: Verdict) -> Result<String, AllocError>
     ensures { IfOk result (λ s. string_bytes s ≡ line_text (words verdict)) }
 {
     let value = verdict_value(alloc, verdict)?;
-    let mut text = value.to_string(alloc)?;
-    text.push('\n')?;
-    Ok(text)
+    line_of(alloc, &value)
+}
+
+/// The line that ends a script with its fault, with its newline.
+pub(crate) fn fault_line(alloc: Global, number: u64, cause: Cause) -> Result<String, AllocError>
+    ensures { IfOk result (λ s. string_bytes s ≡ reply_text (number, fault_words cause)) }
+{
+    let value = json!(in alloc; [number, "E16", cause_word(cause)])?;
+    line_of(alloc, &value)
 }

@@ -1,6 +1,6 @@
 use Rattle.std.proofs.Common.{◌≡◌, Ok, rules}
 use Rattle.tx_script.specs.declared.checker.Turn.TheVariants.{Made, Refused}
-use Rattle.tx_script.specs.Lines.{lines_of}
+use Rattle.tx_lines.specs.Lines.{lines_of}
 use Rattle.tx_script.specs.Check.{step_in}
 use Rattle.tx_script.specs.Turns.{Turns}
 use Rattle.tx_script.proofs.Traces.{if_some}

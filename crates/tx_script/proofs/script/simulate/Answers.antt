@@ -51,8 +51,8 @@ returns-in-Stops-clause-ends g c =
     let turns = rw c.in-Stops.is at c.in_ok-next.ensures.turns in
     if_some _ (λ input soon. ends_faulted soon (g.R.Read.remaining c.next.new.reader) c.next.new.engine c.in-Stops.cause turns (g.W.Write.contents c.tell_fault.new.writer) (g.W.Write.contents c.finish-in-Stops.new.writer) c.in_ok-tell_fault-in-Stops.ensures.all c.finish-in-Stops.ensures.kept) c.lines.invariant.1
 
-pub returns-in_err-room-clause-breaks : goal.returns-in_err-room-clause-breaks
-returns-in_err-room-clause-breaks g c =
+pub returns-in_err-text-clause-breaks : goal.returns-in_err-text-clause-breaks
+returns-in_err-text-clause-breaks g c =
     let known = g.R.Read.remaining c.args.reader.now in
     let held = g.W.Write.contents c.args.writer.now in
     if_any_err _ (λ why. if_some known (λ input soon. breaks soon known c.new-engine.result why held (Keeps-refl held)) (so_far known held c.new-engine.result c.new-engine.ensures.stands))

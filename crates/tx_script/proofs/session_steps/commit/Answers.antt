@@ -2,7 +2,7 @@ use Rattle.std.proofs.Common.{◌≡◌, true, false, [], refl, sym}
 use Rattle.tx_plan.specs.declared.body.Body.TheVariants as request
 use Rattle.tx_client.specs.declared.two_phase.state.Phase.TheVariants as phase
 use Rattle.tx_client.specs.two_phase.Sessions.{is_declared, has_primary, can_commit, due_commit}
-use Rattle.tx_script.specs.declared.reply.Reply.TheVariants.{Done}
+use Rattle.tx_lines.specs.declared.reply.Reply.TheVariants.{Done}
 use Rattle.tx_script.specs.Scenes.{commits}
 use Rattle.tx_script.proofs.SessionSteps.{stays, nothing_due, not_sent, refused_so, sent}
 use Rattle.tx_script.proofs.session_steps.commit.Goals as goal

@@ -1,6 +1,6 @@
 use Rattle.std.proofs.Common.{◌≡◌, [], ◌∷◌, true, false, refl, sym}
 use Rattle.tx_client.specs.two_phase.Sessions.{is_declared}
-use Rattle.tx_script.specs.declared.reply.Reply.TheVariants.{OutOfMemory}
+use Rattle.tx_lines.specs.declared.reply.Reply.TheVariants.{OutOfMemory}
 use Rattle.tx_script.specs.Scenes.{declares}
 use Rattle.tx_script.proofs.SessionSteps.{stays, declares_so}
 use Rattle.tx_script.proofs.session_steps.declare.Goals as goal

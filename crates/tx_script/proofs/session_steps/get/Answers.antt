@@ -1,5 +1,5 @@
 use Rattle.std.proofs.Common.{◌≡◌, [], ◌∷◌, true, false, refl, sym}
-use Rattle.tx_script.specs.declared.reply.Reply.TheVariants.{OutOfMemory, KeyLength}
+use Rattle.tx_lines.specs.declared.reply.Reply.TheVariants.{OutOfMemory, KeyLength}
 use Rattle.tx_script.specs.Scenes.{is_key, gets}
 use Rattle.tx_script.proofs.SessionSteps.{stays}
 use Rattle.tx_script.proofs.session_steps.get.Goals as goal

@@ -3,7 +3,7 @@ use Rattle.std.proofs.lemmas.Bool.Decides.{nat_tests}
 use Rattle.tx_types.specs.declared.mutation.Mutation.TheVariants as mutation
 use Rattle.tx_client.specs.two_phase.Buffers.{touched}
 use Rattle.tx_client.specs.two_phase.Sessions.{is_declared, with_buffer}
-use Rattle.tx_script.specs.declared.reply.Reply.TheVariants.{Fine, OutOfMemory, KeyLength, ValueLength, TooManyKeys}
+use Rattle.tx_lines.specs.declared.reply.Reply.TheVariants.{Fine, OutOfMemory, KeyLength, ValueLength, TooManyKeys}
 use Rattle.tx_script.specs.Scenes.{is_key, is_value, is_full, puts}
 use Rattle.tx_script.proofs.SessionSteps.{stays, changes}
 use Rattle.tx_script.proofs.session_steps.put.Goals.{in-Ok, in-Err}

@@ -1,0 +1,10 @@
+-- The lines of a text.
+pub mod TextLines
+-- The lexemes of a line, one by one.
+pub mod Lexemes
+-- A whole number among them.
+pub mod Digits
+-- The value of an array of strings and numbers, by its lexemes.
+pub mod Leaves
+-- The text of a line, part by part.
+pub mod Texts

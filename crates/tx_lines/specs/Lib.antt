@@ -1,0 +1,6 @@
+pub mod Lines
+pub mod Output
+pub mod Parts
+pub mod Scan
+pub mod Texts
+pub mod Replies

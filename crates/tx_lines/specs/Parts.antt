@@ -1,0 +1,27 @@
+-- The JSON value of a line, and its members.
+use Rattle.std.specs.Prelude.{ℕ, suc, List, map, Option, None, if◌then◌else◌}
+use Rattle.std.specs.Str.{is_utf8}
+use Rattle.serde_json.specs.Data.{Data, Items, no_items, item, string, number, unsigned}
+use Rattle.serde_json.specs.Read.{read}
+use Rattle.serde_json.specs.View.{view, items_of}
+use Rattle.tx_lines.specs.declared.part.Part.{Part}
+use Rattle.tx_lines.specs.declared.part.Part.TheVariants.{Text, Number, Other}
+
+-- the value of a line, as `serde_json` reads it
+abbrev pub json_of : List ℕ → Option Data
+json_of line = if is_utf8 line then read line else None
+
+-- the value of a member
+abbrev pub part_data : Part → Data
+part_data (Text s) = string s.now
+part_data (Number n) = number (unsigned n)
+part_data (Other v) = view v.now
+
+-- the values of all members
+abbrev pub parts_items : List Part → Items
+parts_items parts = items_of (map part_data parts)
+
+-- how many members an array has
+abbrev pub count : Items → ℕ
+count no_items = 0
+count (item d ds) = suc (count ds)

@@ -1,0 +1,84 @@
+-- The words of the replies of a script, and the text of its reply lines.
+use Rattle.std.specs.Prelude.{ℕ, List, codes}
+use Rattle.serde_json.specs.Data.{Items, no_items, item, number, unsigned, string}
+use Rattle.tx_types.specs.declared.mutation.Mode.{Mode}
+use Rattle.tx_types.specs.declared.mutation.Mode.TheVariants.{TwoPhase, Async}
+use Rattle.tx_types.specs.declared.lock.LockInfo.{LockInfo}
+use Rattle.tx_plan.specs.declared.answer.Answer.{Answer}
+use Rattle.tx_plan.specs.declared.answer.Answer.TheVariants as answer
+use Rattle.tx_core.specs.declared.event.Outcome.{Outcome}
+use Rattle.tx_core.specs.declared.event.Outcome.TheVariants as outcome
+use Rattle.tx_core.specs.declared.event.UnknownCause.{UnknownCause}
+use Rattle.tx_core.specs.declared.event.UnknownCause.TheVariants as unknown
+use Rattle.tx_lines.specs.declared.reply.Reply.{Reply}
+use Rattle.tx_lines.specs.declared.reply.Reply.TheVariants.{Start, Fine, Done, Drawn, Ended, Answered, OutOfMemory, KeyLength, ValueLength, TooManyKeys}
+use Rattle.tx_lines.specs.Texts.{line_text, text_of}
+
+-- a word alone, and with a number
+abbrev pub alone : List ℕ → Items
+alone word = item (string word) no_items
+
+abbrev pub with_number : List ℕ → ℕ → Items
+with_number word n = item (string word) (item (number (unsigned n)) no_items)
+
+abbrev pub mode_word : Mode → List ℕ
+mode_word TwoPhase = codes "two-phase"
+mode_word Async = codes "async"
+
+-- what is told of a lock: key, start, primary, minimum and mode
+abbrev pub lock_fields : LockInfo → Items
+lock_fields info = item (text_of info.key) (item (number (unsigned info.start)) (item (text_of info.primary)
+    (item (number (unsigned info.min)) (item (string (mode_word info.mode)) no_items))))
+
+-- the words of a lock that stands in the way
+abbrev pub lock_words : List ℕ → LockInfo → Items
+lock_words word info = item (string word) (lock_fields info)
+
+-- the words of a store's answer: what was found or done, or the refusal's number and fields. What no step asks for has none
+abbrev pub answer_words : Answer → Items
+answer_words (answer.Found v) = item (string (codes "value")) (item (text_of v) no_items)
+answer_words answer.Nothing = alone (codes "none")
+answer_words (answer.Prewritten m) = with_number (codes "prewritten") m
+answer_words (answer.Committed c) = with_number (codes "committed") c
+answer_words answer.RolledBack = alone (codes "rolled-back")
+answer_words (answer.Ttl ttl) = with_number (codes "ttl") ttl
+answer_words answer.Missing = alone (codes "missing")
+answer_words (answer.KeyIsLocked info) = lock_words (codes "E1") info
+answer_words (answer.WriteConflict start c) = item (string (codes "E2")) (item (number (unsigned start)) (item (number (unsigned c)) no_items))
+answer_words answer.AlreadyRolledBack = alone (codes "E3")
+answer_words (answer.AlreadyCommitted c) = with_number (codes "E4") c
+answer_words (answer.CommitTsExpired min) = with_number (codes "E5") min
+answer_words answer.TxnLockNotFound = alone (codes "E6")
+answer_words (answer.BelowSafePoint safe) = with_number (codes "E7") safe
+answer_words (answer.FutureTimestamp last) = with_number (codes "E8") last
+answer_words (answer.LocksRemain info) = lock_words (codes "E9") info
+answer_words answer.TxnNotFound = alone (codes "E10")
+answer_words _ = no_items
+
+abbrev pub unknown_word : UnknownCause → List ℕ
+unknown_word unknown.Reply = codes "reply"
+unknown_word unknown.BelowSafePoint = codes "E7"
+unknown_word unknown.OutOfMemory = codes "E12"
+
+abbrev pub outcome_words : Outcome → Items
+outcome_words (outcome.Committed c) = with_number (codes "committed") c
+outcome_words outcome.Aborted = alone (codes "aborted")
+outcome_words (outcome.Unknown c) = item (string (codes "unknown")) (item (string (unknown_word c)) no_items)
+outcome_words outcome.ReadOnly = alone (codes "read-only")
+
+-- the words of a reply
+abbrev pub reply_words : Reply → Items
+reply_words (Start t) = with_number (codes "start") t
+reply_words Fine = alone (codes "ok")
+reply_words Done = alone (codes "done")
+reply_words (Drawn t) = with_number (codes "drawn") t
+reply_words (Ended o) = item (string (codes "outcome")) (outcome_words o)
+reply_words (Answered a) = answer_words a
+reply_words OutOfMemory = alone (codes "E12")
+reply_words KeyLength = alone (codes "E13")
+reply_words ValueLength = alone (codes "E14")
+reply_words TooManyKeys = alone (codes "E15")
+
+-- a reply line: the number of its line, and the words
+abbrev pub reply_text : ℕ × Items → List ℕ
+reply_text reply = line_text (item (number (unsigned reply.0)) reply.1)

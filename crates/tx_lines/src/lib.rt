@@ -1,0 +1,25 @@
+//! Text line by line. A line is read from what is at hand, taken apart into the members of its JSON array, and bytes are
+//! written so that it is known what a failure leaves.
+//!
+//! A line that is an array of plain strings and whole numbers is scanned straight from its bytes; of any other `serde_json`
+//! is the judge. Nothing is allocated for a plain line.
+#![tactic(auto)]
+
+mod answer;
+mod end;
+mod lines;
+mod output;
+mod part;
+mod reply;
+mod scan;
+mod text;
+mod value;
+
+pub use end::{Broken, End};
+pub use lines::{Found, read_line};
+pub use output::{finish, send};
+pub use part::{MAX_PARTS, Part, Parts, parts_of};
+pub use reply::{REFUSAL_BYTES, Reply, put_reply};
+pub use scan::scanned;
+pub use text::{put_number, put_text};
+pub use value::value_of;

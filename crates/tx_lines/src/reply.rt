@@ -1,0 +1,85 @@
+//! The replies of a script, and the lines that tell them.
+ghost use Rattle.std.specs.Prelude.{◌≡◌, ◌++◌, OnOk};
+ghost use Rattle.tx_lines.specs.Replies.{reply_words, outcome_words, reply_text};
+ghost use Rattle.tx_core.specs.declared.event.Outcome.TheVariants as outcome;
+ghost use Rattle.tx_lines.specs.Texts.{members_text};
+
+use crate::answer::put_answer;
+use crate::text::{put_digits, put_stamped};
+use std::alloc::AllocError;
+use tx_core::{Answer, Outcome, UnknownCause};
+use tx_types::Ts;
+
+/// What a step answers.
+#[derive(Debug, Drop)]
+pub enum Reply {
+    Start(Ts),
+    Fine,
+    /// Nothing was left to send.
+    Done,
+    Drawn(Ts),
+    Ended(Outcome),
+    /// The store's answer, or the buffer's.
+    Answered(Answer),
+    OutOfMemory,
+    KeyLength,
+    ValueLength,
+    TooManyKeys,
+}
+
+#[tactic(auto, unfolding(json::specs::Print::escape_byte))]
+fn put_unknown(out: &mut Vec<u8>, cause: UnknownCause) -> Result<(), AllocError>
+    ensures { OnOk result (out.new.items ≡ out.old.items ++ members_text (outcome_words (outcome.Unknown cause))) }
+{
+    match cause {
+        UnknownCause::Reply => out.extend_from_slice(b",\"unknown\",\"reply\""),
+        UnknownCause::BelowSafePoint => out.extend_from_slice(b",\"unknown\",\"E7\""),
+        UnknownCause::OutOfMemory => out.extend_from_slice(b",\"unknown\",\"E12\""),
+    }
+}
+
+#[tactic(auto, unfolding(json::specs::Print::escape_byte))]
+fn put_outcome(out: &mut Vec<u8>, outcome: Outcome) -> Result<(), AllocError>
+    ensures { OnOk result (out.new.items ≡ out.old.items ++ members_text (outcome_words outcome)) }
+{
+    match outcome {
+        Outcome::Committed(commit) => put_stamped(out, b",\"committed\"", commit.get()),
+        Outcome::Aborted => out.extend_from_slice(b",\"aborted\""),
+        Outcome::Unknown(cause) => put_unknown(out, cause),
+        Outcome::ReadOnly => out.extend_from_slice(b",\"read-only\""),
+    }
+}
+
+#[tactic(auto, unfolding(json::specs::Print::escape_byte))]
+fn put_words(out: &mut Vec<u8>, reply: &Reply) -> Result<(), AllocError>
+    ensures { OnOk result (out.new.items ≡ out.old.items ++ members_text (reply_words reply.now)) }
+{
+    match reply {
+        Reply::Start(start) => put_stamped(out, b",\"start\"", start.get()),
+        Reply::Fine => out.extend_from_slice(b",\"ok\""),
+        Reply::Done => out.extend_from_slice(b",\"done\""),
+        Reply::Drawn(commit) => put_stamped(out, b",\"drawn\"", commit.get()),
+        Reply::Ended(outcome) => {
+            out.extend_from_slice(b",\"outcome\"")?;
+            put_outcome(out, *outcome)
+        }
+        Reply::Answered(answer) => put_answer(out, answer),
+        Reply::OutOfMemory => out.extend_from_slice(b",\"E12\""),
+        Reply::KeyLength => out.extend_from_slice(b",\"E13\""),
+        Reply::ValueLength => out.extend_from_slice(b",\"E14\""),
+        Reply::TooManyKeys => out.extend_from_slice(b",\"E15\""),
+    }
+}
+
+/// The bytes that the line of E12 takes at most, with any number. Where they are kept, it is told without a growth.
+pub const REFUSAL_BYTES: usize = 32;
+
+/// Appends the line that tells a reply, with its newline.
+pub fn put_reply(out: &mut Vec<u8>, number: u64, reply: &Reply) -> Result<(), AllocError>
+    ensures { OnOk result (out.new.items ≡ out.old.items ++ reply_text (number, reply_words reply.now)) }
+{
+    out.extend_from_slice(b"[")?;
+    put_digits(out, number)?;
+    put_words(out, reply)?;
+    out.extend_from_slice(b"]\n")
+}

@@ -1,0 +1,156 @@
+//! A line that is an array of strings and numbers, by a scan of its bytes. A line with an escape, or of another shape, is left
+//! to others.
+ghost use Rattle.std.specs.Prelude.{◌≡◌, ◌≢◌, ◌<◌, ◌≤◌, ◌-◌, ◌∷◌, [], length, drop, slice_range, Some, IsTrue, IfSome, MatchOption};
+ghost use Rattle.json.specs.Token.{string as string_token, end_array};
+ghost use Rattle.json.specs.Lex.{token, in_word, lex};
+ghost use Rattle.std.specs.List.{prefix_len};
+ghost use Rattle.std.specs.Char.{is_ascii_digit};
+ghost use Rattle.serde_json.specs.Data.{array};
+ghost use Rattle.tx_lines.specs.Parts.{json_of, parts_items};
+ghost use Rattle.tx_lines.specs.Scan.{Runs, Same, Begins, BeginsNumber, BeginsPart};
+
+use crate::part::{MAX_PARTS, Part, Parts};
+use fast_float::Numeral;
+
+// Whether the byte stands for itself in a string.
+fn is_plain(byte: u8) -> bool
+    ensures { IsTrue result → (32 ≤ byte) × (byte ≢ 34) × (byte ≢ 92) }
+{
+    byte >= 32 && byte != b'"' && byte != b'\\'
+}
+
+// The end of the plain bytes from here on.
+fn plain_end(bytes: &[u8], from: usize) -> usize
+    requires { from ≤ length bytes.now }
+    ensures range { (from ≤ result) × (result ≤ length bytes.now) }
+    ensures runs { Runs (drop from bytes.now) (slice_range bytes.now from result) (drop result bytes.now) }
+{
+    let mut at = from;
+    'bytes: while at < bytes.len() && is_plain(bytes[at]) {
+        at += 1;
+    }
+    at
+}
+
+fn past_spaces(bytes: &[u8], from: usize) -> usize
+    requires { from ≤ length bytes.now }
+    ensures range { result ≤ length bytes.now }
+    ensures same { Same (drop from bytes.now) (drop result bytes.now) }
+{
+    let mut at = from;
+    'bytes: while at < bytes.len() && bytes[at] == b' ' {
+        at += 1;
+    }
+    at
+}
+
+// Passes this byte, and spaces before it.
+fn pass(bytes: &[u8], from: usize, byte: u8) -> Option<usize>
+    requires { from ≤ length bytes.now }
+    ensures range { IfSome result (λ at. at ≤ length bytes.now) }
+    ensures same { IfSome result (λ at. Same (drop from bytes.now) (byte ∷ drop at bytes.now)) }
+{
+    let at = past_spaces(bytes, from);
+    if at < bytes.len() && bytes[at] == byte {
+        Some(at + 1)
+    } else {
+        None
+    }
+}
+
+// The string from here on, with what comes after it.
+fn string(bytes: &[u8], from: usize) -> Option<(&str, usize)>
+    requires { from ≤ length bytes.now }
+    ensures range { IfSome result (λ found. found.1 ≤ length bytes.now) }
+    ensures begins { IfSome result (λ found. Begins (drop from bytes.now) (token (string_token found.0.now)) (drop found.1 bytes.now)) }
+{
+    let start = pass(bytes, from, b'"')?;
+    let stop = plain_end(bytes, start);
+    if stop < bytes.len() && bytes[stop] == b'"' {
+        let text = str::from_utf8(&bytes[start..stop]).ok()?;
+        Some((text, stop + 1))
+    } else {
+        None
+    }
+}
+
+// The end of the digits from here on.
+fn digits_end(bytes: &[u8], from: usize) -> usize
+    requires { from ≤ length bytes.now }
+    ensures range { (from ≤ result) × (result ≤ length bytes.now) }
+    ensures digits { prefix_len is_ascii_digit (drop from bytes.now) ≡ result - from }
+    ensures lexemes { lex in_word (drop from bytes.now) ≡ lex in_word (drop result bytes.now) }
+{
+    let mut at = from;
+    'bytes: while at < bytes.len() {
+        if !bytes[at].is_ascii_digit() {
+            return at;
+        }
+        at += 1;
+    }
+    at
+}
+
+// The whole number from here on, with what comes after it. Of `0` it says nothing.
+fn number(bytes: &[u8], from: usize) -> Option<(u64, usize)>
+    requires { from ≤ length bytes.now }
+    ensures range { IfSome result (λ found. found.1 ≤ length bytes.now) }
+    ensures begins { IfSome result (λ found. BeginsNumber (drop from bytes.now) found.0 (drop found.1 bytes.now)) }
+{
+    let start = past_spaces(bytes, from);
+    let end = digits_end(bytes, start);
+    if end == start || end == bytes.len() || bytes[start] < b'1' || bytes[start] > b'9' {
+        return None;
+    }
+    let after = bytes[end];
+    if after != b',' && after != b']' && after != b' ' {
+        return None;
+    }
+    let n = Numeral::scan(&bytes[start..end]).to_u64()?;
+    Some((n, end))
+}
+
+// Whether the array ends here, and the line with it.
+fn is_over(bytes: &[u8], from: usize) -> bool
+    requires { from ≤ length bytes.now }
+    ensures { IsTrue result → Begins (drop from bytes.now) (token end_array) [] }
+{
+    match pass(bytes, from, b']') {
+        Some(at) => past_spaces(bytes, at) == bytes.len(),
+        None => false,
+    }
+}
+
+// The member from here on, with what comes after it.
+fn member(bytes: &[u8], from: usize) -> Option<(Part<'_>, usize)>
+    requires { from ≤ length bytes.now }
+    ensures range { IfSome result (λ found. found.1 ≤ length bytes.now) }
+    ensures begins { IfSome result (λ found. BeginsPart (drop from bytes.now) found.0 (drop found.1 bytes.now)) }
+{
+    if let Some((text, after)) = string(bytes, from) {
+        return Some((Part::Text(text), after));
+    }
+    let (n, after) = number(bytes, from)?;
+    Some((Part::Number(n), after))
+}
+
+/// The members of a line that is an array of one to `MAX_PARTS` strings with no escape and whole numbers that do not begin
+/// with 0, with spaces between them at most. Of any other line it says nothing: it may be the same array in another spelling.
+pub fn scanned(line: &[u8]) -> Option<Parts<'_>>
+    ensures { IfSome result (λ parts. json_of line.now ≡ Some (array (parts_items parts.items))) }
+{
+    if str::from_utf8(line).is_err() {
+        return None;
+    }
+    let mut at = pass(line, 0, b'[')?;
+    let mut parts = Parts::new();
+    'parts: while parts.len() < MAX_PARTS {
+        let (part, after) = member(line, at)?;
+        parts.push(part);
+        if is_over(line, after) {
+            return Some(parts);
+        }
+        at = pass(line, after, b',')?;
+    }
+    None
+}

@@ -1,0 +1,119 @@
+//! The text of a line's parts, appended to bytes that are kept from line to line: a kept buffer allocates only where it grows.
+ghost use Rattle.std.specs.Prelude.{◌≡◌, ℕ, [], ◌∷◌, ◌++◌, ◌<◌, decimal, length, take, OnOk, IsTrue};
+ghost use Rattle.serde_json.specs.Written.{compact_text};
+ghost use Rattle.json.specs.Print.{escape, escape_letter, escape_byte};
+ghost use Rattle.std.specs.Char.{digit_char};
+ghost use Rattle.tx_lines.specs.Texts.{text_of};
+
+use itoa::Buffer;
+use std::alloc::AllocError;
+
+/// Appends a number in decimal digits.
+pub(crate) fn put_digits(out: &mut Vec<u8>, n: u64) -> Result<(), AllocError>
+    ensures { OnOk result (out.new.items ≡ out.old.items ++ decimal n) }
+{
+    let mut buffer = Buffer::new();
+    out.extend_from_slice(buffer.format(n).as_bytes())
+}
+
+// Whether each byte stands for itself in a string.
+fn is_plain(bytes: &[u8]) -> bool
+    ensures { IsTrue result → escape bytes.now ≡ bytes.now }
+{
+    let mut at = 0;
+    'bytes: while at < bytes.len() {
+        let byte = bytes[at];
+        if byte < 32 || byte == b'"' || byte == b'\\' {
+            return false;
+        }
+        at += 1;
+    }
+    true
+}
+
+fn letter(byte: u8) -> u8
+    ensures { result ≡ escape_letter byte }
+{
+    match byte {
+        b'"' | b'\\' => byte,
+        8 => b'b',
+        12 => b'f',
+        b'\n' => b'n',
+        b'\r' => b'r',
+        b'\t' => b't',
+        _ => 0,
+    }
+}
+
+fn hex(digit: u8) -> u8
+    requires { digit < 16 }
+    ensures { result ≡ digit_char digit }
+{
+    if digit < 10 {
+        b'0' + digit
+    } else {
+        b'a' - 10 + digit
+    }
+}
+
+#[tactic(auto, unfolding(json::specs::Print::escape_byte))]
+fn put_byte(out: &mut Vec<u8>, byte: u8) -> Result<(), AllocError>
+    ensures { OnOk result (out.new.items ≡ out.old.items ++ escape_byte byte) }
+{
+    let letter = letter(byte);
+    if letter > 0 {
+        return out.extend_from_slice(&[b'\\', letter]);
+    }
+    if byte < 32 {
+        return out.extend_from_slice(&[b'\\', b'u', b'0', b'0', hex(byte / 16), hex(byte % 16)]);
+    }
+    out.extend_from_slice(&[byte])
+}
+
+fn put_escaped(out: &mut Vec<u8>, bytes: &[u8]) -> Result<(), AllocError>
+    ensures { OnOk result (out.new.items ≡ out.old.items ++ escape bytes.now) }
+{
+    if is_plain(bytes) {
+        return out.extend_from_slice(bytes);
+    }
+    for byte in bytes {
+        put_byte(out, *byte)?;
+    }
+    Ok(())
+}
+
+// Bytes as a string, `null` where they are no UTF-8.
+fn put_string(out: &mut Vec<u8>, bytes: &[u8]) -> Result<(), AllocError>
+    ensures { OnOk result (out.new.items ≡ out.old.items ++ compact_text (text_of bytes.now)) }
+{
+    if str::from_utf8(bytes).is_err() {
+        return out.extend_from_slice(b"null");
+    }
+    out.extend_from_slice(b"\"")?;
+    put_escaped(out, bytes)?;
+    out.extend_from_slice(b"\"")
+}
+
+/// Appends a comma and a number.
+pub fn put_number(out: &mut Vec<u8>, n: u64) -> Result<(), AllocError>
+    ensures { OnOk result (out.new.items ≡ out.old.items ++ 44 ∷ decimal n) }
+{
+    out.extend_from_slice(b",")?;
+    put_digits(out, n)
+}
+
+/// Appends a comma and bytes as a JSON string, `null` where they are no UTF-8.
+pub fn put_text(out: &mut Vec<u8>, bytes: &[u8]) -> Result<(), AllocError>
+    ensures { OnOk result (out.new.items ≡ out.old.items ++ 44 ∷ compact_text (text_of bytes.now)) }
+{
+    out.extend_from_slice(b",")?;
+    put_string(out, bytes)
+}
+
+/// Appends a word, as it is written, a comma and a number.
+pub(crate) fn put_stamped(out: &mut Vec<u8>, word: &[u8], n: u64) -> Result<(), AllocError>
+    ensures { OnOk result (out.new.items ≡ out.old.items ++ (word.now ++ 44 ∷ decimal n)) }
+{
+    out.extend_from_slice(word)?;
+    put_number(out, n)
+}
