@@ -3,5 +3,7 @@
 #![tactic(auto)]
 
 mod store;
+mod wire;
 
 pub use store::Store;
+pub use wire::Wire;
