@@ -3,6 +3,8 @@
 #![tactic(auto)]
 
 mod store;
+#[cfg(test)]
+mod tests;
 mod wire;
 
 pub use store::Store;

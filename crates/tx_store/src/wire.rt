@@ -8,8 +8,8 @@ use tx_client::{Lost, Sender};
 use tx_journal::{Naming, Reply, Request};
 use tx_types::Key;
 
-/// A way to the regions of a store. Each request waits until no other call has its region, and is taken there once: none is lost,
-/// and none comes late.
+/// A way to the regions of a store. Each request waits until no other call has its region, and is taken there once: none is
+/// lost, and none comes late.
 #[derive(Drop)]
 pub struct Wire<'a, J: Naming, F: Families + Drop, R: Wait> {
     rt: &'a R,
