@@ -1,1 +1,2 @@
-mod Making
+-- Seats and families, one after another.
+pub mod Making

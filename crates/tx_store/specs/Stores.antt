@@ -1,9 +1,14 @@
--- Which requests a store takes.
-use Rattle.std.specs.Prelude.{ℕ, ◌≤◌, List, length}
+-- What the way to a store makes of a request.
+use Rattle.std.specs.Prelude.{◌≡◌, List, Ok, Err}
 use Rattle.tx_types.specs.declared.key.Key.{Key}
-use Rattle.tx_plan.specs.declared.body.Body.{Body}
-use Rattle.tx_core.specs.Worlds.{Holds}
+use Rattle.tx_journal.specs.Replies.{Asked}
+use Rattle.tx_client.specs.Senders.{Reached, IsHeld}
 
--- one of its regions holds what a request speaks of
-abbrev pub IsHeld : List Key → Body → Type 0
-IsHeld bounds body = (n : ℕ) × (n ≤ length bounds) × Holds bounds n body
+-- it takes what one of the regions holds
+abbrev pub TakesHeld : {S : Type 0} → List Key → S → Asked → Type 0
+TakesHeld bounds a q = IsHeld bounds q.body
+
+-- a reply comes, and it is to the request that was sent
+abbrev pub Replies : {S : Type 0} → S → Asked → Reached → S → Type 0
+Replies a q (Ok g) b = g.request ≡ q
+Replies a q (Err l) b = ⊥

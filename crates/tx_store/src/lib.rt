@@ -3,5 +3,9 @@
 #![tactic(auto)]
 
 mod store;
+#[cfg(test)]
+mod tests;
+mod wire;
 
 pub use store::Store;
+pub use wire::Wire;

@@ -4,8 +4,8 @@ ghost use Rattle.tx_types.specs.declared.key.Key.{Key};
 ghost use Rattle.tx_types.specs.declared.fault.Fault.TheVariants.{OutOfMemory};
 ghost use Rattle.tx_cells.specs.Contents.{nothing_held};
 ghost use Rattle.tx_core.specs.Worlds.{Holds, route};
-ghost use Rattle.tx_journal.specs.Known.{Known};
-ghost use Rattle.tx_store.specs.Stores.{IsHeld};
+ghost use Rattle.tx_journal.specs.Known.{Known, AreRising};
+ghost use Rattle.tx_client.specs.Senders.{IsHeld};
 
 use std::alloc::Global;
 use std::sync::{Mutex, Wait};
@@ -51,6 +51,14 @@ impl<J: Naming, F: Families + Drop> Store<J, F> {
             journal: journal.clone()?,
             regions,
         })
+    }
+
+    /// The keys between its regions, rising.
+    pub fn bounds(&self) -> &[Key]
+        ensures value { result.now ≡ J.bounds }
+        ensures rising { AreRising J.bounds }
+    {
+        self.journal.bounds()
     }
 
     /// The region of a key.

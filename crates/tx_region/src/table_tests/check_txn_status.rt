@@ -4,7 +4,6 @@ use crate::table_tests::rows::{Row, first_wrong};
 use crate::table_tests::shown::Word::*;
 use crate::table_tests::shown::{BARE, BELOW, FUTURE, NOT_FOUND, ROLLED_BACK, Short};
 use crate::table_tests::states::*;
-use tx_cells::NestedCells;
 
 // What is told of the lock.
 const TOLD_6: Short = (Locked, 5, 6);
@@ -46,5 +45,5 @@ const ROWS: [Row; 20] = [
 
 #[test]
 fn rows_of_check_txn_status(rt: HostRuntime) {
-    assert_eq!(rt; first_wrong::<NestedCells>(rt.alloc(), &ROWS), None);
+    assert_eq!(rt; first_wrong(rt.alloc(), &ROWS), None);
 }

@@ -7,7 +7,6 @@ use crate::table_tests::rows::{RegionRow, Row, first_wrong, first_wrong_in_regio
 use crate::table_tests::shown::Word::*;
 use crate::table_tests::shown::{BARE, FUTURE, RAISED, Short};
 use crate::table_tests::states::*;
-use tx_cells::NestedCells;
 
 // A read at 6.
 const READ: &[Ask] = &[Get(b'k', 6, 0)];
@@ -106,32 +105,20 @@ const COLLECT_ON_KEY: [Row; 4] = [
 
 #[test]
 fn rows_of_raise_safe(rt: HostRuntime) {
-    assert_eq!(rt;
-        first_wrong_in_region::<NestedCells>(rt.alloc(), &RAISE_SAFE),
-        None
-    );
+    assert_eq!(rt; first_wrong_in_region(rt.alloc(), &RAISE_SAFE), None);
 }
 
 #[test]
 fn rows_of_locks_below(rt: HostRuntime) {
-    assert_eq!(rt;
-        first_wrong_in_region::<NestedCells>(rt.alloc(), &LOCKS_BELOW),
-        None
-    );
+    assert_eq!(rt; first_wrong_in_region(rt.alloc(), &LOCKS_BELOW), None);
 }
 
 #[test]
 fn rows_of_collect(rt: HostRuntime) {
-    assert_eq!(rt;
-        first_wrong_in_region::<NestedCells>(rt.alloc(), &COLLECT),
-        None
-    );
+    assert_eq!(rt; first_wrong_in_region(rt.alloc(), &COLLECT), None);
 }
 
 #[test]
 fn rows_of_collect_on_a_key(rt: HostRuntime) {
-    assert_eq!(rt;
-        first_wrong::<NestedCells>(rt.alloc(), &COLLECT_ON_KEY),
-        None
-    );
+    assert_eq!(rt; first_wrong(rt.alloc(), &COLLECT_ON_KEY), None);
 }

@@ -9,7 +9,6 @@ use crate::table_tests::shown::{
     ALREADY_ROLLED_BACK, BARE, BELOW, LOCK_NOT_FOUND, MISSING, RESOLVED, ROLLED_BACK, Short,
 };
 use crate::table_tests::states::*;
-use tx_cells::NestedCells;
 
 const AT_7: [u64; 6] = [0, 0, 1, 7, 0, 0];
 
@@ -98,34 +97,25 @@ const RESOLVE_LOCK: [Row; 11] = [
 
 #[test]
 fn rows_of_commit(rt: HostRuntime) {
-    assert_eq!(rt; first_wrong::<NestedCells>(rt.alloc(), &COMMIT), None);
+    assert_eq!(rt; first_wrong(rt.alloc(), &COMMIT), None);
 }
 
 #[test]
 fn rows_of_batch_rollback(rt: HostRuntime) {
-    assert_eq!(rt;
-        first_wrong::<NestedCells>(rt.alloc(), &BATCH_ROLLBACK),
-        None
-    );
+    assert_eq!(rt; first_wrong(rt.alloc(), &BATCH_ROLLBACK), None);
 }
 
 #[test]
 fn rows_of_txn_heart_beat(rt: HostRuntime) {
-    assert_eq!(rt;
-        first_wrong::<NestedCells>(rt.alloc(), &TXN_HEART_BEAT),
-        None
-    );
+    assert_eq!(rt; first_wrong(rt.alloc(), &TXN_HEART_BEAT), None);
 }
 
 #[test]
 fn rows_of_check_secondary_locks(rt: HostRuntime) {
-    assert_eq!(rt;
-        first_wrong::<NestedCells>(rt.alloc(), &CHECK_SECONDARY_LOCKS),
-        None
-    );
+    assert_eq!(rt; first_wrong(rt.alloc(), &CHECK_SECONDARY_LOCKS), None);
 }
 
 #[test]
 fn rows_of_resolve_lock(rt: HostRuntime) {
-    assert_eq!(rt; first_wrong::<NestedCells>(rt.alloc(), &RESOLVE_LOCK), None);
+    assert_eq!(rt; first_wrong(rt.alloc(), &RESOLVE_LOCK), None);
 }

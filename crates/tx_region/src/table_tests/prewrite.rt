@@ -5,7 +5,6 @@ use crate::table_tests::rows::{Row, first_wrong};
 use crate::table_tests::shown::Word::*;
 use crate::table_tests::shown::{ALREADY_ROLLED_BACK, BARE, FUTURE, Short};
 use crate::table_tests::states::*;
-use tx_cells::NestedCells;
 
 // In two phases, and async.
 const PLAIN: Ask = Prewrite(b'k', 5, Put(1));
@@ -50,5 +49,5 @@ const ROWS: [Row; 18] = [
 
 #[test]
 fn rows_of_prewrite(rt: HostRuntime) {
-    assert_eq!(rt; first_wrong::<NestedCells>(rt.alloc(), &ROWS), None);
+    assert_eq!(rt; first_wrong(rt.alloc(), &ROWS), None);
 }

@@ -5,7 +5,6 @@ use crate::table_tests::rows::{RegionRow, first_wrong_in_region};
 use crate::table_tests::shown::Word::*;
 use crate::table_tests::shown::{FUTURE, NOTHING, Short};
 use crate::table_tests::states::*;
-use tx_cells::NestedCells;
 
 // One byte at 2, deleted at 4, 300 bytes at 6, left at 8; a rollback at 9.
 const VERSIONS: &[Ask] = &[
@@ -92,16 +91,10 @@ const SCAN: [RegionRow; 14] = [
 
 #[test]
 fn rows_of_get(rt: HostRuntime) {
-    assert_eq!(rt;
-        first_wrong_in_region::<NestedCells>(rt.alloc(), &GET),
-        None
-    );
+    assert_eq!(rt; first_wrong_in_region(rt.alloc(), &GET), None);
 }
 
 #[test]
 fn rows_of_scan(rt: HostRuntime) {
-    assert_eq!(rt;
-        first_wrong_in_region::<NestedCells>(rt.alloc(), &SCAN),
-        None
-    );
+    assert_eq!(rt; first_wrong_in_region(rt.alloc(), &SCAN), None);
 }

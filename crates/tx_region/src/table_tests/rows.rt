@@ -75,13 +75,21 @@ fn holds_in_region<F: Fresh>(alloc: Global, row: &RegionRow) -> bool {
     is(given, row.2) && left == row.3
 }
 
-/// The place of the first row that does not hold.
-pub fn first_wrong<F: Fresh>(alloc: Global, rows: &[Row]) -> Option<usize> {
+fn first_wrong_over<F: Fresh>(alloc: Global, rows: &[Row]) -> Option<usize> {
     rows.iter().position(|row| !holds::<F>(alloc, row))
 }
 
-/// The place of the first row that does not hold.
-pub fn first_wrong_in_region<F: Fresh>(alloc: Global, rows: &[RegionRow]) -> Option<usize> {
+fn first_wrong_in_region_over<F: Fresh>(alloc: Global, rows: &[RegionRow]) -> Option<usize> {
     rows.iter()
         .position(|row| !holds_in_region::<F>(alloc, row))
+}
+
+/// The place of the first row that does not hold, over each kind of families.
+pub fn first_wrong(alloc: Global, rows: &[Row]) -> Option<usize> {
+    first_wrong_over::<NestedCells>(alloc, rows)
+}
+
+/// The place of the first row that does not hold, over each kind of families.
+pub fn first_wrong_in_region(alloc: Global, rows: &[RegionRow]) -> Option<usize> {
+    first_wrong_in_region_over::<NestedCells>(alloc, rows)
 }

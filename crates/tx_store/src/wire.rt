@@ -1,0 +1,52 @@
+//! A way to the regions of a store, for sessions and resolvers.
+ghost use Rattle.tx_client.specs.Senders.{IsWay, LosesNothing};
+
+use crate::store::Store;
+use std::sync::Wait;
+use tx_cells::Families;
+use tx_client::{Lost, Sender};
+use tx_journal::{Naming, Reply, Request};
+use tx_types::Key;
+
+/// A way to the regions of a store. Each request waits until no other call has its region, and is taken there once: none is
+/// lost, and none comes late.
+#[derive(Drop)]
+pub struct Wire<'a, J: Naming, F: Families + Drop, R: Wait> {
+    rt: &'a R,
+    store: &'a Store<J, F>,
+}
+
+impl<'a, J: Naming, F: Families + Drop, R: Wait> Wire<'a, J, F, R> {
+    /// The way to the regions of this store.
+    pub fn new(rt: &'a R, store: &'a Store<J, F>) -> Wire<'a, J, F, R> {
+        Wire { rt, store }
+    }
+
+    /// Shows that it takes what some region holds, that a reply is to the request that was sent, and that none is lost.
+    pub fn show(&self)
+        ensures way { IsWay J.bounds ⟦<Wire<'a, J, F, R> as Sender<Request<J>, Reply<J>>>⟧.fits ⟦<Wire<'a, J, F, R> as Sender<Request<J>, Reply<J>>>⟧.sends ⟦<Wire<'a, J, F, R> as Sender<Request<J>, Reply<J>>>⟧.keys_between }
+        ensures loses { LosesNothing ⟦<Wire<'a, J, F, R> as Sender<Request<J>, Reply<J>>>⟧.sends }
+    {
+        let _ = self.rt;
+    }
+}
+
+impl<'a, J: Naming, F: Families + Drop, R: Wait> Sender<Request<J>, Reply<J>>
+    for Wire<'a, J, F, R> {
+    ghost use Rattle.std.specs.Prelude.{◌≡◌};
+    ghost use Rattle.tx_store.specs.Stores.{Replies, TakesHeld};
+
+    ghost fits = { TakesHeld J.bounds };
+
+    ghost sends = { Replies };
+
+    ghost keys_between = { λ a. J.bounds };
+
+    fn send(&mut self, request: Request<J>) -> Result<Reply<J>, Lost> {
+        Ok(self.store.run(self.rt, request))
+    }
+
+    fn bounds(&self) -> &[Key] {
+        self.store.bounds()
+    }
+}
