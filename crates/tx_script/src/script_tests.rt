@@ -1,5 +1,5 @@
 //! Scripts with their replies, on readers and writers in memory.
-use crate::tests::{Drip, torn};
+use crate::tests::{Drip, torn_reader};
 use crate::{Broken, End, simulate};
 use std::process::Abort;
 use std::test::Fail;
@@ -158,7 +158,7 @@ fn failing_writer_has_a_beginning_of_the_replies(rt: HostRuntime) -> Result<(), 
 #[test]
 fn failing_reader_has_the_replies_before(rt: HostRuntime) -> Result<(), Fail> {
     let script = "[\"begin\",\"A\"]\n[\"finish\",\"A\"]\n";
-    let mut reader = torn(rt.alloc(), script, 20)?;
+    let mut reader = torn_reader(rt.alloc(), script, 20)?;
     let mut writer = Vec::new(rt.alloc());
     let ended = simulate(rt.alloc(), &mut reader, &mut writer);
     assert_eq!(rt; ended, Err(Broken::Input));

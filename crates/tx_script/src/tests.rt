@@ -245,7 +245,11 @@ impl Read for Torn<'_> {
 }
 
 // A reader of this text that reads a byte at a time, and fails once it has made some reads.
-pub(crate) fn torn(alloc: Global, text: &str, good: usize) -> io::Result<BufReader<Torn<'_>>> {
+pub(crate) fn torn_reader(
+    alloc: Global,
+    text: &str,
+    good: usize,
+) -> io::Result<BufReader<Torn<'_>>> {
     let bytes = text.as_bytes();
     BufReader::with_capacity(alloc, 1, Torn { bytes, good })
 }
@@ -253,7 +257,7 @@ pub(crate) fn torn(alloc: Global, text: &str, good: usize) -> io::Result<BufRead
 #[test]
 fn failing_reader_ends_without_a_verdict(rt: HostRuntime) -> Result<(), Fail> {
     for good in 0..=COMMIT_THEN_READ.len() {
-        let mut reader = torn(rt.alloc(), COMMIT_THEN_READ, good)?;
+        let mut reader = torn_reader(rt.alloc(), COMMIT_THEN_READ, good)?;
         let mut writer = Vec::new(rt.alloc());
         let ended = check(rt.alloc(), &mut reader, &mut writer);
         assert_eq!(rt; ended, Err(Broken::Input), "after {good} reads");
