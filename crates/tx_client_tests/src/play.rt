@@ -312,14 +312,12 @@ impl<J: Naming> World<J> {
     }
 
     fn acts(&mut self, who: Who, act: Act) -> Said {
-        let session = match who {
-            Who::A => &mut self.a,
-            Who::B => &mut self.b,
+        let Some(mut session) = self.take(who) else {
+            return ORDER;
         };
-        match session {
-            Some(session) => acts(self.alloc, session, act, &mut self.post),
-            None => ORDER,
-        }
+        let said = acts(self.alloc, &mut session, act, &mut self.post);
+        self.place(who, Some(session));
+        said
     }
 
     // What comes of a step.
@@ -376,7 +374,9 @@ fn world_over<J: Naming>(
     if seats.len() < 4 {
         return None;
     }
-    let mut free = seats.split_off(3).ok()?;
+    let Ok(mut free) = seats.split_off(3) else {
+        return None;
+    };
     let seat = free.pop()?;
     let post = Post::new(alloc, journal, seat, seats)?;
     Some(World {

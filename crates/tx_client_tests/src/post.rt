@@ -1,5 +1,5 @@
 //! A way to three regions that loses, repeats, refuses and holds requests.
-ghost use Rattle.std.specs.Prelude.{◌≡◌, [], All, IfOk, IfSome, Unit};
+ghost use Rattle.std.specs.Prelude.{◌≡◌, [], All, IfSome};
 ghost use Rattle.tx_journal.specs.Known.{AreRising};
 
 use std::alloc::Global;
@@ -187,7 +187,7 @@ impl<J: Naming> Post<J> {
 }
 
 impl<J: Naming> Sender<Request<J>, Reply<J>> for Post<J> {
-    ghost use Rattle.std.specs.Prelude.{◌≡◌, IfOk, Unit};
+    ghost use Rattle.std.specs.Prelude.{◌≡◌, IfOk};
 
     ghost fits = { λ s q. Unit {0} };
 

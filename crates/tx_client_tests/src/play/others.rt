@@ -1,5 +1,7 @@
 //! What a session learns of others.
-ghost use Rattle.std.specs.Prelude.{◌≡◌};
+ghost use Rattle.std.specs.Prelude.{◌≡◌, IfSome, Some};
+ghost use Rattle.tx_types.specs.declared.lock.LockInfo.{LockInfo};
+ghost use Rattle.tx_plan.specs.declared.answer.Answer.TheVariants.{Locked};
 
 use crate::post::Post;
 use crate::words::{OK, Said, by_answer, by_fault};
@@ -24,16 +26,37 @@ fn check_of<J: Naming>(met: Met<J>, caller: Ts, now: u64) -> Request<J> {
     Request::new(told, Body::CheckTxnStatus(body))
 }
 
+// The start and the minimum of a lock.
+#[derive(Clone, Copy)]
+struct Own {
+    start: Ts,
+    minimum: Ts,
+}
+
+// The lock that an answer tells of, where it is that of its primary.
+fn primary_lock(answer: Option<Answer>) -> Option<Own>
+    ensures { IfSome result (λ r. (info : LockInfo) × (answer ≡ Some (Locked info)) × (info.key ≡ info.primary) × (info.start ≡ r.start) × (info.min ≡ r.minimum)) }
+{
+    let Some(Answer::Locked(info)) = answer else {
+        return None;
+    };
+    let found = Own {
+        start: info.start,
+        minimum: info.min,
+    };
+    let is_own = info.key == info.primary;
+    drop(info);
+    if is_own { Some(found) } else { None }
+}
+
 // What it proves that a transaction's lock on its primary was shown.
 fn pushed<J: Naming>(reply: Reply<J>) -> Option<Resolved<J>> {
     let (request, answer, told) = reply.into_parts();
     drop(request);
     told_lock();
-    match answer {
-        Some(Answer::Locked(info)) if info.key == info.primary => {
-            Some(Resolved::new(info.start, Status::Pushed(info.min), told))
-        }
-        _ => None,
+    match primary_lock(answer) {
+        Some(own) => Some(Resolved::new(own.start, Status::Pushed(own.minimum), told)),
+        None => None,
     }
 }
 

@@ -82,10 +82,10 @@ fn tries_named<J: Naming>(
 
 // What comes of so many keys in this mode.
 fn tried(alloc: Global, count: u16, mode: Mode) -> [&'static str; 4] {
-    match Opened::new(alloc, Vec::new(alloc), 1) {
-        Ok(opened) => tries_named::<Brand>(alloc, opened, count, mode),
-        Err(_) => ["E12"; 4],
-    }
+    let Ok(opened) = Opened::new(alloc, Vec::new(alloc), 1) else {
+        return ["E12"; 4];
+    };
+    tries_named::<Brand>(alloc, opened, count, mode)
 }
 
 const LIMITS: [(u16, Mode, [&str; 4]); 4] = [
