@@ -1,0 +1,106 @@
+//! What is known of a session's transaction, what it learns of others, and how it ends.
+ghost use Rattle.std.specs.Prelude.{◌≡◌, Some, None, IfOk, IfErr, OnOk, OnErr, option_map};
+ghost use Rattle.tx_types.specs.declared.fault.Fault.TheVariants as fault;
+ghost use Rattle.tx_core.specs.declared.event.Event.TheVariants.{Answered, Stopped};
+ghost use Rattle.tx_core.specs.Recording.{MayRecord};
+ghost use Rattle.tx_client.specs.Sessions.{with_passed, finish_of};
+ghost use Rattle.tx_client.specs.Statuses.{lies_above};
+ghost use Rattle.tx_client.specs.Calls.{HasHeard, Records, IsDecidedSo};
+
+use super::{Session, add};
+use crate::resolved::{Decision, Met, Resolved};
+use tx_core::{Event, Outcome};
+use tx_journal::{Naming, Seat};
+use tx_types::{Fault, Ts};
+
+// Records what was answered.
+fn record_answered<J: Naming>(seat: &mut Seat<J>, start: Ts, outcome: &Outcome)
+    requires { MayRecord J.bounds seat.old.seat seat.old.events (Answered start outcome.now) }
+    ensures { Records J.bounds seat.old (Answered start outcome.now) seat.new }
+{
+    add(seat, Event::Answered(start, *outcome));
+}
+
+impl<J: Naming> Session<J> {
+    // The outcome, where there is one.
+    fn outcome(&self) -> Option<Outcome>
+        ensures { result ≡ finish_of self.now.state }
+    {
+        self.transaction.outcome()
+    }
+
+    /// What is known of its transaction's fate, with what proves it.
+    pub fn decision(&mut self) -> Option<Decision<J>>
+        ensures same { self.new ≡ self.old }
+        ensures decision { result ≡ option_map (λ fate. record { start = self.old.state.start; fate = fate; events = self.old.seat.events }) self.old.state.decision }
+    {
+        let fate = self.transaction.decision()?;
+        let told = self.seat.tell();
+        Some(Decision::new(self.transaction.start(), fate, told))
+    }
+
+    /// The lock that last stood in its way, with what proves that it did.
+    pub fn met(&mut self) -> Result<Option<Met<J>>, Fault>
+        ensures same { self.new ≡ self.old }
+        ensures ok { IfOk result (λ met. met ≡ option_map (λ info. record { info = info; events = self.old.seat.events }) self.old.state.met) }
+        ensures err { IfErr result (λ e. e ≡ fault.OutOfMemory) }
+    {
+        let Some(info) = self.transaction.met()? else {
+            return Ok(None);
+        };
+        let told = self.seat.tell();
+        Ok(Some(Met::new(info, told)))
+    }
+
+    /// Learns what a resolver found: its reads may then pass by a transaction that is aborted, or commits above its start.
+    /// `OutOfMemory` leaves the session as it was.
+    pub fn learn(&mut self, resolved: Resolved<J>) -> Result<(), Fault>
+        ensures ok { OnOk result ((self.new.state ≡ with_passed self.old.state resolved.start (lies_above resolved.status self.old.state.start)) × HasHeard J.bounds self.old.seat resolved.events self.new.seat) }
+        ensures same { OnErr result (self.new ≡ self.old) }
+        ensures err { IfErr result (λ e. e ≡ fault.OutOfMemory) }
+    {
+        let (start, status, told) = resolved.into_parts();
+        let may = status.lies_above(self.transaction.start());
+        self.transaction.pass(start, may)?;
+        self.seat.learn(told);
+        Ok(())
+    }
+
+    // Its seat.
+    fn into_seat(self) -> Seat<J>
+        ensures { result ≡ self.seat }
+    {
+        let Session {
+            seat,
+            transaction: _,
+        } = self;
+        seat
+    }
+
+    /// Ends the transaction with its outcome: the fate where it is known, read-only where nothing was declared, unknown where
+    /// there is a cause. Where there is none, the session comes back.
+    pub fn finish(self) -> Result<(Outcome, Seat<J>), Session<J>>
+        ensures ended { IfOk result (λ r. (finish_of self.state ≡ Some r.0) × Records J.bounds self.seat (Answered self.state.start r.0) r.1 × IsDecidedSo self.seat.events self.state.start r.0) }
+        ensures open_yet { IfErr result (λ s. (finish_of self.state ≡ None) × (s ≡ self)) }
+    {
+        match self.outcome() {
+            None => Err(self),
+            Some(outcome) => {
+                let start = self.transaction.start();
+                let mut seat = self.into_seat();
+                record_answered(&mut seat, start, &outcome);
+                Ok((outcome, seat))
+            }
+        }
+    }
+
+    /// Leaves the transaction as it is.
+    pub fn stop(self) -> Seat<J>
+        ensures { Records J.bounds self.seat (Stopped self.seat.seat) result }
+    {
+        let mut seat = self.into_seat();
+        let number = seat.number();
+        add(&mut seat, Event::Stopped(number));
+        seat
+    }
+}

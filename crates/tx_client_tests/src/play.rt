@@ -1,0 +1,421 @@
+//! Sessions over a way to three regions, with the keys 4 and 7 between them: a scenario is a list of steps, each with who acts, what
+//! it does, what becomes of the request that it sends, and what comes of it.
+ghost use Rattle.std.specs.Prelude.{◌≡◌, [], All, IfSome, vec_len};
+ghost use Rattle.tx_journal.specs.Known.{AreRising};
+
+use crate::post::{Post, Way};
+use crate::words::{OK, Said, by_change, by_fault, by_outcome, by_phase, by_read};
+use std::alloc::Global;
+use std::marker::Brand;
+use std::mem::replace;
+use tx_client::{Session, Terms};
+use tx_journal::{Journal, Naming, Opened, Seat};
+use tx_types::{Key, Mode, Ts, Value};
+
+mod others;
+
+/// The two sessions of a scenario.
+#[derive(Clone, Copy)]
+pub enum Who {
+    A,
+    B,
+}
+
+/// What a session does. Keys and values are digits.
+#[derive(Clone, Copy)]
+pub enum Act {
+    Begin,
+    /// Begins on a seat that may draw so few ticks, 0 or 1.
+    BeginShort(u32),
+    Put(u8, u8),
+    Delete(u8),
+    Lock(u8),
+    /// In this mode, where no async lock may promise more than this.
+    Declare(Mode, Option<u64>),
+    Prewrite,
+    Draw,
+    Commit,
+    Abort,
+    HeartBeat(u32),
+    Get(u8),
+    Scan(u8, u8, u32),
+    /// Asks at this time for the status of the transaction whose lock it met, and learns that it is pushed.
+    Check(u64),
+    /// Learns the fate of the other session's transaction.
+    Learn,
+    Finish,
+    Stop,
+    /// The request that is held comes to its region.
+    Deliver,
+    /// The safe point of this region becomes this.
+    RaiseSafe(u32, u64),
+}
+
+/// A step: who acts, the act, what becomes of its request, and the word and the number that come of it.
+pub type Step = (Who, Act, Way, &'static str, u64);
+
+/// Where a call may not be made, or a session is not there.
+const ORDER: Said = ("order", 0);
+
+// The key of a digit.
+fn key(alloc: Global, digit: u8) -> Option<Key> {
+    Key::new(alloc, &[b'0'.wrapping_add(digit)]).ok()
+}
+
+// A session's own buffer.
+fn put<J: Naming>(alloc: Global, session: &mut Session<J>, digit: u8, value: u8) -> Said {
+    if session.is_declared() {
+        return ORDER;
+    }
+    let Some(key) = key(alloc, digit) else {
+        return ORDER;
+    };
+    match Value::new(alloc, &[b'0'.wrapping_add(value)]) {
+        Ok(value) => by_change(session.put(key, value)),
+        Err(fault) => {
+            drop(key);
+            by_fault(fault)
+        }
+    }
+}
+
+fn delete<J: Naming>(alloc: Global, session: &mut Session<J>, digit: u8) -> Said {
+    if session.is_declared() {
+        return ORDER;
+    }
+    match key(alloc, digit) {
+        Some(key) => by_change(session.delete(key)),
+        None => ORDER,
+    }
+}
+
+fn lock<J: Naming>(alloc: Global, session: &mut Session<J>, digit: u8) -> Said {
+    if session.is_declared() {
+        return ORDER;
+    }
+    match key(alloc, digit) {
+        Some(key) => by_change(session.lock(key)),
+        None => ORDER,
+    }
+}
+
+fn declare<J: Naming>(
+    alloc: Global,
+    session: &mut Session<J>,
+    mode: Mode,
+    most: Option<u64>,
+) -> Said {
+    if session.is_declared() {
+        return ORDER;
+    }
+    let max_commit = match most {
+        Some(most) => Some(Ts::new(most)),
+        None => None,
+    };
+    let terms = Terms {
+        mode,
+        ttl: 10,
+        max_commit,
+    };
+    by_change(session.declare(alloc, terms))
+}
+
+// Requests of a phase.
+fn prewrite<J: Naming>(alloc: Global, session: &mut Session<J>, post: &mut Post<J>) -> Said {
+    if session.is_declared() {
+        by_phase(session.prewrite_next(alloc, post))
+    } else {
+        ORDER
+    }
+}
+
+fn draw<J: Naming>(session: &mut Session<J>) -> Said {
+    if !session.can_draw() {
+        return ORDER;
+    }
+    match session.draw_commit() {
+        Ok(commit) => ("drawn", commit.get()),
+        Err(fault) => by_fault(fault),
+    }
+}
+
+fn commit<J: Naming>(session: &mut Session<J>, post: &mut Post<J>) -> Said {
+    if session.can_commit() {
+        by_phase(session.commit_next(post))
+    } else {
+        ORDER
+    }
+}
+
+fn abort<J: Naming>(session: &mut Session<J>, post: &mut Post<J>) -> Said {
+    if session.can_abort() {
+        by_phase(session.abort_next(post))
+    } else {
+        ORDER
+    }
+}
+
+fn heartbeat<J: Naming>(session: &mut Session<J>, ttl: u32, post: &mut Post<J>) -> Said {
+    if session.has_primary() {
+        by_phase(session.heartbeat(ttl, post))
+    } else {
+        ORDER
+    }
+}
+
+// Reads.
+fn get<J: Naming>(alloc: Global, session: &mut Session<J>, digit: u8, post: &mut Post<J>) -> Said {
+    let Some(key) = key(alloc, digit) else {
+        return ORDER;
+    };
+    let said = by_read(session.get(&key, post));
+    drop(key);
+    said
+}
+
+fn scan<J: Naming>(
+    alloc: Global,
+    session: &mut Session<J>,
+    from: u8,
+    to: u8,
+    limit: u32,
+    post: &mut Post<J>,
+) -> Said {
+    let Some(from) = key(alloc, from) else {
+        return ORDER;
+    };
+    let Some(to) = key(alloc, to) else {
+        drop(from);
+        return ORDER;
+    };
+    post.rise();
+    let said = by_read(session.scan(alloc, &from, &to, limit, post));
+    drop(from);
+    drop(to);
+    said
+}
+
+// What a session does by calls that leave it there.
+fn acts<J: Naming>(alloc: Global, session: &mut Session<J>, act: Act, post: &mut Post<J>) -> Said {
+    match act {
+        Act::Put(key, value) => put(alloc, session, key, value),
+        Act::Delete(key) => delete(alloc, session, key),
+        Act::Lock(key) => lock(alloc, session, key),
+        Act::Declare(mode, most) => declare(alloc, session, mode, most),
+        Act::Prewrite => prewrite(alloc, session, post),
+        Act::Draw => draw(session),
+        Act::Commit => commit(session, post),
+        Act::Abort => abort(session, post),
+        Act::HeartBeat(ttl) => heartbeat(session, ttl, post),
+        Act::Get(key) => get(alloc, session, key, post),
+        Act::Scan(from, to, limit) => scan(alloc, session, from, to, limit, post),
+        Act::Check(now) => others::check(session, now, post),
+        _ => ORDER,
+    }
+}
+
+// A seat with so few ticks left.
+fn shortened<J: Naming>(mut seat: Seat<J>, left: u32) -> Seat<J> {
+    let _ = seat.draw(u32::MAX);
+    if left == 0 {
+        let _ = seat.draw(1);
+    }
+    seat
+}
+
+/// The way, the seats that are free, and the sessions.
+#[derive(Drop)]
+pub struct World<J: Naming> {
+    alloc: Global,
+    post: Post<J>,
+    seats: Vec<Seat<J>>,
+    a: Option<Session<J>>,
+    b: Option<Session<J>>,
+}
+
+impl<J: Naming> World<J> {
+    // A session takes its place.
+    fn place(&mut self, who: Who, session: Option<Session<J>>) {
+        match who {
+            Who::A => drop(replace(&mut self.a, session)),
+            Who::B => drop(replace(&mut self.b, session)),
+        }
+    }
+
+    // A session leaves its place.
+    fn take(&mut self, who: Who) -> Option<Session<J>> {
+        match who {
+            Who::A => replace(&mut self.a, None),
+            Who::B => replace(&mut self.b, None),
+        }
+    }
+
+    fn begin_on(&mut self, who: Who, seat: Seat<J>) -> Said {
+        match Session::begin(self.alloc, seat) {
+            Ok(session) => {
+                let start = session.start().get();
+                self.place(who, Some(session));
+                ("start", start)
+            }
+            Err(seat) => {
+                drop(seat);
+                ("E11", 0)
+            }
+        }
+    }
+
+    fn begin(&mut self, who: Who) -> Said {
+        match self.seats.pop() {
+            Some(seat) => self.begin_on(who, seat),
+            None => ORDER,
+        }
+    }
+
+    fn begin_short(&mut self, who: Who, left: u32) -> Said {
+        match self.seats.pop() {
+            Some(seat) => self.begin_on(who, shortened(seat, left)),
+            None => ORDER,
+        }
+    }
+
+    fn finish(&mut self, who: Who) -> Said {
+        let Some(session) = self.take(who) else {
+            return ORDER;
+        };
+        match session.finish() {
+            Ok((outcome, seat)) => {
+                drop(seat);
+                by_outcome(outcome)
+            }
+            Err(session) => {
+                self.place(who, Some(session));
+                ("not yet", 0)
+            }
+        }
+    }
+
+    fn stop(&mut self, who: Who) -> Said {
+        let Some(session) = self.take(who) else {
+            return ORDER;
+        };
+        drop(session.stop());
+        OK
+    }
+
+    // A session learns what the other one knows of its fate.
+    fn learn(&mut self, who: Who) -> Said {
+        match (&mut self.a, &mut self.b, who) {
+            (Some(a), Some(b), Who::A) => others::learn(a, b),
+            (Some(a), Some(b), Who::B) => others::learn(b, a),
+            _ => ORDER,
+        }
+    }
+
+    fn acts(&mut self, who: Who, act: Act) -> Said {
+        let Some(mut session) = self.take(who) else {
+            return ORDER;
+        };
+        let said = acts(self.alloc, &mut session, act, &mut self.post);
+        self.place(who, Some(session));
+        said
+    }
+
+    // What comes of a step.
+    fn step(&mut self, who: Who, act: Act, way: Way) -> Said {
+        self.post.turn(way);
+        match act {
+            Act::Begin => self.begin(who),
+            Act::BeginShort(left) => self.begin_short(who, left),
+            Act::Learn => self.learn(who),
+            Act::Finish => self.finish(who),
+            Act::Stop => self.stop(who),
+            Act::Deliver => {
+                self.post.deliver();
+                OK
+            }
+            Act::RaiseSafe(region, safe) => {
+                self.post.raise_safe(region, safe);
+                OK
+            }
+            act => self.acts(who, act),
+        }
+    }
+
+    // How many steps came out as they say, up to the first that did not.
+    fn play(&mut self, steps: &[Step]) -> usize {
+        let mut played = 0_usize;
+        for (who, act, way, word, number) in steps {
+            let said = self.step(*who, *act, *way);
+            if said.0 != *word || said.1 != *number {
+                return played;
+            }
+            played = played.wrapping_add(1);
+        }
+        played
+    }
+}
+
+// Seats of which none knows of an event: those of the three regions, and those for sessions.
+fn dealt<J: Naming>(alloc: Global, opened: Opened) -> Option<(Journal<J>, Vec<Seat<J>>)>
+    requires { (opened.table ≡ J.table) × (opened.bounds ≡ J.bounds) × (opened.seats ≡ J.seats) }
+    ensures { IfSome result (λ r. All (λ s. s.events ≡ []) r.1.items) }
+{
+    opened.named::<J>(alloc).ok()
+}
+
+// The way over the first three seats, and the other seats.
+fn world_over<J: Naming>(
+    alloc: Global,
+    journal: Journal<J>,
+    mut seats: Vec<Seat<J>>,
+) -> Option<World<J>>
+    requires { All (λ s. s.events ≡ []) seats.items }
+{
+    if seats.len() < 4 {
+        return None;
+    }
+    let Ok(mut free) = seats.split_off(3) else {
+        return None;
+    };
+    let seat = free.pop()?;
+    let post = Post::new(alloc, journal, seat, seats)?;
+    Some(World {
+        alloc,
+        post,
+        seats: free,
+        a: None,
+        b: None,
+    })
+}
+
+fn play<J: Naming>(alloc: Global, opened: Opened, steps: &[Step]) -> Option<usize>
+    requires { (opened.table ≡ J.table) × (opened.bounds ≡ J.bounds) × (opened.seats ≡ J.seats) }
+{
+    let (journal, seats) = dealt::<J>(alloc, opened)?;
+    let mut world = world_over(alloc, journal, seats)?;
+    let played = world.play(steps);
+    drop(world);
+    Some(played)
+}
+
+// The keys between the regions.
+fn bounds(alloc: Global) -> Option<Vec<Key>>
+    ensures { IfSome result (λ keys. (vec_len keys ≡ 2) × AreRising keys.items) }
+{
+    let low = key(alloc, 4)?;
+    let high = key(alloc, 7)?;
+    if low >= high {
+        return None;
+    }
+    let mut keys = Vec::new(alloc);
+    keys.push(low).ok()?;
+    keys.push(high).ok()?;
+    Some(keys)
+}
+
+/// How many steps came out as they say, up to the first that did not.
+pub fn played(alloc: Global, steps: &[Step]) -> Option<usize> {
+    let bounds = bounds(alloc)?;
+    let opened = Opened::new(alloc, bounds, 5).ok()?;
+    play::<Brand>(alloc, opened, steps)
+}

@@ -1,0 +1,11 @@
+//! Every rule of the sessions as a small scenario. What comes of each step is told by the rules and the case tables.
+use crate::play::Step;
+
+mod asynchronous;
+mod limits;
+mod reads;
+mod two_phases;
+mod unknown;
+
+/// A name, and the steps.
+pub type Scenario = (&'static str, &'static [Step]);
