@@ -1,6 +1,7 @@
 -- What a session's acts count, and what they are where nobody else acted.
-use Rattle.std.proofs.Common.{◌≡◌, ◌≤◌, ◌+◌, ℕ, List, [], ◌∷◌, length, refl, Option, Some, None, sym, ap, subst, ◌∙◌, arith}
+use Rattle.std.proofs.Common.{◌≡◌, ◌≤◌, ◌+◌, ℕ, List, [], ◌∷◌, length, refl, Option, Some, None, Result, Ok, Err, sym, ap, subst, ◌∙◌, arith}
 use Rattle.std.specs.List.{sum_by}
+use Rattle.std.specs.Prelude.{OnOk, OnErr, IfErr}
 use Rattle.tx_types.specs.declared.key.Key.{Key}
 use Rattle.tx_core.specs.declared.event.Declaration.{Declaration}
 use Rattle.tx_core.specs.declared.event.Event.{Event}
@@ -39,7 +40,7 @@ acts_so k m from to Exact Then acts on = record { made = acts.made; counts = act
 
 -- the seat k learnt what is newest and is then l
 module _ (bounds : List Key) (from to : Desk) (k l m : Known) (heard : HasHeard bounds k from.newest l) (regions : to.regions ≡ from.regions) (newest : to.newest ≡ m.events) where
-  n : History
+  abbrev n : History
   n = from.newest
 
   regions_same : at_regions to ≡ at_regions from
@@ -128,3 +129,13 @@ sent_acts bounds w k new from at to result regions newest sent =
       grows = omega (arith, comes.grows, ap length newest);
       exact = λ le. subst (λ h. Runs bounds at.way (record { history = h }) w result (stage_of to)) newest (comes.exact (omega (arith, le, ap length newest)));
     }
+
+-- ---- by what a call gave
+
+pub map_ok : {T E : Type 0} (r : Result T E) (P Q : Type 0) → OnOk r P → (P → Q) → OnOk r Q
+map_ok (Ok x) P Q p on = on p
+map_ok (Err e) P Q p on = tt
+
+pub map_err : {T E : Type 0} (r : Result T E) (A : Type 0) (P Q : E → Type 0) → OnErr r A → IfErr r P → (A → (e : E) → P e → Q e) → IfErr r Q
+map_err (Ok x) A P Q a p on = tt
+map_err (Err e) A P Q a p on = on a e p

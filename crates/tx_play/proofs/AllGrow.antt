@@ -68,7 +68,7 @@ module _ (bounds : List Key) where
   sends_grow say k way refused scene w = runs_grow bounds scene.stage.history way refused scene w _ (λ r next left. begins_all next.stage.history)
 
   module _ (scene : Scene) where
-    h : History
+    abbrev h : History
     h = scene.stage.history
 
     stays : (said : Reply) (left : List Bool) → AllGrow h h (goes scene said left)

@@ -111,8 +111,8 @@ module _ (bounds : List Key) (old new : Seated) (from to : Desk) where
     pub declared : (r : Result (Unit {0}) Fault) → OnOk r ((exceeds old.state.buffer terms ≡ false) × (new.state ≡ record old.state { declared = Some terms }) × Acts old.seat new.seat from to (to.newest ≡ after from.newest))
         → IfErr r (λ e. ((e ≡ fault.OutOfMemory) ⊎ ((e ≡ fault.TooManyKeys) × (exceeds old.state.buffer terms ≡ true))) × (new.state ≡ old.state) × Acts old.seat new.seat from to (to.newest ≡ from.newest))
         → (said : Reply) → said ≡ entered_by r → Did bounds declaring (Ok said) old new from to
-    declared (Ok x) ok err said also = subst (λ s. Did bounds declaring (Ok s) old new from to) (sym also) (declared_ok ok.0 ok.1.0 ok.1.1)
-    declared (Err e) ok err said also = subst (λ s. Did bounds declaring (Ok s) old new from to) (sym also) (declared_err e err.0 err.1.0 err.1.1)
+    declared (Ok x) ok err said also = subst (λ s. Did bounds declaring (Ok s) old new from to) (sym also) (declared_ok ok.0 ok.1 ok.2)
+    declared (Err e) ok err said also = subst (λ s. Did bounds declaring (Ok s) old new from to) (sym also) (declared_err e err.0 err.1 err.2)
 
   -- a draw
   pub drew_did : (t : ℕ) → can_draw old.state ≡ true → new.state ≡ record old.state { drawn = Some t } → Acts old.seat new.seat from to ((t ≡ last from.newest + 1) × (to.newest ≡ Drawn old.seat.seat (last from.newest + 1) ∷ from.newest))

@@ -57,8 +57,8 @@ pub same_learnt : (bounds : List Key) (old new : Known) (g : Reached) → Learns
 same_learnt bounds old new (Err l) is = record { number = ap (λ (k : Known). k.seat) is; ticks = ap (λ (k : Known). k.ticks) is; own = ap made_by is }
 same_learnt bounds old new (Ok g) is = record {
   number = is.0;
-  ticks = is.1.0;
-  own = ap (λ i. length (part i new.events)) is.0 ∙ ap length (part_extends old.seat old.events new.events is.1.1.0.extends);
+  ticks = is.1;
+  own = ap (λ i. length (part i new.events)) is.0 ∙ ap length (part_extends old.seat old.events new.events is.2.extends);
 }
 
 -- nothing was sent
@@ -134,7 +134,7 @@ two_comes bounds from mid to body c d k new Exact one two same on = record {
 -- ---- one send
 
 module _ (bounds : List Key) (from mid : Desk) (q : Asked) (k then_known : Known) where
-  Exactly : Reached → Type 0
+  abbrev Exactly : Reached → Type 0
   Exactly g = Reach bounds from.way (stage_of from) q.body (came_of g) (stage_of mid)
 
   at_way : (w : Way) → from.way ≡ w → (g : Reached) → Reach bounds w (stage_of from) q.body (came_of g) (stage_of mid) → Exactly g
@@ -189,7 +189,7 @@ or_comes k new from to Exact Then on p = record { made = p.made; counts = p.coun
 
 -- a whole walk
 pub walk_comes : {R : Type 0} (bounds : List Key) (w : Walk R) (k new : Known) (from to : Desk) (result : R) → Sends (λ (x : Desk) q y z. Passes bounds x.way x q y z) bounds k from w result to new → Comes k from to new (Runs bounds from.way (stage_of from) w result (stage_of to))
-walk_comes bounds (ends r) k new from to result sent = rest_comes k new from to _ sent.1.0 sent.1.1 (sent.0, ap stage_of sent.1.0)
+walk_comes bounds (ends r) k new from to result sent = rest_comes k new from to _ sent.1 sent.2 (sent.0, ap stage_of sent.1)
 walk_comes bounds (grows more short) k new from to result (inl sent) = or_comes k new from to _ _ inl (walk_comes bounds short k new from to result sent)
 walk_comes bounds (grows more short) k new from to result (inr sent) = or_comes k new from to _ _ inr (walk_comes bounds more k new from to result sent)
 walk_comes bounds (asks body more) k new from to result (reached, mid, then_known, passes, learns, rest) =
