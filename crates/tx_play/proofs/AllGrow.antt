@@ -1,5 +1,5 @@
 -- Histories only grow as steps are played.
-use Rattle.std.proofs.Common.{ℕ, Bool, true, false, not, cond, inr, List, [], ◌∷◌, Option, Some, None, is_some, sym, subst}
+use Rattle.std.proofs.Common.{ℕ, ◌+◌, ◌&&◌, Bool, true, false, not, cond, inr, List, [], ◌∷◌, Option, Some, None, is_some, sym, subst}
 use Rattle.tx_types.specs.declared.fault.Cause.{Cause}
 use Rattle.tx_types.specs.declared.fault.Cause.TheVariants as cause
 use Rattle.tx_types.specs.declared.key.Key.{Key}
@@ -7,20 +7,21 @@ use Rattle.tx_plan.specs.declared.body.Body.{Body}
 use Rattle.tx_plan.specs.declared.answer.Answer.{Answer}
 use Rattle.tx_core.specs.declared.event.Declaration.{Declaration}
 use Rattle.tx_core.specs.declared.event.Outcome.{Outcome}
-use Rattle.tx_core.specs.Histories.{History, Begins}
+use Rattle.tx_core.specs.Histories.{History, last, Begins}
 use Rattle.tx_core.proofs.seats.Beginnings.{begins_all, begins_more}
 use Rattle.tx_client.specs.declared.state.Came.{Came}
 use Rattle.tx_client.specs.declared.state.Came.TheVariants as came
 use Rattle.tx_client.specs.Buffers.{Entries, is_full}
 use Rattle.tx_client.specs.Sessions.{State, is_declared, has_primary, exceeds, declaration, can_draw, can_commit, can_abort, finish_of}
 use Rattle.tx_client.specs.declared.state.Terms.{Terms}
-use Rattle.tx_client.specs.Walks.{Walk, asks, grows, ends}
+use Rattle.tx_client.specs.Walks.{Walk, asks, grows, ends, get_walk, scan_walk, heartbeat_walk}
 use Rattle.tx_play.specs.declared.post.Way.{Way}
 use Rattle.tx_play.specs.declared.post.Way.TheVariants.{Plain, Lose, LoseReply, Repeat}
 use Rattle.tx_play.specs.declared.step.Reply.{Reply}
+use Rattle.tx_play.specs.declared.step.Reply.TheVariants as reply
 use Rattle.tx_play.specs.Posts.{Stage, taken}
 use Rattle.tx_play.specs.Steps.{Deed, put, delete, lock, get, scan, declare, prewrite, draw, commit, abort, heartbeat, Call, begin, acts, finish, stop}
-use Rattle.tx_play.specs.Scenes.{Scene, Turn, goes, inquires, stops, is_refused, later_of, calls, is_key, is_value, is_name, at_stage, declared_in, asked, sent, runs, runs_to, first_free, live_at, enters, deeds, finishes_by, begins_at, in_session, turn}
+use Rattle.tx_play.specs.Scenes.{Scene, Turn, goes, inquires, stops, is_refused, later_of, calls, is_key, is_value, is_name, at_stage, at_history, with_session, began, declared_in, read_by, said_by, asked, sent, runs, runs_to, first_free, live_at, enters, deeds, finishes_by, begins_at, in_session, turn}
 use Rattle.tx_play.specs.Plays.{Leads, Played, Plays}
 
 -- Whatever a turn leads to, and wherever it asks a region, h has happened there; it stops at most where `from` has happened.
@@ -89,16 +90,18 @@ module _ (bounds : List Key) where
         either h h (is_declared s) _ _ (begins_all h) (either h h (not (is_key key)) _ _ (begins_all h) (either h h (not (is_value value)) _ _ (begins_all h) (calls_grow refused _ (enters_grow refused k s _ key))))
     deed_grows refused k s (delete key) = either h h (is_declared s) _ _ (begins_all h) (either h h (not (is_key key)) _ _ (begins_all h) (calls_grow refused _ (enters_grow refused k s _ key)))
     deed_grows refused k s (lock key) = either h h (is_declared s) _ _ (begins_all h) (either h h (not (is_key key)) _ _ (begins_all h) (calls_grow refused _ (enters_grow refused k s _ key)))
-    deed_grows refused k s (get key way) = either h h (not (is_key key)) _ _ (begins_all h) (calls_grow refused _ (λ left. sends_grow _ k way left scene _))
-    deed_grows refused k s (scan a b limit way) = either h h _ _ _ (begins_all h) (calls_grow refused _ (λ left. sends_grow _ k way left scene _))
+    deed_grows refused k s (get key way) = either h h (not (is_key key)) _ _ (begins_all h) (calls_grow refused (λ left. runs_to bounds read_by k way left scene (get_walk s key)) (λ left. sends_grow read_by k way left scene (get_walk s key)))
+    deed_grows refused k s (scan a b limit way) =
+        either h h (not (is_key a && is_key b)) (goes scene reply.KeyLength refused) (calls refused scene (λ left. runs_to bounds read_by k way left scene (scan_walk s bounds a b limit))) (begins_all h)
+        (calls_grow refused (λ left. runs_to bounds read_by k way left scene (scan_walk s bounds a b limit)) (λ left. sends_grow read_by k way left scene (scan_walk s bounds a b limit)))
     deed_grows refused k s (declare mode ttl max_commit) =
         (let terms : Terms = record { mode = mode; ttl = ttl; max_commit = max_commit } in
-        either h h (is_declared s) _ _ (begins_all h) (calls_grow refused _ (λ left. either h h (exceeds s.buffer terms) _ _ (begins_all h) (declared_grows (declaration s.start s.buffer terms)))))
+        either h h (is_declared s) _ _ (begins_all h) (calls_grow refused (λ left. cond (exceeds s.buffer terms) (goes scene reply.TooManyKeys left) (goes (with_session (at_history scene (declared_in h (declaration s.start s.buffer terms))) k (record s { declared = Some terms })) reply.Fine left)) (λ left. either h h (exceeds s.buffer terms) (goes scene reply.TooManyKeys left) (goes (with_session (at_history scene (declared_in h (declaration s.start s.buffer terms))) k (record s { declared = Some terms })) reply.Fine left) (begins_all h) (declared_grows (declaration s.start s.buffer terms)))))
     deed_grows refused k s (prewrite way) = either h h (is_declared s) _ _ (sends_grow _ k way refused scene _) (begins_all h)
     deed_grows refused k s draw = either h h (can_draw s) _ _ (inr (begins_all h)) (begins_all h)
     deed_grows refused k s (commit way) = either h h (can_commit s) _ _ (sends_grow _ k way refused scene _) (begins_all h)
     deed_grows refused k s (abort way) = either h h (can_abort s) _ _ (sends_grow _ k way refused scene _) (begins_all h)
-    deed_grows refused k s (heartbeat ttl way) = either h h (has_primary s) _ _ (sends_grow _ k way refused scene _) (begins_all h)
+    deed_grows refused k s (heartbeat ttl way) = either h h (has_primary s) _ _ (sends_grow said_by k way refused scene (heartbeat_walk s ttl)) (begins_all h)
 
     session_grows : (o : Option (ℕ × State)) (more : ℕ → State → Turn) → ((k : ℕ) (s : State) → AllGrow h h (more k s)) → AllGrow h h (in_session o more)
     session_grows None more grow = begins_all h
@@ -106,7 +109,7 @@ module _ (bounds : List Key) where
 
     begin_grows : (refused : List Bool) (name : List ℕ) (o : Option ℕ) → AllGrow h h (begins_at bounds refused scene name o)
     begin_grows refused name None = begins_all h
-    begin_grows refused name (Some k) = calls_grow refused _ (λ left. inr (inr (begins_all h)))
+    begin_grows refused name (Some k) = calls_grow refused (λ left. goes (began bounds scene name k) (reply.Start (last scene.stage.history + 1)) left) (λ left. inr (inr (begins_all h)))
 
     finish_grows : (refused : List Bool) (k : ℕ) (s : State) (name : List ℕ) (o : Option Outcome) → AllGrow h h (finishes_by refused scene k s name o)
     finish_grows refused k s name None = begins_all h
@@ -123,9 +126,9 @@ module _ (bounds : List Key) where
   -- where each scene that a turn goes on to begins a history, h does
   pub leads_begin : (Goes : Scene → Reply → List Bool → Type 0) (Stops : Cause → Type 0) (from h end : History) → ((next : Scene) (said : Reply) (left : List Bool) → Goes next said left → Begins next.stage.history end) → ((c : Cause) → Stops c → Begins from end)
       → (t : Turn) → AllGrow from h t → Leads bounds Goes Stops t → Begins h end
-  leads_begin Goes Stops from h end go stop (goes scene said refused) grow leads = begins_more h scene.stage.history end grow (go scene said refused leads)
-  leads_begin Goes Stops from h end go stop (inquires stage body more) grow (a, answers, leads) = begins_more h stage.history end grow.0 (leads_begin Goes Stops from stage.history end go stop (more a) (grow.1 a) leads)
-  leads_begin Goes Stops from h end go stop (stops c) grow leads = begins_more h from end grow (stop c leads)
+  leads_begin Goes Stops from h end go halt (goes scene said refused) grow leads = begins_more h scene.stage.history end grow (go scene said refused leads)
+  leads_begin Goes Stops from h end go halt (inquires stage body more) grow (a, answers, leads) = begins_more h stage.history end grow.0 (leads_begin Goes Stops from stage.history end go halt (more a) (grow.1 a) leads)
+  leads_begin Goes Stops from h end go halt (stops c) grow leads = begins_more h from end grow (halt c leads)
 
   pub plays_begin : (steps : List Call) (scene : Scene) (refused : List Bool) (p : Played) → Plays bounds scene refused steps p → Begins scene.stage.history p.history
   plays_begin [] scene refused p plays = subst (λ (q : Played). Begins scene.stage.history q.history) (sym plays) (begins_all scene.stage.history)

@@ -30,11 +30,11 @@ module _ (bounds : List Key) (turn : Deeds) where
 
   -- where the test is passed, it is not allowed
   pub stops_at : (old : Seated) (desk : Desk) (b : Bool) (more : List Bool → Scene → ℕ → Turn) (c : Cause) → ((refused : List Bool) (scene : Scene) (k : ℕ) → turn refused scene k old.state ≡ cond b (stops c) (more refused scene k)) → b ≡ true → Did bounds turn (Err c) old old desk desk
-  stops_at old desk b more c is yes = (refl, refl, λ refused scene k. is refused scene k ∙ ap (λ x. cond x (stops c) (more refused scene k)) yes)
+  stops_at old desk b more c is passed = (refl, refl, λ refused scene k. is refused scene k ∙ ap (λ x. cond x (stops c) (more refused scene k)) passed)
 
   -- where it is not
   pub stops_but : (old : Seated) (desk : Desk) (b : Bool) (more : List Bool → Scene → ℕ → Turn) (c : Cause) → ((refused : List Bool) (scene : Scene) (k : ℕ) → turn refused scene k old.state ≡ cond b (more refused scene k) (stops c)) → b ≡ false → Did bounds turn (Err c) old old desk desk
-  stops_but old desk b more c is no = (refl, refl, λ refused scene k. is refused scene k ∙ ap (λ x. cond x (more refused scene k) (stops c)) no)
+  stops_but old desk b more c is failed = (refl, refl, λ refused scene k. is refused scene k ∙ ap (λ x. cond x (more refused scene k) (stops c)) failed)
 
   -- a refusal
   pub rests : (old : Seated) (desk : Desk) (bits : List Bool) (said : Reply) → ((later : List Bool) (scene : Scene) (k : ℕ) → turn (bits ++ later) scene k old.state ≡ goes scene said later) → Did bounds turn (Ok said) old old desk desk
@@ -47,8 +47,8 @@ module _ (bounds : List Key) (turn : Deeds) where
     entered_ok room now =
         did_change bounds turn old new desk reply.Fine (ap (λ (s : Seated). s.seat) now)
         (session_goes bounds turn old.seat.seat old.state new.state (stage_of desk) (stage_of desk) reply.Fine reply.Fine (false ∷ []) (record old.state { buffer = buffer }) (λ scene k. scene.stage)
-          (λ later scene k. is (false ∷ later) scene k ∙ ap (λ b. cond b (goes scene reply.TooManyKeys later) (goes (with_session scene k (record old.state { buffer = buffer })) reply.Fine later)) room)
-          (λ scene k at number. at) (ap (λ (s : Seated). s.state) (sym now)) refl)
+        (λ later scene k. is (false ∷ later) scene k ∙ ap (λ b. cond b (goes scene reply.TooManyKeys later) (goes (with_session scene k (record old.state { buffer = buffer })) reply.Fine later)) room)
+        (λ scene k at number. at) (ap (λ (s : Seated). s.state) (sym now)) refl)
 
     entered_err : new ≡ old → (e : Fault) → (e ≡ fault.OutOfMemory) ⊎ ((e ≡ fault.TooManyKeys) × (is_full old.state.buffer key ≡ true)) → Did bounds turn (Ok (entered_by {T = Unit {0}} (Err e))) old new desk desk
     entered_err same e (inl short) =
@@ -92,21 +92,21 @@ module _ (bounds : List Key) (old new : Seated) (from to : Desk) where
     declared_ok few now act =
         acts_so old.seat new.seat from to _ _ act
         (λ x. session_goes bounds declaring old.seat.seat old.state new.state (stage_of from) (stage_of to) reply.Fine reply.Fine (false ∷ []) (record old.state { declared = Some terms }) (λ scene k. record { history = after scene.stage.history })
-          (λ later scene k. declares_is (false ∷ later) scene k ∙ ap (λ b. cond b (goes scene reply.TooManyKeys later) (goes (with_session (at_stage scene (record { history = after scene.stage.history })) k (record old.state { declared = Some terms })) reply.Fine later)) few)
-          (λ scene k at number. (λ i. record { history = after (at i).history }) ∙ (λ i. record { history = sym x i })) (sym now) refl)
+        (λ later scene k. declares_is (false ∷ later) scene k ∙ ap (λ b. cond b (goes scene reply.TooManyKeys later) (goes (with_session (at_stage scene (record { history = after scene.stage.history })) k (record old.state { declared = Some terms })) reply.Fine later)) few)
+        (λ scene k at number. (λ i. record { history = after (at i).history }) ∙ (λ i. record { history = sym x i })) (sym now) refl)
 
     declared_err : (e : Fault) → (e ≡ fault.OutOfMemory) ⊎ ((e ≡ fault.TooManyKeys) × (exceeds old.state.buffer terms ≡ true)) → new.state ≡ old.state → Acts old.seat new.seat from to (to.newest ≡ from.newest) → Did bounds declaring (Ok (entered_by {T = Unit {0}} (Err e))) old new from to
     declared_err e (inl short) same act =
         subst (λ f. Did bounds declaring (Ok (entered_by {T = Unit {0}} (Err f))) old new from to) (sym short)
         (acts_so old.seat new.seat from to _ _ act
-          (λ x. session_rests bounds declaring old.seat.seat old.state new.state (stage_of from) (stage_of to) reply.OutOfMemory reply.OutOfMemory (true ∷ [])
-            (λ later scene k. declares_is (true ∷ later) scene k) (λ i. record { history = x i }) same refl))
+        (λ x. session_rests bounds declaring old.seat.seat old.state new.state (stage_of from) (stage_of to) reply.OutOfMemory reply.OutOfMemory (true ∷ [])
+        (λ later scene k. declares_is (true ∷ later) scene k) (λ i. record { history = x i }) same refl))
     declared_err e (inr (many, full)) same act =
         subst (λ f. Did bounds declaring (Ok (entered_by {T = Unit {0}} (Err f))) old new from to) (sym many)
         (acts_so old.seat new.seat from to _ _ act
-          (λ x. session_rests bounds declaring old.seat.seat old.state new.state (stage_of from) (stage_of to) reply.TooManyKeys reply.TooManyKeys (false ∷ [])
-            (λ later scene k. declares_is (false ∷ later) scene k ∙ ap (λ b. cond b (goes scene reply.TooManyKeys later) (goes (with_session (at_stage scene (record { history = after scene.stage.history })) k (record old.state { declared = Some terms })) reply.Fine later)) full)
-            (λ i. record { history = x i }) same refl))
+        (λ x. session_rests bounds declaring old.seat.seat old.state new.state (stage_of from) (stage_of to) reply.TooManyKeys reply.TooManyKeys (false ∷ [])
+        (λ later scene k. declares_is (false ∷ later) scene k ∙ ap (λ b. cond b (goes scene reply.TooManyKeys later) (goes (with_session (at_stage scene (record { history = after scene.stage.history })) k (record old.state { declared = Some terms })) reply.Fine later)) full)
+        (λ i. record { history = x i }) same refl))
 
     pub declared : (r : Result (Unit {0}) Fault) → OnOk r ((exceeds old.state.buffer terms ≡ false) × (new.state ≡ record old.state { declared = Some terms }) × Acts old.seat new.seat from to (to.newest ≡ after from.newest))
         → IfErr r (λ e. ((e ≡ fault.OutOfMemory) ⊎ ((e ≡ fault.TooManyKeys) × (exceeds old.state.buffer terms ≡ true))) × (new.state ≡ old.state) × Acts old.seat new.seat from to (to.newest ≡ from.newest))
@@ -120,10 +120,10 @@ module _ (bounds : List Key) (old new : Seated) (from to : Desk) where
   drew_did t can now act =
       acts_so old.seat new.seat from to _ _ act
       (λ x names places k number there.
-        let scene = scene_with (stage_of from) names places in
-        let events : to.newest ≡ Drawn (seat_at bounds k) (last from.newest + 1) ∷ from.newest = x.1 ∙ ap (λ n. Drawn n (last from.newest + 1) ∷ from.newest) number in
-        let state : record old.state { drawn = Some (last from.newest + 1) } ≡ new.state = sym (now ∙ ap (λ u. record old.state { drawn = Some u }) x.0) in
-        goes_at bounds (λ refused. draws refused scene k old.state bounds) [] (reply.Drawn (last from.newest + 1)) (reply.Drawn t) (drew bounds scene k old.state) (scene_with (stage_of to) names (slice_set places k (session new.state)))
-        (λ later. ap (λ b. cond b (goes (drew bounds scene k old.state) (reply.Drawn (last from.newest + 1)) later) (stops cause.Order)) can)
-        (λ i. scene_with (record { history = sym events i }) names (slice_set places k (session (state i))))
-        (ap reply.Drawn (sym x.0)))
+      let scene = scene_with (stage_of from) names places in
+      let events : to.newest ≡ Drawn (seat_at bounds k) (last from.newest + 1) ∷ from.newest = x.1 ∙ ap (λ n. Drawn n (last from.newest + 1) ∷ from.newest) number in
+      let state : record old.state { drawn = Some (last from.newest + 1) } ≡ new.state = sym (now ∙ ap (λ u. record old.state { drawn = Some u }) x.0) in
+      goes_at bounds (λ refused. draws refused scene k old.state bounds) [] (reply.Drawn (last from.newest + 1)) (reply.Drawn t) (drew bounds scene k old.state) (scene_with (stage_of to) names (slice_set places k (session new.state)))
+      (λ later. ap (λ b. cond b (goes (drew bounds scene k old.state) (reply.Drawn (last from.newest + 1)) later) (stops cause.Order)) can)
+      (λ i. scene_with (record { history = sym events i }) names (slice_set places k (session (state i))))
+      (ap reply.Drawn (sym x.0)))

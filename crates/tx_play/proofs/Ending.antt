@@ -7,7 +7,7 @@ use Rattle.tx_core.specs.Recording.{AllOfSeats}
 use Rattle.tx_core.specs.Worlds.{IsWorldRun}
 use Rattle.tx_play.specs.declared.step.Reply.{Reply}
 use Rattle.tx_play.specs.declared.step.End.{End}
-use Rattle.tx_play.specs.declared.script.Broken.{Broken}
+use Rattle.tx_play.specs.declared.step.Broken.{Broken}
 use Rattle.tx_play.specs.Steps.{Call}
 use Rattle.tx_play.specs.Places.{Held, own, AllSeated, Settled}
 use Rattle.tx_play.specs.Scripts.{EndsAt, BreaksAt, EndsScript, BreaksScript}

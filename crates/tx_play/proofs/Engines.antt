@@ -71,7 +71,7 @@ module _ (bounds : List Key) where
   -- a step that is not allowed
   pub step_stops : (old new : Held) (step : Call) (c : Cause) → new.desk.regions ≡ old.desk.regions → new.desk.newest ≡ old.desk.newest → new.clerk ≡ old.clerk → new.places ≡ old.places
       → ((later : List Bool) → turn bounds later step (scene_of old) ≡ stops c) → Goes bounds old new (Turned bounds step (Err c) old new)
-  step_stops old new step c regions newest clerk places stop = rested bounds old new regions newest clerk places _ (newest, stop)
+  step_stops old new step c regions newest clerk places halts = rested bounds old new regions newest clerk places _ (newest, halts)
 
   -- ---- begin
 
@@ -99,7 +99,7 @@ module _ (bounds : List Key) where
           step_refused new desk clerk places names =
               rested bounds old new (ap (λ (d : Desk). d.regions) desk) (ap (λ (d : Desk). d.newest) desk) clerk places _
               (goes_at bounds (λ refused. turn bounds refused (begin name) (scene_of old)) (true ∷ []) reply.OutOfMemory reply.OutOfMemory (scene_of old) (scene_of new) begin_refused_is
-                (λ i. scene_with (stage_of (sym desk i)) (λ q. sym (names q) i) (map place_of (sym places i))) refl)
+              (λ i. scene_with (stage_of (sym desk i)) (λ q. sym (names q) i) (map place_of (sym places i))) refl)
 
           pub step_begun : (new : Held) (seat : Known) (live : Seated) (lent : List Kept) → slice_get old.places k ≡ Some (Free seat) → lent ≡ slice_set old.places k Lent → new.places ≡ slice_set lent k (Live live) → new.clerk ≡ old.clerk
               → ((q : List ℕ) → name_at new.names q ≡ update bytes_eq (name_at old.names) name (Some k) q) → AllSeated bounds 1 old
@@ -110,12 +110,12 @@ module _ (bounds : List Key) where
               let number : seat.seat ≡ seat_at bounds k = (at_place_of bounds 1 k old (Free seat) seat there refl ready).0 in
               acted old new k (Free seat) (Live live) there is clerk seat live.seat refl refl bounds _ _ act
               (λ x. goes_at bounds (λ refused. turn bounds refused (begin name) (scene_of old)) (false ∷ []) _ _ _ _ begun_is
-                (let t = last old.desk.newest + 1 in
-                let events : new.desk.newest ≡ Began t ∷ Drawn (seat_at bounds k) t ∷ old.desk.newest = x.1 ∙ ap (λ n. Began t ∷ Drawn n t ∷ old.desk.newest) number in
-                let there_is : map place_of new.places ≡ slice_set (map place_of old.places) k (session (begun t)) =
-                  ap (map place_of) is ∙ (map-set place_of old.places k (Live live) ∙ ap (λ s. slice_set (map place_of old.places) k (session s)) (state ∙ ap begun x.0)) in
-                λ i. scene_with (record { history = sym events i }) (λ q. sym (names q) i) (sym there_is i))
-                (ap reply.Start (sym x.0)))
+              (let t = last old.desk.newest + 1 in
+              let events : new.desk.newest ≡ Began t ∷ Drawn (seat_at bounds k) t ∷ old.desk.newest = x.1 ∙ ap (λ n. Began t ∷ Drawn n t ∷ old.desk.newest) number in
+              let there_is : map place_of new.places ≡ slice_set (map place_of old.places) k (session (begun t)) =
+              ap (map place_of) is ∙ (map-set place_of old.places k (Live live) ∙ ap (λ s. slice_set (map place_of old.places) k (session s)) (state ∙ ap begun x.0)) in
+              λ i. scene_with (record { history = sym events i }) (λ q. sym (names q) i) (sym there_is i))
+              (ap reply.Start (sym x.0)))
 
   -- ---- the step of a session
 
@@ -161,15 +161,17 @@ module _ (bounds : List Key) where
           let is : new.places ≡ slice_set old.places k (Live t) = put old.places lent new.places k (Live t) lends placed in
           acted old new k (Live s) (Live t) there is clerk s.seat t.seat refl refl bounds _ _ did
           (λ x. let led = x (λ q. name_at old.names q) (map place_of old.places) k number lives_there in
-            let now : map place_of new.places ≡ slice_set (map place_of old.places) k (session t.state) = ap (map place_of) is ∙ map-set place_of old.places k (Live t) in
-            let scene : scene_with (stage_of new.desk) (λ q. name_at old.names q) (slice_set (map place_of old.places) k (session t.state)) ≡ scene_of new =
-              λ i. scene_with (stage_of new.desk) (λ q. name_at (sym names i) q) (sym now i) in
-            (led.0, λ later. subst (λ next. Leads bounds (λ n told left. (n ≡ next) × (told ≡ said) × (left ≡ later)) (λ c. ⊥) (turn bounds (led.0 ++ later) (acts name deed) (scene_of old))) scene
-              (subst (Leads bounds _ (λ c. ⊥)) (sym (ap (λ o. in_session o (λ j y. deeds (led.0 ++ later) (scene_of old) j y bounds deed)) (is_live k named s there))) (led.1 later))))
-      step_acted new t lent lends placed clerk names deed (Err c) (same, desk, stop) =
+          let now : map place_of new.places ≡ slice_set (map place_of old.places) k (session t.state) = ap (map place_of) is ∙ map-set place_of old.places k (Live t) in
+          let scene : scene_with (stage_of new.desk) (λ q. name_at old.names q) (slice_set (map place_of old.places) k (session t.state)) ≡ scene_of new =
+          λ i. scene_with (stage_of new.desk) (λ q. name_at (sym names i) q) (sym now i) in (
+            led.0,
+            λ later. subst (λ next. Leads bounds (λ n told left. (n ≡ next) × (told ≡ said) × (left ≡ later)) (λ c. ⊥) (turn bounds (led.0 ++ later) (acts name deed) (scene_of old))) scene
+                (subst (Leads bounds _ (λ c. ⊥)) (sym (ap (λ o. in_session o (λ j y. deeds (led.0 ++ later) (scene_of old) j y bounds deed)) (is_live k named s there))) (led.1 later)),
+          ))
+      step_acted new t lent lends placed clerk names deed (Err c) (same, desk, halts) =
           let is : new.places ≡ old.places = back old.places lent new.places k (Live s) there lends (placed ∙ ap (λ x. slice_set lent k (Live x)) same) in
           step_stops old new (acts name deed) c (ap (λ (d : Desk). d.regions) desk) (ap (λ (d : Desk). d.newest) desk) clerk is
-          (λ later. ap (λ o. in_session o (λ j y. deeds later (scene_of old) j y bounds deed)) (is_live k named s there) ∙ stop later (scene_of old) k)
+          (λ later. ap (λ o. in_session o (λ j y. deeds later (scene_of old) j y bounds deed)) (is_live k named s there) ∙ halts later (scene_of old) k)
 
       -- it is gone
       gone_is : (new : Held) (seat : Known) (lent : List Kept) → lent ≡ slice_set old.places k Lent → new.places ≡ slice_set lent k (Free seat) → ((q : List ℕ) → name_at new.names q ≡ update bytes_eq (name_at old.names) name None q)
@@ -184,8 +186,8 @@ module _ (bounds : List Key) where
       step_finished new seat lent lends placed clerk names o ends act =
           acted old new k (Live s) (Free seat) there (put old.places lent new.places k (Free seat) lends placed) clerk s.seat seat refl refl bounds _ _ act
           (λ x. goes_at bounds (λ refused. turn bounds refused (finish name) (scene_of old)) [] (reply.Ended o) (reply.Ended o) (gone (at_history (scene_of old) (Answered s.state.start o ∷ old.desk.newest)) name k) (scene_of new)
-            (λ later. ap (λ l. in_session l (λ j y. finishes later (scene_of old) j y name)) (is_live k named s there) ∙ ap (finishes_by later (scene_of old) k s.state name) ends)
-            (gone_is new seat lent lends placed names (Answered s.state.start o ∷ old.desk.newest) x) refl)
+          (λ later. ap (λ l. in_session l (λ j y. finishes later (scene_of old) j y name)) (is_live k named s there) ∙ ap (finishes_by later (scene_of old) k s.state name) ends)
+          (gone_is new seat lent lends placed names (Answered s.state.start o ∷ old.desk.newest) x) refl)
 
       -- it has none yet
       pub step_unfinished : (new : Held) (t : Seated) (lent : List Kept) → lent ≡ slice_set old.places k Lent → new.places ≡ slice_set lent k (Live t) → new.clerk ≡ old.clerk → finish_of s.state ≡ None
@@ -200,8 +202,8 @@ module _ (bounds : List Key) where
       step_stopped new seat lent lends placed clerk names act =
           acted old new k (Live s) (Free seat) there (put old.places lent new.places k (Free seat) lends placed) clerk s.seat seat refl refl bounds _ _ act
           (λ x. goes_at bounds (λ refused. turn bounds refused (stop name) (scene_of old)) [] reply.Fine reply.Fine (gone (at_history (scene_of old) (Stopped (seat_at bounds k) ∷ old.desk.newest)) name k) (scene_of new)
-            (λ later. ap (λ l. in_session l (λ j y. leaves later (scene_of old) j y bounds name)) (is_live k named s there))
-            (gone_is new seat lent lends placed names (Stopped (seat_at bounds k) ∷ old.desk.newest) (x ∙ ap (λ n. Stopped n ∷ old.desk.newest) number)) refl)
+          (λ later. ap (λ l. in_session l (λ j y. leaves later (scene_of old) j y bounds name)) (is_live k named s there))
+          (gone_is new seat lent lends placed names (Stopped (seat_at bounds k) ∷ old.desk.newest) (x ∙ ap (λ n. Stopped n ∷ old.desk.newest) number)) refl)
 
 -- ---- the first free place
 

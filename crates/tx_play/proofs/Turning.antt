@@ -97,8 +97,8 @@ module _ (bounds : List Key) where
       let scene = scene_with from names places in
       let led = runs_lead bounds (λ later next said left. (next ≡ scene_with to names (slice_set places k (session new))) × (said ≡ told) × (left ≡ later)) way w scene (new, result) to run (λ x next left. goes (with_session next k x.0) (say x.1) left) in (
         bits ++ led.0,
-        λ later. subst (λ all. Leads bounds _ (λ c. ⊥) (turn all scene k old)) (sym (append_assoc bits led.0 later))
-            (subst (Leads bounds _ (λ c. ⊥)) (sym (is (led.0 ++ later) scene k)) (led.1 later later (refl, also, refl))),
+        λ later. subst (λ all. Leads bounds (λ next said left. (next ≡ scene_with to names (slice_set places k (session new))) × (said ≡ told) × (left ≡ later)) (λ c. ⊥) (turn all scene k old)) (sym (append_assoc bits led.0 later))
+            (subst (Leads bounds (λ next said left. (next ≡ scene_with to names (slice_set places k (session new))) × (said ≡ told) × (left ≡ later)) (λ c. ⊥)) (sym (is (led.0 ++ later) scene k)) (led.1 later later (refl, also, refl))),
       )
 
 -- ---- what a session's step did
@@ -120,4 +120,4 @@ module _ (bounds : List Key) (turn : List Bool → Scene → ℕ → State → T
       let acts = sent_acts bounds w old.seat new.seat from at to (new.state, result) (ap (λ (d : Desk). d.regions) set) (ap (λ (d : Desk). d.newest) set) sent in
       acts_so old.seat new.seat from to _ _ acts
       (λ run. session_runs bounds turn old.seat.seat old.state new.state (stage_of from) (stage_of to) said bits way w say result is
-        (subst (λ v. Runs bounds v (stage_of from) w (new.state, result) (stage_of to)) (ap (λ (d : Desk). d.way) set) run) (sym also))
+      (subst (λ v. Runs bounds v (stage_of from) w (new.state, result) (stage_of to)) (ap (λ (d : Desk). d.way) set) run) (sym also))

@@ -223,8 +223,8 @@ module _ (refused : List Bool) (scene : Scene) (k : ℕ) (s : State) where
   declares terms =
       if is_declared s then stops Order
       else calls refused scene (λ left.
-        if exceeds s.buffer terms then goes scene reply.TooManyKeys left
-        else goes (with_session (at_history scene (declared_in scene.stage.history (declaration s.start s.buffer terms))) k (record s { declared = Some terms })) reply.Fine left)
+      if exceeds s.buffer terms then goes scene reply.TooManyKeys left
+      else goes (with_session (at_history scene (declared_in scene.stage.history (declaration s.start s.buffer terms))) k (record s { declared = Some terms })) reply.Fine left)
 
   module _ (bounds : List Key) where
     abbrev pub draws : Turn

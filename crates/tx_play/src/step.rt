@@ -1,8 +1,7 @@
 //! Steps, and what they give.
+use crate::post::Way;
 use tx_core::{Answer, Outcome};
 use tx_types::{Mode, Ts};
-
-use crate::post::Way;
 
 /// What a live session does, over the text of its line. Keys and values stand for their UTF-8 bytes. What becomes of the request
 /// that is sent stands last.
@@ -72,3 +71,7 @@ pub enum End {
     /// With a step that it does not allow.
     Faulted(tx_types::Cause),
 }
+
+/// A script was broken off: a growth was refused outside of a step's own calls.
+#[derive(Clone, Copy, Debug, Drop)]
+pub struct Broken;

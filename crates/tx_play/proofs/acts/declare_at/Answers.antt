@@ -22,11 +22,14 @@ returns-clause-ok g c =
     let heard : HasHeard bounds old.seat from.newest l = subst (λ (h : History). HasHeard bounds old.seat h l) c.newest.ensures.told c.hear_of.ensures.heard in
     map_ok c.declare-declared.result _ _ c.declare-declared.ensures.ok
     (λ x. let y : (exceeds old.state.buffer terms ≡ false) × (m.state ≡ record old.state { declared = Some terms }) × RecordsDeclared bounds l (declaration old.state.start old.state.buffer terms) m.seat =
-        subst (λ (s : State). (exceeds s.buffer terms ≡ false) × (m.state ≡ record s { declared = Some terms }) × RecordsDeclared bounds l (declaration s.start s.buffer terms) m.seat) c.hear_of.ensures.state x in
-      subst (λ (z : Seated). (exceeds old.state.buffer terms ≡ false) × (z.state ≡ record old.state { declared = Some terms }) × Acts old.seat z.seat from to (to.newest ≡ declared_in from.newest (declaration old.state.start old.state.buffer terms))) (sym c.tell.ensures.same)
-      (y.0, y.1, declared_acts bounds from to old.seat l m.seat heard
-        (ap (λ (d : Desk). d.regions) c.set_newest.ensures ∙ ap (λ (d : Desk). d.regions) c.newest.ensures.same)
-        (ap (λ (d : Desk). d.newest) c.set_newest.ensures ∙ c.tell.ensures.told) (declaration old.state.start old.state.buffer terms) y.2))
+    subst (λ (s : State). (exceeds s.buffer terms ≡ false) × (m.state ≡ record s { declared = Some terms }) × RecordsDeclared bounds l (declaration s.start s.buffer terms) m.seat) c.hear_of.ensures.state x in
+    subst (λ (z : Seated). (exceeds old.state.buffer terms ≡ false) × (z.state ≡ record old.state { declared = Some terms }) × Acts old.seat z.seat from to (to.newest ≡ declared_in from.newest (declaration old.state.start old.state.buffer terms))) (sym c.tell.ensures.same) (
+      y.0,
+      y.1,
+      declared_acts bounds from to old.seat l m.seat heard
+          (ap (λ (d : Desk). d.regions) c.set_newest.ensures ∙ ap (λ (d : Desk). d.regions) c.newest.ensures.same)
+          (ap (λ (d : Desk). d.newest) c.set_newest.ensures ∙ c.tell.ensures.told) (declaration old.state.start old.state.buffer terms) y.2,
+    ))
 
 pub returns-clause-err : goal.returns-clause-err
 returns-clause-err g c =
@@ -43,7 +46,7 @@ returns-clause-err g c =
       subst (λ (s : State). (e ≡ fault.OutOfMemory) ⊎ ((e ≡ fault.TooManyKeys) × (exceeds s.buffer terms ≡ true))) c.hear_of.ensures.state x,
       ap (λ (z : Seated). z.state) (c.tell.ensures.same ∙ same) ∙ c.hear_of.ensures.state,
       subst (λ (z : Seated). Acts old.seat z.seat from to (to.newest ≡ from.newest)) (sym c.tell.ensures.same)
-      (heard_acts bounds from to old.seat l m.seat heard
-        (ap (λ (d : Desk). d.regions) c.set_newest.ensures ∙ ap (λ (d : Desk). d.regions) c.newest.ensures.same)
-        (ap (λ (d : Desk). d.newest) c.set_newest.ensures ∙ c.tell.ensures.told) (ap (λ (z : Seated). z.seat) same)),
+          (heard_acts bounds from to old.seat l m.seat heard
+          (ap (λ (d : Desk). d.regions) c.set_newest.ensures ∙ ap (λ (d : Desk). d.regions) c.newest.ensures.same)
+          (ap (λ (d : Desk). d.newest) c.set_newest.ensures ∙ c.tell.ensures.told) (ap (λ (z : Seated). z.seat) same)),
     ))
