@@ -130,6 +130,15 @@ impl<J: Naming, F: Families> Region<J, F> {
         self.seat.copy(told)
     }
 
+    /// The same request once more.
+    pub fn again(&self, request: &mut Request<J>) -> Result<Request<J>, Fault>
+        ensures same { request.new ≡ request.old }
+        ensures ok { IfOk result (λ copy. copy ≡ request.old) }
+        ensures err { IfErr result (λ e. e ≡ Fault.OutOfMemory) }
+    {
+        request.clone(&self.seat)
+    }
+
     /// Knows the longer of what it knows and what was told.
     pub fn learn(&mut self, told: Told<J>)
         ensures same { (self.new.seat ≡ self.old.seat) × (self.new.ticks ≡ self.old.ticks) }

@@ -1,0 +1,141 @@
+-- What a session's acts count, and what they are where nobody else acted.
+use Rattle.std.proofs.Common.{◌≡◌, ◌≤◌, ◌+◌, ℕ, List, [], ◌∷◌, length, refl, Option, Some, None, Result, Ok, Err, sym, ap, subst, ◌∙◌, arith}
+use Rattle.std.specs.List.{sum_by}
+use Rattle.std.specs.Prelude.{OnOk, OnErr, IfErr}
+use Rattle.tx_types.specs.declared.key.Key.{Key}
+use Rattle.tx_core.specs.declared.event.Declaration.{Declaration}
+use Rattle.tx_core.specs.declared.event.Event.{Event}
+use Rattle.tx_core.specs.declared.event.Event.TheVariants.{Began, Declared, Drawn}
+use Rattle.tx_core.specs.Histories.{History, last, Begins}
+use Rattle.tx_core.specs.Recording.{part}
+use Rattle.tx_core.proofs.seats.Beginnings.{begins_length, begins_whole}
+use Rattle.tx_journal.specs.Known.{Known}
+use Rattle.tx_client.specs.Calls.{HasHeard, BeganAt, Records, Draws, RecordsDeclared}
+use Rattle.tx_client.specs.Walks.{Walk, Sends}
+use Rattle.tx_play.specs.Posts.{Desk, made_by, stage_of, Passes, Runs}
+use Rattle.tx_play.specs.Places.{Acts, at_regions}
+use Rattle.tx_play.specs.Scenes.{declared_in}
+use Rattle.tx_play.proofs.Alone.{recorded_grows, recorded_alone, drawn_grows, drawn_number, drawn_alone, begun_grows, begun_number, begun_alone}
+use Rattle.tx_play.proofs.Counts.{recorded_part, drawn_part}
+use Rattle.tx_play.proofs.Walking.{Comes, walk_comes}
+
+-- one and the same seat
+made_same : (k l : Known) → l.seat ≡ k.seat → length (part k.seat l.events) ≤ length (part k.seat k.events) → made_by l ≤ made_by k
+made_same k l number le = (let same : made_by l ≡ length (part k.seat l.events) = ap (λ i. length (part i l.events)) number in omega (arith, same, le))
+
+-- nothing happens
+pub still_acts : (k m : Known) (from to : Desk) (Exact : Type 0) → m ≡ k → to.regions ≡ from.regions → to.newest ≡ from.newest → Exact → Acts k m from to Exact
+still_acts k m from to Exact same regions newest exact = record {
+  made = 0;
+  counts = omega (arith, ap made_by same, ap (sum_by made_by) regions);
+  seat = ap (λ (x : Known). x.seat) same;
+  ticks = omega (arith, ap (λ (x : Known). x.ticks) same);
+  grows = omega (arith, ap length newest);
+  exact = λ le. exact;
+}
+
+-- what is exact may be said otherwise
+pub acts_so : (k m : Known) (from to : Desk) (Exact Then : Type 0) → Acts k m from to Exact → (Exact → Then) → Acts k m from to Then
+acts_so k m from to Exact Then acts on = record { made = acts.made; counts = acts.counts; seat = acts.seat; ticks = acts.ticks; grows = acts.grows; exact = λ le. on (acts.exact le) }
+
+-- the seat k learnt what is newest and is then l
+module _ (bounds : List Key) (from to : Desk) (k l m : Known) (heard : HasHeard bounds k from.newest l) (regions : to.regions ≡ from.regions) (newest : to.newest ≡ m.events) where
+  abbrev n : History
+  n = from.newest
+
+  regions_same : at_regions to ≡ at_regions from
+  regions_same = ap (sum_by made_by) regions
+
+  learnt : made_by l ≤ made_by k
+  learnt = made_same k l heard.number (omega (arith, ap length heard.own))
+
+  -- it makes no event
+  pub heard_acts : m ≡ l → Acts k m from to (to.newest ≡ from.newest)
+  heard_acts same = record {
+    made = 0;
+    counts = omega (arith, learnt, ap made_by same, regions_same);
+    seat = ap (λ (x : Known). x.seat) same ∙ heard.number;
+    ticks = (let also : m.ticks ≡ l.ticks = ap (λ (x : Known). x.ticks) same in omega (arith, also, heard.ticks));
+    grows = (let events : length m.events ≡ length l.events = ap (λ (x : Known). length x.events) same in omega (arith, begins_length n l.events heard.knows, ap length newest, events));
+    exact = λ le.
+        (let events : m.events ≡ l.events = ap (λ (x : Known). x.events) same in
+        newest ∙ (events ∙ sym (begins_whole n l.events heard.knows (omega (arith, le, ap length newest, ap length events)))));
+  }
+
+  -- it records an event
+  pub recorded_acts : (e : Event) → Records bounds l e m → Acts k m from to (to.newest ≡ e ∷ from.newest)
+  recorded_acts e r = record {
+    made = 1;
+    counts =
+        (let one = recorded_part bounds l.seat l.events e m.events r.recorded in
+        let here : made_by m ≡ length (part l.seat m.events) = ap (λ i. length (part i m.events)) r.number in
+        omega (arith, learnt, one, here, regions_same));
+    seat = r.number ∙ heard.number;
+    ticks = (let a = r.ticks in let b = heard.ticks in omega (arith, a, b));
+    grows = omega (arith, recorded_grows bounds l.seat n l.events heard.knows e m.events r.recorded, ap length newest);
+    exact = λ le. newest ∙ recorded_alone bounds l.seat n l.events heard.knows e m.events r.recorded (omega (arith, le, ap length newest));
+  }
+
+  -- it declares, where something is declared
+  pub declared_acts : (o : Option Declaration) → RecordsDeclared bounds l o m → Acts k m from to (to.newest ≡ declared_in from.newest o)
+  declared_acts None same = heard_acts same
+  declared_acts (Some d) r = recorded_acts (Declared d) r
+
+  -- it draws
+  pub drew_acts : (t : ℕ) → Draws bounds l t m → Acts k m from to ((t ≡ last from.newest + 1) × (to.newest ≡ Drawn k.seat (last from.newest + 1) ∷ from.newest))
+  drew_acts t d = record {
+    made = 1;
+    counts =
+        (let one = drawn_part bounds l.seat l.events 1 t m.events d.drawn in
+        let here : made_by m ≡ length (part l.seat m.events) = ap (λ i. length (part i m.events)) d.number in
+        omega (arith, learnt, one, here, regions_same));
+    seat = d.number ∙ heard.number;
+    ticks = (let a = d.ticks in let b = heard.ticks in omega (arith, a, b));
+    grows = omega (arith, drawn_grows bounds l.seat n l.events heard.knows t m.events d.drawn, ap length newest);
+    exact = λ le.
+        (let few : length m.events ≤ length n + 1 = omega (arith, le, ap length newest) in
+        let at : t ≡ last n + 1 = drawn_number bounds l.seat n l.events heard.knows t m.events d.drawn few in
+        (at, newest ∙ (drawn_alone bounds l.seat n l.events heard.knows t m.events d.drawn few ∙ (λ i. Drawn (heard.number i) (at i) ∷ n))));
+  }
+
+  -- it draws, and a session begins
+  pub begun_acts : (t : ℕ) → BeganAt bounds l t m → (said : ℕ) → said ≡ t → Acts k m from to ((said ≡ last from.newest + 1) × (to.newest ≡ Began (last from.newest + 1) ∷ Drawn k.seat (last from.newest + 1) ∷ from.newest))
+  begun_acts t b said is = record {
+    made = 2;
+    counts =
+        (let one = recorded_part bounds l.seat b.mid (Began t) m.events b.began in
+        let two = drawn_part bounds l.seat l.events 1 t b.mid b.drew in
+        let here : made_by m ≡ length (part l.seat m.events) = ap (λ i. length (part i m.events)) b.number in
+        omega (arith, learnt, one, two, here, regions_same));
+    seat = b.number ∙ heard.number;
+    ticks = (let a = b.ticks in let c = heard.ticks in omega (arith, a, c));
+    grows = omega (arith, begun_grows bounds l.seat n l.events heard.knows t b.mid m.events b.drew b.began, ap length newest);
+    exact = λ le.
+        (let few : length m.events ≤ length n + 2 = omega (arith, le, ap length newest) in
+        let at : t ≡ last n + 1 = begun_number bounds l.seat n l.events heard.knows t b.mid m.events b.drew b.began few in
+        (is ∙ at, newest ∙ (begun_alone bounds l.seat n l.events heard.knows t b.mid m.events b.drew b.began few ∙ (λ i. Began (at i) ∷ Drawn (heard.number i) (at i) ∷ n))));
+  }
+
+-- a walk of requests, by the way that was set
+pub sent_acts : {R : Type 0} (bounds : List Key) (w : Walk R) (k new : Known) (from at to : Desk) (result : R) → at.regions ≡ from.regions → at.newest ≡ from.newest
+    → Sends (λ (x : Desk) q y z. Passes bounds x.way x q y z) bounds k at w result to new → Acts k new from to (Runs bounds at.way (stage_of from) w result (stage_of to))
+sent_acts bounds w k new from at to result regions newest sent =
+    let comes = walk_comes bounds w k new at to result sent in
+    record {
+      made = comes.made;
+      counts = omega (arith, comes.own, comes.counts, ap (sum_by made_by) regions);
+      seat = comes.number;
+      ticks = (let same = comes.ticks in omega (arith, same));
+      grows = omega (arith, comes.grows, ap length newest);
+      exact = λ le. subst (λ h. Runs bounds at.way (record { history = h }) w result (stage_of to)) newest (comes.exact (omega (arith, le, ap length newest)));
+    }
+
+-- ---- by what a call gave
+
+pub map_ok : {T E : Type 0} (r : Result T E) (P Q : Type 0) → OnOk r P → (P → Q) → OnOk r Q
+map_ok (Ok x) P Q p on = on p
+map_ok (Err e) P Q p on = tt
+
+pub map_err : {T E : Type 0} (r : Result T E) (A : Type 0) (P Q : E → Type 0) → OnErr r A → IfErr r P → (A → (e : E) → P e → Q e) → IfErr r Q
+map_err (Ok x) A P Q a p on = tt
+map_err (Err e) A P Q a p on = on a e p

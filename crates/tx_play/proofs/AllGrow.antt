@@ -1,0 +1,139 @@
+-- Histories only grow as steps are played.
+use Rattle.std.proofs.Common.{ℕ, ◌+◌, ◌&&◌, Bool, true, false, not, cond, inr, List, [], ◌∷◌, Option, Some, None, is_some, sym, subst}
+use Rattle.tx_types.specs.declared.fault.Cause.{Cause}
+use Rattle.tx_types.specs.declared.fault.Cause.TheVariants as cause
+use Rattle.tx_types.specs.declared.key.Key.{Key}
+use Rattle.tx_plan.specs.declared.body.Body.{Body}
+use Rattle.tx_plan.specs.declared.answer.Answer.{Answer}
+use Rattle.tx_core.specs.declared.event.Declaration.{Declaration}
+use Rattle.tx_core.specs.declared.event.Outcome.{Outcome}
+use Rattle.tx_core.specs.Histories.{History, last, Begins}
+use Rattle.tx_core.proofs.seats.Beginnings.{begins_all, begins_more}
+use Rattle.tx_client.specs.declared.state.Came.{Came}
+use Rattle.tx_client.specs.declared.state.Came.TheVariants as came
+use Rattle.tx_client.specs.Buffers.{Entries, is_full}
+use Rattle.tx_client.specs.Sessions.{State, is_declared, has_primary, exceeds, declaration, can_draw, can_commit, can_abort, finish_of}
+use Rattle.tx_client.specs.declared.state.Terms.{Terms}
+use Rattle.tx_client.specs.Walks.{Walk, asks, grows, ends, get_walk, scan_walk, heartbeat_walk}
+use Rattle.tx_play.specs.declared.post.Way.{Way}
+use Rattle.tx_play.specs.declared.post.Way.TheVariants.{Plain, Lose, LoseReply, Repeat}
+use Rattle.tx_play.specs.declared.step.Reply.{Reply}
+use Rattle.tx_play.specs.declared.step.Reply.TheVariants as reply
+use Rattle.tx_play.specs.Posts.{Stage, taken}
+use Rattle.tx_play.specs.Steps.{Deed, put, delete, lock, get, scan, declare, prewrite, draw, commit, abort, heartbeat, Call, begin, acts, finish, stop}
+use Rattle.tx_play.specs.Scenes.{Scene, Turn, goes, inquires, stops, is_refused, later_of, calls, is_key, is_value, is_name, at_stage, at_history, with_session, began, declared_in, read_by, said_by, asked, sent, runs, runs_to, first_free, live_at, enters, deeds, finishes_by, begins_at, in_session, turn}
+use Rattle.tx_play.specs.Plays.{Leads, Played, Plays}
+
+-- Whatever a turn leads to, and wherever it asks a region, h has happened there; it stops at most where `from` has happened.
+abbrev pub AllGrow : History → History → Turn → Type 0
+AllGrow from h (goes scene said refused) = Begins h scene.stage.history
+AllGrow from h (inquires stage body more) = Begins h stage.history × ((a : Answer) → AllGrow from stage.history (more a))
+AllGrow from h (stops cause) = Begins h from
+
+grows_more : (from l h : History) (t : Turn) → Begins l h → AllGrow from h t → AllGrow from l t
+grows_more from l h (goes scene said refused) b grow = begins_more l h scene.stage.history b grow
+grows_more from l h (inquires stage body more) b grow = (begins_more l h stage.history b grow.0, grow.1)
+grows_more from l h (stops cause) b grow = begins_more l h from b grow
+
+either : (from h : History) (b : Bool) (t u : Turn) → AllGrow from h t → AllGrow from h u → AllGrow from h (cond b t u)
+either from h true t u x y = x
+either from h false t u x y = y
+
+-- what goes on from any scene that comes later
+abbrev Later : (from : History) → (Scene → List Bool → Turn) → Type 0
+Later from on = (next : Scene) (left : List Bool) → AllGrow from next.stage.history (on next left)
+
+module _ (bounds : List Key) (from : History) where
+  asked_grows : (refused : List Bool) (scene : Scene) (body : Body) (on : Came → Scene → List Bool → Turn) → ((c : Came) → Later from (on c)) → AllGrow from scene.stage.history (asked bounds refused scene body on)
+  asked_grows refused scene body on grow =
+      either from scene.stage.history (is_refused refused) _ _ (grow came.Unsaid scene (later_of refused))
+      (begins_all scene.stage.history, λ a. grows_more from scene.stage.history (taken bounds scene.stage body a).history (on (came.Said a) (at_stage scene (taken bounds scene.stage body a)) (later_of refused)) (inr (begins_all scene.stage.history)) (grow (came.Said a) (at_stage scene (taken bounds scene.stage body a)) (later_of refused)))
+
+  sent_grows : (way : Way) (refused : List Bool) (scene : Scene) (body : Body) (on : Came → Scene → List Bool → Turn) → ((c : Came) → Later from (on c)) → AllGrow from scene.stage.history (sent bounds way refused scene body on)
+  sent_grows Plain refused scene body on grow = asked_grows refused scene body on grow
+  sent_grows Lose refused scene body on grow = grow came.Lost scene refused
+  sent_grows LoseReply refused scene body on grow = asked_grows refused scene body (λ c. on came.Lost) (λ c. grow came.Lost)
+  sent_grows Repeat refused scene body on grow =
+      either from scene.stage.history (is_refused refused) _ _ (grow came.Unsaid scene (later_of refused))
+      (asked_grows (later_of refused) scene body (λ c next left. asked bounds left next body on) (λ c next left. asked_grows left next body on grow))
+
+  runs_grow : {R : Type 0} (way : Way) (refused : List Bool) (scene : Scene) (w : Walk R) (on : R → Scene → List Bool → Turn) → ((r : R) → Later from (on r)) → AllGrow from scene.stage.history (runs bounds way refused scene w on)
+  runs_grow way refused scene (ends r) on grow = grow r scene refused
+  runs_grow way refused scene (grows more short) on grow = either from scene.stage.history (is_refused refused) _ _ (runs_grow way (later_of refused) scene short on grow) (runs_grow way (later_of refused) scene more on grow)
+  runs_grow way refused scene (asks body more) on grow = sent_grows way refused scene body (λ c next left. runs bounds way left next (more c) on) (λ c next left. runs_grow way left next (more c) on grow)
+
+-- ---- steps
+
+module _ (bounds : List Key) where
+  sends_grow : {R : Type 0} (say : R → Reply) (k : ℕ) (way : Way) (refused : List Bool) (scene : Scene) (w : Walk (State × R)) → AllGrow scene.stage.history scene.stage.history (runs_to bounds say k way refused scene w)
+  sends_grow say k way refused scene w = runs_grow bounds scene.stage.history way refused scene w _ (λ r next left. begins_all next.stage.history)
+
+  module _ (scene : Scene) where
+    abbrev h : History
+    h = scene.stage.history
+
+    stays : (said : Reply) (left : List Bool) → AllGrow h h (goes scene said left)
+    stays said left = begins_all h
+
+    calls_grow : (refused : List Bool) (more : List Bool → Turn) → ((left : List Bool) → AllGrow h h (more left)) → AllGrow h h (calls refused scene more)
+    calls_grow refused more grow = either h h (is_refused refused) _ _ (begins_all h) (grow (later_of refused))
+
+    enters_grow : (refused : List Bool) (k : ℕ) (s : State) (buffer : Entries) (key : List ℕ) (left : List Bool) → AllGrow h h (enters refused scene k s buffer key left)
+    enters_grow refused k s buffer key left = either h h (is_full s.buffer key) _ _ (begins_all h) (begins_all h)
+
+    declared_grows : (o : Option Declaration) → Begins h (declared_in h o)
+    declared_grows None = begins_all h
+    declared_grows (Some d) = inr (begins_all h)
+
+    deed_grows : (refused : List Bool) (k : ℕ) (s : State) (deed : Deed) → AllGrow h h (deeds refused scene k s bounds deed)
+    deed_grows refused k s (put key value) =
+        either h h (is_declared s) _ _ (begins_all h) (either h h (not (is_key key)) _ _ (begins_all h) (either h h (not (is_value value)) _ _ (begins_all h) (calls_grow refused _ (enters_grow refused k s _ key))))
+    deed_grows refused k s (delete key) = either h h (is_declared s) _ _ (begins_all h) (either h h (not (is_key key)) _ _ (begins_all h) (calls_grow refused _ (enters_grow refused k s _ key)))
+    deed_grows refused k s (lock key) = either h h (is_declared s) _ _ (begins_all h) (either h h (not (is_key key)) _ _ (begins_all h) (calls_grow refused _ (enters_grow refused k s _ key)))
+    deed_grows refused k s (get key way) = either h h (not (is_key key)) _ _ (begins_all h) (calls_grow refused (λ left. runs_to bounds read_by k way left scene (get_walk s key)) (λ left. sends_grow read_by k way left scene (get_walk s key)))
+    deed_grows refused k s (scan a b limit way) =
+        either h h (not (is_key a && is_key b)) (goes scene reply.KeyLength refused) (calls refused scene (λ left. runs_to bounds read_by k way left scene (scan_walk s bounds a b limit))) (begins_all h)
+        (calls_grow refused (λ left. runs_to bounds read_by k way left scene (scan_walk s bounds a b limit)) (λ left. sends_grow read_by k way left scene (scan_walk s bounds a b limit)))
+    deed_grows refused k s (declare mode ttl max_commit) =
+        (let terms : Terms = record { mode = mode; ttl = ttl; max_commit = max_commit } in
+        either h h (is_declared s) _ _ (begins_all h) (calls_grow refused (λ left. cond (exceeds s.buffer terms) (goes scene reply.TooManyKeys left) (goes (with_session (at_history scene (declared_in h (declaration s.start s.buffer terms))) k (record s { declared = Some terms })) reply.Fine left)) (λ left. either h h (exceeds s.buffer terms) (goes scene reply.TooManyKeys left) (goes (with_session (at_history scene (declared_in h (declaration s.start s.buffer terms))) k (record s { declared = Some terms })) reply.Fine left) (begins_all h) (declared_grows (declaration s.start s.buffer terms)))))
+    deed_grows refused k s (prewrite way) = either h h (is_declared s) _ _ (sends_grow _ k way refused scene _) (begins_all h)
+    deed_grows refused k s draw = either h h (can_draw s) _ _ (inr (begins_all h)) (begins_all h)
+    deed_grows refused k s (commit way) = either h h (can_commit s) _ _ (sends_grow _ k way refused scene _) (begins_all h)
+    deed_grows refused k s (abort way) = either h h (can_abort s) _ _ (sends_grow _ k way refused scene _) (begins_all h)
+    deed_grows refused k s (heartbeat ttl way) = either h h (has_primary s) _ _ (sends_grow said_by k way refused scene (heartbeat_walk s ttl)) (begins_all h)
+
+    session_grows : (o : Option (ℕ × State)) (more : ℕ → State → Turn) → ((k : ℕ) (s : State) → AllGrow h h (more k s)) → AllGrow h h (in_session o more)
+    session_grows None more grow = begins_all h
+    session_grows (Some x) more grow = grow x.0 x.1
+
+    begin_grows : (refused : List Bool) (name : List ℕ) (o : Option ℕ) → AllGrow h h (begins_at bounds refused scene name o)
+    begin_grows refused name None = begins_all h
+    begin_grows refused name (Some k) = calls_grow refused (λ left. goes (began bounds scene name k) (reply.Start (last scene.stage.history + 1)) left) (λ left. inr (inr (begins_all h)))
+
+    finish_grows : (refused : List Bool) (k : ℕ) (s : State) (name : List ℕ) (o : Option Outcome) → AllGrow h h (finishes_by refused scene k s name o)
+    finish_grows refused k s name None = begins_all h
+    finish_grows refused k s name (Some o) = inr (begins_all h)
+
+    pub turn_grows : (refused : List Bool) (step : Call) → AllGrow scene.stage.history scene.stage.history (turn bounds refused step scene)
+    turn_grows refused (begin name) = either h h (not (is_name name)) _ _ (begins_all h) (either h h (is_some (scene.names name)) _ _ (begins_all h) (begin_grows refused name (first_free scene.places)))
+    turn_grows refused (acts name deed) = session_grows (live_at scene name) _ (λ k s. deed_grows refused k s deed)
+    turn_grows refused (finish name) = session_grows (live_at scene name) _ (λ k s. finish_grows refused k s name (finish_of s))
+    turn_grows refused (stop name) = session_grows (live_at scene name) _ (λ k s. inr (begins_all h))
+
+  -- ---- plays
+
+  -- where each scene that a turn goes on to begins a history, h does
+  pub leads_begin : (Goes : Scene → Reply → List Bool → Type 0) (Stops : Cause → Type 0) (from h end : History) → ((next : Scene) (said : Reply) (left : List Bool) → Goes next said left → Begins next.stage.history end) → ((c : Cause) → Stops c → Begins from end)
+      → (t : Turn) → AllGrow from h t → Leads bounds Goes Stops t → Begins h end
+  leads_begin Goes Stops from h end go halt (goes scene said refused) grow leads = begins_more h scene.stage.history end grow (go scene said refused leads)
+  leads_begin Goes Stops from h end go halt (inquires stage body more) grow (a, answers, leads) = begins_more h stage.history end grow.0 (leads_begin Goes Stops from stage.history end go halt (more a) (grow.1 a) leads)
+  leads_begin Goes Stops from h end go halt (stops c) grow leads = begins_more h from end grow (halt c leads)
+
+  pub plays_begin : (steps : List Call) (scene : Scene) (refused : List Bool) (p : Played) → Plays bounds scene refused steps p → Begins scene.stage.history p.history
+  plays_begin [] scene refused p plays = subst (λ (q : Played). Begins scene.stage.history q.history) (sym plays) (begins_all scene.stage.history)
+  plays_begin (step ∷ steps) scene refused p plays =
+      leads_begin _ _ scene.stage.history scene.stage.history p.history
+      (λ next said left x. subst (λ (q : Played). Begins next.stage.history q.history) (sym x.2) (plays_begin steps next left x.0 x.1))
+      (λ c is. subst (λ (q : Played). Begins scene.stage.history q.history) (sym is) (begins_all scene.stage.history))
+      (turn bounds refused step scene) (turn_grows scene refused step) plays

@@ -1,0 +1,129 @@
+-- What a live session does is its turn.
+use Rattle.std.proofs.Common.{◌≡◌, ◌+◌, ℕ, cond, Bool, true, false, not, List, [], ◌∷◌, ◌++◌, slice_set, Option, Some, None, Result, Ok, Err, inl, inr, refl, sym, ap, subst, ◌∙◌}
+use Rattle.std.specs.Prelude.{◌⊎◌, OnOk, OnErr, IfOk, IfErr}
+use Rattle.tx_types.specs.declared.fault.Cause.{Cause}
+use Rattle.tx_types.specs.declared.fault.Cause.TheVariants as cause
+use Rattle.tx_types.specs.declared.fault.Fault.{Fault}
+use Rattle.tx_types.specs.declared.fault.Fault.TheVariants as fault
+use Rattle.tx_types.specs.declared.key.Key.{Key}
+use Rattle.tx_core.specs.declared.event.Event.TheVariants.{Drawn}
+use Rattle.tx_core.specs.Histories.{History, last}
+use Rattle.tx_client.specs.declared.state.Terms.{Terms}
+use Rattle.tx_client.specs.Buffers.{Entries, is_full}
+use Rattle.tx_client.specs.Calls.{Seated, seated}
+use Rattle.tx_client.specs.Sessions.{State, is_declared, exceeds, declaration, can_draw}
+use Rattle.tx_client.specs.Walks.{Walk, Sends}
+use Rattle.tx_play.specs.declared.post.Way.{Way}
+use Rattle.tx_play.specs.declared.step.Reply.{Reply}
+use Rattle.tx_play.specs.declared.step.Reply.TheVariants as reply
+use Rattle.tx_play.specs.Posts.{Desk, Stage, stage_of, Passes}
+use Rattle.tx_play.specs.Scenes.{session, Scene, Turn, goes, stops, calls, at_stage, seat_at, with_session, declared_in, runs_to, enters, entered_by, declares, draws, drew}
+use Rattle.tx_play.specs.Places.{scene_with, Acts, SessionGoes, Sent, Did}
+use Rattle.tx_play.proofs.Acting.{acts_so}
+use Rattle.tx_play.proofs.Turning.{goes_at, session_goes, session_rests, did_change, did_send}
+
+abbrev Deeds : Type 0
+Deeds = List Bool → Scene → ℕ → State → Turn
+
+module _ (bounds : List Key) (turn : Deeds) where
+  -- ---- what is not allowed, and what changes nothing
+
+  -- where the test is passed, it is not allowed
+  pub stops_at : (old : Seated) (desk : Desk) (b : Bool) (more : List Bool → Scene → ℕ → Turn) (c : Cause) → ((refused : List Bool) (scene : Scene) (k : ℕ) → turn refused scene k old.state ≡ cond b (stops c) (more refused scene k)) → b ≡ true → Did bounds turn (Err c) old old desk desk
+  stops_at old desk b more c is passed = (refl, refl, λ refused scene k. is refused scene k ∙ ap (λ x. cond x (stops c) (more refused scene k)) passed)
+
+  -- where it is not
+  pub stops_but : (old : Seated) (desk : Desk) (b : Bool) (more : List Bool → Scene → ℕ → Turn) (c : Cause) → ((refused : List Bool) (scene : Scene) (k : ℕ) → turn refused scene k old.state ≡ cond b (more refused scene k) (stops c)) → b ≡ false → Did bounds turn (Err c) old old desk desk
+  stops_but old desk b more c is failed = (refl, refl, λ refused scene k. is refused scene k ∙ ap (λ x. cond x (more refused scene k) (stops c)) failed)
+
+  -- a refusal
+  pub rests : (old : Seated) (desk : Desk) (bits : List Bool) (said : Reply) → ((later : List Bool) (scene : Scene) (k : ℕ) → turn (bits ++ later) scene k old.state ≡ goes scene said later) → Did bounds turn (Ok said) old old desk desk
+  rests old desk bits said is = did_change bounds turn old old desk said refl (session_rests bounds turn old.seat.seat old.state old.state (stage_of desk) (stage_of desk) said said bits is refl refl refl)
+
+  -- ---- the buffer
+
+  module _ (old new : Seated) (desk : Desk) (buffer : Entries) (key : List ℕ) (is : (refused : List Bool) (scene : Scene) (k : ℕ) → turn refused scene k old.state ≡ calls refused scene (enters refused scene k old.state buffer key)) where
+    entered_ok : is_full old.state.buffer key ≡ false → new ≡ seated (record old.state { buffer = buffer }) old.seat → Did bounds turn (Ok reply.Fine) old new desk desk
+    entered_ok room now =
+        did_change bounds turn old new desk reply.Fine (ap (λ (s : Seated). s.seat) now)
+        (session_goes bounds turn old.seat.seat old.state new.state (stage_of desk) (stage_of desk) reply.Fine reply.Fine (false ∷ []) (record old.state { buffer = buffer }) (λ scene k. scene.stage)
+        (λ later scene k. is (false ∷ later) scene k ∙ ap (λ b. cond b (goes scene reply.TooManyKeys later) (goes (with_session scene k (record old.state { buffer = buffer })) reply.Fine later)) room)
+        (λ scene k at number. at) (ap (λ (s : Seated). s.state) (sym now)) refl)
+
+    entered_err : new ≡ old → (e : Fault) → (e ≡ fault.OutOfMemory) ⊎ ((e ≡ fault.TooManyKeys) × (is_full old.state.buffer key ≡ true)) → Did bounds turn (Ok (entered_by {T = Unit {0}} (Err e))) old new desk desk
+    entered_err same e (inl short) =
+        subst (λ (x : Seated × Fault). Did bounds turn (Ok (entered_by {T = Unit {0}} (Err x.1))) old x.0 desk desk) (λ i. (sym same i, sym short i))
+        (rests old desk (true ∷ []) reply.OutOfMemory (λ later scene k. is (true ∷ later) scene k))
+    entered_err same e (inr (many, full)) =
+        subst (λ (x : Seated × Fault). Did bounds turn (Ok (entered_by {T = Unit {0}} (Err x.1))) old x.0 desk desk) (λ i. (sym same i, sym many i))
+        (rests old desk (false ∷ []) reply.TooManyKeys (λ later scene k. is (false ∷ later) scene k ∙ ap (λ b. cond b (goes scene reply.TooManyKeys later) (goes (with_session scene k (record old.state { buffer = buffer })) reply.Fine later)) full))
+
+    pub entered : (r : Result (Unit {0}) Fault) → OnOk r ((is_full old.state.buffer key ≡ false) × (new ≡ seated (record old.state { buffer = buffer }) old.seat)) → OnErr r (new ≡ old)
+        → IfErr r (λ e. (e ≡ fault.OutOfMemory) ⊎ ((e ≡ fault.TooManyKeys) × (is_full old.state.buffer key ≡ true))) → (said : Reply) → said ≡ entered_by r → Did bounds turn (Ok said) old new desk desk
+    entered (Ok x) ok same err said also = subst (λ s. Did bounds turn (Ok s) old new desk desk) (sym also) (entered_ok ok.0 ok.1)
+    entered (Err e) ok same err said also = subst (λ s. Did bounds turn (Ok s) old new desk desk) (sym also) (entered_err same e err)
+
+  -- ---- requests
+
+  -- where it is allowed, it sends
+  pub sends_if : {R : Type 0} (old new : Seated) (from at to : Desk) (way : Way) (b : Bool) (w : Walk (State × R)) (say : R → Reply) (result : R) (said : Reply) → at ≡ record { regions = from.regions; newest = from.newest; way = way }
+      → ((refused : List Bool) (scene : Scene) (k : ℕ) → turn refused scene k old.state ≡ cond b (runs_to bounds say k way refused scene w) (stops cause.Order)) → b ≡ true
+      → Sends (λ (x : Desk) q y z. Passes bounds x.way x q y z) bounds old.seat at w (new.state, result) to new.seat → said ≡ say result → Did bounds turn (Ok said) old new from to
+  sends_if old new from at to way b w say result said set is can sent also =
+      did_send bounds turn old new from at to [] way w say result said set sent (λ later scene k. is later scene k ∙ ap (λ x. cond x (runs_to bounds say k way later scene w) (stops cause.Order)) can) also
+
+-- ---- declare and draw
+
+module _ (bounds : List Key) (old new : Seated) (from to : Desk) where
+  module _ (terms : Terms) (free : is_declared old.state ≡ false) where
+    abbrev declaring : Deeds
+    declaring = λ refused scene k s. declares refused scene k s terms
+
+    abbrev after : History → History
+    after h = declared_in h (declaration old.state.start old.state.buffer terms)
+
+    abbrev inner : List Bool → Scene → ℕ → List Bool → Turn
+    inner refused scene k left = cond (exceeds old.state.buffer terms) (goes scene reply.TooManyKeys left) (goes (with_session (at_stage scene (record { history = after scene.stage.history })) k (record old.state { declared = Some terms })) reply.Fine left)
+
+    declares_is : (refused : List Bool) (scene : Scene) (k : ℕ) → declaring refused scene k old.state ≡ calls refused scene (inner refused scene k)
+    declares_is refused scene k = ap (λ b. cond b (stops cause.Order) (calls refused scene (inner refused scene k))) free
+
+    declared_ok : exceeds old.state.buffer terms ≡ false → new.state ≡ record old.state { declared = Some terms } → Acts old.seat new.seat from to (to.newest ≡ after from.newest) → Did bounds declaring (Ok reply.Fine) old new from to
+    declared_ok few now act =
+        acts_so old.seat new.seat from to _ _ act
+        (λ x. session_goes bounds declaring old.seat.seat old.state new.state (stage_of from) (stage_of to) reply.Fine reply.Fine (false ∷ []) (record old.state { declared = Some terms }) (λ scene k. record { history = after scene.stage.history })
+        (λ later scene k. declares_is (false ∷ later) scene k ∙ ap (λ b. cond b (goes scene reply.TooManyKeys later) (goes (with_session (at_stage scene (record { history = after scene.stage.history })) k (record old.state { declared = Some terms })) reply.Fine later)) few)
+        (λ scene k at number. (λ i. record { history = after (at i).history }) ∙ (λ i. record { history = sym x i })) (sym now) refl)
+
+    declared_err : (e : Fault) → (e ≡ fault.OutOfMemory) ⊎ ((e ≡ fault.TooManyKeys) × (exceeds old.state.buffer terms ≡ true)) → new.state ≡ old.state → Acts old.seat new.seat from to (to.newest ≡ from.newest) → Did bounds declaring (Ok (entered_by {T = Unit {0}} (Err e))) old new from to
+    declared_err e (inl short) same act =
+        subst (λ f. Did bounds declaring (Ok (entered_by {T = Unit {0}} (Err f))) old new from to) (sym short)
+        (acts_so old.seat new.seat from to _ _ act
+        (λ x. session_rests bounds declaring old.seat.seat old.state new.state (stage_of from) (stage_of to) reply.OutOfMemory reply.OutOfMemory (true ∷ [])
+        (λ later scene k. declares_is (true ∷ later) scene k) (λ i. record { history = x i }) same refl))
+    declared_err e (inr (many, full)) same act =
+        subst (λ f. Did bounds declaring (Ok (entered_by {T = Unit {0}} (Err f))) old new from to) (sym many)
+        (acts_so old.seat new.seat from to _ _ act
+        (λ x. session_rests bounds declaring old.seat.seat old.state new.state (stage_of from) (stage_of to) reply.TooManyKeys reply.TooManyKeys (false ∷ [])
+        (λ later scene k. declares_is (false ∷ later) scene k ∙ ap (λ b. cond b (goes scene reply.TooManyKeys later) (goes (with_session (at_stage scene (record { history = after scene.stage.history })) k (record old.state { declared = Some terms })) reply.Fine later)) full)
+        (λ i. record { history = x i }) same refl))
+
+    pub declared : (r : Result (Unit {0}) Fault) → OnOk r ((exceeds old.state.buffer terms ≡ false) × (new.state ≡ record old.state { declared = Some terms }) × Acts old.seat new.seat from to (to.newest ≡ after from.newest))
+        → IfErr r (λ e. ((e ≡ fault.OutOfMemory) ⊎ ((e ≡ fault.TooManyKeys) × (exceeds old.state.buffer terms ≡ true))) × (new.state ≡ old.state) × Acts old.seat new.seat from to (to.newest ≡ from.newest))
+        → (said : Reply) → said ≡ entered_by r → Did bounds declaring (Ok said) old new from to
+    declared (Ok x) ok err said also = subst (λ s. Did bounds declaring (Ok s) old new from to) (sym also) (declared_ok ok.0 ok.1 ok.2)
+    declared (Err e) ok err said also = subst (λ s. Did bounds declaring (Ok s) old new from to) (sym also) (declared_err e err.0 err.1 err.2)
+
+  -- a draw
+  pub drew_did : (t : ℕ) → can_draw old.state ≡ true → new.state ≡ record old.state { drawn = Some t } → Acts old.seat new.seat from to ((t ≡ last from.newest + 1) × (to.newest ≡ Drawn old.seat.seat (last from.newest + 1) ∷ from.newest))
+      → Did bounds (λ refused scene k s. draws refused scene k s bounds) (Ok (reply.Drawn t)) old new from to
+  drew_did t can now act =
+      acts_so old.seat new.seat from to _ _ act
+      (λ x names places k number there.
+      let scene = scene_with (stage_of from) names places in
+      let events : to.newest ≡ Drawn (seat_at bounds k) (last from.newest + 1) ∷ from.newest = x.1 ∙ ap (λ n. Drawn n (last from.newest + 1) ∷ from.newest) number in
+      let state : record old.state { drawn = Some (last from.newest + 1) } ≡ new.state = sym (now ∙ ap (λ u. record old.state { drawn = Some u }) x.0) in
+      goes_at bounds (λ refused. draws refused scene k old.state bounds) [] (reply.Drawn (last from.newest + 1)) (reply.Drawn t) (drew bounds scene k old.state) (scene_with (stage_of to) names (slice_set places k (session new.state)))
+      (λ later. ap (λ b. cond b (goes (drew bounds scene k old.state) (reply.Drawn (last from.newest + 1)) later) (stops cause.Order)) can)
+      (λ i. scene_with (record { history = sym events i }) names (slice_set places k (session (state i))))
+      (ap reply.Drawn (sym x.0)))

@@ -1,0 +1,30 @@
+-- Where as many events came as were made, nobody else acted.
+pub mod Alone
+-- How many events of a seat there are at most.
+pub mod Counts
+-- What the post's taking makes of what is newest.
+pub mod Posting
+-- A walk through the one thread's way.
+pub mod Walking
+-- What a session's acts count, and what they are where nobody else acted.
+pub mod Acting
+-- What is counted over all places, where one of them acts.
+pub mod Keeping
+-- What steps of a session are in the scene that the engine holds.
+pub mod Turning
+-- The steps of the engine, by what its calls give.
+pub mod Engines
+-- At the end each seat has learnt what is newest: so the history is no longer than what the seats have made.
+pub mod Settling
+-- Histories only grow as steps are played.
+pub mod AllGrow
+-- Steps have one play where its events are a world run.
+pub mod OnePlay
+-- The loop over the steps.
+pub mod Scripts
+-- When all has settled, the condition holds: nobody else acted.
+pub mod Ending
+-- An engine over the seats of a new journal.
+pub mod Dealt
+-- What a live session does is its turn.
+pub mod Doing

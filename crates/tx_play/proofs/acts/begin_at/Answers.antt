@@ -1,0 +1,30 @@
+use Rattle.std.proofs.Common.{◌≡◌, ◌+◌, ◌∷◌, sym, ap, subst, ◌∙◌}
+use Rattle.tx_core.specs.declared.event.Event.TheVariants.{Began, Drawn}
+use Rattle.tx_core.specs.Histories.{last, Begins}
+use Rattle.tx_client.specs.Calls.{Seated, HasHeard}
+use Rattle.tx_play.specs.Posts.{Desk}
+use Rattle.tx_play.specs.Places.{Acts}
+use Rattle.tx_play.proofs.Acting.{begun_acts}
+use Rattle.tx_play.proofs.acts.begin_at.Goals as goal
+
+pub returns-clause-acts : goal.returns-clause-acts
+returns-clause-acts g c =
+    let from = c.args.post.now in
+    let to = c.set_newest.new.self in
+    let k = c.args.seat in
+    let l = c.learn.new.self in
+    let s = c.in-Ok.session in
+    let began = c.in-Ok.ensures.ok in
+    let same : c.tell.new.self ≡ s = c.tell.ensures.same in
+    let heard : HasHeard g.J.Naming.bounds k from.newest l = record {
+      number = c.learn.ensures.same.0;
+      ticks = c.learn.ensures.same.1;
+      seen = c.learn.ensures.seen;
+      knows = subst (λ h. Begins h l.events) c.newest.ensures.told c.learn.ensures.told;
+      own = c.learn.ensures.own;
+    } in
+    let acts = begun_acts g.J.Naming.bounds from to k l s.seat heard
+    (ap (λ (d : Desk). d.regions) c.set_newest.ensures ∙ ap (λ (d : Desk). d.regions) c.newest.ensures.same)
+    (ap (λ (d : Desk). d.newest) c.set_newest.ensures ∙ c.tell.ensures.told)
+    s.state.start began.1 c.start-start.result c.start-start.ensures in
+    subst (λ (x : Seated). Acts k x.seat from to ((c.start-start.result ≡ last from.newest + 1) × (to.newest ≡ Began (last from.newest + 1) ∷ Drawn k.seat (last from.newest + 1) ∷ from.newest))) (sym same) acts

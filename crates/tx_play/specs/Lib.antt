@@ -1,0 +1,7 @@
+pub mod Posts
+pub mod Steps
+pub mod Scenes
+pub mod Plays
+pub mod Places
+pub mod Scripts
+pub mod Openings

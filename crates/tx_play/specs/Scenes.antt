@@ -1,0 +1,305 @@
+-- What each step of a script does, in one thread in which nobody else acts: the events that it makes, what it changes of its session, and
+-- its reply.
+use Rattle.std.specs.Prelude.{ℕ, ◌+◌, ◌&&◌, not, Bool, false, List, [], ◌∷◌, length, replicate, nat_le, slice_get, slice_set, Option, Some, None, option_map, is_some, if◌then◌else◌, Result, Ok, Err, bytes_eq}
+use Rattle.std.specs.Map.{update}
+use Rattle.tx_types.specs.declared.limits.TheConstants.{MAX_KEY_BYTES, MAX_NAME_BYTES, MAX_VALUE_BYTES, MIN_KEY_BYTES}
+use Rattle.tx_types.specs.declared.fault.Fault.{Fault}
+use Rattle.tx_types.specs.declared.fault.Fault.TheVariants as fault
+use Rattle.tx_types.specs.declared.fault.Cause.{Cause}
+use Rattle.tx_types.specs.declared.fault.Cause.TheVariants.{Name, Order, Sessions}
+use Rattle.tx_types.specs.declared.key.Key.{Key}
+use Rattle.tx_types.specs.declared.mutation.Mutation.{Mutation}
+use Rattle.tx_types.specs.declared.mutation.Mutation.TheVariants as mutation
+use Rattle.tx_plan.specs.declared.body.Body.{Body}
+use Rattle.tx_plan.specs.declared.answer.Answer.{Answer}
+use Rattle.tx_core.specs.declared.event.Declaration.{Declaration}
+use Rattle.tx_core.specs.declared.event.Outcome.{Outcome}
+use Rattle.tx_core.specs.declared.event.Event.TheVariants.{Drawn, Began, Declared, Answered, Stopped}
+use Rattle.tx_core.specs.Histories.{History, last}
+use Rattle.tx_client.specs.declared.state.Terms.{Terms}
+use Rattle.tx_client.specs.declared.state.Phase.TheVariants as phase
+use Rattle.tx_client.specs.declared.state.Came.{Came}
+use Rattle.tx_client.specs.declared.state.Came.TheVariants as came
+use Rattle.tx_client.specs.declared.state.Miss.{Miss}
+use Rattle.tx_client.specs.declared.state.Miss.TheVariants as miss
+use Rattle.tx_client.specs.Buffers.{Entries, touched, locked, is_full}
+use Rattle.tx_client.specs.Sessions.{State, begun, is_declared, has_primary, exceeds, declaration, due_prewrite, due_commit, due_abort, can_draw, can_commit, can_abort, finish_of}
+use Rattle.tx_client.specs.Walks.{Walk, asks, grows, ends, due_walk, heartbeat_walk, get_walk, scan_walk}
+use Rattle.tx_play.specs.declared.post.Way.{Way}
+use Rattle.tx_play.specs.declared.post.Way.TheVariants.{Plain, Lose, LoseReply, Repeat}
+use Rattle.tx_play.specs.declared.step.Reply.{Reply}
+use Rattle.tx_play.specs.declared.step.Reply.TheVariants as reply
+use Rattle.tx_play.specs.Posts.{Stage, taken}
+use Rattle.tx_play.specs.Steps.{Deed, put, delete, lock, get, scan, declare, prewrite, draw, commit, abort, heartbeat, Call, begin, acts, finish, stop}
+
+-- a place: free, or with a live session
+pub data Place : Type 0 where
+  free : Place
+  session : (state : State) → Place
+
+-- where a script stands: what has happened, the places of the live sessions' names, and the places, each of which has a seat
+pub record Scene : Type 0 where
+  pub stage : Stage
+  pub names : List ℕ → Option ℕ
+  pub places : List Place
+
+-- before the first step, with so many places
+abbrev pub opening : ℕ → Scene
+opening n = record { stage = record { history = [] }; names = λ q. None; places = replicate n free }
+
+-- A step goes on with a scene, a reply and the refusals that are left; or a region is first asked, at this stage, and it goes on by the
+-- answer; or it stops the script.
+pub data Turn : Type 0 where
+  goes : (scene : Scene) (said : Reply) (refused : List Bool) → Turn
+  inquires : (stage : Stage) (body : Body) (more : Answer → Turn) → Turn
+  stops : (cause : Cause) → Turn
+
+-- ---- want of memory: the k-th call that may need memory is refused where the k-th of a list says so
+
+abbrev pub is_refused : List Bool → Bool
+is_refused [] = false
+is_refused (b ∷ refused) = b
+
+abbrev pub later_of : List Bool → List Bool
+later_of [] = []
+later_of (b ∷ refused) = refused
+
+-- a call that may need memory: refused, it changes nothing
+abbrev pub calls : List Bool → Scene → (List Bool → Turn) → Turn
+calls refused scene more = if is_refused refused then goes scene reply.OutOfMemory (later_of refused) else more (later_of refused)
+
+-- ---- names, keys and values
+
+abbrev pub is_name : List ℕ → Bool
+is_name name = nat_le 1 (length name) && nat_le (length name) MAX_NAME_BYTES
+
+abbrev pub is_key : List ℕ → Bool
+is_key key = nat_le MIN_KEY_BYTES (length key) && nat_le (length key) MAX_KEY_BYTES
+
+abbrev pub is_value : List ℕ → Bool
+is_value value = nat_le (length value) MAX_VALUE_BYTES
+
+-- ---- scenes that follow
+
+abbrev pub at_stage : Scene → Stage → Scene
+at_stage scene s = record { stage = s; names = scene.names; places = scene.places }
+
+abbrev pub at_history : Scene → History → Scene
+at_history scene h = at_stage scene (record { history = h })
+
+-- a session has another state
+abbrev pub with_session : Scene → ℕ → State → Scene
+with_session scene k s = record { stage = scene.stage; names = scene.names; places = slice_set scene.places k (session s) }
+
+-- the seat of a place: those of the regions come first, and then one for what no session does
+abbrev pub seat_at : List Key → ℕ → ℕ
+seat_at bounds k = length bounds + 2 + k
+
+abbrev pub declared_in : History → Option Declaration → History
+declared_in h None = h
+declared_in h (Some d) = Declared d ∷ h
+
+-- a session is gone, and its place is free
+abbrev pub gone : Scene → List ℕ → ℕ → Scene
+gone scene name k = record { stage = scene.stage; names = update bytes_eq scene.names name None; places = slice_set scene.places k free }
+
+module _ (bounds : List Key) where
+  -- a transaction begins under a name, at a place
+  abbrev pub began : Scene → List ℕ → ℕ → Scene
+  began scene name k = record {
+    stage = record { history = Began (last scene.stage.history + 1) ∷ Drawn (seat_at bounds k) (last scene.stage.history + 1) ∷ scene.stage.history };
+    names = update bytes_eq scene.names name (Some k);
+    places = slice_set scene.places k (session (begun (last scene.stage.history + 1)));
+  }
+
+  -- a session draws its commit timestamp
+  abbrev pub drew : Scene → ℕ → State → Scene
+  drew scene k s =
+      with_session (at_history scene (Drawn (seat_at bounds k) (last scene.stage.history + 1) ∷ scene.stage.history)) k (record s { drawn = Some (last scene.stage.history + 1) })
+
+  -- ---- requests
+
+  -- a region takes a request, and its reply comes
+  abbrev pub asked : List Bool → Scene → Body → (Came → Scene → List Bool → Turn) → Turn
+  asked refused scene body on =
+      if is_refused refused then on came.Unsaid scene (later_of refused)
+      else inquires scene.stage body (λ a. on (came.Said a) (at_stage scene (taken bounds scene.stage body a)) (later_of refused))
+
+  -- a request, by its way
+  abbrev pub sent : Way → List Bool → Scene → Body → (Came → Scene → List Bool → Turn) → Turn
+  sent Plain refused scene body on = asked refused scene body on
+  sent Lose refused scene body on = on came.Lost scene refused
+  sent LoseReply refused scene body on = asked refused scene body (λ c. on came.Lost)
+  sent Repeat refused scene body on =
+      if is_refused refused then on came.Unsaid scene (later_of refused)
+      else asked (later_of refused) scene body (λ c next left. asked left next body on)
+
+  -- the requests of a walk
+  abbrev pub runs : {R : Type 0} → Way → List Bool → Scene → Walk R → (R → Scene → List Bool → Turn) → Turn
+  runs way refused scene (ends r) on = on r scene refused
+  runs way refused scene (grows more short) on =
+      if is_refused refused then runs way (later_of refused) scene short on else runs way (later_of refused) scene more on
+  runs way refused scene (asks body more) on = sent way refused scene body (λ c next left. runs way left next (more c) on)
+
+  -- the requests of a session's call, which comes to a state and to a reply
+  abbrev pub runs_to : {R : Type 0} → (R → Reply) → ℕ → Way → List Bool → Scene → Walk (State × R) → Turn
+  runs_to say k way refused scene w = runs way refused scene w (λ x next left. goes (with_session next k x.0) (say x.1) left)
+
+-- ---- replies
+
+abbrev pub missed_by : Miss → Reply
+missed_by miss.NoReply = reply.Lost
+missed_by miss.NoMemory = reply.OutOfMemory
+
+abbrev pub answered_by : Option Answer → Reply
+answered_by None = reply.Done
+answered_by (Some a) = reply.Answered a
+
+-- what a change of a buffer gives
+abbrev pub entered_by : {T : Type 0} → Result T Fault → Reply
+entered_by (Ok x) = reply.Fine
+entered_by (Err fault.TooManyKeys) = reply.TooManyKeys
+entered_by (Err _) = reply.OutOfMemory
+
+-- what a call that sends what is due gives
+abbrev pub said_by : Result (Option Answer) Miss → Reply
+said_by (Ok o) = answered_by o
+said_by (Err m) = missed_by m
+
+-- what a read gives
+abbrev pub read_by : Result Answer Miss → Reply
+read_by (Ok a) = reply.Answered a
+read_by (Err m) = missed_by m
+
+-- ---- places
+
+-- the first place that is free
+abbrev pub first_free : List Place → Option ℕ
+first_free [] = None
+first_free (free ∷ places) = Some 0
+first_free (session s ∷ places) = option_map (λ k. k + 1) (first_free places)
+
+-- a place, and the session there
+abbrev pub lives : ℕ → Option Place → Option (ℕ × State)
+lives k (Some (session s)) = Some (k, s)
+lives k _ = None
+
+abbrev pub at_place : List Place → Option ℕ → Option (ℕ × State)
+at_place places None = None
+at_place places (Some k) = lives k (slice_get places k)
+
+-- the live session of a name
+abbrev pub live_at : Scene → List ℕ → Option (ℕ × State)
+live_at scene name = at_place scene.places (scene.names name)
+
+-- ---- the steps of a session
+
+module _ (refused : List Bool) (scene : Scene) (k : ℕ) (s : State) where
+  -- a change before declare enters the buffer
+  abbrev pub enters : Entries → List ℕ → List Bool → Turn
+  enters buffer key left = if is_full s.buffer key then goes scene reply.TooManyKeys left else goes (with_session scene k (record s { buffer = buffer })) reply.Fine left
+
+  abbrev pub puts : List ℕ → List ℕ → Turn
+  puts key value =
+      if is_declared s then stops Order
+      else (if not (is_key key) then goes scene reply.KeyLength refused
+      else (if not (is_value value) then goes scene reply.ValueLength refused
+      else calls refused scene (enters (touched s.buffer key (mutation.Put value)) key)))
+
+  abbrev pub deletes : List ℕ → Turn
+  deletes key =
+      if is_declared s then stops Order
+      else (if not (is_key key) then goes scene reply.KeyLength refused
+      else calls refused scene (enters (touched s.buffer key mutation.Delete) key))
+
+  abbrev pub locks : List ℕ → Turn
+  locks key =
+      if is_declared s then stops Order
+      else (if not (is_key key) then goes scene reply.KeyLength refused
+      else calls refused scene (enters (locked s.buffer key) key))
+
+  -- a session declares once: an empty buffer is no event
+  abbrev pub declares : Terms → Turn
+  declares terms =
+      if is_declared s then stops Order
+      else calls refused scene (λ left.
+      if exceeds s.buffer terms then goes scene reply.TooManyKeys left
+      else goes (with_session (at_history scene (declared_in scene.stage.history (declaration s.start s.buffer terms))) k (record s { declared = Some terms })) reply.Fine left)
+
+  module _ (bounds : List Key) where
+    abbrev pub draws : Turn
+    draws = if can_draw s then goes (drew bounds scene k s) (reply.Drawn (last scene.stage.history + 1)) refused else stops Order
+
+    abbrev pub gets : List ℕ → Way → Turn
+    gets key way =
+        if not (is_key key) then goes scene reply.KeyLength refused
+        else calls refused scene (λ left. runs_to bounds read_by k way left scene (get_walk s key))
+
+    abbrev pub scans : List ℕ → List ℕ → ℕ → Way → Turn
+    scans from to limit way =
+        if not (is_key from && is_key to) then goes scene reply.KeyLength refused
+        else calls refused scene (λ left. runs_to bounds read_by k way left scene (scan_walk s bounds from to limit))
+
+    abbrev pub prewrites : Way → Turn
+    prewrites way = if is_declared s then runs_to bounds said_by k way refused scene (due_walk s phase.Prewrite (due_prewrite s)) else stops Order
+
+    abbrev pub commits : Way → Turn
+    commits way = if can_commit s then runs_to bounds said_by k way refused scene (due_walk s phase.Commit (due_commit s)) else stops Order
+
+    abbrev pub aborts : Way → Turn
+    aborts way = if can_abort s then runs_to bounds said_by k way refused scene (due_walk s phase.Abort (due_abort s)) else stops Order
+
+    abbrev pub beats : ℕ → Way → Turn
+    beats ttl way = if has_primary s then runs_to bounds said_by k way refused scene (heartbeat_walk s ttl) else stops Order
+
+    -- what a live session does
+    abbrev pub deeds : Deed → Turn
+    deeds (put key value) = puts key value
+    deeds (delete key) = deletes key
+    deeds (lock key) = locks key
+    deeds (get key way) = gets key way
+    deeds (scan from to limit way) = scans from to limit way
+    deeds (declare mode ttl max_commit) = declares (record { mode = mode; ttl = ttl; max_commit = max_commit })
+    deeds (prewrite way) = prewrites way
+    deeds draw = draws
+    deeds (commit way) = commits way
+    deeds (abort way) = aborts way
+    deeds (heartbeat ttl way) = beats ttl way
+
+  -- a session answers its outcome, and is gone
+  abbrev pub finishes_by : List ℕ → Option Outcome → Turn
+  finishes_by name None = stops Order
+  finishes_by name (Some o) = goes (gone (at_history scene (Answered s.start o ∷ scene.stage.history)) name k) (reply.Ended o) refused
+
+  abbrev pub finishes : List ℕ → Turn
+  finishes name = finishes_by name (finish_of s)
+
+  -- a session stops, and is gone
+  abbrev pub leaves : List Key → List ℕ → Turn
+  leaves bounds name = goes (gone (at_history scene (Stopped (seat_at bounds k) ∷ scene.stage.history)) name k) reply.Fine refused
+
+-- ---- the steps
+
+-- the step of a session, which has to be live
+abbrev pub in_session : Option (ℕ × State) → (ℕ → State → Turn) → Turn
+in_session None more = stops Name
+in_session (Some x) more = more x.0 x.1
+
+module _ (bounds : List Key) where
+  abbrev pub begins_at : List Bool → Scene → List ℕ → Option ℕ → Turn
+  begins_at refused scene name None = stops Sessions
+  begins_at refused scene name (Some k) = calls refused scene (λ left. goes (began bounds scene name k) (reply.Start (last scene.stage.history + 1)) left)
+
+  -- a name of no live session and of 1 to 64 bytes begins one, where a place is free
+  abbrev pub begins : List Bool → Scene → List ℕ → Turn
+  begins refused scene name =
+      if not (is_name name) then stops Name
+      else (if is_some (scene.names name) then stops Name
+      else begins_at refused scene name (first_free scene.places))
+
+  -- what a step leads to
+  abbrev pub turn : List Bool → Call → Scene → Turn
+  turn refused (begin name) scene = begins refused scene name
+  turn refused (acts name deed) scene = in_session (live_at scene name) (λ k s. deeds refused scene k s bounds deed)
+  turn refused (finish name) scene = in_session (live_at scene name) (λ k s. finishes refused scene k s name)
+  turn refused (stop name) scene = in_session (live_at scene name) (λ k s. leaves refused scene k s bounds name)

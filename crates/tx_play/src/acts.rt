@@ -1,0 +1,97 @@
+//! What a session does in one thread: it knows what is newest before it acts, and what it knows after is the newest.
+ghost use Rattle.std.specs.Prelude.{◌≡◌, ◌<◌, ◌+◌, ◌∷◌, ◌⊎◌, Some, None, true, false, IfOk, IfErr, OnOk};
+ghost use Rattle.tx_core.specs.declared.event.Event.TheVariants as events;
+ghost use Rattle.tx_core.specs.Histories.{last};
+ghost use Rattle.tx_client.specs.Sessions.{begun, can_draw, declaration, exceeds, finish_of, is_declared};
+ghost use Rattle.tx_play.specs.Places.{Acts};
+ghost use Rattle.tx_play.specs.Scenes.{declared_in};
+
+use crate::post::Post;
+use std::alloc::Global;
+use tx_cells::Families;
+use tx_client::{Session, Terms};
+use tx_core::Outcome;
+use tx_journal::{Naming, Seat};
+use tx_types::{Fault, Ts};
+
+/// A session begins.
+pub fn begin_at<J: Naming, F: Families>(
+    alloc: Global,
+    mut seat: Seat<J>,
+    post: &mut Post<J, F>,
+) -> (Session<J>, Ts)
+    requires ticks { 0 < seat.ticks }
+    ensures state { result.0.state ≡ begun result.1 }
+    ensures acts { Acts seat result.0.seat post.old post.new ((result.1 ≡ last post.old.newest + 1) × (post.new.newest ≡ events.Began (last post.old.newest + 1) ∷ events.Drawn seat.seat (last post.old.newest + 1) ∷ post.old.newest)) }
+{
+    seat.learn(post.newest());
+    let Ok(mut session) = Session::begin(alloc, seat) else {
+        unreachable!()
+    };
+    let start = session.start();
+    post.set_newest(session.tell());
+    (session, start)
+}
+
+/// A session declares its buffer. A refusal is no event, and leaves its state as it was.
+pub fn declare_at<J: Naming, F: Families>(
+    alloc: Global,
+    session: &mut Session<J>,
+    post: &mut Post<J, F>,
+    terms: Terms,
+) -> Result<(), Fault>
+    requires { is_declared session.old.state ≡ false }
+    ensures ok { OnOk result ((exceeds session.old.state.buffer terms ≡ false) × (session.new.state ≡ record session.old.state { declared = Some terms }) × Acts session.old.seat session.new.seat post.old post.new (post.new.newest ≡ declared_in post.old.newest (declaration session.old.state.start session.old.state.buffer terms))) }
+    ensures err { IfErr result (λ e. ((e ≡ Fault.OutOfMemory) ⊎ ((e ≡ Fault.TooManyKeys) × (exceeds session.old.state.buffer terms ≡ true))) × (session.new.state ≡ session.old.state) × Acts session.old.seat session.new.seat post.old post.new (post.new.newest ≡ post.old.newest)) }
+{
+    session.hear_of(post.newest());
+    let declared = session.declare(alloc, terms);
+    post.set_newest(session.tell());
+    declared
+}
+
+/// A session draws its commit timestamp.
+pub fn draw_at<J: Naming, F: Families>(session: &mut Session<J>, post: &mut Post<J, F>) -> Ts
+    requires can { can_draw session.old.state ≡ true }
+    requires ticks { 0 < session.old.seat.ticks }
+    ensures state { session.new.state ≡ record session.old.state { drawn = Some result } }
+    ensures acts { Acts session.old.seat session.new.seat post.old post.new ((result ≡ last post.old.newest + 1) × (post.new.newest ≡ events.Drawn session.old.seat.seat (last post.old.newest + 1) ∷ post.old.newest)) }
+{
+    session.hear_of(post.newest());
+    let Ok(commit) = session.draw_commit() else {
+        unreachable!()
+    };
+    post.set_newest(session.tell());
+    commit
+}
+
+/// A session answers its outcome, where it has one. Where it has none, it comes back.
+pub fn finish_at<J: Naming, F: Families>(
+    mut session: Session<J>,
+    post: &mut Post<J, F>,
+) -> Result<(Outcome, Seat<J>), Session<J>>
+    ensures ended { IfOk result (λ r. (finish_of session.state ≡ Some r.0) × Acts session.seat r.1 post.old post.new (post.new.newest ≡ events.Answered session.state.start r.0 ∷ post.old.newest)) }
+    ensures open_yet { IfErr result (λ s. (finish_of session.state ≡ None) × (s.state ≡ session.state) × Acts session.seat s.seat post.old post.new (post.new.newest ≡ post.old.newest)) }
+{
+    session.hear_of(post.newest());
+    match session.finish() {
+        Ok((outcome, mut seat)) => {
+            post.set_newest(seat.tell());
+            Ok((outcome, seat))
+        }
+        Err(mut session) => {
+            post.set_newest(session.tell());
+            Err(session)
+        }
+    }
+}
+
+/// A session stops.
+pub fn stop_at<J: Naming, F: Families>(mut session: Session<J>, post: &mut Post<J, F>) -> Seat<J>
+    ensures acts { Acts session.seat result post.old post.new (post.new.newest ≡ events.Stopped session.seat.seat ∷ post.old.newest) }
+{
+    session.hear_of(post.newest());
+    let mut seat = session.stop();
+    post.set_newest(seat.tell());
+    seat
+}

@@ -1,0 +1,13 @@
+//! What scripts in one thread stand on: the way to the regions of a journal, and what a session does there. Each act tells how many
+//! events it made, and what it is exactly where nobody else acted.
+#![tactic(auto)]
+
+mod acts;
+mod places;
+mod post;
+mod step;
+
+pub use acts::{begin_at, declare_at, draw_at, finish_at, stop_at};
+pub use places::Slot;
+pub use post::{Post, Way};
+pub use step::{Act, Broken, End, Reply, Step};

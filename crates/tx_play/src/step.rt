@@ -1,0 +1,77 @@
+//! Steps, and what they give.
+use crate::post::Way;
+use tx_core::{Answer, Outcome};
+use tx_types::{Mode, Ts};
+
+/// What a live session does, over the text of its line. Keys and values stand for their UTF-8 bytes. What becomes of the request
+/// that is sent stands last.
+#[derive(Clone, Copy, Debug)]
+pub enum Act<'a> {
+    Put(&'a str, &'a str),
+    Delete(&'a str),
+    Lock(&'a str),
+    Get(&'a str, Way),
+    /// From a key, up to but not including another; so many rows at most.
+    Scan(&'a str, &'a str, u32, Way),
+    /// The mode, the time to live in ticks, and the greatest commit timestamp that an async lock may promise.
+    Declare(Mode, u32, Option<Ts>),
+    Prewrite(Way),
+    Draw,
+    Commit(Way),
+    Abort(Way),
+    /// The time to live, in ticks.
+    Heartbeat(u32, Way),
+}
+
+/// A step, over the text of its line: the name of its session first.
+#[derive(Clone, Copy, Debug)]
+pub enum Step<'a> {
+    /// A session begins under the name.
+    Begin(&'a str),
+    /// The live session of the name acts.
+    Act(&'a str, Act<'a>),
+    /// It answers its outcome, and is gone.
+    Finish(&'a str),
+    /// It leaves its transaction as it is, and is gone.
+    Stop(&'a str),
+}
+
+/// What a step gives.
+#[derive(Debug, Drop)]
+pub enum Reply {
+    /// A session began at this timestamp.
+    Start(Ts),
+    /// It went well.
+    Fine,
+    /// A region answered, or the buffer.
+    Answered(Answer),
+    /// Nothing is left to send.
+    Done,
+    /// A commit timestamp was drawn.
+    Drawn(Ts),
+    /// A session ended.
+    Ended(Outcome),
+    /// No reply came.
+    Lost,
+    /// E12: a growth was refused.
+    OutOfMemory,
+    /// E13: a key of no bytes or of more than 512.
+    KeyLength,
+    /// E14: a value of more than 65,536 bytes.
+    ValueLength,
+    /// E15: more keys than a transaction may have.
+    TooManyKeys,
+}
+
+/// How a script ends.
+#[derive(Clone, Copy, Debug, PartialEq, Eq)]
+pub enum End {
+    /// With its last step.
+    Well,
+    /// With a step that it does not allow.
+    Faulted(tx_types::Cause),
+}
+
+/// A script was broken off: a growth was refused outside of a step's own calls.
+#[derive(Clone, Copy, Debug, Drop)]
+pub struct Broken;
