@@ -5,6 +5,8 @@
 mod commands;
 mod records;
 mod region;
+#[cfg(test)]
+mod region_tests;
 mod routing;
 #[cfg(test)]
 mod table_tests;
