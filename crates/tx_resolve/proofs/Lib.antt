@@ -8,3 +8,5 @@ pub mod Finding
 pub mod Greatest
 -- The other keys are asked one after another.
 pub mod Others
+-- Regions, and locks, are gone through one after another.
+pub mod Regions

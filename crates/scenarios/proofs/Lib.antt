@@ -1,0 +1,2 @@
+-- What the tests' way to the regions is.
+pub mod Ways
