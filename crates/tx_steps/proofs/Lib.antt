@@ -1,0 +1,2 @@
+-- The members of a step, one after the other.
+pub mod Members
