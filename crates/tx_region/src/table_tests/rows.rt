@@ -6,7 +6,7 @@ use crate::records::Records;
 use crate::table_tests::asked::{Ask, body, key};
 use crate::table_tests::shown::{Short, Stand, Word, answered, is, stands};
 use std::alloc::Global;
-use tx_cells::{Families, NestedCells};
+use tx_cells::{Families, FlatCells, NestedCells};
 use tx_types::Ts;
 
 /// Families that hold nothing.
@@ -21,6 +21,12 @@ pub trait Fresh: Families + Drop {
 impl Fresh for NestedCells {
     fn fresh(alloc: Global) -> NestedCells {
         NestedCells::new(alloc)
+    }
+}
+
+impl Fresh for FlatCells {
+    fn fresh(alloc: Global) -> FlatCells {
+        FlatCells::new(alloc)
     }
 }
 
@@ -86,10 +92,12 @@ fn first_wrong_in_region_over<F: Fresh>(alloc: Global, rows: &[RegionRow]) -> Op
 
 /// The place of the first row that does not hold, over each kind of families.
 pub fn first_wrong(alloc: Global, rows: &[Row]) -> Option<usize> {
-    first_wrong_over::<NestedCells>(alloc, rows)
+    first_wrong_over::<NestedCells>(alloc, rows).or(first_wrong_over::<FlatCells>(alloc, rows))
 }
 
 /// The place of the first row that does not hold, over each kind of families.
 pub fn first_wrong_in_region(alloc: Global, rows: &[RegionRow]) -> Option<usize> {
-    first_wrong_in_region_over::<NestedCells>(alloc, rows)
+    first_wrong_in_region_over::<NestedCells>(alloc, rows).or(first_wrong_in_region_over::<
+        FlatCells,
+    >(alloc, rows))
 }
