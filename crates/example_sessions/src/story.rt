@@ -169,6 +169,88 @@ impl<'a, R: Print> Side<'a, R> {
     }
 }
 
+// The session, where what it did went well.
+fn kept<J: Naming>(session: Session<J>, done: Result<()>) -> Result<Session<J>> {
+    match done {
+        Ok(()) => Ok(session),
+        Err(error) => {
+            drop(session);
+            Err(error)
+        }
+    }
+}
+
+impl<'a, R: Print> Side<'a, R> {
+    // It begins, and locks its two keys.
+    fn write<J: Naming>(&self, seat: Seat<J>, regions: &mut Regions<J>) -> Result<Session<J>> {
+        let mut session = self.begin(seat)?;
+        let done = self.lock_both(&mut session, regions);
+        kept(session, done)
+    }
+
+    // It commits them, and ends.
+    fn commit_all<J: Naming>(
+        &self,
+        mut session: Session<J>,
+        regions: &mut Regions<J>,
+    ) -> Result<()> {
+        let done = self.commit_both(&mut session, regions);
+        let session = kept(session, done)?;
+        drop(self.finish(session)?);
+        Ok(())
+    }
+
+    // It begins, and reads one of them.
+    fn look<J: Naming>(&self, seat: Seat<J>, regions: &mut Regions<J>) -> Result<Session<J>> {
+        let mut session = self.begin(seat)?;
+        let done = self.get(&mut session, "apple", "get apple", regions);
+        kept(session, done)
+    }
+
+    // It reads it again, and ends.
+    fn look_again<J: Naming>(
+        &self,
+        mut session: Session<J>,
+        regions: &mut Regions<J>,
+    ) -> Result<Seat<J>> {
+        let done = self.get(&mut session, "apple", "get apple", regions);
+        let session = kept(session, done)?;
+        self.finish(session)
+    }
+
+    // It begins again, reads both and deletes one.
+    fn tidy<J: Naming>(&self, seat: Seat<J>, regions: &mut Regions<J>) -> Result<()> {
+        let mut session = self.begin(seat)?;
+        let done = self.delete_one(&mut session, regions);
+        let session = kept(session, done)?;
+        drop(self.finish(session)?);
+        Ok(())
+    }
+
+    // B reads beside A, and then, begun again, sees what A committed.
+    fn beside<J: Naming>(
+        &self,
+        b: &Side<'a, R>,
+        writer: Session<J>,
+        seat: Seat<J>,
+        regions: &mut Regions<J>,
+    ) -> Result<Seat<J>> {
+        match b.look(seat, regions) {
+            Ok(reader) => match self.commit_all(writer, regions) {
+                Ok(()) => b.look_again(reader, regions),
+                Err(error) => {
+                    drop(reader);
+                    Err(error)
+                }
+            },
+            Err(error) => {
+                drop(writer);
+                Err(error)
+            }
+        }
+    }
+}
+
 /// Both sessions, turn by turn. A writes two keys, one in each region, in two phases; B reads beside it, and then, begun again,
 /// sees what A committed, and deletes a key asynchronously.
 pub fn tell<J: Naming, R: Print>(
@@ -178,28 +260,24 @@ pub fn tell<J: Naming, R: Print>(
     a: Seat<J>,
     b: Seat<J>,
 ) -> Result<()> {
-    let (by_a, by_b) = (
-        Side {
-            rt,
-            who: "A",
-            alloc,
-        },
-        Side {
-            rt,
-            who: "B",
-            alloc,
-        },
-    );
-    let mut a = by_a.begin(a)?;
-    by_a.lock_both(&mut a, regions)?;
-    let mut b = by_b.begin(b)?;
-    by_b.get(&mut b, "apple", "get apple", regions)?;
-    by_a.commit_both(&mut a, regions)?;
-    drop(by_a.finish(a)?);
-    by_b.get(&mut b, "apple", "get apple", regions)?;
-    let seat = by_b.finish(b)?;
-    let mut b = by_b.begin(seat)?;
-    by_b.delete_one(&mut b, regions)?;
-    drop(by_b.finish(b)?);
-    Ok(())
+    let by_a = Side {
+        rt,
+        who: "A",
+        alloc,
+    };
+    let by_b = Side {
+        rt,
+        who: "B",
+        alloc,
+    };
+    match by_a.write(a, regions) {
+        Ok(writer) => {
+            let seat = by_a.beside(&by_b, writer, b, regions)?;
+            by_b.tidy(seat, regions)
+        }
+        Err(error) => {
+            drop(b);
+            Err(error)
+        }
+    }
 }

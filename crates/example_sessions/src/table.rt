@@ -64,6 +64,11 @@ impl fmt::Display for Words<'_> {
     }
 }
 
+fn line_answered<R: Print>(rt: &R, who: &str, call: &str, answer: &Answer) -> Result<()> {
+    println!(rt; "{who:<3}{call:<21}{}", Words { answer })?;
+    Ok(())
+}
+
 /// A line with what a read answers.
 pub fn line_read<R: Print>(
     rt: &R,
@@ -71,11 +76,12 @@ pub fn line_read<R: Print>(
     call: &str,
     came: Result<Answer, Miss>,
 ) -> Result<()> {
-    match came {
-        Ok(answer) => println!(rt; "{who:<3}{call:<21}{}", Words { answer: &answer })?,
-        Err(_) => line(rt, who, call, "no answer")?,
-    }
-    Ok(())
+    let written = match &came {
+        Ok(answer) => line_answered(rt, who, call, answer),
+        Err(_) => line(rt, who, call, "no answer"),
+    };
+    drop(came);
+    written
 }
 
 /// A line with what a request of a commit answers.
@@ -85,12 +91,13 @@ pub fn line_sent<R: Print>(
     call: &str,
     came: Result<Option<Answer>, Miss>,
 ) -> Result<()> {
-    match came {
-        Ok(Some(answer)) => println!(rt; "{who:<3}{call:<21}{}", Words { answer: &answer })?,
-        Ok(None) => line(rt, who, call, "nothing is left to send")?,
-        Err(_) => line(rt, who, call, "no answer")?,
-    }
-    Ok(())
+    let written = match &came {
+        Ok(Some(answer)) => line_answered(rt, who, call, answer),
+        Ok(None) => line(rt, who, call, "nothing is left to send"),
+        Err(_) => line(rt, who, call, "no answer"),
+    };
+    drop(came);
+    written
 }
 
 /// A line with an outcome.
