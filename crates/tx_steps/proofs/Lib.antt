@@ -1,0 +1,4 @@
+-- Why steps are read as they are said.
+pub mod FirstMembers
+pub mod ReadKeys
+pub mod ManyMembers

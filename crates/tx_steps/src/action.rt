@@ -1,0 +1,98 @@
+//! What a session does by itself.
+ghost use Rattle.std.specs.Prelude.{◌≡◌, option_map};
+ghost use Rattle.tx_lines.specs.Parts.{parts_items};
+ghost use Rattle.tx_steps.specs.Steps.{acted, act_said, put_said, mode_said, max_said, declare_said, last_of};
+
+use crate::members::{last_number, last_text, none_left, text, within};
+use crate::word::Word;
+use tx_lines::Part;
+use tx_types::Mode;
+use tx_types::limits::MAX_TTL;
+
+/// What a session does by itself.
+#[derive(Clone, Copy, Debug)]
+pub enum Action<'a> {
+    /// A put of a key and its value enters the buffer.
+    Put(&'a str, &'a str),
+    /// A delete of a key enters it.
+    Delete(&'a str),
+    /// A lock of a key enters it.
+    Lock(&'a str),
+    /// The buffer is fixed: how its transaction commits, how long its locks live, in ticks, and the greatest timestamp that an
+    /// async commit may take; none is no bound.
+    Declare(Mode, u32, Option<u64>),
+    Draw,
+    Finish,
+    Stop,
+    /// The last lock that stood in its way is resolved, at this timestamp.
+    Resolve(u64),
+}
+
+fn put<'a>(members: &[Part<'a>]) -> Option<Action<'a>>
+    ensures { option_map acted result ≡ put_said (parts_items members.now) }
+{
+    let (key, rest) = text(members)?;
+    Some(Action::Put(key, last_text(rest)?))
+}
+
+pub(crate) fn mode_of(word: &str) -> Option<Mode>
+    ensures { result ≡ mode_said word.now }
+{
+    if word == "two-phase" {
+        Some(Mode::TwoPhase)
+    } else if word == "async" {
+        Some(Mode::Async)
+    } else {
+        None
+    }
+}
+
+// The greatest timestamp of an async commit, where one is told.
+fn max_commit(mode: Mode, members: &[Part<'_>]) -> Option<Option<u64>>
+    ensures { result ≡ max_said mode (parts_items members.now) }
+{
+    if none_left(members) {
+        return Some(None);
+    }
+    match mode {
+        Mode::TwoPhase => None,
+        Mode::Async => Some(Some(last_number(members)?)),
+    }
+}
+
+fn declare<'a>(members: &[Part<'a>]) -> Option<Action<'a>>
+    ensures { option_map acted result ≡ declare_said (parts_items members.now) }
+{
+    let (word, rest) = text(members)?;
+    let mode = mode_of(word)?;
+    let (ttl, rest) = within(0, MAX_TTL, rest)?;
+    Some(Action::Declare(mode, ttl, max_commit(mode, rest)?))
+}
+
+// An action that nothing more is told of.
+fn alone<'a>(action: Action<'a>, members: &[Part<'a>]) -> Option<Action<'a>>
+    ensures { option_map acted result ≡ last_of (acted action.entry, parts_items members.now) }
+{
+    if none_left(members) {
+        Some(action)
+    } else {
+        None
+    }
+}
+
+/// The action of a word, by the members after the session's name.
+pub(crate) fn action_of<'a>(word: Word, members: &[Part<'a>]) -> Option<Action<'a>>
+    ensures { option_map acted result ≡ act_said word (parts_items members.now) }
+{
+    match word {
+        Word::Put => put(members),
+        Word::Delete => Some(Action::Delete(last_text(members)?)),
+        Word::Lock => Some(Action::Lock(last_text(members)?)),
+        Word::Declare => declare(members),
+        Word::Draw => alone(Action::Draw, members),
+        Word::Finish => alone(Action::Finish, members),
+        Word::Stop => alone(Action::Stop, members),
+        Word::Resolve => Some(Action::Resolve(last_number(members)?)),
+        _ => None,
+    }
+}

@@ -1,0 +1,61 @@
+//! What becomes of a request on its way to the store.
+ghost use Rattle.std.specs.Prelude.{◌≡◌, option_map};
+ghost use Rattle.tx_lines.specs.Parts.{parts_items};
+ghost use Rattle.tx_steps.specs.Steps.{way, is_taken, way_word, way_said};
+
+use crate::members::{last_text, none_left, text};
+use tx_lines::Part;
+
+/// What becomes of a request.
+#[derive(Clone, Copy, Debug)]
+pub enum Delivery<'a> {
+    /// The store takes it, and its reply comes.
+    Taken,
+    /// The store never takes it.
+    Lost,
+    /// The store takes it, and its reply is lost.
+    Unanswered,
+    /// The store takes it twice in a row, and the second reply comes.
+    Repeated,
+    /// It is kept under a name and not taken.
+    Held(&'a str),
+}
+
+impl Delivery<'_> {
+    /// Whether the request simply arrives.
+    pub fn is_taken(&self) -> bool
+        ensures { result ≡ is_taken (way self.now) }
+    {
+        matches!(self, Delivery::Taken)
+    }
+}
+
+// The words that stand alone.
+fn delivery_word<'a>(word: &str) -> Option<Delivery<'a>>
+    ensures { option_map way result ≡ way_word word.now }
+{
+    if word == "lose" {
+        Some(Delivery::Lost)
+    } else if word == "lose-reply" {
+        Some(Delivery::Unanswered)
+    } else if word == "repeat" {
+        Some(Delivery::Repeated)
+    } else {
+        None
+    }
+}
+
+/// The delivery that the last members of a step say: none is `Taken`.
+pub(crate) fn delivery_of<'a>(members: &[Part<'a>]) -> Option<Delivery<'a>>
+    ensures { option_map way result ≡ way_said (parts_items members.now) }
+{
+    if none_left(members) {
+        return Some(Delivery::Taken);
+    }
+    let (word, rest) = text(members)?;
+    if word == "hold" {
+        return Some(Delivery::Held(last_text(rest)?));
+    }
+    let found = delivery_word(word)?;
+    if none_left(rest) { Some(found) } else { None }
+}

@@ -1,0 +1,73 @@
+//! A line of a script, as it was read: what it says is a step, or there is a cause why it says none.
+ghost use Rattle.std.specs.Prelude.{◌≡◌, option_map, Ok, Err, IfOk, IfErr, MatchResult};
+ghost use Rattle.tx_types.specs.declared.fault.Fault.TheVariants as fault;
+ghost use Rattle.tx_steps.specs.Steps.{asked};
+ghost use Rattle.tx_steps.specs.Lines.{data_of, data_said, step_in, bounds_in};
+
+use crate::bounds::bounds_of;
+use crate::program::Program;
+use crate::step::{Step, step_of};
+use serde_json::Value;
+use std::alloc::Global;
+use tx_lines::{Broken, Parts, parts_of, scanned, value_of};
+use tx_types::limits::{MAX_LINE_BYTES, MAX_LINES};
+use tx_types::{Cause, Fault, Key};
+
+/// A line that is JSON: the members of a plain one, or its value.
+#[derive(Drop)]
+pub enum Line<'a> {
+    Plain(Parts<'a>),
+    Other(Value),
+}
+
+impl<'a> Line<'a> {
+    /// Reads the line of this number. Causes are looked for in the order `Long`, `Lines`, `Json`.
+    ///
+    /// `Memory` where a growth was refused.
+    pub fn read(
+        alloc: Global,
+        number: u64,
+        line: &'a [u8],
+    ) -> Result<Result<Line<'a>, Cause>, Broken>
+        ensures { IfOk result (λ found. MatchResult found (λ l. data_said number line.now ≡ Ok (data_of l)) (λ cause. data_said number line.now ≡ Err cause)) }
+    {
+        if line.len() > MAX_LINE_BYTES {
+            return Ok(Err(Cause::Long));
+        }
+        if number > MAX_LINES {
+            return Ok(Err(Cause::Lines));
+        }
+        if let Some(parts) = scanned(line) {
+            return Ok(Ok(Line::Plain(parts)));
+        }
+        match value_of(alloc, line)? {
+            Ok(value) => Ok(Ok(Line::Other(value))),
+            Err(cause) => Ok(Err(cause)),
+        }
+    }
+
+    /// The step that it says in a program's scripts, where it says one. Where it says none, and no bounds either, the cause
+    /// is `Form`.
+    pub fn step(&self, program: Program) -> Option<Step<'_>>
+        ensures { option_map asked result ≡ step_in program (data_of self.now) }
+    {
+        match self {
+            Line::Plain(parts) => step_of(program, parts.as_slice()),
+            Line::Other(value) => step_of(program, parts_of(value)?.as_slice()),
+        }
+    }
+
+    /// The keys between the regions that it says, where it says some. Only line 1 may.
+    pub fn bounds(&self, alloc: Global) -> Result<Option<Vec<Key>>, Fault>
+        ensures ok { IfOk result (λ found. option_map (λ keys. keys.items) found ≡ bounds_in (data_of self.now)) }
+        ensures err { IfErr result (λ e. e ≡ fault.OutOfMemory) }
+    {
+        match self {
+            Line::Plain(parts) => bounds_of(alloc, parts.as_slice()),
+            Line::Other(value) => match parts_of(value) {
+                None => Ok(None),
+                Some(parts) => bounds_of(alloc, parts.as_slice()),
+            },
+        }
+    }
+}

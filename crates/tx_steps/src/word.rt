@@ -1,0 +1,126 @@
+//! The words that steps begin with.
+ghost use Rattle.std.specs.Prelude.{◌≡◌};
+ghost use Rattle.tx_steps.specs.Steps.{life_word as life_in, session_word as session_in, world_word as world_in, run_word as run_in, word_said};
+
+/// What a step asks for.
+#[derive(Clone, Copy, Debug, PartialEq, Eq)]
+pub(crate) enum Word {
+    Begin,
+    Put,
+    Delete,
+    Lock,
+    Get,
+    Scan,
+    Declare,
+    Prewrite,
+    Draw,
+    Commit,
+    Abort,
+    Heartbeat,
+    Finish,
+    Stop,
+    Resolve,
+    Deliver,
+    Read,
+    Versions,
+    Tick,
+    Gc,
+    Seed,
+    Transfer,
+}
+
+// The words that most scripts are made of.
+fn life_word(text: &str) -> Option<Word>
+    ensures { result ≡ life_in text.now }
+{
+    if text == "begin" {
+        Some(Word::Begin)
+    } else if text == "put" {
+        Some(Word::Put)
+    } else if text == "get" {
+        Some(Word::Get)
+    } else if text == "declare" {
+        Some(Word::Declare)
+    } else if text == "prewrite" {
+        Some(Word::Prewrite)
+    } else if text == "draw" {
+        Some(Word::Draw)
+    } else if text == "commit" {
+        Some(Word::Commit)
+    } else if text == "finish" {
+        Some(Word::Finish)
+    } else {
+        None
+    }
+}
+
+// The other words of a session.
+fn session_word(text: &str) -> Option<Word>
+    ensures { result ≡ session_in text.now }
+{
+    if text == "delete" {
+        Some(Word::Delete)
+    } else if text == "lock" {
+        Some(Word::Lock)
+    } else if text == "scan" {
+        Some(Word::Scan)
+    } else if text == "abort" {
+        Some(Word::Abort)
+    } else if text == "heartbeat" {
+        Some(Word::Heartbeat)
+    } else if text == "stop" {
+        Some(Word::Stop)
+    } else if text == "resolve" {
+        Some(Word::Resolve)
+    } else {
+        None
+    }
+}
+
+// The words of no session.
+fn world_word(text: &str) -> Option<Word>
+    ensures { result ≡ world_in text.now }
+{
+    if text == "deliver" {
+        Some(Word::Deliver)
+    } else if text == "read" {
+        Some(Word::Read)
+    } else if text == "versions" {
+        Some(Word::Versions)
+    } else if text == "tick" {
+        Some(Word::Tick)
+    } else if text == "gc" {
+        Some(Word::Gc)
+    } else {
+        None
+    }
+}
+
+// The words that only runs have.
+fn run_word(text: &str) -> Option<Word>
+    ensures { result ≡ run_in text.now }
+{
+    if text == "transfer" {
+        Some(Word::Transfer)
+    } else if text == "seed" {
+        Some(Word::Seed)
+    } else {
+        None
+    }
+}
+
+/// The word of this text, where it is one.
+pub(crate) fn word_of(text: &str) -> Option<Word>
+    ensures { result ≡ word_said text.now }
+{
+    if let Some(word) = life_word(text) {
+        return Some(word);
+    }
+    if let Some(word) = session_word(text) {
+        return Some(word);
+    }
+    if let Some(word) = run_word(text) {
+        return Some(word);
+    }
+    world_word(text)
+}
