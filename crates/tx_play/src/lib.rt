@@ -1,8 +1,9 @@
-//! What scripts in one thread stand on: the way to the regions of a journal, and what a session does there. Each act tells how many
-//! events it made, and what it is exactly where nobody else acted.
+//! What scripts in one thread stand on: the way to the regions of a journal, what a session does there, and the steps of a live
+//! session. Each act tells how many events it made, and what it is exactly where nobody else acted.
 #![tactic(auto)]
 
 mod acts;
+mod deeds;
 mod places;
 mod post;
 mod step;

@@ -1,0 +1,64 @@
+//! What live sessions do. Each deed is its turn where nobody else acts: the same test of what the session's state allows, in the same
+//! order, the same calls that may meet want of memory, the same requests, and the same reply.
+ghost use Rattle.std.specs.Prelude.{◌≡◌, ◌<◌};
+ghost use Rattle.tx_play.specs.Places.{Did};
+ghost use Rattle.tx_play.specs.Scenes.{is_key as key_test, is_value as value_test, deeds};
+ghost use Rattle.tx_play.specs.Steps.{deed_of};
+
+mod buffer;
+mod sending;
+
+use crate::deeds::buffer::{declare, delete, lock, put};
+use crate::deeds::sending::{abort, commit, draw, get, heartbeat, prewrite, scan};
+use crate::post::Post;
+use crate::step::{Act, Reply};
+use std::alloc::Global;
+use tx_cells::Families;
+use tx_client::{Session, Terms};
+use tx_journal::Naming;
+use tx_types::Cause;
+use tx_types::limits::{MAX_KEY_BYTES, MAX_VALUE_BYTES};
+
+pub(crate) fn is_key(key: &str) -> bool
+    ensures { result ≡ key_test key.now }
+{
+    !key.is_empty() && key.len() <= MAX_KEY_BYTES
+}
+
+pub(crate) fn is_value(value: &str) -> bool
+    ensures { result ≡ value_test value.now }
+{
+    value.len() <= MAX_VALUE_BYTES
+}
+
+/// What a live session does.
+pub(crate) fn act<J: Naming, F: Families>(
+    alloc: Global,
+    session: &mut Session<J>,
+    post: &mut Post<J, F>,
+    act: &Act<'_>,
+) -> Result<Reply, Cause>
+    requires ticks { 0 < session.old.seat.ticks }
+    ensures { Did J.bounds (λ refused scene k s. deeds refused scene k s J.bounds (deed_of act.now)) result session.old session.new post.old post.new }
+{
+    match *act {
+        Act::Put(key, value) => put(alloc, session, key, value),
+        Act::Delete(key) => delete(alloc, session, key),
+        Act::Lock(key) => lock(alloc, session, key),
+        Act::Get(key, way) => get(alloc, session, post, key, way),
+        Act::Scan(from, to, limit, way) => scan(alloc, session, post, from, to, limit, way),
+        Act::Declare(mode, ttl, max_commit) => {
+            let terms = Terms {
+                mode,
+                ttl,
+                max_commit,
+            };
+            declare(alloc, session, post, terms)
+        }
+        Act::Prewrite(way) => prewrite(alloc, session, post, way),
+        Act::Draw => draw(session, post),
+        Act::Commit(way) => commit(session, post, way),
+        Act::Abort(way) => abort(session, post, way),
+        Act::Heartbeat(ttl, way) => heartbeat(session, post, ttl, way),
+    }
+}
