@@ -11,7 +11,7 @@ use Rattle.tx_core.specs.declared.event.Outcome.TheVariants as outcome
 use Rattle.tx_core.specs.declared.event.UnknownCause.{UnknownCause}
 use Rattle.tx_core.specs.declared.event.UnknownCause.TheVariants as unknown
 use Rattle.tx_lines.specs.declared.reply.Reply.{Reply}
-use Rattle.tx_lines.specs.declared.reply.Reply.TheVariants.{Start, Fine, Done, Drawn, Ended, Answered, OutOfMemory, KeyLength, ValueLength, TooManyKeys}
+use Rattle.tx_lines.specs.declared.reply.Reply.TheVariants.{Regions, Start, Fine, Done, Drawn, Ended, Answered, Lost, OutOfMemory, KeyLength, ValueLength, TooManyKeys}
 use Rattle.tx_lines.specs.Texts.{line_text, text_of}
 
 -- a word alone, and with a number
@@ -68,12 +68,14 @@ outcome_words outcome.ReadOnly = alone (codes "read-only")
 
 -- the words of a reply
 abbrev pub reply_words : Reply → Items
+reply_words (Regions n) = with_number (codes "regions") n
 reply_words (Start t) = with_number (codes "start") t
 reply_words Fine = alone (codes "ok")
 reply_words Done = alone (codes "done")
 reply_words (Drawn t) = with_number (codes "drawn") t
 reply_words (Ended o) = item (string (codes "outcome")) (outcome_words o)
 reply_words (Answered a) = answer_words a
+reply_words Lost = alone (codes "lost")
 reply_words OutOfMemory = alone (codes "E12")
 reply_words KeyLength = alone (codes "E13")
 reply_words ValueLength = alone (codes "E14")

@@ -13,6 +13,8 @@ use tx_types::Ts;
 /// What a step answers.
 #[derive(Debug, Drop)]
 pub enum Reply {
+    /// How many regions there are.
+    Regions(usize),
     Start(Ts),
     Fine,
     /// Nothing was left to send.
@@ -21,6 +23,8 @@ pub enum Reply {
     Ended(Outcome),
     /// The store's answer, or the buffer's.
     Answered(Answer),
+    /// No answer came back.
+    Lost,
     OutOfMemory,
     KeyLength,
     ValueLength,
@@ -55,6 +59,7 @@ fn put_words(out: &mut Vec<u8>, reply: &Reply) -> Result<(), AllocError>
     ensures { OnOk result (out.new.items ≡ out.old.items ++ members_text (reply_words reply.now)) }
 {
     match reply {
+        Reply::Regions(count) => put_stamped(out, b",\"regions\"", *count as u64),
         Reply::Start(start) => put_stamped(out, b",\"start\"", start.get()),
         Reply::Fine => out.extend_from_slice(b",\"ok\""),
         Reply::Done => out.extend_from_slice(b",\"done\""),
@@ -64,6 +69,7 @@ fn put_words(out: &mut Vec<u8>, reply: &Reply) -> Result<(), AllocError>
             put_outcome(out, *outcome)
         }
         Reply::Answered(answer) => put_answer(out, answer),
+        Reply::Lost => out.extend_from_slice(b",\"lost\""),
         Reply::OutOfMemory => out.extend_from_slice(b",\"E12\""),
         Reply::KeyLength => out.extend_from_slice(b",\"E13\""),
         Reply::ValueLength => out.extend_from_slice(b",\"E14\""),
