@@ -4,3 +4,4 @@ pub mod Parts
 pub mod Scan
 pub mod Texts
 pub mod Replies
+pub mod Faults

@@ -7,6 +7,7 @@
 
 mod answer;
 mod end;
+mod fault;
 mod lines;
 mod output;
 mod part;
@@ -16,6 +17,7 @@ mod text;
 mod value;
 
 pub use end::{Broken, End};
+pub use fault::put_fault;
 pub use lines::{Found, read_line};
 pub use output::{finish, send};
 pub use part::{MAX_PARTS, Part, Parts, parts_of};

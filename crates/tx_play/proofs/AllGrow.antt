@@ -17,8 +17,8 @@ use Rattle.tx_client.specs.declared.state.Terms.{Terms}
 use Rattle.tx_client.specs.Walks.{Walk, asks, grows, ends, get_walk, scan_walk, heartbeat_walk}
 use Rattle.tx_play.specs.declared.post.Way.{Way}
 use Rattle.tx_play.specs.declared.post.Way.TheVariants.{Plain, Lose, LoseReply, Repeat}
-use Rattle.tx_play.specs.declared.step.Reply.{Reply}
-use Rattle.tx_play.specs.declared.step.Reply.TheVariants as reply
+use Rattle.tx_lines.specs.declared.reply.Reply.{Reply}
+use Rattle.tx_lines.specs.declared.reply.Reply.TheVariants as reply
 use Rattle.tx_play.specs.Posts.{Stage, taken}
 use Rattle.tx_play.specs.Steps.{Deed, put, delete, lock, get, scan, declare, prewrite, draw, commit, abort, heartbeat, Call, begin, acts, finish, stop}
 use Rattle.tx_play.specs.Scenes.{Scene, Turn, goes, inquires, stops, is_refused, later_of, calls, is_key, is_value, is_name, at_stage, at_history, with_session, began, declared_in, read_by, said_by, asked, sent, runs, runs_to, first_free, live_at, enters, deeds, finishes_by, begins_at, in_session, turn}

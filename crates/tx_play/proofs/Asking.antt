@@ -9,8 +9,8 @@ use Rattle.tx_client.specs.Calls.{Seated}
 use Rattle.tx_client.specs.Sessions.{is_declared, has_primary, due_prewrite, due_commit, due_abort, can_commit, can_abort}
 use Rattle.tx_client.specs.Walks.{Sends, due_walk, heartbeat_walk, get_walk, scan_walk}
 use Rattle.tx_play.specs.declared.post.Way.{Way}
-use Rattle.tx_play.specs.declared.step.Reply.{Reply}
-use Rattle.tx_play.specs.declared.step.Reply.TheVariants as reply
+use Rattle.tx_lines.specs.declared.reply.Reply.{Reply}
+use Rattle.tx_lines.specs.declared.reply.Reply.TheVariants as reply
 use Rattle.tx_play.specs.Posts.{Desk, stage_of, Passes}
 use Rattle.tx_play.specs.Scenes.{Scene, Turn, goes, calls, is_key, runs_to, read_by, said_by, gets, scans, prewrites, commits, aborts, beats}
 use Rattle.tx_play.specs.Plays.{Leads}

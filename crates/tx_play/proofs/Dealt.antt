@@ -10,7 +10,7 @@ use Rattle.tx_types.specs.declared.key.Key.{Key}
 use Rattle.tx_core.proofs.Basics.{some_same}
 use Rattle.tx_journal.specs.Known.{Known, known}
 use Rattle.tx_play.specs.declared.places.Slot.TheVariants.{Free}
-use Rattle.tx_play.specs.declared.step.Reply.{Reply}
+use Rattle.tx_lines.specs.declared.reply.Reply.{Reply}
 use Rattle.tx_play.specs.declared.step.End.TheVariants.{Well}
 use Rattle.tx_play.specs.Posts.{Desk, AreNumbered, made_by}
 use Rattle.tx_play.specs.Steps.{Call}

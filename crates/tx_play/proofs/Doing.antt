@@ -14,8 +14,8 @@ use Rattle.tx_client.specs.Calls.{Seated, seated}
 use Rattle.tx_client.specs.Sessions.{State, is_declared, exceeds, declaration, can_draw}
 use Rattle.tx_client.specs.Walks.{Walk, Sends}
 use Rattle.tx_play.specs.declared.post.Way.{Way}
-use Rattle.tx_play.specs.declared.step.Reply.{Reply}
-use Rattle.tx_play.specs.declared.step.Reply.TheVariants as reply
+use Rattle.tx_lines.specs.declared.reply.Reply.{Reply}
+use Rattle.tx_lines.specs.declared.reply.Reply.TheVariants as reply
 use Rattle.tx_play.specs.Posts.{Desk, stage_of, Passes}
 use Rattle.tx_play.specs.Scenes.{session, Scene, Turn, goes, stops, calls, at_stage, seat_at, with_session, declared_in, runs_to, enters, entered_by, declares, draws, drew}
 use Rattle.tx_play.specs.Places.{scene_with, Acts, Did}

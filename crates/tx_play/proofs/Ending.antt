@@ -5,7 +5,7 @@ use Rattle.tx_types.specs.declared.key.Key.{Key}
 use Rattle.tx_core.specs.Histories.{History}
 use Rattle.tx_core.specs.Recording.{AllOfSeats}
 use Rattle.tx_core.specs.Worlds.{IsWorldRun}
-use Rattle.tx_play.specs.declared.step.Reply.{Reply}
+use Rattle.tx_lines.specs.declared.reply.Reply.{Reply}
 use Rattle.tx_play.specs.declared.step.End.{End}
 use Rattle.tx_play.specs.declared.step.Broken.{Broken}
 use Rattle.tx_play.specs.Steps.{Call}

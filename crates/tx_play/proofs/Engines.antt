@@ -20,8 +20,8 @@ use Rattle.tx_journal.specs.Known.{Known}
 use Rattle.tx_client.specs.Calls.{Seated}
 use Rattle.tx_client.specs.Sessions.{State, begun, finish_of}
 use Rattle.tx_play.specs.declared.places.Slot.TheVariants.{Free, Live, Lent}
-use Rattle.tx_play.specs.declared.step.Reply.{Reply}
-use Rattle.tx_play.specs.declared.step.Reply.TheVariants as reply
+use Rattle.tx_lines.specs.declared.reply.Reply.{Reply}
+use Rattle.tx_lines.specs.declared.reply.Reply.TheVariants as reply
 use Rattle.tx_play.specs.Posts.{Desk, stage_of}
 use Rattle.tx_play.specs.Steps.{Deed, Call, begin, acts, finish, stop}
 use Rattle.tx_play.specs.Scenes.{Place, free, session, Scene, Turn, goes, stops, is_name, at_stage, at_history, with_session, seat_at, began, gone, first_free, lives, at_place, live_at, in_session, deeds, finishes, finishes_by, leaves, begins, turn}

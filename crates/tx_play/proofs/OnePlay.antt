@@ -6,7 +6,7 @@ use Rattle.tx_core.specs.Histories.{History, Begins, last}
 use Rattle.tx_core.specs.Worlds.{IsWorldRun}
 use Rattle.tx_core.proofs.seats.Beginnings.{begins_all, run_beginning}
 use Rattle.tx_core.proofs.unique.OneAnswer.{one_answer}
-use Rattle.tx_play.specs.declared.step.Reply.{Reply}
+use Rattle.tx_lines.specs.declared.reply.Reply.{Reply}
 use Rattle.tx_play.specs.declared.step.End.TheVariants.{Faulted}
 use Rattle.tx_play.specs.Posts.{region_for}
 use Rattle.tx_play.specs.Steps.{Call}

@@ -2,7 +2,7 @@
 use Rattle.std.proofs.Common.{◌≡◌, ◌≤◌, ◌+◌, ℕ, suc, Bool, List, [], ◌∷◌, ◌++◌, length, Ok, Err, refl, sym, ap, subst, ◌∙◌, append_assoc, append-nil, arith}
 use Rattle.tx_types.specs.declared.fault.Cause.{Cause}
 use Rattle.tx_types.specs.declared.key.Key.{Key}
-use Rattle.tx_play.specs.declared.step.Reply.{Reply}
+use Rattle.tx_lines.specs.declared.reply.Reply.{Reply}
 use Rattle.tx_play.specs.declared.step.End.TheVariants.{Well, Faulted}
 use Rattle.tx_play.specs.Steps.{Call}
 use Rattle.tx_play.specs.Scenes.{Scene, opening, Turn, goes, inquires, stops, turn}

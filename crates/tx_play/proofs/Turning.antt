@@ -17,8 +17,8 @@ use Rattle.tx_client.specs.Sessions.{State}
 use Rattle.tx_client.specs.Walks.{Walk, asks, grows, ends, Sends}
 use Rattle.tx_play.specs.declared.post.Way.{Way}
 use Rattle.tx_play.specs.declared.post.Way.TheVariants.{Plain, Lose, LoseReply, Repeat}
-use Rattle.tx_play.specs.declared.step.Reply.{Reply}
-use Rattle.tx_play.specs.declared.step.Reply.TheVariants as reply
+use Rattle.tx_lines.specs.declared.reply.Reply.{Reply}
+use Rattle.tx_lines.specs.declared.reply.Reply.TheVariants as reply
 use Rattle.tx_play.specs.Posts.{Desk, Stage, stage_of, taken, Passes, Met, Reach, Runs}
 use Rattle.tx_play.specs.Scenes.{Place, session, Scene, Turn, goes, stops, is_refused, later_of, calls, at_stage, seat_at, with_session, asked, sent, runs, runs_to, enters, entered_by}
 use Rattle.tx_play.specs.Plays.{Leads}

@@ -11,7 +11,7 @@ use Rattle.tx_client.specs.Sessions.{State, begun}
 use Rattle.tx_client.specs.Calls.{Seated}
 use Rattle.tx_play.specs.declared.places.Slot.{Slot}
 use Rattle.tx_play.specs.declared.places.Slot.TheVariants.{Free, Live, Lent}
-use Rattle.tx_play.specs.declared.step.Reply.{Reply}
+use Rattle.tx_lines.specs.declared.reply.Reply.{Reply}
 use Rattle.tx_play.specs.Posts.{Desk, stage_of, Stage, made_by, IsDone, AreNumbered}
 use Rattle.tx_play.specs.Steps.{Call}
 use Rattle.tx_play.specs.Scenes.{Place, free, session, Scene, Turn, stops, seat_at, turn}

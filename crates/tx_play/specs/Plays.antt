@@ -5,7 +5,7 @@ use Rattle.tx_types.specs.declared.key.Key.{Key}
 use Rattle.tx_plan.specs.declared.answer.Answer.{Answer}
 use Rattle.tx_core.specs.Histories.{History}
 use Rattle.tx_core.specs.Worlds.{IsWorldRun}
-use Rattle.tx_play.specs.declared.step.Reply.{Reply}
+use Rattle.tx_lines.specs.declared.reply.Reply.{Reply}
 use Rattle.tx_play.specs.declared.step.End.{End}
 use Rattle.tx_play.specs.declared.step.End.TheVariants.{Well, Faulted}
 use Rattle.tx_play.specs.Posts.{MayAnswerSo}

@@ -1,6 +1,6 @@
 //! Steps, and what they give.
 use crate::post::Way;
-use tx_core::{Answer, Outcome};
+pub use tx_lines::Reply;
 use tx_types::{Mode, Ts};
 
 /// What a live session does, over the text of its line. Keys and values stand for their UTF-8 bytes. What becomes of the request
@@ -34,33 +34,6 @@ pub enum Step<'a> {
     Finish(&'a str),
     /// It leaves its transaction as it is, and is gone.
     Stop(&'a str),
-}
-
-/// What a step gives.
-#[derive(Debug, Drop)]
-pub enum Reply {
-    /// A session began at this timestamp.
-    Start(Ts),
-    /// It went well.
-    Fine,
-    /// A region answered, or the buffer.
-    Answered(Answer),
-    /// Nothing is left to send.
-    Done,
-    /// A commit timestamp was drawn.
-    Drawn(Ts),
-    /// A session ended.
-    Ended(Outcome),
-    /// No reply came.
-    Lost,
-    /// E12: a growth was refused.
-    OutOfMemory,
-    /// E13: a key of no bytes or of more than 512.
-    KeyLength,
-    /// E14: a value of more than 65,536 bytes.
-    ValueLength,
-    /// E15: more keys than a transaction may have.
-    TooManyKeys,
 }
 
 /// How a script ends.

@@ -2,7 +2,7 @@ use Rattle.std.proofs.Common.{◌≡◌, ◌≤◌, ℕ, List, length, slice_get
 use Rattle.std.specs.BTreeMap.{get_by_text}
 use Rattle.tx_types.specs.declared.fault.Cause.TheVariants as cause
 use Rattle.tx_play.specs.declared.places.Slot.TheVariants.{Live}
-use Rattle.tx_play.specs.declared.step.Reply.TheVariants as reply
+use Rattle.tx_lines.specs.declared.reply.Reply.TheVariants as reply
 use Rattle.tx_play.specs.Steps.{acts, finish, stop, deed_of}
 use Rattle.std.specs.Map.{update}
 use Rattle.std.proofs.lemmas.Map.Text.{btree_map_updates_text}

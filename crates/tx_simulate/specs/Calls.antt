@@ -1,0 +1,43 @@
+-- The step that is played, by the form that a line says. What is not played yet is none.
+use Rattle.std.specs.Prelude.{ℕ, List, Option, Some, None, option_map}
+use Rattle.tx_play.specs.declared.post.Way.{Way}
+use Rattle.tx_play.specs.declared.post.Way.TheVariants.{Plain, Lose, LoseReply, Repeat}
+use Rattle.tx_play.specs.Steps.{Call, Deed, begin, acts, finish, stop}
+use Rattle.tx_play.specs.Steps as deed
+use Rattle.tx_steps.specs.Steps.{Asked, Act, Sent}
+use Rattle.tx_steps.specs.Steps as form
+
+-- what becomes of a request
+abbrev pub way_of : form.Way → Option Way
+way_of form.taken = Some Plain
+way_of form.lost = Some Lose
+way_of form.unanswered = Some LoseReply
+way_of form.repeated = Some Repeat
+way_of (form.held name) = None
+
+-- what a session sends, by this way
+abbrev pub sending : Sent → Way → Deed
+sending (form.get key) way = deed.get key way
+sending (form.scan from to limit) way = deed.scan from to limit way
+sending form.prewrite way = deed.prewrite way
+sending form.commit way = deed.commit way
+sending form.abort way = deed.abort way
+sending (form.heartbeat ttl) way = deed.heartbeat ttl way
+
+-- what a session does by itself
+abbrev pub acting : List ℕ → Act → Option Call
+acting name (form.put key value) = Some (acts name (deed.put key value))
+acting name (form.delete key) = Some (acts name (deed.delete key))
+acting name (form.lock key) = Some (acts name (deed.lock key))
+acting name (form.declare mode ttl max_commit) = Some (acts name (deed.declare mode ttl max_commit))
+acting name form.draw = Some (acts name deed.draw)
+acting name form.finish = Some (finish name)
+acting name form.stop = Some (stop name)
+acting name (form.resolve now) = None
+
+-- the step that is played
+abbrev pub played : Asked → Option Call
+played (form.begin name) = Some (begin name)
+played (form.act name what) = acting name what
+played (form.send name what way) = option_map (λ w. acts name (sending what w)) (way_of way)
+played _ = None
