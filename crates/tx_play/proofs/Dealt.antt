@@ -1,5 +1,5 @@
 -- An engine over the seats of a new journal.
-use Rattle.std.proofs.Common.{◌≡◌, ◌<◌, ◌≤◌, ◌+◌, ℕ, suc, List, [], ◌∷◌, ◌++◌, map, length, replicate, slice_get, slice_index_or, drop, Some, None, Result, Ok, Err, refl, sym, ap, subst, ◌∙◌, append-nil, arith, length-append}
+use Rattle.std.proofs.Common.{◌≡◌, ◌<◌, ◌≤◌, ◌+◌, ℕ, suc, List, [], ◌∷◌, ◌++◌, map, length, replicate, slice_get, slice_index_or, drop, Some, Result, Ok, Err, refl, sym, ap, subst, ◌∙◌, append-nil, arith, length-append}
 use Rattle.std.specs.Prelude.{All}
 use Rattle.std.proofs.Math.ListN.{get_or-append}
 use Rattle.std.proofs.Math.Seq.{get_or-append_seam}
@@ -12,11 +12,11 @@ use Rattle.tx_journal.specs.Known.{Known, known}
 use Rattle.tx_play.specs.declared.places.Slot.TheVariants.{Free}
 use Rattle.tx_lines.specs.declared.reply.Reply.{Reply}
 use Rattle.tx_play.specs.declared.step.End.TheVariants.{Well}
-use Rattle.tx_play.specs.Posts.{Desk, AreNumbered, made_by}
+use Rattle.tx_play.specs.Posts.{AreNumbered, made_by}
 use Rattle.tx_play.specs.Steps.{Call}
 use Rattle.tx_play.specs.Scenes.{free, opening}
 use Rattle.tx_play.specs.Plays.{ending}
-use Rattle.tx_play.specs.Places.{Held, Kept, seat_in, place_of, name_at, made_in, AreSeated, AllSeated}
+use Rattle.tx_play.specs.Places.{Held, seat_in, place_of, name_at, made_in, AreSeated, AllSeated}
 use Rattle.tx_play.specs.Openings.{frees, AreDealt}
 use Rattle.tx_play.specs.Scripts.{IsOpening, BreaksScript}
 use Rattle.tx_play.proofs.Keeping.{seated_fewer}

@@ -22,7 +22,7 @@ use tx_types::Cause;
 use tx_types::limits::MAX_NAME_BYTES;
 
 /// The engine.
-pub(crate) struct Engine<J: Naming, F: Families> {
+pub struct Engine<J: Naming, F: Families> {
     alloc: Global,
     post: Post<J, F>,
     clerk: Seat<J>,
@@ -198,7 +198,7 @@ impl<J: Naming, F: Families> Engine<J, F> {
     }
 
     /// Plays one step.
-    pub(crate) fn play(&mut self, step: &Step<'_>) -> Result<Reply, Cause>
+    pub fn play(&mut self, step: &Step<'_>) -> Result<Reply, Cause>
         requires ready { AllSeated J.bounds 1 self.old }
         ensures goes { Goes J.bounds self.old self.new (Turned J.bounds (call_of step.now) result self.old self.new) }
     {
@@ -213,7 +213,7 @@ impl<J: Naming, F: Families> Engine<J, F> {
 
 impl<J: Naming, F: Families + Drop> Engine<J, F> {
     /// Each seat learns what is newest: no event of a seat stands there that the seat has not made.
-    pub(crate) fn settle(self) -> Told<J>
+    pub fn settle(self) -> Told<J>
         ensures told { result ≡ self.desk.newest }
         ensures settled { Settled J.bounds self }
     {

@@ -11,6 +11,8 @@ mod post;
 mod script;
 mod step;
 
-pub use opening::run;
+pub use engine::Engine;
+pub use opening::{engine_of, run};
+pub use places::Slot;
 pub use post::{Post, Way};
 pub use step::{Act, Broken, End, Reply, Step};

@@ -62,7 +62,7 @@ fn regions_of<J: Naming, F: Families + Drop>(
 
 // An engine over these seats of a new journal: those of the regions come first, then one for what no session does, then those of the
 // places.
-fn engine_of<J: Naming, F: Families + Drop>(
+pub fn engine_of<J: Naming, F: Families + Drop>(
     alloc: Global,
     journal: Journal<J>,
     seats: Vec<Seat<J>>,

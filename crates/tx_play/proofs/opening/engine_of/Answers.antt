@@ -1,4 +1,4 @@
-use Rattle.std.proofs.Common.{◌≡◌, ◌<◌, ◌+◌, [], ◌∷◌, length, sym, ap, subst, ◌∙◌, arith}
+use Rattle.std.proofs.Common.{◌≡◌, ◌<◌, ◌+◌, ◌∷◌, length, ap, subst, ◌∙◌, arith}
 use Rattle.tx_journal.specs.Known.{Known}
 use Rattle.tx_play.specs.Posts.{Desk}
 use Rattle.tx_play.specs.Openings.{AreDealt}

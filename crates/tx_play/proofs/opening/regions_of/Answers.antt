@@ -1,6 +1,6 @@
 use Rattle.std.proofs.Common.{◌≡◌, ◌<◌, ◌+◌, suc, [], ◌∷◌, ◌++◌, length, sym, ap, subst, ◌∙◌, arith, length-append}
 use Rattle.tx_cells.specs.Contents.{nothing_held}
-use Rattle.tx_journal.specs.Known.{Known, known}
+use Rattle.tx_journal.specs.Known.{known}
 use Rattle.tx_play.specs.Openings.{AreDealt}
 use Rattle.tx_play.proofs.Dealt.{removed, dealt_push, front_of}
 use Rattle.tx_play.proofs.opening.regions_of.Goals as goal

@@ -1,7 +1,7 @@
-use Rattle.std.proofs.Common.{◌≡◌, ◌≤◌, ◌+◌, [], ◌∷◌, drop, length, map, List, Ok, Err, sym, ap, subst, ◌∙◌, arith}
+use Rattle.std.proofs.Common.{◌≡◌, ◌≤◌, ◌+◌, [], ◌∷◌, drop, length, map, Ok, Err, sym, ap, subst, ◌∙◌, arith}
 use Rattle.std.proofs.lemmas.List.{at_drop_more, at_drop_all}
 use Rattle.tx_play.specs.Places.{Goes, Turned}
-use Rattle.tx_play.specs.Steps.{Call, call_of}
+use Rattle.tx_play.specs.Steps.{call_of}
 use Rattle.tx_play.specs.Scripts.{BreaksAt}
 use Rattle.tx_play.proofs.Keeping.{all_fewer}
 use Rattle.tx_play.proofs.Engines.{pushed, not_pushed}
