@@ -16,7 +16,7 @@ use Rattle.tx_play.proofs.AllGrow.{AllGrow, turn_grows, leads_begin, plays_begin
 
 module _ (bounds : List Key) where
   -- where two things come of a turn, they come of it on one way
-  one_lead : (Goes Went : Scene → Reply → List Bool → Type 0) (Stops Stopped : Cause → Type 0) (R : Type 0) (from h end : History) → IsWorldRun bounds end
+  pub one_lead : (Goes Went : Scene → Reply → List Bool → Type 0) (Stops Stopped : Cause → Type 0) (R : Type 0) (from h end : History) → IsWorldRun bounds end
       → ((next : Scene) (said : Reply) (left : List Bool) → Goes next said left → Begins next.stage.history end) → ((c : Cause) → Stops c → Begins from end)
       → ((next : Scene) (said : Reply) (left : List Bool) → Goes next said left → Went next said left → R) → ((c : Cause) → Stops c → Stopped c → R)
       → (t : Turn) → AllGrow from h t → Leads bounds Goes Stops t → Leads bounds Went Stopped t → R

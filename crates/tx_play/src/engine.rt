@@ -1,6 +1,6 @@
 //! An engine in one thread: places with seats and sessions, names that point to places, a seat for what no session does, and the way to
 //! the regions.
-ghost use Rattle.std.specs.Prelude.{◌≡◌, ℕ, List, [], Some, OnOk, OnErr, bytes_eq};
+ghost use Rattle.std.specs.Prelude.{◌≡◌, ◌+◌, length, ℕ, List, [], Some, OnOk, OnErr, bytes_eq};
 ghost use Rattle.std.specs.Map.{update};
 ghost use Rattle.std.specs.BTreeMap.{get_by_text};
 ghost use Rattle.tx_play.specs.Places.{Held, Goes, AllSeated, Settled, Turned};
@@ -195,6 +195,13 @@ impl<J: Naming, F: Families> Engine<J, F> {
                 Err(Cause::Name)
             }
         }
+    }
+
+    /// How many regions there are.
+    pub fn regions(&self) -> usize
+        ensures { result ≡ length J.bounds + 1 }
+    {
+        self.post.count()
     }
 
     /// Plays one step.

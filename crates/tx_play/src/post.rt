@@ -125,6 +125,13 @@ impl<J: Naming, F: Families> Post<J, F> {
         self.take(request)
     }
 
+    /// How many regions there are.
+    pub(crate) fn count(&self) -> usize
+        ensures { result ≡ length J.bounds + 1 }
+    {
+        self.regions.len()
+    }
+
     /// What becomes of the next requests.
     pub(crate) fn set_way(&mut self, way: Way)
         ensures { self.new ≡ record self.old { way = way } }

@@ -6,7 +6,7 @@ use Rattle.tx_types.specs.declared.fault.Cause.{Cause}
 use Rattle.tx_types.specs.declared.fault.Cause.TheVariants as cause
 use Rattle.tx_types.specs.declared.key.Key.{Key}
 use Rattle.tx_types.specs.declared.limits.TheConstants.{MAX_LIVE_SESSIONS}
-use Rattle.tx_core.specs.Histories.{History}
+use Rattle.tx_core.specs.Histories.{History, Begins}
 use Rattle.tx_lines.specs.declared.end.Broken.{Broken}
 use Rattle.tx_lines.specs.declared.end.Broken.TheVariants.{Output}
 use Rattle.tx_lines.specs.declared.end.End.{End}
@@ -15,7 +15,7 @@ use Rattle.tx_lines.specs.declared.lines.Found.TheVariants as found
 use Rattle.tx_lines.specs.declared.reply.Reply.{Reply}
 use Rattle.tx_lines.specs.Lines.{lines_of, max_line}
 use Rattle.tx_play.specs.Scenes.{Scene, opening, Turn, stops}
-use Rattle.tx_play.specs.Places.{Held, scene_of, GoesTo}
+use Rattle.tx_play.specs.Places.{Held, scene_of, own, AllSeated, GoesTo}
 use Rattle.tx_simulate.specs.declared.line.Turned.{Turned}
 use Rattle.tx_simulate.specs.declared.line.Turned.TheVariants as turned
 use Rattle.tx_simulate.specs.Play.{said_turn, line_turn, Played, Plays, render, bounds_at}
@@ -43,16 +43,30 @@ abbrev pub FoundTurned : List Key → ℕ → Found → List ℕ → Turned → 
 FoundTurned bounds number found.Line line turned.End old new = ⊥
 FoundTurned bounds number found.Line line (turned.Goes reply) old new = TurnedBy bounds (λ refused. line_turn bounds refused number line) (Ok reply) old new
 FoundTurned bounds number found.Line line (turned.Stops c) old new = TurnedBy bounds (λ refused. line_turn bounds refused number line) (Err c) old new
-FoundTurned bounds number found.Long line t old new = (t ≡ turned.Stops cause.Long) × (new.desk.newest ≡ old.desk.newest)
-FoundTurned bounds number found.End line t old new = (t ≡ turned.End) × (new.desk.newest ≡ old.desk.newest)
+FoundTurned bounds number found.Long line t old new = new.desk.newest ≡ old.desk.newest
+FoundTurned bounds number found.End line t old new = new.desk.newest ≡ old.desk.newest
+
+-- what may come of a line, by what was found of it
+abbrev pub FitsFound : Found → Turned → Type 0
+FitsFound found.Line turned.End = ⊥
+FitsFound found.Line (turned.Goes reply) = Unit {0}
+FitsFound found.Line (turned.Stops c) = Unit {0}
+FitsFound found.Long t = t ≡ turned.Stops cause.Long
+FitsFound found.End t = t ≡ turned.End
+
+-- what is counted of an engine between two lines
+pub record Kept (bounds : List Key) (e : Held) : Type 0 where
+  pub size : length e.places ≡ MAX_LIVE_SESSIONS
+  pub seated : AllSeated bounds 0 e
+  pub counts : own e ≤ length e.desk.newest
 
 module _ (bounds : List Key) (lines : List (List ℕ)) where
   -- the text of the replies of some play of the lines was written, whose events are these
   abbrev pub EndsAt : History → Option (List ℕ) → Option (List ℕ) → End → Type 0
   EndsAt h old new ended = (refused : List Bool) × (p : Played) × Plays bounds (opening MAX_LIVE_SESSIONS) 0 refused lines p × (p.history ≡ h) × Appends old new (render p.replies) × (ended ≡ p.ended)
 
-  -- a beginning of the text of the replies of some play of the first lines was written
+  -- a beginning of the text of the replies of some play of the first lines was written, whose events are the first of these
   abbrev pub BreaksAt : Broken → History → Option (List ℕ) → Option (List ℕ) → Type 0
   BreaksAt why h old new = (refused : List Bool) × (first rest : List (List ℕ)) × (p : Played) × (written more : List ℕ)
-      × (lines ≡ first ++ rest) × Plays bounds (opening MAX_LIVE_SESSIONS) 0 refused first p × (p.history ≡ h) × Appends old new written
+      × (lines ≡ first ++ rest) × Plays bounds (opening MAX_LIVE_SESSIONS) 0 refused first p × Begins p.history h × Appends old new written
       × (render p.replies ≡ written ++ more) × ((why ≡ Output) ⊎ (more ≡ []))

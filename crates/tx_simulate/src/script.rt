@@ -1,0 +1,84 @@
+//! The lines of a script, one after another, and then the count that shows that nobody else acted.
+ghost use Rattle.std.specs.Prelude.{◌≡◌, ◌≤◌, ◌+◌, ℕ, List, length, IfOk, IfErr};
+ghost use Rattle.tx_types.specs.declared.limits.TheConstants as limits;
+ghost use Rattle.tx_play.specs.Places.{AllSeated, own};
+ghost use Rattle.tx_play.specs.Scripts.{IsOpening};
+ghost use Rattle.tx_simulate.specs.Play.{EndsLines, BreaksLines};
+ghost use Rattle.tx_simulate.specs.Loops.{Ahead, Kept, EndsAt, BreaksAt};
+
+use crate::line::{Turned, play_found, tell, tell_fault};
+use std::alloc::Global;
+use std::io::{BufRead, Write};
+use tx_cells::Families;
+use tx_journal::Naming;
+use tx_lines::{Broken, End, Found, REFUSAL_BYTES, finish, read_line};
+use tx_play::Engine;
+use tx_types::limits::MAX_LINES;
+
+// Plays the lines that come next, one after another: the first is in `line`, as it was found.
+fn play_lines<J: Naming, F: Families, R: BufRead, W: Write>(
+    alloc: Global,
+    engine: &mut Engine<J, F>,
+    reader: &mut R,
+    writer: &mut W,
+    first: Found,
+    line: &mut Vec<u8>,
+) -> Result<End, Broken>
+    requires opening { IsOpening engine.old }
+    requires places { length engine.old.places ≡ limits.MAX_LIVE_SESSIONS }
+    requires ready { AllSeated J.bounds (limits.MAX_LINES + 1) engine.old }
+    ensures kept { Kept J.bounds engine.new }
+    ensures ends { IfOk result (λ end. length engine.new.desk.newest ≤ own engine.new → (lines : List (List ℕ)) → Ahead first line.old.items (R.remaining reader.old) lines
+        → EndsAt J.bounds lines engine.new.desk.newest (W.contents writer.old) (W.contents writer.new) end) }
+    ensures breaks { IfErr result (λ why. length engine.new.desk.newest ≤ own engine.new → (lines : List (List ℕ)) → Ahead first line.old.items (R.remaining reader.old) lines
+        → BreaksAt J.bounds lines why engine.new.desk.newest (W.contents writer.old) (W.contents writer.new)) }
+{
+    let mut text = Vec::with_capacity(alloc, REFUSAL_BYTES)?;
+    let mut number = 0;
+    let mut found = first;
+    'lines: loop {
+        match play_found(alloc, engine, number + 1, found, line.as_slice())? {
+            Turned::End => {
+                finish(writer)?;
+                return Ok(End::Well);
+            }
+            Turned::Goes(reply) => {
+                number += 1;
+                tell(writer, &mut text, number, &reply)?;
+            }
+            Turned::Stops(cause) => {
+                tell_fault(writer, &mut text, number + 1, cause)?;
+                finish(writer)?;
+                return Ok(End::Faulted);
+            }
+        }
+        found = read_line(reader, line)?;
+    }
+}
+
+/// Plays the lines that come next in one thread, the first of which is in `line`, as it was found. What it has then written is the text
+/// of the only play of the lines, whose history is a run of the protocol; broken off, it has written a beginning of the text of the first
+/// lines.
+pub(crate) fn simulate_over<J: Naming, F: Families + Drop, R: BufRead, W: Write>(
+    alloc: Global,
+    engine: Engine<J, F>,
+    reader: &mut R,
+    writer: &mut W,
+    first: Found,
+    line: &mut Vec<u8>,
+) -> Result<End, Broken>
+    requires opening { IsOpening engine }
+    requires places { length engine.places ≡ limits.MAX_LIVE_SESSIONS }
+    requires ready { AllSeated J.bounds (limits.MAX_LINES + 1) engine }
+    requires seats { J.seats ≡ length J.bounds + 2 + limits.MAX_LIVE_SESSIONS }
+    ensures ends { IfOk result (λ end. (lines : List (List ℕ)) → Ahead first line.old.items (R.remaining reader.old) lines
+        → EndsLines J.bounds lines (W.contents writer.old) (W.contents writer.new) end) }
+    ensures breaks { IfErr result (λ why. (lines : List (List ℕ)) → Ahead first line.old.items (R.remaining reader.old) lines
+        → BreaksLines J.bounds why lines (W.contents writer.old) (W.contents writer.new)) }
+{
+    let mut engine = engine;
+    let end = play_lines(alloc, &mut engine, reader, writer, first, line);
+    let told = engine.settle();
+    told.show();
+    end
+}
