@@ -13,7 +13,8 @@ use Rattle.serde_json.specs.Data.{Items, no_items, item, number, unsigned, strin
 use Rattle.serde_json.specs.Written.{compact_text, items_text}
 use Rattle.tx_lines.specs.Texts.{line_text, text_of, members_text}
 
-later : (ds : Items) → items_text true ds ≡ members_text ds ++ 93 ∷ []
+-- the members of an array after the first, and its bracket
+pub later : (ds : Items) → items_text true ds ≡ members_text ds ++ 93 ∷ []
 later no_items = refl
 later (item d ds) = ap (λ t. 44 ∷ (compact_text d ++ t)) (later ds) ∙ ap (λ t. 44 ∷ t) (sym (append_assoc (compact_text d) (members_text ds) (93 ∷ [])))
 

@@ -1,6 +1,8 @@
 -- The words of the replies of a script, and the text of its reply lines.
-use Rattle.std.specs.Prelude.{ℕ, List, codes}
-use Rattle.serde_json.specs.Data.{Items, no_items, item, number, unsigned, string}
+use Rattle.std.specs.Prelude.{ℕ, List, codes, map}
+use Rattle.serde_json.specs.Data.{Data, Items, no_items, item, number, unsigned, string, array}
+use Rattle.serde_json.specs.View.{items_of}
+use Rattle.tx_types.specs.declared.mutation.KeyValue.{KeyValue}
 use Rattle.tx_types.specs.declared.mutation.Mode.{Mode}
 use Rattle.tx_types.specs.declared.mutation.Mode.TheVariants.{TwoPhase, Async}
 use Rattle.tx_types.specs.declared.lock.LockInfo.{LockInfo}
@@ -34,15 +36,25 @@ lock_fields info = item (text_of info.key) (item (number (unsigned info.start)) 
 abbrev pub lock_words : List ℕ → LockInfo → Items
 lock_words word info = item (string word) (lock_fields info)
 
+-- the minimum that is told of a lock: 0 of a two-phase one
+abbrev pub told_minimum : LockInfo → ℕ
+told_minimum info = elim info.mode [ TwoPhase ↦ 0 | Async ↦ info.min ]
+
+-- a row of a scan: the key and its value
+abbrev pub row_data : KeyValue → Data
+row_data row = array (item (text_of row.key) (item (text_of row.value) no_items))
+
 -- the words of a store's answer: what was found or done, or the refusal's number and fields. What no step asks for has none
 abbrev pub answer_words : Answer → Items
 answer_words (answer.Found v) = item (string (codes "value")) (item (text_of v) no_items)
 answer_words answer.Nothing = alone (codes "none")
+answer_words (answer.Rows rows) = item (string (codes "rows")) (item (array (items_of (map row_data rows))) no_items)
 answer_words (answer.Prewritten m) = with_number (codes "prewritten") m
 answer_words (answer.Committed c) = with_number (codes "committed") c
 answer_words answer.RolledBack = alone (codes "rolled-back")
 answer_words (answer.Ttl ttl) = with_number (codes "ttl") ttl
 answer_words answer.Missing = alone (codes "missing")
+answer_words (answer.Locked info) = with_number (codes "locked") (told_minimum info)
 answer_words (answer.KeyIsLocked info) = lock_words (codes "E1") info
 answer_words (answer.WriteConflict start c) = item (string (codes "E2")) (item (number (unsigned start)) (item (number (unsigned c)) no_items))
 answer_words answer.AlreadyRolledBack = alone (codes "E3")

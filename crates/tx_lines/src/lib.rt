@@ -8,9 +8,11 @@
 mod answer;
 mod end;
 mod lines;
+mod list;
 mod output;
 mod part;
 mod reply;
+mod rows;
 mod scan;
 mod text;
 mod value;
