@@ -81,3 +81,14 @@ committed_text = codes ",\"committed\""
 pub committed_is : (old : List ℕ) (n : ℕ) → old ++ (committed_text ++ 44 ∷ decimal n) ≡ old ++ members_text (item (string (codes "committed")) (item (number (unsigned n)) no_items))
 unfolding escape_byte
 committed_is old n = ap (λ t. old ++ (committed_text ++ 44 ∷ t)) (sym (append-nil (decimal n)))
+
+abbrev pub collected_text : List ℕ
+collected_text = codes ",\"collected\""
+
+-- the word and two numbers, as they are written
+pub collected_is : (old : List ℕ) (m n : ℕ) → (old ++ (collected_text ++ 44 ∷ decimal m)) ++ 44 ∷ decimal n ≡ old ++ members_text (item (string (codes "collected")) (item (number (unsigned m)) (item (number (unsigned n)) no_items)))
+unfolding escape_byte
+collected_is old m n =
+    append_assoc old (collected_text ++ 44 ∷ decimal m) (44 ∷ decimal n)
+    ∙ ap (λ t. old ++ t) (append_assoc collected_text (44 ∷ decimal m) (44 ∷ decimal n))
+    ∙ ap (λ t. old ++ (collected_text ++ 44 ∷ (decimal m ++ 44 ∷ t))) (sym (append-nil (decimal n)))

@@ -13,7 +13,7 @@ use Rattle.tx_core.specs.declared.event.Outcome.TheVariants as outcome
 use Rattle.tx_core.specs.declared.event.UnknownCause.{UnknownCause}
 use Rattle.tx_core.specs.declared.event.UnknownCause.TheVariants as unknown
 use Rattle.tx_lines.specs.declared.reply.Reply.{Reply}
-use Rattle.tx_lines.specs.declared.reply.Reply.TheVariants.{Regions, Start, Fine, Done, Drawn, Ended, Answered, Lost, OutOfMemory, KeyLength, ValueLength, TooManyKeys}
+use Rattle.tx_lines.specs.declared.reply.Reply.TheVariants.{Regions, Start, Fine, Done, Drawn, Ended, Answered, Lost, Last, Collected, OracleSpent, OutOfMemory, KeyLength, ValueLength, TooManyKeys}
 use Rattle.tx_lines.specs.Texts.{line_text, text_of}
 
 -- a word alone, and with a number
@@ -78,6 +78,10 @@ outcome_words outcome.Aborted = alone (codes "aborted")
 outcome_words (outcome.Unknown c) = item (string (codes "unknown")) (item (string (unknown_word c)) no_items)
 outcome_words outcome.ReadOnly = alone (codes "read-only")
 
+-- how many write records, and how many values of the `default` family, a collection dropped
+abbrev pub collected_words : ℕ → ℕ → Items
+collected_words records values = item (string (codes "collected")) (item (number (unsigned records)) (item (number (unsigned values)) no_items))
+
 -- the words of a reply
 abbrev pub reply_words : Reply → Items
 reply_words (Regions n) = with_number (codes "regions") n
@@ -88,6 +92,9 @@ reply_words (Drawn t) = with_number (codes "drawn") t
 reply_words (Ended o) = item (string (codes "outcome")) (outcome_words o)
 reply_words (Answered a) = answer_words a
 reply_words Lost = alone (codes "lost")
+reply_words (Last t) = with_number (codes "last") t
+reply_words (Collected records values) = collected_words records values
+reply_words OracleSpent = alone (codes "E11")
 reply_words OutOfMemory = alone (codes "E12")
 reply_words KeyLength = alone (codes "E13")
 reply_words ValueLength = alone (codes "E14")

@@ -1,11 +1,11 @@
 //! The replies of a script, and the lines that tell them.
 ghost use Rattle.std.specs.Prelude.{◌≡◌, ◌++◌, OnOk};
-ghost use Rattle.tx_lines.specs.Replies.{reply_words, outcome_words, reply_text};
+ghost use Rattle.tx_lines.specs.Replies.{reply_words, outcome_words, collected_words, reply_text};
 ghost use Rattle.tx_core.specs.declared.event.Outcome.TheVariants as outcome;
 ghost use Rattle.tx_lines.specs.Texts.{members_text};
 
 use crate::answer::put_answer;
-use crate::text::{put_digits, put_stamped};
+use crate::text::{put_digits, put_number, put_stamped};
 use std::alloc::AllocError;
 use tx_core::{Answer, Outcome, UnknownCause};
 use tx_types::Ts;
@@ -25,6 +25,12 @@ pub enum Reply {
     Answered(Answer),
     /// No answer came back.
     Lost,
+    /// The last timestamp that was drawn.
+    Last(Ts),
+    /// How many write records, and how many values of the `default` family, a collection of all regions dropped.
+    Collected { records: u64, values: u64 },
+    /// The seat's ticks are spent.
+    OracleSpent,
     OutOfMemory,
     KeyLength,
     ValueLength,
@@ -54,6 +60,13 @@ fn put_outcome(out: &mut Vec<u8>, outcome: Outcome) -> Result<(), AllocError>
     }
 }
 
+fn put_collected(out: &mut Vec<u8>, records: u64, values: u64) -> Result<(), AllocError>
+    ensures { OnOk result (out.new.items ≡ out.old.items ++ members_text (collected_words records values)) }
+{
+    put_stamped(out, b",\"collected\"", records)?;
+    put_number(out, values)
+}
+
 #[tactic(auto, unfolding(json::specs::Print::escape_byte))]
 fn put_words(out: &mut Vec<u8>, reply: &Reply) -> Result<(), AllocError>
     ensures { OnOk result (out.new.items ≡ out.old.items ++ members_text (reply_words reply.now)) }
@@ -70,6 +83,9 @@ fn put_words(out: &mut Vec<u8>, reply: &Reply) -> Result<(), AllocError>
         }
         Reply::Answered(answer) => put_answer(out, answer),
         Reply::Lost => out.extend_from_slice(b",\"lost\""),
+        Reply::Last(last) => put_stamped(out, b",\"last\"", last.get()),
+        Reply::Collected { records, values } => put_collected(out, *records, *values),
+        Reply::OracleSpent => out.extend_from_slice(b",\"E11\""),
         Reply::OutOfMemory => out.extend_from_slice(b",\"E12\""),
         Reply::KeyLength => out.extend_from_slice(b",\"E13\""),
         Reply::ValueLength => out.extend_from_slice(b",\"E14\""),
