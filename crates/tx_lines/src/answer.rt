@@ -1,8 +1,9 @@
 //! What a reply line says of a region's answer.
 ghost use Rattle.std.specs.Prelude.{◌≡◌, ◌++◌, OnOk};
 ghost use Rattle.serde_json.specs.Data.{item, no_items, string};
-ghost use Rattle.tx_lines.specs.Replies.{answer_words, lock_fields, mode_word, told_minimum};
+ghost use Rattle.tx_lines.specs.Replies.{answer_words, lock_fields, told_minimum};
 ghost use Rattle.tx_lines.specs.Texts.{members_text};
+ghost use Rattle.tx_lines.specs.Words.{mode_word};
 
 use crate::list::put_list;
 use crate::text::{put_number, put_stamped, put_text};
@@ -10,8 +11,9 @@ use std::alloc::AllocError;
 use tx_core::Answer;
 use tx_types::{LockInfo, Mode, Ts};
 
+/// Appends a mode, with a comma before it.
 #[tactic(auto, unfolding(json::specs::Print::escape_byte))]
-fn put_mode(out: &mut Vec<u8>, mode: Mode) -> Result<(), AllocError>
+pub(crate) fn put_mode(out: &mut Vec<u8>, mode: Mode) -> Result<(), AllocError>
     ensures { OnOk result (out.new.items ≡ out.old.items ++ members_text (item (string (mode_word mode)) no_items)) }
 {
     match mode {

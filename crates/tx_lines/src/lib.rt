@@ -14,8 +14,12 @@ mod part;
 mod reply;
 mod rows;
 mod scan;
+mod status;
+#[cfg(test)]
+mod tests;
 mod text;
 mod value;
+mod versions;
 
 pub use end::{Broken, End};
 pub use lines::{Found, read_line};

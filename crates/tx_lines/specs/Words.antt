@@ -1,0 +1,15 @@
+-- The words of kinds and modes.
+use Rattle.std.specs.Prelude.{ℕ, List, codes}
+use Rattle.tx_types.specs.declared.mutation.Mode.{Mode}
+use Rattle.tx_types.specs.declared.mutation.Mode.TheVariants.{TwoPhase, Async}
+use Rattle.tx_types.specs.declared.mutation.LockKind.{LockKind}
+use Rattle.tx_types.specs.declared.mutation.LockKind.TheVariants as kind
+
+abbrev pub mode_word : Mode → List ℕ
+mode_word TwoPhase = codes "two-phase"
+mode_word Async = codes "async"
+
+abbrev pub kind_word : LockKind → List ℕ
+kind_word kind.Put = codes "put"
+kind_word kind.Delete = codes "delete"
+kind_word kind.Lock = codes "lock"
