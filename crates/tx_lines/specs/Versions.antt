@@ -1,8 +1,7 @@
 -- What is shown of a key, as JSON.
-use Rattle.std.specs.Prelude.{ℕ, List, codes, map, Bool, true, false, Option, Some, None}
+use Rattle.std.specs.Prelude.{ℕ, codes, map, Bool, true, false, Option, Some, None}
 use Rattle.serde_json.specs.Data.{Data, Items, no_items, item, number, unsigned, string, array, null}
 use Rattle.serde_json.specs.View.{items_of}
-use Rattle.tx_types.specs.declared.mutation.LockKind.{LockKind}
 use Rattle.tx_plan.specs.declared.view.LockHead.{LockHead}
 use Rattle.tx_plan.specs.declared.view.RecordHead.{RecordHead}
 use Rattle.tx_plan.specs.declared.view.RecordHead.TheVariants as head

@@ -1,4 +1,4 @@
-use Rattle.std.proofs.Common.{◌≡◌, ◌++◌, sym, ap, ◌∙◌}
+use Rattle.std.proofs.Common.{◌++◌, sym, ap, ◌∙◌}
 use Rattle.json.specs.Print.{escape_byte}
 use Rattle.tx_client.specs.declared.resolved.Status.TheVariants as status
 use Rattle.tx_lines.specs.Replies.{status_words}
