@@ -79,6 +79,7 @@ outcome_words outcome.Aborted = alone (codes "aborted")
 outcome_words (outcome.Unknown c) = item (string (codes "unknown")) (item (string (unknown_word c)) no_items)
 outcome_words outcome.ReadOnly = alone (codes "read-only")
 
+-- why a transaction was not resolved
 abbrev pub wait_word : WaitCause → List ℕ
 wait_word wait.Live = codes "live"
 wait_word wait.NotFound = codes "not-found"
@@ -86,6 +87,7 @@ wait_word wait.Reply = codes "lost"
 wait_word wait.BelowSafePoint = codes "E7"
 wait_word wait.OutOfMemory = codes "E12"
 
+-- what became of a transaction whose lock was met
 abbrev pub status_words : StatusOf → Items
 status_words (status.Committed c) = with_number (codes "committed") c
 status_words status.Aborted = alone (codes "aborted")

@@ -9,6 +9,7 @@ use Rattle.tx_cells.specs.declared.copies.RecordAt.{RecordAt}
 use Rattle.tx_cells.specs.declared.copies.KeyCopy.{KeyCopy}
 use Rattle.tx_lines.specs.Words.{mode_word, kind_word}
 
+-- a timestamp, as its number
 abbrev pub stamp_data : ℕ → Data
 stamp_data t = number (unsigned t)
 
@@ -16,7 +17,7 @@ stamp_data t = number (unsigned t)
 abbrev pub head_data : LockHead → Data
 head_data lock = array (item (string (kind_word lock.kind)) (item (stamp_data lock.start) (item (stamp_data lock.min) (item (string (mode_word lock.mode)) no_items))))
 
--- null where there is none
+-- the lock of a key, null where there is none
 abbrev pub lock_data : Option LockHead → Data
 lock_data None = null
 lock_data (Some lock) = head_data lock
