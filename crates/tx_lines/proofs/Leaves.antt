@@ -7,7 +7,7 @@ use Rattle.json.specs.Token.{Token, begin_array, end_array}
 use Rattle.json.specs.Lex.{Lexeme, token, comma, between, lex, fresh, after_comma, punctuate}
 use Rattle.json.specs.Json as json
 use Rattle.json.specs.Json.{items, value, if_last, parse_map}
-use Rattle.serde_json.specs.Read.{read, of_json, of_items, max_depth, number_of}
+use Rattle.serde_json.specs.Read.{read, of_json, of_items, max_depth}
 use Rattle.serde_json.specs.Data.{Data, array, number}
 use Rattle.serde_json.specs.Data as tree
 use Rattle.serde_json.specs.View as tree_view

@@ -1,11 +1,11 @@
 -- The lexemes of the bytes of a line, one by one.
-use Rattle.std.proofs.Common.{◌≡◌, ◌≢◌, ℕ, suc, ◌+◌, ◌-◌, ◌≤◌, ◌<◌, Bool, true, false, cond, List, [], ◌∷◌, ◌++◌, length, take, drop, get_or, length-drop, Option, Some, None, option_map, option_and_then, refl, sym, ap, subst, ◌∙◌, ne_eqb, append_assoc, arith}
+use Rattle.std.proofs.Common.{◌≡◌, ◌≢◌, ℕ, suc, ◌+◌, ◌-◌, ◌≤◌, ◌<◌, Bool, true, false, cond, List, [], ◌∷◌, ◌++◌, length, take, drop, get_or, length-drop, Option, Some, None, refl, sym, ap, subst, ◌∙◌, ne_eqb, append_assoc, arith}
 use Rattle.std.proofs.lemmas.Bool.{le-ltb}
 use Rattle.std.proofs.lemmas.List.{drop_more, get_or-drop}
 use Rattle.std.proofs.Math.Seq.{take-suc}
 use Rattle.std.specs.Prelude.{slice_range}
-use Rattle.json.specs.Token.{begin_array, end_array, string, number}
-use Rattle.json.specs.Lex.{Lexeme, token, comma, operator, space, other, Mode, between, in_string, lex, lex_byte, fresh, punctuate}
+use Rattle.json.specs.Token.{begin_array, end_array, string}
+use Rattle.json.specs.Lex.{Lexeme, token, comma, operator, space, other, Mode, between, in_string, lex, lex_byte}
 use Rattle.json.specs.Text.{content, plain, prepend}
 use Rattle.json.specs.Word.{is_operator, is_space}
 use Rattle.tx_lines.specs.Scan.{Runs, Same, Begins}

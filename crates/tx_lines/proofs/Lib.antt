@@ -8,3 +8,5 @@ pub mod Digits
 pub mod Leaves
 -- The text of a line, part by part.
 pub mod Texts
+-- Lists, entry by entry.
+pub mod Lists

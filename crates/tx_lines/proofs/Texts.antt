@@ -13,7 +13,8 @@ use Rattle.serde_json.specs.Data.{Items, no_items, item, number, unsigned, strin
 use Rattle.serde_json.specs.Written.{compact_text, items_text}
 use Rattle.tx_lines.specs.Texts.{line_text, text_of, members_text}
 
-later : (ds : Items) → items_text true ds ≡ members_text ds ++ 93 ∷ []
+-- the members of an array after the first, and its bracket
+pub later : (ds : Items) → items_text true ds ≡ members_text ds ++ 93 ∷ []
 later no_items = refl
 later (item d ds) = ap (λ t. 44 ∷ (compact_text d ++ t)) (later ds) ∙ ap (λ t. 44 ∷ t) (sym (append_assoc (compact_text d) (members_text ds) (93 ∷ [])))
 
@@ -80,3 +81,14 @@ committed_text = codes ",\"committed\""
 pub committed_is : (old : List ℕ) (n : ℕ) → old ++ (committed_text ++ 44 ∷ decimal n) ≡ old ++ members_text (item (string (codes "committed")) (item (number (unsigned n)) no_items))
 unfolding escape_byte
 committed_is old n = ap (λ t. old ++ (committed_text ++ 44 ∷ t)) (sym (append-nil (decimal n)))
+
+abbrev pub collected_text : List ℕ
+collected_text = codes ",\"collected\""
+
+-- the word and two numbers, as they are written
+pub collected_is : (old : List ℕ) (m n : ℕ) → (old ++ (collected_text ++ 44 ∷ decimal m)) ++ 44 ∷ decimal n ≡ old ++ members_text (item (string (codes "collected")) (item (number (unsigned m)) (item (number (unsigned n)) no_items)))
+unfolding escape_byte
+collected_is old m n =
+    append_assoc old (collected_text ++ 44 ∷ decimal m) (44 ∷ decimal n)
+    ∙ ap (λ t. old ++ t) (append_assoc collected_text (44 ∷ decimal m) (44 ∷ decimal n))
+    ∙ ap (λ t. old ++ (collected_text ++ 44 ∷ (decimal m ++ 44 ∷ t))) (sym (append-nil (decimal n)))

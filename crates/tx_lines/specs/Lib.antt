@@ -3,5 +3,7 @@ pub mod Output
 pub mod Parts
 pub mod Scan
 pub mod Texts
+pub mod Words
+pub mod Versions
 pub mod Replies
 pub mod Faults

@@ -1,16 +1,19 @@
 //! What a reply line says of a region's answer.
 ghost use Rattle.std.specs.Prelude.{◌≡◌, ◌++◌, OnOk};
 ghost use Rattle.serde_json.specs.Data.{item, no_items, string};
-ghost use Rattle.tx_lines.specs.Replies.{answer_words, lock_fields, mode_word};
+ghost use Rattle.tx_lines.specs.Replies.{answer_words, lock_fields, told_minimum};
 ghost use Rattle.tx_lines.specs.Texts.{members_text};
+ghost use Rattle.tx_lines.specs.Words.{mode_word};
 
+use crate::list::put_list;
 use crate::text::{put_number, put_stamped, put_text};
 use std::alloc::AllocError;
 use tx_core::Answer;
-use tx_types::{LockInfo, Mode};
+use tx_types::{LockInfo, Mode, Ts};
 
+/// Appends a mode, with a comma before it.
 #[tactic(auto, unfolding(json::specs::Print::escape_byte))]
-fn put_mode(out: &mut Vec<u8>, mode: Mode) -> Result<(), AllocError>
+pub(crate) fn put_mode(out: &mut Vec<u8>, mode: Mode) -> Result<(), AllocError>
     ensures { OnOk result (out.new.items ≡ out.old.items ++ members_text (item (string (mode_word mode)) no_items)) }
 {
     match mode {
@@ -38,6 +41,16 @@ fn put_locked(out: &mut Vec<u8>, word: &[u8], info: &LockInfo) -> Result<(), All
     put_lock(out, info)
 }
 
+// The minimum that is told of a lock.
+fn told_minimum(info: &LockInfo) -> Ts
+    ensures { result ≡ told_minimum info.now }
+{
+    match info.mode {
+        Mode::TwoPhase => Ts::ZERO,
+        Mode::Async => info.min,
+    }
+}
+
 /// Appends the words of an answer, each with a comma before it. What no step asks for has none.
 #[tactic(auto, unfolding(json::specs::Print::escape_byte))]
 pub(crate) fn put_answer(out: &mut Vec<u8>, answer: &Answer) -> Result<(), AllocError>
@@ -48,12 +61,17 @@ pub(crate) fn put_answer(out: &mut Vec<u8>, answer: &Answer) -> Result<(), Alloc
             out.extend_from_slice(b",\"value\"")?;
             put_text(out, value.as_bytes())
         }
+        Answer::Rows(rows) => {
+            out.extend_from_slice(b",\"rows\",")?;
+            put_list(out, rows.as_slice())
+        }
         Answer::Nothing => out.extend_from_slice(b",\"none\""),
         Answer::Prewritten(min) => put_stamped(out, b",\"prewritten\"", min.get()),
         Answer::Committed(commit) => put_stamped(out, b",\"committed\"", commit.get()),
         Answer::RolledBack => out.extend_from_slice(b",\"rolled-back\""),
         Answer::Ttl(ttl) => put_stamped(out, b",\"ttl\"", u64::from(*ttl)),
         Answer::Missing => out.extend_from_slice(b",\"missing\""),
+        Answer::Locked(info) => put_stamped(out, b",\"locked\"", told_minimum(info).get()),
         Answer::KeyIsLocked(info) => put_locked(out, b",\"E1\"", info),
         Answer::WriteConflict { start, commit } => {
             put_stamped(out, b",\"E2\"", start.get())?;
@@ -67,7 +85,6 @@ pub(crate) fn put_answer(out: &mut Vec<u8>, answer: &Answer) -> Result<(), Alloc
         Answer::FutureTimestamp { last } => put_stamped(out, b",\"E8\"", last.get()),
         Answer::LocksRemain(info) => put_locked(out, b",\"E9\"", info),
         Answer::TxnNotFound => out.extend_from_slice(b",\"E10\""),
-        Answer::Rows(_) | Answer::Resolved | Answer::Raised => Ok(()),
-        Answer::Locked(_) | Answer::Locks(_) | Answer::Collected { .. } => Ok(()),
+        Answer::Resolved | Answer::Raised | Answer::Locks(_) | Answer::Collected { .. } => Ok(()),
     }
 }

@@ -9,12 +9,18 @@ mod answer;
 mod end;
 mod fault;
 mod lines;
+mod list;
 mod output;
 mod part;
 mod reply;
+mod rows;
 mod scan;
+mod status;
+#[cfg(test)]
+mod tests;
 mod text;
 mod value;
+mod versions;
 
 pub use end::{Broken, End};
 pub use fault::put_fault;

@@ -1,12 +1,16 @@
 //! The replies of a script, and the lines that tell them.
 ghost use Rattle.std.specs.Prelude.{◌≡◌, ◌++◌, OnOk};
-ghost use Rattle.tx_lines.specs.Replies.{reply_words, outcome_words, reply_text};
+ghost use Rattle.tx_lines.specs.Replies.{reply_words, outcome_words, collected_words, reply_text};
 ghost use Rattle.tx_core.specs.declared.event.Outcome.TheVariants as outcome;
 ghost use Rattle.tx_lines.specs.Texts.{members_text};
 
 use crate::answer::put_answer;
-use crate::text::{put_digits, put_stamped};
+use crate::status::put_status;
+use crate::text::{put_digits, put_number, put_stamped};
+use crate::versions::put_copy;
 use std::alloc::AllocError;
+use tx_cells::KeyCopy;
+use tx_client::Status;
 use tx_core::{Answer, Outcome, UnknownCause};
 use tx_types::Ts;
 
@@ -25,6 +29,16 @@ pub enum Reply {
     Answered(Answer),
     /// No answer came back.
     Lost,
+    /// The last timestamp that was drawn.
+    Last(Ts),
+    /// What became of the transaction of a lock that was met.
+    Status(Status),
+    /// What is shown of a key.
+    Versions(KeyCopy),
+    /// How many write records, and how many values of the `default` family, a collection of all regions dropped.
+    Collected { records: u64, values: u64 },
+    /// The seat's ticks are spent.
+    OracleSpent,
     OutOfMemory,
     KeyLength,
     ValueLength,
@@ -54,6 +68,13 @@ fn put_outcome(out: &mut Vec<u8>, outcome: Outcome) -> Result<(), AllocError>
     }
 }
 
+fn put_collected(out: &mut Vec<u8>, records: u64, values: u64) -> Result<(), AllocError>
+    ensures { OnOk result (out.new.items ≡ out.old.items ++ members_text (collected_words records values)) }
+{
+    put_stamped(out, b",\"collected\"", records)?;
+    put_number(out, values)
+}
+
 #[tactic(auto, unfolding(json::specs::Print::escape_byte))]
 fn put_words(out: &mut Vec<u8>, reply: &Reply) -> Result<(), AllocError>
     ensures { OnOk result (out.new.items ≡ out.old.items ++ members_text (reply_words reply.now)) }
@@ -70,6 +91,17 @@ fn put_words(out: &mut Vec<u8>, reply: &Reply) -> Result<(), AllocError>
         }
         Reply::Answered(answer) => put_answer(out, answer),
         Reply::Lost => out.extend_from_slice(b",\"lost\""),
+        Reply::Last(last) => put_stamped(out, b",\"last\"", last.get()),
+        Reply::Status(status) => {
+            out.extend_from_slice(b",\"status\"")?;
+            put_status(out, *status)
+        }
+        Reply::Versions(copy) => {
+            out.extend_from_slice(b",\"versions\"")?;
+            put_copy(out, copy)
+        }
+        Reply::Collected { records, values } => put_collected(out, *records, *values),
+        Reply::OracleSpent => out.extend_from_slice(b",\"E11\""),
         Reply::OutOfMemory => out.extend_from_slice(b",\"E12\""),
         Reply::KeyLength => out.extend_from_slice(b",\"E13\""),
         Reply::ValueLength => out.extend_from_slice(b",\"E14\""),

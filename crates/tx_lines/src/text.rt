@@ -82,8 +82,8 @@ fn put_escaped(out: &mut Vec<u8>, bytes: &[u8]) -> Result<(), AllocError>
     Ok(())
 }
 
-// Bytes as a string, `null` where they are no UTF-8.
-fn put_string(out: &mut Vec<u8>, bytes: &[u8]) -> Result<(), AllocError>
+/// Appends bytes as a JSON string, `null` where they are no UTF-8.
+pub(crate) fn put_string(out: &mut Vec<u8>, bytes: &[u8]) -> Result<(), AllocError>
     ensures { OnOk result (out.new.items ≡ out.old.items ++ compact_text (text_of bytes.now)) }
 {
     if str::from_utf8(bytes).is_err() {

@@ -1,4 +1,4 @@
-use Rattle.std.proofs.Common.{◌≡◌, [], rules, arith, drop, subst, sym}
+use Rattle.std.proofs.Common.{rules, drop, subst, sym}
 use Rattle.std.specs.Prelude.{IsUtf8}
 use Rattle.tx_lines.proofs.Leaves.{ReadParts, read_none, read_more, read_all}
 use Rattle.tx_lines.proofs.scan.scanned.Goals as goal

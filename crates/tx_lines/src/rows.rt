@@ -1,0 +1,20 @@
+//! The rows of a scan in a reply line.
+ghost use Rattle.std.specs.Prelude.{◌≡◌, ◌++◌, OnOk};
+ghost use Rattle.serde_json.specs.Written.{compact_text};
+ghost use Rattle.tx_lines.specs.Replies.{row_data};
+
+use crate::list::Entry;
+use crate::text::{put_string, put_text};
+use std::alloc::AllocError;
+use tx_types::KeyValue;
+
+impl Entry for KeyValue {
+    ghost value = { row_data };
+
+    fn put(&self, out: &mut Vec<u8>) -> Result<(), AllocError> {
+        out.extend_from_slice(b"[")?;
+        put_string(out, self.key.as_bytes())?;
+        put_text(out, self.value.as_bytes())?;
+        out.extend_from_slice(b"]")
+    }
+}
