@@ -1,12 +1,12 @@
 //! Transactions that commit asynchronously.
 
 use super::Scenario;
-use crate::play::Act::{
+use tx_stage::Act::{
     Abort, Begin, Commit, Declare, Deliver, Draw, Finish, Get, Prewrite, Put, Scan,
 };
-use crate::play::Who::{A, B};
-use crate::play::{Step, played};
-use crate::post::Way::{Holds, LosesReply, Plain};
+use tx_stage::Who::{A, B};
+use tx_stage::{Step, played};
+use tx_stage::Way::{Holds, LosesReply, Plain};
 use std::test::Fail;
 use tx_types::Mode::{Async, TwoPhase};
 

@@ -1,6 +1,7 @@
 //! What calls answer, in a word and a number. Keys and values are single digits here.
-use tx_client::Miss;
+use tx_client::{Miss, Status, WaitCause};
 use tx_core::{Answer, Outcome, UnknownCause};
+use tx_resolve::Counts;
 use tx_types::{Fault, KeyValues};
 
 /// A word and a number.
@@ -85,12 +86,15 @@ pub fn by_phase(came: Result<Option<Answer>, Miss>) -> Said {
     }
 }
 
-/// A refusal by the session itself.
+/// A refusal.
 pub fn by_fault(fault: Fault) -> Said {
     match fault {
         Fault::TooManyKeys => ("E15", 0),
         Fault::OutOfMemory => ("E12", 0),
         Fault::OracleSpent => ("E11", 0),
+        Fault::BelowSafePoint { safe } => ("E7", safe.get()),
+        Fault::FutureTimestamp { last } => ("E8", last.get()),
+        Fault::LocksRemain(info) => ("E9", digit(info.key.as_bytes())),
         _ => ("other", 0),
     }
 }
@@ -118,5 +122,33 @@ pub fn by_outcome(outcome: Outcome) -> Said {
         Outcome::Aborted => ("ended aborted", 0),
         Outcome::Unknown(cause) => by_cause(cause),
         Outcome::ReadOnly => ("ended read-only", 0),
+    }
+}
+
+fn by_wait(cause: WaitCause) -> Said {
+    match cause {
+        WaitCause::Live => ("waiting live", 0),
+        WaitCause::NotFound => ("waiting not found", 0),
+        WaitCause::Reply => ("waiting reply", 0),
+        WaitCause::BelowSafePoint => ("waiting E7", 0),
+        WaitCause::OutOfMemory => ("waiting E12", 0),
+    }
+}
+
+/// What a resolver finds.
+pub fn by_status(status: Status) -> Said {
+    match status {
+        Status::Committed(commit) => ("committed", commit.get()),
+        Status::Aborted => ("aborted", 0),
+        Status::Pushed(minimum) => ("pushed", minimum.get()),
+        Status::Waiting(cause) => by_wait(cause),
+    }
+}
+
+/// What a collection comes to: how many records it dropped, or why it ended.
+pub fn by_collection(came: Result<Counts, Fault>) -> Said {
+    match came {
+        Ok(counts) => ("collected", counts.records),
+        Err(fault) => by_fault(fault),
     }
 }

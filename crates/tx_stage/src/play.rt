@@ -1,10 +1,10 @@
-//! Sessions over a way to three regions, with the keys 4 and 7 between them: a scenario is a list of steps, each with who acts, what
-//! it does, what becomes of the request that it sends, and what comes of it.
+//! Sessions, a resolver and a collector over a way to three regions, with the keys 4 and 7 between them: a scenario is a list of steps,
+//! each with who acts, what it does, what becomes of the request that it sends, and what comes of it.
 ghost use Rattle.std.specs.Prelude.{◌≡◌, [], All, IfSome, vec_len};
 ghost use Rattle.tx_journal.specs.Known.{AreRising};
 
 use crate::post::{Post, Way};
-use crate::words::{OK, Said, by_change, by_fault, by_outcome, by_phase, by_read};
+use crate::words::{OK, Said, by_change, by_collection, by_fault, by_outcome, by_phase, by_read};
 use std::alloc::Global;
 use std::marker::Brand;
 use std::mem::replace;
@@ -39,8 +39,8 @@ pub enum Act {
     HeartBeat(u32),
     Get(u8),
     Scan(u8, u8, u32),
-    /// Asks at this time for the status of the transaction whose lock it met, and learns that it is pushed.
-    Check(u64),
+    /// The resolver finds, at this time, what became of the transaction whose lock it met, and it learns that.
+    Resolve(u64),
     /// Learns the fate of the other session's transaction.
     Learn,
     Finish,
@@ -49,6 +49,10 @@ pub enum Act {
     Deliver,
     /// The safe point of this region becomes this.
     RaiseSafe(u32, u64),
+    /// The collector collects at this safe point.
+    Collect(u64),
+    /// So many requests go plainly, before the one of which a later step says what becomes of it.
+    Spare(u32),
 }
 
 /// A step: who acts, the act, what becomes of its request, and the word and the number that come of it.
@@ -209,7 +213,6 @@ fn acts<J: Naming>(alloc: Global, session: &mut Session<J>, act: Act, post: &mut
         Act::HeartBeat(ttl) => heartbeat(session, ttl, post),
         Act::Get(key) => get(alloc, session, key, post),
         Act::Scan(from, to, limit) => scan(alloc, session, from, to, limit, post),
-        Act::Check(now) => others::check(session, now, post),
         _ => ORDER,
     }
 }
@@ -223,12 +226,13 @@ fn shortened<J: Naming>(mut seat: Seat<J>, left: u32) -> Seat<J> {
     seat
 }
 
-/// The way, the seats that are free, and the sessions.
+/// The way, the seats that are free, the seat of the resolver and of the collector, and the sessions.
 #[derive(Drop)]
 pub struct World<J: Naming> {
     alloc: Global,
     post: Post<J>,
     seats: Vec<Seat<J>>,
+    resolver: Seat<J>,
     a: Option<Session<J>>,
     b: Option<Session<J>>,
 }
@@ -311,6 +315,20 @@ impl<J: Naming> World<J> {
         }
     }
 
+    // A session learns what the resolver finds of the transaction whose lock it met.
+    fn resolve(&mut self, who: Who, now: u64) -> Said {
+        let Some(mut session) = self.take(who) else {
+            return ORDER;
+        };
+        let said = others::resolve(&mut self.resolver, &mut session, now, &mut self.post);
+        self.place(who, Some(session));
+        said
+    }
+
+    fn collect(&mut self, safe: u64) -> Said {
+        by_collection(self.post.collect(&mut self.resolver, safe))
+    }
+
     fn acts(&mut self, who: Who, act: Act) -> Said {
         let Some(mut session) = self.take(who) else {
             return ORDER;
@@ -327,6 +345,12 @@ impl<J: Naming> World<J> {
             Act::Begin => self.begin(who),
             Act::BeginShort(left) => self.begin_short(who, left),
             Act::Learn => self.learn(who),
+            Act::Resolve(now) => self.resolve(who, now),
+            Act::Collect(safe) => self.collect(safe),
+            Act::Spare(count) => {
+                self.post.spare(count);
+                OK
+            }
             Act::Finish => self.finish(who),
             Act::Stop => self.stop(who),
             Act::Deliver => {
@@ -377,12 +401,14 @@ fn world_over<J: Naming>(
     let Ok(mut free) = seats.split_off(3) else {
         return None;
     };
+    let resolver = free.pop()?;
     let seat = free.pop()?;
     let post = Post::new(alloc, journal, seat, seats)?;
     Some(World {
         alloc,
         post,
         seats: free,
+        resolver,
         a: None,
         b: None,
     })
@@ -416,6 +442,6 @@ fn bounds(alloc: Global) -> Option<Vec<Key>>
 /// How many steps came out as they say, up to the first that did not.
 pub fn played(alloc: Global, steps: &[Step]) -> Option<usize> {
     let bounds = bounds(alloc)?;
-    let opened = Opened::new(alloc, bounds, 5).ok()?;
+    let opened = Opened::new(alloc, bounds, 6).ok()?;
     play::<Brand>(alloc, opened, steps)
 }

@@ -2,16 +2,16 @@
 ghost use Rattle.std.specs.Prelude.{◌≡◌, [], All, IfSome};
 ghost use Rattle.tx_journal.specs.Known.{AreRising};
 
+use crate::ground::Ground;
 use std::alloc::Global;
 use std::mem::replace;
-use tx_cells::NestedCells;
 use tx_client::{Lost, Sender};
 use tx_core::{Body, RaiseSafe, RegionNo};
 use tx_journal::{Journal, Naming, Reply, Request, Seat};
-use tx_region::Region;
-use tx_types::{Key, Ts};
+use tx_resolve::Counts;
+use tx_types::{Fault, Key, Ts};
 
-/// What becomes of the next request.
+/// What becomes of a request.
 #[derive(Clone, Copy)]
 pub enum Way {
     /// It is taken, and its reply comes.
@@ -24,39 +24,17 @@ pub enum Way {
     Repeats,
     /// Its region is refused memory.
     Refuses,
-    /// It is taken, and the region of the one after it is refused memory.
-    RefusesSecond,
     /// It is kept, to be delivered later.
     Holds,
 }
 
-/// The regions, what becomes of the next request, and the request that is held.
+/// The regions, how many of the next requests go plainly, what becomes of the one after them, and the request that is held.
 #[derive(Drop)]
 pub struct Post<J: Naming> {
-    journal: Journal<J>,
-    seat: Seat<J>,
-    low: Region<J, NestedCells>,
-    middle: Region<J, NestedCells>,
-    high: Region<J, NestedCells>,
+    ground: Ground<J>,
+    spared: u32,
     way: Way,
     held: Option<Request<J>>,
-}
-
-// The region of the last seat, in which nothing happened.
-fn region<J: Naming>(
-    alloc: Global,
-    journal: &Journal<J>,
-    seats: &mut Vec<Seat<J>>,
-) -> Option<Region<J, NestedCells>>
-    requires { All (λ s. s.events ≡ []) seats.old.items }
-    ensures { All (λ s. s.events ≡ []) seats.new.items }
-{
-    let seat = seats.pop()?;
-    if seat.number().get() as usize > journal.bounds().len() {
-        return None;
-    }
-    let journal = journal.clone().ok()?;
-    Some(Region::new(alloc, journal, seat, NestedCells::new(alloc)))
 }
 
 impl<J: Naming> Post<J> {
@@ -65,75 +43,51 @@ impl<J: Naming> Post<J> {
         alloc: Global,
         journal: Journal<J>,
         seat: Seat<J>,
-        mut seats: Vec<Seat<J>>,
+        seats: Vec<Seat<J>>,
     ) -> Option<Post<J>>
         requires { All (λ s. s.events ≡ []) seats.items }
     {
-        let high = region(alloc, &journal, &mut seats)?;
-        let middle = region(alloc, &journal, &mut seats)?;
-        let low = region(alloc, &journal, &mut seats)?;
+        let ground = Ground::new(alloc, journal, seat, seats)?;
         Some(Post {
-            journal,
-            seat,
-            low,
-            middle,
-            high,
+            ground,
+            spared: 0,
             way: Way::Plain,
             held: None,
         })
     }
 
-    /// Sets what becomes of the next request.
+    /// Sets what becomes of the next request that is not spared.
     pub fn turn(&mut self, way: Way) {
         self.way = way;
+    }
+
+    /// So many of the next requests go plainly.
+    pub fn spare(&mut self, count: u32) {
+        self.spared = count;
     }
 
     /// Its keys rise.
     pub fn rise(&self)
         ensures { AreRising J.bounds }
     {
-        let _ = self.journal.bounds();
-    }
-
-    // Hands a request to the region that holds it.
-    fn take(&mut self, request: Request<J>) -> Option<Reply<J>>
-        ensures { IfSome result (λ g. g.request ≡ request) }
-    {
-        if self.low.holds(request.body()) {
-            Some(self.low.take(request))
-        } else if self.middle.holds(request.body()) {
-            Some(self.middle.take(request))
-        } else if self.high.holds(request.body()) {
-            Some(self.high.take(request))
-        } else {
-            drop(request);
-            None
-        }
+        self.ground.rise();
     }
 
     // It is taken, and its reply is lost.
     fn lose_reply(&mut self, request: Request<J>) {
-        drop(self.take(request));
+        drop(self.ground.take(request));
     }
 
     // It is taken twice.
     fn repeat(&mut self, mut request: Request<J>) -> Option<Reply<J>>
         ensures { IfSome result (λ g. g.request ≡ request) }
     {
-        let Ok(copy) = request.clone(&self.seat) else {
+        let Some(copy) = self.ground.copy(&mut request) else {
             drop(request);
             return None;
         };
         self.lose_reply(copy);
-        self.take(request)
-    }
-
-    // A region is refused memory for its answer.
-    fn refuse(&mut self, request: Request<J>) -> Reply<J>
-        ensures { result.request ≡ request }
-    {
-        let told = self.seat.tell();
-        Reply::new(request, None, told)
+        self.ground.take(request)
     }
 
     // It is kept.
@@ -154,8 +108,27 @@ impl<J: Naming> Post<J> {
             region: RegionNo::new(region),
             safe: Ts::new(safe),
         };
-        let request = Request::new(self.seat.tell(), Body::RaiseSafe(raise_safe));
+        let request = Request::new(self.ground.tell(), Body::RaiseSafe(raise_safe));
         self.lose_reply(request);
+    }
+
+    /// A collector collects at this safe point. Nothing that it sends is lost, but a region may be refused memory.
+    pub fn collect(&mut self, collector: &mut Seat<J>, safe: u64) -> Result<Counts, Fault> {
+        let spared = replace(&mut self.spared, 0);
+        let refused = match self.way {
+            Way::Refuses => spared.saturating_add(1),
+            _ => 0,
+        };
+        self.ground.collect(collector, safe, refused)
+    }
+
+    // What becomes of the next request.
+    fn next_way(&mut self) -> Way {
+        if self.spared > 0 {
+            self.spared -= 1;
+            return Way::Plain;
+        }
+        replace(&mut self.way, Way::Plain)
     }
 
     // What becomes of a request by this way.
@@ -163,7 +136,7 @@ impl<J: Naming> Post<J> {
         ensures { IfSome result (λ g. g.request ≡ request) }
     {
         match way {
-            Way::Plain => self.take(request),
+            Way::Plain => self.ground.take(request),
             Way::Loses => {
                 drop(request);
                 None
@@ -173,11 +146,7 @@ impl<J: Naming> Post<J> {
                 None
             }
             Way::Repeats => self.repeat(request),
-            Way::Refuses => Some(self.refuse(request)),
-            Way::RefusesSecond => {
-                self.way = Way::Refuses;
-                self.take(request)
-            }
+            Way::Refuses => Some(self.ground.refuse(request)),
             Way::Holds => {
                 self.hold(request);
                 None
@@ -196,7 +165,7 @@ impl<J: Naming> Sender<Request<J>, Reply<J>> for Post<J> {
     ghost keys_between = { λ s. J.bounds };
 
     fn send(&mut self, request: Request<J>) -> Result<Reply<J>, Lost> {
-        let way = replace(&mut self.way, Way::Plain);
+        let way = self.next_way();
         match self.pass(way, request) {
             Some(reply) => Ok(reply),
             None => Err(Lost),
@@ -204,6 +173,6 @@ impl<J: Naming> Sender<Request<J>, Reply<J>> for Post<J> {
     }
 
     fn bounds(&self) -> &[Key] {
-        self.journal.bounds()
+        self.ground.bounds()
     }
 }

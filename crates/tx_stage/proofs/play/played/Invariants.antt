@@ -1,4 +1,4 @@
-use Rattle.tx_client_tests.proofs.play.played.Given as goal
+use Rattle.tx_stage.proofs.play.played.Given as goal
 
 -- the journal that was just opened
 abbrev pub ghosts-play : goal.ghosts-play
