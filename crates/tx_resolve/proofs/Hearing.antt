@@ -1,5 +1,5 @@
 -- What may come of a collector's requests.
-use Rattle.std.proofs.Common.{◌≡◌, ℕ, List, Option, Some, None, Ok, Err, inl, inr, refl, sym, subst, ap, ◌∙◌}
+use Rattle.std.proofs.Common.{◌≡◌, ℕ, List, Option, Some, None, Ok, Err, IfOk, inl, inr, refl, sym, subst, ap, ◌∙◌}
 use Rattle.std.specs.Prelude.{Contains}
 use Rattle.tx_types.specs.declared.key.Key.{Key}
 use Rattle.tx_types.specs.declared.lock.LockInfo.{LockInfo}
@@ -23,6 +23,7 @@ use Rattle.tx_client.specs.declared.state.Came.TheVariants as came
 use Rattle.tx_client.specs.Senders.{Reached, LosesNothing, came_by, came_of}
 use Rattle.tx_client.specs.Facts.{WasAnswered, CameSo}
 use Rattle.tx_client.specs.Calls.{Asks}
+use Rattle.tx_resolve.specs.Collecting.{listed_by}
 use Rattle.tx_resolve.specs.Facts.{IsToRaise, IsToList, IsToCollect}
 use Rattle.tx_resolve.proofs.Finding.{gave}
 
@@ -38,7 +39,7 @@ lists r l top b a (infos, all, is) = subst (λ (z : Answer). IsToList (came.Said
 
 collects : (r : Region) (l top : ℕ) (b : Collect) (a : Answer) → Answers r l top (request.Collect b) a → IsToCollect (came.Said a)
 collects r l top b a (inl x) = subst (λ (z : Answer). IsToCollect (came.Said z)) (sym x.1) tt
-collects r l top b a (inr (no0, inl (some, info, first, is))) = subst (λ (z : Answer). IsToCollect (came.Said z)) (sym is) tt
+collects r l top b a (inr (no0, inl (some, (info, first, is)))) = subst (λ (z : Answer). IsToCollect (came.Said z)) (sym is) tt
 collects r l top b a (inr (no0, inr (no1, (places, all, is)))) = subst (λ (z : Answer). IsToCollect (came.Said z)) (sym is) tt
 
 -- ---- what comes
@@ -74,3 +75,7 @@ module _ (bounds : List Key) (h : History) (run : IsWorldRun bounds h) where
 -- the locks of an answer were told of
 pub listed_told : (h : History) (b : Body) (infos : List LockInfo) → WasAnswered h b (answer.Locks infos) → (info : LockInfo) → Contains infos info → WasToldOf h info
 listed_told h b infos was info has = record { by = was.by; among = was.among; told = subst (λ (xs : List LockInfo). Contains xs info) (ap infos_in (sym was.told)) has }
+
+pub listed_ok : (h : History) (b : LocksBelow) (c : Came) → CameSo h (request.LocksBelow b) c → IfOk (listed_by c) (λ infos. (info : LockInfo) → Contains infos info → WasToldOf h info)
+listed_ok h b (came.Said (answer.Locks infos)) was = listed_told h (request.LocksBelow b) infos was
+listed_ok h b _ was = tt

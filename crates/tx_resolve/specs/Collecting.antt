@@ -42,11 +42,14 @@ abbrev pub added : Counts → Counts → Counts
 added x y = record { records = min (x.records + y.records) (2 ^ 64 - 1); values = min (x.values + y.values) (2 ^ 64 - 1) }
 
 -- what was dropped is added to what was dropped before
+abbrev pub dropped_by : Counts → Came → Result Counts Fault
+dropped_by counts (came.Said (answer.Collected records values)) = Ok (added counts (record { records = records; values = values }))
+dropped_by counts (came.Said (answer.BelowSafePoint safe)) = Err (fault.BelowSafePoint safe)
+dropped_by counts _ = Err fault.OutOfMemory
+
 abbrev pub collected_by : Counts → Came → Result Counts Fault
-collected_by counts (came.Said (answer.Collected records values)) = Ok (added counts (record { records = records; values = values }))
-collected_by counts (came.Said (answer.BelowSafePoint safe)) = Err (fault.BelowSafePoint safe)
 collected_by counts (came.Said (answer.LocksRemain info)) = Err (fault.LocksRemain info)
-collected_by counts _ = Err fault.OutOfMemory
+collected_by counts c = dropped_by counts c
 
 -- the safe point of a region rises
 abbrev pub raise_walk : ℕ → ℕ → Walk (Result (Unit {0}) Fault)

@@ -64,9 +64,12 @@ IsToList came.Unsaid = Unit {0}
 IsToList (came.Said (answer.Locks infos)) = Unit {0}
 IsToList _ = ⊥
 
+abbrev pub IsToDrop : Came → Type 0
+IsToDrop came.Unsaid = Unit {0}
+IsToDrop (came.Said (answer.Collected records values)) = Unit {0}
+IsToDrop (came.Said (answer.BelowSafePoint safe)) = Unit {0}
+IsToDrop _ = ⊥
+
 abbrev pub IsToCollect : Came → Type 0
-IsToCollect came.Unsaid = Unit {0}
-IsToCollect (came.Said (answer.Collected records values)) = Unit {0}
-IsToCollect (came.Said (answer.BelowSafePoint safe)) = Unit {0}
 IsToCollect (came.Said (answer.LocksRemain info)) = Unit {0}
-IsToCollect _ = ⊥
+IsToCollect c = IsToDrop c

@@ -13,8 +13,8 @@ ghost use Rattle.tx_core.specs.Laws.{WasToldOf};
 ghost use Rattle.tx_core.specs.Worlds.{IsWorldRun};
 ghost use Rattle.tx_client.specs.Senders.{IsWay, LosesNothing};
 ghost use Rattle.tx_client.specs.Walks.{Sends};
-ghost use Rattle.tx_resolve.specs.Collecting.{added, raised_by, listed_by, collected_by, raise_walk, raises_walk, list_walk, locks_walk, clear_walk, clears_walk, collect_walk, collects_walk, gc_walk};
-ghost use Rattle.tx_resolve.specs.Facts.{IsToRaise, IsToList, IsToCollect};
+ghost use Rattle.tx_resolve.specs.Collecting.{added, raised_by, listed_by, dropped_by, collected_by, raise_walk, raises_walk, list_walk, locks_walk, clear_walk, clears_walk, collect_walk, collects_walk, gc_walk};
+ghost use Rattle.tx_resolve.specs.Facts.{IsToRaise, IsToList, IsToDrop, IsToCollect};
 
 use crate::found::For;
 use crate::resolver::resolve_for;
@@ -76,17 +76,27 @@ fn listed_by(came: Came) -> Result<Infos, Fault>
     }
 }
 
-// What was collected, beside what was before.
+// What was dropped, beside what was before.
+fn dropped_by(counts: Counts, came: &Came) -> Result<Counts, Fault>
+    requires { IsToDrop came.now }
+    ensures { result ≡ dropped_by counts came.now }
+{
+    match came {
+        Came::Said(Answer::Collected { records, values }) => Ok(counts.add(*records, *values)),
+        Came::Said(Answer::BelowSafePoint { safe }) => Err(Fault::BelowSafePoint { safe: *safe }),
+        Came::Unsaid => Err(Fault::OutOfMemory),
+        _ => unreachable!(),
+    }
+}
+
+// The lock that remains, or what was dropped.
 fn collected_by(counts: Counts, came: Came) -> Result<Counts, Fault>
     requires { IsToCollect came }
     ensures { result ≡ collected_by counts came }
 {
     match came {
-        Came::Said(Answer::Collected { records, values }) => Ok(counts.add(records, values)),
-        Came::Said(Answer::BelowSafePoint { safe }) => Err(Fault::BelowSafePoint { safe }),
         Came::Said(Answer::LocksRemain(info)) => Err(Fault::LocksRemain(info)),
-        Came::Unsaid => Err(Fault::OutOfMemory),
-        _ => unreachable!(),
+        other => dropped_by(counts, &other),
     }
 }
 
