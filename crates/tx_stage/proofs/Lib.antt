@@ -1,2 +1,4 @@
 -- What holds of each of a list holds of each of its first.
 mod Fronts
+-- Of three regions one holds what a request speaks of.
+mod Holders

@@ -2,7 +2,9 @@
 
 use super::Scenario;
 use std::test::Fail;
-use tx_stage::Act::{Begin, Collect, Commit, Declare, Deliver, Draw, Get, Prewrite, Put, Resolve, Stop};
+use tx_stage::Act::{
+    Begin, Collect, Commit, Declare, Deliver, Draw, Get, Prewrite, Put, Resolve, Stop,
+};
 use tx_stage::Way::{Holds, Plain};
 use tx_stage::Who::{A, B};
 use tx_stage::{Step, played};
