@@ -1,14 +1,14 @@
 //! Reads.
 
 use super::Scenario;
+use std::test::Fail;
 use tx_stage::Act::{
-    Abort, Begin, Commit, Declare, Delete, Draw, Get, Learn, Lock, Prewrite, Put, RaiseSafe, Resolve,
-    Scan, Spare,
+    Abort, Begin, Commit, Declare, Delete, Draw, Get, Learn, Lock, Prewrite, Put, RaiseSafe,
+    Resolve, Scan, Spare,
 };
+use tx_stage::Way::{Loses, LosesReply, Plain, Refuses, Repeats};
 use tx_stage::Who::{A, B};
 use tx_stage::{Step, played};
-use tx_stage::Way::{Loses, LosesReply, Plain, Refuses, Repeats};
-use std::test::Fail;
 use tx_types::Mode::{Async, TwoPhase};
 
 // A session reads what its buffer puts and deletes, and asks for nothing; a key that it only locks, and a scan, are read from the store.

@@ -1,14 +1,14 @@
 //! Transactions in two phases, and sessions that only read.
 
 use super::Scenario;
+use std::test::Fail;
 use tx_stage::Act::{
-    Abort, Begin, BeginShort, Resolve, Commit, Declare, Deliver, Draw, Finish, Get, HeartBeat,
-    Prewrite, Put, Scan, Stop,
+    Abort, Begin, BeginShort, Commit, Declare, Deliver, Draw, Finish, Get, HeartBeat, Prewrite,
+    Put, Resolve, Scan, Stop,
 };
+use tx_stage::Way::{Holds, Loses, LosesReply, Plain, Repeats};
 use tx_stage::Who::{A, B};
 use tx_stage::{Step, played};
-use tx_stage::Way::{Holds, Loses, LosesReply, Plain, Repeats};
-use std::test::Fail;
 use tx_types::Mode::TwoPhase;
 
 // A transaction of one key, and a later read.

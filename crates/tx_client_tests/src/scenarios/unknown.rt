@@ -1,14 +1,14 @@
 //! Why an outcome is unknown: what sets a cause, and what clears it.
 
 use super::Scenario;
+use std::test::Fail;
 use tx_stage::Act::{
-    Abort, Begin, Resolve, Commit, Declare, Draw, Finish, Get, HeartBeat, Prewrite, Put, RaiseSafe,
+    Abort, Begin, Commit, Declare, Draw, Finish, Get, HeartBeat, Prewrite, Put, RaiseSafe, Resolve,
     Scan,
 };
+use tx_stage::Way::{Loses, LosesReply, Plain, Refuses};
 use tx_stage::Who::{A, B};
 use tx_stage::{Step, played};
-use tx_stage::Way::{Loses, LosesReply, Plain, Refuses};
-use std::test::Fail;
 use tx_types::Mode::{Async, TwoPhase};
 
 // The cause is answered.
