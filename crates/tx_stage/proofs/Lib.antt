@@ -2,3 +2,5 @@
 mod Fronts
 -- Of three regions one holds what a request speaks of.
 mod Holders
+-- A transaction of no session may declare two keys.
+mod Strays

@@ -3,16 +3,19 @@
 ghost use Rattle.std.specs.Prelude.{◌≡◌, [], All, IfSome, vec_len};
 ghost use Rattle.tx_journal.specs.Known.{AreRising};
 
+use crate::play::calls::{acts, key};
 use crate::post::{Post, Way};
-use crate::words::{OK, Said, by_change, by_collection, by_fault, by_outcome, by_phase, by_read};
+use crate::words::{OK, ORDER, Said, by_collection, by_outcome};
 use std::alloc::Global;
 use std::marker::Brand;
 use std::mem::replace;
-use tx_client::{Session, Terms};
+use tx_client::Session;
 use tx_journal::{Journal, Naming, Opened, Seat};
-use tx_types::{Key, Mode, Ts, Value};
+use tx_types::{Key, Mode};
 
+mod calls;
 mod others;
+mod stray;
 
 /// The two sessions of a scenario.
 #[derive(Clone, Copy)]
@@ -51,171 +54,14 @@ pub enum Act {
     RaiseSafe(u32, u64),
     /// The collector collects at this safe point.
     Collect(u64),
+    /// A transaction of no session begins, declares these two keys in two phases, and prewrites the second alone.
+    Stray(u8, u8),
     /// So many requests go plainly, before the one of which a later step says what becomes of it.
     Spare(u32),
 }
 
 /// A step: who acts, the act, what becomes of its request, and the word and the number that come of it.
 pub type Step = (Who, Act, Way, &'static str, u64);
-
-/// Where a call may not be made, or a session is not there.
-const ORDER: Said = ("order", 0);
-
-// The key of a digit.
-fn key(alloc: Global, digit: u8) -> Option<Key> {
-    Key::new(alloc, &[b'0'.wrapping_add(digit)]).ok()
-}
-
-// A session's own buffer.
-fn put<J: Naming>(alloc: Global, session: &mut Session<J>, digit: u8, value: u8) -> Said {
-    if session.is_declared() {
-        return ORDER;
-    }
-    let Some(key) = key(alloc, digit) else {
-        return ORDER;
-    };
-    match Value::new(alloc, &[b'0'.wrapping_add(value)]) {
-        Ok(value) => by_change(session.put(key, value)),
-        Err(fault) => {
-            drop(key);
-            by_fault(fault)
-        }
-    }
-}
-
-fn delete<J: Naming>(alloc: Global, session: &mut Session<J>, digit: u8) -> Said {
-    if session.is_declared() {
-        return ORDER;
-    }
-    match key(alloc, digit) {
-        Some(key) => by_change(session.delete(key)),
-        None => ORDER,
-    }
-}
-
-fn lock<J: Naming>(alloc: Global, session: &mut Session<J>, digit: u8) -> Said {
-    if session.is_declared() {
-        return ORDER;
-    }
-    match key(alloc, digit) {
-        Some(key) => by_change(session.lock(key)),
-        None => ORDER,
-    }
-}
-
-fn declare<J: Naming>(
-    alloc: Global,
-    session: &mut Session<J>,
-    mode: Mode,
-    most: Option<u64>,
-) -> Said {
-    if session.is_declared() {
-        return ORDER;
-    }
-    let max_commit = match most {
-        Some(most) => Some(Ts::new(most)),
-        None => None,
-    };
-    let terms = Terms {
-        mode,
-        ttl: 10,
-        max_commit,
-    };
-    by_change(session.declare(alloc, terms))
-}
-
-// Requests of a phase.
-fn prewrite<J: Naming>(alloc: Global, session: &mut Session<J>, post: &mut Post<J>) -> Said {
-    if session.is_declared() {
-        by_phase(session.prewrite_next(alloc, post))
-    } else {
-        ORDER
-    }
-}
-
-fn draw<J: Naming>(session: &mut Session<J>) -> Said {
-    if !session.can_draw() {
-        return ORDER;
-    }
-    match session.draw_commit() {
-        Ok(commit) => ("drawn", commit.get()),
-        Err(fault) => by_fault(fault),
-    }
-}
-
-fn commit<J: Naming>(session: &mut Session<J>, post: &mut Post<J>) -> Said {
-    if session.can_commit() {
-        by_phase(session.commit_next(post))
-    } else {
-        ORDER
-    }
-}
-
-fn abort<J: Naming>(session: &mut Session<J>, post: &mut Post<J>) -> Said {
-    if session.can_abort() {
-        by_phase(session.abort_next(post))
-    } else {
-        ORDER
-    }
-}
-
-fn heartbeat<J: Naming>(session: &mut Session<J>, ttl: u32, post: &mut Post<J>) -> Said {
-    if session.has_primary() {
-        by_phase(session.heartbeat(ttl, post))
-    } else {
-        ORDER
-    }
-}
-
-// Reads.
-fn get<J: Naming>(alloc: Global, session: &mut Session<J>, digit: u8, post: &mut Post<J>) -> Said {
-    let Some(key) = key(alloc, digit) else {
-        return ORDER;
-    };
-    let said = by_read(session.get(&key, post));
-    drop(key);
-    said
-}
-
-fn scan<J: Naming>(
-    alloc: Global,
-    session: &mut Session<J>,
-    from: u8,
-    to: u8,
-    limit: u32,
-    post: &mut Post<J>,
-) -> Said {
-    let Some(from) = key(alloc, from) else {
-        return ORDER;
-    };
-    let Some(to) = key(alloc, to) else {
-        drop(from);
-        return ORDER;
-    };
-    post.rise();
-    let said = by_read(session.scan(alloc, &from, &to, limit, post));
-    drop(from);
-    drop(to);
-    said
-}
-
-// What a session does by calls that leave it there.
-fn acts<J: Naming>(alloc: Global, session: &mut Session<J>, act: Act, post: &mut Post<J>) -> Said {
-    match act {
-        Act::Put(key, value) => put(alloc, session, key, value),
-        Act::Delete(key) => delete(alloc, session, key),
-        Act::Lock(key) => lock(alloc, session, key),
-        Act::Declare(mode, most) => declare(alloc, session, mode, most),
-        Act::Prewrite => prewrite(alloc, session, post),
-        Act::Draw => draw(session),
-        Act::Commit => commit(session, post),
-        Act::Abort => abort(session, post),
-        Act::HeartBeat(ttl) => heartbeat(session, ttl, post),
-        Act::Get(key) => get(alloc, session, key, post),
-        Act::Scan(from, to, limit) => scan(alloc, session, from, to, limit, post),
-        _ => ORDER,
-    }
-}
 
 // A seat with so few ticks left.
 fn shortened<J: Naming>(mut seat: Seat<J>, left: u32) -> Seat<J> {
@@ -325,6 +171,23 @@ impl<J: Naming> World<J> {
         said
     }
 
+    fn stray(&mut self, first: u8, second: u8) -> Said {
+        let Some(first) = key(self.alloc, first) else {
+            return ORDER;
+        };
+        let Some(second) = key(self.alloc, second) else {
+            drop(first);
+            return ORDER;
+        };
+        let said = match self.seats.pop() {
+            Some(mut seat) => stray::stray(self.alloc, &mut seat, &first, &second, &mut self.post),
+            None => ORDER,
+        };
+        drop(first);
+        drop(second);
+        said
+    }
+
     fn collect(&mut self, safe: u64) -> Said {
         by_collection(self.post.collect(&mut self.resolver, safe))
     }
@@ -347,6 +210,7 @@ impl<J: Naming> World<J> {
             Act::Learn => self.learn(who),
             Act::Resolve(now) => self.resolve(who, now),
             Act::Collect(safe) => self.collect(safe),
+            Act::Stray(first, second) => self.stray(first, second),
             Act::Spare(count) => {
                 self.post.spare(count);
                 OK

@@ -1,5 +1,5 @@
 //! What calls answer, in a word and a number. Keys and values are single digits here.
-use tx_client::{Miss, Status, WaitCause};
+use tx_client::{Came, Miss, Status, WaitCause};
 use tx_core::{Answer, Outcome, UnknownCause};
 use tx_resolve::Counts;
 use tx_types::{Fault, KeyValues};
@@ -9,6 +9,9 @@ pub type Said = (&'static str, u64);
 
 /// Nothing but that it went well.
 pub const OK: Said = ("ok", 0);
+
+/// Where a call may not be made, or a session is not there.
+pub const ORDER: Said = ("order", 0);
 
 // The digit that a key or a value is.
 fn digit(bytes: &[u8]) -> u64 {
@@ -83,6 +86,19 @@ pub fn by_phase(came: Result<Option<Answer>, Miss>) -> Said {
         }
         Ok(None) => ("done", 0),
         Err(miss) => by_miss(miss),
+    }
+}
+
+/// What comes of a request.
+pub fn by_came(came: Came) -> Said {
+    match came {
+        Came::Lost => ("lost", 0),
+        Came::Unsaid => ("E12", 0),
+        Came::Said(answer) => {
+            let said = by_answer(&answer);
+            drop(answer);
+            said
+        }
     }
 }
 

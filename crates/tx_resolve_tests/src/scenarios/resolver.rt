@@ -3,7 +3,7 @@
 use super::Scenario;
 use std::test::Fail;
 use tx_stage::Act::{
-    Begin, Collect, Commit, Declare, Deliver, Draw, Get, Prewrite, Put, Resolve, Stop,
+    Begin, Collect, Commit, Declare, Deliver, Draw, Get, Prewrite, Put, Resolve, Stop, Stray,
 };
 use tx_stage::Way::{Holds, Plain};
 use tx_stage::Who::{A, B};
@@ -146,6 +146,17 @@ const ONE_FALLEN_BACK: [Step; 13] = [
     (A, Commit, Plain, "E3", 0),
 ];
 
+// Nothing of the transaction stands on its primary: while the met lock lives the reader waits; then a rollback is left there.
+const NOT_FOUND: [Step; 7] = [
+    (A, Stray(1, 4), Plain, "prewritten", 0),
+    (B, Begin, Plain, "start", 2),
+    (B, Get(4), Plain, "E1", 4),
+    (B, Resolve(11), Plain, "waiting not found", 0),
+    (B, Get(4), Plain, "E1", 4),
+    (B, Resolve(12), Plain, "aborted", 0),
+    (B, Get(4), Plain, "none", 0),
+];
+
 // What stood of the transaction may have been collected: the reader waits.
 const BELOW_THE_SAFE_POINT: [Step; 9] = [
     (A, Begin, Plain, "start", 1),
@@ -159,7 +170,7 @@ const BELOW_THE_SAFE_POINT: [Step; 9] = [
     (B, Get(1), Plain, "none", 0),
 ];
 
-const SCENARIOS: [Scenario; 9] = [
+const SCENARIOS: [Scenario; 10] = [
     ("live", &LIVE),
     ("pushed", &PUSHED),
     ("expired two-phase", &EXPIRED_TWO_PHASE),
@@ -168,6 +179,7 @@ const SCENARIOS: [Scenario; 9] = [
     ("one missing", &ONE_MISSING),
     ("one committed", &ONE_COMMITTED),
     ("one fallen back", &ONE_FALLEN_BACK),
+    ("not found", &NOT_FOUND),
     ("below the safe point", &BELOW_THE_SAFE_POINT),
 ];
 
