@@ -1,5 +1,5 @@
 //! Every rule of the sessions as a small scenario. What comes of each step is told by the rules and the case tables.
-use crate::play::Step;
+use tx_stage::Step;
 
 mod asynchronous;
 mod limits;

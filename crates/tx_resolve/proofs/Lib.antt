@@ -8,3 +8,7 @@ pub mod Finding
 pub mod Greatest
 -- The other keys are asked one after another.
 pub mod Others
+-- Regions, and locks, are gone through one after another.
+pub mod Regions
+-- What may come of a collector's requests.
+pub mod Hearing

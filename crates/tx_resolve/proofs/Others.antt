@@ -25,8 +25,8 @@ all_keys (k ∷ keys) zero le = absurd (omega (arith, le))
 all_keys (k ∷ keys) (suc n) le = ap (λ ks. k ∷ ks) (all_keys keys n (omega (arith, le)))
 
 -- the first of what is left
-pub next_key : (keys : List Key) (i n : ℕ) (key : Key) → n ≡ i + 1 → i < length keys → key ≡ get_or keys i key → drop i keys ≡ key ∷ drop n keys
-next_key keys i n key is lt at = drop-cons keys i key lt ∙ (λ j. (sym at j) ∷ drop ((one ∙ sym is) j) keys)
+pub next_of : {X : Type 0} (xs : List X) (i n : ℕ) (x : X) → n ≡ i + 1 → i < length xs → x ≡ get_or xs i x → drop i xs ≡ x ∷ drop n xs
+next_of xs i n x is lt at = drop-cons xs i x lt ∙ (λ j. (sym at j) ∷ drop ((one ∙ sym is) j) xs)
   where
     one : suc i ≡ i + 1
     one = omega arith

@@ -1,4 +1,4 @@
--- What holds of what a resolver has found so far.
+-- What holds of what a resolver has found so far, and what may come of a collector's requests.
 use Rattle.std.specs.Prelude.{◌≡◌, ℕ, max, true, List, [], ◌∷◌}
 use Rattle.tx_types.specs.declared.key.Key.{Key}
 use Rattle.tx_types.specs.declared.lock.LockInfo.{LockInfo}
@@ -8,6 +8,9 @@ use Rattle.tx_core.specs.Histories.{History, set_at, is_first}
 use Rattle.tx_core.specs.Decisions.{decided, HasTwoPhaseLock}
 use Rattle.tx_core.specs.Worlds.{IsWorldRun}
 use Rattle.tx_core.specs.Laws.{WasToldOf, IsLockOf, HadAsyncLock}
+use Rattle.tx_plan.specs.declared.answer.Answer.TheVariants as answer
+use Rattle.tx_client.specs.declared.state.Came.{Came}
+use Rattle.tx_client.specs.declared.state.Came.TheVariants as came
 use Rattle.tx_client.specs.Statuses.{Ends}
 use Rattle.tx_resolve.specs.declared.found.Primary.{Primary}
 use Rattle.tx_resolve.specs.declared.found.Primary.TheVariants as primary
@@ -46,3 +49,27 @@ IsOther h t key (other.Ends found) = IsOthers h t found
 abbrev pub HadLocks : History → ℕ → List Key → ℕ → ℕ → Type 0
 HadLocks h t [] least most = most ≡ least
 HadLocks h t (key ∷ keys) least most = (minimum : ℕ) × HadAsyncLock h t key minimum × HadLocks h t keys (max least minimum) most
+
+-- ---- what may come of a collector's requests, where nothing is lost: an answer that the case tables have, or none
+
+abbrev pub IsToRaise : Came → Type 0
+IsToRaise came.Unsaid = Unit {0}
+IsToRaise (came.Said answer.Raised) = Unit {0}
+IsToRaise (came.Said (answer.BelowSafePoint safe)) = Unit {0}
+IsToRaise (came.Said (answer.FutureTimestamp last)) = Unit {0}
+IsToRaise _ = ⊥
+
+abbrev pub IsToList : Came → Type 0
+IsToList came.Unsaid = Unit {0}
+IsToList (came.Said (answer.Locks infos)) = Unit {0}
+IsToList _ = ⊥
+
+abbrev pub IsToDrop : Came → Type 0
+IsToDrop came.Unsaid = Unit {0}
+IsToDrop (came.Said (answer.Collected records values)) = Unit {0}
+IsToDrop (came.Said (answer.BelowSafePoint safe)) = Unit {0}
+IsToDrop _ = ⊥
+
+abbrev pub IsToCollect : Came → Type 0
+IsToCollect (came.Said (answer.LocksRemain info)) = Unit {0}
+IsToCollect c = IsToDrop c

@@ -1,2 +1,3 @@
 pub mod Resolving
+pub mod Collecting
 pub mod Facts

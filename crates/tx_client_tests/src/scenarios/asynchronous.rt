@@ -1,13 +1,13 @@
 //! Transactions that commit asynchronously.
 
 use super::Scenario;
-use crate::play::Act::{
-    Abort, Begin, Commit, Declare, Deliver, Draw, Finish, Get, Prewrite, Put, Scan,
-};
-use crate::play::Who::{A, B};
-use crate::play::{Step, played};
-use crate::post::Way::{Holds, LosesReply, Plain};
 use std::test::Fail;
+use tx_stage::Act::{
+    Abort, Begin, Commit, Declare, Deliver, Draw, Finish, Get, Prewrite, Put, Resolve, Scan,
+};
+use tx_stage::Way::{Holds, LosesReply, Plain};
+use tx_stage::Who::{A, B};
+use tx_stage::{Step, played};
 use tx_types::Mode::{Async, TwoPhase};
 
 // The last lock decides: a session may end before a commit is sent, and the commits that follow leave what is read.
@@ -203,7 +203,55 @@ const ABORT_FINDS_A_TWO_PHASE_LOCK: [Step; 14] = [
     (A, Finish, Plain, "ended committed", 3),
 ];
 
-const SCENARIOS: [Scenario; 11] = [
+// The reply to the last prewrite is lost, and a resolver commits both keys: the prewrite that is sent again is told so.
+const COMMIT_TOLD_BY_A_PREWRITE: [Step; 11] = [
+    (A, Begin, Plain, "start", 1),
+    (A, Put(1, 5), Plain, "ok", 0),
+    (A, Put(4, 6), Plain, "ok", 0),
+    (A, Declare(Async, None), Plain, "ok", 0),
+    (A, Prewrite, Plain, "prewritten", 2),
+    (A, Prewrite, LosesReply, "lost", 0),
+    (B, Begin, Plain, "start", 2),
+    (B, Get(4), Plain, "E1", 4),
+    (B, Resolve(100), Plain, "committed", 2),
+    (A, Prewrite, Plain, "E4", 2),
+    (A, Finish, Plain, "ended committed", 2),
+];
+
+// So is the check that an abort sends.
+const COMMIT_TOLD_BY_A_CHECK: [Step; 13] = [
+    (A, Begin, Plain, "start", 1),
+    (A, Put(1, 5), Plain, "ok", 0),
+    (A, Put(4, 6), Plain, "ok", 0),
+    (A, Declare(Async, None), Plain, "ok", 0),
+    (A, Prewrite, Plain, "prewritten", 2),
+    (A, Prewrite, LosesReply, "lost", 0),
+    (B, Begin, Plain, "start", 2),
+    (B, Get(4), Plain, "E1", 4),
+    (B, Resolve(100), Plain, "committed", 2),
+    (A, Abort, Plain, "committed", 2),
+    (A, Abort, Plain, "order", 0),
+    (A, Commit, Plain, "committed", 2),
+    (A, Finish, Plain, "ended committed", 2),
+];
+
+// A resolver finds the last key without a lock: its prewrite is told that the transaction is rolled back.
+const ROLLBACK_TOLD_BY_A_PREWRITE: [Step; 12] = [
+    (A, Begin, Plain, "start", 1),
+    (A, Put(1, 5), Plain, "ok", 0),
+    (A, Put(4, 6), Plain, "ok", 0),
+    (A, Declare(Async, None), Plain, "ok", 0),
+    (A, Prewrite, Plain, "prewritten", 2),
+    (B, Begin, Plain, "start", 2),
+    (B, Get(1), Plain, "E1", 1),
+    (B, Resolve(100), Plain, "aborted", 0),
+    (A, Prewrite, Plain, "E3", 0),
+    (A, Abort, Plain, "rolled-back", 0),
+    (A, Finish, Plain, "ended aborted", 0),
+    (B, Get(4), Plain, "none", 0),
+];
+
+const SCENARIOS: [Scenario; 14] = [
     ("committed by the last lock", &COMMITTED_BY_THE_LAST_LOCK),
     ("ends before its commits", &ENDS_BEFORE_ITS_COMMITS),
     ("at the greatest minimum", &AT_THE_GREATEST_MINIMUM),
@@ -218,6 +266,9 @@ const SCENARIOS: [Scenario; 11] = [
         "abort finds a two phase lock",
         &ABORT_FINDS_A_TWO_PHASE_LOCK,
     ),
+    ("commit told by a prewrite", &COMMIT_TOLD_BY_A_PREWRITE),
+    ("commit told by a check", &COMMIT_TOLD_BY_A_CHECK),
+    ("rollback told by a prewrite", &ROLLBACK_TOLD_BY_A_PREWRITE),
 ];
 
 #[test]

@@ -1,12 +1,12 @@
 //! How many keys a session takes: the refusal of one more leaves it as it was.
 ghost use Rattle.std.specs.Prelude.{◌≡◌};
 
-use crate::words::{OK, Said, by_change};
 use std::alloc::Global;
 use std::marker::Brand;
 use std::test::Fail;
 use tx_client::{Session, Terms};
 use tx_journal::{Naming, Opened, Seat};
+use tx_stage::{OK, Said, by_change};
 use tx_types::{Key, Mode, Value};
 
 // Puts the key of this number.

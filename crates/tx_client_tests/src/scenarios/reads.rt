@@ -1,14 +1,14 @@
 //! Reads.
 
 use super::Scenario;
-use crate::play::Act::{
-    Abort, Begin, Check, Commit, Declare, Delete, Draw, Get, Learn, Lock, Prewrite, Put, RaiseSafe,
-    Scan,
-};
-use crate::play::Who::{A, B};
-use crate::play::{Step, played};
-use crate::post::Way::{Loses, LosesReply, Plain, Refuses, RefusesSecond, Repeats};
 use std::test::Fail;
+use tx_stage::Act::{
+    Abort, Begin, Commit, Declare, Delete, Draw, Get, Learn, Lock, Prewrite, Put, RaiseSafe,
+    Resolve, Scan, Spare,
+};
+use tx_stage::Way::{Loses, LosesReply, Plain, Refuses, Repeats};
+use tx_stage::Who::{A, B};
+use tx_stage::{Step, played};
 use tx_types::Mode::{Async, TwoPhase};
 
 // A session reads what its buffer puts and deletes, and asks for nothing; a key that it only locks, and a scan, are read from the store.
@@ -59,7 +59,7 @@ const THREE_REGIONS: [Step; 24] = [
 ];
 
 // A scan whose second region is refused memory has no rows; the lost reply of the first ends it too.
-const SECOND_REGION_REFUSES: [Step; 15] = [
+const SECOND_REGION_REFUSES: [Step; 16] = [
     (A, Begin, Plain, "start", 1),
     (A, Put(1, 2), Plain, "ok", 0),
     (A, Put(4, 5), Plain, "ok", 0),
@@ -69,7 +69,8 @@ const SECOND_REGION_REFUSES: [Step; 15] = [
     (A, Commit, Plain, "committed", 2),
     (A, Commit, Plain, "committed", 2),
     (B, Begin, Plain, "start", 2),
-    (B, Scan(1, 9, 9), RefusesSecond, "E12", 0),
+    (B, Spare(1), Plain, "ok", 0),
+    (B, Scan(1, 9, 9), Refuses, "E12", 0),
     (B, Scan(1, 9, 9), LosesReply, "lost", 0),
     (B, Scan(1, 9, 9), Repeats, "rows", 1245),
     (B, Get(4), Refuses, "E12", 0),
@@ -87,7 +88,7 @@ const PASSES_A_PUSHED_LOCK: [Step; 12] = [
     (A, Prewrite, Plain, "prewritten", 0),
     (B, Begin, Plain, "start", 2),
     (B, Scan(1, 9, 9), Plain, "E1", 1),
-    (B, Check(5), Plain, "locked", 3),
+    (B, Resolve(5), Plain, "pushed", 3),
     (B, Get(1), Plain, "none", 0),
     (B, Get(4), Plain, "none", 0),
     (B, Scan(1, 9, 9), Plain, "rows", 0),

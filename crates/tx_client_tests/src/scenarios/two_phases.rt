@@ -1,14 +1,14 @@
 //! Transactions in two phases, and sessions that only read.
 
 use super::Scenario;
-use crate::play::Act::{
-    Abort, Begin, BeginShort, Check, Commit, Declare, Deliver, Draw, Finish, Get, HeartBeat,
-    Prewrite, Put, Scan, Stop,
-};
-use crate::play::Who::{A, B};
-use crate::play::{Step, played};
-use crate::post::Way::{Holds, Loses, LosesReply, Plain, Repeats};
 use std::test::Fail;
+use tx_stage::Act::{
+    Abort, Begin, BeginShort, Commit, Declare, Deliver, Draw, Finish, Get, HeartBeat, Prewrite,
+    Put, Resolve, Scan, Stop,
+};
+use tx_stage::Way::{Holds, Loses, LosesReply, Plain, Repeats};
+use tx_stage::Who::{A, B};
+use tx_stage::{Step, played};
 use tx_types::Mode::TwoPhase;
 
 // A transaction of one key, and a later read.
@@ -78,7 +78,7 @@ const SECOND_DRAW: [Step; 18] = [
     (A, Draw, Plain, "drawn", 2),
     (B, Begin, Plain, "start", 3),
     (B, Get(2), Plain, "E1", 2),
-    (B, Check(5), Plain, "locked", 4),
+    (B, Resolve(5), Plain, "pushed", 4),
     (B, Get(2), Plain, "none", 0),
     (A, Commit, Plain, "E5", 4),
     (A, Commit, Plain, "order", 0),
@@ -229,7 +229,7 @@ const ROLLBACK_TOLD_BY_A_COMMIT: [Step; 12] = [
     (A, Draw, Plain, "drawn", 2),
     (B, Begin, Plain, "start", 3),
     (B, Get(1), Plain, "E1", 1),
-    (B, Check(100), Plain, "rolled-back", 0),
+    (B, Resolve(100), Plain, "aborted", 0),
     (A, Commit, Plain, "E3", 0),
     (A, Commit, Plain, "order", 0),
     (A, Finish, Plain, "ended aborted", 0),
@@ -248,7 +248,7 @@ const HEARTBEAT: [Step; 15] = [
     (A, HeartBeat(15), Plain, "ttl", 20),
     (B, Begin, Plain, "start", 2),
     (B, Get(1), Plain, "E1", 1),
-    (B, Check(21), Plain, "locked", 3),
+    (B, Resolve(21), Plain, "pushed", 3),
     (A, HeartBeat(30), Loses, "lost", 0),
     (A, Draw, Plain, "drawn", 3),
     (A, Commit, Plain, "committed", 3),

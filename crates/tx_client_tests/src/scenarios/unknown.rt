@@ -1,14 +1,14 @@
 //! Why an outcome is unknown: what sets a cause, and what clears it.
 
 use super::Scenario;
-use crate::play::Act::{
-    Abort, Begin, Check, Commit, Declare, Draw, Finish, Get, HeartBeat, Prewrite, Put, RaiseSafe,
+use std::test::Fail;
+use tx_stage::Act::{
+    Abort, Begin, Commit, Declare, Draw, Finish, Get, HeartBeat, Prewrite, Put, RaiseSafe, Resolve,
     Scan,
 };
-use crate::play::Who::{A, B};
-use crate::play::{Step, played};
-use crate::post::Way::{Loses, LosesReply, Plain, Refuses};
-use std::test::Fail;
+use tx_stage::Way::{Loses, LosesReply, Plain, Refuses};
+use tx_stage::Who::{A, B};
+use tx_stage::{Step, played};
 use tx_types::Mode::{Async, TwoPhase};
 
 // The cause is answered.
@@ -153,7 +153,7 @@ const CLEARED_BY_A_REFUSED_COMMIT: [Step; 14] = [
     (A, Commit, Loses, "lost", 0),
     (B, Begin, Plain, "start", 3),
     (B, Get(1), Plain, "E1", 1),
-    (B, Check(5), Plain, "locked", 4),
+    (B, Resolve(5), Plain, "pushed", 4),
     (A, Commit, Plain, "E5", 4),
     (A, Finish, Plain, "not yet", 0),
     (A, Draw, Plain, "drawn", 4),

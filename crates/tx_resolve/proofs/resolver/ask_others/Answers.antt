@@ -7,7 +7,7 @@ use Rattle.tx_resolve.specs.Facts.{HadLocks}
 use Rattle.tx_resolve.proofs.Knowing.{sent_more}
 use Rattle.tx_resolve.proofs.Allowing.{other_allowed}
 use Rattle.tx_resolve.proofs.Greatest.{primarys_on, decided_greatest}
-use Rattle.tx_resolve.proofs.Others.{all_keys, next_key, took_key, more_asked, end_asked, more_locks}
+use Rattle.tx_resolve.proofs.Others.{all_keys, next_of, took_key, more_asked, end_asked, more_locks}
 use Rattle.tx_resolve.proofs.resolver.ask_others.Goals as goal
 
 pub ask_other-requires-clause-allowed : goal.ask_other-requires-clause-allowed
@@ -25,7 +25,7 @@ returns-in-Ends-clause-sends g c =
     let keys : List Key = c.as_slice-key-items.result.now in
     let i = c.loop-key.key-index in
     let t = c.args.met.now.start in
-    let left = next_key keys i (i + 1) c.key-item.result refl c.loop-key-test.true c.key-item.is in
+    let left = next_of keys i (i + 1) c.key-item.result refl c.loop-key-test.true c.key-item.is in
     subst (λ (ks : List Key). Sends g.S.Sender.sends g.J.Naming.bounds c.args.seat.now c.args.sender.now (others_walk t ks c.args.primary.now.min) c.in-Ends.found c.ask_other.new.sender c.ask_other.new.seat) items
     (end_asked g.S.Sender.sends g.J.Naming.bounds c.args.seat.now c.args.sender.now (others_walk t keys c.args.primary.now.min) t c.loop-key.seat c.loop-key.sender c.key-item.result (drop (i + 1) keys) (drop i keys) c.loop-key.most c.in-Ends.found c.ask_other.new.seat c.ask_other.new.sender left c.loop-key.invariant.sends c.in-Ends.ensures.sends)
 
@@ -39,7 +39,7 @@ loop-key-preserved g c =
     let m = c.in-Async.minimum in
     let l = c.loop-key.seat.events in
     let h = c.ask_other.new.seat.events in
-    let left = next_key keys i (i + 1) key refl c.loop-key-test.true c.key-item.is in
+    let left = next_of keys i (i + 1) key refl c.loop-key-test.true c.key-item.is in
     let took = took_key keys i (i + 1) key refl c.loop-key-test.true c.key-item.is in
     let more = sent_more g.S.Sender.sends bounds (other_walk t key) c.loop-key.seat c.ask_other.new.seat c.loop-key.sender c.ask_other.new.sender (other.Async m) c.loop-key.invariant.knows.run c.in-Async.ensures.sends in
     let goes = more_asked g.S.Sender.sends bounds c.args.seat.now c.args.sender.now (others_walk t keys c.args.primary.now.min) t c.loop-key.seat c.loop-key.sender key (drop (i + 1) keys) (drop i keys) c.loop-key.most m c.ask_other.new.seat c.ask_other.new.sender left c.loop-key.invariant.sends c.in-Async.ensures.sends in
