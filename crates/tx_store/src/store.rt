@@ -1,5 +1,5 @@
 //! Regions, each behind a lock of its own.
-ghost use Rattle.std.specs.Prelude.{◌≡◌, ℕ, ◌+◌, ◌<◌, ◌≤◌, [], All, Some, IfErr, length, slice_get, vec_len};
+ghost use Rattle.std.specs.Prelude.{◌≡◌, ℕ, ◌+◌, ◌<◌, ◌≤◌, [], All, Some, IfErr, IfOk, length, slice_get, vec_len};
 ghost use Rattle.tx_types.specs.declared.key.Key.{Key};
 ghost use Rattle.tx_types.specs.declared.fault.Fault.TheVariants.{OutOfMemory};
 ghost use Rattle.tx_cells.specs.Contents.{nothing_held};
@@ -7,11 +7,12 @@ ghost use Rattle.tx_core.specs.Worlds.{Holds, route};
 ghost use Rattle.tx_journal.specs.Known.{Known, AreRising};
 ghost use Rattle.tx_client.specs.Senders.{IsHeld};
 
+use crate::seats::split_seats;
 use std::alloc::Global;
 use std::sync::{Mutex, Wait};
 use tx_cells::Families;
 use tx_core::{Body, RegionNo};
-use tx_journal::{Journal, Naming, Reply, Request, Seat};
+use tx_journal::{Journal, Naming, Opened, Reply, Request, Seat};
 use tx_region::{Region, route};
 use tx_types::{Fault, Key};
 
@@ -51,6 +52,26 @@ impl<J: Naming, F: Families + Drop> Store<J, F> {
             journal: journal.clone()?,
             regions,
         })
+    }
+
+    /// A store over the regions of a journal that was just opened, with families that hold nothing, and the seats for sessions.
+    /// `OutOfMemory` drops what was handed in.
+    pub fn open(
+        alloc: Global,
+        opened: Opened,
+        families: Vec<F>,
+    ) -> Result<(Store<J, F>, Vec<Seat<J>>), Fault>
+        requires name { (opened.table ≡ J.table) × (opened.bounds ≡ J.bounds) × (opened.seats ≡ J.seats) }
+        requires few { (length J.bounds < 1024) × (length J.bounds < J.seats) }
+        requires count { vec_len families ≡ length J.bounds + 1 }
+        requires empty { All (λ f. F.content f ≡ (λ k. nothing_held)) families.items }
+        ensures sessions { IfOk result (λ r. length J.bounds + 1 + vec_len r.1 ≡ J.seats) }
+        ensures err { IfErr result (λ e. e ≡ OutOfMemory) }
+    {
+        let (journal, seats) = opened.named::<J>(alloc)?;
+        let (seats, sessions) = split_seats(&journal, seats)?;
+        let store = Store::new(alloc, &journal, seats, families)?;
+        Ok((store, sessions))
     }
 
     /// The keys between its regions, rising.
