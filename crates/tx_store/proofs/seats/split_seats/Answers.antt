@@ -1,4 +1,4 @@
-use Rattle.std.proofs.Common.{◌≡◌, ◌≤◌, ◌+◌, length, ap, arith}
+use Rattle.std.proofs.Common.{length, ap, arith}
 use Rattle.tx_store.proofs.Making.{are_dealt, dealt_in_front}
 use Rattle.tx_store.proofs.seats.split_seats.Goals as goal
 
