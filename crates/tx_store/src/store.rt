@@ -16,11 +16,19 @@ use tx_journal::{Journal, Naming, Opened, Reply, Request, Seat};
 use tx_region::{Region, route};
 use tx_types::{Fault, Key};
 
+/// A region behind its lock. Two locks lie in different lines of memory, so that threads in two regions do not write the same
+/// line.
+#[derive(Drop)]
+struct Locked<J: Naming, F: Families> {
+    region: Mutex<Region<J, F>>,
+    apart: [u64; 16],
+}
+
 /// The regions of a journal. What lies under a lock is known by its type alone, and not by its place.
 #[derive(Drop)]
 pub struct Store<J: Naming, F: Families> {
     journal: Journal<J>,
-    regions: Vec<Mutex<Region<J, F>>>,
+    regions: Vec<Locked<J, F>>,
     ghost few: { length J.bounds < 1024 },
     ghost each: { vec_len regions ≡ length J.bounds + 1 },
 }
@@ -46,7 +54,10 @@ impl<J: Naming, F: Families + Drop> Store<J, F> {
                 unreachable!()
             };
             let region = Region::new(alloc, journal.clone()?, seat, empty);
-            regions.push(Mutex::new(region))?;
+            regions.push(Locked {
+                region: Mutex::new(region),
+                apart: [0; 16],
+            })?;
         }
         Ok(Store {
             journal: journal.clone()?,
@@ -125,7 +136,7 @@ impl<J: Naming, F: Families + Drop> Store<J, F> {
     {
         let place = self.place_of(request.body());
         for _ in rt.forever() {
-            let mut region = self.regions[place].lock(rt);
+            let mut region = self.regions[place].region.lock(rt);
             if region.holds(request.body()) {
                 return region.take(request);
             }
