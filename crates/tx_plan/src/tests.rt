@@ -12,7 +12,13 @@ fn get(alloc: Global) -> Result<Body, Fault> {
 
 fn is_copied(alloc: Global) -> bool {
     match get(alloc) {
-        Ok(body) => body.clone().is_ok(),
+        Ok(body) => {
+            let copy = body.clone();
+            drop(body);
+            let is = copy.is_ok();
+            drop(copy);
+            is
+        }
         Err(_) => false,
     }
 }

@@ -2,6 +2,7 @@
 //! has one.
 #![tactic(auto)]
 
+mod seats;
 mod store;
 #[cfg(test)]
 mod tests;

@@ -1,5 +1,5 @@
 //! Regions, each behind a lock of its own.
-ghost use Rattle.std.specs.Prelude.{◌≡◌, ℕ, ◌+◌, ◌<◌, ◌≤◌, [], All, Some, IfErr, length, slice_get, vec_len};
+ghost use Rattle.std.specs.Prelude.{◌≡◌, ℕ, ◌+◌, ◌<◌, ◌≤◌, [], All, Some, IfErr, IfOk, length, slice_get, vec_len};
 ghost use Rattle.tx_types.specs.declared.key.Key.{Key};
 ghost use Rattle.tx_types.specs.declared.fault.Fault.TheVariants.{OutOfMemory};
 ghost use Rattle.tx_cells.specs.Contents.{nothing_held};
@@ -7,19 +7,28 @@ ghost use Rattle.tx_core.specs.Worlds.{Holds, route};
 ghost use Rattle.tx_journal.specs.Known.{Known, AreRising};
 ghost use Rattle.tx_client.specs.Senders.{IsHeld};
 
+use crate::seats::split_seats;
 use std::alloc::Global;
 use std::sync::{Mutex, Wait};
 use tx_cells::Families;
 use tx_core::{Body, RegionNo};
-use tx_journal::{Journal, Naming, Reply, Request, Seat};
+use tx_journal::{Journal, Naming, Opened, Reply, Request, Seat};
 use tx_region::{Region, route};
 use tx_types::{Fault, Key};
+
+/// A region behind its lock. Two locks lie in different lines of memory, so that threads in two regions do not write the same
+/// line.
+#[derive(Drop)]
+struct Locked<J: Naming, F: Families> {
+    region: Mutex<Region<J, F>>,
+    apart: [u64; 16],
+}
 
 /// The regions of a journal. What lies under a lock is known by its type alone, and not by its place.
 #[derive(Drop)]
 pub struct Store<J: Naming, F: Families> {
     journal: Journal<J>,
-    regions: Vec<Mutex<Region<J, F>>>,
+    regions: Vec<Locked<J, F>>,
     ghost few: { length J.bounds < 1024 },
     ghost each: { vec_len regions ≡ length J.bounds + 1 },
 }
@@ -45,12 +54,35 @@ impl<J: Naming, F: Families + Drop> Store<J, F> {
                 unreachable!()
             };
             let region = Region::new(alloc, journal.clone()?, seat, empty);
-            regions.push(Mutex::new(region))?;
+            regions.push(Locked {
+                region: Mutex::new(region),
+                apart: [0; 16],
+            })?;
         }
         Ok(Store {
             journal: journal.clone()?,
             regions,
         })
+    }
+
+    /// A store over the regions of a journal that was just opened, with families that hold nothing, and the seats for sessions.
+    /// `OutOfMemory` drops what was handed in.
+    pub fn open(
+        alloc: Global,
+        opened: Opened,
+        families: Vec<F>,
+    ) -> Result<(Store<J, F>, Vec<Seat<J>>), Fault>
+        requires name { (opened.table ≡ J.table) × (opened.bounds ≡ J.bounds) × (opened.seats ≡ J.seats) }
+        requires few { (length J.bounds < 1024) × (length J.bounds < J.seats) }
+        requires count { vec_len families ≡ length J.bounds + 1 }
+        requires empty { All (λ f. F.content f ≡ (λ k. nothing_held)) families.items }
+        ensures sessions { IfOk result (λ r. length J.bounds + 1 + vec_len r.1 ≡ J.seats) }
+        ensures err { IfErr result (λ e. e ≡ OutOfMemory) }
+    {
+        let (journal, seats) = opened.named::<J>(alloc)?;
+        let (seats, sessions) = split_seats(&journal, seats)?;
+        let store = Store::new(alloc, &journal, seats, families)?;
+        Ok((store, sessions))
     }
 
     /// The keys between its regions, rising.
@@ -104,7 +136,7 @@ impl<J: Naming, F: Families + Drop> Store<J, F> {
     {
         let place = self.place_of(request.body());
         for _ in rt.forever() {
-            let mut region = self.regions[place].lock(rt);
+            let mut region = self.regions[place].region.lock(rt);
             if region.holds(request.body()) {
                 return region.take(request);
             }

@@ -2,4 +2,4 @@ use Rattle.example_sessions.proofs.main.Given as goal
 
 -- the journal that was just opened
 abbrev pub ghosts-run : goal.ghosts-run
-ghosts-run a = record { table = a.opened.table; bounds = a.opened.bounds; seats = a.opened.seats }
+ghosts-run g a = record { table = a.opened.table; bounds = a.opened.bounds; seats = a.opened.seats }

@@ -28,15 +28,16 @@ fn body(rt: &HostRuntime, row: Row) -> Result<BatchRollback, Fault> {
     Ok(BatchRollback { key, start })
 }
 
-fn plans(body: &BatchRollback, row: Row) -> bool {
+fn plans(body: BatchRollback, row: Row) -> bool {
     let (_, seen, answer, change) = row;
-    let given = plan_batch_rollback(&view_of(seen), Ts::new(3), body);
-    is_plan(&given, answer, change)
+    let given = plan_batch_rollback(&view_of(seen), Ts::new(3), &body);
+    drop(body);
+    is_plan(given, answer, change)
 }
 
 fn holds(rt: &HostRuntime, row: Row) -> bool {
     match body(rt, row) {
-        Ok(body) => plans(&body, row),
+        Ok(body) => plans(body, row),
         Err(_) => false,
     }
 }

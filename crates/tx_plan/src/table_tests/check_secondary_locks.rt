@@ -26,15 +26,16 @@ fn body(rt: &HostRuntime, row: Row) -> Result<CheckSecondaryLocks, Fault> {
     Ok(CheckSecondaryLocks { key, start })
 }
 
-fn plans(body: &CheckSecondaryLocks, row: Row) -> bool {
+fn plans(body: CheckSecondaryLocks, row: Row) -> bool {
     let (_, seen, answer, change) = row;
-    let given = plan_check_secondary_locks(&view_of(seen), Ts::new(3), body);
-    is_plan(&given, answer, change)
+    let given = plan_check_secondary_locks(&view_of(seen), Ts::new(3), &body);
+    drop(body);
+    is_plan(given, answer, change)
 }
 
 fn holds(rt: &HostRuntime, row: Row) -> bool {
     match body(rt, row) {
-        Ok(body) => plans(&body, row),
+        Ok(body) => plans(body, row),
         Err(_) => false,
     }
 }

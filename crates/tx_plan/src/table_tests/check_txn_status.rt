@@ -60,15 +60,16 @@ fn body(rt: &HostRuntime, row: Row) -> Result<CheckTxnStatus, Fault> {
     })
 }
 
-fn plans(body: &CheckTxnStatus, row: Row) -> bool {
+fn plans(body: CheckTxnStatus, row: Row) -> bool {
     let (_, _, _, seen, answer, change) = row;
-    let given = plan_check_txn_status(&view_of(seen), Ts::new(3), Ts::new(20), body);
-    is_plan(&given, answer, change)
+    let given = plan_check_txn_status(&view_of(seen), Ts::new(3), Ts::new(20), &body);
+    drop(body);
+    is_plan(given, answer, change)
 }
 
 fn holds(rt: &HostRuntime, row: Row) -> bool {
     match body(rt, row) {
-        Ok(body) => plans(&body, row),
+        Ok(body) => plans(body, row),
         Err(_) => false,
     }
 }

@@ -1,5 +1,5 @@
 //! The rows of Collect that need no lock and no record.
-use crate::table_tests::shown::{BELOW, SAME, Short, answer, is};
+use crate::table_tests::shown::{BELOW, SAME, Short, answer_of, is};
 use crate::{Collect, RegionNo, collect_refusal};
 use tx_types::Ts;
 
@@ -14,7 +14,7 @@ fn refusal(safe: u64) -> Short {
         safe: Ts::new(safe),
     };
     match collect_refusal(Ts::new(3), &body) {
-        Some(refusal) => answer(&refusal),
+        Some(refusal) => answer_of(refusal),
         None => SAME,
     }
 }

@@ -29,15 +29,16 @@ fn body(rt: &HostRuntime, row: Row) -> Result<request::Commit, Fault> {
     Ok(request::Commit { key, start, commit })
 }
 
-fn plans(body: &request::Commit, row: Row) -> bool {
+fn plans(body: request::Commit, row: Row) -> bool {
     let (_, _, seen, answer, change) = row;
-    let given = plan_commit(&view_of(seen), Ts::new(3), body);
-    is_plan(&given, answer, change)
+    let given = plan_commit(&view_of(seen), Ts::new(3), &body);
+    drop(body);
+    is_plan(given, answer, change)
 }
 
 fn holds(rt: &HostRuntime, row: Row) -> bool {
     match body(rt, row) {
-        Ok(body) => plans(&body, row),
+        Ok(body) => plans(body, row),
         Err(_) => false,
     }
 }

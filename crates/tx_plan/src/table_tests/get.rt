@@ -47,22 +47,26 @@ fn value(rt: &HostRuntime, row: Row) -> Result<Option<Value>, Fault> {
     Ok(None)
 }
 
-fn plans(value: Option<Value>, body: &Get, row: Row) -> bool {
+fn plans(value: Option<Value>, body: Get, row: Row) -> bool {
     let lock = lock_of(row.2);
-    let given = plan_get(ReadView { lock, value }, Ts::new(3), Ts::new(20), body);
-    is_read(&given, row.4, row.5)
+    let given = plan_get(ReadView { lock, value }, Ts::new(3), Ts::new(20), &body);
+    drop(body);
+    is_read(given, row.4, row.5)
 }
 
-fn reads(rt: &HostRuntime, body: &Get, row: Row) -> bool {
+fn reads(rt: &HostRuntime, body: Get, row: Row) -> bool {
     match value(rt, row) {
         Ok(value) => plans(value, body, row),
-        Err(_) => false,
+        Err(_) => {
+            drop(body);
+            false
+        }
     }
 }
 
 fn holds(rt: &HostRuntime, row: Row) -> bool {
     match body(rt, row) {
-        Ok(body) => reads(rt, &body, row),
+        Ok(body) => reads(rt, body, row),
         Err(_) => false,
     }
 }

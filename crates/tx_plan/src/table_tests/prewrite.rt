@@ -89,15 +89,16 @@ fn body(rt: &HostRuntime, row: Row) -> Result<Prewrite, Fault> {
     })
 }
 
-fn plans(body: &Prewrite, row: Row) -> bool {
+fn plans(body: Prewrite, row: Row) -> bool {
     let (_, _, _, seen, answer, change) = row;
-    let given = plan_prewrite(&view_of(seen), Ts::new(3), Ts::new(20), Ts::new(11), body);
-    is_plan(&given, answer, change)
+    let given = plan_prewrite(&view_of(seen), Ts::new(3), Ts::new(20), Ts::new(11), &body);
+    drop(body);
+    is_plan(given, answer, change)
 }
 
 fn holds(rt: &HostRuntime, row: Row) -> bool {
     match body(rt, row) {
-        Ok(body) => plans(&body, row),
+        Ok(body) => plans(body, row),
         Err(_) => false,
     }
 }

@@ -1,6 +1,6 @@
 //! The rows of RaiseSafe.
 use crate::table_tests::shown::Word::*;
-use crate::table_tests::shown::{BELOW, FUTURE, Short, answer, is};
+use crate::table_tests::shown::{BELOW, FUTURE, Short, answer_of, is};
 use crate::{RaiseSafe, RegionNo, plan_raise_safe};
 use tx_types::Ts;
 
@@ -17,7 +17,7 @@ fn holds(row: Row) -> bool {
         safe: Ts::new(row.0),
     };
     let plan = plan_raise_safe(Ts::new(3), Ts::new(20), &body);
-    is(answer(&plan.answer), row.1) && plan.safe.get() == row.2
+    is(answer_of(plan.answer), row.1) && plan.safe.get() == row.2
 }
 
 #[test]

@@ -38,15 +38,16 @@ fn body(rt: &HostRuntime, row: Row) -> Result<ResolveLock, Fault> {
     Ok(ResolveLock { key, start, fate })
 }
 
-fn plans(body: &ResolveLock, row: Row) -> bool {
+fn plans(body: ResolveLock, row: Row) -> bool {
     let (_, _, seen, answer, change) = row;
-    let given = plan_resolve_lock(&view_of(seen), Ts::new(3), body);
-    is_plan(&given, answer, change)
+    let given = plan_resolve_lock(&view_of(seen), Ts::new(3), &body);
+    drop(body);
+    is_plan(given, answer, change)
 }
 
 fn holds(rt: &HostRuntime, row: Row) -> bool {
     match body(rt, row) {
-        Ok(body) => plans(&body, row),
+        Ok(body) => plans(body, row),
         Err(_) => false,
     }
 }

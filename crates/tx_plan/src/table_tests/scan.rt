@@ -1,6 +1,6 @@
 //! The rows of Scan that need no key.
 use crate::table_tests::shown::Word::*;
-use crate::table_tests::shown::{BELOW, FUTURE, SAME, Short, answer, is, is_read};
+use crate::table_tests::shown::{BELOW, FUTURE, SAME, Short, answer_of, is, is_read};
 use crate::{Answer, Scan, Starts, plan_scan, scan_refusal};
 use tx_types::{Fault, Key, KeyValues, Ts};
 
@@ -21,16 +21,18 @@ fn body(rt: &HostRuntime, at: u64) -> Result<Scan, Fault> {
     })
 }
 
-fn refusal(body: &Scan) -> Short {
-    match scan_refusal(Ts::new(3), Ts::new(20), body) {
-        Some(refusal) => answer(&refusal),
+fn refusal(body: Scan) -> Short {
+    let refusal = scan_refusal(Ts::new(3), Ts::new(20), &body);
+    drop(body);
+    match refusal {
+        Some(refusal) => answer_of(refusal),
         None => SAME,
     }
 }
 
 fn holds(rt: &HostRuntime, row: Row) -> bool {
     match body(rt, row.0) {
-        Ok(body) => is(refusal(&body), row.1),
+        Ok(body) => is(refusal(body), row.1),
         Err(_) => false,
     }
 }
@@ -42,12 +44,16 @@ fn rows_of_a_refused_scan(rt: HostRuntime) {
     }
 }
 
+fn plans(rt: &HostRuntime, body: Scan, at: u64) -> bool {
+    let rows = KeyValues::new(rt.alloc());
+    let given = plan_scan(Answer::Rows(rows), &body);
+    drop(body);
+    is_read(given, (Rows, 0, 0), at)
+}
+
 fn counts(rt: &HostRuntime, at: u64) -> bool {
     match body(rt, at) {
-        Ok(body) => {
-            let rows = KeyValues::new(rt.alloc());
-            is_read(&plan_scan(Answer::Rows(rows), &body), (Rows, 0, 0), at)
-        }
+        Ok(body) => plans(rt, body, at),
         Err(_) => false,
     }
 }

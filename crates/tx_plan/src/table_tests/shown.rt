@@ -71,8 +71,15 @@ fn refusal(answer: &Answer) -> Short {
     }
 }
 
-/// An answer.
-pub fn answer(answer: &Answer) -> Short {
+/// An answer of which nothing else is asked.
+pub fn answer_of(given: Answer) -> Short {
+    let short = answer(&given);
+    drop(given);
+    short
+}
+
+// An answer.
+fn answer(answer: &Answer) -> Short {
     match answer {
         Answer::Found(value) => (Word::Found, value.as_bytes().len() as u64, 0),
         Answer::Nothing => (Word::Nothing, 0, 0),
@@ -132,15 +139,20 @@ fn change(change: KeyChange) -> Short {
 }
 
 /// Whether a plan gives this answer and this change.
-pub fn is_plan(given: &Planned, wanted: Short, makes: Short) -> bool {
-    is(planned(&given.answer), wanted) && is(change(given.change), makes)
+pub fn is_plan(given: Planned, wanted: Short, makes: Short) -> bool {
+    let answered = planned(&given.answer);
+    let changed = change(given.change);
+    drop(given);
+    is(answered, wanted) && is(changed, makes)
 }
 
 /// Whether a plan gives this answer, and counts as a read at this timestamp; 0 is none.
-pub fn is_read(given: &Planned, wanted: Short, read: u64) -> bool {
+pub fn is_read(given: Planned, wanted: Short, read: u64) -> bool {
+    let answered = planned(&given.answer);
     let at = match given.read {
         Some(at) => at.get(),
         None => 0,
     };
-    is(planned(&given.answer), wanted) && at == read
+    drop(given);
+    is(answered, wanted) && at == read
 }

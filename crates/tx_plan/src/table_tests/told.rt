@@ -25,28 +25,46 @@ fn lock(rt: &HostRuntime) -> Result<LockRec, Fault> {
 }
 
 fn info(rt: &HostRuntime) -> Result<LockInfo, Fault> {
+    let lock = lock(rt)?;
+    let info = told(rt, &lock);
+    drop(lock);
+    info
+}
+
+fn told(rt: &HostRuntime, lock: &LockRec) -> Result<LockInfo, Fault> {
     let key = key(rt)?;
-    lock(rt)?.info(rt.alloc(), &key)
+    let info = lock.info(rt.alloc(), &key);
+    drop(key);
+    info
 }
 
 fn is_told(info: &LockInfo, min: u64) -> bool {
     let keys = info.key.as_bytes() == b"k".as_slice() && info.primary.as_bytes() == b"p".as_slice();
     let kinds = info.kind == LockKind::Delete && info.mode == Mode::Async;
     let times = info.start.get() == 5 && info.min.get() == min && info.ttl == 10;
-    keys && kinds && times && info.secondaries.as_slice().len() == 1
+    let others = match info.secondaries.as_slice() {
+        [other] => other.as_bytes() == b"b".as_slice(),
+        _ => false,
+    };
+    keys && kinds && times && others
 }
 
-fn names(answer: &Answer, min: u64) -> bool {
-    match answer {
+fn names(answer: Answer, min: u64) -> bool {
+    let told = match &answer {
         Answer::KeyIsLocked(info) | Answer::Locked(info) => is_told(info, min),
         _ => false,
-    }
+    };
+    drop(answer);
+    told
 }
 
 fn tells(rt: &HostRuntime, planned: PlannedAnswer, min: u64) -> bool {
     match info(rt) {
-        Ok(info) => names(&planned.with_lock(Some(info)), min),
-        Err(_) => false,
+        Ok(info) => names(planned.with_lock(Some(info)), min),
+        Err(_) => {
+            drop(planned);
+            false
+        }
     }
 }
 

@@ -26,15 +26,16 @@ fn body(rt: &HostRuntime, row: Row) -> Result<TxnHeartBeat, Fault> {
     Ok(TxnHeartBeat { key, start, ttl })
 }
 
-fn plans(body: &TxnHeartBeat, row: Row) -> bool {
+fn plans(body: TxnHeartBeat, row: Row) -> bool {
     let (_, _, seen, answer, change) = row;
-    let given = plan_txn_heart_beat(&view_of(seen), Ts::new(3), body);
-    is_plan(&given, answer, change)
+    let given = plan_txn_heart_beat(&view_of(seen), Ts::new(3), &body);
+    drop(body);
+    is_plan(given, answer, change)
 }
 
 fn holds(rt: &HostRuntime, row: Row) -> bool {
     match body(rt, row) {
-        Ok(body) => plans(&body, row),
+        Ok(body) => plans(body, row),
         Err(_) => false,
     }
 }

@@ -1,6 +1,5 @@
 use Rattle.std.proofs.Common.{◌≡◌, ◌+◌, ◌≤◌, [], length, vec_len}
 use Rattle.std.specs.Prelude.{All}
-use Rattle.tx_types.specs.declared.key.Key.{Key}
 use Rattle.tx_cells.specs.Contents.{nothing_held}
 use Rattle.tx_journal.specs.Known.{Known}
 use Rattle.tx_store.proofs.store.Store.new.Given as goal
