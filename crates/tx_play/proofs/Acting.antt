@@ -91,11 +91,11 @@ module _ (bounds : List Key) (from to : Desk) (k l m : Known) (heard : HasHeard 
         omega (arith, learnt, one, here, regions_same));
     seat = d.number ∙ heard.number;
     ticks = (let a = d.ticks in let b = heard.ticks in omega (arith, a, b));
-    grows = omega (arith, drawn_grows bounds l.seat n l.events heard.knows t m.events d.drawn, ap length newest);
+    grows = omega (arith, drawn_grows bounds l.seat n l.events heard.knows 1 t m.events d.drawn, ap length newest);
     exact = λ le.
         (let few : length m.events ≤ length n + 1 = omega (arith, le, ap length newest) in
-        let at : t ≡ last n + 1 = drawn_number bounds l.seat n l.events heard.knows t m.events d.drawn few in
-        (at, newest ∙ (drawn_alone bounds l.seat n l.events heard.knows t m.events d.drawn few ∙ (λ i. Drawn (heard.number i) (at i) ∷ n))));
+        let at : t ≡ last n + 1 = drawn_number bounds l.seat n l.events heard.knows 1 t m.events d.drawn few in
+        (at, newest ∙ (drawn_alone bounds l.seat n l.events heard.knows 1 t m.events d.drawn few ∙ (λ i. Drawn (heard.number i) (at i) ∷ n))));
   }
 
   -- it draws, and a session begins

@@ -1,9 +1,10 @@
 -- Histories only grow as steps are played.
-use Rattle.std.proofs.Common.{ℕ, ◌+◌, ◌&&◌, Bool, true, false, not, cond, inr, List, [], ◌∷◌, Option, Some, None, is_some, sym, subst}
+use Rattle.std.proofs.Common.{ℕ, ◌+◌, ◌&&◌, Bool, true, false, not, cond, inr, List, [], ◌∷◌, Option, Some, None, is_some, nat_eq, nat_le, sym, subst}
 use Rattle.tx_types.specs.declared.fault.Cause.{Cause}
 use Rattle.tx_types.specs.declared.fault.Cause.TheVariants as cause
 use Rattle.tx_types.specs.declared.key.Key.{Key}
 use Rattle.tx_plan.specs.declared.body.Body.{Body}
+use Rattle.tx_plan.specs.declared.body.Body.TheVariants as request
 use Rattle.tx_plan.specs.declared.answer.Answer.{Answer}
 use Rattle.tx_core.specs.declared.event.Declaration.{Declaration}
 use Rattle.tx_core.specs.declared.event.Outcome.{Outcome}
@@ -20,8 +21,8 @@ use Rattle.tx_play.specs.declared.post.Way.TheVariants.{Plain, Lose, LoseReply, 
 use Rattle.tx_play.specs.declared.step.Reply.{Reply}
 use Rattle.tx_play.specs.declared.step.Reply.TheVariants as reply
 use Rattle.tx_play.specs.Posts.{Stage, taken}
-use Rattle.tx_play.specs.Steps.{Deed, put, delete, lock, get, scan, declare, prewrite, draw, commit, abort, heartbeat, Call, begin, acts, finish, stop}
-use Rattle.tx_play.specs.Scenes.{Scene, Turn, goes, inquires, stops, is_refused, later_of, calls, is_key, is_value, is_name, at_stage, at_history, with_session, began, declared_in, read_by, said_by, asked, sent, runs, runs_to, first_free, live_at, enters, deeds, finishes_by, begins_at, in_session, turn}
+use Rattle.tx_play.specs.Steps.{Deed, put, delete, lock, get, scan, declare, prewrite, draw, commit, abort, heartbeat, Call, begin, acts, finish, stop, read, tick}
+use Rattle.tx_play.specs.Scenes.{Scene, Turn, goes, inquires, stops, is_refused, later_of, calls, is_key, is_value, is_name, at_stage, at_history, with_session, began, declared_in, read_by, said_by, came_as, asked, sent, runs, runs_to, first_free, live_at, enters, deeds, finishes_by, begins_at, in_session, turn}
 use Rattle.tx_play.specs.Plays.{Leads, Played, Plays}
 
 -- Whatever a turn leads to, and wherever it asks a region, h has happened there; it stops at most where `from` has happened.
@@ -120,6 +121,10 @@ module _ (bounds : List Key) where
     turn_grows refused (acts name deed) = session_grows (live_at scene name) _ (λ k s. deed_grows refused k s deed)
     turn_grows refused (finish name) = session_grows (live_at scene name) _ (λ k s. finish_grows refused k s name (finish_of s))
     turn_grows refused (stop name) = session_grows (live_at scene name) _ (λ k s. inr (begins_all h))
+    turn_grows refused (read key at) =
+        either h h (not (is_key key)) _ _ (begins_all h) (calls_grow refused (λ left. asked bounds left scene (request.Get (record { key = key; at = at; bypass = [] })) (λ c next rest. goes next (came_as c) rest))
+        (λ left. asked_grows bounds h left scene (request.Get (record { key = key; at = at; bypass = [] })) (λ c next rest. goes next (came_as c) rest) (λ c next rest. begins_all next.stage.history)))
+    turn_grows refused (tick n) = either h h (nat_eq n 0) _ _ (begins_all h) (either h h (nat_le n scene.ticks) _ _ (inr (begins_all h)) (begins_all h))
 
   -- ---- plays
 

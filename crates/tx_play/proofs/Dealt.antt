@@ -73,8 +73,8 @@ module _ (bounds : List Key) (e : Held) (regions : List Known) (clerk : Known) (
 
   pub opens : IsOpening e
   opens = record {
-    scene = (let count : map place_of e.places ≡ replicate (length e.places) free = ap (map place_of) places ∙ (all_free seats ∙ ap (λ n. replicate n free) (sym sized)) in
-        λ i. record { stage = record { history = newest i }; names = λ q. name_at (names i) q; places = count i });
+    scene = (let ticks : e.clerk.ticks ≡ 4294967296 = ap (λ (k : Known). k.ticks) (at_clerk ∙ all.0) in let count : map place_of e.places ≡ replicate (length e.places) free = ap (map place_of) places ∙ (all_free seats ∙ ap (λ n. replicate n free) (sym sized)) in
+        λ i. record { stage = record { history = newest i }; ticks = ticks i; names = λ q. name_at (names i) q; places = count i });
     none = (let made : made_by e.clerk ≡ 0 = ap made_by (at_clerk ∙ all.0) in
         omega (arith, made, ap (sum_by made_by) at_regions, none_taken 0 regions taken, ap (sum_by (λ p. made_in (seat_in p))) places, none_made (suc (length bounds + 1)) seats all.1));
   }

@@ -8,6 +8,8 @@ pub mod Posting
 pub mod Walking
 -- What a session's acts count, and what they are where nobody else acted.
 pub mod Acting
+-- What the seat for what no session does makes.
+pub mod Serving
 -- What is counted over all places, where one of them acts.
 pub mod Keeping
 -- What steps of a session are in the scene that the engine holds.

@@ -33,7 +33,7 @@ abbrev Leading : (bounds : List Key) (Goes : List Bool → Scene → Reply → L
 Leading bounds Goes on turn = (bits : List Bool) × ((g later : List Bool) → Leads bounds (Goes g) (λ c. ⊥) (on later) → Leads bounds (Goes g) (λ c. ⊥) (turn (bits ++ later)))
 
 module _ (bounds : List Key) (Goes : List Bool → Scene → Reply → List Bool → Type 0) where
-  asked_leads : (scene : Scene) (body : Body) (c : Came) (next : Stage) → Met bounds scene.stage body c next → (on : Came → Scene → List Bool → Turn) → Leading bounds Goes (on c (at_stage scene next)) (λ refused. asked bounds refused scene body on)
+  pub asked_leads : (scene : Scene) (body : Body) (c : Came) (next : Stage) → Met bounds scene.stage body c next → (on : Came → Scene → List Bool → Turn) → Leading bounds Goes (on c (at_stage scene next)) (λ refused. asked bounds refused scene body on)
   asked_leads scene body came.Lost next met on = absurd met
   asked_leads scene body came.Unsaid next met on = (true ∷ [], λ g later leads. subst (λ s. Leads bounds (Goes g) (λ c. ⊥) (on came.Unsaid (at_stage scene s) later)) met leads)
   asked_leads scene body (came.Said a) next met on = (false ∷ [], λ g later leads. (a, met.0, subst (λ s. Leads bounds (Goes g) (λ c. ⊥) (on (came.Said a) (at_stage scene s) later)) met.1 leads))
@@ -77,28 +77,28 @@ module _ (bounds : List Key) where
   pub session_goes : (turn : List Bool → Scene → ℕ → State → Turn) (n : ℕ) (old new : State) (from to : Stage) (said told : Reply) (bits : List Bool) (next : State) (stage : Scene → ℕ → Stage)
       → ((later : List Bool) (scene : Scene) (k : ℕ) → turn (bits ++ later) scene k old ≡ goes (with_session (at_stage scene (stage scene k)) k next) said later)
       → ((scene : Scene) (k : ℕ) → scene.stage ≡ from → n ≡ seat_at bounds k → stage scene k ≡ to) → next ≡ new → said ≡ told → SessionGoes bounds turn n old new from to told
-  session_goes turn n old new from to said told bits next stage is at same also names places k number there =
-      goes_at (λ refused. turn refused (scene_with from names places) k old) bits said told _ _ (λ later. is later (scene_with from names places) k)
-      (λ i. scene_with (at (scene_with from names places) k refl number i) names (slice_set places k (session (same i)))) also
+  session_goes turn n old new from to said told bits next stage is at same also ticks names places k number there =
+      goes_at (λ refused. turn refused (scene_with from ticks names places) k old) bits said told _ _ (λ later. is later (scene_with from ticks names places) k)
+      (λ i. scene_with (at (scene_with from ticks names places) k refl number i) ticks names (slice_set places k (session (same i)))) also
 
   -- one that changes nothing
   pub session_rests : (turn : List Bool → Scene → ℕ → State → Turn) (n : ℕ) (old new : State) (from to : Stage) (said told : Reply) (bits : List Bool)
       → ((later : List Bool) (scene : Scene) (k : ℕ) → turn (bits ++ later) scene k old ≡ goes scene said later)
       → to ≡ from → new ≡ old → said ≡ told → SessionGoes bounds turn n old new from to told
-  session_rests turn n old new from to said told bits is at same also names places k number there =
-      goes_at (λ refused. turn refused (scene_with from names places) k old) bits said told _ _ (λ later. is later (scene_with from names places) k)
-      (λ i. scene_with (sym at i) names ((sym (set_here places k (session old) there) ∙ ap (λ s. slice_set places k (session s)) (sym same)) i)) also
+  session_rests turn n old new from to said told bits is at same also ticks names places k number there =
+      goes_at (λ refused. turn refused (scene_with from ticks names places) k old) bits said told _ _ (λ later. is later (scene_with from ticks names places) k)
+      (λ i. scene_with (sym at i) ticks names ((sym (set_here places k (session old) there) ∙ ap (λ s. slice_set places k (session s)) (sym same)) i)) also
 
   -- the requests of a call
   pub session_runs : {R : Type 0} (turn : List Bool → Scene → ℕ → State → Turn) (n : ℕ) (old new : State) (from to : Stage) (told : Reply) (bits : List Bool) (way : Way) (w : Walk (State × R)) (say : R → Reply) (result : R)
       → ((later : List Bool) (scene : Scene) (k : ℕ) → turn (bits ++ later) scene k old ≡ runs_to bounds say k way later scene w)
       → Runs bounds way from w (new, result) to → say result ≡ told → SessionGoes bounds turn n old new from to told
-  session_runs turn n old new from to told bits way w say result is run also names places k number there =
-      let scene = scene_with from names places in
-      let led = runs_lead bounds (λ later next said left. (next ≡ scene_with to names (slice_set places k (session new))) × (said ≡ told) × (left ≡ later)) way w scene (new, result) to run (λ x next left. goes (with_session next k x.0) (say x.1) left) in (
+  session_runs turn n old new from to told bits way w say result is run also ticks names places k number there =
+      let scene = scene_with from ticks names places in
+      let led = runs_lead bounds (λ later next said left. (next ≡ scene_with to ticks names (slice_set places k (session new))) × (said ≡ told) × (left ≡ later)) way w scene (new, result) to run (λ x next left. goes (with_session next k x.0) (say x.1) left) in (
         bits ++ led.0,
-        λ later. subst (λ all. Leads bounds (λ next said left. (next ≡ scene_with to names (slice_set places k (session new))) × (said ≡ told) × (left ≡ later)) (λ c. ⊥) (turn all scene k old)) (sym (append_assoc bits led.0 later))
-            (subst (Leads bounds (λ next said left. (next ≡ scene_with to names (slice_set places k (session new))) × (said ≡ told) × (left ≡ later)) (λ c. ⊥)) (sym (is (led.0 ++ later) scene k)) (led.1 later later (refl, also, refl))),
+        λ later. subst (λ all. Leads bounds (λ next said left. (next ≡ scene_with to ticks names (slice_set places k (session new))) × (said ≡ told) × (left ≡ later)) (λ c. ⊥) (turn all scene k old)) (sym (append_assoc bits led.0 later))
+            (subst (Leads bounds (λ next said left. (next ≡ scene_with to ticks names (slice_set places k (session new))) × (said ≡ told) × (left ≡ later)) (λ c. ⊥)) (sym (is (led.0 ++ later) scene k)) (led.1 later later (refl, also, refl))),
       )
 
 -- ---- what a session's step did

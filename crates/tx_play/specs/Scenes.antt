@@ -1,16 +1,17 @@
 -- What each step of a script does, in one thread in which nobody else acts: the events that it makes, what it changes of its session, and
 -- its reply.
-use Rattle.std.specs.Prelude.{ℕ, ◌+◌, ◌&&◌, not, Bool, false, List, [], ◌∷◌, length, replicate, nat_le, slice_get, slice_set, Option, Some, None, option_map, is_some, if◌then◌else◌, Result, Ok, Err, bytes_eq}
+use Rattle.std.specs.Prelude.{ℕ, ◌+◌, ◌-◌, ◌&&◌, not, Bool, false, List, [], ◌∷◌, length, replicate, nat_eq, nat_le, slice_get, slice_set, Option, Some, None, option_map, is_some, if◌then◌else◌, Result, Ok, Err, bytes_eq}
 use Rattle.std.specs.Map.{update}
 use Rattle.tx_types.specs.declared.limits.TheConstants.{MAX_KEY_BYTES, MAX_NAME_BYTES, MAX_VALUE_BYTES, MIN_KEY_BYTES}
 use Rattle.tx_types.specs.declared.fault.Fault.{Fault}
 use Rattle.tx_types.specs.declared.fault.Fault.TheVariants as fault
 use Rattle.tx_types.specs.declared.fault.Cause.{Cause}
-use Rattle.tx_types.specs.declared.fault.Cause.TheVariants.{Name, Order, Sessions}
+use Rattle.tx_types.specs.declared.fault.Cause.TheVariants.{Form, Name, Order, Sessions}
 use Rattle.tx_types.specs.declared.key.Key.{Key}
 use Rattle.tx_types.specs.declared.mutation.Mutation.{Mutation}
 use Rattle.tx_types.specs.declared.mutation.Mutation.TheVariants as mutation
 use Rattle.tx_plan.specs.declared.body.Body.{Body}
+use Rattle.tx_plan.specs.declared.body.Body.TheVariants as request
 use Rattle.tx_plan.specs.declared.answer.Answer.{Answer}
 use Rattle.tx_core.specs.declared.event.Declaration.{Declaration}
 use Rattle.tx_core.specs.declared.event.Outcome.{Outcome}
@@ -30,22 +31,24 @@ use Rattle.tx_play.specs.declared.post.Way.TheVariants.{Plain, Lose, LoseReply, 
 use Rattle.tx_play.specs.declared.step.Reply.{Reply}
 use Rattle.tx_play.specs.declared.step.Reply.TheVariants as reply
 use Rattle.tx_play.specs.Posts.{Stage, taken}
-use Rattle.tx_play.specs.Steps.{Deed, put, delete, lock, get, scan, declare, prewrite, draw, commit, abort, heartbeat, Call, begin, acts, finish, stop}
+use Rattle.tx_play.specs.Steps.{Deed, put, delete, lock, get, scan, declare, prewrite, draw, commit, abort, heartbeat, Call, begin, acts, finish, stop, read, tick}
 
 -- a place: free, or with a live session
 pub data Place : Type 0 where
   free : Place
   session : (state : State) → Place
 
--- where a script stands: what has happened, the places of the live sessions' names, and the places, each of which has a seat
+-- where a script stands: what has happened, the ticks that the seat for no session may still draw, the places of the live sessions'
+-- names, and the places, each of which has a seat
 pub record Scene : Type 0 where
   pub stage : Stage
+  pub ticks : ℕ
   pub names : List ℕ → Option ℕ
   pub places : List Place
 
--- before the first step, with so many places
+-- before the first step, with so many places; a seat may draw 2^32 ticks
 abbrev pub opening : ℕ → Scene
-opening n = record { stage = record { history = [] }; names = λ q. None; places = replicate n free }
+opening n = record { stage = record { history = [] }; ticks = 4294967296; names = λ q. None; places = replicate n free }
 
 -- A step goes on with a scene, a reply and the refusals that are left; or a region is first asked, at this stage, and it goes on by the
 -- answer; or it stops the script.
@@ -82,14 +85,14 @@ is_value value = nat_le (length value) MAX_VALUE_BYTES
 -- ---- scenes that follow
 
 abbrev pub at_stage : Scene → Stage → Scene
-at_stage scene s = record { stage = s; names = scene.names; places = scene.places }
+at_stage scene s = record scene { stage = s }
 
 abbrev pub at_history : Scene → History → Scene
 at_history scene h = at_stage scene (record { history = h })
 
 -- a session has another state
 abbrev pub with_session : Scene → ℕ → State → Scene
-with_session scene k s = record { stage = scene.stage; names = scene.names; places = slice_set scene.places k (session s) }
+with_session scene k s = record scene { places = slice_set scene.places k (session s) }
 
 -- the seat of a place: those of the regions come first, and then one for what no session does
 abbrev pub seat_at : List Key → ℕ → ℕ
@@ -101,12 +104,12 @@ declared_in h (Some d) = Declared d ∷ h
 
 -- a session is gone, and its place is free
 abbrev pub gone : Scene → List ℕ → ℕ → Scene
-gone scene name k = record { stage = scene.stage; names = update bytes_eq scene.names name None; places = slice_set scene.places k free }
+gone scene name k = record scene { names = update bytes_eq scene.names name None; places = slice_set scene.places k free }
 
 module _ (bounds : List Key) where
   -- a transaction begins under a name, at a place
   abbrev pub began : Scene → List ℕ → ℕ → Scene
-  began scene name k = record {
+  began scene name k = record scene {
     stage = record { history = Began (last scene.stage.history + 1) ∷ Drawn (seat_at bounds k) (last scene.stage.history + 1) ∷ scene.stage.history };
     names = update bytes_eq scene.names name (Some k);
     places = slice_set scene.places k (session (begun (last scene.stage.history + 1)));
@@ -116,6 +119,13 @@ module _ (bounds : List Key) where
   abbrev pub drew : Scene → ℕ → State → Scene
   drew scene k s =
       with_session (at_history scene (Drawn (seat_at bounds k) (last scene.stage.history + 1) ∷ scene.stage.history)) k (record s { drawn = Some (last scene.stage.history + 1) })
+
+  -- the seat for no session draws so many ticks
+  abbrev pub ticked : Scene → ℕ → Scene
+  ticked scene n = record scene {
+    stage = record { history = Drawn (length bounds + 1) (last scene.stage.history + n) ∷ scene.stage.history };
+    ticks = scene.ticks - n;
+  }
 
   -- ---- requests
 
@@ -170,6 +180,12 @@ said_by (Err m) = missed_by m
 abbrev pub read_by : Result Answer Miss → Reply
 read_by (Ok a) = reply.Answered a
 read_by (Err m) = missed_by m
+
+-- what comes of a request to a region
+abbrev pub came_as : Came → Reply
+came_as came.Lost = reply.Lost
+came_as came.Unsaid = reply.OutOfMemory
+came_as (came.Said a) = reply.Answered a
 
 -- ---- places
 
@@ -297,9 +313,24 @@ module _ (bounds : List Key) where
       else (if is_some (scene.names name) then stops Name
       else begins_at refused scene name (first_free scene.places))
 
+  -- a key is read at a timestamp, and no lock passed by
+  abbrev pub looks : List Bool → Scene → List ℕ → ℕ → Turn
+  looks refused scene key at =
+      if not (is_key key) then goes scene reply.KeyLength refused
+      else calls refused scene (λ left. asked bounds left scene (request.Get (record { key = key; at = at; bypass = [] })) (λ c next rest. goes next (came_as c) rest))
+
+  -- at least one tick is drawn, and no more than the seat has left
+  abbrev pub ticks_by : List Bool → Scene → ℕ → Turn
+  ticks_by refused scene n =
+      if nat_eq n 0 then stops Form
+      else (if nat_le n scene.ticks then goes (ticked bounds scene n) (reply.Last (last scene.stage.history + n)) refused
+      else goes scene reply.OracleSpent refused)
+
   -- what a step leads to
   abbrev pub turn : List Bool → Call → Scene → Turn
   turn refused (begin name) scene = begins refused scene name
   turn refused (acts name deed) scene = in_session (live_at scene name) (λ k s. deeds refused scene k s bounds deed)
   turn refused (finish name) scene = in_session (live_at scene name) (λ k s. finishes refused scene k s name)
   turn refused (stop name) scene = in_session (live_at scene name) (λ k s. leaves refused scene k s bounds name)
+  turn refused (read key at) scene = looks refused scene key at
+  turn refused (tick n) scene = ticks_by refused scene n

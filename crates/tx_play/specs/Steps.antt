@@ -5,7 +5,7 @@ use Rattle.tx_play.specs.declared.post.Way.{Way}
 use Rattle.tx_play.specs.declared.step.Act.{Act}
 use Rattle.tx_play.specs.declared.step.Act.TheVariants.{Put, Delete, Lock, Get, Scan, Declare, Prewrite, Draw, Commit, Abort, Heartbeat}
 use Rattle.tx_play.specs.declared.step.Step.{Step}
-use Rattle.tx_play.specs.declared.step.Step.TheVariants.{Begin, Finish, Stop}
+use Rattle.tx_play.specs.declared.step.Step.TheVariants.{Begin, Finish, Stop, Read, Tick}
 use Rattle.tx_play.specs.declared.step.Step.TheVariants as steps
 
 -- what a live session does: with the bytes of its keys and value, and what becomes of its request
@@ -22,12 +22,15 @@ pub data Deed : Type 0 where
   abort : (way : Way) → Deed
   heartbeat : (ttl : ℕ) (way : Way) → Deed
 
--- a step: a session begins under a name; a live session acts, answers its outcome, or stops
+-- a step: a session begins under a name; a live session acts, answers its outcome, or stops; a key is read
+-- at a timestamp; so many ticks are drawn
 pub data Call : Type 0 where
   begin : (name : List ℕ) → Call
   acts : (name : List ℕ) (deed : Deed) → Call
   finish : (name : List ℕ) → Call
   stop : (name : List ℕ) → Call
+  read : (key : List ℕ) (at : ℕ) → Call
+  tick : (ticks : ℕ) → Call
 
 -- what the program's value says
 abbrev pub deed_of : Act → Deed
@@ -48,3 +51,5 @@ call_of (Begin s) = begin s.now
 call_of (steps.Act s a) = acts s.now (deed_of a)
 call_of (Finish s) = finish s.now
 call_of (Stop s) = stop s.now
+call_of (Read key at) = read key.now at
+call_of (Tick ticks) = tick ticks

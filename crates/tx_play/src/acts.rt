@@ -1,18 +1,20 @@
 //! What a session does in one thread: it knows what is newest before it acts, and what it knows after is the newest.
-ghost use Rattle.std.specs.Prelude.{◌≡◌, ◌<◌, ◌+◌, ◌∷◌, ◌⊎◌, Some, None, true, false, IfOk, IfErr, OnOk};
+ghost use Rattle.std.specs.Prelude.{◌≡◌, ◌<◌, ◌+◌, [], ◌∷◌, ◌⊎◌, Some, None, true, false, IfOk, IfErr, OnErr, OnOk};
 ghost use Rattle.tx_core.specs.declared.event.Event.TheVariants as events;
 ghost use Rattle.tx_core.specs.Histories.{last};
 ghost use Rattle.tx_client.specs.Sessions.{begun, can_draw, declaration, exceeds, finish_of, is_declared};
-ghost use Rattle.tx_play.specs.Places.{Acts};
+ghost use Rattle.tx_plan.specs.declared.body.Body.TheVariants as body;
+ghost use Rattle.tx_play.specs.Posts.{stage_of, Met};
+ghost use Rattle.tx_play.specs.Places.{Acts, Serves};
 ghost use Rattle.tx_play.specs.Scenes.{declared_in};
 
-use crate::post::Post;
+use crate::post::{Post, Way};
 use std::alloc::Global;
 use tx_cells::Families;
-use tx_client::{Session, Terms};
-use tx_core::Outcome;
+use tx_client::{Came, Session, Terms, ask};
+use tx_core::{Body, Get, Outcome, Starts};
 use tx_journal::{Naming, Seat};
-use tx_types::{Fault, Ts};
+use tx_types::{Fault, Key, Ts};
 
 /// A session begins.
 pub(crate) fn begin_at<J: Naming, F: Families>(
@@ -84,6 +86,42 @@ pub(crate) fn finish_at<J: Naming, F: Families>(
             Err(session)
         }
     }
+}
+
+/// The seat for what no session does draws so many ticks. Spent, it draws none.
+pub(crate) fn tick_at<J: Naming, F: Families>(
+    clerk: &mut Seat<J>,
+    post: &mut Post<J, F>,
+    ticks: u32,
+) -> Result<Ts, Fault>
+    requires some { 0 < ticks }
+    ensures drawn { IfOk result (λ t. (clerk.old.ticks ≡ clerk.new.ticks + ticks) × Serves clerk.old clerk.new post.old post.new ((t ≡ last post.old.newest + ticks) × (post.new.newest ≡ events.Drawn clerk.old.seat (last post.old.newest + ticks) ∷ post.old.newest))) }
+    ensures spent { OnErr result ((clerk.old.ticks < ticks) × (clerk.new.ticks ≡ clerk.old.ticks) × Serves clerk.old clerk.new post.old post.new (post.new.newest ≡ post.old.newest)) }
+{
+    clerk.learn(post.newest());
+    let last = clerk.draw(ticks)?;
+    post.set_newest(clerk.tell());
+    Ok(last)
+}
+
+/// The seat for what no session does reads a key at a timestamp.
+pub(crate) fn read_at<J: Naming, F: Families>(
+    alloc: Global,
+    clerk: &mut Seat<J>,
+    post: &mut Post<J, F>,
+    key: Key,
+    at: Ts,
+) -> Came
+    ensures ticks { clerk.new.ticks ≡ clerk.old.ticks }
+    ensures serves { Serves clerk.old clerk.new post.old post.new (Met J.bounds (stage_of post.old) (body.Get record { key = key; at = at; bypass = [] }) result (stage_of post.new)) }
+{
+    post.set_way(Way::Plain);
+    let body = Body::Get(Get {
+        key,
+        at,
+        bypass: Starts::new(alloc),
+    });
+    ask(clerk, body, post)
 }
 
 /// A session stops.

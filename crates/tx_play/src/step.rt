@@ -34,6 +34,10 @@ pub enum Step<'a> {
     Finish(&'a str),
     /// It leaves its transaction as it is, and is gone.
     Stop(&'a str),
+    /// A key is read at a timestamp, by no session.
+    Read(&'a str, Ts),
+    /// So many ticks are drawn, at least one, by one seat for all such steps.
+    Tick(u32),
 }
 
 /// What a step gives.
@@ -49,10 +53,14 @@ pub enum Reply {
     Done,
     /// A commit timestamp was drawn.
     Drawn(Ts),
+    /// Ticks were drawn, up to this timestamp.
+    Last(Ts),
     /// A session ended.
     Ended(Outcome),
     /// No reply came.
     Lost,
+    /// E11: the seat for ticks has drawn its 2^32.
+    OracleSpent,
     /// E12: a growth was refused.
     OutOfMemory,
     /// E13: a key of no bytes or of more than 512.
