@@ -1,7 +1,6 @@
 -- Histories only grow as steps are played.
 use Rattle.std.proofs.Common.{ℕ, ◌+◌, ◌&&◌, Bool, true, false, not, cond, inr, List, [], ◌∷◌, Option, Some, None, is_some, nat_eq, nat_le, sym, subst}
 use Rattle.tx_types.specs.declared.fault.Cause.{Cause}
-use Rattle.tx_types.specs.declared.fault.Cause.TheVariants as cause
 use Rattle.tx_types.specs.declared.key.Key.{Key}
 use Rattle.tx_plan.specs.declared.body.Body.{Body}
 use Rattle.tx_plan.specs.declared.body.Body.TheVariants as request

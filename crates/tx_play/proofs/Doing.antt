@@ -1,6 +1,6 @@
 -- What a live session does is its turn.
-use Rattle.std.proofs.Common.{◌≡◌, ◌+◌, ℕ, cond, Bool, true, false, not, List, [], ◌∷◌, ◌++◌, slice_set, Option, Some, None, Result, Ok, Err, inl, inr, refl, sym, ap, subst, ◌∙◌}
-use Rattle.std.specs.Prelude.{◌⊎◌, OnOk, OnErr, IfOk, IfErr}
+use Rattle.std.proofs.Common.{◌≡◌, ◌+◌, ℕ, cond, Bool, true, false, List, [], ◌∷◌, ◌++◌, slice_set, Some, Result, Ok, Err, inl, inr, refl, sym, ap, subst, ◌∙◌}
+use Rattle.std.specs.Prelude.{◌⊎◌, OnOk, OnErr, IfErr}
 use Rattle.tx_types.specs.declared.fault.Cause.{Cause}
 use Rattle.tx_types.specs.declared.fault.Cause.TheVariants as cause
 use Rattle.tx_types.specs.declared.fault.Fault.{Fault}
@@ -16,13 +16,13 @@ use Rattle.tx_client.specs.Walks.{Walk, Sends}
 use Rattle.tx_play.specs.declared.post.Way.{Way}
 use Rattle.tx_play.specs.declared.step.Reply.{Reply}
 use Rattle.tx_play.specs.declared.step.Reply.TheVariants as reply
-use Rattle.tx_play.specs.Posts.{Desk, Stage, stage_of, Passes}
+use Rattle.tx_play.specs.Posts.{Desk, stage_of, Passes}
 use Rattle.tx_play.specs.Scenes.{session, Scene, Turn, goes, stops, calls, at_stage, seat_at, with_session, declared_in, runs_to, enters, entered_by, declares, draws, drew}
-use Rattle.tx_play.specs.Places.{scene_with, Acts, SessionGoes, Sent, Did}
+use Rattle.tx_play.specs.Places.{scene_with, Acts, Did}
 use Rattle.tx_play.proofs.Acting.{acts_so}
 use Rattle.tx_play.proofs.Turning.{goes_at, session_goes, session_rests, did_change, did_send}
 
-abbrev Deeds : Type 0
+abbrev pub Deeds : Type 0
 Deeds = List Bool → Scene → ℕ → State → Turn
 
 module _ (bounds : List Key) (turn : Deeds) where
@@ -119,11 +119,25 @@ module _ (bounds : List Key) (old new : Seated) (from to : Desk) where
       → Did bounds (λ refused scene k s. draws refused scene k s bounds) (Ok (reply.Drawn t)) old new from to
   drew_did t can now act =
       acts_so old.seat new.seat from to _ _ act
-      (λ x names places k number there.
-      let scene = scene_with (stage_of from) names places in
+      (λ x ticks names places k number there.
+      let scene = scene_with (stage_of from) ticks names places in
       let events : to.newest ≡ Drawn (seat_at bounds k) (last from.newest + 1) ∷ from.newest = x.1 ∙ ap (λ n. Drawn n (last from.newest + 1) ∷ from.newest) number in
       let state : record old.state { drawn = Some (last from.newest + 1) } ≡ new.state = sym (now ∙ ap (λ u. record old.state { drawn = Some u }) x.0) in
-      goes_at bounds (λ refused. draws refused scene k old.state bounds) [] (reply.Drawn (last from.newest + 1)) (reply.Drawn t) (drew bounds scene k old.state) (scene_with (stage_of to) names (slice_set places k (session new.state)))
+      goes_at bounds (λ refused. draws refused scene k old.state bounds) [] (reply.Drawn (last from.newest + 1)) (reply.Drawn t) (drew bounds scene k old.state) (scene_with (stage_of to) ticks names (slice_set places k (session new.state)))
       (λ later. ap (λ b. cond b (goes (drew bounds scene k old.state) (reply.Drawn (last from.newest + 1)) later) (stops cause.Order)) can)
-      (λ i. scene_with (record { history = sym events i }) names (slice_set places k (session (state i))))
+      (λ i. scene_with (record { history = sym events i }) ticks names (slice_set places k (session (state i))))
       (ap reply.Drawn (sym x.0)))
+
+-- ---- what is not allowed
+
+module _ (bounds : List Key) (old : Seated) (desk : Desk) where
+  pub declare_late : (terms : Terms) → is_declared old.state ≡ true → Did bounds (λ refused scene k s. declares refused scene k s terms) (Err cause.Order) old old desk desk
+  declare_late terms late =
+      stops_at bounds (λ refused scene k s. declares refused scene k s terms) old desk (is_declared old.state)
+      (λ refused scene k. calls refused scene (λ left. cond (exceeds old.state.buffer terms) (goes scene reply.TooManyKeys left) (goes (with_session (at_stage scene (record { history = declared_in scene.stage.history (declaration old.state.start old.state.buffer terms) })) k (record old.state { declared = Some terms })) reply.Fine left))) cause.Order
+      (λ refused scene k. refl) late
+
+  pub draw_early : can_draw old.state ≡ false → Did bounds (λ refused scene k s. draws refused scene k s bounds) (Err cause.Order) old old desk desk
+  draw_early cannot =
+      stops_but bounds (λ refused scene k s. draws refused scene k s bounds) old desk (can_draw old.state)
+      (λ refused scene k. goes (drew bounds scene k old.state) (reply.Drawn (last scene.stage.history + 1)) refused) cause.Order (λ refused scene k. refl) cannot

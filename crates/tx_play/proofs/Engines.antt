@@ -21,7 +21,7 @@ use Rattle.tx_core.specs.Histories.{History, last}
 use Rattle.tx_journal.specs.Known.{Known}
 use Rattle.tx_client.specs.declared.state.Came.{Came}
 use Rattle.tx_client.specs.Calls.{Seated}
-use Rattle.tx_client.specs.Sessions.{State, begun, finish_of}
+use Rattle.tx_client.specs.Sessions.{begun, finish_of}
 use Rattle.tx_play.specs.declared.places.Slot.TheVariants.{Free, Live, Lent}
 use Rattle.tx_play.specs.declared.step.Reply.{Reply}
 use Rattle.tx_play.specs.declared.step.Reply.TheVariants as reply

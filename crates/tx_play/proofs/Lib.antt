@@ -30,3 +30,7 @@ pub mod Ending
 pub mod Dealt
 -- What a live session does is its turn.
 pub mod Doing
+-- What a session enters into its buffer is its turn.
+pub mod Entering
+-- What a session asks of the regions is its turn.
+pub mod Asking

@@ -272,7 +272,10 @@ impl<J: Naming, F: Families + Drop> Engine<J, F> {
         'places: while let Some(slot) = places.pop() {
             match slot {
                 Slot::Free(mut seat) => seat.learn(clerk.copy(&mut newest)),
-                Slot::Live(mut session) => session.hear_of(clerk.copy(&mut newest)),
+                Slot::Live(mut session) => {
+                    session.hear_of(clerk.copy(&mut newest));
+                    drop(session);
+                }
                 Slot::Lent => {}
             }
         }

@@ -4,7 +4,8 @@ ghost use Rattle.tx_types.specs.declared.fault.Fault.TheVariants.{OutOfMemory};
 ghost use Rattle.tx_cells.specs.Contents.{nothing_held};
 ghost use Rattle.tx_journal.specs.Known.{AreRising};
 ghost use Rattle.tx_play.specs.Openings.{frees, AreDealt};
-ghost use Rattle.tx_play.specs.Scripts.{EndsScript, BreaksScript};
+ghost use Rattle.tx_play.specs.Places.{AllSeated};
+ghost use Rattle.tx_play.specs.Scripts.{EndsScript, BreaksScript, IsOpening};
 ghost use Rattle.tx_play.specs.Steps.{call_of};
 
 use crate::engine::Engine;
@@ -59,6 +60,35 @@ fn regions_of<J: Naming, F: Families + Drop>(
     Ok(regions)
 }
 
+// An engine over these seats of a new journal: those of the regions come first, then one for what no session does, then those of the
+// places.
+fn engine_of<J: Naming, F: Families + Drop>(
+    alloc: Global,
+    journal: Journal<J>,
+    seats: Vec<Seat<J>>,
+    families: Vec<F>,
+) -> Result<Engine<J, F>, Broken>
+    requires few { vec_len families ≡ length J.bounds + 1 }
+    requires some { length J.bounds + 2 ≤ length seats.items }
+    requires dealt { AreDealt 0 seats.items }
+    requires empty { All (λ f. F.content f ≡ (λ k. nothing_held)) families.items }
+    ensures opening { IfOk result IsOpening }
+    ensures ready { IfOk result (λ e. (n : ℕ) → n ≤ 4294967296 → AllSeated J.bounds n e) }
+    ensures size { IfOk result (λ e. length seats.items ≡ length J.bounds + 2 + length e.places) }
+{
+    let mut seats = seats;
+    let Ok(regions) = regions_of(alloc, &journal, &mut seats, families) else {
+        return Err(Broken);
+    };
+    let mut clerk = seats.remove(0);
+    let Ok(places) = places_of(alloc, seats) else {
+        return Err(Broken);
+    };
+    let newest = clerk.tell();
+    let post = Post::new(journal, regions, newest);
+    Ok(Engine::new(alloc, post, clerk, places))
+}
+
 // Plays steps over a journal that was opened, and has no other user.
 fn over<J: Naming, F: Families + Drop>(
     alloc: Global,
@@ -75,19 +105,12 @@ fn over<J: Naming, F: Families + Drop>(
     ensures ends { IfOk result (λ end. (places : ℕ) → opened.seats ≡ length opened.bounds + 2 + places → EndsScript opened.bounds places (map call_of steps.now) written.old.items written.new.items end) }
     ensures breaks { OnErr result ((places : ℕ) → opened.seats ≡ length opened.bounds + 2 + places → BreaksScript opened.bounds places (map call_of steps.now) written.old.items written.new.items) }
 {
-    let Ok((journal, mut seats)) = opened.named::<J>(alloc) else {
+    let Ok((journal, seats)) = opened.named::<J>(alloc) else {
         return Err(Broken);
     };
-    let Ok(regions) = regions_of(alloc, &journal, &mut seats, families) else {
+    let Ok(engine) = engine_of(alloc, journal, seats, families) else {
         return Err(Broken);
     };
-    let mut clerk = seats.remove(0);
-    let Ok(places) = places_of(alloc, seats) else {
-        return Err(Broken);
-    };
-    let newest = clerk.tell();
-    let post = Post::new(journal, regions, newest);
-    let engine = Engine::new(alloc, post, clerk, places);
     simulate(engine, steps, written)
 }
 

@@ -1,7 +1,7 @@
-use Rattle.std.proofs.Common.{◌≡◌, ◌≤◌, ◌+◌, [], ◌∷◌, drop, length, map, List, Ok, Err, sym, ap, subst, ◌∙◌, arith}
+use Rattle.std.proofs.Common.{◌≡◌, ◌≤◌, ◌+◌, [], ◌∷◌, drop, length, map, Ok, Err, sym, ap, subst, ◌∙◌, arith}
 use Rattle.std.proofs.lemmas.List.{at_drop_more, at_drop_all}
 use Rattle.tx_play.specs.Places.{Goes, Turned}
-use Rattle.tx_play.specs.Steps.{Call, call_of}
+use Rattle.tx_play.specs.Steps.{call_of}
 use Rattle.tx_play.specs.Scripts.{BreaksAt}
 use Rattle.tx_play.proofs.Keeping.{all_fewer}
 use Rattle.tx_play.proofs.Engines.{pushed, not_pushed}
@@ -49,7 +49,7 @@ returns-in-Err-clause-seated g c =
     let left = map call_of (drop (i + 1) c.args.steps.now) in
     let is : map call_of (drop i c.args.steps.now) ≡ step ∷ left = at_drop_more (λ xs. map call_of xs) c.args.steps.now i c.step-item.result c.steps-test.true ∙ ap (λ s. call_of s ∷ left) (sym c.step-item.is) in
     let x : PlaysOn bounds c.args.engine.now c.steps.engine all (step ∷ left) c.args.written.now.items c.steps.written.items = subst (λ rest. PlaysOn bounds c.args.engine.now c.steps.engine all rest c.args.written.now.items c.steps.written.items) is c.steps.invariant in
-    let goes : Goes bounds c.steps.engine c.play.new.self (Turned bounds step (Err c.in-Err.field-0) c.steps.engine c.play.new.self) = c.in-Err.ensures.goes in
+    let goes : Goes bounds c.steps.engine c.play.new.self (Turned bounds step (Err c.in-Err.cause) c.steps.engine c.play.new.self) = c.in-Err.ensures.goes in
     all_fewer bounds _ 0 c.play.new.self (omega arith) (still_seated bounds c.args.engine.now c.steps.engine all c.args.written.now.items c.steps.written.items c.play.new.self step left x _ goes)
 
 pub returns-in-Err-clause-ends : goal.returns-in-Err-clause-ends
@@ -61,8 +61,8 @@ returns-in-Err-clause-ends g c =
     let left = map call_of (drop (i + 1) c.args.steps.now) in
     let is : map call_of (drop i c.args.steps.now) ≡ step ∷ left = at_drop_more (λ xs. map call_of xs) c.args.steps.now i c.step-item.result c.steps-test.true ∙ ap (λ s. call_of s ∷ left) (sym c.step-item.is) in
     let x : PlaysOn bounds c.args.engine.now c.steps.engine all (step ∷ left) c.args.written.now.items c.steps.written.items = subst (λ rest. PlaysOn bounds c.args.engine.now c.steps.engine all rest c.args.written.now.items c.steps.written.items) is c.steps.invariant in
-    let goes : Goes bounds c.steps.engine c.play.new.self (Turned bounds step (Err c.in-Err.field-0) c.steps.engine c.play.new.self) = c.in-Err.ensures.goes in
-    at_fault bounds c.args.engine.now c.steps.engine all c.args.written.now.items c.steps.written.items c.play.new.self step left x c.in-Err.field-0 goes
+    let goes : Goes bounds c.steps.engine c.play.new.self (Turned bounds step (Err c.in-Err.cause) c.steps.engine c.play.new.self) = c.in-Err.ensures.goes in
+    at_fault bounds c.args.engine.now c.steps.engine all c.args.written.now.items c.steps.written.items c.play.new.self step left x c.in-Err.cause goes
 
 pub steps-preserved : goal.steps-preserved
 steps-preserved g c =

@@ -1,11 +1,10 @@
-use Rattle.std.proofs.Common.{◌≡◌, ◌≤◌, ℕ, List, length, slice_get, Some, None, Ok, Err, refl, sym, ap, subst, ◌∙◌, arith}
-use Rattle.std.specs.BTreeMap.{get_by_text}
+use Rattle.std.proofs.Common.{◌≡◌, ◌≤◌, length, slice_get, Some, None, Err, refl, sym, ap, subst, ◌∙◌, arith}
 use Rattle.tx_types.specs.declared.fault.Cause.TheVariants as cause
 use Rattle.tx_play.specs.declared.places.Slot.TheVariants.{Live}
-use Rattle.tx_play.specs.declared.step.Reply.TheVariants as reply
-use Rattle.tx_play.specs.Steps.{acts, finish, stop, deed_of}
+use Rattle.tx_play.specs.Steps.{acts, deed_of}
 use Rattle.tx_play.specs.Places.{Held, texts, name_at, AllSeated, Goes, Turned}
-use Rattle.tx_play.proofs.Engines.{named, renamed, back, no_name, no_place, not_live, act_stops, step_acted, step_stops}
+use Rattle.tx_play.proofs.Keeping.{at_place_of}
+use Rattle.tx_play.proofs.Engines.{named, back, no_name, no_place, not_live, act_stops, step_acted, step_stops}
 use Rattle.tx_play.proofs.engine.Engine.act.Goals as goal
 
 pub returns-in_default : goal.returns-in_default
@@ -40,6 +39,17 @@ returns-in_default-swap_slot g c =
     let ready : AllSeated bounds 1 old = subst (AllSeated bounds 1) (sym c.self.view_is) c.requires.ready in
     let places : new.places ≡ old.places = back s.places.items c.swap_slot.new.places.items new.places k c.swap_slot.result c.swap_slot.ensures.value c.swap_slot.ensures.after c.swap_slot-in_default-swap_slot.ensures.after in
     record { goes = subst (λ (o : Held). Goes bounds o new (Turned bounds (acts c.args.name.now (deed_of c.args.deed.now)) (Err cause.Name) o new)) c.self.view_is (step_stops bounds old new (acts c.args.name.now (deed_of c.args.deed.now)) cause.Name refl refl refl places (act_stops bounds old name (deed_of c.args.deed.now) (not_live bounds old name k at c.swap_slot.result c.swap_slot.ensures.value c.in_default-swap_slot.not-Live ready))) }
+
+pub act-reply-requires : goal.act-reply-requires
+act-reply-requires g c =
+    let s = c.self.inside in
+    let k = c.in-Some.field-0.now in
+    let bounds = g.J.Naming.bounds in
+    let live = c.in-Live.session in
+    let old : Held = record { desk = s.post; clerk = s.clerk; names = texts s.names.entries; places = s.places.items } in
+    let ready : AllSeated bounds 1 old = subst (AllSeated bounds 1) (sym c.self.view_is) c.requires.ready in
+    let there : slice_get old.places k ≡ Some (Live live) = c.swap_slot.ensures.value ∙ ap Some c.in-Live.is in
+    record { ticks = (at_place_of bounds 1 k old (Live live) live.seat there refl ready).1 }
 
 pub returns-in-Live : goal.returns-in-Live
 returns-in-Live g c =

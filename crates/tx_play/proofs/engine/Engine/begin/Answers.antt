@@ -1,4 +1,4 @@
-use Rattle.std.proofs.Common.{rules, ◌≡◌, ℕ, List, not, cond, bytes_eq, map, length, slice_get, Some, None, Ok, Err, is_some, false, refl, sym, ap, subst, ◌∙◌, arith}
+use Rattle.std.proofs.Common.{rules, ◌≡◌, not, map, length, slice_get, Some, None, Ok, Err, is_some, true, false, refl, sym, ap, subst, ◌∙◌, arith}
 use Rattle.std.proofs.lemmas.List.{length-set}
 use Rattle.std.proofs.lemmas.Option.{slice_get_within}
 use Rattle.tx_types.specs.declared.fault.Cause.TheVariants as cause
@@ -8,8 +8,26 @@ use Rattle.tx_play.specs.Scenes.{first_free, is_name}
 use Rattle.tx_play.specs.Steps.{begin}
 use Rattle.tx_play.specs.Places.{place_of, Held, texts, name_at, AllSeated, Goes, Turned}
 use Rattle.tx_play.proofs.Keeping.{at_place_of}
-use Rattle.tx_play.proofs.Engines.{on_ok, on_err, named, renamed, step_begun, step_refused, step_stops, begin_full}
+use Rattle.tx_play.proofs.Engines.{on_ok, on_err, named, renamed, step_begun, step_refused, step_stops, begin_unnamed, begin_taken, begin_full}
 use Rattle.tx_play.proofs.engine.Engine.begin.Goals as goal
+
+pub returns-then-not-is_name : goal.returns-then-not-is_name
+returns-then-not-is_name g c =
+    let name = c.args.name.now in
+    let bounds = g.J.Naming.bounds in
+    let old = c.args.self.now in
+    let bad : not (is_name name) ≡ true = search rules in
+    record { goes = step_stops bounds old old (begin name) cause.Name refl refl refl refl (begin_unnamed bounds old name bad) }
+
+pub returns-then-contains_key : goal.returns-then-contains_key
+returns-then-contains_key g c =
+    let s = c.self.inside in
+    let name = c.args.name.now in
+    let bounds = g.J.Naming.bounds in
+    let old : Held = record { desk = s.post; clerk = s.clerk; names = texts s.names.entries; places = s.places.items } in
+    let right : not (is_name name) ≡ false = search rules in
+    let taken : is_some (name_at old.names name) ≡ true = ap is_some (named s.names name) ∙ sym c.if-contains_key.ensures in
+    record { goes = subst (λ (o : Held). Goes bounds o o (Turned bounds (begin name) (Err cause.Name) o o)) c.self.view_is (step_stops bounds old old (begin name) cause.Name refl refl refl refl (begin_taken bounds old name right taken)) }
 
 pub returns-in_default : goal.returns-in_default
 returns-in_default g c =

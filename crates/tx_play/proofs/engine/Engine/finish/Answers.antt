@@ -1,10 +1,8 @@
-use Rattle.std.proofs.Common.{◌≡◌, ◌≤◌, ℕ, List, length, slice_get, Some, None, Ok, Err, refl, sym, ap, subst, ◌∙◌, arith}
-use Rattle.std.specs.BTreeMap.{get_by_text}
+use Rattle.std.proofs.Common.{◌≡◌, ◌≤◌, length, slice_get, Some, None, Ok, Err, refl, sym, ap, subst, ◌∙◌, arith}
 use Rattle.tx_types.specs.declared.fault.Cause.TheVariants as cause
 use Rattle.tx_play.specs.declared.places.Slot.TheVariants.{Live}
 use Rattle.tx_play.specs.declared.step.Reply.TheVariants as reply
-use Rattle.tx_play.specs.Steps.{acts, finish, stop, deed_of}
-use Rattle.std.specs.Map.{update}
+use Rattle.tx_play.specs.Steps.{finish}
 use Rattle.std.proofs.lemmas.Map.Text.{btree_map_updates_text}
 use Rattle.tx_play.specs.Places.{Held, texts, name_at, AllSeated, Goes, Turned}
 use Rattle.tx_play.proofs.Engines.{named, renamed, back, no_name, no_place, not_live, finish_stops, step_finished, step_unfinished, step_stops}
@@ -43,8 +41,8 @@ returns-in_default-swap_slot g c =
     let places : new.places ≡ old.places = back s.places.items c.swap_slot.new.places.items new.places k c.swap_slot.result c.swap_slot.ensures.value c.swap_slot.ensures.after c.swap_slot-in_default-swap_slot.ensures.after in
     record { goes = subst (λ (o : Held). Goes bounds o new (Turned bounds (finish c.args.name.now) (Err cause.Name) o new)) c.self.view_is (step_stops bounds old new (finish c.args.name.now) cause.Name refl refl refl places (finish_stops bounds old name (not_live bounds old name k at c.swap_slot.result c.swap_slot.ensures.value c.in_default-swap_slot.not-Live ready))) }
 
-pub returns-in-Live-in-Ok : goal.returns-in-Live-in-Ok
-returns-in-Live-in-Ok g c =
+pub returns-in-Ok : goal.returns-in-Ok
+returns-in-Ok g c =
     let s = c.self.inside in
     let name = c.args.name.now in
     let k = c.in-Some.field-0.now in
@@ -61,8 +59,8 @@ returns-in-Live-in-Ok g c =
           (step_finished bounds old name k live at there ready new c.in-Ok.seat c.swap_slot.new.places.items c.swap_slot.ensures.after c.swap_slot-in-Ok.ensures.after refl (renamed s.names c.remove.new.self name None (btree_map_updates_text name s.names c.remove.new.self None c.remove.ensures.updates)) c.in-Ok.outcome ended.0 ended.1);
     }
 
-pub returns-in-Live-in-Err : goal.returns-in-Live-in-Err
-returns-in-Live-in-Err g c =
+pub returns-in-Err : goal.returns-in-Err
+returns-in-Err g c =
     let s = c.self.inside in
     let name = c.args.name.now in
     let k = c.in-Some.field-0.now in

@@ -1,10 +1,8 @@
-use Rattle.std.proofs.Common.{◌≡◌, ◌≤◌, ℕ, List, length, slice_get, Some, None, Ok, Err, refl, sym, ap, subst, ◌∙◌, arith}
-use Rattle.std.specs.BTreeMap.{get_by_text}
+use Rattle.std.proofs.Common.{◌≡◌, ◌≤◌, length, slice_get, Some, None, Ok, Err, refl, sym, ap, subst, ◌∙◌, arith}
 use Rattle.tx_types.specs.declared.fault.Cause.TheVariants as cause
 use Rattle.tx_play.specs.declared.places.Slot.TheVariants.{Live}
 use Rattle.tx_play.specs.declared.step.Reply.TheVariants as reply
-use Rattle.tx_play.specs.Steps.{acts, finish, stop, deed_of}
-use Rattle.std.specs.Map.{update}
+use Rattle.tx_play.specs.Steps.{stop}
 use Rattle.std.proofs.lemmas.Map.Text.{btree_map_updates_text}
 use Rattle.tx_play.specs.Places.{Held, texts, name_at, AllSeated, Goes, Turned}
 use Rattle.tx_play.proofs.Engines.{named, renamed, back, no_name, no_place, not_live, stop_stops, step_stopped, step_stops}

@@ -1,0 +1,14 @@
+use Rattle.std.proofs.Common.{sym}
+use Rattle.tx_play.proofs.Entering.{delete_late, delete_key, delete_entered}
+use Rattle.tx_play.proofs.deeds.buffer.delete.Goals as goal
+
+pub returns-then-is_declared : goal.returns-then-is_declared
+returns-then-is_declared g c = λ desk. delete_late g.J.Naming.bounds c.args.session.now desk c.args.key.now (sym c.if-is_declared.ensures)
+
+pub returns-then-not-is_key : goal.returns-then-not-is_key
+returns-then-not-is_key g c = λ desk. delete_key g.J.Naming.bounds c.args.session.now desk c.args.key.now (sym c.if-is_declared.ensures) (sym c.if-not-is_key.ensures)
+
+pub returns : goal.returns
+returns g c = λ desk.
+    delete_entered g.J.Naming.bounds c.args.session.now desk c.args.key.now (sym c.if-is_declared.ensures) (sym c.if-not-is_key.ensures) c.enter_delete-entered.new.session
+    c.enter_delete-entered.result (c.enter_delete-entered.ensures.ok, c.enter_delete-entered.ensures.same, c.enter_delete-entered.ensures.err) c.reply_to.result c.reply_to.ensures

@@ -1,0 +1,17 @@
+use Rattle.std.proofs.Common.{sym}
+use Rattle.tx_play.proofs.Entering.{put_late, put_key, put_value, put_entered}
+use Rattle.tx_play.proofs.deeds.buffer.put.Goals as goal
+
+pub returns-then-is_declared : goal.returns-then-is_declared
+returns-then-is_declared g c = λ desk. put_late g.J.Naming.bounds c.args.session.now desk c.args.key.now c.args.value.now (sym c.if-is_declared.ensures)
+
+pub returns-then-not-is_key : goal.returns-then-not-is_key
+returns-then-not-is_key g c = λ desk. put_key g.J.Naming.bounds c.args.session.now desk c.args.key.now c.args.value.now (sym c.if-is_declared.ensures) (sym c.if-not-is_key.ensures)
+
+pub returns-then-not-is_value : goal.returns-then-not-is_value
+returns-then-not-is_value g c = λ desk. put_value g.J.Naming.bounds c.args.session.now desk c.args.key.now c.args.value.now (sym c.if-is_declared.ensures) (sym c.if-not-is_key.ensures) (sym c.if-not-is_value.ensures)
+
+pub returns : goal.returns
+returns g c = λ desk.
+    put_entered g.J.Naming.bounds c.args.session.now desk c.args.key.now c.args.value.now (sym c.if-is_declared.ensures) (sym c.if-not-is_key.ensures) (sym c.if-not-is_value.ensures) c.enter_put-entered.new.session
+    c.enter_put-entered.result (c.enter_put-entered.ensures.ok, c.enter_put-entered.ensures.same, c.enter_put-entered.ensures.err) c.reply_to.result c.reply_to.ensures

@@ -1,0 +1,146 @@
+//! What a session does in its buffer: it puts, deletes and locks keys, and declares them.
+ghost use Rattle.std.specs.Prelude.{◌≡◌, ◌⊎◌, true, false, IfErr, OnOk, OnErr};
+ghost use Rattle.tx_types.specs.declared.mutation.Mutation.TheVariants as mutation;
+ghost use Rattle.tx_client.specs.Buffers.{touched, locked, is_full};
+ghost use Rattle.tx_client.specs.Calls.{seated};
+ghost use Rattle.tx_client.specs.Sessions.{is_declared};
+ghost use Rattle.tx_play.specs.Posts.{Desk};
+ghost use Rattle.tx_play.specs.Places.{Did};
+ghost use Rattle.tx_play.specs.Scenes.{is_key as key_test, is_value as value_test, puts, deletes, locks, declares, entered_by};
+
+use crate::acts::declare_at;
+use crate::deeds::{is_key, is_value};
+use crate::post::Post;
+use crate::step::Reply;
+use std::alloc::Global;
+use tx_cells::Families;
+use tx_client::{Session, Terms};
+use tx_journal::Naming;
+use tx_types::{Cause, Fault, Key, Value};
+
+// Enters a put into the buffer.
+fn enter_put<J: Naming>(
+    alloc: Global,
+    session: &mut Session<J>,
+    key: &str,
+    value: &str,
+) -> Result<(), Fault>
+    requires undeclared { is_declared session.old.state ≡ false }
+    requires fits { (key_test key.now ≡ true) × (value_test value.now ≡ true) }
+    ensures ok { OnOk result ((is_full session.old.state.buffer key.now ≡ false) × (session.new ≡ seated (record session.old.state { buffer = touched session.old.state.buffer key.now (mutation.Put value.now) }) session.old.seat)) }
+    ensures same { OnErr result (session.new ≡ session.old) }
+    ensures err { IfErr result (λ e. (e ≡ Fault.OutOfMemory) ⊎ ((e ≡ Fault.TooManyKeys) × (is_full session.old.state.buffer key.now ≡ true))) }
+{
+    let key = Key::new(alloc, key.as_bytes())?;
+    let value = Value::new(alloc, value.as_bytes())?;
+    session.put(key, value)
+}
+
+// Enters a delete into the buffer.
+fn enter_delete<J: Naming>(alloc: Global, session: &mut Session<J>, key: &str) -> Result<(), Fault>
+    requires undeclared { is_declared session.old.state ≡ false }
+    requires fits { key_test key.now ≡ true }
+    ensures ok { OnOk result ((is_full session.old.state.buffer key.now ≡ false) × (session.new ≡ seated (record session.old.state { buffer = touched session.old.state.buffer key.now mutation.Delete }) session.old.seat)) }
+    ensures same { OnErr result (session.new ≡ session.old) }
+    ensures err { IfErr result (λ e. (e ≡ Fault.OutOfMemory) ⊎ ((e ≡ Fault.TooManyKeys) × (is_full session.old.state.buffer key.now ≡ true))) }
+{
+    let key = Key::new(alloc, key.as_bytes())?;
+    session.delete(key)
+}
+
+// Enters a lock into the buffer, where the key is not there.
+fn enter_lock<J: Naming>(alloc: Global, session: &mut Session<J>, key: &str) -> Result<(), Fault>
+    requires undeclared { is_declared session.old.state ≡ false }
+    requires fits { key_test key.now ≡ true }
+    ensures ok { OnOk result ((is_full session.old.state.buffer key.now ≡ false) × (session.new ≡ seated (record session.old.state { buffer = locked session.old.state.buffer key.now }) session.old.seat)) }
+    ensures same { OnErr result (session.new ≡ session.old) }
+    ensures err { IfErr result (λ e. (e ≡ Fault.OutOfMemory) ⊎ ((e ≡ Fault.TooManyKeys) × (is_full session.old.state.buffer key.now ≡ true))) }
+{
+    let key = Key::new(alloc, key.as_bytes())?;
+    session.lock(key)
+}
+
+// What a change of the buffer gives.
+fn reply_to(entered: Result<(), Fault>) -> Reply
+    ensures { result ≡ entered_by entered }
+{
+    match entered {
+        Ok(()) => Reply::Fine,
+        Err(Fault::TooManyKeys) => Reply::TooManyKeys,
+        Err(_) => Reply::OutOfMemory,
+    }
+}
+
+/// A session enters a put into its buffer. `Order` after it declared.
+pub(crate) fn put<J: Naming>(
+    alloc: Global,
+    session: &mut Session<J>,
+    key: &str,
+    value: &str,
+) -> Result<Reply, Cause>
+    ensures { (desk : Desk) → Did J.bounds (λ refused scene k s. puts refused scene k s key.now value.now) result session.old session.new desk desk }
+{
+    if session.is_declared() {
+        return Err(Cause::Order);
+    }
+    if !is_key(key) {
+        return Ok(Reply::KeyLength);
+    }
+    if !is_value(value) {
+        return Ok(Reply::ValueLength);
+    }
+    let entered = enter_put(alloc, session, key, value);
+    Ok(reply_to(entered))
+}
+
+/// It enters a delete. `Order` after it declared.
+pub(crate) fn delete<J: Naming>(
+    alloc: Global,
+    session: &mut Session<J>,
+    key: &str,
+) -> Result<Reply, Cause>
+    ensures { (desk : Desk) → Did J.bounds (λ refused scene k s. deletes refused scene k s key.now) result session.old session.new desk desk }
+{
+    if session.is_declared() {
+        return Err(Cause::Order);
+    }
+    if !is_key(key) {
+        return Ok(Reply::KeyLength);
+    }
+    let entered = enter_delete(alloc, session, key);
+    Ok(reply_to(entered))
+}
+
+/// It enters a lock, where the key is not in its buffer. `Order` after it declared.
+pub(crate) fn lock<J: Naming>(
+    alloc: Global,
+    session: &mut Session<J>,
+    key: &str,
+) -> Result<Reply, Cause>
+    ensures { (desk : Desk) → Did J.bounds (λ refused scene k s. locks refused scene k s key.now) result session.old session.new desk desk }
+{
+    if session.is_declared() {
+        return Err(Cause::Order);
+    }
+    if !is_key(key) {
+        return Ok(Reply::KeyLength);
+    }
+    let entered = enter_lock(alloc, session, key);
+    Ok(reply_to(entered))
+}
+
+/// A session declares its buffer, once.
+pub(crate) fn declare<J: Naming, F: Families>(
+    alloc: Global,
+    session: &mut Session<J>,
+    post: &mut Post<J, F>,
+    terms: Terms,
+) -> Result<Reply, Cause>
+    ensures { Did J.bounds (λ refused scene k s. declares refused scene k s terms) result session.old session.new post.old post.new }
+{
+    if session.is_declared() {
+        return Err(Cause::Order);
+    }
+    let declared = declare_at(alloc, session, post, terms);
+    Ok(reply_to(declared))
+}
