@@ -1,5 +1,5 @@
 //! What a session does in one thread: it knows what is newest before it acts, and what it knows after is the newest.
-ghost use Rattle.std.specs.Prelude.{◌≡◌, ◌<◌, ◌+◌, [], ◌∷◌, ◌⊎◌, Some, None, true, false, IfOk, IfErr, OnErr, OnOk};
+ghost use Rattle.std.specs.Prelude.{◌≡◌, ◌<◌, ◌+◌, [], ◌∷◌, ◌⊎◌, Some, None, true, false, IfOk, IfErr, OnOk, IfSome, IfNone};
 ghost use Rattle.tx_core.specs.declared.event.Event.TheVariants as events;
 ghost use Rattle.tx_core.specs.Histories.{last};
 ghost use Rattle.tx_client.specs.Sessions.{begun, can_draw, declaration, exceeds, finish_of, is_declared};
@@ -93,15 +93,17 @@ pub(crate) fn tick_at<J: Naming, F: Families>(
     clerk: &mut Seat<J>,
     post: &mut Post<J, F>,
     ticks: u32,
-) -> Result<Ts, Fault>
+) -> Option<Ts>
     requires some { 0 < ticks }
-    ensures drawn { IfOk result (λ t. (clerk.old.ticks ≡ clerk.new.ticks + ticks) × Serves clerk.old clerk.new post.old post.new ((t ≡ last post.old.newest + ticks) × (post.new.newest ≡ events.Drawn clerk.old.seat (last post.old.newest + ticks) ∷ post.old.newest))) }
-    ensures spent { OnErr result ((clerk.old.ticks < ticks) × (clerk.new.ticks ≡ clerk.old.ticks) × Serves clerk.old clerk.new post.old post.new (post.new.newest ≡ post.old.newest)) }
+    ensures drawn { IfSome result (λ t. (clerk.old.ticks ≡ clerk.new.ticks + ticks) × Serves clerk.old clerk.new post.old post.new ((t ≡ last post.old.newest + ticks) × (post.new.newest ≡ events.Drawn clerk.old.seat (last post.old.newest + ticks) ∷ post.old.newest))) }
+    ensures spent { IfNone result ((clerk.old.ticks < ticks) × (clerk.new.ticks ≡ clerk.old.ticks) × Serves clerk.old clerk.new post.old post.new (post.new.newest ≡ post.old.newest)) }
 {
     clerk.learn(post.newest());
-    let last = clerk.draw(ticks)?;
+    let Ok(last) = clerk.draw(ticks) else {
+        return None;
+    };
     post.set_newest(clerk.tell());
-    Ok(last)
+    Some(last)
 }
 
 /// The seat for what no session does reads a key at a timestamp.

@@ -224,15 +224,16 @@ impl<J: Naming, F: Families> Engine<J, F> {
 
     // So many ticks are drawn.
     fn tick(&mut self, ticks: u32) -> Result<Reply, Cause>
+        requires ready { AllSeated J.bounds 1 self.old }
         ensures goes { Goes J.bounds self.old self.new (Turned J.bounds (tick ticks) result self.old self.new) }
     {
         if ticks == 0 {
             return Err(Cause::Form);
         }
-        match tick_at(&mut self.clerk, &mut self.post, ticks) {
-            Ok(last) => Ok(Reply::Last(last)),
-            Err(_) => Ok(Reply::OracleSpent),
-        }
+        let Some(last) = tick_at(&mut self.clerk, &mut self.post, ticks) else {
+            return Ok(Reply::OracleSpent);
+        };
+        Ok(Reply::Last(last))
     }
 
     /// Plays one step.
