@@ -22,7 +22,7 @@ use Rattle.tx_client.specs.Sessions.{State, begun, finish_of}
 use Rattle.tx_play.specs.declared.places.Slot.TheVariants.{Free, Live, Lent}
 use Rattle.tx_play.specs.declared.step.Reply.{Reply}
 use Rattle.tx_play.specs.declared.step.Reply.TheVariants as reply
-use Rattle.tx_play.specs.Posts.{Desk, stage_of}
+use Rattle.tx_play.specs.Posts.{Desk, stage_of, with_events}
 use Rattle.tx_play.specs.Steps.{Deed, Call, begin, acts, finish, stop}
 use Rattle.tx_play.specs.Scenes.{Place, free, session, Scene, Turn, goes, stops, is_name, at_stage, at_history, with_session, seat_at, began, gone, first_free, lives, at_place, live_at, in_session, deeds, finishes, finishes_by, leaves, begins, turn}
 use Rattle.tx_play.specs.Plays.{Leads}
@@ -103,7 +103,7 @@ module _ (bounds : List Key) where
 
           pub step_begun : (new : Held) (seat : Known) (live : Seated) (lent : List Kept) → slice_get old.places k ≡ Some (Free seat) → lent ≡ slice_set old.places k Lent → new.places ≡ slice_set lent k (Live live) → new.clerk ≡ old.clerk
               → ((q : List ℕ) → name_at new.names q ≡ update bytes_eq (name_at old.names) name (Some k) q) → AllSeated bounds 1 old
-              → (said : ℕ) → live.state ≡ begun said → Acts seat live.seat old.desk new.desk ((said ≡ last old.desk.newest + 1) × (new.desk.newest ≡ Began (last old.desk.newest + 1) ∷ Drawn seat.seat (last old.desk.newest + 1) ∷ old.desk.newest))
+              → (said : ℕ) → live.state ≡ begun said → Acts seat live.seat old.desk new.desk ((said ≡ last old.desk.newest + 1) × (stage_of new.desk ≡ with_events (stage_of old.desk) (Began (last old.desk.newest + 1) ∷ Drawn seat.seat (last old.desk.newest + 1) ∷ old.desk.newest)))
               → Goes bounds old new (Turned bounds (begin name) (Ok (reply.Start said)) old new)
           step_begun new seat live lent there lends placed clerk names ready said state act =
               let is : new.places ≡ slice_set old.places k (Live live) = put old.places lent new.places k (Live live) lends placed in
@@ -111,10 +111,10 @@ module _ (bounds : List Key) where
               acted old new k (Free seat) (Live live) there is clerk seat live.seat refl refl bounds _ _ act
               (λ x. goes_at bounds (λ refused. turn bounds refused (begin name) (scene_of old)) (false ∷ []) _ _ _ _ begun_is
               (let t = last old.desk.newest + 1 in
-              let events : new.desk.newest ≡ Began t ∷ Drawn (seat_at bounds k) t ∷ old.desk.newest = x.1 ∙ ap (λ n. Began t ∷ Drawn n t ∷ old.desk.newest) number in
+              let events : stage_of new.desk ≡ with_events (stage_of old.desk) (Began t ∷ Drawn (seat_at bounds k) t ∷ old.desk.newest) = x.1 ∙ ap (λ n. with_events (stage_of old.desk) (Began t ∷ Drawn n t ∷ old.desk.newest)) number in
               let there_is : map place_of new.places ≡ slice_set (map place_of old.places) k (session (begun t)) =
               ap (map place_of) is ∙ (map-set place_of old.places k (Live live) ∙ ap (λ s. slice_set (map place_of old.places) k (session s)) (state ∙ ap begun x.0)) in
-              λ i. scene_with (record { history = sym events i }) (λ q. sym (names q) i) (sym there_is i))
+              λ i. scene_with (sym events i) (λ q. sym (names q) i) (sym there_is i))
               (ap reply.Start (sym x.0)))
 
   -- ---- the step of a session
@@ -171,18 +171,18 @@ module _ (bounds : List Key) where
       step_acted new t lent lends placed clerk names deed (Err c) (same, desk, halts) =
           let is : new.places ≡ old.places = back old.places lent new.places k (Live s) there lends (placed ∙ ap (λ x. slice_set lent k (Live x)) same) in
           step_stops old new (acts name deed) c (ap (λ (d : Desk). d.regions) desk) (ap (λ (d : Desk). d.newest) desk) clerk is
-          (λ later. ap (λ o. in_session o (λ j y. deeds later (scene_of old) j y bounds deed)) (is_live k named s there) ∙ halts later (scene_of old) k)
+          (λ later. ap (λ o. in_session o (λ j y. deeds later (scene_of old) j y bounds deed)) (is_live k named s there) ∙ halts later (λ q. name_at old.names q) (map place_of old.places) k)
 
       -- it is gone
       gone_is : (new : Held) (seat : Known) (lent : List Kept) → lent ≡ slice_set old.places k Lent → new.places ≡ slice_set lent k (Free seat) → ((q : List ℕ) → name_at new.names q ≡ update bytes_eq (name_at old.names) name None q)
-          → (h : History) → new.desk.newest ≡ h → gone (at_history (scene_of old) h) name k ≡ scene_of new
+          → (h : History) → stage_of new.desk ≡ with_events (stage_of old.desk) h → gone (at_history (scene_of old) h) name k ≡ scene_of new
       gone_is new seat lent lends placed names h is =
           let now : map place_of new.places ≡ slice_set (map place_of old.places) k free = ap (map place_of) (put old.places lent new.places k (Free seat) lends placed) ∙ map-set place_of old.places k (Free seat) in
-          λ i. scene_with (record { history = sym is i }) (λ q. sym (names q) i) (sym now i)
+          λ i. scene_with (sym is i) (λ q. sym (names q) i) (sym now i)
 
       -- it answers its outcome
       pub step_finished : (new : Held) (seat : Known) (lent : List Kept) → lent ≡ slice_set old.places k Lent → new.places ≡ slice_set lent k (Free seat) → new.clerk ≡ old.clerk → ((q : List ℕ) → name_at new.names q ≡ update bytes_eq (name_at old.names) name None q)
-          → (o : Outcome) → finish_of s.state ≡ Some o → Acts s.seat seat old.desk new.desk (new.desk.newest ≡ Answered s.state.start o ∷ old.desk.newest) → Goes bounds old new (Turned bounds (finish name) (Ok (reply.Ended o)) old new)
+          → (o : Outcome) → finish_of s.state ≡ Some o → Acts s.seat seat old.desk new.desk (stage_of new.desk ≡ with_events (stage_of old.desk) (Answered s.state.start o ∷ old.desk.newest)) → Goes bounds old new (Turned bounds (finish name) (Ok (reply.Ended o)) old new)
       step_finished new seat lent lends placed clerk names o ends act =
           acted old new k (Live s) (Free seat) there (put old.places lent new.places k (Free seat) lends placed) clerk s.seat seat refl refl bounds _ _ act
           (λ x. goes_at bounds (λ refused. turn bounds refused (finish name) (scene_of old)) [] (reply.Ended o) (reply.Ended o) (gone (at_history (scene_of old) (Answered s.state.start o ∷ old.desk.newest)) name k) (scene_of new)
@@ -198,12 +198,12 @@ module _ (bounds : List Key) where
 
       -- it stops
       pub step_stopped : (new : Held) (seat : Known) (lent : List Kept) → lent ≡ slice_set old.places k Lent → new.places ≡ slice_set lent k (Free seat) → new.clerk ≡ old.clerk → ((q : List ℕ) → name_at new.names q ≡ update bytes_eq (name_at old.names) name None q)
-          → Acts s.seat seat old.desk new.desk (new.desk.newest ≡ Stopped s.seat.seat ∷ old.desk.newest) → Goes bounds old new (Turned bounds (stop name) (Ok reply.Fine) old new)
+          → Acts s.seat seat old.desk new.desk (stage_of new.desk ≡ with_events (stage_of old.desk) (Stopped s.seat.seat ∷ old.desk.newest)) → Goes bounds old new (Turned bounds (stop name) (Ok reply.Fine) old new)
       step_stopped new seat lent lends placed clerk names act =
           acted old new k (Live s) (Free seat) there (put old.places lent new.places k (Free seat) lends placed) clerk s.seat seat refl refl bounds _ _ act
           (λ x. goes_at bounds (λ refused. turn bounds refused (stop name) (scene_of old)) [] reply.Fine reply.Fine (gone (at_history (scene_of old) (Stopped (seat_at bounds k) ∷ old.desk.newest)) name k) (scene_of new)
           (λ later. ap (λ l. in_session l (λ j y. leaves later (scene_of old) j y bounds name)) (is_live k named s there))
-          (gone_is new seat lent lends placed names (Stopped (seat_at bounds k) ∷ old.desk.newest) (x ∙ ap (λ n. Stopped n ∷ old.desk.newest) number)) refl)
+          (gone_is new seat lent lends placed names (Stopped (seat_at bounds k) ∷ old.desk.newest) (x ∙ ap (λ n. with_events (stage_of old.desk) (Stopped n ∷ old.desk.newest)) number)) refl)
 
 -- ---- the first free place
 

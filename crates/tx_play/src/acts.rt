@@ -3,6 +3,7 @@ ghost use Rattle.std.specs.Prelude.{◌≡◌, ◌<◌, ◌+◌, ◌∷◌, ◌�
 ghost use Rattle.tx_core.specs.declared.event.Event.TheVariants as events;
 ghost use Rattle.tx_core.specs.Histories.{last};
 ghost use Rattle.tx_client.specs.Sessions.{begun, can_draw, declaration, exceeds, finish_of, is_declared};
+ghost use Rattle.tx_play.specs.Posts.{stage_of, with_events};
 ghost use Rattle.tx_play.specs.Places.{Acts};
 ghost use Rattle.tx_play.specs.Scenes.{declared_in};
 
@@ -22,7 +23,7 @@ pub fn begin_at<J: Naming, F: Families>(
 ) -> (Session<J>, Ts)
     requires ticks { 0 < seat.ticks }
     ensures state { result.0.state ≡ begun result.1 }
-    ensures acts { Acts seat result.0.seat post.old post.new ((result.1 ≡ last post.old.newest + 1) × (post.new.newest ≡ events.Began (last post.old.newest + 1) ∷ events.Drawn seat.seat (last post.old.newest + 1) ∷ post.old.newest)) }
+    ensures acts { Acts seat result.0.seat post.old post.new ((result.1 ≡ last post.old.newest + 1) × (stage_of post.new ≡ with_events (stage_of post.old) (events.Began (last post.old.newest + 1) ∷ events.Drawn seat.seat (last post.old.newest + 1) ∷ post.old.newest))) }
 {
     seat.learn(post.newest());
     let Ok(mut session) = Session::begin(alloc, seat) else {
@@ -41,8 +42,8 @@ pub fn declare_at<J: Naming, F: Families>(
     terms: Terms,
 ) -> Result<(), Fault>
     requires { is_declared session.old.state ≡ false }
-    ensures ok { OnOk result ((exceeds session.old.state.buffer terms ≡ false) × (session.new.state ≡ record session.old.state { declared = Some terms }) × Acts session.old.seat session.new.seat post.old post.new (post.new.newest ≡ declared_in post.old.newest (declaration session.old.state.start session.old.state.buffer terms))) }
-    ensures err { IfErr result (λ e. ((e ≡ Fault.OutOfMemory) ⊎ ((e ≡ Fault.TooManyKeys) × (exceeds session.old.state.buffer terms ≡ true))) × (session.new.state ≡ session.old.state) × Acts session.old.seat session.new.seat post.old post.new (post.new.newest ≡ post.old.newest)) }
+    ensures ok { OnOk result ((exceeds session.old.state.buffer terms ≡ false) × (session.new.state ≡ record session.old.state { declared = Some terms }) × Acts session.old.seat session.new.seat post.old post.new (stage_of post.new ≡ with_events (stage_of post.old) (declared_in post.old.newest (declaration session.old.state.start session.old.state.buffer terms)))) }
+    ensures err { IfErr result (λ e. ((e ≡ Fault.OutOfMemory) ⊎ ((e ≡ Fault.TooManyKeys) × (exceeds session.old.state.buffer terms ≡ true))) × (session.new.state ≡ session.old.state) × Acts session.old.seat session.new.seat post.old post.new (stage_of post.new ≡ stage_of post.old)) }
 {
     session.hear_of(post.newest());
     let declared = session.declare(alloc, terms);
@@ -55,7 +56,7 @@ pub fn draw_at<J: Naming, F: Families>(session: &mut Session<J>, post: &mut Post
     requires can { can_draw session.old.state ≡ true }
     requires ticks { 0 < session.old.seat.ticks }
     ensures state { session.new.state ≡ record session.old.state { drawn = Some result } }
-    ensures acts { Acts session.old.seat session.new.seat post.old post.new ((result ≡ last post.old.newest + 1) × (post.new.newest ≡ events.Drawn session.old.seat.seat (last post.old.newest + 1) ∷ post.old.newest)) }
+    ensures acts { Acts session.old.seat session.new.seat post.old post.new ((result ≡ last post.old.newest + 1) × (stage_of post.new ≡ with_events (stage_of post.old) (events.Drawn session.old.seat.seat (last post.old.newest + 1) ∷ post.old.newest))) }
 {
     session.hear_of(post.newest());
     let Ok(commit) = session.draw_commit() else {
@@ -70,7 +71,7 @@ pub fn finish_at<J: Naming, F: Families>(
     mut session: Session<J>,
     post: &mut Post<J, F>,
 ) -> Result<(Outcome, Seat<J>), Session<J>>
-    ensures ended { IfOk result (λ r. (finish_of session.state ≡ Some r.0) × Acts session.seat r.1 post.old post.new (post.new.newest ≡ events.Answered session.state.start r.0 ∷ post.old.newest)) }
+    ensures ended { IfOk result (λ r. (finish_of session.state ≡ Some r.0) × Acts session.seat r.1 post.old post.new (stage_of post.new ≡ with_events (stage_of post.old) (events.Answered session.state.start r.0 ∷ post.old.newest))) }
     ensures open_yet { IfErr result (λ s. (finish_of session.state ≡ None) × (s.state ≡ session.state) × Acts session.seat s.seat post.old post.new (post.new.newest ≡ post.old.newest)) }
 {
     session.hear_of(post.newest());
@@ -88,7 +89,7 @@ pub fn finish_at<J: Naming, F: Families>(
 
 /// A session stops.
 pub fn stop_at<J: Naming, F: Families>(mut session: Session<J>, post: &mut Post<J, F>) -> Seat<J>
-    ensures acts { Acts session.seat result post.old post.new (post.new.newest ≡ events.Stopped session.seat.seat ∷ post.old.newest) }
+    ensures acts { Acts session.seat result post.old post.new (stage_of post.new ≡ with_events (stage_of post.old) (events.Stopped session.seat.seat ∷ post.old.newest)) }
 {
     session.hear_of(post.newest());
     let mut seat = session.stop();
