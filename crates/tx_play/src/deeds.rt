@@ -34,7 +34,7 @@ pub(crate) fn is_value(value: &str) -> bool
 
 // What becomes of its request.
 fn way_of<'a>(act: &Act<'a>) -> Way<&'a str>
-    ensures { by_name (λ n. n.now) result.exit ≡ course_of (deed_of act.now) }
+    ensures { by_name (λ n. n.now) result ≡ course_of (deed_of act.now) }
 {
     match *act {
         Act::Get(_, way)
