@@ -55,7 +55,6 @@ module _ (bounds : List Key) (from : History) where
   sent_grows Repeat refused scene body on grow =
       either from scene.stage.history (is_refused refused) _ _ (grow came.Unsaid scene (later_of refused))
       (asked_grows (later_of refused) scene body (λ c next left. asked bounds left next body on) (λ c next left. asked_grows left next body on grow))
-
   sent_grows (Hold name) refused scene body on grow =
       either from scene.stage.history (is_refused refused) _ _ (grow came.Unsaid scene (later_of refused)) (grow came.Lost (at_stage scene (holding scene.stage name body)) (later_of refused))
 
@@ -129,7 +128,6 @@ module _ (bounds : List Key) where
     turn_grows refused (acts name deed) = session_grows (live_at scene name) _ (λ k s. deed_grows refused k s deed)
     turn_grows refused (finish name) = session_grows (live_at scene name) _ (λ k s. finish_grows refused k s name (finish_of s))
     turn_grows refused (stop name) = session_grows (live_at scene name) _ (λ k s. inr (begins_all h))
-
     turn_grows refused (deliver name) = deliver_grows refused (scene.stage.held name)
 
   -- ---- plays

@@ -36,3 +36,5 @@ pub mod Doing
 pub mod Entering
 -- What a session asks of the regions is its turn.
 pub mod Asking
+-- What a delivery gives is its turn.
+pub mod Delivering

@@ -33,7 +33,7 @@ abbrev Leading : (bounds : List Key) (Goes : List Bool → Scene → Reply → L
 Leading bounds Goes on turn = (bits : List Bool) × ((g later : List Bool) → Leads bounds (Goes g) (λ c. ⊥) (on later) → Leads bounds (Goes g) (λ c. ⊥) (turn (bits ++ later)))
 
 module _ (bounds : List Key) (Goes : List Bool → Scene → Reply → List Bool → Type 0) where
-  asked_leads : (scene : Scene) (body : Body) (c : Came) (next : Stage) → Met bounds scene.stage body c next → (on : Came → Scene → List Bool → Turn) → Leading bounds Goes (on c (at_stage scene next)) (λ refused. asked bounds refused scene body on)
+  pub asked_leads : (scene : Scene) (body : Body) (c : Came) (next : Stage) → Met bounds scene.stage body c next → (on : Came → Scene → List Bool → Turn) → Leading bounds Goes (on c (at_stage scene next)) (λ refused. asked bounds refused scene body on)
   asked_leads scene body came.Lost next met on = absurd met
   asked_leads scene body came.Unsaid next met on = (true ∷ [], λ g later leads. subst (λ s. Leads bounds (Goes g) (λ c. ⊥) (on came.Unsaid (at_stage scene s) later)) met leads)
   asked_leads scene body (came.Said a) next met on = (false ∷ [], λ g later leads. (a, met.0, subst (λ s. Leads bounds (Goes g) (λ c. ⊥) (on (came.Said a) (at_stage scene s) later)) met.1 leads))
@@ -53,7 +53,6 @@ module _ (bounds : List Key) (Goes : List Bool → Scene → Reply → List Bool
         false ∷ (one.0 ++ two.0),
         λ g later leads. subst (λ bits. Leads bounds (Goes g) (λ c. ⊥) (asked bounds bits scene body (λ d at left. asked bounds left at body on))) (sym (append_assoc one.0 two.0 later)) (one.1 g (two.0 ++ later) (two.1 g later leads)),
       )
-
   sent_leads (Hold name) scene body came.Lost next reach on = (false ∷ [], λ g later leads. subst (λ s. Leads bounds (Goes g) (λ c. ⊥) (on came.Lost (at_stage scene s) later)) reach leads)
   sent_leads (Hold name) scene body came.Unsaid next reach on = (true ∷ [], λ g later leads. subst (λ s. Leads bounds (Goes g) (λ c. ⊥) (on came.Unsaid (at_stage scene s) later)) reach leads)
   sent_leads (Hold name) scene body (came.Said a) next reach on = absurd reach

@@ -7,6 +7,7 @@ ghost use Rattle.tx_play.specs.Posts.{by_name};
 ghost use Rattle.tx_play.specs.Steps.{course_of, deed_of};
 
 mod buffer;
+mod delivery;
 mod sending;
 
 use crate::deeds::buffer::{declare, delete, lock, put};
