@@ -1,12 +1,12 @@
 -- What a session's acts count, and what they are where nobody else acted.
-use Rattle.std.proofs.Common.{◌≡◌, ◌≤◌, ◌+◌, ℕ, List, [], ◌∷◌, length, refl, Option, Some, None, Result, Ok, Err, sym, ap, subst, ◌∙◌, arith}
+use Rattle.std.proofs.Common.{◌≡◌, ◌≤◌, ◌+◌, ℕ, List, ◌∷◌, length, Option, Some, None, Result, Ok, Err, sym, ap, subst, ◌∙◌, arith}
 use Rattle.std.specs.List.{sum_by}
 use Rattle.std.specs.Prelude.{OnOk, OnErr, IfErr}
 use Rattle.tx_types.specs.declared.key.Key.{Key}
 use Rattle.tx_core.specs.declared.event.Declaration.{Declaration}
 use Rattle.tx_core.specs.declared.event.Event.{Event}
 use Rattle.tx_core.specs.declared.event.Event.TheVariants.{Began, Declared, Drawn}
-use Rattle.tx_core.specs.Histories.{History, last, Begins}
+use Rattle.tx_core.specs.Histories.{History, last}
 use Rattle.tx_core.specs.Recording.{part}
 use Rattle.tx_core.proofs.seats.Beginnings.{begins_length, begins_whole}
 use Rattle.tx_journal.specs.Known.{Known}
@@ -18,7 +18,7 @@ use Rattle.tx_play.specs.Scenes.{declared_in}
 use Rattle.tx_play.proofs.Alone.{recorded_grows, recorded_alone, drawn_grows, drawn_number, drawn_alone, begun_grows, begun_number, begun_alone}
 use Rattle.tx_play.proofs.Counts.{recorded_part, drawn_part}
 use Rattle.tx_play.proofs.Stages.{same_stage}
-use Rattle.tx_play.proofs.Walking.{Comes, walk_comes}
+use Rattle.tx_play.proofs.Walking.{walk_comes}
 
 -- one and the same seat
 made_same : (k l : Known) → l.seat ≡ k.seat → length (part k.seat l.events) ≤ length (part k.seat k.events) → made_by l ≤ made_by k

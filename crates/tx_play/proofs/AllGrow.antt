@@ -18,7 +18,7 @@ use Rattle.tx_client.specs.Walks.{Walk, asks, grows, ends, get_walk, scan_walk, 
 use Rattle.tx_play.specs.declared.post.Way.TheVariants.{Plain, Lose, LoseReply, Repeat, Hold}
 use Rattle.tx_play.specs.declared.step.Reply.{Reply}
 use Rattle.tx_play.specs.declared.step.Reply.TheVariants as reply
-use Rattle.tx_play.specs.Posts.{Course, Stage, taken, holding}
+use Rattle.tx_play.specs.Posts.{Course, taken, holding}
 use Rattle.tx_play.specs.Steps.{Deed, put, delete, lock, get, scan, declare, prewrite, draw, commit, abort, heartbeat, course_of, Call, begin, acts, finish, stop, deliver}
 use Rattle.tx_play.specs.Scenes.{Scene, Turn, goes, inquires, stops, is_refused, later_of, calls, is_key, is_value, is_name, at_stage, at_history, with_session, began, declared_in, read_by, said_by, asked, sent, runs, runs_to, first_free, live_at, enters, may_go, deeds_by, deeds, delivered_by, delivers, finishes_by, begins_at, in_session, turn}
 use Rattle.tx_play.specs.Plays.{Leads, Played, Plays}

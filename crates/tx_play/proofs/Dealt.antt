@@ -1,5 +1,5 @@
 -- An engine over the seats of a new journal.
-use Rattle.std.proofs.Common.{◌≡◌, ◌<◌, ◌≤◌, ◌+◌, ℕ, suc, List, [], ◌∷◌, ◌++◌, map, length, replicate, slice_get, slice_index_or, drop, Some, None, Result, Ok, Err, refl, sym, ap, subst, ◌∙◌, append-nil, arith, length-append}
+use Rattle.std.proofs.Common.{◌≡◌, ◌<◌, ◌≤◌, ◌+◌, ℕ, suc, List, [], ◌∷◌, ◌++◌, map, length, replicate, slice_get, slice_index_or, drop, Some, Result, Ok, Err, refl, sym, ap, subst, ◌∙◌, append-nil, arith, length-append}
 use Rattle.std.specs.Prelude.{All}
 use Rattle.std.proofs.Math.ListN.{get_or-append}
 use Rattle.std.proofs.Math.Seq.{get_or-append_seam}
@@ -12,22 +12,26 @@ use Rattle.tx_journal.specs.Known.{Known, known}
 use Rattle.tx_play.specs.declared.places.Slot.TheVariants.{Free}
 use Rattle.tx_play.specs.declared.step.Reply.{Reply}
 use Rattle.tx_play.specs.declared.step.End.TheVariants.{Well}
-use Rattle.tx_play.specs.Posts.{Desk, AreNumbered, made_by, body_at}
+use Rattle.tx_play.specs.Posts.{AreNumbered, made_by, body_at}
 use Rattle.tx_play.specs.Steps.{Call}
 use Rattle.tx_play.specs.Scenes.{free, opening}
 use Rattle.tx_play.specs.Plays.{ending}
-use Rattle.tx_play.specs.Places.{Held, Kept, seat_in, place_of, name_at, made_in, AreSeated, AllSeated}
+use Rattle.tx_play.specs.Places.{Held, seat_in, place_of, name_at, made_in, AreSeated, AllSeated}
 use Rattle.tx_play.specs.Openings.{frees, AreDealt}
 use Rattle.tx_play.specs.Scripts.{IsOpening, BreaksScript}
 use Rattle.tx_play.proofs.Keeping.{seated_fewer}
 use Rattle.tx_play.proofs.OnePlay.{is_play}
 
-pub dealt : (i : ℕ) (seats : List Known) → ((k : ℕ) → k < length seats → slice_get seats k ≡ Some (known (i + k) 4294967296 [])) → AreDealt i seats
+dealt : (i : ℕ) (seats : List Known) → ((k : ℕ) → k < length seats → slice_get seats k ≡ Some (known (i + k) 4294967296 [])) → AreDealt i seats
 dealt i [] each = tt
 dealt i (s ∷ seats) each = (
   some_same s (known i 4294967296 []) (each 0 (omega arith) ∙ ap (λ j. Some (known j 4294967296 [])) (let e : i + 0 ≡ i = omega arith in e)),
   dealt (suc i) seats (λ k lt. each (suc k) (omega (arith, lt)) ∙ ap (λ j. Some (known j 4294967296 [])) (let e : i + suc k ≡ suc i + k = omega arith in e)),
 )
+
+-- the seats of a new journal
+pub dealt_all : (seats : List Known) (n : ℕ) → length seats ≡ n → ((k : ℕ) → k < n → slice_get seats k ≡ Some (known k 4294967296 [])) → AreDealt 0 seats
+dealt_all seats n size each = dealt 0 seats (λ k lt. each k (omega (arith, lt, size)) ∙ ap (λ j. Some (known j 4294967296 [])) (let e : k ≡ 0 + k = omega arith in e))
 
 -- one more seat at the end
 pub dealt_push : (i : ℕ) (seats : List Known) (k : Known) → k ≡ known (i + length seats) 4294967296 [] → AreDealt i seats → AreDealt i (seats ++ k ∷ [])
@@ -108,3 +112,12 @@ if_ends P (Err x) before seats n is p = tt
 pub on_breaks : {T E : Type 0} (P : ℕ → Type 0) (r : Result T E) (before seats n : ℕ) → seats ≡ before + n → OnErr r (P n) → OnErr r ((m : ℕ) → seats ≡ before + m → P m)
 on_breaks P (Ok x) before seats n is p = tt
 on_breaks P (Err x) before seats n is p = λ m also. subst P (let e : n ≡ m = omega (arith, is, also) in e) p
+
+-- what follows from what holds of a result
+pub then_ok : {T E : Type 0} (P Q : T → Type 0) (r : Result T E) → IfOk r P → ((x : T) → P x → Q x) → IfOk r Q
+then_ok P Q (Ok x) p on = on x p
+then_ok P Q (Err x) p on = tt
+
+pub then_err : {T E : Type 0} (P Q : Type 0) (r : Result T E) → OnErr r P → (P → Q) → OnErr r Q
+then_err P Q (Ok x) p on = tt
+then_err P Q (Err x) p on = on p

@@ -1,23 +1,21 @@
 -- What a delivery gives is its turn.
-use Rattle.std.proofs.Common.{◌≡◌, ◌≤◌, ◌+◌, ℕ, suc, Bool, true, false, List, [], ◌∷◌, ◌++◌, map, length, Option, Some, None, option_map, Result, Ok, Err, inl, inr, refl, sym, ap, subst, ◌∙◌, arith}
-use Rattle.std.specs.Prelude.{◌⊎◌, IfNone, IfSome}
+use Rattle.std.proofs.Common.{◌≡◌, ◌+◌, ℕ, suc, Bool, true, List, [], ◌∷◌, ◌++◌, map, length, Option, Some, None, option_map, Result, Ok, Err, inl, inr, refl, sym, ap, subst, ◌∙◌, arith}
+use Rattle.std.specs.Prelude.{◌⊎◌}
 use Rattle.std.specs.List.{sum_by}
 use Rattle.tx_types.specs.declared.fault.Cause.{Cause}
 use Rattle.tx_types.specs.declared.fault.Cause.TheVariants as cause
 use Rattle.tx_types.specs.declared.key.Key.{Key}
-use Rattle.tx_plan.specs.declared.body.Body.{Body}
 use Rattle.tx_plan.specs.declared.answer.Answer.{Answer}
 use Rattle.tx_journal.specs.Known.{Known}
 use Rattle.tx_journal.specs.Replies.{Asked, Given}
-use Rattle.tx_client.specs.declared.state.Came.{Came}
 use Rattle.tx_client.specs.Senders.{came_by}
 use Rattle.tx_play.specs.declared.step.Reply.{Reply}
 use Rattle.tx_play.specs.declared.step.Reply.TheVariants as reply
-use Rattle.tx_play.specs.Posts.{Desk, region_for, made_by, made_for, Hands, request_at, Stage, stage_of}
+use Rattle.tx_play.specs.Posts.{Desk, region_for, made_by, Hands, request_at, stage_of}
 use Rattle.tx_play.specs.Steps.{deliver}
-use Rattle.tx_play.specs.Scenes.{Place, Scene, goes, stops, delivered_by, delivers, turn}
+use Rattle.tx_play.specs.Scenes.{Place, goes, delivered_by, delivers, turn}
 use Rattle.tx_play.specs.Plays.{Leads}
-use Rattle.tx_play.specs.Places.{Kept, seat_in, place_of, Held, name_at, scene_with, scene_of, made_in, AreSeated, AllSeated, Goes, GoesTo, Handed, Delivered, Turned}
+use Rattle.tx_play.specs.Places.{seat_in, place_of, Held, name_at, scene_with, scene_of, made_in, AreSeated, AllSeated, Goes, GoesTo, Handed, Delivered, Turned}
 use Rattle.tx_play.proofs.Walking.{take_one}
 use Rattle.tx_play.proofs.Keeping.{rested, seated_fewer}
 use Rattle.tx_play.proofs.Turning.{goes_at, asked_leads}

@@ -1,5 +1,5 @@
 -- When all has settled, the condition holds: nobody else acted.
-use Rattle.std.proofs.Common.{◌≡◌, ◌≤◌, ◌+◌, ℕ, List, [], length, Result, Ok, Err, sym, subst, ◌∙◌}
+use Rattle.std.proofs.Common.{◌≡◌, ◌≤◌, ◌+◌, ℕ, List, length, Result, Ok, Err, sym, subst, ◌∙◌}
 use Rattle.std.specs.Result.{IfOk, OnErr}
 use Rattle.tx_types.specs.declared.key.Key.{Key}
 use Rattle.tx_core.specs.Histories.{History}

@@ -18,15 +18,15 @@ use Rattle.tx_core.specs.declared.event.Outcome.{Outcome}
 use Rattle.tx_core.specs.Histories.{History, last}
 use Rattle.tx_journal.specs.Known.{Known}
 use Rattle.tx_client.specs.Calls.{Seated}
-use Rattle.tx_client.specs.Sessions.{State, begun, finish_of}
+use Rattle.tx_client.specs.Sessions.{begun, finish_of}
 use Rattle.tx_play.specs.declared.places.Slot.TheVariants.{Free, Live, Lent}
 use Rattle.tx_play.specs.declared.step.Reply.{Reply}
 use Rattle.tx_play.specs.declared.step.Reply.TheVariants as reply
 use Rattle.tx_play.specs.Posts.{Desk, stage_of, with_events}
 use Rattle.tx_play.specs.Steps.{Deed, Call, begin, acts, finish, stop}
-use Rattle.tx_play.specs.Scenes.{Place, free, session, Scene, Turn, goes, stops, is_name, at_stage, at_history, with_session, seat_at, began, gone, first_free, lives, at_place, live_at, in_session, deeds, finishes, finishes_by, leaves, begins, turn}
+use Rattle.tx_play.specs.Scenes.{free, session, goes, stops, is_name, at_history, seat_at, began, gone, first_free, lives, at_place, live_at, in_session, deeds, finishes, finishes_by, leaves, turn}
 use Rattle.tx_play.specs.Plays.{Leads}
-use Rattle.tx_play.specs.Places.{Kept, seat_in, place_of, Held, texts, name_at, scene_with, scene_of, AllSeated, Acts, Goes, GoesTo, Did, Turned}
+use Rattle.tx_play.specs.Places.{Kept, place_of, Held, texts, name_at, scene_with, scene_of, AllSeated, Acts, Goes, Did, Turned}
 use Rattle.tx_play.proofs.Keeping.{set_here, seated_at, at_place_of, acted, rested}
 use Rattle.tx_play.proofs.Turning.{goes_at}
 

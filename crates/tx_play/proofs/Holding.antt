@@ -1,5 +1,5 @@
 -- Requests that are held under names.
-use Rattle.std.proofs.Common.{◌≡◌, ℕ, suc, cond, Bool, true, false, List, [], ◌∷◌, map, length, Option, Some, None, option_map, is_some, bytes_eq, string_bytes, String, Global, refl, sym, ap, subst, ◌∙◌}
+use Rattle.std.proofs.Common.{◌≡◌, ℕ, suc, cond, Bool, true, false, List, [], ◌∷◌, length, Option, Some, None, is_some, bytes_eq, string_bytes, String, Global, refl, sym, ap, subst, ◌∙◌}
 use Rattle.std.proofs.Common.{◌+◌}
 use Rattle.std.specs.Prelude.{IfNone, IfSome}
 use Rattle.std.specs.Map.{lookup, update}

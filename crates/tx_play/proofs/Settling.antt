@@ -10,7 +10,7 @@ use Rattle.tx_core.proofs.seats.Counting.{parts_count}
 use Rattle.tx_core.proofs.seats.Parts.{part_shorter}
 use Rattle.tx_journal.specs.Known.{Known}
 use Rattle.tx_play.specs.Posts.{made_by, IsDone, AreNumbered}
-use Rattle.tx_play.specs.Places.{Kept, seat_in, Held, made_in, at_regions, own, IsSeat, AreSeated, AllSeated, Done, Settled}
+use Rattle.tx_play.specs.Places.{Kept, seat_in, Held, made_in, own, IsSeat, AreSeated, AllSeated, Done, Settled}
 
 -- a seat that has learnt it is done
 pub done_learnt : (n : History) (old new : Known) → Begins n new.events → part old.seat new.events ≡ part old.seat old.events → IsDone n old

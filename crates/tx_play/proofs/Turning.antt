@@ -1,27 +1,19 @@
 -- What steps of a session are in the scene that the engine holds.
-use Rattle.std.proofs.Common.{◌≡◌, ◌+◌, ℕ, cond, Bool, true, false, not, ◌&&◌, List, [], ◌∷◌, ◌++◌, map, slice_get, slice_set, Option, Some, None, option_map, is_some, Result, Ok, Err, inl, inr, refl, sym, ap, subst, ◌∙◌, append_assoc, arith}
-use Rattle.std.specs.Prelude.{◌⊎◌, OnOk, OnErr, IfErr}
+use Rattle.std.proofs.Common.{◌≡◌, ℕ, Bool, true, false, List, [], ◌∷◌, ◌++◌, slice_set, Some, Ok, Err, inl, inr, refl, sym, ap, subst, ◌∙◌, append_assoc}
 use Rattle.tx_types.specs.declared.fault.Cause.{Cause}
-use Rattle.tx_types.specs.declared.fault.Cause.TheVariants as cause
-use Rattle.tx_types.specs.declared.fault.Fault.{Fault}
-use Rattle.tx_types.specs.declared.fault.Fault.TheVariants as fault
 use Rattle.tx_types.specs.declared.key.Key.{Key}
 use Rattle.tx_plan.specs.declared.body.Body.{Body}
-use Rattle.tx_core.specs.Histories.{History}
-use Rattle.tx_journal.specs.Known.{Known}
 use Rattle.tx_client.specs.declared.state.Came.{Came}
 use Rattle.tx_client.specs.declared.state.Came.TheVariants as came
-use Rattle.tx_client.specs.Buffers.{Entries, is_full}
-use Rattle.tx_client.specs.Calls.{Seated, seated}
+use Rattle.tx_client.specs.Calls.{Seated}
 use Rattle.tx_client.specs.Sessions.{State}
 use Rattle.tx_client.specs.Walks.{Walk, asks, grows, ends, Sends}
 use Rattle.tx_play.specs.declared.post.Way.TheVariants.{Plain, Lose, LoseReply, Repeat, Hold}
 use Rattle.tx_play.specs.declared.step.Reply.{Reply}
-use Rattle.tx_play.specs.declared.step.Reply.TheVariants as reply
-use Rattle.tx_play.specs.Posts.{Course, Desk, Stage, stage_of, taken, holding, IsSet, Passes, Met, Reach, Runs}
-use Rattle.tx_play.specs.Scenes.{Place, session, Scene, Turn, goes, stops, is_refused, later_of, calls, at_stage, seat_at, with_session, asked, sent, runs, runs_to, enters, entered_by}
+use Rattle.tx_play.specs.Posts.{Course, Desk, Stage, stage_of, IsSet, Passes, Met, Reach, Runs}
+use Rattle.tx_play.specs.Scenes.{session, Scene, Turn, goes, stops, at_stage, seat_at, with_session, asked, sent, runs, runs_to}
 use Rattle.tx_play.specs.Plays.{Leads}
-use Rattle.tx_play.specs.Places.{scene_with, Acts, GoesTo, SessionGoes, Sent, Did}
+use Rattle.tx_play.specs.Places.{scene_with, GoesTo, SessionGoes, Sent, Did}
 use Rattle.tx_play.proofs.Acting.{still_acts, acts_so, sent_acts}
 use Rattle.tx_play.proofs.Keeping.{set_here}
 use Rattle.tx_play.proofs.Stages.{set_regions, set_newest, set_stage, set_runs}

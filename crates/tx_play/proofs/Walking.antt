@@ -1,12 +1,9 @@
 -- A walk through the one thread's way: what it counts, and what it is where nobody else acted.
-use Rattle.std.proofs.Common.{◌≡◌, ◌≤◌, ◌+◌, ℕ, inl, inr, List, ◌∷◌, length, Option, Some, None, Ok, Err, refl, sym, ap, subst, ◌∙◌, arith}
+use Rattle.std.proofs.Common.{◌≡◌, ◌≤◌, ◌+◌, ℕ, inl, inr, List, length, Option, Some, None, Ok, Err, refl, sym, ap, subst, ◌∙◌, arith}
 use Rattle.std.specs.List.{sum_by}
 use Rattle.tx_types.specs.declared.key.Key.{Key}
 use Rattle.tx_plan.specs.declared.body.Body.{Body}
 use Rattle.tx_plan.specs.declared.answer.Answer.{Answer}
-use Rattle.tx_plan.specs.Answers.{AnswersLeast}
-use Rattle.tx_core.specs.declared.event.Event.TheVariants.{Took}
-use Rattle.tx_core.specs.Histories.{History, last, left}
 use Rattle.tx_core.specs.Recording.{part}
 use Rattle.tx_core.proofs.seats.Beginnings.{begins_length, begins_whole}
 use Rattle.tx_core.proofs.seats.Parts.{part_extends}
@@ -17,7 +14,7 @@ use Rattle.tx_client.specs.declared.state.Came.TheVariants as came
 use Rattle.tx_client.specs.Senders.{Reached, IsHeld, IsWay, came_by, came_of, Learns}
 use Rattle.tx_client.specs.Walks.{Walk, asks, grows, ends, Sends}
 use Rattle.tx_play.specs.declared.post.Way.TheVariants.{Plain, Lose, LoseReply, Repeat, Hold}
-use Rattle.tx_play.specs.Posts.{Course, Desk, region_for, made_by, made_for, TakesBy, Hands, Twice, IsUntaken, HeldUnder, Keeps, Passes, Stage, stage_of, taken, Met, MetLost, MetTwice, MetHold, LostAll, Reach, Runs}
+use Rattle.tx_play.specs.Posts.{Course, Desk, region_for, made_by, made_for, TakesBy, Hands, IsUntaken, Passes, stage_of, Met, MetHold, Reach, Runs}
 use Rattle.tx_play.proofs.Stages.{same_stage, kept_stage}
 use Rattle.tx_play.proofs.Alone.{took_grows, took_alone, took_answers}
 

@@ -16,7 +16,7 @@ use tx_journal::{Naming, Seat};
 use tx_types::{Fault, Ts};
 
 /// A session begins.
-pub fn begin_at<J: Naming, F: Families>(
+pub(crate) fn begin_at<J: Naming, F: Families>(
     alloc: Global,
     mut seat: Seat<J>,
     post: &mut Post<J, F>,
@@ -35,7 +35,7 @@ pub fn begin_at<J: Naming, F: Families>(
 }
 
 /// A session declares its buffer. A refusal is no event, and leaves its state as it was.
-pub fn declare_at<J: Naming, F: Families>(
+pub(crate) fn declare_at<J: Naming, F: Families>(
     alloc: Global,
     session: &mut Session<J>,
     post: &mut Post<J, F>,
@@ -52,7 +52,7 @@ pub fn declare_at<J: Naming, F: Families>(
 }
 
 /// A session draws its commit timestamp.
-pub fn draw_at<J: Naming, F: Families>(session: &mut Session<J>, post: &mut Post<J, F>) -> Ts
+pub(crate) fn draw_at<J: Naming, F: Families>(session: &mut Session<J>, post: &mut Post<J, F>) -> Ts
     requires can { can_draw session.old.state ≡ true }
     requires ticks { 0 < session.old.seat.ticks }
     ensures state { session.new.state ≡ record session.old.state { drawn = Some result } }
@@ -67,7 +67,7 @@ pub fn draw_at<J: Naming, F: Families>(session: &mut Session<J>, post: &mut Post
 }
 
 /// A session answers its outcome, where it has one. Where it has none, it comes back.
-pub fn finish_at<J: Naming, F: Families>(
+pub(crate) fn finish_at<J: Naming, F: Families>(
     mut session: Session<J>,
     post: &mut Post<J, F>,
 ) -> Result<(Outcome, Seat<J>), Session<J>>
@@ -88,7 +88,10 @@ pub fn finish_at<J: Naming, F: Families>(
 }
 
 /// A session stops.
-pub fn stop_at<J: Naming, F: Families>(mut session: Session<J>, post: &mut Post<J, F>) -> Seat<J>
+pub(crate) fn stop_at<J: Naming, F: Families>(
+    mut session: Session<J>,
+    post: &mut Post<J, F>,
+) -> Seat<J>
     ensures acts { Acts session.seat result post.old post.new (stage_of post.new ≡ with_events (stage_of post.old) (events.Stopped session.seat.seat ∷ post.old.newest)) }
 {
     session.hear_of(post.newest());

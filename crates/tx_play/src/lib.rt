@@ -1,14 +1,16 @@
-//! What scripts in one thread stand on: the way to the regions of a journal, what a session does there, and the steps of a live
-//! session. Each act tells how many events it made, and what it is exactly where nobody else acted.
+//! Scripts of steps in one thread, over the regions and the seats of one journal. What a script has written is what its only play
+//! has, whose events are a run of the protocol.
 #![tactic(auto)]
 
 mod acts;
 mod deeds;
+mod engine;
+mod opening;
 mod places;
 mod post;
+mod script;
 mod step;
 
-pub use acts::{begin_at, declare_at, draw_at, finish_at, stop_at};
-pub use places::Slot;
+pub use opening::run;
 pub use post::{Post, Way};
 pub use step::{Act, Broken, End, Reply, Step};

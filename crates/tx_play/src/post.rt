@@ -261,14 +261,14 @@ impl<J: Naming, F: Families> Post<J, F> {
     }
 
     /// What becomes of the next requests. Where there is no memory for the name of a hold, each is refused memory.
-    pub fn set_way(&mut self, way: Way<&str>)
+    pub(crate) fn set_way(&mut self, way: Way<&str>)
         ensures { IsSet (by_name (λ n. n.now) way.entry) self.old self.new }
     {
         self.way = own_way(self.alloc, way);
     }
 
     /// What is newest.
-    pub fn newest(&mut self) -> Told<J>
+    pub(crate) fn newest(&mut self) -> Told<J>
         ensures same { self.new ≡ self.old }
         ensures told { result ≡ self.old.newest }
     {
@@ -276,14 +276,14 @@ impl<J: Naming, F: Families> Post<J, F> {
     }
 
     /// This is newest.
-    pub fn set_newest(&mut self, newest: Told<J>)
+    pub(crate) fn set_newest(&mut self, newest: Told<J>)
         ensures { self.new ≡ record self.old { newest = newest } }
     {
         self.newest = newest;
     }
 
     /// The way to these regions.
-    pub fn new(
+    pub(crate) fn new(
         alloc: Global,
         journal: Journal<J>,
         regions: Vec<Region<J, F>>,
@@ -303,7 +303,7 @@ impl<J: Naming, F: Families> Post<J, F> {
     }
 
     /// The keys between the regions.
-    pub fn show(&self)
+    pub(crate) fn show(&self)
         ensures numbers { AreNumbered 0 self.now.regions × (length self.now.regions ≡ length J.bounds + 1) }
         ensures rising { AreRising J.bounds }
     {
@@ -313,7 +313,7 @@ impl<J: Naming, F: Families> Post<J, F> {
 
 impl<J: Naming, F: Families + Drop> Post<J, F> {
     /// Each region learns what is newest: no event of a region stands there that the region has not made.
-    pub fn settle(self, newest: &mut Told<J>, by: &Seat<J>)
+    pub(crate) fn settle(self, newest: &mut Told<J>, by: &Seat<J>)
         ensures same { newest.new ≡ newest.old }
         ensures settled { (k : Known) → Contains self.regions k → IsDone newest.old k }
     {

@@ -1,4 +1,4 @@
-use Rattle.std.proofs.Common.{sym, ap, subst}
+use Rattle.std.proofs.Common.{sym, subst}
 use Rattle.tx_core.specs.Histories.{History, Begins}
 use Rattle.tx_journal.specs.Known.{Known}
 use Rattle.tx_play.specs.Posts.{Taken}

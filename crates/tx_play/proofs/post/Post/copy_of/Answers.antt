@@ -1,4 +1,4 @@
-use Rattle.std.proofs.Common.{◌≡◌, Some, None, Result, Ok, Err, sym, subst}
+use Rattle.std.proofs.Common.{◌≡◌, Some, None, Result, sym, subst}
 use Rattle.std.specs.Prelude.{IfNone, IfSome, IfOk}
 use Rattle.tx_types.specs.declared.fault.Fault.{Fault}
 use Rattle.tx_journal.specs.Replies.{Asked}

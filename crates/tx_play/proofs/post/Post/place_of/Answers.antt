@@ -1,5 +1,4 @@
-use Rattle.std.proofs.Common.{sym, ap, subst, ◌∙◌}
-use Rattle.tx_plan.specs.declared.body.Body.{Body}
+use Rattle.std.proofs.Common.{sym, subst, ◌∙◌}
 use Rattle.tx_core.specs.Worlds.{Holds}
 use Rattle.tx_region.proofs.Routes.{holds_first}
 use Rattle.tx_play.proofs.post.Post.place_of.Goals as goal

@@ -1,4 +1,4 @@
-use Rattle.std.proofs.Common.{sym, ap, subst, ◌∙◌, arith}
+use Rattle.std.proofs.Common.{subst, ◌∙◌}
 use Rattle.tx_core.specs.Histories.{Begins}
 use Rattle.tx_play.specs.Posts.{IsDone}
 use Rattle.tx_play.proofs.Settling.{done_learnt, done_popped}

@@ -1,0 +1,70 @@
+use Rattle.std.proofs.Common.{◌≡◌, ◌≤◌, length, slice_get, Some, None, Err, refl, sym, ap, subst, ◌∙◌, arith}
+use Rattle.tx_types.specs.declared.fault.Cause.TheVariants as cause
+use Rattle.tx_play.specs.declared.places.Slot.TheVariants.{Live}
+use Rattle.tx_play.specs.Steps.{acts, deed_of}
+use Rattle.tx_play.specs.Places.{Held, texts, name_at, AllSeated, Goes, Turned}
+use Rattle.tx_play.proofs.Keeping.{at_place_of}
+use Rattle.tx_play.proofs.Engines.{named, back, no_name, no_place, not_live, act_stops, step_acted, step_stops}
+use Rattle.tx_play.proofs.engine.Engine.act.Goals as goal
+
+pub returns-in_default : goal.returns-in_default
+returns-in_default g c =
+    let s = c.self.inside in
+    let name = c.args.name.now in
+    let bounds = g.J.Naming.bounds in
+    let old : Held = record { desk = s.post; clerk = s.clerk; names = texts s.names.entries; places = s.places.items } in
+    let none : name_at old.names name ≡ None = named s.names name ∙ sym c.in_default.ensures.value in
+    record { goes = subst (λ (o : Held). Goes bounds o o (Turned bounds (acts c.args.name.now (deed_of c.args.deed.now)) (Err cause.Name) o o)) c.self.view_is (step_stops bounds old old (acts c.args.name.now (deed_of c.args.deed.now)) cause.Name refl refl refl refl (act_stops bounds old name (deed_of c.args.deed.now) (no_name bounds old name none))) }
+
+pub returns-then-k-len : goal.returns-then-k-len
+returns-then-k-len g c =
+    let s = c.self.inside in
+    let name = c.args.name.now in
+    let k = c.in-Some.field-0.now in
+    let bounds = g.J.Naming.bounds in
+    let old : Held = record { desk = s.post; clerk = s.clerk; names = texts s.names.entries; places = s.places.items } in
+    let at : name_at old.names name ≡ Some k = named s.names name ∙ sym c.in-Some.ensures.value in
+    let le : length old.places ≤ k = omega (arith, c.if-k-len.true, c.len.ensures, s.places.ok.0) in
+    record { goes = subst (λ (o : Held). Goes bounds o o (Turned bounds (acts c.args.name.now (deed_of c.args.deed.now)) (Err cause.Name) o o)) c.self.view_is (step_stops bounds old old (acts c.args.name.now (deed_of c.args.deed.now)) cause.Name refl refl refl refl (act_stops bounds old name (deed_of c.args.deed.now) (no_place bounds old name k at le))) }
+
+pub returns-in_default-swap_slot : goal.returns-in_default-swap_slot
+returns-in_default-swap_slot g c =
+    let s = c.self.inside in
+    let name = c.args.name.now in
+    let k = c.in-Some.field-0.now in
+    let bounds = g.J.Naming.bounds in
+    let old : Held = record { desk = s.post; clerk = s.clerk; names = texts s.names.entries; places = s.places.items } in
+    let new : Held = record { desk = s.post; clerk = s.clerk; names = texts s.names.entries; places = c.swap_slot-in_default-swap_slot.new.places.items } in
+    let at : name_at old.names name ≡ Some k = named s.names name ∙ sym c.in-Some.ensures.value in
+    let ready : AllSeated bounds 1 old = subst (AllSeated bounds 1) (sym c.self.view_is) c.requires.ready in
+    let places : new.places ≡ old.places = back s.places.items c.swap_slot.new.places.items new.places k c.swap_slot.result c.swap_slot.ensures.value c.swap_slot.ensures.after c.swap_slot-in_default-swap_slot.ensures.after in
+    record { goes = subst (λ (o : Held). Goes bounds o new (Turned bounds (acts c.args.name.now (deed_of c.args.deed.now)) (Err cause.Name) o new)) c.self.view_is (step_stops bounds old new (acts c.args.name.now (deed_of c.args.deed.now)) cause.Name refl refl refl places (act_stops bounds old name (deed_of c.args.deed.now) (not_live bounds old name k at c.swap_slot.result c.swap_slot.ensures.value c.in_default-swap_slot.not-Live ready))) }
+
+pub act-reply-requires : goal.act-reply-requires
+act-reply-requires g c =
+    let s = c.self.inside in
+    let k = c.in-Some.field-0.now in
+    let bounds = g.J.Naming.bounds in
+    let live = c.in-Live.session in
+    let old : Held = record { desk = s.post; clerk = s.clerk; names = texts s.names.entries; places = s.places.items } in
+    let ready : AllSeated bounds 1 old = subst (AllSeated bounds 1) (sym c.self.view_is) c.requires.ready in
+    let there : slice_get old.places k ≡ Some (Live live) = c.swap_slot.ensures.value ∙ ap Some c.in-Live.is in
+    record { ticks = (at_place_of bounds 1 k old (Live live) live.seat there refl ready).1 }
+
+pub returns-in-Live : goal.returns-in-Live
+returns-in-Live g c =
+    let s = c.self.inside in
+    let name = c.args.name.now in
+    let k = c.in-Some.field-0.now in
+    let bounds = g.J.Naming.bounds in
+    let live = c.in-Live.session in
+    let old : Held = record { desk = s.post; clerk = s.clerk; names = texts s.names.entries; places = s.places.items } in
+    let at : name_at old.names name ≡ Some k = named s.names name ∙ sym c.in-Some.ensures.value in
+    let ready : AllSeated bounds 1 old = subst (AllSeated bounds 1) (sym c.self.view_is) c.requires.ready in
+    let there : slice_get old.places k ≡ Some (Live live) = c.swap_slot.ensures.value ∙ ap Some c.in-Live.is in
+    let new : Held = record { desk = c.act-reply.new.post; clerk = s.clerk; names = texts s.names.entries; places = c.swap_slot-in-Live.new.places.items } in
+    let step = acts name (deed_of c.args.deed.now) in
+    record {
+      goes = subst (λ (o : Held). Goes bounds o new (Turned bounds step c.act-reply.result o new)) c.self.view_is
+          (step_acted bounds old name k live at there ready new c.act-reply.new.session c.swap_slot.new.places.items c.swap_slot.ensures.after c.swap_slot-in-Live.ensures.after refl refl (deed_of c.args.deed.now) c.act-reply.result c.act-reply.ensures);
+    }

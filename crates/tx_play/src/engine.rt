@@ -1,0 +1,244 @@
+//! An engine in one thread: places with seats and sessions, names that point to places, a seat for what no session does, and the way to
+//! the regions.
+ghost use Rattle.std.specs.Prelude.{◌≡◌, ℕ, List, [], Some, OnOk, OnErr, bytes_eq};
+ghost use Rattle.std.specs.Map.{update};
+ghost use Rattle.std.specs.BTreeMap.{get_by_text};
+ghost use Rattle.tx_play.specs.Places.{Held, Goes, AllSeated, Settled, Turned};
+ghost use Rattle.tx_play.specs.Scenes.{is_name as name_test};
+ghost use Rattle.tx_play.specs.Steps.{begin, acts, finish, stop, call_of, deed_of};
+
+use crate::acts::{begin_at, finish_at, stop_at};
+use crate::deeds::act;
+use crate::places::{Slot, first_free, swap_slot};
+use crate::post::Post;
+use crate::step::{Act, Reply, Step};
+use std::alloc::{AllocError, Global};
+use std::collections::BTreeMap;
+use std::marker::Model;
+use tx_cells::Families;
+use tx_client::Session;
+use tx_journal::{Naming, Seat, Told};
+use tx_types::Cause;
+use tx_types::limits::MAX_NAME_BYTES;
+
+/// The engine.
+pub(crate) struct Engine<J: Naming, F: Families> {
+    alloc: Global,
+    post: Post<J, F>,
+    clerk: Seat<J>,
+    names: BTreeMap<String, usize>,
+    places: Vec<Slot<Seat<J>, Session<J>>>,
+}
+
+impl<J: Naming, F: Families> Model for Engine<J, F> {
+    ghost use Rattle.tx_play.specs.Places.{Held, texts};
+
+    ghost Value = { Held };
+
+    ghost view = { λ e. record { desk = e.post; clerk = e.clerk; names = texts e.names.entries; places = e.places.items } };
+}
+
+impl<J: Naming, F: Families + Drop> Drop for Engine<J, F> {
+    fn drop(self) {
+        let Self {
+            alloc: _,
+            post: _,
+            clerk: _,
+            names: _,
+            places: _,
+        } = self;
+    }
+}
+
+fn is_name(name: &str) -> bool
+    ensures { result ≡ name_test name.now }
+{
+    !name.is_empty() && name.len() <= MAX_NAME_BYTES
+}
+
+// Enters the place of a name.
+fn enter(
+    alloc: Global,
+    names: &mut BTreeMap<String, usize>,
+    name: &str,
+    k: usize,
+) -> Result<(), AllocError>
+    ensures sets { OnOk result ((q : List ℕ) → get_by_text names.new q ≡ update bytes_eq (get_by_text names.old) name.now (Some k) q) }
+    ensures same { OnErr result ((q : List ℕ) → get_by_text names.new q ≡ get_by_text names.old q) }
+{
+    let key = String::from_str(alloc, name)?;
+    names.insert(key, k)?;
+    Ok(())
+}
+
+impl<J: Naming, F: Families> Engine<J, F> {
+    /// An engine over these places, in which nothing has a name.
+    pub(crate) fn new(
+        alloc: Global,
+        post: Post<J, F>,
+        clerk: Seat<J>,
+        places: Vec<Slot<Seat<J>, Session<J>>>,
+    ) -> Engine<J, F>
+        ensures desk { result.desk ≡ post }
+        ensures clerk { result.clerk ≡ clerk }
+        ensures names { result.names ≡ [] }
+        ensures places { result.places ≡ places.items }
+    {
+        Engine {
+            alloc,
+            post,
+            clerk,
+            names: BTreeMap::new(alloc),
+            places,
+        }
+    }
+
+    // Begins a session at a free place.
+    fn begin(&mut self, name: &str) -> Result<Reply, Cause>
+        requires ready { AllSeated J.bounds 1 self.old }
+        ensures goes { Goes J.bounds self.old self.new (Turned J.bounds (begin name.now) result self.old self.new) }
+    {
+        if !is_name(name) {
+            return Err(Cause::Name);
+        }
+        if self.names.contains_key(name) {
+            return Err(Cause::Name);
+        }
+        let Some(k) = first_free(&self.places) else {
+            return Err(Cause::Sessions);
+        };
+        if enter(self.alloc, &mut self.names, name, k).is_err() {
+            return Ok(Reply::OutOfMemory);
+        }
+        let Slot::Free(seat) = swap_slot(&mut self.places, k, Slot::Lent) else {
+            unreachable!()
+        };
+        let (session, start) = begin_at(self.alloc, seat, &mut self.post);
+        swap_slot(&mut self.places, k, Slot::Live(session));
+        Ok(Reply::Start(start))
+    }
+
+    // The live session of a name acts.
+    fn act(&mut self, name: &str, deed: &Act<'_>) -> Result<Reply, Cause>
+        requires ready { AllSeated J.bounds 1 self.old }
+        ensures goes { Goes J.bounds self.old self.new (Turned J.bounds (acts name.now (deed_of deed.now)) result self.old self.new) }
+    {
+        let Some(&k) = self.names.get(name) else {
+            return Err(Cause::Name);
+        };
+        if k >= self.places.len() {
+            return Err(Cause::Name);
+        }
+        match swap_slot(&mut self.places, k, Slot::Lent) {
+            Slot::Live(mut session) => {
+                let reply = act(self.alloc, &mut session, &mut self.post, deed);
+                swap_slot(&mut self.places, k, Slot::Live(session));
+                reply
+            }
+            other => {
+                swap_slot(&mut self.places, k, other);
+                Err(Cause::Name)
+            }
+        }
+    }
+
+    // The live session of a name answers its outcome, and is gone.
+    fn finish(&mut self, name: &str) -> Result<Reply, Cause>
+        requires ready { AllSeated J.bounds 1 self.old }
+        ensures goes { Goes J.bounds self.old self.new (Turned J.bounds (finish name.now) result self.old self.new) }
+    {
+        let Some(&k) = self.names.get(name) else {
+            return Err(Cause::Name);
+        };
+        if k >= self.places.len() {
+            return Err(Cause::Name);
+        }
+        match swap_slot(&mut self.places, k, Slot::Lent) {
+            Slot::Live(session) => match finish_at(session, &mut self.post) {
+                Ok((outcome, seat)) => {
+                    swap_slot(&mut self.places, k, Slot::Free(seat));
+                    self.names.remove(name);
+                    Ok(Reply::Ended(outcome))
+                }
+                Err(session) => {
+                    swap_slot(&mut self.places, k, Slot::Live(session));
+                    Err(Cause::Order)
+                }
+            },
+            other => {
+                swap_slot(&mut self.places, k, other);
+                Err(Cause::Name)
+            }
+        }
+    }
+
+    // The live session of a name stops, and is gone.
+    fn stop(&mut self, name: &str) -> Result<Reply, Cause>
+        requires ready { AllSeated J.bounds 1 self.old }
+        ensures goes { Goes J.bounds self.old self.new (Turned J.bounds (stop name.now) result self.old self.new) }
+    {
+        let Some(&k) = self.names.get(name) else {
+            return Err(Cause::Name);
+        };
+        if k >= self.places.len() {
+            return Err(Cause::Name);
+        }
+        match swap_slot(&mut self.places, k, Slot::Lent) {
+            Slot::Live(session) => {
+                let seat = stop_at(session, &mut self.post);
+                swap_slot(&mut self.places, k, Slot::Free(seat));
+                self.names.remove(name);
+                Ok(Reply::Fine)
+            }
+            other => {
+                swap_slot(&mut self.places, k, other);
+                Err(Cause::Name)
+            }
+        }
+    }
+
+    /// Plays one step.
+    pub(crate) fn play(&mut self, step: &Step<'_>) -> Result<Reply, Cause>
+        requires ready { AllSeated J.bounds 1 self.old }
+        ensures goes { Goes J.bounds self.old self.new (Turned J.bounds (call_of step.now) result self.old self.new) }
+    {
+        match step {
+            Step::Begin(name) => self.begin(name),
+            Step::Act(name, deed) => self.act(name, deed),
+            Step::Finish(name) => self.finish(name),
+            Step::Stop(name) => self.stop(name),
+        }
+    }
+}
+
+impl<J: Naming, F: Families + Drop> Engine<J, F> {
+    /// Each seat learns what is newest: no event of a seat stands there that the seat has not made.
+    pub(crate) fn settle(self) -> Told<J>
+        ensures told { result ≡ self.desk.newest }
+        ensures settled { Settled J.bounds self }
+    {
+        let Self {
+            alloc: _,
+            mut post,
+            mut clerk,
+            names: _,
+            mut places,
+        } = self;
+        let mut newest = post.newest();
+        post.show();
+        post.settle(&mut newest, &clerk);
+        let told = clerk.copy(&mut newest);
+        clerk.learn(told);
+        'places: while let Some(slot) = places.pop() {
+            match slot {
+                Slot::Free(mut seat) => seat.learn(clerk.copy(&mut newest)),
+                Slot::Live(mut session) => {
+                    session.hear_of(clerk.copy(&mut newest));
+                    drop(session);
+                }
+                Slot::Lent => {}
+            }
+        }
+        newest
+    }
+}
