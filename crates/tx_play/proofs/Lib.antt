@@ -2,6 +2,10 @@
 pub mod Alone
 -- How many events of a seat there are at most.
 pub mod Counts
+-- Requests that are held under names.
+pub mod Holding
+-- What a desk's stage is after requests.
+pub mod Stages
 -- What the post's taking makes of what is newest.
 pub mod Posting
 -- A walk through the one thread's way.
@@ -34,3 +38,5 @@ pub mod Doing
 pub mod Entering
 -- What a session asks of the regions is its turn.
 pub mod Asking
+-- What a delivery gives is its turn.
+pub mod Delivering

@@ -14,7 +14,7 @@ use Rattle.tx_play.specs.declared.places.Slot.TheVariants.{Free, Live, Lent}
 use Rattle.tx_play.specs.declared.step.Reply.{Reply}
 use Rattle.tx_play.specs.Posts.{Desk, stage_of, Stage, made_by, IsDone, AreNumbered}
 use Rattle.tx_play.specs.Steps.{Call}
-use Rattle.tx_play.specs.Scenes.{Place, free, session, Scene, Turn, stops, seat_at, turn}
+use Rattle.tx_play.specs.Scenes.{Place, free, session, Scene, Turn, stops, seat_at, delivers, turn}
 use Rattle.tx_play.specs.Plays.{Leads}
 
 -- what a place has
@@ -126,7 +126,21 @@ Sent bounds turn reply old new from to = Acts old.seat new.seat from to (Session
 -- a step of a session: it goes on, or it is not allowed and changes nothing
 abbrev pub Did : List Key → (List Bool → Scene → ℕ → State → Turn) → Result Reply Cause → Seated → Seated → Desk → Desk → Type 0
 Did bounds turn (Ok reply) old new from to = Sent bounds turn reply old new from to
-Did bounds turn (Err cause) old new from to = (new ≡ old) × (to ≡ from) × ((refused : List Bool) (scene : Scene) (k : ℕ) → turn refused scene k old.state ≡ stops cause)
+Did bounds turn (Err cause) old new from to = (new ≡ old) × (to ≡ from) × ((refused : List Bool) (ticks : ℕ) (names : List ℕ → Option ℕ) (places : List Place) (k : ℕ) → turn refused (scene_with (stage_of from) ticks names places) k old.state ≡ stops cause)
+
+-- What a delivery gives: regions took a copy of a held request, so many events were made, at least so many came, and where no more came,
+-- it is exact.
+pub record Handed (bounds : List Key) (name : List ℕ) (reply : Reply) (from to : Desk) : Type 0 where
+  pub made : ℕ
+  pub counts : at_regions to ≤ at_regions from + made
+  pub grows : length from.newest + made ≤ length to.newest
+  pub exact : length to.newest ≤ length from.newest + made
+      → ((ticks : ℕ) (names : List ℕ → Option ℕ) (places : List Place) → GoesTo bounds (λ refused. delivers bounds refused (scene_with (stage_of from) ticks names places) ((stage_of from).held name)) reply (scene_with (stage_of to) ticks names places))
+
+-- it is delivered; or nothing is held under the name
+abbrev pub Delivered : List Key → List ℕ → Result Reply Cause → Desk → Desk → Type 0
+Delivered bounds name (Ok reply) from to = Handed bounds name reply from to
+Delivered bounds name (Err cause) from to = (to ≡ from) × ((refused : List Bool) (ticks : ℕ) (names : List ℕ → Option ℕ) (places : List Place) → delivers bounds refused (scene_with (stage_of from) ticks names places) ((stage_of from).held name) ≡ stops cause)
 
 -- a step goes on from the scene that the engine held to the one that it then holds, or it stops
 abbrev pub Turned : List Key → Call → Result Reply Cause → Held → Held → Type 0

@@ -4,11 +4,11 @@ ghost use Rattle.std.specs.Prelude.{◌≡◌, ℕ, List, [], Some, OnOk, OnErr,
 ghost use Rattle.std.specs.Map.{update};
 ghost use Rattle.std.specs.BTreeMap.{get_by_text};
 ghost use Rattle.tx_play.specs.Places.{Held, Goes, AllSeated, Settled, Turned};
-ghost use Rattle.tx_play.specs.Scenes.{came_as, is_name as name_test};
-ghost use Rattle.tx_play.specs.Steps.{begin, acts, finish, stop, read, tick, call_of, deed_of};
+ghost use Rattle.tx_play.specs.Scenes.{delivered_by, is_name as name_test};
+ghost use Rattle.tx_play.specs.Steps.{begin, acts, finish, stop, deliver as to_deliver, read, tick, call_of, deed_of};
 
 use crate::acts::{begin_at, finish_at, read_at, stop_at, tick_at};
-use crate::deeds::{act, is_key};
+use crate::deeds::{act, deliver, is_key};
 use crate::places::{Slot, first_free, swap_slot};
 use crate::post::Post;
 use crate::step::{Act, Reply, Step};
@@ -58,7 +58,7 @@ fn is_name(name: &str) -> bool
 
 // What comes of a request to a region.
 fn reply_to(came: Came) -> Reply
-    ensures { result ≡ came_as came }
+    ensures { result ≡ delivered_by came }
 {
     match came {
         Came::Lost => Reply::Lost,
@@ -208,6 +208,13 @@ impl<J: Naming, F: Families> Engine<J, F> {
         }
     }
 
+    // A held request is delivered.
+    fn deliver(&mut self, name: &str) -> Result<Reply, Cause>
+        ensures goes { Goes J.bounds self.old self.new (Turned J.bounds (to_deliver name.now) result self.old self.new) }
+    {
+        deliver(&mut self.post, name)
+    }
+
     // A key is read at a timestamp.
     fn read(&mut self, key: &str, at: Ts) -> Result<Reply, Cause>
         ensures goes { Goes J.bounds self.old self.new (Turned J.bounds (read key.now at) result self.old self.new) }
@@ -246,6 +253,7 @@ impl<J: Naming, F: Families> Engine<J, F> {
             Step::Act(name, deed) => self.act(name, deed),
             Step::Finish(name) => self.finish(name),
             Step::Stop(name) => self.stop(name),
+            Step::Deliver(name) => self.deliver(name),
             Step::Read(key, at) => self.read(key, *at),
             Step::Tick(ticks) => self.tick(*ticks),
         }

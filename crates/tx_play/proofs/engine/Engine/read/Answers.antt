@@ -4,7 +4,7 @@ use Rattle.tx_plan.specs.declared.body.Body.TheVariants as request
 use Rattle.tx_play.specs.declared.step.Reply.{Reply}
 use Rattle.tx_play.specs.declared.step.Reply.TheVariants as reply
 use Rattle.tx_play.specs.Posts.{stage_of, Met}
-use Rattle.tx_play.specs.Scenes.{is_key, came_as}
+use Rattle.tx_play.specs.Scenes.{is_key}
 use Rattle.tx_play.specs.Steps.{read}
 use Rattle.tx_play.specs.Places.{Held, texts, Serves, Goes, Turned}
 use Rattle.tx_play.proofs.Engines.{step_unkeyed, step_unread, step_read}
