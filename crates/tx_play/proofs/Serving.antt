@@ -63,7 +63,7 @@ ask_serves bounds from at to k m body c set asked =
       grows = omega (arith, comes.grows, ap length (set_newest Plain from at set));
       exact = λ le.
           (let run : Runs bounds (Some Plain) (stage_of from) w c (stage_of to) = set_runs bounds Plain from at w (stage_of from) c (stage_of to) set
-              (subst (λ s. Runs bounds at.way s w c (stage_of to)) (set_stage Plain from at set) (comes.exact (omega (arith, le, ap length (set_newest Plain from at set))))) in
+          (subst (λ s. Runs bounds at.way s w c (stage_of to)) (set_stage Plain from at set) (comes.exact (omega (arith, le, ap length (set_newest Plain from at set))))) in
           met_at run);
     }
   where

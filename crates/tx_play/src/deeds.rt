@@ -10,9 +10,8 @@ mod buffer;
 mod delivery;
 mod sending;
 
-pub(crate) use crate::deeds::delivery::deliver;
-
 use crate::deeds::buffer::{declare, delete, lock, put};
+pub(crate) use crate::deeds::delivery::deliver;
 use crate::deeds::sending::{abort, commit, draw, get, heartbeat, prewrite, scan};
 use crate::post::{Post, Way};
 use crate::step::{Act, Reply};

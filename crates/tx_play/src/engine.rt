@@ -18,8 +18,8 @@ use std::marker::Model;
 use tx_cells::Families;
 use tx_client::{Came, Session};
 use tx_journal::{Naming, Seat, Told};
-use tx_types::{Cause, Key, Ts};
 use tx_types::limits::MAX_NAME_BYTES;
+use tx_types::{Cause, Key, Ts};
 
 /// The engine.
 pub(crate) struct Engine<J: Naming, F: Families> {

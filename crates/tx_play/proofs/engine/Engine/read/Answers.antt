@@ -35,7 +35,7 @@ returns g c =
     let new : Held = record { desk = c.read_at-came.new.post; clerk = c.read_at-came.new.clerk; names = texts s.names.entries; places = s.places.items } in
     let right : not (is_key key) ≡ false = search rules in
     let serves : Serves old.clerk new.clerk old.desk new.desk (Met bounds (stage_of old.desk) (request.Get (record { key = key; at = at; bypass = [] })) came (stage_of new.desk)) =
-        subst (λ (k : Key). Serves old.clerk new.clerk old.desk new.desk (Met bounds (stage_of old.desk) (request.Get (record { key = k; at = at; bypass = [] })) came (stage_of new.desk))) (c.in-Ok.ensures.ok ∙ c.as_bytes.ensures.value) c.read_at-came.ensures.serves in
+    subst (λ (k : Key). Serves old.clerk new.clerk old.desk new.desk (Met bounds (stage_of old.desk) (request.Get (record { key = k; at = at; bypass = [] })) came (stage_of new.desk))) (c.in-Ok.ensures.ok ∙ c.as_bytes.ensures.value) c.read_at-came.ensures.serves in
     record {
       goes = subst (λ (o : Held). Goes bounds o new (Turned bounds (read key at) (Ok c.reply_to.result) o new)) c.self.view_is
           (subst (λ (r : Reply). Goes bounds old new (Turned bounds (read key at) (Ok r) old new)) (sym c.reply_to.ensures) (step_read bounds old new key at refl refl right came c.read_at-came.ensures.ticks serves));
