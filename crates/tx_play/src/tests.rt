@@ -5,18 +5,18 @@ ghost use Rattle.tx_cells.specs.Nested.{nested_content};
 ghost use Rattle.tx_journal.specs.Known.{AreRising};
 
 use crate::opening::run;
-use crate::post::Way::{Lose, LoseReply, Plain, Repeat};
+use crate::post::Way::{Hold, Lose, LoseReply, Plain, Repeat};
 use crate::step::Act::{
     Abort, Commit, Declare, Delete, Draw, Get, Heartbeat, Lock, Prewrite, Put, Scan,
 };
-use crate::step::Step::{Act, Begin, Finish, Stop};
+use crate::step::Step::{Act, Begin, Deliver, Finish, Read, Stop, Tick};
 use crate::step::{Reply, Step};
 use crate::words::{Said, by_end, by_reply};
 use std::alloc::Global;
 use std::test::Fail;
 use tx_cells::NestedCells;
-use tx_types::Key;
 use tx_types::Mode::{Async, TwoPhase};
+use tx_types::{Key, Ts};
 
 // Two phases over both regions, with a lost reply and a request that is repeated; then one phase, whose first request is lost, beside a
 // reader that raises its minimum.
@@ -117,6 +117,36 @@ const CONFLICTS_SAY: [Said; 18] = [
     ("ended read-only", 0),
 ];
 
+// What the steps of `held_agrees` reply.
+const HELD_SAY: [Said; 16] = [
+    ("start", 1),
+    ("ok", 0),
+    ("ok", 0),
+    ("lost", 0),
+    ("prewritten", 0),
+    ("prewritten", 0),
+    ("prewritten", 0),
+    ("drawn", 2),
+    ("committed", 2),
+    ("value", 7),
+    ("none", 0),
+    ("E8", 2),
+    ("last", 5),
+    ("value", 7),
+    ("E13", 0),
+    ("E4", 2),
+];
+
+// One seat draws all ticks: 2^32, and no more. No step draws none.
+const TICKS: [Step<'static>; 5] = [Tick(4_294_967_295), Tick(1), Tick(1), Begin("a"), Tick(0)];
+
+const TICKS_SAY: [Said; 4] = [
+    ("last", 4_294_967_295),
+    ("last", 4_294_967_296),
+    ("E11", 0),
+    ("start", 4_294_967_297),
+];
+
 // A name that is live, or not, or too long; a fourth session; a step that the session's state does not allow.
 const LIVE: [Step<'static>; 2] = [Begin("a"), Begin("a")];
 
@@ -204,6 +234,30 @@ fn agrees(alloc: Global, steps: &[Step<'_>], expected: &[Said], end: &'static st
     ended == end && count == expected.len() && all == expected.len()
 }
 
+// A request that is held comes to its region twice, and its session hears of neither; a read of no session at each timestamp.
+fn held_agrees(alloc: Global) -> bool {
+    let steps = [
+        Begin("a"),
+        Act("a", Put("1", "7")),
+        Act("a", Declare(TwoPhase, 10, None)),
+        Act("a", Prewrite(Hold("h"))),
+        Deliver("h"),
+        Deliver("h"),
+        Act("a", Prewrite(Plain)),
+        Act("a", Draw),
+        Act("a", Commit(Plain)),
+        Read("1", Ts::new(2)),
+        Read("1", Ts::new(1)),
+        Read("1", Ts::new(9)),
+        Tick(3),
+        Read("1", Ts::new(5)),
+        Read("", Ts::new(1)),
+        Deliver("h"),
+        Deliver("g"),
+    ];
+    agrees(alloc, &steps, &HELD_SAY, "name")
+}
+
 // The first script that does not reply as expected.
 fn first_wrong(alloc: Global) -> &'static str {
     if !agrees(alloc, &COMMITS, &COMMITS_SAY, "well") {
@@ -211,6 +265,12 @@ fn first_wrong(alloc: Global) -> &'static str {
     }
     if !agrees(alloc, &CONFLICTS, &CONFLICTS_SAY, "well") {
         return "conflicts";
+    }
+    if !held_agrees(alloc) {
+        return "held";
+    }
+    if !agrees(alloc, &TICKS, &TICKS_SAY, "form") {
+        return "ticks";
     }
     if !agrees(alloc, &LIVE, &LIVE_SAY, "name") {
         return "live";

@@ -37,6 +37,8 @@ fn by_answer(answer: &Answer) -> Said {
         Answer::Ttl(ttl) => ("ttl", u64::from(*ttl)),
         Answer::KeyIsLocked(info) => ("E1", digit(info.key.as_bytes())),
         Answer::WriteConflict { start: _, commit } => ("E2", commit.get()),
+        Answer::FutureTimestamp { last } => ("E8", last.get()),
+        Answer::AlreadyCommitted { commit } => ("E4", commit.get()),
         Answer::AlreadyRolledBack => ("E3", 0),
         _ => ("other", 0),
     }
@@ -66,12 +68,14 @@ pub fn by_reply(reply: &Reply) -> Said {
         Reply::Fine => ("ok", 0),
         Reply::Answered(answer) => by_answer(answer),
         Reply::Done => ("done", 0),
+        Reply::Last(last) => ("last", last.get()),
         Reply::Drawn(commit) => ("drawn", commit.get()),
         Reply::Ended(outcome) => {
             let outcome = *outcome;
             by_outcome(outcome)
         }
         Reply::Lost => ("lost", 0),
+        Reply::OracleSpent => ("E11", 0),
         Reply::OutOfMemory => ("E12", 0),
         Reply::KeyLength => ("E13", 0),
         Reply::ValueLength => ("E14", 0),
@@ -83,6 +87,7 @@ pub fn by_reply(reply: &Reply) -> Said {
 pub fn by_end(ended: Result<End, Broken>) -> &'static str {
     match ended {
         Ok(End::Well) => "well",
+        Ok(End::Faulted(Cause::Form)) => "form",
         Ok(End::Faulted(Cause::Name)) => "name",
         Ok(End::Faulted(Cause::Order)) => "order",
         Ok(End::Faulted(Cause::Sessions)) => "sessions",
