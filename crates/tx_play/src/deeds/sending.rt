@@ -4,7 +4,7 @@ ghost use Rattle.std.specs.Prelude.{◌≡◌, ◌<◌, ◌&&◌, true, IfOk};
 ghost use Rattle.tx_client.specs.Walks.{get_walk, scan_walk};
 ghost use Rattle.tx_play.specs.Posts.{by_name};
 ghost use Rattle.tx_play.specs.Places.{Did, Sent};
-ghost use Rattle.tx_play.specs.Scenes.{is_key as key_test, draws, gets, scans, prewrites, commits, aborts, beats, runs_to, said_by, read_by};
+ghost use Rattle.tx_play.specs.Scenes.{is_key as key_test, draws, gets, scans, prewrites, commits, aborts, beats, runs_to, missed_by, said_by, read_by};
 
 use crate::acts::draw_at;
 use crate::deeds::is_key;
@@ -17,6 +17,16 @@ use tx_core::Answer;
 use tx_journal::Naming;
 use tx_types::{Cause, Fault, Key};
 
+// What it gives that a request had no answer.
+fn missed(miss: Miss) -> Reply
+    ensures { result ≡ missed_by miss }
+{
+    match miss {
+        Miss::NoReply => Reply::Lost,
+        Miss::NoMemory => Reply::OutOfMemory,
+    }
+}
+
 // What a call that sends what is due gives.
 fn said(came: Result<Option<Answer>, Miss>) -> Reply
     ensures { result ≡ said_by came }
@@ -24,8 +34,7 @@ fn said(came: Result<Option<Answer>, Miss>) -> Reply
     match came {
         Ok(Some(answer)) => Reply::Answered(answer),
         Ok(None) => Reply::Done,
-        Err(Miss::NoReply) => Reply::Lost,
-        Err(Miss::NoMemory) => Reply::OutOfMemory,
+        Err(miss) => missed(miss),
     }
 }
 
@@ -35,8 +44,7 @@ fn read(came: Result<Answer, Miss>) -> Reply
 {
     match came {
         Ok(answer) => Reply::Answered(answer),
-        Err(Miss::NoReply) => Reply::Lost,
-        Err(Miss::NoMemory) => Reply::OutOfMemory,
+        Err(miss) => missed(miss),
     }
 }
 
