@@ -27,9 +27,9 @@ use Rattle.tx_play.specs.declared.step.Reply.{Reply}
 use Rattle.tx_play.specs.declared.step.Reply.TheVariants as reply
 use Rattle.tx_play.specs.Posts.{Desk, stage_of, with_events, Met}
 use Rattle.tx_play.specs.Steps.{Deed, Call, begin, acts, finish, stop, read, tick}
-use Rattle.tx_play.specs.Scenes.{Place, free, session, Scene, Turn, goes, stops, is_name, is_key, delivered_by, asked, at_stage, at_history, with_session, seat_at, began, gone, ticked, first_free, lives, at_place, live_at, in_session, deeds, finishes, finishes_by, leaves, begins, turn}
+use Rattle.tx_play.specs.Scenes.{free, session, goes, stops, is_name, is_key, delivered_by, asked, at_stage, at_history, seat_at, began, gone, ticked, first_free, lives, at_place, live_at, in_session, deeds, finishes, finishes_by, leaves, turn}
 use Rattle.tx_play.specs.Plays.{Leads}
-use Rattle.tx_play.specs.Places.{Kept, seat_in, place_of, Held, texts, name_at, scene_with, scene_of, AllSeated, Acts, Serves, Goes, GoesTo, Did, Turned}
+use Rattle.tx_play.specs.Places.{Kept, place_of, Held, texts, name_at, scene_with, scene_of, AllSeated, Acts, Serves, Goes, Did, Turned}
 use Rattle.tx_play.proofs.Keeping.{set_here, seated_at, at_place_of, acted, served, rested}
 use Rattle.tx_play.proofs.Turning.{goes_at, asked_leads}
 

@@ -7,8 +7,8 @@ use Rattle.std.proofs.lemmas.Option.{slice_get_within, get_or_from_slice_get}
 use Rattle.tx_types.specs.declared.key.Key.{Key}
 use Rattle.tx_core.proofs.Basics.{some_same}
 use Rattle.tx_journal.specs.Known.{Known}
-use Rattle.tx_play.specs.Posts.{Desk, made_by}
-use Rattle.tx_play.specs.Places.{Kept, seat_in, Held, made_in, at_regions, IsSeat, AreSeated, AllSeated, Acts, Serves, Goes}
+use Rattle.tx_play.specs.Posts.{made_by}
+use Rattle.tx_play.specs.Places.{Kept, seat_in, Held, made_in, IsSeat, AreSeated, AllSeated, Acts, Serves, Goes}
 
 -- what is put where it is changes nothing
 pub set_here : {X : Type 0} (xs : List X) (k : ℕ) (x : X) → slice_get xs k ≡ Some x → slice_set xs k x ≡ xs

@@ -4,7 +4,7 @@ use Rattle.std.specs.List.{sum_by}
 use Rattle.tx_types.specs.declared.key.Key.{Key}
 use Rattle.tx_plan.specs.declared.body.Body.{Body}
 use Rattle.tx_core.specs.declared.event.Event.TheVariants.{Drawn}
-use Rattle.tx_core.specs.Histories.{History, last, Begins}
+use Rattle.tx_core.specs.Histories.{last, Begins}
 use Rattle.tx_core.specs.Recording.{part}
 use Rattle.tx_journal.specs.Known.{Known, HasDrawn}
 use Rattle.tx_client.specs.declared.state.Came.{Came}

@@ -1,4 +1,4 @@
-use Rattle.std.proofs.Common.{◌≡◌, nat_eq, Ok, Err, false, refl, sym, subst}
+use Rattle.std.proofs.Common.{◌≡◌, nat_eq, Ok, false, refl, sym, subst}
 use Rattle.std.proofs.lemmas.Bool.{ne_eqb}
 use Rattle.tx_types.specs.declared.fault.Cause.TheVariants as cause
 use Rattle.tx_play.specs.declared.step.Reply.TheVariants as reply
