@@ -12,11 +12,12 @@ use Rattle.tx_core.proofs.seats.Beginnings.{begins_length, begins_whole}
 use Rattle.tx_journal.specs.Known.{Known}
 use Rattle.tx_client.specs.Calls.{HasHeard, BeganAt, Records, Draws, RecordsDeclared}
 use Rattle.tx_client.specs.Walks.{Walk, Sends}
-use Rattle.tx_play.specs.Posts.{Desk, made_by, stage_of, Passes, Runs}
+use Rattle.tx_play.specs.Posts.{Desk, made_by, stage_of, with_events, Passes, Runs}
 use Rattle.tx_play.specs.Places.{Acts, at_regions}
 use Rattle.tx_play.specs.Scenes.{declared_in}
 use Rattle.tx_play.proofs.Alone.{recorded_grows, recorded_alone, drawn_grows, drawn_number, drawn_alone, begun_grows, begun_number, begun_alone}
 use Rattle.tx_play.proofs.Counts.{recorded_part, drawn_part}
+use Rattle.tx_play.proofs.Stages.{same_stage}
 use Rattle.tx_play.proofs.Walking.{walk_comes}
 
 -- one and the same seat
@@ -39,7 +40,7 @@ pub acts_so : (k m : Known) (from to : Desk) (Exact Then : Type 0) → Acts k m 
 acts_so k m from to Exact Then acts on = record { made = acts.made; counts = acts.counts; seat = acts.seat; ticks = acts.ticks; grows = acts.grows; exact = λ le. on (acts.exact le) }
 
 -- the seat k learnt what is newest and is then l
-module _ (bounds : List Key) (from to : Desk) (k l m : Known) (heard : HasHeard bounds k from.newest l) (regions : to.regions ≡ from.regions) (newest : to.newest ≡ m.events) where
+module _ (bounds : List Key) (from to : Desk) (k l m : Known) (heard : HasHeard bounds k from.newest l) (regions : to.regions ≡ from.regions) (newest : to.newest ≡ m.events) (held : to.held ≡ from.held) where
   abbrev n : History
   n = from.newest
 
@@ -50,7 +51,7 @@ module _ (bounds : List Key) (from to : Desk) (k l m : Known) (heard : HasHeard 
   learnt = made_same k l heard.number (omega (arith, ap length heard.own))
 
   -- it makes no event
-  pub heard_acts : m ≡ l → Acts k m from to (to.newest ≡ from.newest)
+  pub heard_acts : m ≡ l → Acts k m from to (stage_of to ≡ stage_of from)
   heard_acts same = record {
     made = 0;
     counts = omega (arith, learnt, ap made_by same, regions_same);
@@ -59,11 +60,11 @@ module _ (bounds : List Key) (from to : Desk) (k l m : Known) (heard : HasHeard 
     grows = (let events : length m.events ≡ length l.events = ap (λ (x : Known). length x.events) same in omega (arith, begins_length n l.events heard.knows, ap length newest, events));
     exact = λ le.
         (let events : m.events ≡ l.events = ap (λ (x : Known). x.events) same in
-        newest ∙ (events ∙ sym (begins_whole n l.events heard.knows (omega (arith, le, ap length newest, ap length events)))));
+        same_stage from to from.newest (newest ∙ (events ∙ sym (begins_whole n l.events heard.knows (omega (arith, le, ap length newest, ap length events))))) held);
   }
 
   -- it records an event
-  pub recorded_acts : (e : Event) → Records bounds l e m → Acts k m from to (to.newest ≡ e ∷ from.newest)
+  pub recorded_acts : (e : Event) → Records bounds l e m → Acts k m from to (stage_of to ≡ with_events (stage_of from) (e ∷ from.newest))
   recorded_acts e r = record {
     made = 1;
     counts =
@@ -73,16 +74,16 @@ module _ (bounds : List Key) (from to : Desk) (k l m : Known) (heard : HasHeard 
     seat = r.number ∙ heard.number;
     ticks = (let a = r.ticks in let b = heard.ticks in omega (arith, a, b));
     grows = omega (arith, recorded_grows bounds l.seat n l.events heard.knows e m.events r.recorded, ap length newest);
-    exact = λ le. newest ∙ recorded_alone bounds l.seat n l.events heard.knows e m.events r.recorded (omega (arith, le, ap length newest));
+    exact = λ le. same_stage from to (e ∷ from.newest) (newest ∙ recorded_alone bounds l.seat n l.events heard.knows e m.events r.recorded (omega (arith, le, ap length newest))) held;
   }
 
   -- it declares, where something is declared
-  pub declared_acts : (o : Option Declaration) → RecordsDeclared bounds l o m → Acts k m from to (to.newest ≡ declared_in from.newest o)
+  pub declared_acts : (o : Option Declaration) → RecordsDeclared bounds l o m → Acts k m from to (stage_of to ≡ with_events (stage_of from) (declared_in from.newest o))
   declared_acts None same = heard_acts same
   declared_acts (Some d) r = recorded_acts (Declared d) r
 
   -- it draws
-  pub drew_acts : (t : ℕ) → Draws bounds l t m → Acts k m from to ((t ≡ last from.newest + 1) × (to.newest ≡ Drawn k.seat (last from.newest + 1) ∷ from.newest))
+  pub drew_acts : (t : ℕ) → Draws bounds l t m → Acts k m from to ((t ≡ last from.newest + 1) × (stage_of to ≡ with_events (stage_of from) (Drawn k.seat (last from.newest + 1) ∷ from.newest)))
   drew_acts t d = record {
     made = 1;
     counts =
@@ -91,15 +92,15 @@ module _ (bounds : List Key) (from to : Desk) (k l m : Known) (heard : HasHeard 
         omega (arith, learnt, one, here, regions_same));
     seat = d.number ∙ heard.number;
     ticks = (let a = d.ticks in let b = heard.ticks in omega (arith, a, b));
-    grows = omega (arith, drawn_grows bounds l.seat n l.events heard.knows t m.events d.drawn, ap length newest);
+    grows = omega (arith, drawn_grows bounds l.seat n l.events heard.knows 1 t m.events d.drawn, ap length newest);
     exact = λ le.
         (let few : length m.events ≤ length n + 1 = omega (arith, le, ap length newest) in
-        let at : t ≡ last n + 1 = drawn_number bounds l.seat n l.events heard.knows t m.events d.drawn few in
-        (at, newest ∙ (drawn_alone bounds l.seat n l.events heard.knows t m.events d.drawn few ∙ (λ i. Drawn (heard.number i) (at i) ∷ n))));
+        let at : t ≡ last n + 1 = drawn_number bounds l.seat n l.events heard.knows 1 t m.events d.drawn few in
+        (at, same_stage from to _ (newest ∙ (drawn_alone bounds l.seat n l.events heard.knows 1 t m.events d.drawn few ∙ (λ i. Drawn (heard.number i) (at i) ∷ n))) held));
   }
 
   -- it draws, and a session begins
-  pub begun_acts : (t : ℕ) → BeganAt bounds l t m → (said : ℕ) → said ≡ t → Acts k m from to ((said ≡ last from.newest + 1) × (to.newest ≡ Began (last from.newest + 1) ∷ Drawn k.seat (last from.newest + 1) ∷ from.newest))
+  pub begun_acts : (t : ℕ) → BeganAt bounds l t m → (said : ℕ) → said ≡ t → Acts k m from to ((said ≡ last from.newest + 1) × (stage_of to ≡ with_events (stage_of from) (Began (last from.newest + 1) ∷ Drawn k.seat (last from.newest + 1) ∷ from.newest)))
   begun_acts t b said is = record {
     made = 2;
     counts =
@@ -113,13 +114,13 @@ module _ (bounds : List Key) (from to : Desk) (k l m : Known) (heard : HasHeard 
     exact = λ le.
         (let few : length m.events ≤ length n + 2 = omega (arith, le, ap length newest) in
         let at : t ≡ last n + 1 = begun_number bounds l.seat n l.events heard.knows t b.mid m.events b.drew b.began few in
-        (is ∙ at, newest ∙ (begun_alone bounds l.seat n l.events heard.knows t b.mid m.events b.drew b.began few ∙ (λ i. Began (at i) ∷ Drawn (heard.number i) (at i) ∷ n))));
+        (is ∙ at, same_stage from to _ (newest ∙ (begun_alone bounds l.seat n l.events heard.knows t b.mid m.events b.drew b.began few ∙ (λ i. Began (at i) ∷ Drawn (heard.number i) (at i) ∷ n))) held));
   }
 
 -- a walk of requests, by the way that was set
-pub sent_acts : {R : Type 0} (bounds : List Key) (w : Walk R) (k new : Known) (from at to : Desk) (result : R) → at.regions ≡ from.regions → at.newest ≡ from.newest
+pub sent_acts : {R : Type 0} (bounds : List Key) (w : Walk R) (k new : Known) (from at to : Desk) (result : R) → at.regions ≡ from.regions → at.newest ≡ from.newest → stage_of at ≡ stage_of from
     → Sends (λ (x : Desk) q y z. Passes bounds x.way x q y z) bounds k at w result to new → Acts k new from to (Runs bounds at.way (stage_of from) w result (stage_of to))
-sent_acts bounds w k new from at to result regions newest sent =
+sent_acts bounds w k new from at to result regions newest stage sent =
     let comes = walk_comes bounds w k new at to result sent in
     record {
       made = comes.made;
@@ -127,7 +128,7 @@ sent_acts bounds w k new from at to result regions newest sent =
       seat = comes.number;
       ticks = (let same = comes.ticks in omega (arith, same));
       grows = omega (arith, comes.grows, ap length newest);
-      exact = λ le. subst (λ h. Runs bounds at.way (record { history = h }) w result (stage_of to)) newest (comes.exact (omega (arith, le, ap length newest)));
+      exact = λ le. subst (λ s. Runs bounds at.way s w result (stage_of to)) stage (comes.exact (omega (arith, le, ap length newest)));
     }
 
 -- ---- by what a call gave

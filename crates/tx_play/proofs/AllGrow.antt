@@ -1,8 +1,10 @@
 -- Histories only grow as steps are played.
-use Rattle.std.proofs.Common.{ℕ, ◌+◌, ◌&&◌, Bool, true, false, not, cond, inr, List, [], ◌∷◌, Option, Some, None, is_some, sym, subst}
+use Rattle.std.proofs.Common.{ℕ, ◌+◌, ◌&&◌, Bool, true, false, not, cond, inr, List, [], ◌∷◌, Option, Some, None, is_some, nat_eq, nat_le, sym, subst}
 use Rattle.tx_types.specs.declared.fault.Cause.{Cause}
+use Rattle.tx_types.specs.declared.fault.Cause.TheVariants as cause
 use Rattle.tx_types.specs.declared.key.Key.{Key}
 use Rattle.tx_plan.specs.declared.body.Body.{Body}
+use Rattle.tx_plan.specs.declared.body.Body.TheVariants as request
 use Rattle.tx_plan.specs.declared.answer.Answer.{Answer}
 use Rattle.tx_core.specs.declared.event.Declaration.{Declaration}
 use Rattle.tx_core.specs.declared.event.Outcome.{Outcome}
@@ -14,13 +16,12 @@ use Rattle.tx_client.specs.Buffers.{Entries, is_full}
 use Rattle.tx_client.specs.Sessions.{State, is_declared, has_primary, exceeds, declaration, can_draw, can_commit, can_abort, finish_of}
 use Rattle.tx_client.specs.declared.state.Terms.{Terms}
 use Rattle.tx_client.specs.Walks.{Walk, asks, grows, ends, get_walk, scan_walk, heartbeat_walk}
-use Rattle.tx_play.specs.declared.post.Way.{Way}
-use Rattle.tx_play.specs.declared.post.Way.TheVariants.{Plain, Lose, LoseReply, Repeat}
+use Rattle.tx_play.specs.declared.post.Way.TheVariants.{Plain, Lose, LoseReply, Repeat, Hold}
 use Rattle.tx_lines.specs.declared.reply.Reply.{Reply}
 use Rattle.tx_lines.specs.declared.reply.Reply.TheVariants as reply
-use Rattle.tx_play.specs.Posts.{taken}
-use Rattle.tx_play.specs.Steps.{Deed, put, delete, lock, get, scan, declare, prewrite, draw, commit, abort, heartbeat, Call, begin, acts, finish, stop}
-use Rattle.tx_play.specs.Scenes.{Scene, Turn, goes, inquires, stops, is_refused, later_of, calls, is_key, is_value, is_name, at_stage, at_history, with_session, began, declared_in, read_by, said_by, asked, sent, runs, runs_to, first_free, live_at, enters, deeds, finishes_by, begins_at, in_session, turn}
+use Rattle.tx_play.specs.Posts.{Course, taken, holding}
+use Rattle.tx_play.specs.Steps.{Deed, put, delete, lock, get, scan, declare, prewrite, draw, commit, abort, heartbeat, course_of, Call, begin, acts, finish, stop, deliver, read, tick}
+use Rattle.tx_play.specs.Scenes.{Scene, Turn, goes, inquires, stops, is_refused, later_of, calls, is_key, is_value, is_name, at_stage, at_history, with_session, began, declared_in, read_by, said_by, asked, sent, runs, runs_to, first_free, live_at, enters, may_go, deeds_by, deeds, delivered_by, delivers, finishes_by, begins_at, in_session, turn}
 use Rattle.tx_play.specs.Plays.{Leads, Played, Plays}
 
 -- Whatever a turn leads to, and wherever it asks a region, h has happened there; it stops at most where `from` has happened.
@@ -48,15 +49,17 @@ module _ (bounds : List Key) (from : History) where
       either from scene.stage.history (is_refused refused) _ _ (grow came.Unsaid scene (later_of refused))
       (begins_all scene.stage.history, λ a. grows_more from scene.stage.history (taken bounds scene.stage body a).history (on (came.Said a) (at_stage scene (taken bounds scene.stage body a)) (later_of refused)) (inr (begins_all scene.stage.history)) (grow (came.Said a) (at_stage scene (taken bounds scene.stage body a)) (later_of refused)))
 
-  sent_grows : (way : Way) (refused : List Bool) (scene : Scene) (body : Body) (on : Came → Scene → List Bool → Turn) → ((c : Came) → Later from (on c)) → AllGrow from scene.stage.history (sent bounds way refused scene body on)
+  sent_grows : (way : Course) (refused : List Bool) (scene : Scene) (body : Body) (on : Came → Scene → List Bool → Turn) → ((c : Came) → Later from (on c)) → AllGrow from scene.stage.history (sent bounds way refused scene body on)
   sent_grows Plain refused scene body on grow = asked_grows refused scene body on grow
   sent_grows Lose refused scene body on grow = grow came.Lost scene refused
   sent_grows LoseReply refused scene body on grow = asked_grows refused scene body (λ c. on came.Lost) (λ c. grow came.Lost)
   sent_grows Repeat refused scene body on grow =
       either from scene.stage.history (is_refused refused) _ _ (grow came.Unsaid scene (later_of refused))
       (asked_grows (later_of refused) scene body (λ c next left. asked bounds left next body on) (λ c next left. asked_grows left next body on grow))
+  sent_grows (Hold name) refused scene body on grow =
+      either from scene.stage.history (is_refused refused) _ _ (grow came.Unsaid scene (later_of refused)) (grow came.Lost (at_stage scene (holding scene.stage name body)) (later_of refused))
 
-  runs_grow : {R : Type 0} (way : Way) (refused : List Bool) (scene : Scene) (w : Walk R) (on : R → Scene → List Bool → Turn) → ((r : R) → Later from (on r)) → AllGrow from scene.stage.history (runs bounds way refused scene w on)
+  runs_grow : {R : Type 0} (way : Course) (refused : List Bool) (scene : Scene) (w : Walk R) (on : R → Scene → List Bool → Turn) → ((r : R) → Later from (on r)) → AllGrow from scene.stage.history (runs bounds way refused scene w on)
   runs_grow way refused scene (ends r) on grow = grow r scene refused
   runs_grow way refused scene (grows more short) on grow = either from scene.stage.history (is_refused refused) _ _ (runs_grow way (later_of refused) scene short on grow) (runs_grow way (later_of refused) scene more on grow)
   runs_grow way refused scene (asks body more) on grow = sent_grows way refused scene body (λ c next left. runs bounds way left next (more c) on) (λ c next left. runs_grow way left next (more c) on grow)
@@ -64,7 +67,7 @@ module _ (bounds : List Key) (from : History) where
 -- ---- steps
 
 module _ (bounds : List Key) where
-  sends_grow : {R : Type 0} (say : R → Reply) (k : ℕ) (way : Way) (refused : List Bool) (scene : Scene) (w : Walk (State × R)) → AllGrow scene.stage.history scene.stage.history (runs_to bounds say k way refused scene w)
+  sends_grow : {R : Type 0} (say : R → Reply) (k : ℕ) (way : Course) (refused : List Bool) (scene : Scene) (w : Walk (State × R)) → AllGrow scene.stage.history scene.stage.history (runs_to bounds say k way refused scene w)
   sends_grow say k way refused scene w = runs_grow bounds scene.stage.history way refused scene w _ (λ r next left. begins_all next.stage.history)
 
   module _ (scene : Scene) where
@@ -84,23 +87,30 @@ module _ (bounds : List Key) where
     declared_grows None = begins_all h
     declared_grows (Some d) = inr (begins_all h)
 
-    deed_grows : (refused : List Bool) (k : ℕ) (s : State) (deed : Deed) → AllGrow h h (deeds refused scene k s bounds deed)
-    deed_grows refused k s (put key value) =
+    deed_by_grows : (refused : List Bool) (k : ℕ) (s : State) (deed : Deed) → AllGrow h h (deeds_by refused scene k s bounds deed)
+    deed_by_grows refused k s (put key value) =
         either h h (is_declared s) _ _ (begins_all h) (either h h (not (is_key key)) _ _ (begins_all h) (either h h (not (is_value value)) _ _ (begins_all h) (calls_grow refused _ (enters_grow refused k s _ key))))
-    deed_grows refused k s (delete key) = either h h (is_declared s) _ _ (begins_all h) (either h h (not (is_key key)) _ _ (begins_all h) (calls_grow refused _ (enters_grow refused k s _ key)))
-    deed_grows refused k s (lock key) = either h h (is_declared s) _ _ (begins_all h) (either h h (not (is_key key)) _ _ (begins_all h) (calls_grow refused _ (enters_grow refused k s _ key)))
-    deed_grows refused k s (get key way) = either h h (not (is_key key)) _ _ (begins_all h) (calls_grow refused (λ left. runs_to bounds read_by k way left scene (get_walk s key)) (λ left. sends_grow read_by k way left scene (get_walk s key)))
-    deed_grows refused k s (scan a b limit way) =
+    deed_by_grows refused k s (delete key) = either h h (is_declared s) _ _ (begins_all h) (either h h (not (is_key key)) _ _ (begins_all h) (calls_grow refused _ (enters_grow refused k s _ key)))
+    deed_by_grows refused k s (lock key) = either h h (is_declared s) _ _ (begins_all h) (either h h (not (is_key key)) _ _ (begins_all h) (calls_grow refused _ (enters_grow refused k s _ key)))
+    deed_by_grows refused k s (get key way) = either h h (not (is_key key)) _ _ (begins_all h) (calls_grow refused (λ left. runs_to bounds read_by k way left scene (get_walk s key)) (λ left. sends_grow read_by k way left scene (get_walk s key)))
+    deed_by_grows refused k s (scan a b limit way) =
         either h h (not (is_key a && is_key b)) (goes scene reply.KeyLength refused) (calls refused scene (λ left. runs_to bounds read_by k way left scene (scan_walk s bounds a b limit))) (begins_all h)
         (calls_grow refused (λ left. runs_to bounds read_by k way left scene (scan_walk s bounds a b limit)) (λ left. sends_grow read_by k way left scene (scan_walk s bounds a b limit)))
-    deed_grows refused k s (declare mode ttl max_commit) =
+    deed_by_grows refused k s (declare mode ttl max_commit) =
         (let terms : Terms = record { mode = mode; ttl = ttl; max_commit = max_commit } in
         either h h (is_declared s) _ _ (begins_all h) (calls_grow refused (λ left. cond (exceeds s.buffer terms) (goes scene reply.TooManyKeys left) (goes (with_session (at_history scene (declared_in h (declaration s.start s.buffer terms))) k (record s { declared = Some terms })) reply.Fine left)) (λ left. either h h (exceeds s.buffer terms) (goes scene reply.TooManyKeys left) (goes (with_session (at_history scene (declared_in h (declaration s.start s.buffer terms))) k (record s { declared = Some terms })) reply.Fine left) (begins_all h) (declared_grows (declaration s.start s.buffer terms)))))
-    deed_grows refused k s (prewrite way) = either h h (is_declared s) _ _ (sends_grow _ k way refused scene _) (begins_all h)
-    deed_grows refused k s draw = either h h (can_draw s) _ _ (inr (begins_all h)) (begins_all h)
-    deed_grows refused k s (commit way) = either h h (can_commit s) _ _ (sends_grow _ k way refused scene _) (begins_all h)
-    deed_grows refused k s (abort way) = either h h (can_abort s) _ _ (sends_grow _ k way refused scene _) (begins_all h)
-    deed_grows refused k s (heartbeat ttl way) = either h h (has_primary s) _ _ (sends_grow said_by k way refused scene (heartbeat_walk s ttl)) (begins_all h)
+    deed_by_grows refused k s (prewrite way) = either h h (is_declared s) _ _ (sends_grow _ k way refused scene _) (begins_all h)
+    deed_by_grows refused k s draw = either h h (can_draw s) _ _ (inr (begins_all h)) (begins_all h)
+    deed_by_grows refused k s (commit way) = either h h (can_commit s) _ _ (sends_grow _ k way refused scene _) (begins_all h)
+    deed_by_grows refused k s (abort way) = either h h (can_abort s) _ _ (sends_grow _ k way refused scene _) (begins_all h)
+    deed_by_grows refused k s (heartbeat ttl way) = either h h (has_primary s) _ _ (sends_grow said_by k way refused scene (heartbeat_walk s ttl)) (begins_all h)
+
+    deed_grows : (refused : List Bool) (k : ℕ) (s : State) (deed : Deed) → AllGrow h h (deeds refused scene k s bounds deed)
+    deed_grows refused k s deed = either h h (may_go scene.stage (course_of deed)) (deeds_by refused scene k s bounds deed) (stops cause.Name) (deed_by_grows refused k s deed) (begins_all h)
+
+    deliver_grows : (refused : List Bool) (o : Option Body) → AllGrow h h (delivers bounds refused scene o)
+    deliver_grows refused None = begins_all h
+    deliver_grows refused (Some body) = asked_grows bounds h refused scene body (λ c next left. goes next (delivered_by c) left) (λ c next left. begins_all next.stage.history)
 
     session_grows : (o : Option (ℕ × State)) (more : ℕ → State → Turn) → ((k : ℕ) (s : State) → AllGrow h h (more k s)) → AllGrow h h (in_session o more)
     session_grows None more grow = begins_all h
@@ -119,6 +129,11 @@ module _ (bounds : List Key) where
     turn_grows refused (acts name deed) = session_grows (live_at scene name) _ (λ k s. deed_grows refused k s deed)
     turn_grows refused (finish name) = session_grows (live_at scene name) _ (λ k s. finish_grows refused k s name (finish_of s))
     turn_grows refused (stop name) = session_grows (live_at scene name) _ (λ k s. inr (begins_all h))
+    turn_grows refused (deliver name) = deliver_grows refused (scene.stage.held name)
+    turn_grows refused (read key at) =
+        either h h (not (is_key key)) _ _ (begins_all h) (calls_grow refused (λ left. asked bounds left scene (request.Get (record { key = key; at = at; bypass = [] })) (λ c next rest. goes next (delivered_by c) rest))
+        (λ left. asked_grows bounds h left scene (request.Get (record { key = key; at = at; bypass = [] })) (λ c next rest. goes next (delivered_by c) rest) (λ c next rest. begins_all next.stage.history)))
+    turn_grows refused (tick n) = either h h (nat_eq n 0) _ _ (begins_all h) (either h h (nat_le n scene.ticks) _ _ (inr (begins_all h)) (begins_all h))
 
   -- ---- plays
 

@@ -23,8 +23,8 @@ module _ (bounds : List Key) (i : ℕ) (n l : History) (knew : Begins n l) where
     pub recorded_alone : length new ≤ length n + 1 → new ≡ e ∷ n
     recorded_alone le = r.is ∙ ap (λ h. e ∷ h) (sym (begins_whole n r.before later (omega (arith, le, ap length r.is))))
 
-  -- a draw
-  module _ (t : ℕ) (new : History) (d : HasDrawn bounds i l 1 t new) where
+  -- a draw of so many ticks
+  module _ (ticks t : ℕ) (new : History) (d : HasDrawn bounds i l ticks t new) where
     since : Begins n d.before
     since = begins_more n l d.before knew (extends_begins i l d.before d.extends)
 
@@ -35,8 +35,8 @@ module _ (bounds : List Key) (i : ℕ) (n l : History) (knew : Begins n l) where
       unchanged : n ≡ d.before
       unchanged = begins_whole n d.before since (omega (arith, le, ap length d.is))
 
-      pub drawn_number : t ≡ last n + 1
-      drawn_number = d.above ∙ ap (λ h. last h + 1) (sym unchanged)
+      pub drawn_number : t ≡ last n + ticks
+      drawn_number = d.above ∙ ap (λ h. last h + ticks) (sym unchanged)
 
       pub drawn_alone : new ≡ Drawn i t ∷ n
       drawn_alone = d.is ∙ ap (λ h. Drawn i t ∷ h) (sym unchanged)

@@ -8,10 +8,9 @@ use Rattle.tx_client.specs.declared.state.Phase.TheVariants as phase
 use Rattle.tx_client.specs.Calls.{Seated}
 use Rattle.tx_client.specs.Sessions.{is_declared, has_primary, due_prewrite, due_commit, due_abort, can_commit, can_abort}
 use Rattle.tx_client.specs.Walks.{Sends, due_walk, heartbeat_walk, get_walk, scan_walk}
-use Rattle.tx_play.specs.declared.post.Way.{Way}
 use Rattle.tx_lines.specs.declared.reply.Reply.{Reply}
 use Rattle.tx_lines.specs.declared.reply.Reply.TheVariants as reply
-use Rattle.tx_play.specs.Posts.{Desk, stage_of, Passes}
+use Rattle.tx_play.specs.Posts.{Course, Desk, stage_of, IsSet, Passes}
 use Rattle.tx_play.specs.Scenes.{Scene, Turn, goes, calls, is_key, runs_to, read_by, said_by, gets, scans, prewrites, commits, aborts, beats}
 use Rattle.tx_play.specs.Plays.{Leads}
 use Rattle.tx_play.specs.Places.{scene_with, GoesTo, Sent, Did}
@@ -31,13 +30,13 @@ module _ (bounds : List Key) where
       → Sent bounds inner said old new from to → Sent bounds turn said old new from to
   sent_within turn inner old new from to said bits is sent =
       acts_so old.seat new.seat from to _ _ sent
-      (λ goes names places k number there.
-      goes_within (λ refused. turn refused (scene_with (stage_of from) names places) k old.state) (λ refused. inner refused (scene_with (stage_of from) names places) k old.state) bits said _
-      (λ later. is later (scene_with (stage_of from) names places) k) (goes names places k number there))
+      (λ goes ticks names places k number there.
+      goes_within (λ refused. turn refused (scene_with (stage_of from) ticks names places) k old.state) (λ refused. inner refused (scene_with (stage_of from) ticks names places) k old.state) bits said _
+      (λ later. is later (scene_with (stage_of from) ticks names places) k) (goes ticks names places k number there))
 
   -- ---- get
 
-  module _ (old : Seated) (key : List ℕ) (way : Way) where
+  module _ (old : Seated) (key : List ℕ) (way : Course) where
     abbrev pub getting : Deeds
     getting = λ refused scene k s. gets refused scene k s bounds key way
 
@@ -62,7 +61,7 @@ module _ (bounds : List Key) where
 
   -- ---- scan
 
-  module _ (old : Seated) (low high : List ℕ) (limit : ℕ) (way : Way) where
+  module _ (old : Seated) (low high : List ℕ) (limit : ℕ) (way : Course) where
     abbrev pub scanning : Deeds
     scanning = λ refused scene k s. scans refused scene k s bounds low high limit way
 
@@ -90,50 +89,50 @@ module _ (bounds : List Key) where
   abbrev Replied : Type 0
   Replied = Result (Option Answer) Miss
 
-  module _ (old : Seated) (way : Way) where
+  module _ (old : Seated) (way : Course) where
     abbrev prewriting : Deeds
     prewriting = λ refused scene k s. prewrites refused scene k s bounds way
 
     pub prewrite_early : is_declared old.state ≡ false → (desk : Desk) → Did bounds prewriting (Err cause.Order) old old desk desk
     prewrite_early cannot desk = stops_but bounds prewriting old desk (is_declared old.state) (λ refused scene k. runs_to bounds said_by k way refused scene (due_walk old.state phase.Prewrite (due_prewrite old.state))) cause.Order (λ refused scene k. refl) cannot
 
-    pub prewrite_sent : is_declared old.state ≡ true → (new : Seated) (from at to : Desk) (result : Replied) (said : Reply) → at ≡ record { regions = from.regions; newest = from.newest; way = way }
+    pub prewrite_sent : is_declared old.state ≡ true → (new : Seated) (from at to : Desk) (result : Replied) (said : Reply) → IsSet way from at
         → Sends (λ (x : Desk) q y z. Passes bounds x.way x q y z) bounds old.seat at (due_walk old.state phase.Prewrite (due_prewrite old.state)) (new.state, result) to new.seat → said ≡ said_by result → Did bounds prewriting (Ok said) old new from to
     prewrite_sent can new from at to result said set sent also =
         sends_if bounds prewriting old new from at to way (is_declared old.state) (due_walk old.state phase.Prewrite (due_prewrite old.state)) said_by result said set (λ refused scene k. refl) can sent also
 
-  module _ (old : Seated) (way : Way) where
+  module _ (old : Seated) (way : Course) where
     abbrev committing : Deeds
     committing = λ refused scene k s. commits refused scene k s bounds way
 
     pub commit_early : can_commit old.state ≡ false → (desk : Desk) → Did bounds committing (Err cause.Order) old old desk desk
     commit_early cannot desk = stops_but bounds committing old desk (can_commit old.state) (λ refused scene k. runs_to bounds said_by k way refused scene (due_walk old.state phase.Commit (due_commit old.state))) cause.Order (λ refused scene k. refl) cannot
 
-    pub commit_sent : can_commit old.state ≡ true → (new : Seated) (from at to : Desk) (result : Replied) (said : Reply) → at ≡ record { regions = from.regions; newest = from.newest; way = way }
+    pub commit_sent : can_commit old.state ≡ true → (new : Seated) (from at to : Desk) (result : Replied) (said : Reply) → IsSet way from at
         → Sends (λ (x : Desk) q y z. Passes bounds x.way x q y z) bounds old.seat at (due_walk old.state phase.Commit (due_commit old.state)) (new.state, result) to new.seat → said ≡ said_by result → Did bounds committing (Ok said) old new from to
     commit_sent can new from at to result said set sent also =
         sends_if bounds committing old new from at to way (can_commit old.state) (due_walk old.state phase.Commit (due_commit old.state)) said_by result said set (λ refused scene k. refl) can sent also
 
-  module _ (old : Seated) (way : Way) where
+  module _ (old : Seated) (way : Course) where
     abbrev aborting : Deeds
     aborting = λ refused scene k s. aborts refused scene k s bounds way
 
     pub abort_early : can_abort old.state ≡ false → (desk : Desk) → Did bounds aborting (Err cause.Order) old old desk desk
     abort_early cannot desk = stops_but bounds aborting old desk (can_abort old.state) (λ refused scene k. runs_to bounds said_by k way refused scene (due_walk old.state phase.Abort (due_abort old.state))) cause.Order (λ refused scene k. refl) cannot
 
-    pub abort_sent : can_abort old.state ≡ true → (new : Seated) (from at to : Desk) (result : Replied) (said : Reply) → at ≡ record { regions = from.regions; newest = from.newest; way = way }
+    pub abort_sent : can_abort old.state ≡ true → (new : Seated) (from at to : Desk) (result : Replied) (said : Reply) → IsSet way from at
         → Sends (λ (x : Desk) q y z. Passes bounds x.way x q y z) bounds old.seat at (due_walk old.state phase.Abort (due_abort old.state)) (new.state, result) to new.seat → said ≡ said_by result → Did bounds aborting (Ok said) old new from to
     abort_sent can new from at to result said set sent also =
         sends_if bounds aborting old new from at to way (can_abort old.state) (due_walk old.state phase.Abort (due_abort old.state)) said_by result said set (λ refused scene k. refl) can sent also
 
-  module _ (old : Seated) (ttl : ℕ) (way : Way) where
+  module _ (old : Seated) (ttl : ℕ) (way : Course) where
     abbrev beating : Deeds
     beating = λ refused scene k s. beats refused scene k s bounds ttl way
 
     pub heartbeat_early : has_primary old.state ≡ false → (desk : Desk) → Did bounds beating (Err cause.Order) old old desk desk
     heartbeat_early cannot desk = stops_but bounds beating old desk (has_primary old.state) (λ refused scene k. runs_to bounds said_by k way refused scene (heartbeat_walk old.state ttl)) cause.Order (λ refused scene k. refl) cannot
 
-    pub heartbeat_sent : has_primary old.state ≡ true → (new : Seated) (from at to : Desk) (result : Replied) (said : Reply) → at ≡ record { regions = from.regions; newest = from.newest; way = way }
+    pub heartbeat_sent : has_primary old.state ≡ true → (new : Seated) (from at to : Desk) (result : Replied) (said : Reply) → IsSet way from at
         → Sends (λ (x : Desk) q y z. Passes bounds x.way x q y z) bounds old.seat at (heartbeat_walk old.state ttl) (new.state, result) to new.seat → said ≡ said_by result → Did bounds beating (Ok said) old new from to
     heartbeat_sent can new from at to result said set sent also =
         sends_if bounds beating old new from at to way (has_primary old.state) (heartbeat_walk old.state ttl) said_by result said set (λ refused scene k. refl) can sent also

@@ -12,7 +12,7 @@ use Rattle.tx_journal.specs.Known.{Known, known}
 use Rattle.tx_play.specs.declared.places.Slot.TheVariants.{Free}
 use Rattle.tx_lines.specs.declared.reply.Reply.{Reply}
 use Rattle.tx_play.specs.declared.step.End.TheVariants.{Well}
-use Rattle.tx_play.specs.Posts.{AreNumbered, made_by}
+use Rattle.tx_play.specs.Posts.{AreNumbered, made_by, body_at}
 use Rattle.tx_play.specs.Steps.{Call}
 use Rattle.tx_play.specs.Scenes.{free, opening}
 use Rattle.tx_play.specs.Plays.{ending}
@@ -64,7 +64,7 @@ all_free (s ∷ seats) = ap (λ l. free ∷ l) (all_free seats)
 
 -- an engine over the regions' seats, the clerk's and those of the places
 module _ (bounds : List Key) (e : Held) (regions : List Known) (clerk : Known) (seats : List Known) (taken : AreDealt 0 regions) (all : AreDealt (length bounds + 1) (clerk ∷ seats))
-    (at_regions : e.desk.regions ≡ regions) (newest : e.desk.newest ≡ []) (at_clerk : e.clerk ≡ clerk) (names : e.names ≡ []) (places : e.places ≡ frees seats) where
+    (at_regions : e.desk.regions ≡ regions) (newest : e.desk.newest ≡ []) (held : e.desk.held ≡ []) (at_clerk : e.clerk ≡ clerk) (names : e.names ≡ []) (places : e.places ≡ frees seats) where
   pub ready : (n : ℕ) → n ≤ 4294967296 → AllSeated bounds n e
   ready n few = record {
     clerk = ap (λ (k : Known). k.seat) (at_clerk ∙ all.0);
@@ -77,8 +77,8 @@ module _ (bounds : List Key) (e : Held) (regions : List Known) (clerk : Known) (
 
   pub opens : IsOpening e
   opens = record {
-    scene = (let count : map place_of e.places ≡ replicate (length e.places) free = ap (map place_of) places ∙ (all_free seats ∙ ap (λ n. replicate n free) (sym sized)) in
-        λ i. record { stage = record { history = newest i }; names = λ q. name_at (names i) q; places = count i });
+    scene = (let ticks : e.clerk.ticks ≡ 4294967296 = ap (λ (k : Known). k.ticks) (at_clerk ∙ all.0) in let count : map place_of e.places ≡ replicate (length e.places) free = ap (map place_of) places ∙ (all_free seats ∙ ap (λ n. replicate n free) (sym sized)) in
+        λ i. record { stage = record { history = newest i; held = λ q. body_at (held i) q; kept = length (held i) }; ticks = ticks i; names = λ q. name_at (names i) q; places = count i });
     none = (let made : made_by e.clerk ≡ 0 = ap made_by (at_clerk ∙ all.0) in
         omega (arith, made, ap (sum_by made_by) at_regions, none_taken 0 regions taken, ap (sum_by (λ p. made_in (seat_in p))) places, none_made (suc (length bounds + 1)) seats all.1));
   }

@@ -13,14 +13,15 @@ use Rattle.tx_client.specs.Buffers.{Entries, is_full}
 use Rattle.tx_client.specs.Calls.{Seated, seated}
 use Rattle.tx_client.specs.Sessions.{State, is_declared, exceeds, declaration, can_draw}
 use Rattle.tx_client.specs.Walks.{Walk, Sends}
-use Rattle.tx_play.specs.declared.post.Way.{Way}
 use Rattle.tx_lines.specs.declared.reply.Reply.{Reply}
 use Rattle.tx_lines.specs.declared.reply.Reply.TheVariants as reply
-use Rattle.tx_play.specs.Posts.{Desk, stage_of, Passes}
-use Rattle.tx_play.specs.Scenes.{session, Scene, Turn, goes, stops, calls, at_stage, seat_at, with_session, declared_in, runs_to, enters, entered_by, declares, draws, drew}
+use Rattle.tx_play.specs.Posts.{Course, Desk, Stage, stage_of, with_events, IsSet, Passes}
+use Rattle.tx_play.specs.Scenes.{session, Scene, Turn, goes, stops, calls, at_stage, seat_at, with_session, declared_in, runs_to, enters, entered_by, declares, draws, drew, may_go, deeds_by, deeds}
+use Rattle.tx_play.specs.Steps.{Deed, course_of}
+use Rattle.tx_play.specs.Plays.{Leads}
 use Rattle.tx_play.specs.Places.{scene_with, Acts, Did}
 use Rattle.tx_play.proofs.Acting.{acts_so}
-use Rattle.tx_play.proofs.Turning.{goes_at, session_goes, session_rests, did_change, did_send}
+use Rattle.tx_play.proofs.Turning.{goes_at, session_goes, session_rests, did_not, did_change, did_send}
 
 abbrev pub Deeds : Type 0
 Deeds = List Bool → Scene → ℕ → State → Turn
@@ -30,11 +31,11 @@ module _ (bounds : List Key) (turn : Deeds) where
 
   -- where the test is passed, it is not allowed
   pub stops_at : (old : Seated) (desk : Desk) (b : Bool) (more : List Bool → Scene → ℕ → Turn) (c : Cause) → ((refused : List Bool) (scene : Scene) (k : ℕ) → turn refused scene k old.state ≡ cond b (stops c) (more refused scene k)) → b ≡ true → Did bounds turn (Err c) old old desk desk
-  stops_at old desk b more c is passed = (refl, refl, λ refused scene k. is refused scene k ∙ ap (λ x. cond x (stops c) (more refused scene k)) passed)
+  stops_at old desk b more c is passed = did_not bounds turn old desk c (λ refused scene k. is refused scene k ∙ ap (λ x. cond x (stops c) (more refused scene k)) passed)
 
   -- where it is not
   pub stops_but : (old : Seated) (desk : Desk) (b : Bool) (more : List Bool → Scene → ℕ → Turn) (c : Cause) → ((refused : List Bool) (scene : Scene) (k : ℕ) → turn refused scene k old.state ≡ cond b (more refused scene k) (stops c)) → b ≡ false → Did bounds turn (Err c) old old desk desk
-  stops_but old desk b more c is failed = (refl, refl, λ refused scene k. is refused scene k ∙ ap (λ x. cond x (more refused scene k) (stops c)) failed)
+  stops_but old desk b more c is failed = did_not bounds turn old desk c (λ refused scene k. is refused scene k ∙ ap (λ x. cond x (more refused scene k) (stops c)) failed)
 
   -- a refusal
   pub rests : (old : Seated) (desk : Desk) (bits : List Bool) (said : Reply) → ((later : List Bool) (scene : Scene) (k : ℕ) → turn (bits ++ later) scene k old.state ≡ goes scene said later) → Did bounds turn (Ok said) old old desk desk
@@ -66,7 +67,7 @@ module _ (bounds : List Key) (turn : Deeds) where
   -- ---- requests
 
   -- where it is allowed, it sends
-  pub sends_if : {R : Type 0} (old new : Seated) (from at to : Desk) (way : Way) (b : Bool) (w : Walk (State × R)) (say : R → Reply) (result : R) (said : Reply) → at ≡ record { regions = from.regions; newest = from.newest; way = way }
+  pub sends_if : {R : Type 0} (old new : Seated) (from at to : Desk) (way : Course) (b : Bool) (w : Walk (State × R)) (say : R → Reply) (result : R) (said : Reply) → IsSet way from at
       → ((refused : List Bool) (scene : Scene) (k : ℕ) → turn refused scene k old.state ≡ cond b (runs_to bounds say k way refused scene w) (stops cause.Order)) → b ≡ true
       → Sends (λ (x : Desk) q y z. Passes bounds x.way x q y z) bounds old.seat at w (new.state, result) to new.seat → said ≡ say result → Did bounds turn (Ok said) old new from to
   sends_if old new from at to way b w say result said set is can sent also =
@@ -83,49 +84,49 @@ module _ (bounds : List Key) (old new : Seated) (from to : Desk) where
     after h = declared_in h (declaration old.state.start old.state.buffer terms)
 
     abbrev inner : List Bool → Scene → ℕ → List Bool → Turn
-    inner refused scene k left = cond (exceeds old.state.buffer terms) (goes scene reply.TooManyKeys left) (goes (with_session (at_stage scene (record { history = after scene.stage.history })) k (record old.state { declared = Some terms })) reply.Fine left)
+    inner refused scene k left = cond (exceeds old.state.buffer terms) (goes scene reply.TooManyKeys left) (goes (with_session (at_stage scene (with_events scene.stage (after scene.stage.history))) k (record old.state { declared = Some terms })) reply.Fine left)
 
     declares_is : (refused : List Bool) (scene : Scene) (k : ℕ) → declaring refused scene k old.state ≡ calls refused scene (inner refused scene k)
     declares_is refused scene k = ap (λ b. cond b (stops cause.Order) (calls refused scene (inner refused scene k))) free
 
-    declared_ok : exceeds old.state.buffer terms ≡ false → new.state ≡ record old.state { declared = Some terms } → Acts old.seat new.seat from to (to.newest ≡ after from.newest) → Did bounds declaring (Ok reply.Fine) old new from to
+    declared_ok : exceeds old.state.buffer terms ≡ false → new.state ≡ record old.state { declared = Some terms } → Acts old.seat new.seat from to (stage_of to ≡ with_events (stage_of from) (after from.newest)) → Did bounds declaring (Ok reply.Fine) old new from to
     declared_ok few now act =
         acts_so old.seat new.seat from to _ _ act
-        (λ x. session_goes bounds declaring old.seat.seat old.state new.state (stage_of from) (stage_of to) reply.Fine reply.Fine (false ∷ []) (record old.state { declared = Some terms }) (λ scene k. record { history = after scene.stage.history })
-        (λ later scene k. declares_is (false ∷ later) scene k ∙ ap (λ b. cond b (goes scene reply.TooManyKeys later) (goes (with_session (at_stage scene (record { history = after scene.stage.history })) k (record old.state { declared = Some terms })) reply.Fine later)) few)
-        (λ scene k at number. (λ i. record { history = after (at i).history }) ∙ (λ i. record { history = sym x i })) (sym now) refl)
+        (λ x. session_goes bounds declaring old.seat.seat old.state new.state (stage_of from) (stage_of to) reply.Fine reply.Fine (false ∷ []) (record old.state { declared = Some terms }) (λ scene k. with_events scene.stage (after scene.stage.history))
+        (λ later scene k. declares_is (false ∷ later) scene k ∙ ap (λ b. cond b (goes scene reply.TooManyKeys later) (goes (with_session (at_stage scene (with_events scene.stage (after scene.stage.history))) k (record old.state { declared = Some terms })) reply.Fine later)) few)
+        (λ scene k at number. ap (λ (s : Stage). with_events s (after s.history)) at ∙ sym x) (sym now) refl)
 
-    declared_err : (e : Fault) → (e ≡ fault.OutOfMemory) ⊎ ((e ≡ fault.TooManyKeys) × (exceeds old.state.buffer terms ≡ true)) → new.state ≡ old.state → Acts old.seat new.seat from to (to.newest ≡ from.newest) → Did bounds declaring (Ok (entered_by {T = Unit {0}} (Err e))) old new from to
+    declared_err : (e : Fault) → (e ≡ fault.OutOfMemory) ⊎ ((e ≡ fault.TooManyKeys) × (exceeds old.state.buffer terms ≡ true)) → new.state ≡ old.state → Acts old.seat new.seat from to (stage_of to ≡ stage_of from) → Did bounds declaring (Ok (entered_by {T = Unit {0}} (Err e))) old new from to
     declared_err e (inl short) same act =
         subst (λ f. Did bounds declaring (Ok (entered_by {T = Unit {0}} (Err f))) old new from to) (sym short)
         (acts_so old.seat new.seat from to _ _ act
         (λ x. session_rests bounds declaring old.seat.seat old.state new.state (stage_of from) (stage_of to) reply.OutOfMemory reply.OutOfMemory (true ∷ [])
-        (λ later scene k. declares_is (true ∷ later) scene k) (λ i. record { history = x i }) same refl))
+        (λ later scene k. declares_is (true ∷ later) scene k) x same refl))
     declared_err e (inr (many, full)) same act =
         subst (λ f. Did bounds declaring (Ok (entered_by {T = Unit {0}} (Err f))) old new from to) (sym many)
         (acts_so old.seat new.seat from to _ _ act
         (λ x. session_rests bounds declaring old.seat.seat old.state new.state (stage_of from) (stage_of to) reply.TooManyKeys reply.TooManyKeys (false ∷ [])
-        (λ later scene k. declares_is (false ∷ later) scene k ∙ ap (λ b. cond b (goes scene reply.TooManyKeys later) (goes (with_session (at_stage scene (record { history = after scene.stage.history })) k (record old.state { declared = Some terms })) reply.Fine later)) full)
-        (λ i. record { history = x i }) same refl))
+        (λ later scene k. declares_is (false ∷ later) scene k ∙ ap (λ b. cond b (goes scene reply.TooManyKeys later) (goes (with_session (at_stage scene (with_events scene.stage (after scene.stage.history))) k (record old.state { declared = Some terms })) reply.Fine later)) full)
+        x same refl))
 
-    pub declared : (r : Result (Unit {0}) Fault) → OnOk r ((exceeds old.state.buffer terms ≡ false) × (new.state ≡ record old.state { declared = Some terms }) × Acts old.seat new.seat from to (to.newest ≡ after from.newest))
-        → IfErr r (λ e. ((e ≡ fault.OutOfMemory) ⊎ ((e ≡ fault.TooManyKeys) × (exceeds old.state.buffer terms ≡ true))) × (new.state ≡ old.state) × Acts old.seat new.seat from to (to.newest ≡ from.newest))
+    pub declared : (r : Result (Unit {0}) Fault) → OnOk r ((exceeds old.state.buffer terms ≡ false) × (new.state ≡ record old.state { declared = Some terms }) × Acts old.seat new.seat from to (stage_of to ≡ with_events (stage_of from) (after from.newest)))
+        → IfErr r (λ e. ((e ≡ fault.OutOfMemory) ⊎ ((e ≡ fault.TooManyKeys) × (exceeds old.state.buffer terms ≡ true))) × (new.state ≡ old.state) × Acts old.seat new.seat from to (stage_of to ≡ stage_of from))
         → (said : Reply) → said ≡ entered_by r → Did bounds declaring (Ok said) old new from to
     declared (Ok x) ok err said also = subst (λ s. Did bounds declaring (Ok s) old new from to) (sym also) (declared_ok ok.0 ok.1 ok.2)
     declared (Err e) ok err said also = subst (λ s. Did bounds declaring (Ok s) old new from to) (sym also) (declared_err e err.0 err.1 err.2)
 
   -- a draw
-  pub drew_did : (t : ℕ) → can_draw old.state ≡ true → new.state ≡ record old.state { drawn = Some t } → Acts old.seat new.seat from to ((t ≡ last from.newest + 1) × (to.newest ≡ Drawn old.seat.seat (last from.newest + 1) ∷ from.newest))
+  pub drew_did : (t : ℕ) → can_draw old.state ≡ true → new.state ≡ record old.state { drawn = Some t } → Acts old.seat new.seat from to ((t ≡ last from.newest + 1) × (stage_of to ≡ with_events (stage_of from) (Drawn old.seat.seat (last from.newest + 1) ∷ from.newest)))
       → Did bounds (λ refused scene k s. draws refused scene k s bounds) (Ok (reply.Drawn t)) old new from to
   drew_did t can now act =
       acts_so old.seat new.seat from to _ _ act
-      (λ x names places k number there.
-      let scene = scene_with (stage_of from) names places in
-      let events : to.newest ≡ Drawn (seat_at bounds k) (last from.newest + 1) ∷ from.newest = x.1 ∙ ap (λ n. Drawn n (last from.newest + 1) ∷ from.newest) number in
+      (λ x ticks names places k number there.
+      let scene = scene_with (stage_of from) ticks names places in
+      let events : stage_of to ≡ with_events (stage_of from) (Drawn (seat_at bounds k) (last from.newest + 1) ∷ from.newest) = x.1 ∙ ap (λ n. with_events (stage_of from) (Drawn n (last from.newest + 1) ∷ from.newest)) number in
       let state : record old.state { drawn = Some (last from.newest + 1) } ≡ new.state = sym (now ∙ ap (λ u. record old.state { drawn = Some u }) x.0) in
-      goes_at bounds (λ refused. draws refused scene k old.state bounds) [] (reply.Drawn (last from.newest + 1)) (reply.Drawn t) (drew bounds scene k old.state) (scene_with (stage_of to) names (slice_set places k (session new.state)))
+      goes_at bounds (λ refused. draws refused scene k old.state bounds) [] (reply.Drawn (last from.newest + 1)) (reply.Drawn t) (drew bounds scene k old.state) (scene_with (stage_of to) ticks names (slice_set places k (session new.state)))
       (λ later. ap (λ b. cond b (goes (drew bounds scene k old.state) (reply.Drawn (last from.newest + 1)) later) (stops cause.Order)) can)
-      (λ i. scene_with (record { history = sym events i }) names (slice_set places k (session (state i))))
+      (λ i. scene_with (sym events i) ticks names (slice_set places k (session (state i))))
       (ap reply.Drawn (sym x.0)))
 
 -- ---- what is not allowed
@@ -134,10 +135,36 @@ module _ (bounds : List Key) (old : Seated) (desk : Desk) where
   pub declare_late : (terms : Terms) → is_declared old.state ≡ true → Did bounds (λ refused scene k s. declares refused scene k s terms) (Err cause.Order) old old desk desk
   declare_late terms late =
       stops_at bounds (λ refused scene k s. declares refused scene k s terms) old desk (is_declared old.state)
-      (λ refused scene k. calls refused scene (λ left. cond (exceeds old.state.buffer terms) (goes scene reply.TooManyKeys left) (goes (with_session (at_stage scene (record { history = declared_in scene.stage.history (declaration old.state.start old.state.buffer terms) })) k (record old.state { declared = Some terms })) reply.Fine left))) cause.Order
+      (λ refused scene k. calls refused scene (λ left. cond (exceeds old.state.buffer terms) (goes scene reply.TooManyKeys left) (goes (with_session (at_stage scene (with_events scene.stage (declared_in scene.stage.history (declaration old.state.start old.state.buffer terms)))) k (record old.state { declared = Some terms })) reply.Fine left))) cause.Order
       (λ refused scene k. refl) late
 
   pub draw_early : can_draw old.state ≡ false → Did bounds (λ refused scene k s. draws refused scene k s bounds) (Err cause.Order) old old desk desk
   draw_early cannot =
       stops_but bounds (λ refused scene k s. draws refused scene k s bounds) old desk (can_draw old.state)
       (λ refused scene k. goes (drew bounds scene k old.state) (reply.Drawn (last scene.stage.history + 1)) refused) cause.Order (λ refused scene k. refl) cannot
+
+-- ---- by the name of a hold
+
+module _ (bounds : List Key) (turn inner : Deeds) where
+  -- a turn that is another, at the stage from which it was done
+  pub did_as : (old new : Seated) (from to : Desk) (r : Result Reply Cause) → ((refused : List Bool) (scene : Scene) (k : ℕ) → scene.stage ≡ stage_of from → turn refused scene k old.state ≡ inner refused scene k old.state)
+      → Did bounds inner r old new from to → Did bounds turn r old new from to
+  did_as old new from to (Ok said) is did =
+      acts_so old.seat new.seat from to _ _ did
+      (λ goes ticks names places k number there. (
+        (goes ticks names places k number there).0,
+        λ later. subst (Leads bounds (λ next told left. (next ≡ scene_with (stage_of to) ticks names (slice_set places k (session new.state))) × (told ≡ said) × (left ≡ later)) (λ c. ⊥))
+            (sym (is ((goes ticks names places k number there).0 ++ later) (scene_with (stage_of from) ticks names places) k refl)) ((goes ticks names places k number there).1 later),
+      ))
+  did_as old new from to (Err c) is (same, desk, halts) = (same, desk, λ refused ticks names places k. is refused (scene_with (stage_of from) ticks names places) k refl ∙ halts refused ticks names places k)
+
+module _ (bounds : List Key) (deed : Deed) (old : Seated) (from : Desk) where
+  -- a name to hold under that is in use, or no name
+  pub held_amiss : may_go (stage_of from) (course_of deed) ≡ false → Did bounds (λ refused scene k s. deeds refused scene k s bounds deed) (Err cause.Name) old old from from
+  held_amiss amiss = (refl, refl, λ refused ticks names places k. ap (λ b. cond b (deeds_by refused (scene_with (stage_of from) ticks names places) k old.state bounds deed) (stops cause.Name)) amiss)
+
+  pub goes_on : may_go (stage_of from) (course_of deed) ≡ true → (new : Seated) (to : Desk) (r : Result Reply Cause) → Did bounds (λ refused scene k s. deeds_by refused scene k s bounds deed) r old new from to
+      → Did bounds (λ refused scene k s. deeds refused scene k s bounds deed) r old new from to
+  goes_on may new to r did =
+      did_as bounds (λ refused scene k s. deeds refused scene k s bounds deed) (λ refused scene k s. deeds_by refused scene k s bounds deed) old new from to r
+      (λ refused scene k at. ap (λ b. cond b (deeds_by refused scene k old.state bounds deed) (stops cause.Name)) (ap (λ s. may_go s (course_of deed)) at ∙ may)) did

@@ -8,7 +8,7 @@ use Rattle.tx_types.specs.declared.key.Key.{Key}
 use Rattle.tx_core.proofs.Basics.{some_same}
 use Rattle.tx_journal.specs.Known.{Known}
 use Rattle.tx_play.specs.Posts.{made_by}
-use Rattle.tx_play.specs.Places.{Kept, seat_in, Held, made_in, IsSeat, AreSeated, AllSeated, Acts, Goes}
+use Rattle.tx_play.specs.Places.{Kept, seat_in, Held, made_in, IsSeat, AreSeated, AllSeated, Acts, Serves, Goes}
 
 -- what is put where it is changes nothing
 pub set_here : {X : Type 0} (xs : List X) (k : ℕ) (x : X) → slice_get xs k ≡ Some x → slice_set xs k x ≡ xs
@@ -71,6 +71,17 @@ module _ (old new : Held) (k : ℕ) (x y : Kept) (there : slice_get old.places k
     grows = acts.grows;
     exact = λ le. on (acts.exact le);
   }
+
+-- the seat for what no session does acts
+pub served : (bounds : List Key) (old new : Held) (Exact Then : Type 0) → new.places ≡ old.places → Serves old.clerk new.clerk old.desk new.desk Exact → (Exact → Then) → Goes bounds old new Then
+served bounds old new Exact Then places serves on = record {
+  made = serves.made;
+  counts = omega (arith, serves.counts, ap (sum_by (λ p. made_in (seat_in p))) places);
+  size = ap length places;
+  seated = λ n h. record { clerk = serves.seat ∙ h.clerk; places = subst (AreSeated (length bounds + 2) n) (sym places) (seated_fewer (length bounds + 2) (suc n) n old.places (omega arith) h.places) };
+  grows = serves.grows;
+  exact = λ le. on (serves.exact le);
+}
 
 -- nothing is counted, and nothing changes
 pub rested : (bounds : List Key) (old new : Held) → new.desk.regions ≡ old.desk.regions → new.desk.newest ≡ old.desk.newest → new.clerk ≡ old.clerk → new.places ≡ old.places → (Exact : Type 0) → Exact → Goes bounds old new Exact

@@ -2,12 +2,18 @@
 pub mod Alone
 -- How many events of a seat there are at most.
 pub mod Counts
+-- Requests that are held under names.
+pub mod Holding
+-- What a desk's stage is after requests.
+pub mod Stages
 -- What the post's taking makes of what is newest.
 pub mod Posting
 -- A walk through the one thread's way.
 pub mod Walking
 -- What a session's acts count, and what they are where nobody else acted.
 pub mod Acting
+-- What the seat for what no session does makes.
+pub mod Serving
 -- What is counted over all places, where one of them acts.
 pub mod Keeping
 -- What steps of a session are in the scene that the engine holds.
@@ -32,3 +38,5 @@ pub mod Doing
 pub mod Entering
 -- What a session asks of the regions is its turn.
 pub mod Asking
+-- What a delivery gives is its turn.
+pub mod Delivering

@@ -80,9 +80,9 @@ numbered_set i zero (x ∷ ks) k new there kept all = (kept ∙ (ap (λ (y : Kno
 numbered_set i (suc n) (x ∷ ks) k new there kept all = (all.0, numbered_set (suc i) n ks k new there kept all.1)
 
 -- the region at a place took a request
-pub handed_at : (n place : ℕ) (from to : Desk) (k new : Known) (q : Asked) (g : Given) → place ≡ n → slice_get from.regions place ≡ Some k → AreNumbered 0 from.regions → to.regions ≡ slice_set from.regions place new → to.way ≡ from.way
+pub handed_at : (n place : ℕ) (from to : Desk) (k new : Known) (q : Asked) (g : Given) → place ≡ n → slice_get from.regions place ≡ Some k → AreNumbered 0 from.regions → to.regions ≡ slice_set from.regions place new → to.held ≡ from.held → to.way ≡ from.way
     → Taken k from.newest q g new to.newest → Hands n from to q g
-handed_at n place from to k new q g is there all placed way took =
+handed_at n place from to k new q g is there all placed held way took =
     let number : k.seat ≡ n = numbered_at 0 place from.regions k there all ∙ (omega (arith, is)) in
     let sums = sum_by-set made_by from.regions place new k (slice_get_within from.regions place k there) in
     let here = ap made_by (get_or_from_slice_get from.regions place k k there) in
@@ -90,5 +90,6 @@ handed_at n place from to k new q g is there all placed way took =
       request = took.request;
       takes = subst (λ i. TakesBy i from.newest q.body g.answer to.newest) number took.takes;
       counts = omega (arith, sums, here, took.counts, ap (sum_by made_by) placed);
+      held = held;
       way = way;
     }

@@ -10,22 +10,25 @@ use Rattle.tx_core.proofs.seats.Parts.{part_extends}
 use Rattle.tx_journal.specs.Known.{Known}
 use Rattle.tx_journal.specs.Replies.{Asked, Given}
 use Rattle.tx_client.specs.declared.state.Came.{Came}
+use Rattle.tx_client.specs.declared.state.Came.TheVariants as came
 use Rattle.tx_client.specs.Senders.{Reached, IsHeld, IsWay, came_by, came_of, Learns}
 use Rattle.tx_client.specs.Walks.{Walk, asks, grows, ends, Sends}
-use Rattle.tx_play.specs.declared.post.Way.{Way}
-use Rattle.tx_play.specs.declared.post.Way.TheVariants.{Plain, Lose, LoseReply, Repeat}
-use Rattle.tx_play.specs.Posts.{Desk, region_for, made_by, made_for, TakesBy, Hands, Passes, stage_of, Met, Reach, Runs}
+use Rattle.tx_play.specs.declared.post.Way.TheVariants.{Plain, Lose, LoseReply, Repeat, Hold}
+use Rattle.tx_play.specs.Posts.{Course, Desk, region_for, made_by, made_for, TakesBy, Hands, IsUntaken, Passes, stage_of, Met, MetHold, Reach, Runs}
+use Rattle.tx_play.proofs.Stages.{same_stage, kept_stage}
 use Rattle.tx_play.proofs.Alone.{took_grows, took_alone, took_answers}
 
 -- ---- the way
 
 -- an answer is to the request that was sent
-by_way : (bounds : List Key) (w : Way) (a b : Desk) (q : Asked) (g : Given) → Passes bounds w a q (Ok g) b → g.request ≡ q
-by_way bounds Plain a b q g p = p.request
-by_way bounds Lose a b q g p = absurd p.1
-by_way bounds LoseReply a b q g p = absurd p.1
-by_way bounds Repeat a b q g (inl p) = p.request
-by_way bounds Repeat a b q g (inr p) = p.again.request
+by_way : (bounds : List Key) (w : Option Course) (a b : Desk) (q : Asked) (g : Given) → Passes bounds w a q (Ok g) b → g.request ≡ q
+by_way bounds None a b q g p = p.request
+by_way bounds (Some Plain) a b q g p = p.request
+by_way bounds (Some Lose) a b q g p = absurd p.1
+by_way bounds (Some LoseReply) a b q g p = absurd p.1
+by_way bounds (Some Repeat) a b q g (inl p) = p.request
+by_way bounds (Some Repeat) a b q g (inr p) = p.again.request
+by_way bounds (Some (Hold name)) a b q g p = p.request
 
 pub is_way : (bounds : List Key) → IsWay bounds (λ (a : Desk) (q : Asked). IsHeld bounds q.body) (λ (a : Desk) q r b. Passes bounds a.way a q r b) (λ a. bounds)
 is_way bounds = record { takes = λ a q held. held; answers = λ a b q g p. by_way bounds a.way a b q g p; between = λ a. refl }
@@ -80,26 +83,26 @@ pub record One (bounds : List Key) (from to : Desk) (body : Body) (c : Came) : T
   pub grows : length from.newest + made ≤ length to.newest
   pub exact : length to.newest ≤ length from.newest + made → Met bounds (stage_of from) body c (stage_of to)
 
-take_by : (bounds : List Key) (from to : Desk) (body : Body) (o : Option Answer) → to.way ≡ from.way → sum_by made_by to.regions ≤ sum_by made_by from.regions + made_for o → TakesBy (region_for bounds body) from.newest body o to.newest → One bounds from to body (came_by o)
-take_by bounds from to body None way counts begins = record {
+take_by : (bounds : List Key) (from to : Desk) (body : Body) (o : Option Answer) → to.way ≡ from.way → to.held ≡ from.held → sum_by made_by to.regions ≤ sum_by made_by from.regions + made_for o → TakesBy (region_for bounds body) from.newest body o to.newest → One bounds from to body (came_by o)
+take_by bounds from to body None way held counts begins = record {
   made = 0;
   counts = counts;
   way = way;
   grows = omega (arith, begins_length from.newest to.newest begins);
-  exact = λ le. (let same = begins_whole from.newest to.newest begins (omega (arith, le)) in λ i. record { history = sym same i });
+  exact = λ le. (let same = begins_whole from.newest to.newest begins (omega (arith, le)) in same_stage from to from.newest (sym same) held);
 }
-take_by bounds from to body (Some a) way counts took =
+take_by bounds from to body (Some a) way held counts took =
     let n = region_for bounds body in
     record {
       made = 1;
       counts = counts;
       way = way;
       grows = took_grows n from.newest body a to.newest took;
-      exact = λ le. (took_answers n from.newest body a to.newest took le, λ i. record { history = took_alone n from.newest body a to.newest took le i });
+      exact = λ le. (took_answers n from.newest body a to.newest took le, same_stage from to _ (took_alone n from.newest body a to.newest took le) held);
     }
 
-take_one : (bounds : List Key) (from to : Desk) (q : Asked) (g : Given) → Hands (region_for bounds q.body) from to q g → One bounds from to q.body (came_by g.answer)
-take_one bounds from to q g h = take_by bounds from to q.body g.answer h.way h.counts h.takes
+pub take_one : (bounds : List Key) (from to : Desk) (q : Asked) (g : Given) → Hands (region_for bounds q.body) from to q g → One bounds from to q.body (came_by g.answer)
+take_one bounds from to q g h = take_by bounds from to q.body g.answer h.way h.held h.counts h.takes
 
 one_comes : (bounds : List Key) (from to : Desk) (body : Body) (c : Came) (k new : Known) (Exact : Type 0) → One bounds from to body c → IsSame k new → (Met bounds (stage_of from) body c (stage_of to) → Exact) → Comes k from to new Exact
 one_comes bounds from to body c k new Exact one same on = record {
@@ -133,26 +136,12 @@ module _ (bounds : List Key) (from mid : Desk) (q : Asked) (k then_known : Known
   abbrev Exactly : Reached → Type 0
   Exactly g = Reach bounds from.way (stage_of from) q.body (came_of g) (stage_of mid)
 
-  at_way : (w : Way) → from.way ≡ w → (g : Reached) → Reach bounds w (stage_of from) q.body (came_of g) (stage_of mid) → Exactly g
+  at_way : (w : Option Course) → from.way ≡ w → (g : Reached) → Reach bounds w (stage_of from) q.body (came_of g) (stage_of mid) → Exactly g
   at_way w at g r = subst (λ v. Reach bounds v (stage_of from) q.body (came_of g) (stage_of mid)) (sym at) r
 
-  send_comes : (g : Reached) (w : Way) → from.way ≡ w → Passes bounds w from q g mid → IsSame k then_known → Comes k from mid then_known (Exactly g)
-  send_comes (Ok g) Plain at p same = one_comes bounds from mid q.body (came_by g.answer) k then_known (Exactly (Ok g)) (take_one bounds from mid q g p) same (at_way Plain at (Ok g))
-  send_comes (Err l) Plain at p same = absurd p
-  send_comes (Ok g) Lose at p same = absurd p.1
-  send_comes (Err l) Lose at p same = record {
-    made = 0;
-    counts = omega (arith, ap (λ (d : Desk). sum_by made_by d.regions) p.0);
-    number = same.number;
-    ticks = same.ticks;
-    own = same.own;
-    way = ap (λ (d : Desk). d.way) p.0;
-    grows = omega (arith, ap (λ (d : Desk). length d.newest) p.0);
-    exact = λ le. at_way Lose at (Err l) (ap stage_of p.0);
-  }
-  send_comes (Ok g) LoseReply at p same = absurd p.1
-  send_comes (Err l) LoseReply at p same = one_comes bounds from mid q.body (came_by p.0.0.answer) k then_known (Exactly (Err l)) (take_one bounds from mid q p.0.0 p.0.1) same (λ met. at_way LoseReply at (Err l) (came_by p.0.0.answer, met))
-  send_comes (Ok g) Repeat at (inl p) same = record {
+  -- no region took it
+  untaken : (g : Given) → IsUntaken from mid q g → IsSame k then_known → (came_by g.answer ≡ came.Unsaid → stage_of mid ≡ stage_of from → Exactly (Ok g)) → Comes k from mid then_known (Exactly (Ok g))
+  untaken g p same on = record {
     made = 0;
     counts = omega (arith, ap (λ (d : Desk). sum_by made_by d.regions) p.same);
     number = same.number;
@@ -160,12 +149,45 @@ module _ (bounds : List Key) (from mid : Desk) (q : Asked) (k then_known : Known
     own = same.own;
     way = ap (λ (d : Desk). d.way) p.same;
     grows = omega (arith, ap (λ (d : Desk). length d.newest) p.same);
-    exact = λ le. at_way Repeat at (Ok g) (inl (ap came_by p.answer, ap stage_of p.same));
+    exact = λ le. on (ap came_by p.answer) (ap stage_of p.same);
   }
-  send_comes (Ok g) Repeat at (inr p) same =
+
+  send_comes : (g : Reached) (w : Option Course) → from.way ≡ w → Passes bounds w from q g mid → IsSame k then_known → Comes k from mid then_known (Exactly g)
+  send_comes (Ok g) None at p same = untaken g p same (λ said stays. at_way None at (Ok g) (said, stays))
+  send_comes (Err l) None at p same = absurd p
+  send_comes (Ok g) (Some Plain) at p same = one_comes bounds from mid q.body (came_by g.answer) k then_known (Exactly (Ok g)) (take_one bounds from mid q g p) same (at_way (Some Plain) at (Ok g))
+  send_comes (Err l) (Some Plain) at p same = absurd p
+  send_comes (Ok g) (Some Lose) at p same = absurd p.1
+  send_comes (Err l) (Some Lose) at p same = record {
+    made = 0;
+    counts = omega (arith, ap (λ (d : Desk). sum_by made_by d.regions) p.0);
+    number = same.number;
+    ticks = same.ticks;
+    own = same.own;
+    way = ap (λ (d : Desk). d.way) p.0;
+    grows = omega (arith, ap (λ (d : Desk). length d.newest) p.0);
+    exact = λ le. at_way (Some Lose) at (Err l) (ap stage_of p.0);
+  }
+  send_comes (Ok g) (Some LoseReply) at p same = absurd p.1
+  send_comes (Err l) (Some LoseReply) at p same =
+      one_comes bounds from mid q.body (came_by p.0.0.answer) k then_known (Exactly (Err l)) (take_one bounds from mid q p.0.0 p.0.1) same (λ met. at_way (Some LoseReply) at (Err l) (came_by p.0.0.answer, met))
+  send_comes (Ok g) (Some Repeat) at (inl p) same = untaken g p same (λ said stays. at_way (Some Repeat) at (Ok g) (inl (said, stays)))
+  send_comes (Ok g) (Some Repeat) at (inr p) same =
       two_comes bounds from p.mid mid q.body (came_by p.first.answer) (came_by g.answer) k then_known (Exactly (Ok g)) (take_one bounds from p.mid q p.first p.took) (take_one bounds p.mid mid q g p.again) same
-      (λ met also. at_way Repeat at (Ok g) (inr (came_by p.first.answer, stage_of p.mid, met, also)))
-  send_comes (Err l) Repeat at p same = absurd p
+      (λ met also. at_way (Some Repeat) at (Ok g) (inr (came_by p.first.answer, stage_of p.mid, met, also)))
+  send_comes (Err l) (Some Repeat) at p same = absurd p
+  send_comes (Ok g) (Some (Hold name)) at p same =
+      untaken g p same (λ said stays. at_way (Some (Hold name)) at (Ok g) (subst (λ c. MetHold name (stage_of from) q.body c (stage_of mid)) (sym said) stays))
+  send_comes (Err l) (Some (Hold name)) at p same = record {
+    made = 0;
+    counts = omega (arith, ap (sum_by made_by) p.regions);
+    number = same.number;
+    ticks = same.ticks;
+    own = same.own;
+    way = p.way;
+    grows = omega (arith, ap length p.newest);
+    exact = λ le. at_way (Some (Hold name)) at (Err l) (kept_stage name from mid q p);
+  }
 
 -- one after another
 then_comes : (k mid new : Known) (from at to : Desk) (First Second Both : Type 0) → Comes k from at mid First → Comes mid at to new Second → (First → Second → Both) → Comes k from to new Both

@@ -14,7 +14,7 @@ use Rattle.tx_play.specs.declared.places.Slot.TheVariants.{Free, Live, Lent}
 use Rattle.tx_lines.specs.declared.reply.Reply.{Reply}
 use Rattle.tx_play.specs.Posts.{Desk, stage_of, Stage, made_by, IsDone, AreNumbered}
 use Rattle.tx_play.specs.Steps.{Call}
-use Rattle.tx_play.specs.Scenes.{Place, free, session, Scene, Turn, stops, seat_at, turn}
+use Rattle.tx_play.specs.Scenes.{Place, free, session, Scene, Turn, stops, seat_at, delivers, turn}
 use Rattle.tx_play.specs.Plays.{Leads}
 
 -- what a place has
@@ -45,12 +45,12 @@ texts entries = map (λ e. (string_bytes e.0, e.1)) entries
 abbrev pub name_at : List (List ℕ × ℕ) → List ℕ → Option ℕ
 name_at names q = lookup (λ k. bytes_eq q k) names
 
-abbrev pub scene_with : Stage → (List ℕ → Option ℕ) → List Place → Scene
-scene_with stage names places = record { stage = stage; names = names; places = places }
+abbrev pub scene_with : Stage → ℕ → (List ℕ → Option ℕ) → List Place → Scene
+scene_with stage ticks names places = record { stage = stage; ticks = ticks; names = names; places = places }
 
 -- the scene that an engine holds
 abbrev pub scene_of : Held → Scene
-scene_of e = record { stage = stage_of e.desk; names = λ q. name_at e.names q; places = map place_of e.places }
+scene_of e = scene_with (stage_of e.desk) e.clerk.ticks (λ q. name_at e.names q) (map place_of e.places)
 
 -- ---- counting
 
@@ -91,6 +91,14 @@ pub record Acts (old new : Known) (from to : Desk) (Exact : Type 0) : Type 0 whe
   pub grows : length from.newest + made ≤ length to.newest
   pub exact : length to.newest ≤ length from.newest + made → Exact
 
+-- the same of the seat for no session, which may draw more ticks at once
+pub record Serves (old new : Known) (from to : Desk) (Exact : Type 0) : Type 0 where
+  pub made : ℕ
+  pub counts : made_by new + at_regions to ≤ made_by old + at_regions from + made
+  pub seat : new.seat ≡ old.seat
+  pub grows : length from.newest + made ≤ length to.newest
+  pub exact : length to.newest ≤ length from.newest + made → Exact
+
 -- the same of an engine
 pub record Goes (bounds : List Key) (old new : Held) (Exact : Type 0) : Type 0 where
   pub made : ℕ
@@ -108,8 +116,8 @@ GoesTo bounds turn reply next = (refused : List Bool) × ((later : List Bool) �
 
 -- A session of the seat n goes on with this reply, at this stage and at whatever place its seat is.
 abbrev pub SessionGoes : List Key → (List Bool → Scene → ℕ → State → Turn) → ℕ → State → State → Stage → Stage → Reply → Type 0
-SessionGoes bounds turn n old new from to reply = (names : List ℕ → Option ℕ) (places : List Place) (k : ℕ) → n ≡ seat_at bounds k → slice_get places k ≡ Some (session old)
-    → GoesTo bounds (λ refused. turn refused (scene_with from names places) k old) reply (scene_with to names (slice_set places k (session new)))
+SessionGoes bounds turn n old new from to reply = (ticks : ℕ) (names : List ℕ → Option ℕ) (places : List Place) (k : ℕ) → n ≡ seat_at bounds k → slice_get places k ≡ Some (session old)
+    → GoesTo bounds (λ refused. turn refused (scene_with from ticks names places) k old) reply (scene_with to ticks names (slice_set places k (session new)))
 
 -- it went on so
 abbrev pub Sent : List Key → (List Bool → Scene → ℕ → State → Turn) → Reply → Seated → Seated → Desk → Desk → Type 0
@@ -118,7 +126,21 @@ Sent bounds turn reply old new from to = Acts old.seat new.seat from to (Session
 -- a step of a session: it goes on, or it is not allowed and changes nothing
 abbrev pub Did : List Key → (List Bool → Scene → ℕ → State → Turn) → Result Reply Cause → Seated → Seated → Desk → Desk → Type 0
 Did bounds turn (Ok reply) old new from to = Sent bounds turn reply old new from to
-Did bounds turn (Err cause) old new from to = (new ≡ old) × (to ≡ from) × ((refused : List Bool) (scene : Scene) (k : ℕ) → turn refused scene k old.state ≡ stops cause)
+Did bounds turn (Err cause) old new from to = (new ≡ old) × (to ≡ from) × ((refused : List Bool) (ticks : ℕ) (names : List ℕ → Option ℕ) (places : List Place) (k : ℕ) → turn refused (scene_with (stage_of from) ticks names places) k old.state ≡ stops cause)
+
+-- What a delivery gives: regions took a copy of a held request, so many events were made, at least so many came, and where no more came,
+-- it is exact.
+pub record Handed (bounds : List Key) (name : List ℕ) (reply : Reply) (from to : Desk) : Type 0 where
+  pub made : ℕ
+  pub counts : at_regions to ≤ at_regions from + made
+  pub grows : length from.newest + made ≤ length to.newest
+  pub exact : length to.newest ≤ length from.newest + made
+      → ((ticks : ℕ) (names : List ℕ → Option ℕ) (places : List Place) → GoesTo bounds (λ refused. delivers bounds refused (scene_with (stage_of from) ticks names places) ((stage_of from).held name)) reply (scene_with (stage_of to) ticks names places))
+
+-- it is delivered; or nothing is held under the name
+abbrev pub Delivered : List Key → List ℕ → Result Reply Cause → Desk → Desk → Type 0
+Delivered bounds name (Ok reply) from to = Handed bounds name reply from to
+Delivered bounds name (Err cause) from to = (to ≡ from) × ((refused : List Bool) (ticks : ℕ) (names : List ℕ → Option ℕ) (places : List Place) → delivers bounds refused (scene_with (stage_of from) ticks names places) ((stage_of from).held name) ≡ stops cause)
 
 -- a step goes on from the scene that the engine held to the one that it then holds, or it stops
 abbrev pub Turned : List Key → Call → Result Reply Cause → Held → Held → Type 0

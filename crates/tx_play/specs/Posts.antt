@@ -1,5 +1,7 @@
 -- What one thread's way to the regions makes of requests.
-use Rattle.std.specs.Prelude.{◌≡◌, ◌≤◌, ◌⊎◌, ℕ, suc, ◌+◌, List, [], ◌∷◌, length, Option, Some, None, Ok, Err}
+use Rattle.std.specs.Prelude.{◌≡◌, ◌≤◌, ◌⊎◌, ℕ, suc, ◌+◌, cond, List, [], ◌∷◌, map, length, Option, Some, None, option_map, is_some, Ok, Err, String, string_bytes, bytes_eq}
+use Rattle.std.specs.Global.{Global}
+use Rattle.std.specs.Map.{lookup, update}
 use Rattle.std.specs.List.{sum_by}
 use Rattle.tx_types.specs.declared.key.Key.{Key}
 use Rattle.tx_plan.specs.declared.body.Body.{Body}
@@ -13,17 +15,43 @@ use Rattle.tx_core.specs.Worlds.{route}
 use Rattle.tx_journal.specs.Known.{Known}
 use Rattle.tx_journal.specs.Replies.{Asked, Given}
 use Rattle.tx_play.specs.declared.post.Way.{Way}
-use Rattle.tx_play.specs.declared.post.Way.TheVariants.{Plain, Lose, LoseReply, Repeat}
+use Rattle.tx_play.specs.declared.post.Way.TheVariants.{Plain, Lose, LoseReply, Repeat, Hold}
 use Rattle.tx_client.specs.declared.state.Came.{Came}
 use Rattle.tx_client.specs.declared.state.Came.TheVariants as came
-use Rattle.tx_client.specs.Senders.{Reached}
+use Rattle.tx_client.specs.Senders.{Reached, IsHeld}
 use Rattle.tx_client.specs.Walks.{Walk, asks, grows, ends}
 
--- the regions in their order, the newest history that anyone here has seen, and what becomes of the next request
+-- what becomes of a request, with what another name is of its hold
+abbrev pub by_name : {A B : Type 0} → (A → B) → Way A → Way B
+by_name f Plain = Plain
+by_name f Lose = Lose
+by_name f LoseReply = LoseReply
+by_name f Repeat = Repeat
+by_name f (Hold name) = Hold (f name)
+
+-- a way that is named by bytes
+abbrev pub Course : Type 0
+Course = Way (List ℕ)
+
+-- The regions in their order, the newest history that anyone here has seen, the requests that are held, by name, and what becomes of the
+-- next request: none where memory for the name of its hold was refused.
 pub record Desk : Type 0 where
   pub regions : List Known
   pub newest : History
-  pub way : Way
+  pub held : List (List ℕ × Asked)
+  pub way : Option Course
+
+-- held requests by the bytes of their names
+abbrev pub requests : List (String Global × Asked) → List (List ℕ × Asked)
+requests entries = map (λ e. (string_bytes e.0, e.1)) entries
+
+-- the request that is held under a name
+abbrev pub request_at : List (List ℕ × Asked) → List ℕ → Option Asked
+request_at held q = lookup (λ k. bytes_eq q k) held
+
+-- some region holds what each of them speaks of
+abbrev pub AllFit : List Key → List (List ℕ × Asked) → Type 0
+AllFit bounds held = (q : List ℕ) (r : Asked) → request_at held q ≡ Some r → IsHeld bounds r.body
 
 -- the seats of these are i and those that follow it
 abbrev pub AreNumbered : ℕ → List Known → Type 0
@@ -88,6 +116,7 @@ pub record Hands (n : ℕ) (from to : Desk) (q : Asked) (g : Given) : Type 0 whe
   pub request : g.request ≡ q
   pub takes : TakesBy n from.newest q.body g.answer to.newest
   pub counts : sum_by made_by to.regions ≤ sum_by made_by from.regions + made_for g.answer
+  pub held : to.held ≡ from.held
   pub way : to.way ≡ from.way
 
 -- ---- the ways
@@ -104,11 +133,28 @@ pub record Twice (n : ℕ) (from to : Desk) (q : Asked) (g : Given) : Type 0 whe
   pub took : Hands n from mid q first
   pub again : Hands n mid to q g
 
--- memory for a copy of the request was refused: no region took it
+-- memory was refused for a copy of the request, or for its hold: no region took it
 pub record IsUntaken (from to : Desk) (q : Asked) (g : Given) : Type 0 where
   pub request : g.request ≡ q
   pub answer : g.answer ≡ None
   pub same : to ≡ from
+
+-- the request is held under a name, and no region took it
+pub record Keeps (name : List ℕ) (from to : Desk) (q : Asked) : Type 0 where
+  pub regions : to.regions ≡ from.regions
+  pub newest : to.newest ≡ from.newest
+  pub held : (k : List ℕ) → request_at to.held k ≡ update bytes_eq (request_at from.held) name (Some q) k
+  pub many : length to.held ≡ length from.held + cond (is_some (request_at from.held name)) 0 1
+  pub way : to.way ≡ from.way
+
+abbrev pub Untaken : Desk → Asked → Reached → Desk → Type 0
+Untaken a q (Ok g) b = IsUntaken a b q g
+Untaken a q (Err l) b = ⊥
+
+-- it is held; or memory for that was refused
+abbrev pub HeldUnder : List ℕ → Desk → Asked → Reached → Desk → Type 0
+HeldUnder name a q (Ok g) b = IsUntaken a b q g
+HeldUnder name a q (Err l) b = Keeps name a b q
 
 module _ (bounds : List Key) where
   abbrev pub Replied : Desk → Asked → Reached → Desk → Type 0
@@ -119,25 +165,57 @@ module _ (bounds : List Key) where
   Repeated a q (Ok g) b = IsUntaken a b q g ⊎ Twice (region_for bounds q.body) a b q g
   Repeated a q (Err l) b = ⊥
 
-  abbrev pub Passes : Way → Desk → Asked → Reached → Desk → Type 0
-  Passes Plain a q r b = Replied a q r b
-  Passes Lose a q r b = (b ≡ a) × IsLost r
-  Passes LoseReply a q r b = ((g : Given) × Hands (region_for bounds q.body) a b q g) × IsLost r
-  Passes Repeat a q r b = Repeated a q r b
+  abbrev pub Passes : Option Course → Desk → Asked → Reached → Desk → Type 0
+  Passes None a q r b = Untaken a q r b
+  Passes (Some Plain) a q r b = Replied a q r b
+  Passes (Some Lose) a q r b = (b ≡ a) × IsLost r
+  Passes (Some LoseReply) a q r b = ((g : Given) × Hands (region_for bounds q.body) a b q g) × IsLost r
+  Passes (Some Repeat) a q r b = Repeated a q r b
+  Passes (Some (Hold name)) a q r b = HeldUnder name a q r b
+
+-- ---- setting the way
+
+abbrev pub IsHold : Course → Type 0
+IsHold (Hold name) = Unit {0}
+IsHold _ = ⊥
+
+-- so the next requests go; or memory for the name of their hold was refused
+abbrev pub IsSet : Course → Desk → Desk → Type 0
+IsSet way from to = (to ≡ record from { way = Some way }) ⊎ (IsHold way × (to ≡ record from { way = None }))
 
 -- ---- where nobody else acts
 
--- what requests change: what has happened
+-- what requests change: what has happened, and what is held under names, of which so many are in use
 pub record Stage : Type 0 where
   pub history : History
+  pub held : List ℕ → Option Body
+  pub kept : ℕ
+
+-- what is held under a name
+abbrev pub body_at : List (List ℕ × Asked) → List ℕ → Option Body
+body_at held q = option_map (λ (r : Asked). r.body) (request_at held q)
 
 -- what a desk has of it
 abbrev pub stage_of : Desk → Stage
-stage_of d = record { history = d.newest }
+stage_of d = record { history = d.newest; held = λ q. body_at d.held q; kept = length d.held }
+
+-- what has happened is this
+abbrev pub with_events : Stage → History → Stage
+with_events s h = record { history = h; held = s.held; kept = s.kept }
 
 -- after a region took a request, and answered so
 abbrev pub taken : List Key → Stage → Body → Answer → Stage
-taken bounds s body a = record { history = Took (record { region = region_for bounds body; body = body; loaded = last s.history; answer = a }) ∷ s.history }
+taken bounds s body a = with_events s (Took (record { region = region_for bounds body; body = body; loaded = last s.history; answer = a }) ∷ s.history)
+
+-- after a request was held under a name
+abbrev pub holding : Stage → List ℕ → Body → Stage
+holding s name body = record { history = s.history; held = update bytes_eq s.held name (Some body); kept = s.kept + cond (is_some (s.held name)) 0 1 }
+
+-- it is held, and not taken; or memory for that was refused
+abbrev pub MetHold : List ℕ → Stage → Body → Came → Stage → Type 0
+MetHold name s body came.Lost next = next ≡ holding s name body
+MetHold name s body came.Unsaid next = next ≡ s
+MetHold name s body (came.Said a) next = ⊥
 
 module _ (bounds : List Key) where
   -- the region answers by the case tables from what its events left, with the least minimum for an async lock
@@ -165,14 +243,16 @@ module _ (bounds : List Key) where
   LostAll s _ next = ⊥
 
   -- what came of a request by the way that it went, and what it changed
-  abbrev pub Reach : Way → Stage → Body → Came → Stage → Type 0
-  Reach Plain s body c next = Met s body c next
-  Reach Lose s body c next = LostAll s c next
-  Reach LoseReply s body c next = MetLost s body c next
-  Reach Repeat s body c next = MetTwice s body c next
+  abbrev pub Reach : Option Course → Stage → Body → Came → Stage → Type 0
+  Reach None s body c next = (c ≡ came.Unsaid) × (next ≡ s)
+  Reach (Some Plain) s body c next = Met s body c next
+  Reach (Some Lose) s body c next = LostAll s c next
+  Reach (Some LoseReply) s body c next = MetLost s body c next
+  Reach (Some Repeat) s body c next = MetTwice s body c next
+  Reach (Some (Hold name)) s body c next = MetHold name s body c next
 
   -- a walk, and what it changed
-  abbrev pub Runs : {R : Type 0} → Way → Stage → Walk R → R → Stage → Type 0
+  abbrev pub Runs : {R : Type 0} → Option Course → Stage → Walk R → R → Stage → Type 0
   Runs way s (ends r) result next = (result ≡ r) × (next ≡ s)
   Runs way s (grows more short) result next = Runs way s short result next ⊎ Runs way s more result next
   Runs way s (asks body more) result next = (c : Came) × (mid : Stage) × Reach way s body c mid × Runs way mid (more c) result next

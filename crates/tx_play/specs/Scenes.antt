@@ -1,15 +1,16 @@
 -- What each step of a script does, in one thread in which nobody else acts: the events that it makes, what it changes of its session, and
 -- its reply.
-use Rattle.std.specs.Prelude.{ℕ, ◌+◌, ◌&&◌, not, Bool, false, List, [], ◌∷◌, length, replicate, nat_le, slice_get, slice_set, Option, Some, None, option_map, is_some, if◌then◌else◌, Result, Ok, Err, bytes_eq}
+use Rattle.std.specs.Prelude.{ℕ, ◌+◌, ◌-◌, ◌&&◌, not, Bool, true, false, List, [], ◌∷◌, length, replicate, nat_eq, nat_le, slice_get, slice_set, Option, Some, None, option_map, is_some, if◌then◌else◌, Result, Ok, Err, bytes_eq}
 use Rattle.std.specs.Map.{update}
 use Rattle.tx_types.specs.declared.limits.TheConstants.{MAX_KEY_BYTES, MAX_NAME_BYTES, MAX_VALUE_BYTES, MIN_KEY_BYTES}
 use Rattle.tx_types.specs.declared.fault.Fault.{Fault}
 use Rattle.tx_types.specs.declared.fault.Fault.TheVariants as fault
 use Rattle.tx_types.specs.declared.fault.Cause.{Cause}
-use Rattle.tx_types.specs.declared.fault.Cause.TheVariants.{Name, Order, Sessions}
+use Rattle.tx_types.specs.declared.fault.Cause.TheVariants.{Form, Name, Order, Sessions}
 use Rattle.tx_types.specs.declared.key.Key.{Key}
 use Rattle.tx_types.specs.declared.mutation.Mutation.TheVariants as mutation
 use Rattle.tx_plan.specs.declared.body.Body.{Body}
+use Rattle.tx_plan.specs.declared.body.Body.TheVariants as request
 use Rattle.tx_plan.specs.declared.answer.Answer.{Answer}
 use Rattle.tx_core.specs.declared.event.Declaration.{Declaration}
 use Rattle.tx_core.specs.declared.event.Outcome.{Outcome}
@@ -24,27 +25,28 @@ use Rattle.tx_client.specs.declared.state.Miss.TheVariants as miss
 use Rattle.tx_client.specs.Buffers.{Entries, touched, locked, is_full}
 use Rattle.tx_client.specs.Sessions.{State, begun, is_declared, has_primary, exceeds, declaration, due_prewrite, due_commit, due_abort, can_draw, can_commit, can_abort, finish_of}
 use Rattle.tx_client.specs.Walks.{Walk, asks, grows, ends, due_walk, heartbeat_walk, get_walk, scan_walk}
-use Rattle.tx_play.specs.declared.post.Way.{Way}
-use Rattle.tx_play.specs.declared.post.Way.TheVariants.{Plain, Lose, LoseReply, Repeat}
+use Rattle.tx_play.specs.declared.post.Way.TheVariants.{Plain, Lose, LoseReply, Repeat, Hold}
 use Rattle.tx_lines.specs.declared.reply.Reply.{Reply}
 use Rattle.tx_lines.specs.declared.reply.Reply.TheVariants as reply
-use Rattle.tx_play.specs.Posts.{Stage, taken}
-use Rattle.tx_play.specs.Steps.{Deed, put, delete, lock, get, scan, declare, prewrite, draw, commit, abort, heartbeat, Call, begin, acts, finish, stop}
+use Rattle.tx_play.specs.Posts.{Course, Stage, with_events, taken, holding}
+use Rattle.tx_play.specs.Steps.{Deed, put, delete, lock, get, scan, declare, prewrite, draw, commit, abort, heartbeat, course_of, Call, begin, acts, finish, stop, deliver, read, tick}
 
 -- a place: free, or with a live session
 pub data Place : Type 0 where
   free : Place
   session : (state : State) → Place
 
--- where a script stands: what has happened, the places of the live sessions' names, and the places, each of which has a seat
+-- where a script stands: what has happened, the ticks that the seat for no session may still draw, the places of the live sessions'
+-- names, and the places, each of which has a seat
 pub record Scene : Type 0 where
   pub stage : Stage
+  pub ticks : ℕ
   pub names : List ℕ → Option ℕ
   pub places : List Place
 
--- before the first step, with so many places
+-- before the first step, with so many places; a seat may draw 2^32 ticks
 abbrev pub opening : ℕ → Scene
-opening n = record { stage = record { history = [] }; names = λ q. None; places = replicate n free }
+opening n = record { stage = record { history = []; held = λ q. None; kept = 0 }; ticks = 4294967296; names = λ q. None; places = replicate n free }
 
 -- A step goes on with a scene, a reply and the refusals that are left; or a region is first asked, at this stage, and it goes on by the
 -- answer; or it stops the script.
@@ -78,17 +80,22 @@ is_key key = nat_le MIN_KEY_BYTES (length key) && nat_le (length key) MAX_KEY_BY
 abbrev pub is_value : List ℕ → Bool
 is_value value = nat_le (length value) MAX_VALUE_BYTES
 
+-- a name to hold under is of 1 to 64 bytes, and not in use
+abbrev pub may_go : Stage → Course → Bool
+may_go s (Hold name) = is_name name && not (is_some (s.held name))
+may_go s _ = true
+
 -- ---- scenes that follow
 
 abbrev pub at_stage : Scene → Stage → Scene
-at_stage scene s = record { stage = s; names = scene.names; places = scene.places }
+at_stage scene s = record scene { stage = s }
 
 abbrev pub at_history : Scene → History → Scene
-at_history scene h = at_stage scene (record { history = h })
+at_history scene h = at_stage scene (with_events scene.stage h)
 
 -- a session has another state
 abbrev pub with_session : Scene → ℕ → State → Scene
-with_session scene k s = record { stage = scene.stage; names = scene.names; places = slice_set scene.places k (session s) }
+with_session scene k s = record scene { places = slice_set scene.places k (session s) }
 
 -- the seat of a place: those of the regions come first, and then one for what no session does
 abbrev pub seat_at : List Key → ℕ → ℕ
@@ -100,13 +107,13 @@ declared_in h (Some d) = Declared d ∷ h
 
 -- a session is gone, and its place is free
 abbrev pub gone : Scene → List ℕ → ℕ → Scene
-gone scene name k = record { stage = scene.stage; names = update bytes_eq scene.names name None; places = slice_set scene.places k free }
+gone scene name k = record scene { names = update bytes_eq scene.names name None; places = slice_set scene.places k free }
 
 module _ (bounds : List Key) where
   -- a transaction begins under a name, at a place
   abbrev pub began : Scene → List ℕ → ℕ → Scene
-  began scene name k = record {
-    stage = record { history = Began (last scene.stage.history + 1) ∷ Drawn (seat_at bounds k) (last scene.stage.history + 1) ∷ scene.stage.history };
+  began scene name k = record scene {
+    stage = with_events scene.stage (Began (last scene.stage.history + 1) ∷ Drawn (seat_at bounds k) (last scene.stage.history + 1) ∷ scene.stage.history);
     names = update bytes_eq scene.names name (Some k);
     places = slice_set scene.places k (session (begun (last scene.stage.history + 1)));
   }
@@ -115,6 +122,13 @@ module _ (bounds : List Key) where
   abbrev pub drew : Scene → ℕ → State → Scene
   drew scene k s =
       with_session (at_history scene (Drawn (seat_at bounds k) (last scene.stage.history + 1) ∷ scene.stage.history)) k (record s { drawn = Some (last scene.stage.history + 1) })
+
+  -- the seat for no session draws so many ticks
+  abbrev pub ticked : Scene → ℕ → Scene
+  ticked scene n = record scene {
+    stage = with_events scene.stage (Drawn (length bounds + 1) (last scene.stage.history + n) ∷ scene.stage.history);
+    ticks = scene.ticks - n;
+  }
 
   -- ---- requests
 
@@ -125,23 +139,26 @@ module _ (bounds : List Key) where
       else inquires scene.stage body (λ a. on (came.Said a) (at_stage scene (taken bounds scene.stage body a)) (later_of refused))
 
   -- a request, by its way
-  abbrev pub sent : Way → List Bool → Scene → Body → (Came → Scene → List Bool → Turn) → Turn
+  abbrev pub sent : Course → List Bool → Scene → Body → (Came → Scene → List Bool → Turn) → Turn
   sent Plain refused scene body on = asked refused scene body on
   sent Lose refused scene body on = on came.Lost scene refused
   sent LoseReply refused scene body on = asked refused scene body (λ c. on came.Lost)
   sent Repeat refused scene body on =
       if is_refused refused then on came.Unsaid scene (later_of refused)
       else asked (later_of refused) scene body (λ c next left. asked left next body on)
+  sent (Hold name) refused scene body on =
+      if is_refused refused then on came.Unsaid scene (later_of refused)
+      else on came.Lost (at_stage scene (holding scene.stage name body)) (later_of refused)
 
   -- the requests of a walk
-  abbrev pub runs : {R : Type 0} → Way → List Bool → Scene → Walk R → (R → Scene → List Bool → Turn) → Turn
+  abbrev pub runs : {R : Type 0} → Course → List Bool → Scene → Walk R → (R → Scene → List Bool → Turn) → Turn
   runs way refused scene (ends r) on = on r scene refused
   runs way refused scene (grows more short) on =
       if is_refused refused then runs way (later_of refused) scene short on else runs way (later_of refused) scene more on
   runs way refused scene (asks body more) on = sent way refused scene body (λ c next left. runs way left next (more c) on)
 
   -- the requests of a session's call, which comes to a state and to a reply
-  abbrev pub runs_to : {R : Type 0} → (R → Reply) → ℕ → Way → List Bool → Scene → Walk (State × R) → Turn
+  abbrev pub runs_to : {R : Type 0} → (R → Reply) → ℕ → Course → List Bool → Scene → Walk (State × R) → Turn
   runs_to say k way refused scene w = runs way refused scene w (λ x next left. goes (with_session next k x.0) (say x.1) left)
 
 -- ---- replies
@@ -229,41 +246,45 @@ module _ (refused : List Bool) (scene : Scene) (k : ℕ) (s : State) where
     abbrev pub draws : Turn
     draws = if can_draw s then goes (drew bounds scene k s) (reply.Drawn (last scene.stage.history + 1)) refused else stops Order
 
-    abbrev pub gets : List ℕ → Way → Turn
+    abbrev pub gets : List ℕ → Course → Turn
     gets key way =
         if not (is_key key) then goes scene reply.KeyLength refused
         else calls refused scene (λ left. runs_to bounds read_by k way left scene (get_walk s key))
 
-    abbrev pub scans : List ℕ → List ℕ → ℕ → Way → Turn
+    abbrev pub scans : List ℕ → List ℕ → ℕ → Course → Turn
     scans from to limit way =
         if not (is_key from && is_key to) then goes scene reply.KeyLength refused
         else calls refused scene (λ left. runs_to bounds read_by k way left scene (scan_walk s bounds from to limit))
 
-    abbrev pub prewrites : Way → Turn
+    abbrev pub prewrites : Course → Turn
     prewrites way = if is_declared s then runs_to bounds said_by k way refused scene (due_walk s phase.Prewrite (due_prewrite s)) else stops Order
 
-    abbrev pub commits : Way → Turn
+    abbrev pub commits : Course → Turn
     commits way = if can_commit s then runs_to bounds said_by k way refused scene (due_walk s phase.Commit (due_commit s)) else stops Order
 
-    abbrev pub aborts : Way → Turn
+    abbrev pub aborts : Course → Turn
     aborts way = if can_abort s then runs_to bounds said_by k way refused scene (due_walk s phase.Abort (due_abort s)) else stops Order
 
-    abbrev pub beats : ℕ → Way → Turn
+    abbrev pub beats : ℕ → Course → Turn
     beats ttl way = if has_primary s then runs_to bounds said_by k way refused scene (heartbeat_walk s ttl) else stops Order
 
-    -- what a live session does
+    -- what a live session does, by what it is
+    abbrev pub deeds_by : Deed → Turn
+    deeds_by (put key value) = puts key value
+    deeds_by (delete key) = deletes key
+    deeds_by (lock key) = locks key
+    deeds_by (get key way) = gets key way
+    deeds_by (scan from to limit way) = scans from to limit way
+    deeds_by (declare mode ttl max_commit) = declares (record { mode = mode; ttl = ttl; max_commit = max_commit })
+    deeds_by (prewrite way) = prewrites way
+    deeds_by draw = draws
+    deeds_by (commit way) = commits way
+    deeds_by (abort way) = aborts way
+    deeds_by (heartbeat ttl way) = beats ttl way
+
+    -- what a live session does, where its request may go as its step says
     abbrev pub deeds : Deed → Turn
-    deeds (put key value) = puts key value
-    deeds (delete key) = deletes key
-    deeds (lock key) = locks key
-    deeds (get key way) = gets key way
-    deeds (scan from to limit way) = scans from to limit way
-    deeds (declare mode ttl max_commit) = declares (record { mode = mode; ttl = ttl; max_commit = max_commit })
-    deeds (prewrite way) = prewrites way
-    deeds draw = draws
-    deeds (commit way) = commits way
-    deeds (abort way) = aborts way
-    deeds (heartbeat ttl way) = beats ttl way
+    deeds deed = if may_go scene.stage (course_of deed) then deeds_by deed else stops Name
 
   -- a session answers its outcome, and is gone
   abbrev pub finishes_by : List ℕ → Option Outcome → Turn
@@ -276,6 +297,19 @@ module _ (refused : List Bool) (scene : Scene) (k : ℕ) (s : State) where
   -- a session stops, and is gone
   abbrev pub leaves : List Key → List ℕ → Turn
   leaves bounds name = goes (gone (at_history scene (Stopped (seat_at bounds k) ∷ scene.stage.history)) name k) reply.Fine refused
+
+-- ---- delivery
+
+-- what a delivered request gives
+abbrev pub delivered_by : Came → Reply
+delivered_by came.Lost = reply.Lost
+delivered_by came.Unsaid = reply.OutOfMemory
+delivered_by (came.Said a) = reply.Answered a
+
+-- a copy of a held request is taken, and its session hears nothing of it; the request stays held
+abbrev pub delivers : List Key → List Bool → Scene → Option Body → Turn
+delivers bounds refused scene None = stops Name
+delivers bounds refused scene (Some body) = asked bounds refused scene body (λ c next left. goes next (delivered_by c) left)
 
 -- ---- the steps
 
@@ -296,9 +330,25 @@ module _ (bounds : List Key) where
       else (if is_some (scene.names name) then stops Name
       else begins_at refused scene name (first_free scene.places))
 
+  -- a key is read at a timestamp, and no lock passed by
+  abbrev pub looks : List Bool → Scene → List ℕ → ℕ → Turn
+  looks refused scene key at =
+      if not (is_key key) then goes scene reply.KeyLength refused
+      else calls refused scene (λ left. asked bounds left scene (request.Get (record { key = key; at = at; bypass = [] })) (λ c next rest. goes next (delivered_by c) rest))
+
+  -- at least one tick is drawn, and no more than the seat has left
+  abbrev pub ticks_by : List Bool → Scene → ℕ → Turn
+  ticks_by refused scene n =
+      if nat_eq n 0 then stops Form
+      else (if nat_le n scene.ticks then goes (ticked bounds scene n) (reply.Last (last scene.stage.history + n)) refused
+      else goes scene reply.OracleSpent refused)
+
   -- what a step leads to
   abbrev pub turn : List Bool → Call → Scene → Turn
   turn refused (begin name) scene = begins refused scene name
   turn refused (acts name deed) scene = in_session (live_at scene name) (λ k s. deeds refused scene k s bounds deed)
   turn refused (finish name) scene = in_session (live_at scene name) (λ k s. finishes refused scene k s name)
   turn refused (stop name) scene = in_session (live_at scene name) (λ k s. leaves refused scene k s bounds name)
+  turn refused (deliver name) scene = delivers bounds refused scene (scene.stage.held name)
+  turn refused (read key at) scene = looks refused scene key at
+  turn refused (tick n) scene = ticks_by refused scene n

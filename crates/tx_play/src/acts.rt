@@ -1,18 +1,20 @@
 //! What a session does in one thread: it knows what is newest before it acts, and what it knows after is the newest.
-ghost use Rattle.std.specs.Prelude.{◌≡◌, ◌<◌, ◌+◌, ◌∷◌, ◌⊎◌, Some, None, true, false, IfOk, IfErr, OnOk};
+ghost use Rattle.std.specs.Prelude.{◌≡◌, ◌<◌, ◌+◌, [], ◌∷◌, ◌⊎◌, Some, None, true, false, IfOk, IfErr, OnOk, IfSome, IfNone};
 ghost use Rattle.tx_core.specs.declared.event.Event.TheVariants as events;
 ghost use Rattle.tx_core.specs.Histories.{last};
 ghost use Rattle.tx_client.specs.Sessions.{begun, can_draw, declaration, exceeds, finish_of, is_declared};
-ghost use Rattle.tx_play.specs.Places.{Acts};
+ghost use Rattle.tx_plan.specs.declared.body.Body.TheVariants as body;
+ghost use Rattle.tx_play.specs.Posts.{stage_of, with_events, Met};
+ghost use Rattle.tx_play.specs.Places.{Acts, Serves};
 ghost use Rattle.tx_play.specs.Scenes.{declared_in};
 
-use crate::post::Post;
+use crate::post::{Post, Way};
 use std::alloc::Global;
 use tx_cells::Families;
-use tx_client::{Session, Terms};
-use tx_core::Outcome;
+use tx_client::{Came, Session, Terms, ask};
+use tx_core::{Body, Get, Outcome, Starts};
 use tx_journal::{Naming, Seat};
-use tx_types::{Fault, Ts};
+use tx_types::{Fault, Key, Ts};
 
 /// A session begins.
 pub(crate) fn begin_at<J: Naming, F: Families>(
@@ -22,7 +24,7 @@ pub(crate) fn begin_at<J: Naming, F: Families>(
 ) -> (Session<J>, Ts)
     requires ticks { 0 < seat.ticks }
     ensures state { result.0.state ≡ begun result.1 }
-    ensures acts { Acts seat result.0.seat post.old post.new ((result.1 ≡ last post.old.newest + 1) × (post.new.newest ≡ events.Began (last post.old.newest + 1) ∷ events.Drawn seat.seat (last post.old.newest + 1) ∷ post.old.newest)) }
+    ensures acts { Acts seat result.0.seat post.old post.new ((result.1 ≡ last post.old.newest + 1) × (stage_of post.new ≡ with_events (stage_of post.old) (events.Began (last post.old.newest + 1) ∷ events.Drawn seat.seat (last post.old.newest + 1) ∷ post.old.newest))) }
 {
     seat.learn(post.newest());
     let Ok(mut session) = Session::begin(alloc, seat) else {
@@ -41,8 +43,8 @@ pub(crate) fn declare_at<J: Naming, F: Families>(
     terms: Terms,
 ) -> Result<(), Fault>
     requires { is_declared session.old.state ≡ false }
-    ensures ok { OnOk result ((exceeds session.old.state.buffer terms ≡ false) × (session.new.state ≡ record session.old.state { declared = Some terms }) × Acts session.old.seat session.new.seat post.old post.new (post.new.newest ≡ declared_in post.old.newest (declaration session.old.state.start session.old.state.buffer terms))) }
-    ensures err { IfErr result (λ e. ((e ≡ Fault.OutOfMemory) ⊎ ((e ≡ Fault.TooManyKeys) × (exceeds session.old.state.buffer terms ≡ true))) × (session.new.state ≡ session.old.state) × Acts session.old.seat session.new.seat post.old post.new (post.new.newest ≡ post.old.newest)) }
+    ensures ok { OnOk result ((exceeds session.old.state.buffer terms ≡ false) × (session.new.state ≡ record session.old.state { declared = Some terms }) × Acts session.old.seat session.new.seat post.old post.new (stage_of post.new ≡ with_events (stage_of post.old) (declared_in post.old.newest (declaration session.old.state.start session.old.state.buffer terms)))) }
+    ensures err { IfErr result (λ e. ((e ≡ Fault.OutOfMemory) ⊎ ((e ≡ Fault.TooManyKeys) × (exceeds session.old.state.buffer terms ≡ true))) × (session.new.state ≡ session.old.state) × Acts session.old.seat session.new.seat post.old post.new (stage_of post.new ≡ stage_of post.old)) }
 {
     session.hear_of(post.newest());
     let declared = session.declare(alloc, terms);
@@ -55,7 +57,7 @@ pub(crate) fn draw_at<J: Naming, F: Families>(session: &mut Session<J>, post: &m
     requires can { can_draw session.old.state ≡ true }
     requires ticks { 0 < session.old.seat.ticks }
     ensures state { session.new.state ≡ record session.old.state { drawn = Some result } }
-    ensures acts { Acts session.old.seat session.new.seat post.old post.new ((result ≡ last post.old.newest + 1) × (post.new.newest ≡ events.Drawn session.old.seat.seat (last post.old.newest + 1) ∷ post.old.newest)) }
+    ensures acts { Acts session.old.seat session.new.seat post.old post.new ((result ≡ last post.old.newest + 1) × (stage_of post.new ≡ with_events (stage_of post.old) (events.Drawn session.old.seat.seat (last post.old.newest + 1) ∷ post.old.newest))) }
 {
     session.hear_of(post.newest());
     let Ok(commit) = session.draw_commit() else {
@@ -70,7 +72,7 @@ pub(crate) fn finish_at<J: Naming, F: Families>(
     mut session: Session<J>,
     post: &mut Post<J, F>,
 ) -> Result<(Outcome, Seat<J>), Session<J>>
-    ensures ended { IfOk result (λ r. (finish_of session.state ≡ Some r.0) × Acts session.seat r.1 post.old post.new (post.new.newest ≡ events.Answered session.state.start r.0 ∷ post.old.newest)) }
+    ensures ended { IfOk result (λ r. (finish_of session.state ≡ Some r.0) × Acts session.seat r.1 post.old post.new (stage_of post.new ≡ with_events (stage_of post.old) (events.Answered session.state.start r.0 ∷ post.old.newest))) }
     ensures open_yet { IfErr result (λ s. (finish_of session.state ≡ None) × (s.state ≡ session.state) × Acts session.seat s.seat post.old post.new (post.new.newest ≡ post.old.newest)) }
 {
     session.hear_of(post.newest());
@@ -86,12 +88,50 @@ pub(crate) fn finish_at<J: Naming, F: Families>(
     }
 }
 
+/// The seat for what no session does draws so many ticks. Spent, it draws none.
+pub(crate) fn tick_at<J: Naming, F: Families>(
+    clerk: &mut Seat<J>,
+    post: &mut Post<J, F>,
+    ticks: u32,
+) -> Option<Ts>
+    requires some { 0 < ticks }
+    ensures drawn { IfSome result (λ t. (clerk.old.ticks ≡ clerk.new.ticks + ticks) × Serves clerk.old clerk.new post.old post.new ((t ≡ last post.old.newest + ticks) × (stage_of post.new ≡ with_events (stage_of post.old) (events.Drawn clerk.old.seat (last post.old.newest + ticks) ∷ post.old.newest)))) }
+    ensures spent { IfNone result ((clerk.old.ticks < ticks) × (clerk.new.ticks ≡ clerk.old.ticks) × Serves clerk.old clerk.new post.old post.new (stage_of post.new ≡ stage_of post.old)) }
+{
+    clerk.learn(post.newest());
+    let Ok(last) = clerk.draw(ticks) else {
+        return None;
+    };
+    post.set_newest(clerk.tell());
+    Some(last)
+}
+
+/// The seat for what no session does reads a key at a timestamp.
+pub(crate) fn read_at<J: Naming, F: Families>(
+    alloc: Global,
+    clerk: &mut Seat<J>,
+    post: &mut Post<J, F>,
+    key: Key,
+    at: Ts,
+) -> Came
+    ensures ticks { clerk.new.ticks ≡ clerk.old.ticks }
+    ensures serves { Serves clerk.old clerk.new post.old post.new (Met J.bounds (stage_of post.old) (body.Get record { key = key; at = at; bypass = [] }) result (stage_of post.new)) }
+{
+    post.set_way(Way::Plain);
+    let body = Body::Get(Get {
+        key,
+        at,
+        bypass: Starts::new(alloc),
+    });
+    ask(clerk, body, post)
+}
+
 /// A session stops.
 pub(crate) fn stop_at<J: Naming, F: Families>(
     mut session: Session<J>,
     post: &mut Post<J, F>,
 ) -> Seat<J>
-    ensures acts { Acts session.seat result post.old post.new (post.new.newest ≡ events.Stopped session.seat.seat ∷ post.old.newest) }
+    ensures acts { Acts session.seat result post.old post.new (stage_of post.new ≡ with_events (stage_of post.old) (events.Stopped session.seat.seat ∷ post.old.newest)) }
 {
     session.hear_of(post.newest());
     let mut seat = session.stop();

@@ -3,14 +3,17 @@
 ghost use Rattle.std.specs.Prelude.{◌≡◌, ◌<◌};
 ghost use Rattle.tx_play.specs.Places.{Did};
 ghost use Rattle.tx_play.specs.Scenes.{is_key as key_test, is_value as value_test, deeds};
-ghost use Rattle.tx_play.specs.Steps.{deed_of};
+ghost use Rattle.tx_play.specs.Posts.{by_name};
+ghost use Rattle.tx_play.specs.Steps.{course_of, deed_of};
 
 mod buffer;
+mod delivery;
 mod sending;
 
 use crate::deeds::buffer::{declare, delete, lock, put};
+pub(crate) use crate::deeds::delivery::deliver;
 use crate::deeds::sending::{abort, commit, draw, get, heartbeat, prewrite, scan};
-use crate::post::Post;
+use crate::post::{Post, Way};
 use crate::step::{Act, Reply};
 use std::alloc::Global;
 use tx_cells::Families;
@@ -31,7 +34,22 @@ pub(crate) fn is_value(value: &str) -> bool
     value.len() <= MAX_VALUE_BYTES
 }
 
-/// What a live session does.
+// What becomes of its request.
+fn way_of<'a>(act: &Act<'a>) -> Way<&'a str>
+    ensures { by_name (λ n. n.now) result ≡ course_of (deed_of act.now) }
+{
+    match *act {
+        Act::Get(_, way)
+        | Act::Scan(_, _, _, way)
+        | Act::Prewrite(way)
+        | Act::Commit(way)
+        | Act::Abort(way)
+        | Act::Heartbeat(_, way) => way,
+        _ => Way::Plain,
+    }
+}
+
+/// What a live session does. `Name` where its request is to be held under a name that is in use, or not of 1 to 64 bytes.
 pub(crate) fn act<J: Naming, F: Families>(
     alloc: Global,
     session: &mut Session<J>,
@@ -41,6 +59,9 @@ pub(crate) fn act<J: Naming, F: Families>(
     requires ticks { 0 < session.old.seat.ticks }
     ensures { Did J.bounds (λ refused scene k s. deeds refused scene k s J.bounds (deed_of act.now)) result session.old session.new post.old post.new }
 {
+    if !post.may_go(way_of(act)) {
+        return Err(Cause::Name);
+    }
     match *act {
         Act::Put(key, value) => put(alloc, session, key, value),
         Act::Delete(key) => delete(alloc, session, key),

@@ -4,11 +4,11 @@ ghost use Rattle.std.specs.Prelude.{◌≡◌, ◌+◌, length, ℕ, List, [], S
 ghost use Rattle.std.specs.Map.{update};
 ghost use Rattle.std.specs.BTreeMap.{get_by_text};
 ghost use Rattle.tx_play.specs.Places.{Held, Goes, AllSeated, Settled, Turned};
-ghost use Rattle.tx_play.specs.Scenes.{is_name as name_test};
-ghost use Rattle.tx_play.specs.Steps.{begin, acts, finish, stop, call_of, deed_of};
+ghost use Rattle.tx_play.specs.Scenes.{delivered_by, is_name as name_test};
+ghost use Rattle.tx_play.specs.Steps.{begin, acts, finish, stop, deliver as to_deliver, read, tick, call_of, deed_of};
 
-use crate::acts::{begin_at, finish_at, stop_at};
-use crate::deeds::act;
+use crate::acts::{begin_at, finish_at, read_at, stop_at, tick_at};
+use crate::deeds::{act, deliver, is_key};
 use crate::places::{Slot, first_free, swap_slot};
 use crate::post::Post;
 use crate::step::{Act, Reply, Step};
@@ -16,10 +16,10 @@ use std::alloc::{AllocError, Global};
 use std::collections::BTreeMap;
 use std::marker::Model;
 use tx_cells::Families;
-use tx_client::Session;
+use tx_client::{Came, Session};
 use tx_journal::{Naming, Seat, Told};
-use tx_types::Cause;
 use tx_types::limits::MAX_NAME_BYTES;
+use tx_types::{Cause, Key, Ts};
 
 /// The engine.
 pub struct Engine<J: Naming, F: Families> {
@@ -54,6 +54,17 @@ fn is_name(name: &str) -> bool
     ensures { result ≡ name_test name.now }
 {
     !name.is_empty() && name.len() <= MAX_NAME_BYTES
+}
+
+// What comes of a request to a region.
+fn reply_to(came: Came) -> Reply
+    ensures { result ≡ delivered_by came }
+{
+    match came {
+        Came::Lost => Reply::Lost,
+        Came::Unsaid => Reply::OutOfMemory,
+        Came::Said(answer) => Reply::Answered(answer),
+    }
 }
 
 // Enters the place of a name.
@@ -197,6 +208,41 @@ impl<J: Naming, F: Families> Engine<J, F> {
         }
     }
 
+    // A held request is delivered.
+    fn deliver(&mut self, name: &str) -> Result<Reply, Cause>
+        ensures goes { Goes J.bounds self.old self.new (Turned J.bounds (to_deliver name.now) result self.old self.new) }
+    {
+        deliver(&mut self.post, name)
+    }
+
+    // A key is read at a timestamp.
+    fn read(&mut self, key: &str, at: Ts) -> Result<Reply, Cause>
+        ensures goes { Goes J.bounds self.old self.new (Turned J.bounds (read key.now at) result self.old self.new) }
+    {
+        if !is_key(key) {
+            return Ok(Reply::KeyLength);
+        }
+        let Ok(key) = Key::new(self.alloc, key.as_bytes()) else {
+            return Ok(Reply::OutOfMemory);
+        };
+        let came = read_at(self.alloc, &mut self.clerk, &mut self.post, key, at);
+        Ok(reply_to(came))
+    }
+
+    // So many ticks are drawn.
+    fn tick(&mut self, ticks: u32) -> Result<Reply, Cause>
+        requires ready { AllSeated J.bounds 1 self.old }
+        ensures goes { Goes J.bounds self.old self.new (Turned J.bounds (tick ticks) result self.old self.new) }
+    {
+        if ticks == 0 {
+            return Err(Cause::Form);
+        }
+        let Some(last) = tick_at(&mut self.clerk, &mut self.post, ticks) else {
+            return Ok(Reply::OracleSpent);
+        };
+        Ok(Reply::Last(last))
+    }
+
     /// How many regions there are.
     pub fn regions(&self) -> usize
         ensures { result ≡ length J.bounds + 1 }
@@ -214,6 +260,9 @@ impl<J: Naming, F: Families> Engine<J, F> {
             Step::Act(name, deed) => self.act(name, deed),
             Step::Finish(name) => self.finish(name),
             Step::Stop(name) => self.stop(name),
+            Step::Deliver(name) => self.deliver(name),
+            Step::Read(key, at) => self.read(key, *at),
+            Step::Tick(ticks) => self.tick(*ticks),
         }
     }
 }

@@ -10,6 +10,10 @@ mod places;
 mod post;
 mod script;
 mod step;
+#[cfg(test)]
+mod tests;
+#[cfg(test)]
+mod words;
 
 pub use engine::Engine;
 pub use opening::{engine_of, run};

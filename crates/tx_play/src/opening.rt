@@ -85,7 +85,7 @@ pub fn engine_of<J: Naming, F: Families + Drop>(
         return Err(Broken);
     };
     let newest = clerk.tell();
-    let post = Post::new(journal, regions, newest);
+    let post = Post::new(alloc, journal, regions, newest);
     Ok(Engine::new(alloc, post, clerk, places))
 }
 

@@ -1,21 +1,30 @@
-//! The way to the regions in one thread: a request may be lost or taken twice, and its reply may be lost.
-ghost use Rattle.std.specs.Prelude.{◌≡◌, ◌≤◌, ◌⊎◌, ◌+◌, ℕ, length, Contains};
+//! The way to the regions in one thread: a request may be lost, taken twice, or held to be delivered later, and its reply may be lost.
+ghost use Rattle.std.specs.Prelude.{◌≡◌, ◌≤◌, ◌⊎◌, ◌+◌, ℕ, [], List, length, Contains, Some, None, IfNone, IfSome, IfOk, IfErr, OnOk, ◌&&◌, not, cond, is_some, option_map, string_bytes, bytes_eq};
+ghost use Rattle.std.specs.Map.{update};
+ghost use Rattle.std.specs.BTreeMap.{get_by_text};
+ghost use Rattle.tx_types.specs.declared.fault.Fault.TheVariants as fault;
 ghost use Rattle.tx_core.specs.Worlds.{Holds, route};
 ghost use Rattle.tx_journal.specs.Known.{Known, AreRising};
+ghost use Rattle.tx_journal.specs.Replies.{Asked, Given};
 ghost use Rattle.tx_client.specs.Senders.{IsHeld};
-ghost use Rattle.tx_play.specs.Posts.{AreNumbered, region_for, Taken, Hands, Twice, IsUntaken, IsDone};
+ghost use Rattle.tx_play.specs.declared.post.Way.TheVariants as ways;
+ghost use Rattle.tx_play.specs.Posts.{AreNumbered, AllFit, region_for, by_name, IsHold, IsSet, request_at, Taken, Hands, Twice, IsUntaken, HeldUnder, IsDone, stage_of};
+ghost use Rattle.tx_play.specs.Scenes.{may_go, is_name as name_test};
 
+use std::alloc::Global;
+use std::collections::BTreeMap;
 use std::marker::Model;
 use tx_cells::Families;
 use tx_client::{Lost, Sender};
-use tx_core::Body;
+use tx_core::{Answer, Body};
 use tx_journal::{Journal, Naming, Reply, Request, Seat, Told};
 use tx_region::{Region, route};
-use tx_types::Key;
+use tx_types::limits::MAX_NAME_BYTES;
+use tx_types::{Fault, Key};
 
 /// What becomes of the requests that are sent.
-#[derive(Clone, Copy, Debug, PartialEq, Eq)]
-pub enum Way {
+#[derive(Clone, Copy, Debug, Drop)]
+pub enum Way<N> {
     /// The region takes it, and its reply comes.
     Plain,
     /// No region takes it.
@@ -24,33 +33,40 @@ pub enum Way {
     LoseReply,
     /// The region takes it twice, and its second reply comes.
     Repeat,
+    /// It is held under a name, and not taken.
+    Hold(N),
 }
 
-/// The regions in their order, the newest history that anyone here has seen, and what becomes of the next request.
+/// The regions in their order, the newest history that anyone here has seen, the requests that are held, and what becomes of the
+/// next request: none where there was no memory for the name of its hold.
 pub struct Post<J: Naming, F: Families> {
+    alloc: Global,
     journal: Journal<J>,
     regions: Vec<Region<J, F>>,
     newest: Told<J>,
-    way: Way,
+    held: BTreeMap<String, Request<J>>,
+    way: Option<Way<String>>,
 }
 
 impl<J: Naming, F: Families> Model for Post<J, F> {
-    ghost use Rattle.std.specs.Prelude.{◌≡◌, ◌+◌, length};
-    ghost use Rattle.tx_play.specs.Posts.{Desk, AreNumbered};
+    ghost use Rattle.std.specs.Prelude.{◌≡◌, ◌+◌, length, option_map, string_bytes};
+    ghost use Rattle.tx_play.specs.Posts.{Desk, AreNumbered, AllFit, by_name, requests};
 
     ghost Value = { Desk };
 
-    ghost view = { λ p. record { regions = p.regions.items; newest = p.newest; way = p.way } };
+    ghost view = { λ p. record { regions = p.regions.items; newest = p.newest; held = requests p.held.entries; way = option_map (by_name string_bytes) p.way } };
 
-    ghost invariant = { λ p. AreNumbered 0 p.regions.items × (length p.regions.items ≡ length J.bounds + 1) };
+    ghost invariant = { λ p. AreNumbered 0 p.regions.items × (length p.regions.items ≡ length J.bounds + 1) × AllFit J.bounds (requests p.held.entries) };
 }
 
 impl<J: Naming, F: Families + Drop> Drop for Post<J, F> {
     fn drop(self) {
         let Self {
+            alloc: _,
             journal: _,
             regions: _,
             newest: _,
+            held: _,
             way: _,
         } = self;
     }
@@ -70,6 +86,68 @@ fn take_at<J: Naming, F: Families>(
     let reply = region.take(request);
     *newest = region.tell();
     reply
+}
+
+fn is_name(name: &str) -> bool
+    ensures { result ≡ name_test name.now }
+{
+    !name.is_empty() && name.len() <= MAX_NAME_BYTES
+}
+
+// The same way by a name of its own; none where memory for that is refused.
+fn own_way(alloc: Global, way: Way<&str>) -> Option<Way<String>>
+    ensures some { IfSome result (λ own. by_name string_bytes own ≡ by_name (λ n. n.now) way.entry) }
+    ensures none { IfNone result (IsHold (by_name (λ n. n.now) way.entry)) }
+{
+    match way {
+        Way::Plain => Some(Way::Plain),
+        Way::Lose => Some(Way::Lose),
+        Way::LoseReply => Some(Way::LoseReply),
+        Way::Repeat => Some(Way::Repeat),
+        Way::Hold(name) => match String::from_str(alloc, name) {
+            Ok(name) => Some(Way::Hold(name)),
+            Err(_) => None,
+        },
+    }
+}
+
+// A request is held under a name; it comes back where memory for that is refused.
+fn keep<J: Naming>(
+    held: &mut BTreeMap<String, Request<J>>,
+    name: String,
+    request: Request<J>,
+) -> Result<(), Request<J>>
+    ensures sets { OnOk result ((q : List ℕ) → get_by_text held.new q ≡ update bytes_eq (get_by_text held.old) (string_bytes name) (Some request) q) }
+    ensures many { OnOk result (length held.new.entries ≡ length held.old.entries + cond (is_some (get_by_text held.old (string_bytes name))) 0 1) }
+    ensures same { IfErr result (λ r. (r ≡ request) × (held.new.entries ≡ held.old.entries)) }
+{
+    match held.insert(name, request) {
+        Ok(_) => Ok(()),
+        Err(refused) => Err(refused.value.1),
+    }
+}
+
+// A copy of the request that is held under a name, where one is. Memory for it may be refused.
+fn copy_held<J: Naming, F: Families>(
+    region: &Region<J, F>,
+    held: &mut BTreeMap<String, Request<J>>,
+    name: &str,
+) -> Option<Result<Request<J>, Fault>>
+    ensures same { held.new.entries ≡ held.old.entries }
+    ensures none { IfNone result (get_by_text held.old name.now ≡ None) }
+    ensures some { IfSome result (λ copied. (q : Asked) × (get_by_text held.old name.now ≡ Some q) × IfOk copied (λ copy. copy ≡ q)) }
+{
+    match held.get_mut(name) {
+        Some(request) => Some(region.again(request)),
+        None => None,
+    }
+}
+
+fn answer_of<J: Naming>(reply: Reply<J>) -> Option<Answer>
+    ensures { result ≡ reply.answer }
+{
+    let (_, answer, _) = reply.into_parts();
+    answer
 }
 
 impl<J: Naming, F: Families> Post<J, F> {
@@ -112,17 +190,74 @@ impl<J: Naming, F: Families> Post<J, F> {
         take_at(&mut self.regions[place], &mut self.newest, request)
     }
 
+    // No region takes a request, since memory was refused.
+    fn refuse(&mut self, request: Request<J>) -> Reply<J>
+        ensures { IsUntaken self.old self.new request result }
+    {
+        let told = self.newest();
+        Reply::new(request, None, told)
+    }
+
     // The region takes a request twice, where there is memory for a copy of it.
     fn take_twice(&mut self, mut request: Request<J>) -> Reply<J>
         requires { IsHeld J.bounds request.body }
         ensures { IsUntaken self.old self.new request result ⊎ Twice (region_for J.bounds request.body) self.old self.new request result }
     {
         let Ok(copy) = self.regions[0].again(&mut request) else {
-            let told = self.newest();
-            return Reply::new(request, None, told);
+            return self.refuse(request);
         };
         drop(self.take(copy));
         self.take(request)
+    }
+
+    // A request is held under a name, where there is memory for that.
+    fn hold(&mut self, name: String, request: Request<J>) -> Result<Reply<J>, Lost>
+        requires { IsHeld J.bounds request.body }
+        ensures { HeldUnder (string_bytes name) self.old request result self.new }
+    {
+        match keep(&mut self.held, name, request) {
+            Ok(()) => Err(Lost),
+            Err(request) => Ok(self.refuse(request)),
+        }
+    }
+
+    // A copy of the request that is held under a name, where one is. Memory for it may be refused.
+    fn copy_of(&mut self, name: &str) -> Option<Result<Request<J>, Fault>>
+        ensures same { self.new ≡ self.old }
+        ensures none { IfNone result (request_at self.old.held name.now ≡ None) }
+        ensures some { IfSome result (λ copied. (q : Asked) × (request_at self.old.held name.now ≡ Some q) × IsHeld J.bounds q.body × IfOk copied (λ copy. copy ≡ q)) }
+    {
+        copy_held(&self.regions[0], &mut self.held, name)
+    }
+
+    /// A copy of the request that is held under a name is taken by its region, and the request stays held. None where none is
+    /// held; no answer where memory was refused.
+    pub(crate) fn deliver(&mut self, name: &str) -> Option<Option<Answer>>
+        ensures none { IfNone result ((request_at self.old.held name.now ≡ None) × (self.new ≡ self.old)) }
+        ensures some { IfSome result (λ answer. (q : Asked) × (request_at self.old.held name.now ≡ Some q) × (((answer ≡ None) × (self.new ≡ self.old)) ⊎ ((g : Given) × Hands (region_for J.bounds q.body) self.old self.new q g × (answer ≡ g.answer)))) }
+    {
+        match self.copy_of(name) {
+            None => None,
+            Some(Err(_)) => Some(None),
+            Some(Ok(copy)) => Some(answer_of(self.take(copy))),
+        }
+    }
+
+    // Whether a name is of 1 to 64 bytes, and nothing is held under it.
+    fn is_free(&self, name: &str) -> bool
+        ensures { result ≡ (name_test name.now && not (is_some ((stage_of self.now).held name.now))) }
+    {
+        is_name(name) && !self.held.contains_key(name)
+    }
+
+    /// Whether requests may go so: a name to hold under is of 1 to 64 bytes, and not in use.
+    pub(crate) fn may_go(&self, way: Way<&str>) -> bool
+        ensures { result ≡ may_go (stage_of self.now) (by_name (λ n. n.now) way.entry) }
+    {
+        match way {
+            Way::Hold(name) => self.is_free(name),
+            _ => true,
+        }
     }
 
     /// How many regions there are.
@@ -132,11 +267,11 @@ impl<J: Naming, F: Families> Post<J, F> {
         self.regions.len()
     }
 
-    /// What becomes of the next requests.
-    pub(crate) fn set_way(&mut self, way: Way)
-        ensures { self.new ≡ record self.old { way = way } }
+    /// What becomes of the next requests. Where there is no memory for the name of a hold, each is refused memory.
+    pub(crate) fn set_way(&mut self, way: Way<&str>)
+        ensures { IsSet (by_name (λ n. n.now) way.entry) self.old self.new }
     {
-        self.way = way;
+        self.way = own_way(self.alloc, way);
     }
 
     /// What is newest.
@@ -156,18 +291,21 @@ impl<J: Naming, F: Families> Post<J, F> {
 
     /// The way to these regions.
     pub(crate) fn new(
+        alloc: Global,
         journal: Journal<J>,
         regions: Vec<Region<J, F>>,
         newest: Told<J>,
     ) -> Post<J, F>
         requires { AreNumbered 0 regions.items × (length regions.items ≡ length J.bounds + 1) }
-        ensures { result ≡ record { regions = regions.items; newest = newest; way = Way.Plain } }
+        ensures { result ≡ record { regions = regions.items; newest = newest; held = []; way = Some ways.Plain } }
     {
         Post {
+            alloc,
             journal,
             regions,
             newest,
-            way: Way::Plain,
+            held: BTreeMap::new(alloc),
+            way: Some(Way::Plain),
         }
     }
 
@@ -187,9 +325,11 @@ impl<J: Naming, F: Families + Drop> Post<J, F> {
         ensures settled { (k : Known) → Contains self.regions k → IsDone newest.old k }
     {
         let Self {
+            alloc: _,
             journal: _,
             mut regions,
             newest: _,
+            held: _,
             way: _,
         } = self;
         'regions: while let Some(mut region) = regions.pop() {
@@ -209,17 +349,22 @@ impl<J: Naming, F: Families> Sender<Request<J>, Reply<J>> for Post<J, F> {
     ghost keys_between = { λ a. J.bounds };
 
     fn send(&mut self, request: Request<J>) -> Result<Reply<J>, Lost> {
-        match self.way {
-            Way::Plain => Ok(self.take(request)),
-            Way::Lose => {
+        match &self.way {
+            None => Ok(self.refuse(request)),
+            Some(Way::Plain) => Ok(self.take(request)),
+            Some(Way::Lose) => {
                 drop(request);
                 Err(Lost)
             }
-            Way::LoseReply => {
+            Some(Way::LoseReply) => {
                 drop(self.take(request));
                 Err(Lost)
             }
-            Way::Repeat => Ok(self.take_twice(request)),
+            Some(Way::Repeat) => Ok(self.take_twice(request)),
+            Some(Way::Hold(name)) => match name.clone() {
+                Ok(name) => self.hold(name, request),
+                Err(_) => Ok(self.refuse(request)),
+            },
         }
     }
 

@@ -10,17 +10,17 @@ pub enum Act<'a> {
     Put(&'a str, &'a str),
     Delete(&'a str),
     Lock(&'a str),
-    Get(&'a str, Way),
+    Get(&'a str, Way<&'a str>),
     /// From a key, up to but not including another; so many rows at most.
-    Scan(&'a str, &'a str, u32, Way),
+    Scan(&'a str, &'a str, u32, Way<&'a str>),
     /// The mode, the time to live in ticks, and the greatest commit timestamp that an async lock may promise.
     Declare(Mode, u32, Option<Ts>),
-    Prewrite(Way),
+    Prewrite(Way<&'a str>),
     Draw,
-    Commit(Way),
-    Abort(Way),
+    Commit(Way<&'a str>),
+    Abort(Way<&'a str>),
     /// The time to live, in ticks.
-    Heartbeat(u32, Way),
+    Heartbeat(u32, Way<&'a str>),
 }
 
 /// A step, over the text of its line: the name of its session first.
@@ -34,6 +34,12 @@ pub enum Step<'a> {
     Finish(&'a str),
     /// It leaves its transaction as it is, and is gone.
     Stop(&'a str),
+    /// A copy of the request that is held under the name is taken, and it stays held.
+    Deliver(&'a str),
+    /// A key is read at a timestamp, by no session.
+    Read(&'a str, Ts),
+    /// So many ticks are drawn, at least one, by one seat for all such steps.
+    Tick(u32),
 }
 
 /// How a script ends.

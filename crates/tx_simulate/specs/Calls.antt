@@ -1,22 +1,22 @@
 -- The step that is played, by the form that a line says. What is not played yet is none.
 use Rattle.std.specs.Prelude.{ℕ, List, Option, Some, None, option_map}
-use Rattle.tx_play.specs.declared.post.Way.{Way}
-use Rattle.tx_play.specs.declared.post.Way.TheVariants.{Plain, Lose, LoseReply, Repeat}
-use Rattle.tx_play.specs.Steps.{Call, Deed, begin, acts, finish, stop}
+use Rattle.tx_play.specs.declared.post.Way.TheVariants.{Plain, Lose, LoseReply, Repeat, Hold}
+use Rattle.tx_play.specs.Posts.{Course}
+use Rattle.tx_play.specs.Steps.{Call, Deed, begin, acts, finish, stop, deliver, read, tick}
 use Rattle.tx_play.specs.Steps as deed
-use Rattle.tx_steps.specs.Steps.{Asked, Act, Sent}
+use Rattle.tx_steps.specs.Steps.{Asked, Act, Sent, Way}
 use Rattle.tx_steps.specs.Steps as form
 
 -- what becomes of a request
-abbrev pub way_of : form.Way → Option Way
-way_of form.taken = Some Plain
-way_of form.lost = Some Lose
-way_of form.unanswered = Some LoseReply
-way_of form.repeated = Some Repeat
-way_of (form.held name) = None
+abbrev pub way_of : Way → Course
+way_of form.taken = Plain
+way_of form.lost = Lose
+way_of form.unanswered = LoseReply
+way_of form.repeated = Repeat
+way_of (form.held name) = Hold name
 
 -- what a session sends, by this way
-abbrev pub sending : Sent → Way → Deed
+abbrev pub sending : Sent → Course → Deed
 sending (form.get key) way = deed.get key way
 sending (form.scan from to limit) way = deed.scan from to limit way
 sending form.prewrite way = deed.prewrite way
@@ -39,5 +39,8 @@ acting name (form.resolve now) = None
 abbrev pub played : Asked → Option Call
 played (form.begin name) = Some (begin name)
 played (form.act name what) = acting name what
-played (form.send name what way) = option_map (λ w. acts name (sending what w)) (way_of way)
+played (form.send name what way) = Some (acts name (sending what (way_of way)))
+played (form.deliver name) = Some (deliver name)
+played (form.read key at) = Some (read key at)
+played (form.tick ticks) = Some (tick ticks)
 played _ = None

@@ -1,5 +1,6 @@
 //! The step that is played, by the step that a line says.
 ghost use Rattle.std.specs.Prelude.{◌≡◌, option_map};
+ghost use Rattle.tx_play.specs.Posts.{by_name};
 ghost use Rattle.tx_play.specs.Steps.{call_of, deed_of};
 ghost use Rattle.tx_steps.specs.Steps.{asked, acted, sent, way};
 ghost use Rattle.tx_simulate.specs.Calls.{way_of, sending, acting, played};
@@ -9,21 +10,21 @@ use tx_steps::{Action, Delivery, Request, Step};
 use tx_types::Ts;
 
 // What becomes of a request.
-fn delivered(delivery: Delivery<'_>) -> Option<Way>
-    ensures { result ≡ way_of (way delivery.entry) }
+fn delivered<'a>(delivery: Delivery<'a>) -> Way<&'a str>
+    ensures { by_name (λ n. n.now) result ≡ way_of (way delivery.entry) }
 {
     match delivery {
-        Delivery::Taken => Some(Way::Plain),
-        Delivery::Lost => Some(Way::Lose),
-        Delivery::Unanswered => Some(Way::LoseReply),
-        Delivery::Repeated => Some(Way::Repeat),
-        Delivery::Held(_) => None,
+        Delivery::Taken => Way::Plain,
+        Delivery::Lost => Way::Lose,
+        Delivery::Unanswered => Way::LoseReply,
+        Delivery::Repeated => Way::Repeat,
+        Delivery::Held(name) => Way::Hold(name),
     }
 }
 
 // What a session sends, by this way.
-fn request<'a>(what: Request<'a>, way: Way) -> Act<'a>
-    ensures { deed_of result ≡ sending (sent what.entry) way }
+fn request<'a>(what: Request<'a>, way: Way<&'a str>) -> Act<'a>
+    ensures { deed_of result ≡ sending (sent what.entry) (by_name (λ n. n.now) way.entry) }
 {
     match what {
         Request::Get(key) => Act::Get(key, way),
@@ -70,14 +71,11 @@ pub(crate) fn call<'a>(step: Step<'a>) -> Option<tx_play::Step<'a>>
         Step::Begin(name) => Some(tx_play::Step::Begin(name)),
         Step::Act(name, what) => action(name, what),
         Step::Send(name, what, delivery) => {
-            Some(tx_play::Step::Act(name, request(what, delivered(delivery)?)))
+            Some(tx_play::Step::Act(name, request(what, delivered(delivery))))
         }
-        Step::Deliver(_)
-        | Step::Read(..)
-        | Step::Versions(_)
-        | Step::Tick(_)
-        | Step::Gc(_)
-        | Step::Seed(..)
-        | Step::Transfer(..) => None,
+        Step::Deliver(name) => Some(tx_play::Step::Deliver(name)),
+        Step::Read(key, at) => Some(tx_play::Step::Read(key, Ts::new(at))),
+        Step::Tick(ticks) => Some(tx_play::Step::Tick(ticks)),
+        Step::Versions(_) | Step::Gc(_) | Step::Seed(..) | Step::Transfer(..) => None,
     }
 }

@@ -2,8 +2,9 @@
 //! names.
 ghost use Rattle.std.specs.Prelude.{◌≡◌, ◌<◌, ◌&&◌, true, IfOk};
 ghost use Rattle.tx_client.specs.Walks.{get_walk, scan_walk};
+ghost use Rattle.tx_play.specs.Posts.{by_name};
 ghost use Rattle.tx_play.specs.Places.{Did, Sent};
-ghost use Rattle.tx_play.specs.Scenes.{is_key as key_test, draws, gets, scans, prewrites, commits, aborts, beats, runs_to, said_by, read_by};
+ghost use Rattle.tx_play.specs.Scenes.{is_key as key_test, draws, gets, scans, prewrites, commits, aborts, beats, runs_to, missed_by, said_by, read_by};
 
 use crate::acts::draw_at;
 use crate::deeds::is_key;
@@ -16,6 +17,16 @@ use tx_core::Answer;
 use tx_journal::Naming;
 use tx_types::{Cause, Fault, Key};
 
+// What it gives that a request had no answer.
+fn missed(miss: Miss) -> Reply
+    ensures { result ≡ missed_by miss }
+{
+    match miss {
+        Miss::NoReply => Reply::Lost,
+        Miss::NoMemory => Reply::OutOfMemory,
+    }
+}
+
 // What a call that sends what is due gives.
 fn said(came: Result<Option<Answer>, Miss>) -> Reply
     ensures { result ≡ said_by came }
@@ -23,8 +34,7 @@ fn said(came: Result<Option<Answer>, Miss>) -> Reply
     match came {
         Ok(Some(answer)) => Reply::Answered(answer),
         Ok(None) => Reply::Done,
-        Err(Miss::NoReply) => Reply::Lost,
-        Err(Miss::NoMemory) => Reply::OutOfMemory,
+        Err(miss) => missed(miss),
     }
 }
 
@@ -34,8 +44,7 @@ fn read(came: Result<Answer, Miss>) -> Reply
 {
     match came {
         Ok(answer) => Reply::Answered(answer),
-        Err(Miss::NoReply) => Reply::Lost,
-        Err(Miss::NoMemory) => Reply::OutOfMemory,
+        Err(miss) => missed(miss),
     }
 }
 
@@ -58,9 +67,9 @@ fn get_key<J: Naming, F: Families>(
     session: &mut Session<J>,
     post: &mut Post<J, F>,
     key: &Key,
-    way: Way,
+    way: Way<&str>,
 ) -> Reply
-    ensures { Sent J.bounds (λ refused scene k s. runs_to J.bounds read_by k way refused scene (get_walk s key.now)) result session.old session.new post.old post.new }
+    ensures { Sent J.bounds (λ refused scene k s. runs_to J.bounds read_by k (by_name (λ n. n.now) way.entry) refused scene (get_walk s key.now)) result session.old session.new post.old post.new }
 {
     post.set_way(way);
     read(session.get(key, post))
@@ -72,9 +81,9 @@ pub(crate) fn get<J: Naming, F: Families>(
     session: &mut Session<J>,
     post: &mut Post<J, F>,
     key: &str,
-    way: Way,
+    way: Way<&str>,
 ) -> Result<Reply, Cause>
-    ensures { Did J.bounds (λ refused scene k s. gets refused scene k s J.bounds key.now way) result session.old session.new post.old post.new }
+    ensures { Did J.bounds (λ refused scene k s. gets refused scene k s J.bounds key.now (by_name (λ n. n.now) way.entry)) result session.old session.new post.old post.new }
 {
     if !is_key(key) {
         return Ok(Reply::KeyLength);
@@ -93,9 +102,9 @@ fn scan_keys<J: Naming, F: Families>(
     from: &Key,
     to: &Key,
     limit: u32,
-    way: Way,
+    way: Way<&str>,
 ) -> Reply
-    ensures { Sent J.bounds (λ refused scene k s. runs_to J.bounds read_by k way refused scene (scan_walk s J.bounds from.now to.now limit)) result session.old session.new post.old post.new }
+    ensures { Sent J.bounds (λ refused scene k s. runs_to J.bounds read_by k (by_name (λ n. n.now) way.entry) refused scene (scan_walk s J.bounds from.now to.now limit)) result session.old session.new post.old post.new }
 {
     post.show();
     post.set_way(way);
@@ -126,9 +135,9 @@ pub(crate) fn scan<J: Naming, F: Families>(
     from: &str,
     to: &str,
     limit: u32,
-    way: Way,
+    way: Way<&str>,
 ) -> Result<Reply, Cause>
-    ensures { Did J.bounds (λ refused scene k s. scans refused scene k s J.bounds from.now to.now limit way) result session.old session.new post.old post.new }
+    ensures { Did J.bounds (λ refused scene k s. scans refused scene k s J.bounds from.now to.now limit (by_name (λ n. n.now) way.entry)) result session.old session.new post.old post.new }
 {
     if !are_keys(from, to) {
         return Ok(Reply::KeyLength);
@@ -144,9 +153,9 @@ pub(crate) fn prewrite<J: Naming, F: Families>(
     alloc: Global,
     session: &mut Session<J>,
     post: &mut Post<J, F>,
-    way: Way,
+    way: Way<&str>,
 ) -> Result<Reply, Cause>
-    ensures { Did J.bounds (λ refused scene k s. prewrites refused scene k s J.bounds way) result session.old session.new post.old post.new }
+    ensures { Did J.bounds (λ refused scene k s. prewrites refused scene k s J.bounds (by_name (λ n. n.now) way.entry)) result session.old session.new post.old post.new }
 {
     if !session.is_declared() {
         return Err(Cause::Order);
@@ -159,9 +168,9 @@ pub(crate) fn prewrite<J: Naming, F: Families>(
 pub(crate) fn commit<J: Naming, F: Families>(
     session: &mut Session<J>,
     post: &mut Post<J, F>,
-    way: Way,
+    way: Way<&str>,
 ) -> Result<Reply, Cause>
-    ensures { Did J.bounds (λ refused scene k s. commits refused scene k s J.bounds way) result session.old session.new post.old post.new }
+    ensures { Did J.bounds (λ refused scene k s. commits refused scene k s J.bounds (by_name (λ n. n.now) way.entry)) result session.old session.new post.old post.new }
 {
     if !session.can_commit() {
         return Err(Cause::Order);
@@ -174,9 +183,9 @@ pub(crate) fn commit<J: Naming, F: Families>(
 pub(crate) fn abort<J: Naming, F: Families>(
     session: &mut Session<J>,
     post: &mut Post<J, F>,
-    way: Way,
+    way: Way<&str>,
 ) -> Result<Reply, Cause>
-    ensures { Did J.bounds (λ refused scene k s. aborts refused scene k s J.bounds way) result session.old session.new post.old post.new }
+    ensures { Did J.bounds (λ refused scene k s. aborts refused scene k s J.bounds (by_name (λ n. n.now) way.entry)) result session.old session.new post.old post.new }
 {
     if !session.can_abort() {
         return Err(Cause::Order);
@@ -190,9 +199,9 @@ pub(crate) fn heartbeat<J: Naming, F: Families>(
     session: &mut Session<J>,
     post: &mut Post<J, F>,
     ttl: u32,
-    way: Way,
+    way: Way<&str>,
 ) -> Result<Reply, Cause>
-    ensures { Did J.bounds (λ refused scene k s. beats refused scene k s J.bounds ttl way) result session.old session.new post.old post.new }
+    ensures { Did J.bounds (λ refused scene k s. beats refused scene k s J.bounds ttl (by_name (λ n. n.now) way.entry)) result session.old session.new post.old post.new }
 {
     if !session.has_primary() {
         return Err(Cause::Order);

@@ -2,7 +2,7 @@ use Rattle.std.proofs.Common.{◌≡◌, ◌+◌, ◌∷◌, sym, ap, subst, ◌
 use Rattle.tx_core.specs.declared.event.Event.TheVariants.{Began, Drawn}
 use Rattle.tx_core.specs.Histories.{last, Begins}
 use Rattle.tx_client.specs.Calls.{Seated, HasHeard}
-use Rattle.tx_play.specs.Posts.{Desk}
+use Rattle.tx_play.specs.Posts.{Desk, stage_of, with_events}
 use Rattle.tx_play.specs.Places.{Acts}
 use Rattle.tx_play.proofs.Acting.{begun_acts}
 use Rattle.tx_play.proofs.acts.begin_at.Goals as goal
@@ -25,6 +25,6 @@ returns-clause-acts g c =
     } in
     let acts = begun_acts g.J.Naming.bounds from to k l s.seat heard
     (ap (λ (d : Desk). d.regions) c.set_newest.ensures ∙ ap (λ (d : Desk). d.regions) c.newest.ensures.same)
-    (ap (λ (d : Desk). d.newest) c.set_newest.ensures ∙ c.tell.ensures.told)
+    (ap (λ (d : Desk). d.newest) c.set_newest.ensures ∙ c.tell.ensures.told) (ap (λ (d : Desk). d.held) c.set_newest.ensures ∙ ap (λ (d : Desk). d.held) c.newest.ensures.same)
     s.state.start began.1 c.start-start.result c.start-start.ensures in
-    subst (λ (x : Seated). Acts k x.seat from to ((c.start-start.result ≡ last from.newest + 1) × (to.newest ≡ Began (last from.newest + 1) ∷ Drawn k.seat (last from.newest + 1) ∷ from.newest))) (sym same) acts
+    subst (λ (x : Seated). Acts k x.seat from to ((c.start-start.result ≡ last from.newest + 1) × (stage_of to ≡ with_events (stage_of from) (Began (last from.newest + 1) ∷ Drawn k.seat (last from.newest + 1) ∷ from.newest)))) (sym same) acts

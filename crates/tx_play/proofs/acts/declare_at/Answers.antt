@@ -4,7 +4,7 @@ use Rattle.tx_types.specs.declared.fault.Fault.TheVariants as fault
 use Rattle.tx_core.specs.Histories.{History}
 use Rattle.tx_client.specs.Calls.{Seated, HasHeard, RecordsDeclared}
 use Rattle.tx_client.specs.Sessions.{State, declaration, exceeds}
-use Rattle.tx_play.specs.Posts.{Desk}
+use Rattle.tx_play.specs.Posts.{Desk, stage_of, with_events}
 use Rattle.tx_play.specs.Places.{Acts}
 use Rattle.tx_play.specs.Scenes.{declared_in}
 use Rattle.tx_play.proofs.Acting.{declared_acts, heard_acts, map_ok, map_err}
@@ -23,12 +23,12 @@ returns-clause-ok g c =
     map_ok c.declare-declared.result _ _ c.declare-declared.ensures.ok
     (λ x. let y : (exceeds old.state.buffer terms ≡ false) × (m.state ≡ record old.state { declared = Some terms }) × RecordsDeclared bounds l (declaration old.state.start old.state.buffer terms) m.seat =
     subst (λ (s : State). (exceeds s.buffer terms ≡ false) × (m.state ≡ record s { declared = Some terms }) × RecordsDeclared bounds l (declaration s.start s.buffer terms) m.seat) c.hear_of.ensures.state x in
-    subst (λ (z : Seated). (exceeds old.state.buffer terms ≡ false) × (z.state ≡ record old.state { declared = Some terms }) × Acts old.seat z.seat from to (to.newest ≡ declared_in from.newest (declaration old.state.start old.state.buffer terms))) (sym c.tell.ensures.same) (
+    subst (λ (z : Seated). (exceeds old.state.buffer terms ≡ false) × (z.state ≡ record old.state { declared = Some terms }) × Acts old.seat z.seat from to (stage_of to ≡ with_events (stage_of from) (declared_in from.newest (declaration old.state.start old.state.buffer terms)))) (sym c.tell.ensures.same) (
       y.0,
       y.1,
       declared_acts bounds from to old.seat l m.seat heard
           (ap (λ (d : Desk). d.regions) c.set_newest.ensures ∙ ap (λ (d : Desk). d.regions) c.newest.ensures.same)
-          (ap (λ (d : Desk). d.newest) c.set_newest.ensures ∙ c.tell.ensures.told) (declaration old.state.start old.state.buffer terms) y.2,
+          (ap (λ (d : Desk). d.newest) c.set_newest.ensures ∙ c.tell.ensures.told) (ap (λ (d : Desk). d.held) c.set_newest.ensures ∙ ap (λ (d : Desk). d.held) c.newest.ensures.same) (declaration old.state.start old.state.buffer terms) y.2,
     ))
 
 pub returns-clause-err : goal.returns-clause-err
@@ -45,8 +45,8 @@ returns-clause-err g c =
     (λ same e x. (
       subst (λ (s : State). (e ≡ fault.OutOfMemory) ⊎ ((e ≡ fault.TooManyKeys) × (exceeds s.buffer terms ≡ true))) c.hear_of.ensures.state x,
       ap (λ (z : Seated). z.state) (c.tell.ensures.same ∙ same) ∙ c.hear_of.ensures.state,
-      subst (λ (z : Seated). Acts old.seat z.seat from to (to.newest ≡ from.newest)) (sym c.tell.ensures.same)
+      subst (λ (z : Seated). Acts old.seat z.seat from to (stage_of to ≡ stage_of from)) (sym c.tell.ensures.same)
           (heard_acts bounds from to old.seat l m.seat heard
           (ap (λ (d : Desk). d.regions) c.set_newest.ensures ∙ ap (λ (d : Desk). d.regions) c.newest.ensures.same)
-          (ap (λ (d : Desk). d.newest) c.set_newest.ensures ∙ c.tell.ensures.told) (ap (λ (z : Seated). z.seat) same)),
+          (ap (λ (d : Desk). d.newest) c.set_newest.ensures ∙ c.tell.ensures.told) (ap (λ (d : Desk). d.held) c.set_newest.ensures ∙ ap (λ (d : Desk). d.held) c.newest.ensures.same) (ap (λ (z : Seated). z.seat) same)),
     ))

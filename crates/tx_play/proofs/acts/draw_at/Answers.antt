@@ -2,7 +2,7 @@ use Rattle.std.proofs.Common.{◌≡◌, ◌+◌, ◌∷◌, sym, ap, subst, ◌
 use Rattle.tx_core.specs.declared.event.Event.TheVariants.{Drawn}
 use Rattle.tx_core.specs.Histories.{History, last}
 use Rattle.tx_client.specs.Calls.{Seated, HasHeard}
-use Rattle.tx_play.specs.Posts.{Desk}
+use Rattle.tx_play.specs.Posts.{Desk, stage_of, with_events}
 use Rattle.tx_play.specs.Places.{Acts}
 use Rattle.tx_play.proofs.Acting.{drew_acts}
 use Rattle.tx_play.proofs.acts.draw_at.Goals as goal
@@ -18,6 +18,6 @@ returns-clause-acts g c =
     let heard : HasHeard g.J.Naming.bounds k from.newest l = subst (λ (h : History). HasHeard g.J.Naming.bounds k h l) c.newest.ensures.told c.hear_of.ensures.heard in
     let acts = drew_acts g.J.Naming.bounds from to k l m heard
     (ap (λ (d : Desk). d.regions) c.set_newest.ensures ∙ ap (λ (d : Desk). d.regions) c.newest.ensures.same)
-    (ap (λ (d : Desk). d.newest) c.set_newest.ensures ∙ c.tell.ensures.told)
+    (ap (λ (d : Desk). d.newest) c.set_newest.ensures ∙ c.tell.ensures.told) (ap (λ (d : Desk). d.held) c.set_newest.ensures ∙ ap (λ (d : Desk). d.held) c.newest.ensures.same)
     t c.in-Ok.ensures.ok.1 in
-    subst (λ (x : Seated). Acts k x.seat from to ((t ≡ last from.newest + 1) × (to.newest ≡ Drawn k.seat (last from.newest + 1) ∷ from.newest))) (sym c.tell.ensures.same) acts
+    subst (λ (x : Seated). Acts k x.seat from to ((t ≡ last from.newest + 1) × (stage_of to ≡ with_events (stage_of from) (Drawn k.seat (last from.newest + 1) ∷ from.newest)))) (sym c.tell.ensures.same) acts

@@ -4,9 +4,9 @@ use Rattle.tx_core.specs.Histories.{History}
 use Rattle.tx_journal.specs.Known.{Known}
 use Rattle.tx_client.specs.Calls.{Seated, HasHeard, Records}
 use Rattle.tx_client.specs.Sessions.{State, finish_of}
-use Rattle.tx_play.specs.Posts.{Desk}
+use Rattle.tx_play.specs.Posts.{Desk, Stage, stage_of, with_events}
 use Rattle.tx_play.specs.Places.{Acts}
-use Rattle.tx_play.proofs.Acting.{recorded_acts, heard_acts}
+use Rattle.tx_play.proofs.Acting.{acts_so, recorded_acts, heard_acts}
 use Rattle.tx_play.proofs.acts.finish_at.Goals as goal
 
 pub returns-in-Ok-clause-ended : goal.returns-in-Ok-clause-ended
@@ -23,10 +23,10 @@ returns-in-Ok-clause-ended g c =
     let recorded : Records bounds l (Answered old.state.start o) m = subst (λ (s : State). Records bounds l (Answered s.start o) m) c.hear_of.ensures.state ended.1 in
     let acts = recorded_acts bounds from to old.seat l m heard
     (ap (λ (d : Desk). d.regions) c.set_newest.ensures ∙ ap (λ (d : Desk). d.regions) c.newest.ensures.same)
-    (ap (λ (d : Desk). d.newest) c.set_newest.ensures ∙ c.tell.ensures.told)
+    (ap (λ (d : Desk). d.newest) c.set_newest.ensures ∙ c.tell.ensures.told) (ap (λ (d : Desk). d.held) c.set_newest.ensures ∙ ap (λ (d : Desk). d.held) c.newest.ensures.same)
     (Answered old.state.start o) recorded in (
       subst (λ (s : State). finish_of s ≡ Some o) c.hear_of.ensures.state ended.0,
-      subst (λ (x : Known). Acts old.seat x from to (to.newest ≡ Answered old.state.start o ∷ from.newest)) (sym c.tell.ensures.same) acts,
+      subst (λ (x : Known). Acts old.seat x from to (stage_of to ≡ with_events (stage_of from) (Answered old.state.start o ∷ from.newest))) (sym c.tell.ensures.same) acts,
     )
 
 pub returns-in-Err-clause-open_yet : goal.returns-in-Err-clause-open_yet
@@ -41,9 +41,10 @@ returns-in-Err-clause-open_yet g c =
     let heard : HasHeard bounds old.seat from.newest l = subst (λ (h : History). HasHeard bounds old.seat h l) c.newest.ensures.told c.hear_of.ensures.heard in
     let acts = heard_acts bounds from to old.seat l m.seat heard
     (ap (λ (d : Desk). d.regions) c.set_newest-in-Err.ensures ∙ ap (λ (d : Desk). d.regions) c.newest.ensures.same)
-    (ap (λ (d : Desk). d.newest) c.set_newest-in-Err.ensures ∙ c.tell-in-Err.ensures.told)
-    (ap (λ (x : Seated). x.seat) open_yet.1) in (
+    (ap (λ (d : Desk). d.newest) c.set_newest-in-Err.ensures ∙ c.tell-in-Err.ensures.told) (ap (λ (d : Desk). d.held) c.set_newest-in-Err.ensures ∙ ap (λ (d : Desk). d.held) c.newest.ensures.same)
+    (ap (λ (x : Seated). x.seat) open_yet.1) in
+    let told = acts_so old.seat m.seat from to _ (to.newest ≡ from.newest) acts (λ x. ap (λ (s : Stage). s.history) x) in (
       subst (λ (s : State). finish_of s ≡ None) c.hear_of.ensures.state open_yet.0,
       ap (λ (x : Seated). x.state) (c.tell-in-Err.ensures.same ∙ open_yet.1) ∙ c.hear_of.ensures.state,
-      subst (λ (x : Seated). Acts old.seat x.seat from to (to.newest ≡ from.newest)) (sym c.tell-in-Err.ensures.same) acts,
+      subst (λ (x : Seated). Acts old.seat x.seat from to (to.newest ≡ from.newest)) (sym c.tell-in-Err.ensures.same) told,
     )

@@ -1,7 +1,7 @@
-use Rattle.std.proofs.Common.{◌≡◌, slice_set, refl, sym, ap, subst, ◌∙◌, arith}
+use Rattle.std.proofs.Common.{◌≡◌, slice_set, option_map, string_bytes, refl, sym, ap, subst, ◌∙◌, arith}
 use Rattle.std.proofs.lemmas.List.{length-set}
 use Rattle.tx_core.specs.Worlds.{Holds}
-use Rattle.tx_play.specs.Posts.{Desk, Hands, region_for}
+use Rattle.tx_play.specs.Posts.{Desk, Hands, region_for, requests, by_name}
 use Rattle.tx_play.proofs.Posting.{there_at, numbered_at, numbered_set, handed_at}
 use Rattle.tx_play.proofs.post.Post.take.Goals as goal
 
@@ -18,16 +18,17 @@ invariant_of-self g c =
     let there = there_at ks c.place_of-place.result c.index_mut.result.now (omega (arith, c.place_of-place.ensures.within, c.self.invariant.1)) c.index_mut.ensures.value in (
       numbered_set 0 c.place_of-place.result ks c.index_mut.result.now c.take_at.new.region there c.take_at.ensures.number c.self.invariant.0,
       length-set ks c.place_of-place.result c.take_at.new.region ∙ c.self.invariant.1,
+      c.self.invariant.2,
     )
 
 pub returns : goal.returns
 returns g c =
     let s = c.self.inside in
     let place = c.place_of-place.result in
-    let from : Desk = record { regions = s.regions.items; newest = s.newest; way = s.way } in
-    let to : Desk = record { regions = slice_set s.regions.items place c.take_at.new.region; newest = c.take_at.new.newest; way = s.way } in
+    let from : Desk = record { regions = s.regions.items; newest = s.newest; held = requests s.held.entries; way = option_map (by_name string_bytes) s.way } in
+    let to : Desk = record { regions = slice_set s.regions.items place c.take_at.new.region; newest = c.take_at.new.newest; held = requests s.held.entries; way = option_map (by_name string_bytes) s.way } in
     let n = region_for g.J.Naming.bounds c.args.request.body in
     let there = there_at s.regions.items place c.index_mut.result.now (omega (arith, c.place_of-place.ensures.within, c.self.invariant.1)) c.index_mut.ensures.value in
     let is : place ≡ n = c.place_of-place.ensures.number ∙ ap (region_for g.J.Naming.bounds) c.body.ensures.body in
     subst (λ (d : Desk). Hands n d to c.args.request c.take_at.result) c.self.view_is
-    (handed_at n place from to c.index_mut.result.now c.take_at.new.region c.args.request c.take_at.result is there c.self.invariant.0 refl refl c.take_at.ensures)
+    (handed_at n place from to c.index_mut.result.now c.take_at.new.region c.args.request c.take_at.result is there c.self.invariant.0 refl refl refl c.take_at.ensures)
