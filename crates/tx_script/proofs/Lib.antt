@@ -8,21 +8,15 @@ pub mod LineSteps
 pub mod Verdicts
 -- The lines of a trace that were read, and the machine that made their steps.
 pub mod Traces
--- What a turn may lead to, by every answer that a region may give.
-pub mod AllLead
--- What holds of every scene of a script, and how a step that changes one session keeps it.
-pub mod Scenes
--- Each step of a script keeps what holds of its scene.
-pub mod Steps
--- A script has one play: a region has one answer to each request, and nothing else is left open.
+-- Lines of a script have one play where its events are a world run.
 pub mod OnePlay
--- Whatever a script plays is a world run, and is its only play.
-pub mod Plays
--- The loop over the lines of a script.
+-- What a line of a script leads to, by what it says.
+pub mod LineTurns
+-- The loop over the lines: under the condition that no more events came than the engine made, what is written is of a play.
 pub mod Scripts
--- Values with too few or too many members for a step of a script.
-pub mod ScriptArity
--- What a step of the engine makes of the scene that it holds.
-pub mod Engines
--- The steps of one session: which scene follows, and that the store holds what it holds then.
-pub mod SessionSteps
+-- The same, by what was found of each line.
+pub mod Lines
+-- When all has settled, the condition holds: nobody else acted.
+pub mod Ending
+-- The keys between regions, as line 1 says them.
+pub mod Bounds

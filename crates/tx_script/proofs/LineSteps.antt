@@ -9,7 +9,6 @@ use Rattle.tx_machine.specs.declared.step.Step.{Step}
 use Rattle.tx_lines.specs.Lines.{max_line, max_lines}
 use Rattle.tx_lines.specs.Parts.{json_of, count}
 use Rattle.tx_script.specs.MachineSteps.{step_of, step_of_items}
-use Rattle.tx_script.specs.Steps.{script_step_of, script_step_of_items}
 use Rattle.tx_script.specs.Check.{step_of_form, step_of_json, step_in}
 
 module _ (number : ℕ) (line : List ℕ) (short : length line ≤ max_line) (early : number ≤ max_lines) where
@@ -45,19 +44,3 @@ module _ (d : Data) (many : (items : Items) → as_array d ≡ Some items → 7 
       by_items : (o : Option Items) → as_array d ≡ o → option_and_then step_of_items (as_array d) ≡ None
       by_items None e = ap (option_and_then step_of_items) e
       by_items (Some items) e = ap (option_and_then step_of_items) e ∙ none items (many items e)
-
-  -- and no step of a script
-  pub no_script_step_of : script_step_of d ≡ None
-  no_script_step_of = by_items (as_array d) refl
-    where
-      none : (items : Items) → 7 < count items → script_step_of_items items ≡ None
-      none no_items more = absurd (omega (arith, more))
-      none (item a no_items) more = absurd (omega (arith, more))
-      none (item a (item b no_items)) more = absurd (omega (arith, more))
-      none (item a (item b (item c no_items))) more = absurd (omega (arith, more))
-      none (item a (item b (item c (item e no_items)))) more = absurd (omega (arith, more))
-      none (item a (item b (item c (item e (item f rest))))) more = refl
-
-      by_items : (o : Option Items) → as_array d ≡ o → option_and_then script_step_of_items (as_array d) ≡ None
-      by_items None e = ap (option_and_then script_step_of_items) e
-      by_items (Some items) e = ap (option_and_then script_step_of_items) e ∙ none items (many items e)

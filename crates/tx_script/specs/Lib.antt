@@ -2,8 +2,6 @@ pub mod Words
 pub mod MachineSteps
 pub mod Check
 pub mod Turns
-pub mod Steps
-pub mod Replies
-pub mod Scenes
+pub mod Calls
 pub mod Play
-pub mod Stands
+pub mod Loops

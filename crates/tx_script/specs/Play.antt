@@ -1,44 +1,69 @@
 -- What a script means, and what is written for it.
-use Rattle.std.specs.Prelude.{◌≡◌, ◌⊎◌, ℕ, ◌+◌, List, [], ◌∷◌, ◌++◌, Bool, nat_lt, length, Option, Some, None, if◌then◌else◌}
+use Rattle.std.specs.Prelude.{◌≡◌, ◌⊎◌, ℕ, ◌+◌, ◌==◌, ◌&&◌, List, [], ◌∷◌, ◌++◌, Bool, length, Option, Some, None, is_some, option_and_then, Result, Ok, Err, if◌then◌else◌}
+use Rattle.std.specs.List.{flat_map}
 use Rattle.std.specs.Io.KnownBytes.{Appends}
 use Rattle.serde_json.specs.Data.{Data, Items}
 use Rattle.tx_types.specs.declared.fault.Cause.{Cause}
-use Rattle.tx_types.specs.declared.fault.Cause.TheVariants.{Json, Form, Long, Lines}
-use Rattle.tx_plan.specs.declared.answer.Answer.{Answer}
-use Rattle.tx_plan.specs.Answers.{AnswersLeast}
-use Rattle.tx_core.specs.Histories.{History, last, left}
+use Rattle.tx_types.specs.declared.fault.Cause.TheVariants.{Form}
+use Rattle.tx_types.specs.declared.key.Key.{Key}
+use Rattle.tx_types.specs.declared.limits.TheConstants.{MAX_LIVE_SESSIONS}
+use Rattle.tx_core.specs.Histories.{History}
 use Rattle.tx_core.specs.Worlds.{IsWorldRun}
 use Rattle.tx_lines.specs.declared.end.Broken.{Broken}
 use Rattle.tx_lines.specs.declared.end.Broken.TheVariants.{Output}
 use Rattle.tx_lines.specs.declared.end.End.{End}
 use Rattle.tx_lines.specs.declared.end.End.TheVariants.{Well, Faulted}
-use Rattle.tx_lines.specs.Lines.{lines_of, max_line, max_lines}
-use Rattle.tx_lines.specs.Parts.{json_of}
-use Rattle.tx_script.specs.Steps.{Asked, script_step_of}
-use Rattle.tx_script.specs.Replies.{fault_words, render}
-use Rattle.tx_script.specs.Scenes.{Scene, opening, Turn, goes, asks, stops, turn}
+use Rattle.tx_lines.specs.declared.reply.Reply.{Reply}
+use Rattle.tx_lines.specs.declared.reply.Reply.TheVariants.{Regions}
+use Rattle.tx_lines.specs.Lines.{lines_of}
+use Rattle.tx_lines.specs.Replies.{reply_words, reply_text}
+use Rattle.tx_lines.specs.Faults.{fault_words}
+use Rattle.tx_steps.specs.declared.program.Program.TheVariants.{Simulate}
+use Rattle.tx_steps.specs.Lines.{data_said, step_in, bounds_in}
+use Rattle.tx_play.specs.Steps.{Call}
+use Rattle.tx_play.specs.Scenes.{Scene, opening, Turn, goes, stops, turn}
+use Rattle.tx_play.specs.Plays.{Leads}
+use Rattle.tx_script.specs.Calls.{played}
 
-abbrev pub asked_turn : List Bool → Option Asked → Scene → Turn
-asked_turn refused None scene = stops Form
-asked_turn refused (Some step) scene = turn refused step scene
+-- ---- the regions
 
-abbrev pub value_turn : List Bool → Option Data → Scene → Turn
-value_turn refused None scene = stops Json
-value_turn refused (Some d) scene = asked_turn refused (script_step_of d) scene
+-- the keys between the regions, where a value says some
+abbrev pub bounds_by : Option (List Key) → List Key
+bounds_by None = []
+bounds_by (Some ks) = ks
 
--- what a line leads to: the causes that end a script are looked for in this order
-abbrev pub line_turn : List Bool → ℕ → List ℕ → Scene → Turn
-line_turn refused number line scene =
-    if nat_lt max_line (length line) then stops Long
-    else (if nat_lt max_lines number then stops Lines
-    else value_turn refused (json_of line) scene)
+abbrev pub bounds_at : Result Data Cause → List Key
+bounds_at (Ok d) = bounds_by (bounds_in d)
+bounds_at (Err c) = []
 
--- a turn goes on so, or stops so: a region that is asked answers by the case tables from what its events left, with the least
--- minimum for an async lock
-abbrev pub Leads : (Scene → Items → List Bool → Type 0) → (Cause → Type 0) → Turn → Type 0
-Leads Goes Stops (goes scene words refused) = Goes scene words refused
-Leads Goes Stops (asks h body more) = (a : Answer) × AnswersLeast (left h 0) (last h) body a × Leads Goes Stops (more a)
-Leads Goes Stops (stops cause) = Stops cause
+-- the keys between the regions of a script: line 1 says them, or there is one region
+abbrev pub bounds_of : List (List ℕ) → List Key
+bounds_of [] = []
+bounds_of (line ∷ lines) = bounds_at (data_said 1 line)
+
+-- ---- lines
+
+module _ (bounds : List Key) where
+  -- the step that a value says, where it says one
+  abbrev pub call_turn : List Bool → Option Call → Scene → Turn
+  call_turn refused None scene = stops Form
+  call_turn refused (Some call) scene = turn bounds refused call scene
+
+  -- line 1 may say the regions: nothing has happened yet
+  abbrev pub value_turn : List Bool → ℕ → Data → Scene → Turn
+  value_turn refused number d scene =
+      if (number == 1) && is_some (bounds_in d) then goes scene (Regions (length bounds + 1)) refused
+      else call_turn refused (option_and_then played (step_in Simulate d)) scene
+
+  abbrev pub said_turn : List Bool → ℕ → Result Data Cause → Scene → Turn
+  said_turn refused number (Ok d) scene = value_turn refused number d scene
+  said_turn refused number (Err c) scene = stops c
+
+  -- what the line of this number leads to
+  abbrev pub line_turn : List Bool → ℕ → List ℕ → Scene → Turn
+  line_turn refused number line scene = said_turn refused number (data_said number line) scene
+
+-- ---- scripts
 
 -- what comes of a script: its replies, each with its line's number, all events, and how it ends
 pub record Played : Type 0 where
@@ -50,29 +75,49 @@ pub record Played : Type 0 where
 abbrev pub before : ℕ × Items → Played → Played
 before reply p = record { replies = reply ∷ p.replies; history = p.history; ended = p.ended }
 
--- Lines are played from a scene on, the first with the number after this one: each line leads to its reply and to the scene of the
--- next; a fault ends the script.
-abbrev pub Plays : Scene → ℕ → List Bool → List (List ℕ) → Played → Type 0
-Plays scene number refused [] p = p ≡ record { replies = []; history = scene.history; ended = Well }
-Plays scene number refused (line ∷ lines) p =
-    Leads (λ next words left. (q : Played) × Plays next (number + 1) left lines q × (p ≡ before (number + 1, words) q))
-    (λ cause. p ≡ record { replies = (number + 1, fault_words cause) ∷ []; history = scene.history; ended = Faulted })
-    (line_turn refused (number + 1) line scene)
+-- nothing more is played
+abbrev pub ending : Scene → Played
+ending scene = record { replies = []; history = scene.stage.history; ended = Well }
 
--- what a script means, where the calls that `refused` names met want of memory: it means nothing else, and its events are a run of
--- the protocol, over one region
-pub record IsPlay (refused : List Bool) (lines : List (List ℕ)) (p : Played) : Type 0 where
-  pub plays : Plays opening 0 refused lines p
-  pub only : (q : Played) → Plays opening 0 refused lines q → q ≡ p
-  pub run : IsWorldRun [] p.history
+-- the line of this number is a fault, which ends the script
+abbrev pub faulted : Scene → ℕ → Cause → Played
+faulted scene number cause = record { replies = (number, fault_words cause) ∷ []; history = scene.stage.history; ended = Faulted }
+
+-- the text of replies
+abbrev pub render : List (ℕ × Items) → List ℕ
+render replies = flat_map reply_text replies
+
+module _ (bounds : List Key) where
+  -- Lines are played from a scene on, the first with the number after this one: each leads to its reply and to the scene of the next; a
+  -- fault ends the script.
+  abbrev pub Plays : Scene → ℕ → List Bool → List (List ℕ) → Played → Type 0
+  Plays scene number refused [] p = p ≡ ending scene
+  Plays scene number refused (line ∷ lines) p =
+      Leads bounds (λ next said left. (q : Played) × Plays next (number + 1) left lines q × (p ≡ before (number + 1, reply_words said) q))
+      (λ cause. p ≡ faulted scene (number + 1) cause)
+      (line_turn bounds refused (number + 1) line scene)
+
+  -- What lines mean over regions with these bounds, where the calls that `refused` names met want of memory: they mean nothing else, and
+  -- their events are a run of the protocol.
+  pub record IsPlay (refused : List Bool) (lines : List (List ℕ)) (p : Played) : Type 0 where
+    pub plays : Plays (opening MAX_LIVE_SESSIONS) 0 refused lines p
+    pub only : (q : Played) → Plays (opening MAX_LIVE_SESSIONS) 0 refused lines q → q ≡ p
+    pub run : IsWorldRun bounds p.history
+
+  -- lines that were played to their end: the text of their replies was written, and nothing else
+  abbrev pub EndsLines : List (List ℕ) → Option (List ℕ) → Option (List ℕ) → End → Type 0
+  EndsLines lines old new ended = (refused : List Bool) × (p : Played) × IsPlay refused lines p × Appends old new (render p.replies) × (ended ≡ p.ended)
+
+  -- lines that were broken off: a beginning of the text of the first of them was written, whole replies unless a write failed
+  abbrev pub BreaksLines : Broken → List (List ℕ) → Option (List ℕ) → Option (List ℕ) → Type 0
+  BreaksLines why lines old new = (refused : List Bool) × (first rest : List (List ℕ)) × (p : Played) × (written more : List ℕ)
+      × (lines ≡ first ++ rest) × IsPlay refused first p × Appends old new written × (render p.replies ≡ written ++ more)
+      × ((why ≡ Output) ⊎ (more ≡ []))
 
 -- an ended script has written the text of its replies, and nothing else
 abbrev pub EndsScript : List ℕ → Option (List ℕ) → Option (List ℕ) → End → Type 0
-EndsScript input old new ended = (refused : List Bool) × (p : Played) × IsPlay refused (lines_of input) p
-    × Appends old new (render p.replies) × (ended ≡ p.ended)
+EndsScript input old new ended = EndsLines (bounds_of (lines_of input)) (lines_of input) old new ended
 
 -- a script that was broken off has written a beginning of the text of its first lines: whole replies, unless a write failed
 abbrev pub BreaksScript : Broken → List ℕ → Option (List ℕ) → Option (List ℕ) → Type 0
-BreaksScript why input old new = (refused : List Bool) × (lines rest : List (List ℕ)) × (p : Played) × (written more : List ℕ)
-    × (lines_of input ≡ lines ++ rest) × IsPlay refused lines p × Appends old new written × (render p.replies ≡ written ++ more)
-    × ((why ≡ Output) ⊎ (more ≡ []))
+BreaksScript why input old new = BreaksLines (bounds_of (lines_of input)) why (lines_of input) old new

@@ -1,23 +1,23 @@
 //! Text in, text out. `check` reads the lines of a trace, checks each, and writes the verdict. `simulate` reads the steps of
-//! a script, makes them in one thread, and writes a reply for each.
+//! a script, plays them in one thread over regions in which nobody else acts, and writes a reply for each: what it has written
+//! is what the script means, which is its only play, whose events are a run of the protocol.
 //!
-//! A line is one JSON array, which `tx_lines` reads and writes. The words of verdicts stand in `words`, the steps that are
-//! read in `machine_step` and `step`.
+//! A line is one JSON array, which `tx_lines` reads and writes; `tx_steps` has the steps of scripts, and `tx_play` the engine.
+//! The words of verdicts stand in `words`, the steps of the machine in `machine_step`.
 #![tactic(auto)]
 
+mod call;
 mod checker;
-mod engine;
+mod line;
 mod machine_step;
+mod opening;
 mod script;
 #[cfg(test)]
 mod script_tests;
-mod session_steps;
-mod step;
-mod store;
 #[cfg(test)]
 mod tests;
 mod words;
 
 pub use checker::check;
-pub use script::simulate;
+pub use opening::simulate;
 pub use tx_lines::{Broken, End};

@@ -3,10 +3,9 @@ ghost use Rattle.std.specs.Prelude.{◌≡◌, false, ◌∷◌, ◌++◌, [], I
 ghost use Rattle.serde_json.specs.Data.{array};
 ghost use Rattle.serde_json.specs.View.{view};
 ghost use Rattle.serde_json.specs.Written.{has_float, compact_text};
-ghost use Rattle.tx_lines.specs.Replies.{reply_text};
 ghost use Rattle.tx_lines.specs.Texts.{line_text};
-ghost use Rattle.tx_script.specs.Replies.{fault_words};
-ghost use Rattle.tx_script.specs.Words.{word_of, words};
+ghost use Rattle.tx_lines.specs.Faults.{cause_word as word_of};
+ghost use Rattle.tx_script.specs.Words.{words};
 
 use serde_json::{Value, json};
 use std::alloc::{AllocError, Global};
@@ -62,13 +61,5 @@ pub(crate) fn verdict_line(alloc: Global, verdict: Verdict) -> Result<String, Al
     ensures { IfOk result (λ s. string_bytes s ≡ line_text (words verdict)) }
 {
     let value = verdict_value(alloc, verdict)?;
-    line_of(alloc, &value)
-}
-
-/// The line that ends a script with its fault, with its newline.
-pub(crate) fn fault_line(alloc: Global, number: u64, cause: Cause) -> Result<String, AllocError>
-    ensures { IfOk result (λ s. string_bytes s ≡ reply_text (number, fault_words cause)) }
-{
-    let value = json!(in alloc; [number, "E16", cause_word(cause)])?;
     line_of(alloc, &value)
 }

@@ -1,0 +1,10 @@
+use Rattle.std.proofs.Common.{ap, sym, ◌∙◌, option_map}
+use Rattle.tx_steps.specs.Lines.{data_of}
+use Rattle.tx_script.proofs.Bounds.{fits}
+use Rattle.tx_script.proofs.opening.bounds_at.Goals as goal
+
+pub returns-clause-rising : goal.returns-clause-rising
+returns-clause-rising c = (fits (data_of c.in-Ok.said) c.in-Ok-Some.bounds.items (sym c.in-Ok-Some.ensures.ok ∙ ap (option_map (λ (b : _). b.items)) c.in-Ok-Some.field-0-is)).0
+
+pub returns-clause-few : goal.returns-clause-few
+returns-clause-few c = (fits (data_of c.in-Ok.said) c.in-Ok-Some.bounds.items (sym c.in-Ok-Some.ensures.ok ∙ ap (option_map (λ (b : _). b.items)) c.in-Ok-Some.field-0-is)).1

@@ -1,0 +1,34 @@
+use Rattle.std.proofs.Common.{◌≡◌, ◌+◌, ◌≤◌, ℕ, List, length, sym, ap, subst, arith}
+use Rattle.std.proofs.KnownBytes.{Keeps-refl}
+use Rattle.tx_types.specs.declared.key.Key.{Key}
+use Rattle.tx_types.specs.declared.limits.TheConstants.{MAX_LIVE_SESSIONS, MAX_LINES}
+use Rattle.tx_script.specs.Play.{EndsLines, BreaksLines}
+use Rattle.tx_play.proofs.Dealt.{dealt_all}
+use Rattle.tx_script.proofs.Ending.{then_ok, then_err, breaks_first}
+use Rattle.tx_script.proofs.opening.over.Goals as goal
+
+pub returns-in_default-clause-breaks : goal.returns-in_default-clause-breaks
+returns-in_default-clause-breaks g c lines a = breaks_first c.args.opened.bounds _ lines (g.W.Write.contents c.args.writer.now) _ (Keeps-refl _)
+
+pub returns-in_default-engine_of-clause-breaks : goal.returns-in_default-engine_of-clause-breaks
+returns-in_default-engine_of-clause-breaks g c lines a = breaks_first c.args.opened.bounds _ lines (g.W.Write.contents c.args.writer.now) _ (Keeps-refl _)
+
+pub engine_of-requires-clause-dealt : goal.engine_of-requires-clause-dealt
+engine_of-requires-clause-dealt g c = dealt_all c.in-Ok.seats.items g.J.Naming.seats (omega (arith, c.in-Ok.ensures.count, c.in-Ok.seats.ok.0)) c.in-Ok.ensures.seats
+
+pub simulate_over-requires-clause-places : goal.simulate_over-requires-clause-places
+simulate_over-requires-clause-places g c = omega (arith, c.in-Ok-engine_of.ensures.size, c.in-Ok.ensures.count, c.in-Ok.seats.ok.0, c.requires.named.2, ap length c.requires.named.1, c.requires.seats)
+
+pub simulate_over-requires-clause-ready : goal.simulate_over-requires-clause-ready
+simulate_over-requires-clause-ready g c = c.in-Ok-engine_of.ensures.ready (MAX_LINES + 1) (omega arith)
+
+pub simulate_over-requires-clause-seats : goal.simulate_over-requires-clause-seats
+simulate_over-requires-clause-seats g c = omega (arith, c.requires.named.2, ap length c.requires.named.1, c.requires.seats)
+
+pub returns-clause-ends : goal.returns-clause-ends
+returns-clause-ends g c = then_ok _ _ c.simulate_over.result c.simulate_over.ensures.ends
+    (λ end h lines a. subst (λ (bounds : List Key). EndsLines bounds lines (g.W.Write.contents c.args.writer.now) (g.W.Write.contents c.simulate_over.new.writer) end) (sym c.requires.named.1) (h lines a))
+
+pub returns-clause-breaks : goal.returns-clause-breaks
+returns-clause-breaks g c = then_err _ _ c.simulate_over.result c.simulate_over.ensures.breaks
+    (λ why h lines a. subst (λ (bounds : List Key). BreaksLines bounds why lines (g.W.Write.contents c.args.writer.now) (g.W.Write.contents c.simulate_over.new.writer)) (sym c.requires.named.1) (h lines a))

@@ -1,0 +1,12 @@
+use Rattle.std.proofs.Common.{◌+◌, ◌-◌, ◌≤◌}
+use Rattle.tx_types.specs.declared.limits.TheConstants.{MAX_LINES}
+use Rattle.tx_script.proofs.Scripts.{Counts}
+use Rattle.tx_script.proofs.Lines.{On}
+use Rattle.tx_script.proofs.script.play_lines.Given as goal
+
+abbrev pub invariant-lines : goal.invariant-lines
+invariant-lines g l = Counts g.J.Naming.bounds l.number l.engine × (l.number ≤ MAX_LINES)
+    × On g.J.Naming.bounds l.fn.first l.fn.line.items (g.R.Read.remaining l.fn.reader) (g.W.Write.contents l.fn.writer) l.found l.line.items (g.R.Read.remaining l.reader) (g.W.Write.contents l.writer) l.number l.engine
+
+abbrev pub decreases-lines : goal.decreases-lines
+decreases-lines g l = (MAX_LINES + 1) - l.number

@@ -1,0 +1,147 @@
+//! One line of a script, from its bytes to its reply.
+ghost use Rattle.std.specs.Prelude.{◌≡◌, ◌≤◌, option_and_then, option_map, is_some, OnOk, IfOk, IfErr, OnErr};
+ghost use Rattle.tx_types.specs.declared.limits.TheConstants as limits;
+ghost use Rattle.std.specs.Io.KnownBytes.{Appends};
+ghost use Rattle.tx_lines.specs.Faults.{fault_words};
+ghost use Rattle.tx_lines.specs.Output.{BreaksText};
+ghost use Rattle.tx_lines.specs.Replies.{reply_words, reply_text};
+ghost use Rattle.tx_steps.specs.Steps.{asked};
+ghost use Rattle.tx_steps.specs.Lines.{data_of, bounds_in};
+ghost use Rattle.tx_play.specs.Places.{AllSeated, Goes};
+ghost use Rattle.tx_script.specs.Calls.{played};
+ghost use Rattle.tx_script.specs.Play.{call_turn, value_turn, line_turn};
+ghost use Rattle.tx_script.specs.Loops.{TurnedBy, FoundTurned, FitsFound};
+
+use crate::call::call;
+use std::alloc::Global;
+use std::io::Write;
+use tx_cells::Families;
+use tx_journal::Naming;
+use tx_lines::{Broken, Found, Reply, put_fault, put_reply, send};
+use tx_play::Engine;
+use tx_steps::{Line, Program, Step};
+use tx_types::Cause;
+
+/// What came of the next line.
+#[derive(Drop)]
+pub(crate) enum Turned {
+    End,
+    Goes(Reply),
+    Stops(Cause),
+}
+
+// Plays a step, where there is one.
+fn play_step<J: Naming, F: Families>(
+    engine: &mut Engine<J, F>,
+    step: Option<Step<'_>>,
+) -> Result<Reply, Cause>
+    requires ready { AllSeated J.bounds 1 engine.old }
+    ensures goes { Goes J.bounds engine.old engine.new (TurnedBy J.bounds (λ refused. call_turn J.bounds refused (option_and_then played (option_map asked step.entry))) result engine.old engine.new) }
+{
+    let Some(said) = step else {
+        return Err(Cause::Form);
+    };
+    match call(said) {
+        None => Err(Cause::Form),
+        Some(step) => engine.play(&step),
+    }
+}
+
+// Whether a line says the keys between the regions.
+fn says_regions(alloc: Global, said: &Line<'_>) -> Result<bool, Broken>
+    ensures { IfOk result (λ says. says ≡ is_some (bounds_in (data_of said.now))) }
+{
+    match said.bounds(alloc) {
+        Ok(bounds) => Ok(bounds.is_some()),
+        Err(_) => Err(Broken::Memory),
+    }
+}
+
+// Plays the value of the line of this number.
+fn play_said<J: Naming, F: Families>(
+    alloc: Global,
+    engine: &mut Engine<J, F>,
+    number: u64,
+    said: &Line<'_>,
+) -> Result<Result<Reply, Cause>, Broken>
+    requires ready { AllSeated J.bounds 1 engine.old }
+    ensures goes { IfOk result (λ turned. Goes J.bounds engine.old engine.new (TurnedBy J.bounds (λ refused. value_turn J.bounds refused number (data_of said.now)) turned engine.old engine.new)) }
+    ensures same { OnErr result (engine.new ≡ engine.old) }
+{
+    if number == 1 && says_regions(alloc, said)? {
+        return Ok(Ok(Reply::Regions(engine.regions())));
+    }
+    Ok(play_step(engine, said.step(Program::Simulate)))
+}
+
+// Plays the line of this number.
+fn play_line<J: Naming, F: Families>(
+    alloc: Global,
+    engine: &mut Engine<J, F>,
+    number: u64,
+    line: &[u8],
+) -> Result<Result<Reply, Cause>, Broken>
+    requires ready { AllSeated J.bounds 1 engine.old }
+    ensures goes { IfOk result (λ turned. Goes J.bounds engine.old engine.new (TurnedBy J.bounds (λ refused. line_turn J.bounds refused number line.now) turned engine.old engine.new)) }
+    ensures early { IfOk result (λ turned. OnOk turned (number ≤ limits.MAX_LINES)) }
+    ensures same { OnErr result (engine.new ≡ engine.old) }
+{
+    match Line::read(alloc, number, line)? {
+        Err(cause) => Ok(Err(cause)),
+        Ok(said) => play_said(alloc, engine, number, &said),
+    }
+}
+
+/// Plays the line of this number, by what was found of it.
+pub(crate) fn play_found<J: Naming, F: Families>(
+    alloc: Global,
+    engine: &mut Engine<J, F>,
+    number: u64,
+    found: Found,
+    line: &[u8],
+) -> Result<Turned, Broken>
+    requires ready { AllSeated J.bounds 1 engine.old }
+    ensures goes { IfOk result (λ turned. Goes J.bounds engine.old engine.new (FoundTurned J.bounds number found line.now turned engine.old engine.new)) }
+    ensures fits { IfOk result (λ turned. FitsFound found turned) }
+    ensures early { IfOk result (λ turned. (reply : Reply) → turned ≡ Turned.Goes reply → number ≤ limits.MAX_LINES) }
+    ensures same { OnErr result (engine.new ≡ engine.old) }
+{
+    match found {
+        Found::End => Ok(Turned::End),
+        Found::Long => Ok(Turned::Stops(Cause::Long)),
+        Found::Line => match play_line(alloc, engine, number, line)? {
+            Ok(reply) => Ok(Turned::Goes(reply)),
+            Err(cause) => Ok(Turned::Stops(cause)),
+        },
+    }
+}
+
+/// Writes the line of a reply, or the first few bytes of it before a failure. It is made in `text`, which is kept from line to line.
+pub(crate) fn tell<W: Write>(
+    writer: &mut W,
+    text: &mut Vec<u8>,
+    number: u64,
+    reply: &Reply,
+) -> Result<(), Broken>
+    ensures all { OnOk result (Appends (W.contents writer.old) (W.contents writer.new) (reply_text (number, reply_words reply.now))) }
+    ensures part { IfErr result (λ e. BreaksText e (W.contents writer.old) (W.contents writer.new) (reply_text (number, reply_words reply.now))) }
+{
+    text.clear();
+    put_reply(text, number, reply)?;
+    send(writer, text.as_slice())
+}
+
+/// Writes the line of a fault, or the first few bytes of it before a failure.
+pub(crate) fn tell_fault<W: Write>(
+    writer: &mut W,
+    text: &mut Vec<u8>,
+    number: u64,
+    cause: Cause,
+) -> Result<(), Broken>
+    ensures all { OnOk result (Appends (W.contents writer.old) (W.contents writer.new) (reply_text (number, fault_words cause))) }
+    ensures part { IfErr result (λ e. BreaksText e (W.contents writer.old) (W.contents writer.new) (reply_text (number, fault_words cause))) }
+{
+    text.clear();
+    put_fault(text, number, cause)?;
+    send(writer, text.as_slice())
+}

@@ -1,0 +1,107 @@
+//! A script from its first byte to its last.
+ghost use Rattle.std.specs.Prelude.{◌≡◌, ◌<◌, ◌+◌, ℕ, List, All, length, vec_len, IfOk, IfErr, IfSome};
+ghost use Rattle.tx_types.specs.declared.limits.TheConstants as limits;
+ghost use Rattle.tx_cells.specs.Contents.{nothing_held};
+ghost use Rattle.tx_cells.specs.Flats.{flat_content};
+ghost use Rattle.tx_journal.specs.Known.{AreRising};
+ghost use Rattle.tx_script.specs.Play.{EndsLines, BreaksLines, EndsScript, BreaksScript};
+ghost use Rattle.tx_script.specs.Loops.{Ahead, first_bounds};
+
+use crate::script::simulate_over;
+use std::alloc::Global;
+use std::io::{BufRead, Write};
+use std::marker::Brand;
+use tx_cells::{Families, FlatCells};
+use tx_journal::{Naming, Opened};
+use tx_lines::{Broken, End, Found, read_line};
+use tx_play::engine_of;
+use tx_steps::Line;
+use tx_types::Key;
+use tx_types::limits::MAX_LIVE_SESSIONS;
+
+// The keys between the regions: line 1 says them, or there is one region.
+fn bounds_at(alloc: Global, first: Found, line: &[u8]) -> Result<Vec<Key>, Broken>
+    ensures bounds { IfOk result (λ bounds. bounds.items ≡ first_bounds first line.now) }
+    ensures rising { IfOk result (λ bounds. AreRising bounds.items) }
+    ensures few { IfOk result (λ bounds. length bounds.items < limits.MAX_REGIONS) }
+{
+    if first != Found::Line {
+        return Ok(Vec::new(alloc));
+    }
+    match Line::read(alloc, 1, line)? {
+        Err(_) => Ok(Vec::new(alloc)),
+        Ok(said) => match said.bounds(alloc) {
+            Err(_) => Err(Broken::Memory),
+            Ok(None) => Ok(Vec::new(alloc)),
+            Ok(Some(bounds)) => Ok(bounds),
+        },
+    }
+}
+
+// So many families that hold nothing.
+fn empty_families(alloc: Global, count: usize) -> Result<Vec<FlatCells>, Broken>
+    ensures count { IfOk result (λ families. vec_len families ≡ count) }
+    ensures empty { IfOk result (λ families. All (λ f. flat_content f ≡ (λ k. nothing_held)) families.items) }
+{
+    let mut families = Vec::with_capacity(alloc, count)?;
+    'families: while families.len() < count {
+        families.push(FlatCells::new(alloc))?;
+    }
+    Ok(families)
+}
+
+// Plays a script over a journal that was opened, and has no other user.
+fn over<J: Naming, F: Families + Drop, R: BufRead, W: Write>(
+    alloc: Global,
+    opened: Opened,
+    families: Vec<F>,
+    reader: &mut R,
+    writer: &mut W,
+    first: Found,
+    line: &mut Vec<u8>,
+) -> Result<End, Broken>
+    requires named { (opened.table ≡ J.table) × (opened.bounds ≡ J.bounds) × (opened.seats ≡ J.seats) }
+    requires few { vec_len families ≡ length opened.bounds + 1 }
+    requires seats { opened.seats ≡ length opened.bounds + 2 + limits.MAX_LIVE_SESSIONS }
+    requires empty { All (λ f. F.content f ≡ (λ k. nothing_held)) families.items }
+    ensures ends { IfOk result (λ end. (lines : List (List ℕ)) → Ahead first line.old.items (R.remaining reader.old) lines
+        → EndsLines opened.bounds lines (W.contents writer.old) (W.contents writer.new) end) }
+    ensures breaks { IfErr result (λ why. (lines : List (List ℕ)) → Ahead first line.old.items (R.remaining reader.old) lines
+        → BreaksLines opened.bounds why lines (W.contents writer.old) (W.contents writer.new)) }
+{
+    let Ok((journal, seats)) = opened.named::<J>(alloc) else {
+        return Err(Broken::Memory);
+    };
+    let Ok(engine) = engine_of(alloc, journal, seats, families) else {
+        return Err(Broken::Memory);
+    };
+    simulate_over(alloc, engine, reader, writer, first, line)
+}
+
+/// Plays a script, in one thread: reads its steps line by line, and writes one reply line a step. Line 1 may say the keys between its
+/// regions; else there is one region. At most 256 sessions live at once. It ends well at the end of the input, and `Faulted` at the first
+/// line that is no step or that the script does not allow, whose reply names the cause.
+///
+/// `Input` where a read failed, `Output` where a write or the flush failed, `Memory` where a growth was refused outside of a step's own
+/// calls, for which the reply is E12.
+pub fn simulate<R: BufRead, W: Write>(
+    alloc: Global,
+    reader: &mut R,
+    writer: &mut W,
+) -> Result<End, Broken>
+    // Not broken off, it has written the replies of what the script means, and nothing else.
+    ensures ends { IfOk result (λ end. IfSome (R.remaining reader.old)
+        (λ input. EndsScript input (W.contents writer.old) (W.contents writer.new) end)) }
+    // Broken off, it has written a beginning of them: whole replies, unless a write failed.
+    ensures breaks { IfErr result (λ why. IfSome (R.remaining reader.old)
+        (λ input. BreaksScript why input (W.contents writer.old) (W.contents writer.new))) }
+{
+    let mut line = Vec::new(alloc);
+    let first = read_line(reader, &mut line)?;
+    let bounds = bounds_at(alloc, first, line.as_slice())?;
+    let families = empty_families(alloc, bounds.len() + 1)?;
+    let Ok(opened) = Opened::new(alloc, bounds, MAX_LIVE_SESSIONS + 1) else {
+        return Err(Broken::Memory);
+    };
+    over::<Brand, FlatCells, R, W>(alloc, opened, families, reader, writer, first, &mut line)
+}
