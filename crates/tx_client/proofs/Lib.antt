@@ -1,4 +1,3 @@
-pub mod two_phases
 -- The buffer by places.
 pub mod Places
 -- Keys that are looked up in a buffer.

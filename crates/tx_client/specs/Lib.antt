@@ -1,4 +1,3 @@
-pub mod two_phase
 pub mod Buffers
 pub mod Sessions
 pub mod Senders

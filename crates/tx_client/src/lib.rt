@@ -9,7 +9,6 @@ mod sender;
 mod session;
 mod state;
 mod transaction;
-pub mod two_phase;
 
 pub use asking::ask;
 pub use resolved::{Decision, Met, Resolved, Status, WaitCause};

@@ -1,6 +1,0 @@
-use Rattle.std.proofs.Common.{◌≡◌, ◌<◌, ℕ, false, bytes_eq}
-use Rattle.tx_client.specs.two_phase.Buffers.{key_at}
-use Rattle.tx_client.proofs.two_phase.buffer.has_bytes.Given as goal
-
-abbrev pub invariant-loop-i : goal.invariant-loop-i
-invariant-loop-i l = (k : ℕ) → k < l.i → bytes_eq (key_at l.buffer.entries k) l.bytes ≡ false

@@ -1,6 +1,0 @@
-use Rattle.std.proofs.Common.{rules}
-use Rattle.tx_client.proofs.two_phases.Places.{pair_at}
-use Rattle.tx_client.proofs.two_phase.buffer.is_at.Goals as goal
-
-pub returns : goal.returns
-returns c = rw ((pair_at c.args.buffer.now.entries c.args.i (c.in-Some.key.now, c.in-Some.field-0-1.now) c.in-Some.ensures.entry).0) (search rules)

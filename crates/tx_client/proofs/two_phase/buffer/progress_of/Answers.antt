@@ -1,6 +1,0 @@
-use Rattle.std.proofs.Common.{sym}
-use Rattle.tx_client.proofs.two_phases.Places.{pair_at}
-use Rattle.tx_client.proofs.two_phase.buffer.progress_of.Goals as goal
-
-pub returns : goal.returns
-returns c = sym ((pair_at c.args.buffer.now.entries c.args.i (c.in-Some.field-0-0.now, c.in-Some.entry.now) c.in-Some.ensures.entry).2)

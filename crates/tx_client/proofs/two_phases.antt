@@ -1,7 +1,0 @@
-pub mod Places
-pub mod Finding
-pub mod Entries
-pub mod Sessions
-pub mod Due
-pub mod Heard
-pub mod Events
