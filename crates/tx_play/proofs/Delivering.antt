@@ -17,11 +17,8 @@ use Rattle.tx_play.specs.Scenes.{Place, goes, delivered_by, delivers, turn}
 use Rattle.tx_play.specs.Plays.{Leads}
 use Rattle.tx_play.specs.Places.{seat_in, place_of, Held, name_at, scene_with, scene_of, made_in, AreSeated, AllSeated, Goes, GoesTo, Handed, Delivered, Turned}
 use Rattle.tx_play.proofs.Walking.{take_one}
-use Rattle.tx_play.proofs.Keeping.{rested, seated_fewer}
+use Rattle.tx_play.proofs.Keeping.{rested, seated_fewer, known_ticks}
 use Rattle.tx_play.proofs.Turning.{goes_at, asked_leads}
-
-abbrev known_ticks : Known → ℕ
-known_ticks k = k.ticks
 
 module _ (bounds : List Key) (name : List ℕ) where
   held_is : (from : Desk) (o : Option Asked) → request_at from.held name ≡ o → (stage_of from).held name ≡ option_map (λ (r : Asked). r.body) o

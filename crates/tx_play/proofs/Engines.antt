@@ -30,11 +30,8 @@ use Rattle.tx_play.specs.Steps.{Deed, Call, begin, acts, finish, stop, read, tic
 use Rattle.tx_play.specs.Scenes.{free, session, goes, stops, is_name, is_key, delivered_by, asked, at_stage, at_history, seat_at, began, gone, ticked, first_free, lives, at_place, live_at, in_session, deeds, finishes, finishes_by, leaves, turn}
 use Rattle.tx_play.specs.Plays.{Leads}
 use Rattle.tx_play.specs.Places.{Kept, place_of, Held, texts, name_at, scene_with, scene_of, AllSeated, Acts, Serves, Goes, Did, Turned}
-use Rattle.tx_play.proofs.Keeping.{set_here, seated_at, at_place_of, acted, served, rested}
+use Rattle.tx_play.proofs.Keeping.{set_here, seated_at, at_place_of, acted, served, rested, known_ticks}
 use Rattle.tx_play.proofs.Turning.{goes_at, asked_leads}
-
-abbrev known_ticks : Known → ℕ
-known_ticks k = k.ticks
 
 -- a name in the map and in what contracts see of it
 named_in : (entries : List (String Global × ℕ)) (q : List ℕ) → name_at (texts entries) q ≡ lookup (is_at (λ k. slice_cmp nat_cmp q (string_bytes k))) entries

@@ -10,6 +10,9 @@ use Rattle.tx_journal.specs.Known.{Known}
 use Rattle.tx_play.specs.Posts.{made_by}
 use Rattle.tx_play.specs.Places.{Kept, seat_in, Held, made_in, IsSeat, AreSeated, AllSeated, Acts, Serves, Goes}
 
+abbrev pub known_ticks : Known → ℕ
+known_ticks k = k.ticks
+
 -- what is put where it is changes nothing
 pub set_here : {X : Type 0} (xs : List X) (k : ℕ) (x : X) → slice_get xs k ≡ Some x → slice_set xs k x ≡ xs
 set_here [] k x is = refl

@@ -23,7 +23,7 @@ pub enum Act<'a> {
     Heartbeat(u32, Way<&'a str>),
 }
 
-/// A step, over the text of its line: the name of its session first.
+/// A step, over the text of its line: the name of its session or of a held request first, if it has one.
 #[derive(Clone, Copy, Debug)]
 pub enum Step<'a> {
     /// A session begins under the name.
