@@ -17,15 +17,22 @@ Status: 0 well, 2 a fault of the input or the command line, 3 the verdict no, 4 
 static SIMULATE_ABOUT: &str =
     "Run a script of sessions in one thread, and write one reply line a step";
 
-static SIMULATE_HELP: &str = "A script has one step a line, each a JSON array; s names a session:
-  [\"begin\",s]                      Begins a transaction at a new timestamp
-  [\"put\",s,key,value]              Enters a put into its write buffer
-  [\"get\",s,key]                    Reads a key, from its buffer or at its start
-  [\"declare\",s,\"two-phase\",ttl]    Fixes its write set; its locks live ttl ticks
-  [\"prewrite\",s]                   Locks the next key
-  [\"draw\",s]                       Draws its commit timestamp
-  [\"commit\",s]                     Commits the primary, and then each other key
-  [\"finish\",s]                     Tells its outcome, and ends the session
+static SIMULATE_HELP: &str = "A script has one step a line, each a JSON array; s names a session, D is a delivery:
+  [\"regions\",[key,..]]            Line 1 alone: the keys between the regions
+  [\"begin\",s]                     Begins a transaction at a new timestamp
+  [\"put\",s,key,value]             Enters a put into its write buffer, also [\"delete\",s,key], [\"lock\",s,key]
+  [\"get\",s,key] D                 Reads a key, from its buffer or at its start
+  [\"scan\",s,from,to,limit] D      Reads a range at its start
+  [\"declare\",s,\"two-phase\",ttl]   Fixes its write set; its locks live ttl ticks. Also \"async\", and a greatest commit
+  [\"prewrite\",s] D                Locks the next key
+  [\"draw\",s]                      Draws its commit timestamp
+  [\"commit\",s] D                  Commits the primary, and then each other key
+  [\"abort\",s] D                   Rolls the next key back
+  [\"heartbeat\",s,ttl] D           Lets the primary's lock live longer
+  [\"finish\",s], [\"stop\",s]      Tells its outcome; leaves its transaction as it is. The session is gone
+  [\"deliver\",name]                Takes a request that is held
+  [\"read\",key,ts], [\"tick\",n]    Reads a key at a timestamp; draws n ticks
+A delivery is nothing, or \"lose\", \"lose-reply\", \"repeat\", or \"hold\",name
 
 Each reply is the number of the line and the step's words; docs/SCRIPT.md has all replies, refusals and causes.
 
