@@ -29,6 +29,16 @@ abbrev pub buffered : Entries → Key → Option Mutation
 buffered [] k = None
 buffered (e ∷ es) k = cond (bytes_eq e.0 k) (Some e.1.mutation) (buffered es k)
 
+-- a read of a key is answered from the buffer where a put or a delete of it is there
+abbrev pub is_change : Mutation → Bool
+is_change (mutation.Put v) = true
+is_change mutation.Delete = true
+is_change mutation.Lock = false
+
+abbrev pub is_known : Option Mutation → Bool
+is_known None = false
+is_known (Some m) = is_change m
+
 -- the buffer after a put or delete: a key that is there keeps its place
 abbrev pub touched : Entries → Key → Mutation → Entries
 touched es k m = insert_entry bytes_eq es k (fresh m)

@@ -1,8 +1,8 @@
 //! The write buffer: keys in the order in which they were first touched.
-ghost use Rattle.std.specs.Prelude.{◌≡◌, ◌<◌, ◌≤◌, length, IfOk, IfErr, IfSome, OnOk, OnErr, is_some, max, option_map};
+ghost use Rattle.std.specs.Prelude.{◌≡◌, ◌<◌, ◌≤◌, length, IfOk, IfErr, IfSome, OnOk, OnErr, is_some, max, option_map, bytes_eq};
 ghost use Rattle.tx_machine.specs.Keys.{IsDistinct};
 ghost use Rattle.tx_types.specs.declared.mutation.Mode.TheVariants.{Async};
-ghost use Rattle.tx_client.specs.Buffers.{Entries, key_at, mutation_in, progress_at, with_progress, first_place, wants, is_full, not_empty, changes_of, touched, buffered, has_two_phase_lock, async_minimum, promised, is_zero};
+ghost use Rattle.tx_client.specs.Buffers.{Entries, key_at, mutation_in, progress_at, with_progress, first_place, wants, is_full, is_change, is_known, not_empty, changes_of, touched, buffered, has_two_phase_lock, async_minimum, promised, is_zero};
 ghost use Rattle.tx_client.specs.Sessions.{others_at};
 
 use crate::state::{Entry, Phase, Progress};
@@ -44,6 +44,50 @@ pub(crate) fn find<'a>(buffer: &'a Buffer, key: &Key) -> Option<&'a Mutation>
         Some(entry) => Some(&entry.mutation),
         None => None,
     }
+}
+
+// Whether the key at a place has these bytes.
+fn is_at(buffer: &Buffer, i: usize, key: &[u8]) -> bool
+    requires { i < length buffer.now.entries }
+    ensures { result ≡ bytes_eq (key_at buffer.now.entries i) key.now }
+{
+    match buffer.get_index(i) {
+        Some((k, _)) => k.as_bytes() == key,
+        None => unreachable!(),
+    }
+}
+
+// Whether it changes what is read.
+fn is_change(mutation: &Mutation) -> bool
+    ensures { result ≡ is_change mutation.now }
+{
+    match mutation {
+        Mutation::Put(_) | Mutation::Delete => true,
+        Mutation::Lock => false,
+    }
+}
+
+// Whether the key at a place is put or deleted.
+fn is_changed(buffer: &Buffer, i: usize) -> bool
+    requires { i < length buffer.now.entries }
+    ensures { result ≡ is_change (mutation_in buffer.now.entries i) }
+{
+    match buffer.get_index(i) {
+        Some((_, entry)) => is_change(&entry.mutation),
+        None => unreachable!(),
+    }
+}
+
+/// Whether a read of the key of these bytes is answered from the buffer.
+pub(crate) fn is_known(buffer: &Buffer, key: &[u8]) -> bool
+    ensures { result ≡ is_known (buffered buffer.now.entries key.now) }
+{
+    for i in 0..buffer.len() {
+        if is_at(buffer, i, key) {
+            return is_changed(buffer, i);
+        }
+    }
+    false
 }
 
 fn wants_more(phase: Phase, progress: Progress) -> bool

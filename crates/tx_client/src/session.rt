@@ -1,12 +1,12 @@
 //! Sessions: one transaction each, run over a way to the regions.
-ghost use Rattle.std.specs.Prelude.{◌≡◌, ◌<◌, ◌⊎◌, length, true, false, Some, IfOk, IfErr, IfSome, OnOk, OnErr};
+ghost use Rattle.std.specs.Prelude.{◌≡◌, ◌<◌, ◌⊎◌, is_some, length, true, false, Some, IfOk, IfErr, IfSome, OnOk, OnErr};
 ghost use Rattle.tx_types.specs.declared.fault.Fault.TheVariants as fault;
 ghost use Rattle.tx_core.specs.declared.event.Event.TheVariants.{Declared};
 ghost use Rattle.tx_core.specs.Allowed.{Allowed};
 ghost use Rattle.tx_core.specs.Recording.{MayRecord};
 ghost use Rattle.tx_journal.specs.Known.{DrawsNothing};
 ghost use Rattle.tx_client.specs.declared.state.Phase.TheVariants as phase;
-ghost use Rattle.tx_client.specs.Buffers.{touched, locked, is_full};
+ghost use Rattle.tx_client.specs.Buffers.{touched, locked, buffered, is_full, is_known};
 ghost use Rattle.tx_client.specs.Sessions.{begun, is_declared, has_primary, declaration, exceeds, due_prewrite, due_commit, due_abort, can_draw, can_commit, can_abort};
 ghost use Rattle.tx_client.specs.Senders.{IsHeld, IsWay};
 ghost use Rattle.tx_client.specs.Walks.{Sends, due_walk, heartbeat_walk};
@@ -122,6 +122,34 @@ impl<J: Naming> Session<J> {
         ensures { result ≡ can_abort self.now.state }
     {
         self.transaction.can_abort()
+    }
+
+    /// Whether its buffer answers a read of the key of these bytes: where it does, the read sends nothing.
+    pub fn is_known(&self, key: &[u8]) -> bool
+        ensures { result ≡ is_known (buffered self.now.state.buffer key.now) }
+    {
+        self.transaction.is_known(key)
+    }
+
+    /// Whether a prewrite is due.
+    pub fn has_prewrite(&self) -> bool
+        ensures { result ≡ is_some (due_prewrite self.now.state) }
+    {
+        self.transaction.has_prewrite()
+    }
+
+    /// Whether a commit is due.
+    pub fn has_commit(&self) -> bool
+        ensures { result ≡ is_some (due_commit self.now.state) }
+    {
+        self.transaction.has_commit()
+    }
+
+    /// Whether something of an abort is due.
+    pub fn has_abort(&self) -> bool
+        ensures { result ≡ is_some (due_abort self.now.state) }
+    {
+        self.transaction.has_abort()
     }
 
     /// What its seat has seen, to be handed to others.

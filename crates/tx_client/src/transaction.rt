@@ -1,6 +1,6 @@
 //! One transaction, as its client knows it: the rules of a session, without its seat.
 ghost use Rattle.std.specs.Prelude.{◌≡◌, ◌⊎◌, true, false, Ok, Err, IfOk, IfErr, OnOk, OnErr};
-ghost use Rattle.tx_client.specs.Buffers.{touched, locked, buffered, is_full};
+ghost use Rattle.tx_client.specs.Buffers.{touched, locked, buffered, is_full, is_known};
 ghost use Rattle.tx_client.specs.Sessions.{begun, is_declared, has_primary, declaration, exceeds};
 ghost use Rattle.tx_client.specs.declared.state.Miss.TheVariants.{NoMemory};
 ghost use Rattle.tx_client.specs.Walks.{IsBuffered};
@@ -9,7 +9,7 @@ mod fate;
 mod hearing;
 mod requests;
 
-use crate::buffer::{Buffer, changes_in, find, has_keys, is_full, touch};
+use crate::buffer::{Buffer, changes_in, find, has_keys, is_full, is_known, touch};
 use crate::state::{Miss, Terms};
 use indexmap::IndexMap;
 use std::alloc::Global;
@@ -96,6 +96,13 @@ impl Transaction {
             Some(Mutation::Delete) => Some(Ok(Answer::Nothing)),
             _ => None,
         }
+    }
+
+    /// Whether the buffer answers a read of the key of these bytes.
+    pub(crate) fn is_known(&self, key: &[u8]) -> bool
+        ensures { result ≡ is_known (buffered self.now.buffer key.now) }
+    {
+        is_known(&self.buffer, key)
     }
 
     /// Enters a change of a key into the buffer. A key that is there keeps its place.

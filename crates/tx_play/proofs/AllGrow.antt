@@ -21,7 +21,7 @@ use Rattle.tx_lines.specs.declared.reply.Reply.{Reply}
 use Rattle.tx_lines.specs.declared.reply.Reply.TheVariants as reply
 use Rattle.tx_play.specs.Posts.{Course, taken, holding}
 use Rattle.tx_play.specs.Steps.{Deed, put, delete, lock, get, scan, declare, prewrite, draw, commit, abort, heartbeat, course_of, Call, begin, acts, finish, stop, deliver, read, tick}
-use Rattle.tx_play.specs.Scenes.{Scene, Turn, goes, inquires, stops, is_refused, later_of, calls, is_key, is_value, is_name, at_stage, at_history, with_session, began, declared_in, read_by, said_by, asked, sent, runs, runs_to, first_free, live_at, enters, may_go, deeds_by, deeds, delivered_by, delivers, finishes_by, begins_at, in_session, turn}
+use Rattle.tx_play.specs.Scenes.{Scene, Turn, goes, inquires, stops, is_refused, later_of, calls, is_key, is_value, is_name, at_stage, at_history, with_session, began, declared_in, read_by, said_by, asked, sent, runs, runs_to, first_free, live_at, enters, may_go, is_too_many, deeds_by, deeds, delivered_by, delivers, finishes_by, begins_at, in_session, turn}
 use Rattle.tx_play.specs.Plays.{Leads, Played, Plays}
 
 -- Whatever a turn leads to, and wherever it asks a region, h has happened there; it stops at most where `from` has happened.
@@ -106,7 +106,9 @@ module _ (bounds : List Key) where
     deed_by_grows refused k s (heartbeat ttl way) = either h h (has_primary s) _ _ (sends_grow said_by k way refused scene (heartbeat_walk s ttl)) (begins_all h)
 
     deed_grows : (refused : List Bool) (k : ℕ) (s : State) (deed : Deed) → AllGrow h h (deeds refused scene k s bounds deed)
-    deed_grows refused k s deed = either h h (may_go scene.stage (course_of deed)) (deeds_by refused scene k s bounds deed) (stops cause.Name) (deed_by_grows refused k s deed) (begins_all h)
+    deed_grows refused k s deed =
+        either h h (not (may_go scene.stage (course_of deed))) (stops cause.Name) (cond (is_too_many scene.stage s deed) (stops cause.Sessions) (deeds_by refused scene k s bounds deed)) (begins_all h)
+        (either h h (is_too_many scene.stage s deed) (stops cause.Sessions) (deeds_by refused scene k s bounds deed) (begins_all h) (deed_by_grows refused k s deed))
 
     deliver_grows : (refused : List Bool) (o : Option Body) → AllGrow h h (delivers bounds refused scene o)
     deliver_grows refused None = begins_all h

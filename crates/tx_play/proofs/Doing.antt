@@ -1,5 +1,5 @@
 -- What a live session does is its turn.
-use Rattle.std.proofs.Common.{◌≡◌, ◌+◌, ℕ, cond, Bool, true, false, List, [], ◌∷◌, ◌++◌, slice_set, Some, Result, Ok, Err, inl, inr, refl, sym, ap, subst, ◌∙◌}
+use Rattle.std.proofs.Common.{◌≡◌, ◌+◌, ℕ, cond, Bool, true, false, not, List, [], ◌∷◌, ◌++◌, slice_set, Some, Result, Ok, Err, inl, inr, refl, sym, ap, subst, ◌∙◌}
 use Rattle.std.specs.Prelude.{◌⊎◌, OnOk, OnErr, IfErr}
 use Rattle.tx_types.specs.declared.fault.Cause.{Cause}
 use Rattle.tx_types.specs.declared.fault.Cause.TheVariants as cause
@@ -16,7 +16,7 @@ use Rattle.tx_client.specs.Walks.{Walk, Sends}
 use Rattle.tx_lines.specs.declared.reply.Reply.{Reply}
 use Rattle.tx_lines.specs.declared.reply.Reply.TheVariants as reply
 use Rattle.tx_play.specs.Posts.{Course, Desk, Stage, stage_of, with_events, IsSet, Passes}
-use Rattle.tx_play.specs.Scenes.{session, Scene, Turn, goes, stops, calls, at_stage, seat_at, with_session, declared_in, runs_to, enters, entered_by, declares, draws, drew, may_go, deeds_by, deeds}
+use Rattle.tx_play.specs.Scenes.{session, Scene, Turn, goes, stops, calls, at_stage, seat_at, with_session, declared_in, runs_to, enters, entered_by, declares, draws, drew, may_go, is_too_many, deeds_by, deeds}
 use Rattle.tx_play.specs.Steps.{Deed, course_of}
 use Rattle.tx_play.specs.Plays.{Leads}
 use Rattle.tx_play.specs.Places.{scene_with, Acts, Did}
@@ -159,12 +159,21 @@ module _ (bounds : List Key) (turn inner : Deeds) where
   did_as old new from to (Err c) is (same, desk, halts) = (same, desk, λ refused ticks names places k. is refused (scene_with (stage_of from) ticks names places) k refl ∙ halts refused ticks names places k)
 
 module _ (bounds : List Key) (deed : Deed) (old : Seated) (from : Desk) where
+  -- by whether its request may go, and whether it would be one too many that is held
+  abbrev by_tests : Bool → Bool → List Bool → Scene → ℕ → Turn
+  by_tests may many refused scene k = cond (not may) (stops cause.Name) (cond many (stops cause.Sessions) (deeds_by refused scene k old.state bounds deed))
+
   -- a name to hold under that is in use, or no name
   pub held_amiss : may_go (stage_of from) (course_of deed) ≡ false → Did bounds (λ refused scene k s. deeds refused scene k s bounds deed) (Err cause.Name) old old from from
-  held_amiss amiss = (refl, refl, λ refused ticks names places k. ap (λ b. cond b (deeds_by refused (scene_with (stage_of from) ticks names places) k old.state bounds deed) (stops cause.Name)) amiss)
+  held_amiss amiss = (refl, refl, λ refused ticks names places k. ap (λ b. by_tests b (is_too_many (stage_of from) old.state deed) refused (scene_with (stage_of from) ticks names places) k) amiss)
 
-  pub goes_on : may_go (stage_of from) (course_of deed) ≡ true → (new : Seated) (to : Desk) (r : Result Reply Cause) → Did bounds (λ refused scene k s. deeds_by refused scene k s bounds deed) r old new from to
-      → Did bounds (λ refused scene k s. deeds refused scene k s bounds deed) r old new from to
-  goes_on may new to r did =
-      did_as bounds (λ refused scene k s. deeds refused scene k s bounds deed) (λ refused scene k s. deeds_by refused scene k s bounds deed) old new from to r
-      (λ refused scene k at. ap (λ b. cond b (deeds_by refused scene k old.state bounds deed) (stops cause.Name)) (ap (λ s. may_go s (course_of deed)) at ∙ may)) did
+  module _ (may : may_go (stage_of from) (course_of deed) ≡ true) where
+    -- one request too many
+    pub held_many : is_too_many (stage_of from) old.state deed ≡ true → Did bounds (λ refused scene k s. deeds refused scene k s bounds deed) (Err cause.Sessions) old old from from
+    held_many many = (refl, refl, λ refused ticks names places k. λ i. by_tests (may i) (many i) refused (scene_with (stage_of from) ticks names places) k)
+
+    pub goes_on : is_too_many (stage_of from) old.state deed ≡ false → (new : Seated) (to : Desk) (r : Result Reply Cause) → Did bounds (λ refused scene k s. deeds_by refused scene k s bounds deed) r old new from to
+        → Did bounds (λ refused scene k s. deeds refused scene k s bounds deed) r old new from to
+    goes_on few new to r did =
+        did_as bounds (λ refused scene k s. deeds refused scene k s bounds deed) (λ refused scene k s. deeds_by refused scene k s bounds deed) old new from to r
+        (λ refused scene k at. λ i. by_tests ((ap (λ s. may_go s (course_of deed)) at ∙ may) i) ((ap (λ s. is_too_many s old.state deed) at ∙ few) i) refused scene k) did

@@ -39,7 +39,8 @@ fit_set bounds old new name a sets fits all q r is = either_fits bounds (bytes_e
 pub in_use : (m : BTreeMap (String Global) Asked) (q : List ℕ) → is_some (body_at (requests m.entries) q) ≡ is_some (get_by_text m q)
 in_use m q = some_body (request_at (requests m.entries) q) ∙ ap is_some (request_of m q)
 
-length_requests : (entries : List (String Global × Asked)) → length (requests entries) ≡ length entries
+-- as many are seen as are in the map
+pub length_requests : (entries : List (String Global × Asked)) → length (requests entries) ≡ length entries
 length_requests [] = refl
 length_requests (e ∷ es) = ap suc (length_requests es)
 

@@ -2,13 +2,14 @@
 -- its reply.
 use Rattle.std.specs.Prelude.{ℕ, ◌+◌, ◌-◌, ◌&&◌, not, Bool, true, false, List, [], ◌∷◌, length, replicate, nat_eq, nat_le, slice_get, slice_set, Option, Some, None, option_map, is_some, if◌then◌else◌, Result, Ok, Err, bytes_eq}
 use Rattle.std.specs.Map.{update}
-use Rattle.tx_types.specs.declared.limits.TheConstants.{MAX_KEY_BYTES, MAX_NAME_BYTES, MAX_VALUE_BYTES, MIN_KEY_BYTES}
+use Rattle.tx_types.specs.declared.limits.TheConstants.{MAX_HELD_REQUESTS, MAX_KEY_BYTES, MAX_NAME_BYTES, MAX_VALUE_BYTES, MIN_KEY_BYTES}
 use Rattle.tx_types.specs.declared.fault.Fault.{Fault}
 use Rattle.tx_types.specs.declared.fault.Fault.TheVariants as fault
 use Rattle.tx_types.specs.declared.fault.Cause.{Cause}
 use Rattle.tx_types.specs.declared.fault.Cause.TheVariants.{Form, Name, Order, Sessions}
 use Rattle.tx_types.specs.declared.key.Key.{Key}
 use Rattle.tx_types.specs.declared.mutation.Mutation.TheVariants as mutation
+use Rattle.tx_types.specs.Keys.{key_lt}
 use Rattle.tx_plan.specs.declared.body.Body.{Body}
 use Rattle.tx_plan.specs.declared.body.Body.TheVariants as request
 use Rattle.tx_plan.specs.declared.answer.Answer.{Answer}
@@ -22,7 +23,7 @@ use Rattle.tx_client.specs.declared.state.Came.{Came}
 use Rattle.tx_client.specs.declared.state.Came.TheVariants as came
 use Rattle.tx_client.specs.declared.state.Miss.{Miss}
 use Rattle.tx_client.specs.declared.state.Miss.TheVariants as miss
-use Rattle.tx_client.specs.Buffers.{Entries, touched, locked, is_full}
+use Rattle.tx_client.specs.Buffers.{Entries, touched, locked, buffered, is_full, is_known}
 use Rattle.tx_client.specs.Sessions.{State, begun, is_declared, has_primary, exceeds, declaration, due_prewrite, due_commit, due_abort, can_draw, can_commit, can_abort, finish_of}
 use Rattle.tx_client.specs.Walks.{Walk, asks, grows, ends, due_walk, heartbeat_walk, get_walk, scan_walk}
 use Rattle.tx_play.specs.declared.post.Way.TheVariants.{Plain, Lose, LoseReply, Repeat, Hold}
@@ -84,6 +85,25 @@ is_value value = nat_le (length value) MAX_VALUE_BYTES
 abbrev pub may_go : Stage → Course → Bool
 may_go s (Hold name) = is_name name && not (is_some (s.held name))
 may_go s _ = true
+
+-- a request that is to be held would be one too many
+abbrev pub is_crowded : Stage → Course → Bool
+is_crowded s (Hold name) = nat_le MAX_HELD_REQUESTS s.kept
+is_crowded s _ = false
+
+-- whether a session sends a request, by what it does: what its buffer answers is not sent, and neither is what its state does not allow
+abbrev pub sends : State → Deed → Bool
+sends s (get key way) = not (is_known (buffered s.buffer key))
+sends s (scan from to limit way) = key_lt from to
+sends s (prewrite way) = is_declared s && is_some (due_prewrite s)
+sends s (commit way) = can_commit s && is_some (due_commit s)
+sends s (abort way) = can_abort s && is_some (due_abort s)
+sends s (heartbeat ttl way) = has_primary s
+sends s _ = false
+
+-- what a session does would hold one request too many
+abbrev pub is_too_many : Stage → State → Deed → Bool
+is_too_many stage s deed = is_crowded stage (course_of deed) && sends s deed
 
 -- ---- scenes that follow
 
@@ -282,9 +302,12 @@ module _ (refused : List Bool) (scene : Scene) (k : ℕ) (s : State) where
     deeds_by (abort way) = aborts way
     deeds_by (heartbeat ttl way) = beats ttl way
 
-    -- what a live session does, where its request may go as its step says
+    -- what a live session does, where its request may go as its step says, and is not held as one too many
     abbrev pub deeds : Deed → Turn
-    deeds deed = if may_go scene.stage (course_of deed) then deeds_by deed else stops Name
+    deeds deed =
+        if not (may_go scene.stage (course_of deed)) then stops Name
+        else (if is_too_many scene.stage s deed then stops Sessions
+        else deeds_by deed)
 
   -- a session answers its outcome, and is gone
   abbrev pub finishes_by : List ℕ → Option Outcome → Turn

@@ -2,8 +2,8 @@
 //! order, the same calls that may meet want of memory, the same requests, and the same reply.
 ghost use Rattle.std.specs.Prelude.{◌≡◌, ◌<◌};
 ghost use Rattle.tx_play.specs.Places.{Did};
-ghost use Rattle.tx_play.specs.Scenes.{is_key as key_test, is_value as value_test, deeds};
-ghost use Rattle.tx_play.specs.Posts.{by_name};
+ghost use Rattle.tx_play.specs.Scenes.{is_key as key_test, is_value as value_test, sends, is_too_many, deeds_by, deeds};
+ghost use Rattle.tx_play.specs.Posts.{by_name, stage_of};
 ghost use Rattle.tx_play.specs.Steps.{course_of, deed_of};
 
 mod buffer;
@@ -49,19 +49,42 @@ fn way_of<'a>(act: &Act<'a>) -> Way<&'a str>
     }
 }
 
-/// What a live session does. `Name` where its request is to be held under a name that is in use, or not of 1 to 64 bytes.
-pub(crate) fn act<J: Naming, F: Families>(
+// Whether it sends a request.
+fn sends<J: Naming>(session: &Session<J>, act: &Act<'_>) -> bool
+    ensures { result ≡ sends session.now.state (deed_of act.now) }
+{
+    match *act {
+        Act::Get(key, _) => !session.is_known(key.as_bytes()),
+        Act::Scan(from, to, _, _) => from < to,
+        Act::Prewrite(_) => session.is_declared() && session.has_prewrite(),
+        Act::Commit(_) => session.can_commit() && session.has_commit(),
+        Act::Abort(_) => session.can_abort() && session.has_abort(),
+        Act::Heartbeat(_, _) => session.has_primary(),
+        _ => false,
+    }
+}
+
+// Whether it would hold one request too many.
+fn is_too_many<J: Naming, F: Families>(
+    session: &Session<J>,
+    post: &Post<J, F>,
+    act: &Act<'_>,
+) -> bool
+    ensures { result ≡ is_too_many (stage_of post.now) session.now.state (deed_of act.now) }
+{
+    post.is_crowded(way_of(act)) && sends(session, act)
+}
+
+// What a live session does, where its request may go as its step says.
+fn perform<J: Naming, F: Families>(
     alloc: Global,
     session: &mut Session<J>,
     post: &mut Post<J, F>,
     act: &Act<'_>,
 ) -> Result<Reply, Cause>
     requires ticks { 0 < session.old.seat.ticks }
-    ensures { Did J.bounds (λ refused scene k s. deeds refused scene k s J.bounds (deed_of act.now)) result session.old session.new post.old post.new }
+    ensures { Did J.bounds (λ refused scene k s. deeds_by refused scene k s J.bounds (deed_of act.now)) result session.old session.new post.old post.new }
 {
-    if !post.may_go(way_of(act)) {
-        return Err(Cause::Name);
-    }
     match *act {
         Act::Put(key, value) => put(alloc, session, key, value),
         Act::Delete(key) => delete(alloc, session, key),
@@ -82,4 +105,24 @@ pub(crate) fn act<J: Naming, F: Families>(
         Act::Abort(way) => abort(session, post, way),
         Act::Heartbeat(ttl, way) => heartbeat(session, post, ttl, way),
     }
+}
+
+/// What a live session does. `Name` where its request is to be held under a name that is in use, or not of 1 to 64 bytes;
+/// `Sessions` where it would be held as one more than 1,024.
+pub(crate) fn act<J: Naming, F: Families>(
+    alloc: Global,
+    session: &mut Session<J>,
+    post: &mut Post<J, F>,
+    act: &Act<'_>,
+) -> Result<Reply, Cause>
+    requires ticks { 0 < session.old.seat.ticks }
+    ensures { Did J.bounds (λ refused scene k s. deeds refused scene k s J.bounds (deed_of act.now)) result session.old session.new post.old post.new }
+{
+    if !post.may_go(way_of(act)) {
+        return Err(Cause::Name);
+    }
+    if is_too_many(session, post, act) {
+        return Err(Cause::Sessions);
+    }
+    perform(alloc, session, post, act)
 }

@@ -1,15 +1,16 @@
 //! The way to the regions in one thread: a request may be lost, taken twice, or held to be delivered later, and its reply may be lost.
-ghost use Rattle.std.specs.Prelude.{◌≡◌, ◌≤◌, ◌⊎◌, ◌+◌, ℕ, [], List, length, Contains, Some, None, IfNone, IfSome, IfOk, IfErr, OnOk, ◌&&◌, not, cond, is_some, option_map, string_bytes, bytes_eq};
+ghost use Rattle.std.specs.Prelude.{◌≡◌, ◌≤◌, ◌⊎◌, ◌+◌, ℕ, [], List, length, Contains, Some, None, IfNone, IfSome, IfOk, IfErr, OnOk, ◌&&◌, not, cond, nat_le, is_some, option_map, string_bytes, bytes_eq};
 ghost use Rattle.std.specs.Map.{update};
 ghost use Rattle.std.specs.BTreeMap.{get_by_text};
 ghost use Rattle.tx_types.specs.declared.fault.Fault.TheVariants as fault;
+ghost use Rattle.tx_types.specs.declared.limits.TheConstants.{MAX_HELD_REQUESTS};
 ghost use Rattle.tx_core.specs.Worlds.{Holds, route};
 ghost use Rattle.tx_journal.specs.Known.{Known, AreRising};
 ghost use Rattle.tx_journal.specs.Replies.{Asked, Given};
 ghost use Rattle.tx_client.specs.Senders.{IsHeld};
 ghost use Rattle.tx_play.specs.declared.post.Way.TheVariants as ways;
 ghost use Rattle.tx_play.specs.Posts.{AreNumbered, AllFit, region_for, by_name, IsHold, IsSet, request_at, Taken, Hands, Twice, IsUntaken, HeldUnder, IsDone, stage_of};
-ghost use Rattle.tx_play.specs.Scenes.{may_go, is_name as name_test};
+ghost use Rattle.tx_play.specs.Scenes.{may_go, is_crowded, is_name as name_test};
 
 use std::alloc::Global;
 use std::collections::BTreeMap;
@@ -19,7 +20,7 @@ use tx_client::{Lost, Sender};
 use tx_core::{Answer, Body};
 use tx_journal::{Journal, Naming, Reply, Request, Seat, Told};
 use tx_region::{Region, route};
-use tx_types::limits::MAX_NAME_BYTES;
+use tx_types::limits::{MAX_HELD_REQUESTS, MAX_NAME_BYTES};
 use tx_types::{Fault, Key};
 
 /// What becomes of the requests that are sent.
@@ -257,6 +258,23 @@ impl<J: Naming, F: Families> Post<J, F> {
         match way {
             Way::Hold(name) => self.is_free(name),
             _ => true,
+        }
+    }
+
+    // Whether as many requests are held as may be.
+    fn is_full(&self) -> bool
+        ensures { result ≡ nat_le MAX_HELD_REQUESTS (stage_of self.now).kept }
+    {
+        self.held.len() >= MAX_HELD_REQUESTS
+    }
+
+    /// Whether a request that is to be held would be one too many.
+    pub(crate) fn is_crowded(&self, way: Way<&str>) -> bool
+        ensures { result ≡ is_crowded (stage_of self.now) (by_name (λ n. n.now) way.entry) }
+    {
+        match way {
+            Way::Hold(_) => self.is_full(),
+            _ => false,
         }
     }
 

@@ -66,6 +66,16 @@ impl Transaction {
         Ok(Some(Due { place, body }))
     }
 
+    /// Whether a prewrite is due.
+    pub(crate) fn has_prewrite(&self) -> bool
+        ensures { result ≡ is_some (due_prewrite self.now) }
+    {
+        if self.declared.is_none() {
+            return false;
+        }
+        place_of(&self.buffer, Phase::Prewrite).is_some()
+    }
+
     // The commit of the key at a place, if there is one.
     fn commit_at(&self, place: Option<usize>, commit: Ts) -> Result<Option<Due>, Fault>
         requires { IfSome place (λ i. i < length self.now.buffer) }
@@ -103,6 +113,20 @@ impl Transaction {
                 self.commit_at(place_of(&self.buffer, Phase::Commit), commit)
             }
             Some(Fate::Aborted) => Ok(None),
+        }
+    }
+
+    /// Whether a commit is due.
+    pub(crate) fn has_commit(&self) -> bool
+        ensures { result ≡ is_some (due_commit self.now) }
+    {
+        if !self.has_primary() {
+            return false;
+        }
+        match self.decision {
+            None => self.drawn.is_some(),
+            Some(Fate::Committed(_)) => place_of(&self.buffer, Phase::Commit).is_some(),
+            Some(Fate::Aborted) => false,
         }
     }
 
@@ -171,6 +195,33 @@ impl Transaction {
             None => self.abort_open(),
             Some(Fate::Committed(_)) => Ok(None),
             Some(Fate::Aborted) => self.rollback_at(place_of(&self.buffer, Phase::Abort)),
+        }
+    }
+
+    // Whether something that may decide is due.
+    fn has_open(&self) -> bool
+        ensures { result ≡ is_some (abort_open self.now self.now.declared (not_empty self.now.buffer)) }
+    {
+        let Some(terms) = self.declared else {
+            return false;
+        };
+        if !has_keys(&self.buffer) {
+            return false;
+        }
+        match terms.mode {
+            Mode::TwoPhase => true,
+            Mode::Async => place_of(&self.buffer, Phase::Prewrite).is_some(),
+        }
+    }
+
+    /// Whether something of an abort is due.
+    pub(crate) fn has_abort(&self) -> bool
+        ensures { result ≡ is_some (due_abort self.now) }
+    {
+        match self.decision {
+            None => self.has_open(),
+            Some(Fate::Committed(_)) => false,
+            Some(Fate::Aborted) => place_of(&self.buffer, Phase::Abort).is_some(),
         }
     }
 

@@ -1,65 +1,18 @@
-use Rattle.std.proofs.Common.{◌≡◌, true, List, Result, sym, ap, subst, ◌∙◌}
-use Rattle.tx_types.specs.declared.fault.Cause.{Cause}
-use Rattle.tx_types.specs.declared.key.Key.{Key}
-use Rattle.tx_client.specs.Calls.{Seated}
-use Rattle.tx_play.specs.declared.step.Act.{Act}
-use Rattle.tx_lines.specs.declared.reply.Reply.{Reply}
-use Rattle.tx_play.specs.Posts.{Desk, stage_of}
-use Rattle.tx_play.specs.Scenes.{may_go, deeds_by, deeds}
-use Rattle.tx_play.specs.Steps.{course_of, deed_of}
-use Rattle.tx_play.specs.Places.{Did}
-use Rattle.tx_play.proofs.Doing.{held_amiss, goes_on}
+use Rattle.std.proofs.Common.{sym, ap, ◌∙◌}
+use Rattle.tx_play.specs.Posts.{stage_of}
+use Rattle.tx_play.specs.Scenes.{may_go}
+use Rattle.tx_play.specs.Steps.{deed_of}
+use Rattle.tx_play.proofs.Doing.{held_amiss, held_many, goes_on}
 use Rattle.tx_play.proofs.deeds.act.Goals as goal
-
--- what it did, it did of the act that this is
-is_act : (bounds : List Key) (act named : Act) (r : Result Reply Cause) (old new : Seated) (from to : Desk) → may_go (stage_of from) (course_of (deed_of act)) ≡ true → act ≡ named
-    → Did bounds (λ refused scene k s. deeds_by refused scene k s bounds (deed_of named)) r old new from to → Did bounds (λ refused scene k s. deeds refused scene k s bounds (deed_of act)) r old new from to
-is_act bounds act named r old new from to may is did =
-    goes_on bounds (deed_of act) old from may new to r (subst (λ a. Did bounds (λ refused scene k s. deeds_by refused scene k s bounds (deed_of a)) r old new from to) (sym is) did)
 
 pub returns-then-not-may_go : goal.returns-then-not-may_go
 returns-then-not-may_go g c = held_amiss g.J.Naming.bounds (deed_of c.args.act.now) c.args.session.now c.args.post.now (ap (may_go (stage_of c.args.post.now)) (sym c.way_of.ensures) ∙ sym c.if-not-may_go.ensures)
 
-pub returns-in-Put : goal.returns-in-Put
-returns-in-Put g c =
-    is_act g.J.Naming.bounds c.args.act.now _ c.put.result c.args.session.now c.put.new.session c.args.post.now c.args.post.now (ap (may_go (stage_of c.args.post.now)) (sym c.way_of.ensures) ∙ sym c.if-not-may_go.ensures) c.in-Put.is (c.put.ensures c.args.post.now)
+pub returns-then-is_too_many : goal.returns-then-is_too_many
+returns-then-is_too_many g c =
+    held_many g.J.Naming.bounds (deed_of c.args.act.now) c.args.session.now c.args.post.now (ap (may_go (stage_of c.args.post.now)) (sym c.way_of.ensures) ∙ sym c.if-not-may_go.ensures) (sym c.if-is_too_many.ensures)
 
-pub returns-in-Delete : goal.returns-in-Delete
-returns-in-Delete g c =
-    is_act g.J.Naming.bounds c.args.act.now _ c.delete.result c.args.session.now c.delete.new.session c.args.post.now c.args.post.now (ap (may_go (stage_of c.args.post.now)) (sym c.way_of.ensures) ∙ sym c.if-not-may_go.ensures) c.in-Delete.is (c.delete.ensures c.args.post.now)
-
-pub returns-in-Lock : goal.returns-in-Lock
-returns-in-Lock g c =
-    is_act g.J.Naming.bounds c.args.act.now _ c.lock.result c.args.session.now c.lock.new.session c.args.post.now c.args.post.now (ap (may_go (stage_of c.args.post.now)) (sym c.way_of.ensures) ∙ sym c.if-not-may_go.ensures) c.in-Lock.is (c.lock.ensures c.args.post.now)
-
-pub returns-in-Get : goal.returns-in-Get
-returns-in-Get g c =
-    is_act g.J.Naming.bounds c.args.act.now _ c.get.result c.args.session.now c.get.new.session c.args.post.now c.get.new.post (ap (may_go (stage_of c.args.post.now)) (sym c.way_of.ensures) ∙ sym c.if-not-may_go.ensures) c.in-Get.is c.get.ensures
-
-pub returns-in-Scan : goal.returns-in-Scan
-returns-in-Scan g c =
-    is_act g.J.Naming.bounds c.args.act.now _ c.scan.result c.args.session.now c.scan.new.session c.args.post.now c.scan.new.post (ap (may_go (stage_of c.args.post.now)) (sym c.way_of.ensures) ∙ sym c.if-not-may_go.ensures) c.in-Scan.is c.scan.ensures
-
-pub returns-in-Declare : goal.returns-in-Declare
-returns-in-Declare g c =
-    is_act g.J.Naming.bounds c.args.act.now _ c.declare.result c.args.session.now c.declare.new.session c.args.post.now c.declare.new.post (ap (may_go (stage_of c.args.post.now)) (sym c.way_of.ensures) ∙ sym c.if-not-may_go.ensures) c.in-Declare.is c.declare.ensures
-
-pub returns-in-Prewrite : goal.returns-in-Prewrite
-returns-in-Prewrite g c =
-    is_act g.J.Naming.bounds c.args.act.now _ c.prewrite.result c.args.session.now c.prewrite.new.session c.args.post.now c.prewrite.new.post (ap (may_go (stage_of c.args.post.now)) (sym c.way_of.ensures) ∙ sym c.if-not-may_go.ensures) c.in-Prewrite.is c.prewrite.ensures
-
-pub returns-in-Draw : goal.returns-in-Draw
-returns-in-Draw g c =
-    is_act g.J.Naming.bounds c.args.act.now _ c.draw.result c.args.session.now c.draw.new.session c.args.post.now c.draw.new.post (ap (may_go (stage_of c.args.post.now)) (sym c.way_of.ensures) ∙ sym c.if-not-may_go.ensures) c.in-Draw.is c.draw.ensures
-
-pub returns-in-Commit : goal.returns-in-Commit
-returns-in-Commit g c =
-    is_act g.J.Naming.bounds c.args.act.now _ c.commit.result c.args.session.now c.commit.new.session c.args.post.now c.commit.new.post (ap (may_go (stage_of c.args.post.now)) (sym c.way_of.ensures) ∙ sym c.if-not-may_go.ensures) c.in-Commit.is c.commit.ensures
-
-pub returns-in-Abort : goal.returns-in-Abort
-returns-in-Abort g c =
-    is_act g.J.Naming.bounds c.args.act.now _ c.abort.result c.args.session.now c.abort.new.session c.args.post.now c.abort.new.post (ap (may_go (stage_of c.args.post.now)) (sym c.way_of.ensures) ∙ sym c.if-not-may_go.ensures) c.in-Abort.is c.abort.ensures
-
-pub returns-in-Heartbeat : goal.returns-in-Heartbeat
-returns-in-Heartbeat g c =
-    is_act g.J.Naming.bounds c.args.act.now _ c.heartbeat.result c.args.session.now c.heartbeat.new.session c.args.post.now c.heartbeat.new.post (ap (may_go (stage_of c.args.post.now)) (sym c.way_of.ensures) ∙ sym c.if-not-may_go.ensures) c.in-Heartbeat.is c.heartbeat.ensures
+pub returns : goal.returns
+returns g c =
+    goes_on g.J.Naming.bounds (deed_of c.args.act.now) c.args.session.now c.args.post.now (ap (may_go (stage_of c.args.post.now)) (sym c.way_of.ensures) ∙ sym c.if-not-may_go.ensures) (sym c.if-is_too_many.ensures)
+    c.perform.new.session c.perform.new.post c.perform.result c.perform.ensures
