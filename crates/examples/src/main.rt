@@ -8,9 +8,12 @@ use std::fs;
 use std::rt::Files;
 use tx_script::{check, simulate};
 
-const SCRIPTS: [&str; 3] = [
+const SCRIPTS: [&str; 6] = [
     "commit_then_read.script",
+    "late_prewrite_is_refused.script",
+    "lost_reply.script",
     "truncated_script.script",
+    "two_regions.script",
     "write_conflict.script",
 ];
 

@@ -17,7 +17,8 @@ Status: 0 well, 2 a fault of the input or the command line, 3 the verdict no, 4 
 static SIMULATE_ABOUT: &str =
     "Run a script of sessions in one thread, and write one reply line a step";
 
-static SIMULATE_HELP: &str = "A script has one step a line, each a JSON array; s names a session, D is a delivery:
+static SIMULATE_HELP: &str =
+    "A script has one step a line, each a JSON array; s names a session, D is a delivery:
   [\"regions\",[key,..]]            Line 1 alone: the keys between the regions
   [\"begin\",s]                     Begins a transaction at a new timestamp
   [\"put\",s,key,value]             Enters a put into its write buffer, also [\"delete\",s,key], [\"lock\",s,key]

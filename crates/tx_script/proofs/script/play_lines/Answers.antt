@@ -122,10 +122,8 @@ pub lines-preserved : goal.lines-preserved
 lines-preserved g c =
     let goes : Goes g.J.Naming.bounds c.lines.engine c.play_found.new.engine (FoundTurned g.J.Naming.bounds (c.lines.number + 1) c.lines.found c.lines.line.items (turned.Goes c.in-Goes.reply) c.lines.engine c.play_found.new.engine) = subst (λ l. Goes g.J.Naming.bounds c.lines.engine c.play_found.new.engine (FoundTurned g.J.Naming.bounds (c.lines.number + 1) c.lines.found l (turned.Goes c.in-Goes.reply) c.lines.engine c.play_found.new.engine)) c.as_slice.ensures.value (rw c.in-Goes.is at c.in_ok-play_found.ensures.goes) in
     let fits : FitsFound c.lines.found (turned.Goes c.in-Goes.reply) = rw c.in-Goes.is at c.in_ok-play_found.ensures.fits in
-    let some : c.lines.number + 1 ≤ MAX_LINES = c.in_ok-play_found.ensures.early c.in-Goes.reply c.in-Goes.is in
-    (
-        still g.J.Naming.bounds c.lines.number c.lines.engine c.play_found.new.engine c.lines.invariant.0 _ goes some,
-        some,
-        on_next g.J.Naming.bounds c.args.first c.args.line.now.items (g.R.Read.remaining c.args.reader.now) (g.W.Write.contents c.args.writer.now) c.lines.found c.lines.line.items (g.R.Read.remaining c.lines.reader) (g.W.Write.contents c.lines.writer) c.lines.number c.lines.engine c.lines.invariant.2 c.play_found.new.engine c.lines.invariant.0 c.in-Goes.reply goes fits (g.W.Write.contents c.tell.new.writer) c.in_ok-tell-in-Goes.ensures.all c.in_ok-found.found c.read_line.new.line.items (g.R.Read.remaining c.read_line.new.reader) c.in_ok-found.ensures.reads,
+    let some : c.lines.number + 1 ≤ MAX_LINES = c.in_ok-play_found.ensures.early c.in-Goes.reply c.in-Goes.is in (
+      still g.J.Naming.bounds c.lines.number c.lines.engine c.play_found.new.engine c.lines.invariant.0 _ goes some,
+      some,
+      on_next g.J.Naming.bounds c.args.first c.args.line.now.items (g.R.Read.remaining c.args.reader.now) (g.W.Write.contents c.args.writer.now) c.lines.found c.lines.line.items (g.R.Read.remaining c.lines.reader) (g.W.Write.contents c.lines.writer) c.lines.number c.lines.engine c.lines.invariant.2 c.play_found.new.engine c.lines.invariant.0 c.in-Goes.reply goes fits (g.W.Write.contents c.tell.new.writer) c.in_ok-tell-in-Goes.ensures.all c.in_ok-found.found c.read_line.new.line.items (g.R.Read.remaining c.read_line.new.reader) c.in_ok-found.ensures.reads,
     )
-

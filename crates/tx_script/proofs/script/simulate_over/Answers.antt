@@ -7,7 +7,7 @@ returns-clause-ends g c =
     let s = c.settle-told.ensures in
     then_ok _ _ c.play_lines-end.result x.ends
     (λ end h lines a. ends_lines g.J.Naming.bounds c.play_lines-end.new.engine g.J.Naming.seats x.kept.size x.kept.seated s.settled c.settle-told.result s.told c.show.ensures c.requires.seats
-        lines (g.W.Write.contents c.args.writer.now) (g.W.Write.contents c.play_lines-end.new.writer) end (λ le. h le lines a))
+    lines (g.W.Write.contents c.args.writer.now) (g.W.Write.contents c.play_lines-end.new.writer) end (λ le. h le lines a))
 
 pub returns-clause-breaks : goal.returns-clause-breaks
 returns-clause-breaks g c =
@@ -15,4 +15,4 @@ returns-clause-breaks g c =
     let s = c.settle-told.ensures in
     then_err _ _ c.play_lines-end.result x.breaks
     (λ why h lines a. breaks_lines g.J.Naming.bounds c.play_lines-end.new.engine g.J.Naming.seats x.kept.size x.kept.seated s.settled c.settle-told.result s.told c.show.ensures c.requires.seats
-        lines (g.W.Write.contents c.args.writer.now) (g.W.Write.contents c.play_lines-end.new.writer) why (λ le. h le lines a))
+    lines (g.W.Write.contents c.args.writer.now) (g.W.Write.contents c.play_lines-end.new.writer) why (λ le. h le lines a))
