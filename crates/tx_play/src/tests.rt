@@ -9,7 +9,7 @@ use crate::post::Way::{Hold, Lose, LoseReply, Plain, Repeat};
 use crate::step::Act::{
     Abort, Commit, Declare, Delete, Draw, Get, Heartbeat, Lock, Prewrite, Put, Scan,
 };
-use crate::step::Step::{Act, Begin, Deliver, Finish, Read, Stop, Tick};
+use crate::step::Step::{Act, Begin, Deliver, Finish, Gc, Read, Resolve, Stop, Tick};
 use crate::step::{Reply, Step};
 use crate::words::{Said, by_end, by_reply};
 use std::alloc::Global;
@@ -115,6 +115,32 @@ const CONFLICTS_SAY: [Said; 18] = [
     ("start", 5),
     ("none", 0),
     ("ended read-only", 0),
+];
+
+// What the steps of `resolved_agrees` reply: an async transaction that was left after all its prewrites is live for a time, and is then
+// committed; one that was left before its second prewrite is rolled back.
+const RESOLVED_SAY: [Said; 21] = [
+    ("start", 1),
+    ("ok", 0),
+    ("ok", 0),
+    ("ok", 0),
+    ("prewritten", 2),
+    ("prewritten", 2),
+    ("ok", 0),
+    ("start", 2),
+    ("E1", 1),
+    ("status live", 0),
+    ("status committed", 2),
+    ("value", 7),
+    ("E1", 6),
+    ("status committed", 2),
+    ("value", 8),
+    ("last", 52),
+    ("E8", 52),
+    ("collected", 0),
+    ("start", 53),
+    ("none", 0),
+    ("ok", 0),
 ];
 
 // What the steps of `held_agrees` reply.
@@ -258,6 +284,35 @@ fn held_agrees(alloc: Global) -> bool {
     agrees(alloc, &steps, &HELD_SAY, "name")
 }
 
+// What was left is resolved; then old versions are collected. A session that met no lock has none resolved.
+fn resolved_agrees(alloc: Global) -> bool {
+    let steps = [
+        Begin("a"),
+        Act("a", Put("1", "7")),
+        Act("a", Put("6", "8")),
+        Act("a", Declare(Async, 10, None)),
+        Act("a", Prewrite(Plain)),
+        Act("a", Prewrite(Plain)),
+        Stop("a"),
+        Begin("b"),
+        Act("b", Get("1", Plain)),
+        Resolve("b", Ts::new(11)),
+        Resolve("b", Ts::new(12)),
+        Act("b", Get("1", Plain)),
+        Act("b", Get("6", Plain)),
+        Resolve("b", Ts::new(12)),
+        Act("b", Get("6", Plain)),
+        Tick(50),
+        Gc(Ts::new(99)),
+        Gc(Ts::new(52)),
+        Begin("c"),
+        Act("c", Get("2", Plain)),
+        Act("c", Lock("2")),
+        Resolve("c", Ts::new(99)),
+    ];
+    agrees(alloc, &steps, &RESOLVED_SAY, "order")
+}
+
 // The first script that does not reply as expected.
 fn first_wrong(alloc: Global) -> &'static str {
     if !agrees(alloc, &COMMITS, &COMMITS_SAY, "well") {
@@ -268,6 +323,9 @@ fn first_wrong(alloc: Global) -> &'static str {
     }
     if !held_agrees(alloc) {
         return "held";
+    }
+    if !resolved_agrees(alloc) {
+        return "resolved";
     }
     if !agrees(alloc, &TICKS, &TICKS_SAY, "form") {
         return "ticks";

@@ -1,5 +1,6 @@
 //! What replies say, in a word and a number. Keys and values are single digits here.
 use crate::step::{Broken, End, Reply};
+use tx_client::{Status, WaitCause};
 use tx_core::{Answer, Outcome, UnknownCause};
 use tx_types::{Cause, KeyValues};
 
@@ -61,6 +62,16 @@ fn by_outcome(outcome: Outcome) -> Said {
     }
 }
 
+fn by_status(status: Status) -> Said {
+    match status {
+        Status::Committed(commit) => ("status committed", commit.get()),
+        Status::Aborted => ("status aborted", 0),
+        Status::Pushed(minimum) => ("status pushed", minimum.get()),
+        Status::Waiting(WaitCause::Live) => ("status live", 0),
+        Status::Waiting(_) => ("status waiting", 0),
+    }
+}
+
 /// A reply: a lock in the way by its key.
 pub fn by_reply(reply: &Reply) -> Said {
     match reply {
@@ -75,6 +86,11 @@ pub fn by_reply(reply: &Reply) -> Said {
             by_outcome(outcome)
         }
         Reply::Lost => ("lost", 0),
+        Reply::Status(status) => by_status(*status),
+        Reply::Collected { records, values } => {
+            ("collected", records.wrapping_mul(10).wrapping_add(*values))
+        }
+        Reply::Regions(_) | Reply::Versions(_) => ("other", 0),
         Reply::OracleSpent => ("E11", 0),
         Reply::OutOfMemory => ("E12", 0),
         Reply::KeyLength => ("E13", 0),
