@@ -17,8 +17,7 @@ use Rattle.tx_client.specs.Buffers.{Entries, is_full}
 use Rattle.tx_client.specs.Sessions.{State, is_declared, has_primary, exceeds, declaration, can_draw, can_commit, can_abort, finish_of}
 use Rattle.tx_client.specs.declared.state.Terms.{Terms}
 use Rattle.tx_client.specs.Walks.{Walk, asks, grows, ends, get_walk, scan_walk, heartbeat_walk}
-use Rattle.tx_resolve.specs.declared.found.For.TheVariants.{Reader}
-use Rattle.tx_resolve.specs.Resolving.{resolve_walk}
+use Rattle.tx_resolve.specs.Reading.{read_walk}
 use Rattle.tx_resolve.specs.Collecting.{gc_walk}
 use Rattle.tx_play.specs.declared.post.Way.TheVariants.{Plain, Lose, LoseReply, Repeat, Hold}
 use Rattle.tx_lines.specs.declared.reply.Reply.{Reply}
@@ -131,8 +130,8 @@ module _ (bounds : List Key) where
     resolve_grows : (refused : List Bool) (k : ℕ) (s : State) (now : ℕ) (o : Option LockInfo) → AllGrow h h (resolves_by bounds refused scene k s now o)
     resolve_grows refused k s now None = begins_all h
     resolve_grows refused k s now (Some met) =
-        calls_grow refused (λ left. runs bounds Plain left scene (resolve_walk met (Reader s.start now)) (λ found next rest. learns next k s met found rest))
-        (λ left. runs_grow bounds h Plain left scene (resolve_walk met (Reader s.start now)) (λ found next rest. learns next k s met found rest)
+        calls_grow refused (λ left. runs bounds Plain left scene (read_walk met s.start now) (λ found next rest. learns next k s met found rest))
+        (λ left. runs_grow bounds h Plain left scene (read_walk met s.start now) (λ found next rest. learns next k s met found rest)
         (λ found next rest. either h next.stage.history (is_refused rest) _ _ (begins_all next.stage.history) (begins_all next.stage.history)))
 
     pub turn_grows : (refused : List Bool) (step : Call) → AllGrow scene.stage.history scene.stage.history (turn bounds refused step scene)

@@ -13,8 +13,7 @@ use Rattle.tx_client.specs.Calls.{Seated, HasHeard}
 use Rattle.tx_client.specs.Sessions.{with_passed}
 use Rattle.tx_client.specs.Statuses.{Found, lies_above}
 use Rattle.tx_resolve.specs.declared.collector.Counts.{Counts}
-use Rattle.tx_resolve.specs.declared.found.For.TheVariants.{Reader}
-use Rattle.tx_resolve.specs.Resolving.{resolve_walk}
+use Rattle.tx_resolve.specs.Reading.{read_walk}
 use Rattle.tx_resolve.specs.Collecting.{gc_walk}
 use Rattle.tx_lines.specs.declared.reply.Reply.{Reply}
 use Rattle.tx_lines.specs.declared.reply.Reply.TheVariants as reply
@@ -59,7 +58,7 @@ module _ (bounds : List Key) (now : ℕ) where
 
   module _ (old new : Seated) (k m : Known) (from to : Desk) (met : LockInfo) (some : old.state.met ≡ Some met) (f : Found) (start : f.start ≡ met.start) (said : Reply) where
     abbrev Ran : Type 0
-    Ran = Runs bounds (Some Plain) (stage_of from) (resolve_walk met (Reader old.state.start now)) f.status (stage_of to)
+    Ran = Runs bounds (Some Plain) (stage_of from) (read_walk met old.state.start now) f.status (stage_of to)
 
     abbrev Then : Type 0
     Then = SessionGoes bounds (λ refused scene j s. resolves bounds refused scene j s now) old.seat.seat old.state new.state (stage_of from) (stage_of to) said
@@ -70,7 +69,7 @@ module _ (bounds : List Key) (now : ℕ) where
     by_bit run bit told next is there same ticks names places j number at =
         let scene = scene_with (stage_of from) ticks names places in
         let last = scene_with (stage_of to) ticks names (slice_set places j (session new.state)) in
-        let led = runs_lead bounds (λ later n t left. (n ≡ last) × (t ≡ said) × (left ≡ later)) Plain (resolve_walk met (Reader old.state.start now)) scene f.status (stage_of to) run (λ found n rest. learns n j old.state met found rest) in (
+        let led = runs_lead bounds (λ later n t left. (n ≡ last) × (t ≡ said) × (left ≡ later)) Plain (read_walk met old.state.start now) scene f.status (stage_of to) run (λ found n rest. learns n j old.state met found rest) in (
           false ∷ (led.0 ++ bit ∷ []),
           λ later.
               let goal = Leads bounds (λ n t left. (n ≡ last) × (t ≡ said) × (left ≡ later)) (λ c. ⊥) in

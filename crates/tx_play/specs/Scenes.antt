@@ -30,8 +30,7 @@ use Rattle.tx_client.specs.Sessions.{State, begun, is_declared, has_primary, exc
 use Rattle.tx_client.specs.Statuses.{lies_above}
 use Rattle.tx_client.specs.Walks.{Walk, asks, grows, ends, due_walk, heartbeat_walk, get_walk, scan_walk}
 use Rattle.tx_resolve.specs.declared.collector.Counts.{Counts}
-use Rattle.tx_resolve.specs.declared.found.For.TheVariants.{Reader}
-use Rattle.tx_resolve.specs.Resolving.{resolve_walk}
+use Rattle.tx_resolve.specs.Reading.{read_walk}
 use Rattle.tx_resolve.specs.Collecting.{gc_walk}
 use Rattle.tx_play.specs.declared.post.Way.TheVariants.{Plain, Lose, LoseReply, Repeat, Hold}
 use Rattle.tx_lines.specs.declared.reply.Reply.{Reply}
@@ -316,18 +315,22 @@ module _ (bounds : List Key) where
   -- the lock that was met last is resolved for the session's reads, at a time
   abbrev pub resolves_by : List Bool → Scene → ℕ → State → ℕ → Option LockInfo → Turn
   resolves_by refused scene k s now None = stops Order
-  resolves_by refused scene k s now (Some met) = calls refused scene (λ left. runs bounds Plain left scene (resolve_walk met (Reader s.start now)) (λ found next rest. learns next k s met found rest))
+  resolves_by refused scene k s now (Some met) = calls refused scene (λ left. runs bounds Plain left scene (read_walk met s.start now) (λ found next rest. learns next k s met found rest))
 
   abbrev pub resolves : List Bool → Scene → ℕ → State → ℕ → Turn
   resolves refused scene k s now = resolves_by refused scene k s now s.met
 
+-- the refusal of a safe point, or of memory
+abbrev pub refused_as : Fault → Reply
+refused_as (fault.BelowSafePoint safe) = reply.Answered (answer.BelowSafePoint safe)
+refused_as (fault.FutureTimestamp last) = reply.Answered (answer.FutureTimestamp last)
+refused_as _ = reply.OutOfMemory
+
 -- what a collection gives: the sums, or the refusal that ended it
 abbrev pub collected_as : Result Counts Fault → Reply
 collected_as (Ok counts) = reply.Collected counts.records counts.values
-collected_as (Err (fault.BelowSafePoint safe)) = reply.Answered (answer.BelowSafePoint safe)
-collected_as (Err (fault.FutureTimestamp last)) = reply.Answered (answer.FutureTimestamp last)
 collected_as (Err (fault.LocksRemain met)) = reply.Answered (answer.LocksRemain met)
-collected_as (Err _) = reply.OutOfMemory
+collected_as (Err e) = refused_as e
 
 -- old versions are collected at a safe point
 abbrev pub collects : List Key → List Bool → Scene → ℕ → Turn

@@ -1,13 +1,12 @@
 //! What resolves locks and collects old versions: the seat for what no session does, by a way that loses nothing.
 ghost use Rattle.std.specs.Prelude.{◌≡◌, ◌<◌, length, Some};
 ghost use Rattle.tx_client.specs.Senders.{IsWay};
-ghost use Rattle.tx_resolve.specs.declared.found.For.TheVariants.{Reader as reader};
 ghost use Rattle.tx_resolve.specs.Collecting.{gc_walk};
-ghost use Rattle.tx_resolve.specs.Resolving.{resolve_walk};
+ghost use Rattle.tx_resolve.specs.Reading.{read_walk};
 ghost use Rattle.tx_play.specs.declared.post.Way.TheVariants as ways;
 ghost use Rattle.tx_play.specs.Places.{Learnt, Resolves, Serves};
 ghost use Rattle.tx_play.specs.Posts.{stage_of, Runs};
-ghost use Rattle.tx_play.specs.Scenes.{collected_as as said_of};
+ghost use Rattle.tx_play.specs.Scenes.{collected_as as collected_so, refused_as as refused_so};
 
 use crate::post::Post;
 use crate::step::Reply;
@@ -70,7 +69,7 @@ fn find<J: Naming, F: Families>(
 ) -> Resolved<J>
     ensures start { result.start ≡ met.info.start }
     ensures ticks { clerk.new.ticks ≡ clerk.old.ticks }
-    ensures serves { Serves clerk.old clerk.new direct.old.post direct.new.post (Runs J.bounds (Some ways.Plain) (stage_of direct.old.post) (resolve_walk met.info (reader at now)) result.status (stage_of direct.new.post)) }
+    ensures serves { Serves clerk.old clerk.new direct.old.post direct.new.post (Runs J.bounds (Some ways.Plain) (stage_of direct.old.post) (read_walk met.info at now) result.status (stage_of direct.new.post)) }
 {
     let (info, told) = met.into_parts();
     clerk.learn(told);
@@ -122,18 +121,27 @@ pub(crate) fn gc_at<J: Naming, F: Families>(
     gc(clerk, safe, direct)
 }
 
+// The refusal of a safe point, or of memory.
+fn refused_as(fault: &Fault) -> Reply
+    ensures { result ≡ refused_so fault.now }
+{
+    match fault {
+        Fault::BelowSafePoint { safe } => Reply::Answered(Answer::BelowSafePoint { safe: *safe }),
+        Fault::FutureTimestamp { last } => Reply::Answered(Answer::FutureTimestamp { last: *last }),
+        _ => Reply::OutOfMemory,
+    }
+}
+
 /// What a collection gives: the sums, or the refusal that ended it.
 pub(crate) fn collected_as(collected: Result<Counts, Fault>) -> Reply
-    ensures { result ≡ said_of collected }
+    ensures { result ≡ collected_so collected }
 {
     match collected {
         Ok(counts) => Reply::Collected {
             records: counts.records,
             values: counts.values,
         },
-        Err(Fault::BelowSafePoint { safe }) => Reply::Answered(Answer::BelowSafePoint { safe }),
-        Err(Fault::FutureTimestamp { last }) => Reply::Answered(Answer::FutureTimestamp { last }),
         Err(Fault::LocksRemain(met)) => Reply::Answered(Answer::LocksRemain(met)),
-        Err(_) => Reply::OutOfMemory,
+        Err(other) => refused_as(&other),
     }
 }
