@@ -117,9 +117,8 @@ const CONFLICTS_SAY: [Said; 18] = [
     ("ended read-only", 0),
 ];
 
-// What the steps of `resolved_agrees` reply: an async transaction that was left after all its prewrites is live for a time, and is then
-// committed; one that was left before its second prewrite is rolled back.
-const RESOLVED_SAY: [Said; 21] = [
+// What the steps of `resolved_agrees` reply.
+const RESOLVED_SAY: [Said; 27] = [
     ("start", 1),
     ("ok", 0),
     ("ok", 0),
@@ -135,12 +134,18 @@ const RESOLVED_SAY: [Said; 21] = [
     ("E1", 6),
     ("status committed", 2),
     ("value", 8),
-    ("last", 52),
-    ("E8", 52),
-    ("collected", 0),
-    ("start", 53),
-    ("none", 0),
+    ("start", 3),
     ("ok", 0),
+    ("ok", 0),
+    ("prewritten", 0),
+    ("ok", 0),
+    ("last", 53),
+    ("E8", 53),
+    ("collected", 10),
+    ("value", 8),
+    ("E7", 53),
+    ("status waiting", 0),
+    ("start", 54),
 ];
 
 // What the steps of `held_agrees` reply.
@@ -284,7 +289,9 @@ fn held_agrees(alloc: Global) -> bool {
     agrees(alloc, &steps, &HELD_SAY, "name")
 }
 
-// What was left is resolved; then old versions are collected. A session that met no lock has none resolved.
+// An async transaction that was left after all its prewrites is live for a time, and is then committed; one in two phases that was left
+// is rolled back by a collection, which drops its rollback. Below the safe point nothing is resolved, and a session that met no lock has
+// none resolved.
 fn resolved_agrees(alloc: Global) -> bool {
     let steps = [
         Begin("a"),
@@ -302,12 +309,18 @@ fn resolved_agrees(alloc: Global) -> bool {
         Act("b", Get("6", Plain)),
         Resolve("b", Ts::new(12)),
         Act("b", Get("6", Plain)),
+        Begin("c"),
+        Act("c", Delete("6")),
+        Act("c", Declare(TwoPhase, 10, None)),
+        Act("c", Prewrite(Plain)),
+        Stop("c"),
         Tick(50),
         Gc(Ts::new(99)),
-        Gc(Ts::new(52)),
+        Gc(Ts::new(53)),
+        Read("6", Ts::new(53)),
+        Gc(Ts::new(3)),
+        Resolve("b", Ts::new(99)),
         Begin("c"),
-        Act("c", Get("2", Plain)),
-        Act("c", Lock("2")),
         Resolve("c", Ts::new(99)),
     ];
     agrees(alloc, &steps, &RESOLVED_SAY, "order")

@@ -38,6 +38,7 @@ fn by_answer(answer: &Answer) -> Said {
         Answer::Ttl(ttl) => ("ttl", u64::from(*ttl)),
         Answer::KeyIsLocked(info) => ("E1", digit(info.key.as_bytes())),
         Answer::WriteConflict { start: _, commit } => ("E2", commit.get()),
+        Answer::BelowSafePoint { safe } => ("E7", safe.get()),
         Answer::FutureTimestamp { last } => ("E8", last.get()),
         Answer::AlreadyCommitted { commit } => ("E4", commit.get()),
         Answer::AlreadyRolledBack => ("E3", 0),
