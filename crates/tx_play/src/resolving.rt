@@ -1,6 +1,5 @@
 //! What resolves locks and collects old versions: the seat for what no session does, by a way that loses nothing.
 ghost use Rattle.std.specs.Prelude.{◌≡◌, ◌<◌, length, Some};
-ghost use Rattle.tx_client.specs.Senders.{IsWay};
 ghost use Rattle.tx_resolve.specs.Collecting.{gc_walk};
 ghost use Rattle.tx_resolve.specs.Reading.{read_walk};
 ghost use Rattle.tx_play.specs.declared.post.Way.TheVariants as ways;

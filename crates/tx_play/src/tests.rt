@@ -144,7 +144,7 @@ const RESOLVED_SAY: [Said; 27] = [
     ("collected", 10),
     ("value", 8),
     ("E7", 53),
-    ("status waiting", 0),
+    ("status E7", 0),
     ("start", 54),
 ];
 

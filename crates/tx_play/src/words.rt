@@ -63,13 +63,22 @@ fn by_outcome(outcome: Outcome) -> Said {
     }
 }
 
+fn by_wait(cause: WaitCause) -> Said {
+    match cause {
+        WaitCause::Live => ("status live", 0),
+        WaitCause::NotFound => ("status not-found", 0),
+        WaitCause::Reply => ("status lost", 0),
+        WaitCause::BelowSafePoint => ("status E7", 0),
+        WaitCause::OutOfMemory => ("status E12", 0),
+    }
+}
+
 fn by_status(status: Status) -> Said {
     match status {
         Status::Committed(commit) => ("status committed", commit.get()),
         Status::Aborted => ("status aborted", 0),
         Status::Pushed(minimum) => ("status pushed", minimum.get()),
-        Status::Waiting(WaitCause::Live) => ("status live", 0),
-        Status::Waiting(_) => ("status waiting", 0),
+        Status::Waiting(cause) => by_wait(cause),
     }
 }
 
