@@ -3,6 +3,7 @@ use Rattle.std.proofs.Common.{ℕ, ◌+◌, ◌&&◌, Bool, true, false, not, co
 use Rattle.tx_types.specs.declared.fault.Cause.{Cause}
 use Rattle.tx_types.specs.declared.fault.Cause.TheVariants as cause
 use Rattle.tx_types.specs.declared.key.Key.{Key}
+use Rattle.tx_types.specs.declared.lock.LockInfo.{LockInfo}
 use Rattle.tx_plan.specs.declared.body.Body.{Body}
 use Rattle.tx_plan.specs.declared.body.Body.TheVariants as request
 use Rattle.tx_plan.specs.declared.answer.Answer.{Answer}
@@ -16,12 +17,14 @@ use Rattle.tx_client.specs.Buffers.{Entries, is_full}
 use Rattle.tx_client.specs.Sessions.{State, is_declared, has_primary, exceeds, declaration, can_draw, can_commit, can_abort, finish_of}
 use Rattle.tx_client.specs.declared.state.Terms.{Terms}
 use Rattle.tx_client.specs.Walks.{Walk, asks, grows, ends, get_walk, scan_walk, heartbeat_walk}
+use Rattle.tx_resolve.specs.Reading.{read_walk}
+use Rattle.tx_resolve.specs.Collecting.{gc_walk}
 use Rattle.tx_play.specs.declared.post.Way.TheVariants.{Plain, Lose, LoseReply, Repeat, Hold}
 use Rattle.tx_lines.specs.declared.reply.Reply.{Reply}
 use Rattle.tx_lines.specs.declared.reply.Reply.TheVariants as reply
 use Rattle.tx_play.specs.Posts.{Course, taken, holding}
-use Rattle.tx_play.specs.Steps.{Deed, put, delete, lock, get, scan, declare, prewrite, draw, commit, abort, heartbeat, course_of, Call, begin, acts, finish, stop, deliver, read, tick}
-use Rattle.tx_play.specs.Scenes.{Scene, Turn, goes, inquires, stops, is_refused, later_of, calls, is_key, is_value, is_name, at_stage, at_history, with_session, began, declared_in, read_by, said_by, asked, sent, runs, runs_to, first_free, live_at, enters, may_go, is_too_many, deeds_by, deeds, delivered_by, delivers, finishes_by, begins_at, in_session, turn}
+use Rattle.tx_play.specs.Steps.{Deed, put, delete, lock, get, scan, declare, prewrite, draw, commit, abort, heartbeat, course_of, Call, begin, acts, finish, stop, deliver, read, tick, resolve, gc}
+use Rattle.tx_play.specs.Scenes.{Scene, Turn, goes, inquires, stops, is_refused, later_of, calls, is_key, is_value, is_name, at_stage, at_history, with_session, began, declared_in, read_by, said_by, asked, sent, runs, runs_to, first_free, live_at, enters, may_go, is_too_many, deeds_by, deeds, delivered_by, delivers, finishes_by, begins_at, in_session, turn, learns, resolves_by, collected_as}
 use Rattle.tx_play.specs.Plays.{Leads, Played, Plays}
 
 -- Whatever a turn leads to, and wherever it asks a region, h has happened there; it stops at most where `from` has happened.
@@ -126,6 +129,13 @@ module _ (bounds : List Key) where
     finish_grows refused k s name None = begins_all h
     finish_grows refused k s name (Some o) = inr (begins_all h)
 
+    resolve_grows : (refused : List Bool) (k : ℕ) (s : State) (now : ℕ) (o : Option LockInfo) → AllGrow h h (resolves_by bounds refused scene k s now o)
+    resolve_grows refused k s now None = begins_all h
+    resolve_grows refused k s now (Some met) =
+        calls_grow refused (λ left. runs bounds Plain left scene (read_walk met s.start now) (λ found next rest. learns next k s met found rest))
+        (λ left. runs_grow bounds h Plain left scene (read_walk met s.start now) (λ found next rest. learns next k s met found rest)
+        (λ found next rest. either h next.stage.history (is_refused rest) _ _ (begins_all next.stage.history) (begins_all next.stage.history)))
+
     pub turn_grows : (refused : List Bool) (step : Call) → AllGrow scene.stage.history scene.stage.history (turn bounds refused step scene)
     turn_grows refused (begin name) = either h h (not (is_name name)) _ _ (begins_all h) (either h h (is_some (scene.names name)) _ _ (begins_all h) (begin_grows refused name (first_free scene.places)))
     turn_grows refused (acts name deed) = session_grows (live_at scene name) _ (λ k s. deed_grows refused k s deed)
@@ -135,7 +145,9 @@ module _ (bounds : List Key) where
     turn_grows refused (read key at) =
         either h h (not (is_key key)) _ _ (begins_all h) (calls_grow refused (λ left. asked bounds left scene (request.Get (record { key = key; at = at; bypass = [] })) (λ c next rest. goes next (delivered_by c) rest))
         (λ left. asked_grows bounds h left scene (request.Get (record { key = key; at = at; bypass = [] })) (λ c next rest. goes next (delivered_by c) rest) (λ c next rest. begins_all next.stage.history)))
+    turn_grows refused (resolve name now) = session_grows (live_at scene name) _ (λ k s. resolve_grows refused k s now s.met)
     turn_grows refused (tick n) = either h h (nat_eq n 0) _ _ (begins_all h) (either h h (nat_le n scene.ticks) _ _ (inr (begins_all h)) (begins_all h))
+    turn_grows refused (gc safe) = runs_grow bounds h Plain refused scene (gc_walk bounds safe) (λ r next left. goes next (collected_as r) left) (λ r next left. begins_all next.stage.history)
 
   -- ---- plays
 

@@ -70,6 +70,7 @@ module _ (bounds : List Key) (name : List ℕ) where
   seats_stay old new clerk places n h = record {
     clerk = ap (λ (c : Known). c.seat) clerk ∙ h.clerk;
     places = subst (AreSeated (length bounds + 2) n) (sym places) (seated_fewer (length bounds + 2) (suc n) n old.places (omega arith) h.places);
+    few = h.few;
   }
 
   -- What an engine's delivery gives, where nothing else of the engine changes.

@@ -8,7 +8,7 @@ use Rattle.tx_types.specs.declared.key.Key.{Key}
 use Rattle.tx_core.proofs.Basics.{some_same}
 use Rattle.tx_journal.specs.Known.{Known}
 use Rattle.tx_play.specs.Posts.{made_by}
-use Rattle.tx_play.specs.Places.{Kept, seat_in, Held, made_in, IsSeat, AreSeated, AllSeated, Acts, Serves, Goes}
+use Rattle.tx_play.specs.Places.{Kept, seat_in, Held, made_in, IsSeat, AreSeated, AllSeated, Acts, Serves, Finds, Goes}
 
 abbrev pub known_ticks : Known → ℕ
 known_ticks k = k.ticks
@@ -30,7 +30,7 @@ seated_fewer i n m [] le h = tt
 seated_fewer i n m (p ∷ places) le h = (fewer i n m (seat_in p) le h.0, seated_fewer (suc i) n m places le h.1)
 
 pub all_fewer : (bounds : List Key) (n m : ℕ) (e : Held) → m ≤ n → AllSeated bounds n e → AllSeated bounds m e
-all_fewer bounds n m e le h = record { clerk = h.clerk; places = seated_fewer (length bounds + 2) n m e.places le h.places }
+all_fewer bounds n m e le h = record { clerk = h.clerk; places = seated_fewer (length bounds + 2) n m e.places le h.places; few = h.few }
 
 -- the seat of a place
 pub seated_at : (i n k j : ℕ) (places : List Kept) (x : Kept) → j ≡ i + k → slice_get places k ≡ Some x → AreSeated i n places → IsSeat j n (seat_in x)
@@ -54,26 +54,44 @@ at_place_of bounds n k e x a there is all = subst (IsSeat (length bounds + 2 + k
 
 -- ---- one place acts
 
-module _ (old new : Held) (k : ℕ) (x y : Kept) (there : slice_get old.places k ≡ Some x) (placed : new.places ≡ slice_set old.places k y) (clerk : new.clerk ≡ old.clerk)
-    (a b : Known) (was : seat_in x ≡ Some a) (now : seat_in y ≡ Some b) where
+module _ (old new : Held) (k : ℕ) (x y : Kept) (there : slice_get old.places k ≡ Some x) (placed : new.places ≡ slice_set old.places k y) (a b : Known) (was : seat_in x ≡ Some a) (now : seat_in y ≡ Some b) where
   places_count : sum_by (λ p. made_in (seat_in p)) new.places + made_by a ≡ sum_by (λ p. made_in (seat_in p)) old.places + made_by b
   places_count =
       let sums = sum_by-set (λ p. made_in (seat_in p)) old.places k y x (slice_get_within old.places k x there) in
       let here : made_in (seat_in (slice_index_or old.places k x)) ≡ made_by a = ap (λ p. made_in (seat_in p)) (get_or_from_slice_get old.places k x x there) ∙ ap made_in was in
       omega (arith, sums, here, ap made_in now, ap (sum_by (λ p. made_in (seat_in p))) placed)
 
+module _ (old new : Held) (k : ℕ) (x y : Kept) (there : slice_get old.places k ≡ Some x) (placed : new.places ≡ slice_set old.places k y) (clerk : new.clerk ≡ old.clerk)
+    (a b : Known) (was : seat_in x ≡ Some a) (now : seat_in y ≡ Some b) where
   pub acted : (bounds : List Key) (Exact Then : Type 0) → Acts a b old.desk new.desk Exact → (Exact → Then) → Goes bounds old new Then
   acted bounds Exact Then acts on = record {
     made = acts.made;
-    counts = omega (arith, places_count, acts.counts, ap made_by clerk);
+    counts = omega (arith, places_count old new k x y there placed a b was now, acts.counts, ap made_by clerk);
     size = ap length placed ∙ length-set old.places k y;
     seated = λ n h. record {
       clerk = ap (λ (c : Known). c.seat) clerk ∙ h.clerk;
       places = subst (AreSeated (length bounds + 2) n) (sym placed) (seated_set (length bounds + 2) n k old.places x y there (seat_changed a b acts.seat acts.ticks (seat_in x) (seat_in y) was now n) h.places);
+      few = h.few;
     };
     grows = acts.grows;
     exact = λ le. on (acts.exact le);
   }
+
+-- the seat for what no session does sends, and the session of a place learns what was found
+pub found : (bounds : List Key) (old new : Held) (k : ℕ) (x y : Kept) → slice_get old.places k ≡ Some x → new.places ≡ slice_set old.places k y → (a b : Known) → seat_in x ≡ Some a → seat_in y ≡ Some b
+    → (Exact Then : Type 0) → Finds a b old.clerk new.clerk old.desk new.desk Exact → (Exact → Then) → Goes bounds old new Then
+found bounds old new k x y there placed a b was now Exact Then finds on = record {
+  made = finds.made;
+  counts = omega (arith, places_count old new k x y there placed a b was now, finds.counts);
+  size = ap length placed ∙ length-set old.places k y;
+  seated = λ n h. record {
+    clerk = finds.clerk ∙ h.clerk;
+    places = subst (AreSeated (length bounds + 2) n) (sym placed) (seated_set (length bounds + 2) n k old.places x y there (seat_changed a b finds.seat (let same = finds.ticks in omega (arith, same)) (seat_in x) (seat_in y) was now n) h.places);
+    few = h.few;
+  };
+  grows = finds.grows;
+  exact = λ le. on (finds.exact le);
+}
 
 -- the seat for what no session does acts
 pub served : (bounds : List Key) (old new : Held) (Exact Then : Type 0) → new.places ≡ old.places → Serves old.clerk new.clerk old.desk new.desk Exact → (Exact → Then) → Goes bounds old new Then
@@ -81,7 +99,7 @@ served bounds old new Exact Then places serves on = record {
   made = serves.made;
   counts = omega (arith, serves.counts, ap (sum_by (λ p. made_in (seat_in p))) places);
   size = ap length places;
-  seated = λ n h. record { clerk = serves.seat ∙ h.clerk; places = subst (AreSeated (length bounds + 2) n) (sym places) (seated_fewer (length bounds + 2) (suc n) n old.places (omega arith) h.places) };
+  seated = λ n h. record { clerk = serves.seat ∙ h.clerk; places = subst (AreSeated (length bounds + 2) n) (sym places) (seated_fewer (length bounds + 2) (suc n) n old.places (omega arith) h.places); few = h.few };
   grows = serves.grows;
   exact = λ le. on (serves.exact le);
 }
@@ -92,7 +110,7 @@ rested bounds old new regions newest clerk places Exact exact = record {
   made = 0;
   counts = omega (arith, ap (sum_by made_by) regions, ap made_by clerk, ap (sum_by (λ p. made_in (seat_in p))) places);
   size = ap length places;
-  seated = λ n h. record { clerk = ap (λ (c : Known). c.seat) clerk ∙ h.clerk; places = subst (AreSeated (length bounds + 2) n) (sym places) (seated_fewer (length bounds + 2) (suc n) n old.places (omega arith) h.places) };
+  seated = λ n h. record { clerk = ap (λ (c : Known). c.seat) clerk ∙ h.clerk; places = subst (AreSeated (length bounds + 2) n) (sym places) (seated_fewer (length bounds + 2) (suc n) n old.places (omega arith) h.places); few = h.few };
   grows = omega (arith, ap length newest);
   exact = λ le. exact;
 }

@@ -40,3 +40,7 @@ pub mod Entering
 pub mod Asking
 -- What a delivery gives is its turn.
 pub mod Delivering
+-- A walk by the way that loses nothing.
+pub mod Directly
+-- What it gives to resolve a lock that a session met, and to collect.
+pub mod Resolves

@@ -61,7 +61,7 @@ same_learnt bounds old new (Ok g) is = record {
 }
 
 -- nothing was sent
-rest_comes : (k new : Known) (from to : Desk) (Exact : Type 0) → to ≡ from → new ≡ k → Exact → Comes k from to new Exact
+pub rest_comes : (k new : Known) (from to : Desk) (Exact : Type 0) → to ≡ from → new ≡ k → Exact → Comes k from to new Exact
 rest_comes k new from to Exact is same exact = record {
   made = 0;
   counts = omega (arith, ap (λ (d : Desk). sum_by made_by d.regions) is);
@@ -104,7 +104,7 @@ take_by bounds from to body (Some a) way held counts took =
 pub take_one : (bounds : List Key) (from to : Desk) (q : Asked) (g : Given) → Hands (region_for bounds q.body) from to q g → One bounds from to q.body (came_by g.answer)
 take_one bounds from to q g h = take_by bounds from to q.body g.answer h.way h.held h.counts h.takes
 
-one_comes : (bounds : List Key) (from to : Desk) (body : Body) (c : Came) (k new : Known) (Exact : Type 0) → One bounds from to body c → IsSame k new → (Met bounds (stage_of from) body c (stage_of to) → Exact) → Comes k from to new Exact
+pub one_comes : (bounds : List Key) (from to : Desk) (body : Body) (c : Came) (k new : Known) (Exact : Type 0) → One bounds from to body c → IsSame k new → (Met bounds (stage_of from) body c (stage_of to) → Exact) → Comes k from to new Exact
 one_comes bounds from to body c k new Exact one same on = record {
   made = one.made;
   counts = one.counts;
@@ -190,7 +190,7 @@ module _ (bounds : List Key) (from mid : Desk) (q : Asked) (k then_known : Known
   }
 
 -- one after another
-then_comes : (k mid new : Known) (from at to : Desk) (First Second Both : Type 0) → Comes k from at mid First → Comes mid at to new Second → (First → Second → Both) → Comes k from to new Both
+pub then_comes : (k mid new : Known) (from at to : Desk) (First Second Both : Type 0) → Comes k from at mid First → Comes mid at to new Second → (First → Second → Both) → Comes k from to new Both
 then_comes k mid new from at to First Second Both p q both = record {
   made = p.made + q.made;
   counts = omega (arith, p.counts, q.counts);
@@ -202,7 +202,7 @@ then_comes k mid new from at to First Second Both p q both = record {
   exact = λ le. both (p.exact (omega (arith, le, q.grows))) (q.exact (omega (arith, le, p.grows)));
 }
 
-or_comes : (k new : Known) (from to : Desk) (Exact Then : Type 0) → (Exact → Then) → Comes k from to new Exact → Comes k from to new Then
+pub or_comes : (k new : Known) (from to : Desk) (Exact Then : Type 0) → (Exact → Then) → Comes k from to new Exact → Comes k from to new Then
 or_comes k new from to Exact Then on p = record { made = p.made; counts = p.counts; number = p.number; ticks = p.ticks; own = p.own; way = p.way; grows = p.grows; exact = λ le. on (p.exact le) }
 
 -- a whole walk

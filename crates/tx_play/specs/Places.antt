@@ -1,5 +1,5 @@
 -- What an engine holds, what acts make of it, and what is counted.
-use Rattle.std.specs.Prelude.{◌≡◌, ◌≤◌, ℕ, suc, ◌+◌, Bool, List, [], ◌∷◌, ◌++◌, map, length, slice_get, slice_set, Option, Some, None, Result, Ok, Err, Contains, String, string_bytes, bytes_eq}
+use Rattle.std.specs.Prelude.{◌≡◌, ◌≤◌, ◌<◌, ◌⊎◌, ℕ, suc, ◌+◌, Bool, List, [], ◌∷◌, ◌++◌, map, length, slice_get, slice_set, Option, Some, None, Result, Ok, Err, Contains, String, string_bytes, bytes_eq}
 use Rattle.std.specs.Global.{Global}
 use Rattle.std.specs.List.{sum_by}
 use Rattle.std.specs.Map.{lookup}
@@ -7,14 +7,17 @@ use Rattle.tx_types.specs.declared.fault.Cause.{Cause}
 use Rattle.tx_types.specs.declared.key.Key.{Key}
 use Rattle.tx_core.specs.Histories.{History}
 use Rattle.tx_journal.specs.Known.{Known}
-use Rattle.tx_client.specs.Sessions.{State, begun}
+use Rattle.tx_client.specs.Sessions.{State, begun, with_passed}
 use Rattle.tx_client.specs.Calls.{Seated}
+use Rattle.tx_client.specs.Calls.{HasHeard}
+use Rattle.tx_client.specs.Statuses.{Found, lies_above}
 use Rattle.tx_play.specs.declared.places.Slot.{Slot}
 use Rattle.tx_play.specs.declared.places.Slot.TheVariants.{Free, Live, Lent}
 use Rattle.tx_lines.specs.declared.reply.Reply.{Reply}
+use Rattle.tx_lines.specs.declared.reply.Reply.TheVariants as replies
 use Rattle.tx_play.specs.Posts.{Desk, stage_of, Stage, made_by, IsDone, AreNumbered}
 use Rattle.tx_play.specs.Steps.{Call}
-use Rattle.tx_play.specs.Scenes.{Place, free, session, Scene, Turn, stops, seat_at, delivers, turn}
+use Rattle.tx_play.specs.Scenes.{Place, free, session, Scene, Turn, stops, seat_at, resolves, delivers, turn}
 use Rattle.tx_play.specs.Plays.{Leads}
 
 -- what a place has
@@ -77,10 +80,11 @@ AreSeated i n [] = Unit {0}
 AreSeated i n (p ∷ places) = IsSeat i n (seat_in p) × AreSeated (suc i) n places
 
 -- the seats of an engine are those of the regions, one for what no session does, and those of the places, each of which may draw so many
--- ticks
+-- ticks; there are at most 1,023 regions
 pub record AllSeated (bounds : List Key) (n : ℕ) (e : Held) : Type 0 where
   pub clerk : e.clerk.seat ≡ length bounds + 1
   pub places : AreSeated (length bounds + 2) n e.places
+  pub few : length bounds < 1024
 
 -- Some events were made by a seat and the regions, at least so many came, and where no more came, it is exact.
 pub record Acts (old new : Known) (from to : Desk) (Exact : Type 0) : Type 0 where
@@ -96,6 +100,17 @@ pub record Serves (old new : Known) (from to : Desk) (Exact : Type 0) : Type 0 w
   pub made : ℕ
   pub counts : made_by new + at_regions to ≤ made_by old + at_regions from + made
   pub seat : new.seat ≡ old.seat
+  pub grows : length from.newest + made ≤ length to.newest
+  pub exact : length to.newest ≤ length from.newest + made → Exact
+
+-- the same of that seat, which sends, and of a session's, which learns what was found
+pub record Finds (old new k m : Known) (from to : Desk) (Exact : Type 0) : Type 0 where
+  pub made : ℕ
+  pub counts : made_by new + made_by m + at_regions to ≤ made_by old + made_by k + at_regions from + made
+  pub seat : new.seat ≡ old.seat
+  pub ticks : new.ticks ≡ old.ticks
+  pub clerk : m.seat ≡ k.seat
+  pub left : m.ticks ≡ k.ticks
   pub grows : length from.newest + made ≤ length to.newest
   pub exact : length to.newest ≤ length from.newest + made → Exact
 
@@ -127,6 +142,15 @@ Sent bounds turn reply old new from to = Acts old.seat new.seat from to (Session
 abbrev pub Did : List Key → (List Bool → Scene → ℕ → State → Turn) → Result Reply Cause → Seated → Seated → Desk → Desk → Type 0
 Did bounds turn (Ok reply) old new from to = Sent bounds turn reply old new from to
 Did bounds turn (Err cause) old new from to = (new ≡ old) × (to ≡ from) × ((refused : List Bool) (ticks : ℕ) (names : List ℕ → Option ℕ) (places : List Place) (k : ℕ) → turn refused (scene_with (stage_of from) ticks names places) k old.state ≡ stops cause)
+
+-- what a session learnt of what was found; or memory for it was refused
+abbrev pub Learnt : List Key → Found → Reply → Seated → Seated → Type 0
+Learnt bounds f reply old new = ((reply ≡ replies.Status f.status) × (new.state ≡ with_passed old.state f.start (lies_above f.status old.state.start)) × HasHeard bounds old.seat f.events new.seat) ⊎ ((reply ≡ replies.OutOfMemory) × (new ≡ old))
+
+-- a lock that a session met is resolved; or that is not allowed and changes nothing
+abbrev pub Resolves : List Key → ℕ → Result Reply Cause → Seated → Seated → Known → Known → Desk → Desk → Type 0
+Resolves bounds now (Ok reply) old new k m from to = Finds old.seat new.seat k m from to (SessionGoes bounds (λ refused scene j s. resolves bounds refused scene j s now) old.seat.seat old.state new.state (stage_of from) (stage_of to) reply)
+Resolves bounds now (Err cause) old new k m from to = (new ≡ old) × (m ≡ k) × (to ≡ from) × ((refused : List Bool) (scene : Scene) (j : ℕ) → resolves bounds refused scene j old.state now ≡ stops cause)
 
 -- What a delivery gives: regions took a copy of a held request, so many events were made, at least so many came, and where no more came,
 -- it is exact.

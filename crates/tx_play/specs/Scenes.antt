@@ -8,11 +8,13 @@ use Rattle.tx_types.specs.declared.fault.Fault.TheVariants as fault
 use Rattle.tx_types.specs.declared.fault.Cause.{Cause}
 use Rattle.tx_types.specs.declared.fault.Cause.TheVariants.{Form, Name, Order, Sessions}
 use Rattle.tx_types.specs.declared.key.Key.{Key}
+use Rattle.tx_types.specs.declared.lock.LockInfo.{LockInfo}
 use Rattle.tx_types.specs.declared.mutation.Mutation.TheVariants as mutation
 use Rattle.tx_types.specs.Keys.{key_lt}
 use Rattle.tx_plan.specs.declared.body.Body.{Body}
 use Rattle.tx_plan.specs.declared.body.Body.TheVariants as request
 use Rattle.tx_plan.specs.declared.answer.Answer.{Answer}
+use Rattle.tx_plan.specs.declared.answer.Answer.TheVariants as answer
 use Rattle.tx_core.specs.declared.event.Declaration.{Declaration}
 use Rattle.tx_core.specs.declared.event.Outcome.{Outcome}
 use Rattle.tx_core.specs.declared.event.Event.TheVariants.{Drawn, Began, Declared, Answered, Stopped}
@@ -21,16 +23,21 @@ use Rattle.tx_client.specs.declared.state.Terms.{Terms}
 use Rattle.tx_client.specs.declared.state.Phase.TheVariants as phase
 use Rattle.tx_client.specs.declared.state.Came.{Came}
 use Rattle.tx_client.specs.declared.state.Came.TheVariants as came
+use Rattle.tx_client.specs.declared.resolved.Status.{Status}
 use Rattle.tx_client.specs.declared.state.Miss.{Miss}
 use Rattle.tx_client.specs.declared.state.Miss.TheVariants as miss
 use Rattle.tx_client.specs.Buffers.{Entries, touched, locked, buffered, is_full, is_known}
-use Rattle.tx_client.specs.Sessions.{State, begun, is_declared, has_primary, exceeds, declaration, due_prewrite, due_commit, due_abort, can_draw, can_commit, can_abort, finish_of}
+use Rattle.tx_client.specs.Sessions.{State, begun, is_declared, has_primary, exceeds, declaration, due_prewrite, due_commit, due_abort, can_draw, can_commit, can_abort, finish_of, with_passed}
+use Rattle.tx_client.specs.Statuses.{lies_above}
 use Rattle.tx_client.specs.Walks.{Walk, asks, grows, ends, due_walk, heartbeat_walk, get_walk, scan_walk}
+use Rattle.tx_resolve.specs.declared.collector.Counts.{Counts}
+use Rattle.tx_resolve.specs.Reading.{read_walk}
+use Rattle.tx_resolve.specs.Collecting.{gc_walk}
 use Rattle.tx_play.specs.declared.post.Way.TheVariants.{Plain, Lose, LoseReply, Repeat, Hold}
 use Rattle.tx_lines.specs.declared.reply.Reply.{Reply}
 use Rattle.tx_lines.specs.declared.reply.Reply.TheVariants as reply
 use Rattle.tx_play.specs.Posts.{Course, Stage, with_events, taken, holding}
-use Rattle.tx_play.specs.Steps.{Deed, put, delete, lock, get, scan, declare, prewrite, draw, commit, abort, heartbeat, course_of, Call, begin, acts, finish, stop, deliver, read, tick}
+use Rattle.tx_play.specs.Steps.{Deed, put, delete, lock, get, scan, declare, prewrite, draw, commit, abort, heartbeat, course_of, Call, begin, acts, finish, stop, resolve, deliver, read, tick, gc}
 
 -- a place: free, or with a live session
 pub data Place : Type 0 where
@@ -321,6 +328,37 @@ module _ (refused : List Bool) (scene : Scene) (k : ℕ) (s : State) where
   abbrev pub leaves : List Key → List ℕ → Turn
   leaves bounds name = goes (gone (at_history scene (Stopped (seat_at bounds k) ∷ scene.stage.history)) name k) reply.Fine refused
 
+-- ---- resolving and collecting: no request of theirs is lost
+
+-- a session learns what was found of the transaction of a lock: its reads may then pass by that
+abbrev pub learns : Scene → ℕ → State → LockInfo → Status → List Bool → Turn
+learns scene k s met found left = calls left scene (λ rest. goes (with_session scene k (with_passed s met.start (lies_above found s.start))) (reply.Status found) rest)
+
+module _ (bounds : List Key) where
+  -- the lock that was met last is resolved for the session's reads, at a time
+  abbrev pub resolves_by : List Bool → Scene → ℕ → State → ℕ → Option LockInfo → Turn
+  resolves_by refused scene k s now None = stops Order
+  resolves_by refused scene k s now (Some met) = calls refused scene (λ left. runs bounds Plain left scene (read_walk met s.start now) (λ found next rest. learns next k s met found rest))
+
+  abbrev pub resolves : List Bool → Scene → ℕ → State → ℕ → Turn
+  resolves refused scene k s now = resolves_by refused scene k s now s.met
+
+-- the refusal of a safe point, or of memory
+abbrev pub refused_as : Fault → Reply
+refused_as (fault.BelowSafePoint safe) = reply.Answered (answer.BelowSafePoint safe)
+refused_as (fault.FutureTimestamp last) = reply.Answered (answer.FutureTimestamp last)
+refused_as _ = reply.OutOfMemory
+
+-- what a collection gives: the sums, or the refusal that ended it
+abbrev pub collected_as : Result Counts Fault → Reply
+collected_as (Ok counts) = reply.Collected counts.records counts.values
+collected_as (Err (fault.LocksRemain met)) = reply.Answered (answer.LocksRemain met)
+collected_as (Err e) = refused_as e
+
+-- old versions are collected at a safe point
+abbrev pub collects : List Key → List Bool → Scene → ℕ → Turn
+collects bounds refused scene safe = runs bounds Plain refused scene (gc_walk bounds safe) (λ r next left. goes next (collected_as r) left)
+
 -- ---- delivery
 
 -- what a delivered request gives
@@ -374,4 +412,6 @@ module _ (bounds : List Key) where
   turn refused (stop name) scene = in_session (live_at scene name) (λ k s. leaves refused scene k s bounds name)
   turn refused (deliver name) scene = delivers bounds refused scene (scene.stage.held name)
   turn refused (read key at) scene = looks refused scene key at
+  turn refused (resolve name now) scene = in_session (live_at scene name) (λ k s. resolves bounds refused scene k s now)
   turn refused (tick n) scene = ticks_by refused scene n
+  turn refused (gc safe) scene = collects bounds refused scene safe

@@ -5,12 +5,13 @@ ghost use Rattle.std.specs.Map.{update};
 ghost use Rattle.std.specs.BTreeMap.{get_by_text};
 ghost use Rattle.tx_play.specs.Places.{Held, Goes, AllSeated, Settled, Turned};
 ghost use Rattle.tx_play.specs.Scenes.{delivered_by, is_name as name_test};
-ghost use Rattle.tx_play.specs.Steps.{begin, acts, finish, stop, deliver as to_deliver, read, tick, call_of, deed_of};
+ghost use Rattle.tx_play.specs.Steps.{begin, acts, finish, stop, resolve, deliver as to_deliver, read, tick, gc, call_of, deed_of};
 
 use crate::acts::{begin_at, finish_at, read_at, stop_at, tick_at};
 use crate::deeds::{act, deliver, is_key};
 use crate::places::{Slot, first_free, swap_slot};
 use crate::post::Post;
+use crate::resolving::{Direct, collected_as, gc_at, resolve_at};
 use crate::step::{Act, Reply, Step};
 use std::alloc::{AllocError, Global};
 use std::collections::BTreeMap;
@@ -24,7 +25,7 @@ use tx_types::{Cause, Key, Ts};
 /// The engine.
 pub struct Engine<J: Naming, F: Families> {
     alloc: Global,
-    post: Post<J, F>,
+    direct: Direct<J, F>,
     clerk: Seat<J>,
     names: BTreeMap<String, usize>,
     places: Vec<Slot<Seat<J>, Session<J>>>,
@@ -35,14 +36,14 @@ impl<J: Naming, F: Families> Model for Engine<J, F> {
 
     ghost Value = { Held };
 
-    ghost view = { λ e. record { desk = e.post; clerk = e.clerk; names = texts e.names.entries; places = e.places.items } };
+    ghost view = { λ e. record { desk = e.direct.post; clerk = e.clerk; names = texts e.names.entries; places = e.places.items } };
 }
 
 impl<J: Naming, F: Families + Drop> Drop for Engine<J, F> {
     fn drop(self) {
         let Self {
             alloc: _,
-            post: _,
+            direct: _,
             clerk: _,
             names: _,
             places: _,
@@ -97,7 +98,7 @@ impl<J: Naming, F: Families> Engine<J, F> {
     {
         Engine {
             alloc,
-            post,
+            direct: Direct { post },
             clerk,
             names: BTreeMap::new(alloc),
             places,
@@ -124,7 +125,7 @@ impl<J: Naming, F: Families> Engine<J, F> {
         let Slot::Free(seat) = swap_slot(&mut self.places, k, Slot::Lent) else {
             unreachable!()
         };
-        let (session, start) = begin_at(self.alloc, seat, &mut self.post);
+        let (session, start) = begin_at(self.alloc, seat, &mut self.direct.post);
         swap_slot(&mut self.places, k, Slot::Live(session));
         Ok(Reply::Start(start))
     }
@@ -142,7 +143,7 @@ impl<J: Naming, F: Families> Engine<J, F> {
         }
         match swap_slot(&mut self.places, k, Slot::Lent) {
             Slot::Live(mut session) => {
-                let reply = act(self.alloc, &mut session, &mut self.post, deed);
+                let reply = act(self.alloc, &mut session, &mut self.direct.post, deed);
                 swap_slot(&mut self.places, k, Slot::Live(session));
                 reply
             }
@@ -165,7 +166,7 @@ impl<J: Naming, F: Families> Engine<J, F> {
             return Err(Cause::Name);
         }
         match swap_slot(&mut self.places, k, Slot::Lent) {
-            Slot::Live(session) => match finish_at(session, &mut self.post) {
+            Slot::Live(session) => match finish_at(session, &mut self.direct.post) {
                 Ok((outcome, seat)) => {
                     swap_slot(&mut self.places, k, Slot::Free(seat));
                     self.names.remove(name);
@@ -196,10 +197,34 @@ impl<J: Naming, F: Families> Engine<J, F> {
         }
         match swap_slot(&mut self.places, k, Slot::Lent) {
             Slot::Live(session) => {
-                let seat = stop_at(session, &mut self.post);
+                let seat = stop_at(session, &mut self.direct.post);
                 swap_slot(&mut self.places, k, Slot::Free(seat));
                 self.names.remove(name);
                 Ok(Reply::Fine)
+            }
+            other => {
+                swap_slot(&mut self.places, k, other);
+                Err(Cause::Name)
+            }
+        }
+    }
+
+    // The lock that stood last in the way of the live session of a name is resolved.
+    fn resolve(&mut self, name: &str, now: Ts) -> Result<Reply, Cause>
+        requires ready { AllSeated J.bounds 1 self.old }
+        ensures goes { Goes J.bounds self.old self.new (Turned J.bounds (resolve name.now now) result self.old self.new) }
+    {
+        let Some(&k) = self.names.get(name) else {
+            return Err(Cause::Name);
+        };
+        if k >= self.places.len() {
+            return Err(Cause::Name);
+        }
+        match swap_slot(&mut self.places, k, Slot::Lent) {
+            Slot::Live(mut session) => {
+                let reply = resolve_at(&mut self.clerk, &mut session, &mut self.direct, now);
+                swap_slot(&mut self.places, k, Slot::Live(session));
+                reply
             }
             other => {
                 swap_slot(&mut self.places, k, other);
@@ -212,7 +237,7 @@ impl<J: Naming, F: Families> Engine<J, F> {
     fn deliver(&mut self, name: &str) -> Result<Reply, Cause>
         ensures goes { Goes J.bounds self.old self.new (Turned J.bounds (to_deliver name.now) result self.old self.new) }
     {
-        deliver(&mut self.post, name)
+        deliver(&mut self.direct.post, name)
     }
 
     // A key is read at a timestamp.
@@ -225,7 +250,7 @@ impl<J: Naming, F: Families> Engine<J, F> {
         let Ok(key) = Key::new(self.alloc, key.as_bytes()) else {
             return Ok(Reply::OutOfMemory);
         };
-        let came = read_at(self.alloc, &mut self.clerk, &mut self.post, key, at);
+        let came = read_at(self.alloc, &mut self.clerk, &mut self.direct.post, key, at);
         Ok(reply_to(came))
     }
 
@@ -237,17 +262,26 @@ impl<J: Naming, F: Families> Engine<J, F> {
         if ticks == 0 {
             return Err(Cause::Form);
         }
-        let Some(last) = tick_at(&mut self.clerk, &mut self.post, ticks) else {
+        let Some(last) = tick_at(&mut self.clerk, &mut self.direct.post, ticks) else {
             return Ok(Reply::OracleSpent);
         };
         Ok(Reply::Last(last))
+    }
+
+    // Old versions are collected at a safe point.
+    fn gc(&mut self, safe: Ts) -> Result<Reply, Cause>
+        requires ready { AllSeated J.bounds 1 self.old }
+        ensures goes { Goes J.bounds self.old self.new (Turned J.bounds (gc safe) result self.old self.new) }
+    {
+        let collected = gc_at(&mut self.clerk, &mut self.direct, safe);
+        Ok(collected_as(collected))
     }
 
     /// How many regions there are.
     pub fn regions(&self) -> usize
         ensures { result ≡ length J.bounds + 1 }
     {
-        self.post.count()
+        self.direct.post.count()
     }
 
     /// Plays one step.
@@ -260,9 +294,11 @@ impl<J: Naming, F: Families> Engine<J, F> {
             Step::Act(name, deed) => self.act(name, deed),
             Step::Finish(name) => self.finish(name),
             Step::Stop(name) => self.stop(name),
+            Step::Resolve(name, now) => self.resolve(name, *now),
             Step::Deliver(name) => self.deliver(name),
             Step::Read(key, at) => self.read(key, *at),
             Step::Tick(ticks) => self.tick(*ticks),
+            Step::Gc(safe) => self.gc(*safe),
         }
     }
 }
@@ -275,11 +311,12 @@ impl<J: Naming, F: Families + Drop> Engine<J, F> {
     {
         let Self {
             alloc: _,
-            mut post,
+            direct,
             mut clerk,
             names: _,
             mut places,
         } = self;
+        let mut post = direct.into_post();
         let mut newest = post.newest();
         post.show();
         post.settle(&mut newest, &clerk);

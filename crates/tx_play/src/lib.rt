@@ -8,6 +8,7 @@ mod engine;
 mod opening;
 mod places;
 mod post;
+mod resolving;
 mod script;
 mod step;
 #[cfg(test)]

@@ -182,8 +182,8 @@ impl<J: Naming, F: Families> Post<J, F> {
         }
     }
 
-    // The region that holds a request takes it.
-    fn take(&mut self, request: Request<J>) -> Reply<J>
+    /// The region that holds a request takes it.
+    pub(crate) fn take(&mut self, request: Request<J>) -> Reply<J>
         requires { IsHeld J.bounds request.body }
         ensures { Hands (region_for J.bounds request.body) self.old self.new request result }
     {

@@ -34,12 +34,16 @@ pub enum Step<'a> {
     Finish(&'a str),
     /// It leaves its transaction as it is, and is gone.
     Stop(&'a str),
+    /// The lock that stood last in its way is resolved at the time, and it learns what was found.
+    Resolve(&'a str, Ts),
     /// A copy of the request that is held under the name is taken, and it stays held.
     Deliver(&'a str),
     /// A key is read at a timestamp, by no session.
     Read(&'a str, Ts),
     /// So many ticks are drawn, at least one, by one seat for all such steps.
     Tick(u32),
+    /// Old versions are collected at a safe point, in each region.
+    Gc(Ts),
 }
 
 /// How a script ends.

@@ -9,7 +9,7 @@ use crate::post::Way::{Hold, Lose, LoseReply, Plain, Repeat};
 use crate::step::Act::{
     Abort, Commit, Declare, Delete, Draw, Get, Heartbeat, Lock, Prewrite, Put, Scan,
 };
-use crate::step::Step::{Act, Begin, Deliver, Finish, Read, Stop, Tick};
+use crate::step::Step::{Act, Begin, Deliver, Finish, Gc, Read, Resolve, Stop, Tick};
 use crate::step::{Reply, Step};
 use crate::words::{Said, by_end, by_reply};
 use std::alloc::Global;
@@ -115,6 +115,37 @@ const CONFLICTS_SAY: [Said; 18] = [
     ("start", 5),
     ("none", 0),
     ("ended read-only", 0),
+];
+
+// What the steps of `resolved_agrees` reply.
+const RESOLVED_SAY: [Said; 27] = [
+    ("start", 1),
+    ("ok", 0),
+    ("ok", 0),
+    ("ok", 0),
+    ("prewritten", 2),
+    ("prewritten", 2),
+    ("ok", 0),
+    ("start", 2),
+    ("E1", 1),
+    ("status live", 0),
+    ("status committed", 2),
+    ("value", 7),
+    ("E1", 6),
+    ("status committed", 2),
+    ("value", 8),
+    ("start", 3),
+    ("ok", 0),
+    ("ok", 0),
+    ("prewritten", 0),
+    ("ok", 0),
+    ("last", 53),
+    ("E8", 53),
+    ("collected", 10),
+    ("value", 8),
+    ("E7", 53),
+    ("status E7", 0),
+    ("start", 54),
 ];
 
 // What the steps of `held_agrees` reply.
@@ -258,6 +289,43 @@ fn held_agrees(alloc: Global) -> bool {
     agrees(alloc, &steps, &HELD_SAY, "name")
 }
 
+// An async transaction that was left after all its prewrites is live for a time, and is then committed; one in two phases that was left
+// is rolled back by a collection, which drops its rollback. Below the safe point nothing is resolved, and a session that met no lock has
+// none resolved.
+fn resolved_agrees(alloc: Global) -> bool {
+    let steps = [
+        Begin("a"),
+        Act("a", Put("1", "7")),
+        Act("a", Put("6", "8")),
+        Act("a", Declare(Async, 10, None)),
+        Act("a", Prewrite(Plain)),
+        Act("a", Prewrite(Plain)),
+        Stop("a"),
+        Begin("b"),
+        Act("b", Get("1", Plain)),
+        Resolve("b", Ts::new(11)),
+        Resolve("b", Ts::new(12)),
+        Act("b", Get("1", Plain)),
+        Act("b", Get("6", Plain)),
+        Resolve("b", Ts::new(12)),
+        Act("b", Get("6", Plain)),
+        Begin("c"),
+        Act("c", Delete("6")),
+        Act("c", Declare(TwoPhase, 10, None)),
+        Act("c", Prewrite(Plain)),
+        Stop("c"),
+        Tick(50),
+        Gc(Ts::new(99)),
+        Gc(Ts::new(53)),
+        Read("6", Ts::new(53)),
+        Gc(Ts::new(3)),
+        Resolve("b", Ts::new(99)),
+        Begin("c"),
+        Resolve("c", Ts::new(99)),
+    ];
+    agrees(alloc, &steps, &RESOLVED_SAY, "order")
+}
+
 // The first script that does not reply as expected.
 fn first_wrong(alloc: Global) -> &'static str {
     if !agrees(alloc, &COMMITS, &COMMITS_SAY, "well") {
@@ -268,6 +336,9 @@ fn first_wrong(alloc: Global) -> &'static str {
     }
     if !held_agrees(alloc) {
         return "held";
+    }
+    if !resolved_agrees(alloc) {
+        return "resolved";
     }
     if !agrees(alloc, &TICKS, &TICKS_SAY, "form") {
         return "ticks";

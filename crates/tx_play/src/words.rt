@@ -1,5 +1,6 @@
 //! What replies say, in a word and a number. Keys and values are single digits here.
 use crate::step::{Broken, End, Reply};
+use tx_client::{Status, WaitCause};
 use tx_core::{Answer, Outcome, UnknownCause};
 use tx_types::{Cause, KeyValues};
 
@@ -37,6 +38,7 @@ fn by_answer(answer: &Answer) -> Said {
         Answer::Ttl(ttl) => ("ttl", u64::from(*ttl)),
         Answer::KeyIsLocked(info) => ("E1", digit(info.key.as_bytes())),
         Answer::WriteConflict { start: _, commit } => ("E2", commit.get()),
+        Answer::BelowSafePoint { safe } => ("E7", safe.get()),
         Answer::FutureTimestamp { last } => ("E8", last.get()),
         Answer::AlreadyCommitted { commit } => ("E4", commit.get()),
         Answer::AlreadyRolledBack => ("E3", 0),
@@ -61,6 +63,25 @@ fn by_outcome(outcome: Outcome) -> Said {
     }
 }
 
+fn by_wait(cause: WaitCause) -> Said {
+    match cause {
+        WaitCause::Live => ("status live", 0),
+        WaitCause::NotFound => ("status not-found", 0),
+        WaitCause::Reply => ("status lost", 0),
+        WaitCause::BelowSafePoint => ("status E7", 0),
+        WaitCause::OutOfMemory => ("status E12", 0),
+    }
+}
+
+fn by_status(status: Status) -> Said {
+    match status {
+        Status::Committed(commit) => ("status committed", commit.get()),
+        Status::Aborted => ("status aborted", 0),
+        Status::Pushed(minimum) => ("status pushed", minimum.get()),
+        Status::Waiting(cause) => by_wait(cause),
+    }
+}
+
 /// A reply: a lock in the way by its key.
 pub fn by_reply(reply: &Reply) -> Said {
     match reply {
@@ -75,6 +96,11 @@ pub fn by_reply(reply: &Reply) -> Said {
             by_outcome(outcome)
         }
         Reply::Lost => ("lost", 0),
+        Reply::Status(status) => by_status(*status),
+        Reply::Collected { records, values } => {
+            ("collected", records.wrapping_mul(10).wrapping_add(*values))
+        }
+        Reply::Regions(_) | Reply::Versions(_) => ("other", 0),
         Reply::OracleSpent => ("E11", 0),
         Reply::OutOfMemory => ("E12", 0),
         Reply::KeyLength => ("E13", 0),

@@ -1,3 +1,4 @@
 pub mod Resolving
 pub mod Collecting
 pub mod Facts
+pub mod Reading

@@ -2,7 +2,7 @@
 use Rattle.std.specs.Prelude.{ℕ, List, Option, Some, None, option_map}
 use Rattle.tx_play.specs.declared.post.Way.TheVariants.{Plain, Lose, LoseReply, Repeat, Hold}
 use Rattle.tx_play.specs.Posts.{Course}
-use Rattle.tx_play.specs.Steps.{Call, Deed, begin, acts, finish, stop, deliver, read, tick}
+use Rattle.tx_play.specs.Steps.{Call, Deed, begin, acts, finish, stop, resolve, deliver, read, tick, gc}
 use Rattle.tx_play.specs.Steps as deed
 use Rattle.tx_steps.specs.Steps.{Asked, Act, Sent, Way}
 use Rattle.tx_steps.specs.Steps as form
@@ -33,7 +33,7 @@ acting name (form.declare mode ttl max_commit) = Some (acts name (deed.declare m
 acting name form.draw = Some (acts name deed.draw)
 acting name form.finish = Some (finish name)
 acting name form.stop = Some (stop name)
-acting name (form.resolve now) = None
+acting name (form.resolve now) = Some (resolve name now)
 
 -- the step that is played
 abbrev pub played : Asked → Option Call
@@ -43,4 +43,5 @@ played (form.send name what way) = Some (acts name (sending what (way_of way)))
 played (form.deliver name) = Some (deliver name)
 played (form.read key at) = Some (read key at)
 played (form.tick ticks) = Some (tick ticks)
+played (form.gc safe) = Some (gc safe)
 played _ = None

@@ -53,7 +53,7 @@ fn action<'a>(name: &'a str, what: Action<'a>) -> Option<tx_play::Step<'a>>
     let act = match what {
         Action::Finish => return Some(tx_play::Step::Finish(name)),
         Action::Stop => return Some(tx_play::Step::Stop(name)),
-        Action::Resolve(_) => return None,
+        Action::Resolve(now) => return Some(tx_play::Step::Resolve(name, Ts::new(now))),
         Action::Put(key, value) => Act::Put(key, value),
         Action::Delete(key) => Act::Delete(key),
         Action::Lock(key) => Act::Lock(key),
@@ -76,6 +76,7 @@ pub(crate) fn call<'a>(step: Step<'a>) -> Option<tx_play::Step<'a>>
         Step::Deliver(name) => Some(tx_play::Step::Deliver(name)),
         Step::Read(key, at) => Some(tx_play::Step::Read(key, Ts::new(at))),
         Step::Tick(ticks) => Some(tx_play::Step::Tick(ticks)),
-        Step::Versions(_) | Step::Gc(_) | Step::Seed(..) | Step::Transfer(..) => None,
+        Step::Gc(safe) => Some(tx_play::Step::Gc(Ts::new(safe))),
+        Step::Versions(_) | Step::Seed(..) | Step::Transfer(..) => None,
     }
 }

@@ -1,5 +1,5 @@
 //! What is known of a session's transaction, what it learns of others, and how it ends.
-ghost use Rattle.std.specs.Prelude.{◌≡◌, Some, None, IfOk, IfErr, OnOk, OnErr, option_map};
+ghost use Rattle.std.specs.Prelude.{◌≡◌, Some, None, IfOk, IfErr, OnOk, OnErr, option_map, is_some};
 ghost use Rattle.tx_types.specs.declared.fault.Fault.TheVariants as fault;
 ghost use Rattle.tx_core.specs.declared.event.Event.TheVariants.{Answered, Stopped};
 ghost use Rattle.tx_core.specs.Recording.{MayRecord};
@@ -37,6 +37,13 @@ impl<J: Naming> Session<J> {
         let fate = self.transaction.decision()?;
         let told = self.seat.tell();
         Some(Decision::new(self.transaction.start(), fate, told))
+    }
+
+    /// Whether a lock stood in its way.
+    pub fn has_met(&self) -> bool
+        ensures { result ≡ is_some self.now.state.met }
+    {
+        self.transaction.has_met()
     }
 
     /// The lock that last stood in its way, with what proves that it did.

@@ -1,5 +1,5 @@
 //! What may be done of a transaction, and what is known of its fate.
-ghost use Rattle.std.specs.Prelude.{◌≡◌, Some, IfOk, IfErr, OnOk, OnErr};
+ghost use Rattle.std.specs.Prelude.{◌≡◌, Some, IfOk, IfErr, OnOk, OnErr, is_some};
 ghost use Rattle.tx_client.specs.declared.state.Phase.TheVariants as phase;
 ghost use Rattle.tx_client.specs.Buffers.{first_place};
 ghost use Rattle.tx_client.specs.Sessions.{can_draw, may_commit, can_commit, may_abort, can_abort, with_passed, finish_of};
@@ -76,6 +76,13 @@ impl Transaction {
         ensures { result ≡ self.now.decision }
     {
         self.decision
+    }
+
+    /// Whether a lock stood in its way.
+    pub(crate) fn has_met(&self) -> bool
+        ensures { result ≡ is_some self.now.met }
+    {
+        self.met.is_some()
     }
 
     /// A copy of the lock that last stood in its way.

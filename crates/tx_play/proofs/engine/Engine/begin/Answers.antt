@@ -24,7 +24,7 @@ returns-then-contains_key g c =
     let s = c.self.inside in
     let name = c.args.name.now in
     let bounds = g.J.Naming.bounds in
-    let old : Held = record { desk = s.post; clerk = s.clerk; names = texts s.names.entries; places = s.places.items } in
+    let old : Held = record { desk = s.direct.post; clerk = s.clerk; names = texts s.names.entries; places = s.places.items } in
     let right : not (is_name name) ≡ false = search rules in
     let taken : is_some (name_at old.names name) ≡ true = ap is_some (named s.names name) ∙ sym c.if-contains_key.ensures in
     record { goes = subst (λ (o : Held). Goes bounds o o (Turned bounds (begin name) (Err cause.Name) o o)) c.self.view_is (step_stops bounds old old (begin name) cause.Name refl refl refl refl (begin_taken bounds old name right taken)) }
@@ -34,7 +34,7 @@ returns-in_default g c =
     let s = c.self.inside in
     let name = c.args.name.now in
     let bounds = g.J.Naming.bounds in
-    let old : Held = record { desk = s.post; clerk = s.clerk; names = texts s.names.entries; places = s.places.items } in
+    let old : Held = record { desk = s.direct.post; clerk = s.clerk; names = texts s.names.entries; places = s.places.items } in
     let right : not (is_name name) ≡ false = search rules in
     let unnamed : is_some (name_at old.names name) ≡ false = ap is_some (named s.names name) ∙ sym c.if-contains_key.ensures in
     let full : first_free (map place_of old.places) ≡ None = sym (c.in_default.ensures.first ∙ ap (λ ps. first_free (map place_of ps)) c.deref.ensures.value) in
@@ -46,8 +46,8 @@ returns-then-is_err g c =
     let name = c.args.name.now in
     let bounds = g.J.Naming.bounds in
     let k = c.in-Some.k in
-    let old : Held = record { desk = s.post; clerk = s.clerk; names = texts s.names.entries; places = s.places.items } in
-    let new : Held = record { desk = s.post; clerk = s.clerk; names = texts c.enter.new.names.entries; places = s.places.items } in
+    let old : Held = record { desk = s.direct.post; clerk = s.clerk; names = texts s.names.entries; places = s.places.items } in
+    let new : Held = record { desk = s.direct.post; clerk = s.clerk; names = texts c.enter.new.names.entries; places = s.places.items } in
     let right : not (is_name name) ≡ false = search rules in
     let unnamed : is_some (name_at old.names name) ≡ false = ap is_some (named s.names name) ∙ sym c.if-contains_key.ensures in
     let first : first_free (map place_of old.places) ≡ Some k = sym (c.in-Some.ensures.first ∙ ap (λ ps. first_free (map place_of ps)) c.deref.ensures.value) in
@@ -61,7 +61,7 @@ pub begin_at-session-requires : goal.begin_at-session-requires
 begin_at-session-requires g c =
     let s = c.self.inside in
     let bounds = g.J.Naming.bounds in
-    let old : Held = record { desk = s.post; clerk = s.clerk; names = texts s.names.entries; places = s.places.items } in
+    let old : Held = record { desk = s.direct.post; clerk = s.clerk; names = texts s.names.entries; places = s.places.items } in
     let ready : AllSeated bounds 1 old = subst (AllSeated bounds 1) (sym c.self.view_is) c.requires.ready in
     let there : slice_get s.places.items c.in-Some.k ≡ Some (Free c.in-Free.seat) = c.swap_slot.ensures.value ∙ ap Some c.in-Free.is in
     record { ticks = (at_place_of bounds 1 c.in-Some.k old (Free c.in-Free.seat) c.in-Free.seat there refl ready).1 }
@@ -79,7 +79,7 @@ returns g c =
     let k = c.in-Some.k in
     let seat = c.in-Free.seat in
     let live = c.begin_at-session.result.0 in
-    let old : Held = record { desk = s.post; clerk = s.clerk; names = texts s.names.entries; places = s.places.items } in
+    let old : Held = record { desk = s.direct.post; clerk = s.clerk; names = texts s.names.entries; places = s.places.items } in
     let new : Held = record { desk = c.begin_at-session.new.post; clerk = s.clerk; names = texts c.enter.new.names.entries; places = c.swap_slot-2.new.places.items } in
     let right : not (is_name name) ≡ false = search rules in
     let unnamed : is_some (name_at old.names name) ≡ false = ap is_some (named s.names name) ∙ sym c.if-contains_key.ensures in

@@ -9,6 +9,6 @@ returns g c =
     let s = c.self.inside in
     let name = c.args.name.now in
     let bounds = g.J.Naming.bounds in
-    let old : Held = record { desk = s.post; clerk = s.clerk; names = texts s.names.entries; places = s.places.items } in
+    let old : Held = record { desk = s.direct.post; clerk = s.clerk; names = texts s.names.entries; places = s.places.items } in
     let new : Held = record { desk = c.deliver.new.post; clerk = s.clerk; names = texts s.names.entries; places = s.places.items } in
     record { goes = subst (λ (o : Held). Goes bounds o new (Turned bounds (deliver name) c.deliver.result o new)) c.self.view_is (step_delivered bounds name old new refl refl refl c.deliver.result c.deliver.ensures) }

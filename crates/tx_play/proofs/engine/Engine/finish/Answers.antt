@@ -13,7 +13,7 @@ returns-in_default g c =
     let s = c.self.inside in
     let name = c.args.name.now in
     let bounds = g.J.Naming.bounds in
-    let old : Held = record { desk = s.post; clerk = s.clerk; names = texts s.names.entries; places = s.places.items } in
+    let old : Held = record { desk = s.direct.post; clerk = s.clerk; names = texts s.names.entries; places = s.places.items } in
     let none : name_at old.names name ≡ None = named s.names name ∙ sym c.in_default.ensures.value in
     record { goes = subst (λ (o : Held). Goes bounds o o (Turned bounds (finish c.args.name.now) (Err cause.Name) o o)) c.self.view_is (step_stops bounds old old (finish c.args.name.now) cause.Name refl refl refl refl (finish_stops bounds old name (no_name bounds old name none))) }
 
@@ -23,7 +23,7 @@ returns-then-k-len g c =
     let name = c.args.name.now in
     let k = c.in-Some.field-0.now in
     let bounds = g.J.Naming.bounds in
-    let old : Held = record { desk = s.post; clerk = s.clerk; names = texts s.names.entries; places = s.places.items } in
+    let old : Held = record { desk = s.direct.post; clerk = s.clerk; names = texts s.names.entries; places = s.places.items } in
     let at : name_at old.names name ≡ Some k = named s.names name ∙ sym c.in-Some.ensures.value in
     let le : length old.places ≤ k = omega (arith, c.if-k-len.true, c.len.ensures, s.places.ok.0) in
     record { goes = subst (λ (o : Held). Goes bounds o o (Turned bounds (finish c.args.name.now) (Err cause.Name) o o)) c.self.view_is (step_stops bounds old old (finish c.args.name.now) cause.Name refl refl refl refl (finish_stops bounds old name (no_place bounds old name k at le))) }
@@ -34,8 +34,8 @@ returns-in_default-swap_slot g c =
     let name = c.args.name.now in
     let k = c.in-Some.field-0.now in
     let bounds = g.J.Naming.bounds in
-    let old : Held = record { desk = s.post; clerk = s.clerk; names = texts s.names.entries; places = s.places.items } in
-    let new : Held = record { desk = s.post; clerk = s.clerk; names = texts s.names.entries; places = c.swap_slot-in_default-swap_slot.new.places.items } in
+    let old : Held = record { desk = s.direct.post; clerk = s.clerk; names = texts s.names.entries; places = s.places.items } in
+    let new : Held = record { desk = s.direct.post; clerk = s.clerk; names = texts s.names.entries; places = c.swap_slot-in_default-swap_slot.new.places.items } in
     let at : name_at old.names name ≡ Some k = named s.names name ∙ sym c.in-Some.ensures.value in
     let ready : AllSeated bounds 1 old = subst (AllSeated bounds 1) (sym c.self.view_is) c.requires.ready in
     let places : new.places ≡ old.places = back s.places.items c.swap_slot.new.places.items new.places k c.swap_slot.result c.swap_slot.ensures.value c.swap_slot.ensures.after c.swap_slot-in_default-swap_slot.ensures.after in
@@ -48,7 +48,7 @@ returns-in-Ok g c =
     let k = c.in-Some.field-0.now in
     let bounds = g.J.Naming.bounds in
     let live = c.in-Live.session in
-    let old : Held = record { desk = s.post; clerk = s.clerk; names = texts s.names.entries; places = s.places.items } in
+    let old : Held = record { desk = s.direct.post; clerk = s.clerk; names = texts s.names.entries; places = s.places.items } in
     let at : name_at old.names name ≡ Some k = named s.names name ∙ sym c.in-Some.ensures.value in
     let ready : AllSeated bounds 1 old = subst (AllSeated bounds 1) (sym c.self.view_is) c.requires.ready in
     let there : slice_get old.places k ≡ Some (Live live) = c.swap_slot.ensures.value ∙ ap Some c.in-Live.is in
@@ -66,7 +66,7 @@ returns-in-Err g c =
     let k = c.in-Some.field-0.now in
     let bounds = g.J.Naming.bounds in
     let live = c.in-Live.session in
-    let old : Held = record { desk = s.post; clerk = s.clerk; names = texts s.names.entries; places = s.places.items } in
+    let old : Held = record { desk = s.direct.post; clerk = s.clerk; names = texts s.names.entries; places = s.places.items } in
     let at : name_at old.names name ≡ Some k = named s.names name ∙ sym c.in-Some.ensures.value in
     let ready : AllSeated bounds 1 old = subst (AllSeated bounds 1) (sym c.self.view_is) c.requires.ready in
     let there : slice_get old.places k ≡ Some (Live live) = c.swap_slot.ensures.value ∙ ap Some c.in-Live.is in

@@ -30,7 +30,7 @@ returns g c =
     let at = c.args.at in
     let bounds = g.J.Naming.bounds in
     let came = c.read_at-came.result in
-    let old : Held = record { desk = s.post; clerk = s.clerk; names = texts s.names.entries; places = s.places.items } in
+    let old : Held = record { desk = s.direct.post; clerk = s.clerk; names = texts s.names.entries; places = s.places.items } in
     let new : Held = record { desk = c.read_at-came.new.post; clerk = c.read_at-came.new.clerk; names = texts s.names.entries; places = s.places.items } in
     let right : not (is_key key) ≡ false = search rules in
     let serves : Serves old.clerk new.clerk old.desk new.desk (Met bounds (stage_of old.desk) (request.Get (record { key = key; at = at; bypass = [] })) came (stage_of new.desk)) =

@@ -42,8 +42,8 @@ pub returns-clause-settled : goal.returns-clause-settled
 returns-clause-settled g c =
     let e = c.args.self in
     let n = e.desk.newest in
-    let desk : c.newest-newest.new.self ≡ e.desk = c.newest-newest.ensures.same ∙ ap (λ (x : Held). x.desk) c.self.view_is in
-    let newest : c.newest-newest.result ≡ n = c.newest-newest.ensures.told ∙ ap (λ (x : Held). x.desk.newest) c.self.view_is in
+    let desk : c.newest-newest.new.self ≡ e.desk = c.newest-newest.ensures.same ∙ (c.into_post-post.ensures ∙ ap (λ (x : Held). x.desk) c.self.view_is) in
+    let newest : c.newest-newest.result ≡ n = c.newest-newest.ensures.told ∙ (ap (λ (d : Desk). d.newest) c.into_post-post.ensures ∙ ap (λ (x : Held). x.desk.newest) c.self.view_is) in
     let knows : Begins n c.learn.new.self.events = subst (λ h. Begins h c.learn.new.self.events) (c.copy-told.ensures.copy ∙ (c.settle.ensures.same ∙ newest)) c.learn.ensures.told in
     let clerk : IsDone n c.self.inside.clerk = done_learnt n c.self.inside.clerk c.learn.new.self knows c.learn.ensures.own in
     record {

@@ -18,7 +18,7 @@ returns-in_default g c =
     let s = c.self.inside in
     let n = c.args.ticks in
     let bounds = g.J.Naming.bounds in
-    let old : Held = record { desk = s.post; clerk = s.clerk; names = texts s.names.entries; places = s.places.items } in
+    let old : Held = record { desk = s.direct.post; clerk = s.clerk; names = texts s.names.entries; places = s.places.items } in
     let new : Held = record { desk = c.tick_at.new.post; clerk = c.tick_at.new.clerk; names = texts s.names.entries; places = s.places.items } in
     let some : nat_eq n 0 ≡ false = ne_eqb n 0 c.if-ticks-eq0.false in
     let x = c.in_default.ensures.spent in
@@ -29,7 +29,7 @@ returns g c =
     let s = c.self.inside in
     let n = c.args.ticks in
     let bounds = g.J.Naming.bounds in
-    let old : Held = record { desk = s.post; clerk = s.clerk; names = texts s.names.entries; places = s.places.items } in
+    let old : Held = record { desk = s.direct.post; clerk = s.clerk; names = texts s.names.entries; places = s.places.items } in
     let new : Held = record { desk = c.tick_at.new.post; clerk = c.tick_at.new.clerk; names = texts s.names.entries; places = s.places.items } in
     let some : nat_eq n 0 ≡ false = ne_eqb n 0 c.if-ticks-eq0.false in
     let ready : AllSeated bounds 1 old = subst (AllSeated bounds 1) (sym c.self.view_is) c.requires.ready in

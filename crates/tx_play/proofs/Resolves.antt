@@ -1,0 +1,155 @@
+-- What it gives to resolve a lock that a session met, and to collect.
+use Rattle.std.proofs.Common.{◌≡◌, ◌≤◌, ◌+◌, ℕ, Bool, true, false, List, [], ◌∷◌, ◌++◌, map, length, slice_get, slice_set, Option, Some, None, option_map, is_some, Result, Ok, Err, inl, inr, refl, sym, ap, subst, ◌∙◌, append_assoc, arith}
+use Rattle.std.proofs.lemmas.List.{map-set}
+use Rattle.std.proofs.lemmas.Option.{slice_get-map}
+use Rattle.tx_types.specs.declared.fault.Cause.{Cause}
+use Rattle.tx_types.specs.declared.fault.Cause.TheVariants as cause
+use Rattle.tx_types.specs.declared.fault.Fault.{Fault}
+use Rattle.tx_types.specs.declared.key.Key.{Key}
+use Rattle.tx_types.specs.declared.lock.LockInfo.{LockInfo}
+use Rattle.tx_core.specs.Recording.{part}
+use Rattle.tx_journal.specs.Known.{Known}
+use Rattle.tx_client.specs.Calls.{Seated, HasHeard}
+use Rattle.tx_client.specs.Sessions.{with_passed}
+use Rattle.tx_client.specs.Statuses.{Found, lies_above}
+use Rattle.tx_resolve.specs.declared.collector.Counts.{Counts}
+use Rattle.tx_resolve.specs.Reading.{read_walk}
+use Rattle.tx_resolve.specs.Collecting.{gc_walk}
+use Rattle.tx_lines.specs.declared.reply.Reply.{Reply}
+use Rattle.tx_lines.specs.declared.reply.Reply.TheVariants as reply
+use Rattle.tx_play.specs.declared.places.Slot.TheVariants.{Live, Lent}
+use Rattle.tx_play.specs.declared.post.Way.TheVariants.{Plain}
+use Rattle.tx_play.specs.Posts.{Desk, made_by, stage_of, Runs}
+use Rattle.tx_play.specs.Steps.{resolve, gc}
+use Rattle.tx_play.specs.Scenes.{Place, session, Scene, goes, stops, at_stage, seat_at, with_session, learns, resolves_by, resolves, collected_as, live_at, in_session, turn}
+use Rattle.tx_play.specs.Plays.{Leads}
+use Rattle.tx_play.specs.Places.{Kept, place_of, Held, name_at, scene_with, scene_of, at_regions, AllSeated, Serves, Finds, Goes, GoesTo, SessionGoes, Learnt, Resolves, Turned}
+use Rattle.tx_play.proofs.Keeping.{set_here, at_place_of, found, served}
+use Rattle.tx_play.proofs.Turning.{runs_lead, session_rests}
+use Rattle.tx_play.proofs.Engines.{put, back, is_live, step_stops}
+
+module _ (bounds : List Key) (now : ℕ) where
+  -- ---- no lock was met, or there is no memory for a copy of it
+
+  unmet : (s : Seated) (o : Option LockInfo) → is_some o ≡ false → (refused : List Bool) (scene : Scene) (k : ℕ) → resolves_by bounds refused scene k s.state now o ≡ stops cause.Order
+  unmet s None none refused scene k = refl
+  unmet s (Some met) none refused scene k = absurd (cc (none))
+
+  pub resolve_none : (s : Seated) (clerk : Known) (desk : Desk) → is_some s.state.met ≡ false → Resolves bounds now (Err cause.Order) s s clerk clerk desk desk
+  resolve_none s clerk desk none = (refl, refl, refl, unmet s s.state.met none)
+
+  uncopied : (s : Seated) (o : Option LockInfo) → is_some o ≡ true → (later : List Bool) (scene : Scene) (k : ℕ) → resolves_by bounds (true ∷ later) scene k s.state now o ≡ goes scene reply.OutOfMemory later
+  uncopied s None some later scene k = absurd (cc (some))
+  uncopied s (Some met) some later scene k = refl
+
+  pub resolve_short : (s : Seated) (clerk : Known) (desk : Desk) → is_some s.state.met ≡ true → Resolves bounds now (Ok reply.OutOfMemory) s s clerk clerk desk desk
+  resolve_short s clerk desk some = record {
+    made = 0;
+    counts = omega arith;
+    seat = refl;
+    ticks = refl;
+    clerk = refl;
+    left = refl;
+    grows = omega arith;
+    exact = λ le. session_rests bounds (λ refused scene k x. resolves bounds refused scene k x now) s.seat.seat s.state s.state (stage_of desk) (stage_of desk) reply.OutOfMemory reply.OutOfMemory (true ∷ []) (uncopied s s.state.met some) refl refl refl;
+  }
+
+  -- ---- it is resolved
+
+  module _ (old new : Seated) (k m : Known) (from to : Desk) (met : LockInfo) (some : old.state.met ≡ Some met) (f : Found) (start : f.start ≡ met.start) (said : Reply) where
+    abbrev Ran : Type 0
+    Ran = Runs bounds (Some Plain) (stage_of from) (read_walk met old.state.start now) f.status (stage_of to)
+
+    abbrev Then : Type 0
+    Then = SessionGoes bounds (λ refused scene j s. resolves bounds refused scene j s now) old.seat.seat old.state new.state (stage_of from) (stage_of to) said
+
+    -- by the bit of what it learns
+    by_bit : Ran → (bit : Bool) (told : Reply) (next : Scene → ℕ → Scene) → ((later : List Bool) (scene : Scene) (j : ℕ) → learns (at_stage scene (stage_of to)) j old.state met f.status (bit ∷ later) ≡ goes (next scene j) told later)
+        → ((ticks : ℕ) (names : List ℕ → Option ℕ) (places : List Place) (j : ℕ) → slice_get places j ≡ Some (session old.state) → next (scene_with (stage_of from) ticks names places) j ≡ scene_with (stage_of to) ticks names (slice_set places j (session new.state))) → told ≡ said → Then
+    by_bit run bit told next is there same ticks names places j number at =
+        let scene = scene_with (stage_of from) ticks names places in
+        let last = scene_with (stage_of to) ticks names (slice_set places j (session new.state)) in
+        let led = runs_lead bounds (λ later n t left. (n ≡ last) × (t ≡ said) × (left ≡ later)) Plain (read_walk met old.state.start now) scene f.status (stage_of to) run (λ found n rest. learns n j old.state met found rest) in (
+          false ∷ (led.0 ++ bit ∷ []),
+          λ later.
+              let goal = Leads bounds (λ n t left. (n ≡ last) × (t ≡ said) × (left ≡ later)) (λ c. ⊥) in
+              subst goal (sym (ap (resolves_by bounds (false ∷ ((led.0 ++ bit ∷ []) ++ later)) scene j old.state now) some))
+              (subst (λ bits. goal (resolves_by bounds (false ∷ bits) scene j old.state now (Some met))) (sym (append_assoc led.0 (bit ∷ []) later))
+              (led.1 later (bit ∷ later) (subst goal (sym (is later scene j)) (there ticks names places j at, same, refl)))),
+        )
+
+    by_learnt : Ran → Learnt bounds f said old new → Then
+    by_learnt run (inl (is, state, heard)) =
+        by_bit run false (reply.Status f.status) (λ scene j. with_session (at_stage scene (stage_of to)) j (with_passed old.state met.start (lies_above f.status old.state.start))) (λ later scene j. refl)
+        (λ ticks names places j at.
+        let after : with_passed old.state met.start (lies_above f.status old.state.start) ≡ new.state = ap (λ t. with_passed old.state t (lies_above f.status old.state.start)) (sym start) ∙ sym state in
+        λ i. scene_with (stage_of to) ticks names (slice_set places j (session (after i)))) (sym is)
+    by_learnt run (inr (is, same)) =
+        by_bit run true reply.OutOfMemory (λ scene j. at_stage scene (stage_of to)) (λ later scene j. refl)
+        (λ ticks names places j at.
+        let stays : places ≡ slice_set places j (session new.state) = sym (set_here places j (session old.state) at) ∙ ap (λ (s : Seated). slice_set places j (session s.state)) (sym same) in
+        λ i. scene_with (stage_of to) ticks names (stays i)) (sym is)
+
+    seat_kept : Learnt bounds f said old new → new.seat.seat ≡ old.seat.seat
+    seat_kept (inl (is, state, heard)) = heard.number
+    seat_kept (inr (is, same)) = ap (λ (s : Seated). s.seat.seat) same
+
+    ticks_kept : Learnt bounds f said old new → new.seat.ticks ≡ old.seat.ticks
+    ticks_kept (inl (is, state, heard)) = heard.ticks
+    ticks_kept (inr (is, same)) = ap (λ (s : Seated). s.seat.ticks) same
+
+    own_kept : Learnt bounds f said old new → made_by new.seat ≡ made_by old.seat
+    own_kept (inl (is, state, heard)) = ap (λ i. length (part i new.seat.events)) heard.number ∙ ap length heard.own
+    own_kept (inr (is, same)) = ap (λ (s : Seated). made_by s.seat) same
+
+    pub resolve_found : m.ticks ≡ k.ticks → Serves k m from to Ran → Learnt bounds f said old new → Resolves bounds now (Ok said) old new k m from to
+    resolve_found left serves learnt = record {
+      made = serves.made;
+      counts = (let same = own_kept learnt in omega (arith, same, serves.counts));
+      seat = seat_kept learnt;
+      ticks = ticks_kept learnt;
+      clerk = serves.seat;
+      left = left;
+      grows = serves.grows;
+      exact = λ le. by_learnt (serves.exact le) learnt;
+    }
+
+  -- ---- the step
+
+  module _ (old : Held) (name : List ℕ) where
+    pub resolve_stops : live_at (scene_of old) name ≡ None → (later : List Bool) → turn bounds later (resolve name now) (scene_of old) ≡ stops cause.Name
+    resolve_stops none later = ap (λ o. in_session o (λ k s. resolves bounds later (scene_of old) k s now)) none
+
+    module _ (k : ℕ) (s : Seated) (named : name_at old.names name ≡ Some k) (there : slice_get old.places k ≡ Some (Live s)) (ready : AllSeated bounds 1 old) where
+      pub step_resolved : (new : Held) (t : Seated) (lent : List Kept) → lent ≡ slice_set old.places k Lent → new.places ≡ slice_set lent k (Live t) → new.names ≡ old.names → (r : Result Reply Cause)
+          → Resolves bounds now r s t old.clerk new.clerk old.desk new.desk → Goes bounds old new (Turned bounds (resolve name now) r old new)
+      step_resolved new t lent lends placed names (Ok said) did =
+          let is : new.places ≡ slice_set old.places k (Live t) = put old.places lent new.places k (Live t) lends placed in
+          let number : s.seat.seat ≡ seat_at bounds k = (at_place_of bounds 1 k old (Live s) s.seat there refl ready).0 in
+          let lives_there : slice_get (map place_of old.places) k ≡ Some (session s.state) = slice_get-map place_of old.places k ∙ ap (option_map place_of) there in
+          found bounds old new k (Live s) (Live t) there is s.seat t.seat refl refl _ _ did
+          (λ x. let led = x old.clerk.ticks (λ q. name_at old.names q) (map place_of old.places) k number lives_there in
+          let after : map place_of new.places ≡ slice_set (map place_of old.places) k (session t.state) = ap (map place_of) is ∙ map-set place_of old.places k (Live t) in
+          let left : new.clerk.ticks ≡ old.clerk.ticks = did.left in
+          let scene : scene_with (stage_of new.desk) old.clerk.ticks (λ q. name_at old.names q) (slice_set (map place_of old.places) k (session t.state)) ≡ scene_of new =
+          λ i. scene_with (stage_of new.desk) (sym left i) (λ q. name_at (sym names i) q) (sym after i) in (
+            led.0,
+            λ later. subst (λ next. Leads bounds (λ n told left. (n ≡ next) × (told ≡ said) × (left ≡ later)) (λ c. ⊥) (turn bounds (led.0 ++ later) (resolve name now) (scene_of old))) scene
+                (subst (Leads bounds _ (λ c. ⊥)) (sym (ap (λ o. in_session o (λ j y. resolves bounds (led.0 ++ later) (scene_of old) j y now)) (is_live bounds old name k named s there))) (led.1 later)),
+          ))
+      step_resolved new t lent lends placed names (Err c) (same, clerk, desk, halts) =
+          let is : new.places ≡ old.places = back old.places lent new.places k (Live s) there lends (placed ∙ ap (λ x. slice_set lent k (Live x)) same) in
+          step_stops bounds old new (resolve name now) c (ap (λ (d : Desk). d.regions) desk) (ap (λ (d : Desk). d.newest) desk) clerk is
+          (λ later. ap (λ o. in_session o (λ j y. resolves bounds later (scene_of old) j y now)) (is_live bounds old name k named s there) ∙ halts later (scene_of old) k)
+
+-- old versions are collected
+pub step_collected : (bounds : List Key) (old new : Held) (safe : ℕ) (r : Result Counts Fault) (said : Reply) → said ≡ collected_as r → new.names ≡ old.names → new.places ≡ old.places → new.clerk.ticks ≡ old.clerk.ticks
+    → Serves old.clerk new.clerk old.desk new.desk (Runs bounds (Some Plain) (stage_of old.desk) (gc_walk bounds safe) r (stage_of new.desk)) → Goes bounds old new (Turned bounds (gc safe) (Ok said) old new)
+step_collected bounds old new safe r said is names places ticks serves =
+    served bounds old new _ _ places serves
+    (λ run.
+    let there : at_stage (scene_of old) (stage_of new.desk) ≡ scene_of new = λ i. scene_with (stage_of new.desk) (sym ticks i) (λ q. name_at (sym names i) q) (map place_of (sym places i)) in
+    let led = runs_lead bounds (λ later n told left. (n ≡ scene_of new) × (told ≡ said) × (left ≡ later)) Plain (gc_walk bounds safe) (scene_of old) r (stage_of new.desk) run (λ x next left. goes next (collected_as x) left) in (
+      led.0,
+      λ later. led.1 later later (there, sym is, refl),
+    ))
