@@ -31,7 +31,9 @@ static SIMULATE_HELP: &str =
   [\"abort\",s] D                   Rolls the next key back
   [\"heartbeat\",s,ttl] D           Lets the primary's lock live longer
   [\"finish\",s], [\"stop\",s]      Tells its outcome; leaves its transaction as it is. The session is gone
+  [\"resolve\",s,now]               Looks into the last lock that stood in its way
   [\"deliver\",name]                Takes a request that is held
+  [\"gc\",ts]                       Resolves what is below ts, and drops old versions
   [\"read\",key,ts], [\"tick\",n]    Reads a key at a timestamp; draws n ticks
 A delivery is nothing, or \"lose\", \"lose-reply\", \"repeat\", or \"hold\",name
 
