@@ -1,5 +1,5 @@
 -- What it gives to resolve a lock that a session met, and to collect.
-use Rattle.std.proofs.Common.{◌≡◌, ◌≤◌, ◌+◌, ℕ, Bool, true, false, List, [], ◌∷◌, ◌++◌, map, length, slice_get, slice_set, Option, Some, None, option_map, is_some, Result, Ok, Err, inl, inr, refl, sym, ap, subst, ◌∙◌, append_assoc, arith}
+use Rattle.std.proofs.Common.{◌≡◌, ◌+◌, ℕ, Bool, true, false, List, [], ◌∷◌, ◌++◌, map, length, slice_get, slice_set, Option, Some, None, option_map, is_some, Result, Ok, Err, inl, inr, refl, sym, ap, subst, ◌∙◌, append_assoc, arith}
 use Rattle.std.proofs.lemmas.List.{map-set}
 use Rattle.std.proofs.lemmas.Option.{slice_get-map}
 use Rattle.tx_types.specs.declared.fault.Cause.{Cause}
@@ -9,7 +9,7 @@ use Rattle.tx_types.specs.declared.key.Key.{Key}
 use Rattle.tx_types.specs.declared.lock.LockInfo.{LockInfo}
 use Rattle.tx_core.specs.Recording.{part}
 use Rattle.tx_journal.specs.Known.{Known}
-use Rattle.tx_client.specs.Calls.{Seated, HasHeard}
+use Rattle.tx_client.specs.Calls.{Seated}
 use Rattle.tx_client.specs.Sessions.{with_passed}
 use Rattle.tx_client.specs.Statuses.{Found, lies_above}
 use Rattle.tx_resolve.specs.declared.collector.Counts.{Counts}
@@ -23,7 +23,7 @@ use Rattle.tx_play.specs.Posts.{Desk, made_by, stage_of, Runs}
 use Rattle.tx_play.specs.Steps.{resolve, gc}
 use Rattle.tx_play.specs.Scenes.{Place, session, Scene, goes, stops, at_stage, seat_at, with_session, learns, resolves_by, resolves, collected_as, live_at, in_session, turn}
 use Rattle.tx_play.specs.Plays.{Leads}
-use Rattle.tx_play.specs.Places.{Kept, place_of, Held, name_at, scene_with, scene_of, at_regions, AllSeated, Serves, Finds, Goes, GoesTo, SessionGoes, Learnt, Resolves, Turned}
+use Rattle.tx_play.specs.Places.{Kept, place_of, Held, name_at, scene_with, scene_of, AllSeated, Serves, Goes, SessionGoes, Learnt, Resolves, Turned}
 use Rattle.tx_play.proofs.Keeping.{set_here, at_place_of, found, served}
 use Rattle.tx_play.proofs.Turning.{runs_lead, session_rests}
 use Rattle.tx_play.proofs.Engines.{put, back, is_live, step_stops}

@@ -1,4 +1,4 @@
-use Rattle.std.proofs.Common.{◌≡◌, length, Some, sym, ap, subst, ◌∙◌}
+use Rattle.std.proofs.Common.{length, Some, sym, ap, subst, ◌∙◌}
 use Rattle.tx_core.specs.Histories.{History}
 use Rattle.tx_core.specs.Recording.{part}
 use Rattle.tx_core.specs.Laws.{WasToldOf}
@@ -7,7 +7,7 @@ use Rattle.tx_resolve.specs.Reading.{read_walk}
 use Rattle.tx_resolve.proofs.Knowing.{told_on}
 use Rattle.tx_play.specs.declared.resolving.Direct.{Direct}
 use Rattle.tx_play.specs.declared.post.Way.TheVariants.{Plain}
-use Rattle.tx_play.specs.Posts.{stage_of, Runs, made_by}
+use Rattle.tx_play.specs.Posts.{stage_of, Runs}
 use Rattle.tx_play.specs.Places.{Serves}
 use Rattle.tx_play.proofs.Directly.{direct_ticks, direct_serves}
 use Rattle.tx_play.proofs.resolving.find.Goals as goal

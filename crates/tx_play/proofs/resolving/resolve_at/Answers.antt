@@ -1,4 +1,4 @@
-use Rattle.std.proofs.Common.{◌≡◌, ℕ, Some, None, option_map, Option, Ok, Err, is_some, refl, sym, ap, subst, ◌∙◌}
+use Rattle.std.proofs.Common.{◌≡◌, ℕ, Some, None, option_map, Option, Ok, refl, sym, ap, subst, ◌∙◌}
 use Rattle.tx_types.specs.declared.lock.LockInfo.{LockInfo}
 use Rattle.tx_core.specs.Histories.{History}
 use Rattle.tx_client.specs.Calls.{Seated}

@@ -1,6 +1,6 @@
 use Rattle.std.proofs.Common.{Ok, refl, subst}
 use Rattle.tx_play.specs.Steps.{gc}
-use Rattle.tx_play.specs.Places.{Held, texts, AllSeated, Goes, Turned}
+use Rattle.tx_play.specs.Places.{Held, texts, Goes, Turned}
 use Rattle.tx_play.proofs.Resolves.{step_collected}
 use Rattle.tx_play.proofs.engine.Engine.gc.Goals as goal
 
