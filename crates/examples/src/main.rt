@@ -8,10 +8,14 @@ use std::fs;
 use std::rt::Files;
 use tx_script::{check, simulate};
 
-const SCRIPTS: [&str; 6] = [
+const SCRIPTS: [&str; 10] = [
+    "abandoned_async.script",
+    "collection.script",
     "commit_then_read.script",
+    "late_prewrite_commits.script",
     "late_prewrite_is_refused.script",
     "lost_reply.script",
+    "push.script",
     "truncated_script.script",
     "two_regions.script",
     "write_conflict.script",
