@@ -7,7 +7,7 @@ use Rattle.tx_run.specs.declared.balance.TheConstants.{MAX_DIGITS, BALANCES}
 
 -- a text of 1 to 15 decimal digits
 abbrev pub is_balance : List ℕ → Bool
-is_balance text = nat_le 1 (length text) && nat_le (length text) MAX_DIGITS && list_all is_ascii_digit text
+is_balance text = nat_lt 0 (length text) && nat_le (length text) MAX_DIGITS && list_all is_ascii_digit text
 
 -- the number that it says; anything else says 0
 abbrev pub balance_of : List ℕ → ℕ

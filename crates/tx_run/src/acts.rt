@@ -1,6 +1,9 @@
 //! What the lines of a session do to it, but those that begin or end a transaction.
+ghost use Rattle.std.specs.Prelude.{◌≡◌, false, true};
+ghost use Rattle.tx_client.specs.Sessions.{is_declared};
+
 use crate::access::Access;
-use crate::reply::Reply;
+use crate::reply::Words;
 use std::sync::Wait;
 use tx_cells::Families;
 use tx_client::{Miss, Session, Terms};
@@ -10,30 +13,30 @@ use tx_steps::{Action, Request};
 use tx_types::{Cause, Fault, Key, Mode, Ts, Value};
 
 // The reply of a refusal.
-fn refused(fault: Fault) -> Reply {
+fn refused(fault: Fault) -> Words {
     match fault {
-        Fault::KeyLength => Reply::Said(tx_lines::Reply::KeyLength),
-        Fault::ValueLength => Reply::Said(tx_lines::Reply::ValueLength),
-        Fault::TooManyKeys => Reply::Said(tx_lines::Reply::TooManyKeys),
-        Fault::OracleSpent => Reply::OracleSpent,
-        _ => Reply::Said(tx_lines::Reply::OutOfMemory),
+        Fault::KeyLength => Words::Plain(tx_lines::Reply::KeyLength),
+        Fault::ValueLength => Words::Plain(tx_lines::Reply::ValueLength),
+        Fault::TooManyKeys => Words::Plain(tx_lines::Reply::TooManyKeys),
+        Fault::OracleSpent => Words::OracleSpent,
+        _ => Words::Plain(tx_lines::Reply::OutOfMemory),
     }
 }
 
 // The reply where there is nothing but a refusal to tell.
-pub(crate) fn done(came: Result<(), Fault>) -> Reply {
+pub(crate) fn done(came: Result<(), Fault>) -> Words {
     match came {
-        Ok(()) => Reply::Said(tx_lines::Reply::Fine),
+        Ok(()) => Words::Plain(tx_lines::Reply::Fine),
         Err(fault) => refused(fault),
     }
 }
 
-fn answered(came: Result<Answer, Miss>) -> Reply {
+fn answered(came: Result<Answer, Miss>) -> Words {
     match came {
-        Ok(Answer::Rows(rows)) => Reply::Rows(rows),
-        Ok(Answer::Locked(info)) => Reply::Locked(minimum_of(info.mode, info.min)),
-        Ok(answer) => Reply::Said(tx_lines::Reply::Answered(answer)),
-        Err(_) => Reply::Said(tx_lines::Reply::OutOfMemory),
+        Ok(Answer::Rows(rows)) => Words::Rows(rows),
+        Ok(Answer::Locked(info)) => Words::Locked(minimum_of(info.mode, info.min)),
+        Ok(answer) => Words::Plain(tx_lines::Reply::Answered(answer)),
+        Err(_) => Words::Plain(tx_lines::Reply::OutOfMemory),
     }
 }
 
@@ -45,9 +48,9 @@ fn minimum_of(mode: Mode, minimum: Ts) -> Ts {
     }
 }
 
-fn sent(came: Result<Option<Answer>, Miss>) -> Reply {
+fn sent(came: Result<Option<Answer>, Miss>) -> Words {
     match came {
-        Ok(None) => Reply::Said(tx_lines::Reply::Done),
+        Ok(None) => Words::Plain(tx_lines::Reply::Done),
         Ok(Some(answer)) => answered(Ok(answer)),
         Err(miss) => answered(Err(miss)),
     }
@@ -58,12 +61,11 @@ fn put<J: Naming, F: Families + Drop, R: Wait + Drop>(
     access: &Access<J, F, R>,
     key: &str,
     value: &str,
-) -> Result<(), Fault> {
+) -> Result<(), Fault>
+    requires { is_declared session.old.state ≡ false }
+{
     let key = Key::new(access.alloc, key.as_bytes())?;
     let value = Value::new(access.alloc, value.as_bytes())?;
-    if session.is_declared() {
-        return Err(Fault::OutOfMemory);
-    }
     session.put(key, value)
 }
 
@@ -71,11 +73,10 @@ fn delete<J: Naming, F: Families + Drop, R: Wait + Drop>(
     session: &mut Session<J>,
     access: &Access<J, F, R>,
     key: &str,
-) -> Result<(), Fault> {
+) -> Result<(), Fault>
+    requires { is_declared session.old.state ≡ false }
+{
     let key = Key::new(access.alloc, key.as_bytes())?;
-    if session.is_declared() {
-        return Err(Fault::OutOfMemory);
-    }
     session.delete(key)
 }
 
@@ -83,11 +84,10 @@ fn lock<J: Naming, F: Families + Drop, R: Wait + Drop>(
     session: &mut Session<J>,
     access: &Access<J, F, R>,
     key: &str,
-) -> Result<(), Fault> {
+) -> Result<(), Fault>
+    requires { is_declared session.old.state ≡ false }
+{
     let key = Key::new(access.alloc, key.as_bytes())?;
-    if session.is_declared() {
-        return Err(Fault::OutOfMemory);
-    }
     session.lock(key)
 }
 
@@ -96,7 +96,7 @@ fn edits<J: Naming, F: Families + Drop, R: Wait + Drop>(
     session: &mut Session<J>,
     access: &Access<J, F, R>,
     action: Action<'_>,
-) -> Result<Reply, Cause> {
+) -> Result<Words, Cause> {
     if session.is_declared() {
         return Err(Cause::Order);
     }
@@ -116,12 +116,12 @@ fn edits<J: Naming, F: Families + Drop, R: Wait + Drop>(
     }
 }
 
-fn draw<J: Naming>(session: &mut Session<J>) -> Result<Reply, Cause> {
+fn draw<J: Naming>(session: &mut Session<J>) -> Result<Words, Cause> {
     if !session.can_draw() {
         return Err(Cause::Order);
     }
     match session.draw_commit() {
-        Ok(commit) => Ok(Reply::Said(tx_lines::Reply::Drawn(commit))),
+        Ok(commit) => Ok(Words::Plain(tx_lines::Reply::Drawn(commit))),
         Err(fault) => Ok(refused(fault)),
     }
 }
@@ -130,10 +130,10 @@ fn resolve<J: Naming, F: Families + Drop, R: Wait + Drop>(
     session: &mut Session<J>,
     access: &mut Access<J, F, R>,
     now: u64,
-) -> Result<Reply, Cause> {
+) -> Result<Words, Cause> {
     match access.resolve(session, Some(Ts::new(now))) {
         Ok(None) => Err(Cause::Order),
-        Ok(Some(status)) => Ok(Reply::Resolved(status)),
+        Ok(Some(status)) => Ok(Words::Resolved(status)),
         Err(fault) => Ok(refused(fault)),
     }
 }
@@ -143,7 +143,7 @@ pub(crate) fn act<J: Naming, F: Families + Drop, R: Wait + Drop>(
     session: &mut Session<J>,
     access: &mut Access<J, F, R>,
     action: Action<'_>,
-) -> Result<Reply, Cause> {
+) -> Result<Words, Cause> {
     match action {
         Action::Draw => draw(session),
         Action::Resolve(now) => resolve(session, access, now),
@@ -156,7 +156,7 @@ fn get<J: Naming, F: Families + Drop, R: Wait + Drop>(
     session: &mut Session<J>,
     access: &Access<J, F, R>,
     key: &str,
-) -> Reply {
+) -> Words {
     match Key::new(access.alloc, key.as_bytes()) {
         Ok(key) => answered(access.get(session, &key)),
         Err(fault) => refused(fault),
@@ -169,7 +169,7 @@ fn scan<J: Naming, F: Families + Drop, R: Wait + Drop>(
     from: &str,
     to: &str,
     limit: u32,
-) -> Result<Reply, Fault> {
+) -> Result<Words, Fault> {
     let from = Key::new(access.alloc, from.as_bytes())?;
     let to = Key::new(access.alloc, to.as_bytes())?;
     Ok(answered(access.scan(session, &from, &to, limit)))
@@ -180,7 +180,7 @@ pub(crate) fn send<J: Naming, F: Families + Drop, R: Wait + Drop>(
     session: &mut Session<J>,
     access: &Access<J, F, R>,
     request: Request<'_>,
-) -> Result<Reply, Cause> {
+) -> Result<Words, Cause> {
     match request {
         Request::Get(key) => Ok(get(session, access, key)),
         Request::Scan(from, to, limit) => match scan(session, access, from, to, limit) {

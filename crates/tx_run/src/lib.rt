@@ -7,6 +7,9 @@ mod access;
 mod acts;
 mod balance;
 mod job;
+mod log;
+mod place;
+mod play;
 mod reply;
 mod run;
 mod script;
@@ -14,6 +17,9 @@ mod seeds;
 #[cfg(test)]
 mod tests;
 mod transfer;
+mod write;
 
-pub use reply::{Reply, Spoken};
-pub use run::{Fresh, run_script};
+pub use play::{Fresh, Played};
+pub use reply::{Reply, Spoken, Words};
+pub use run::run_script;
+pub use seeds::Total;

@@ -6,13 +6,11 @@ use tx_core::Outcome;
 use tx_lines::{put_number, put_reply, put_text};
 use tx_types::{Cause, KeyValues, Ts};
 
-/// What a line is answered.
+/// What a line is answered that tells no outcome.
 #[derive(Debug, Drop)]
-pub enum Reply {
+pub enum Words {
     /// What other programs say too.
-    Said(tx_lines::Reply),
-    /// The outcome of the transaction that started there.
-    Ended(Ts, Outcome),
+    Plain(tx_lines::Reply),
     /// How many regions there are.
     Regions(usize),
     Rows(KeyValues),
@@ -23,6 +21,14 @@ pub enum Reply {
     OracleSpent,
     /// A fault of the script: it ends its session.
     Fault(Cause),
+}
+
+/// What a line is answered.
+#[derive(Debug, Drop)]
+pub enum Reply {
+    Said(Words),
+    /// The outcome of the transaction that started there.
+    Ended(Ts, Outcome),
 }
 
 /// A line, by its number, and its answer.
@@ -72,12 +78,7 @@ fn put_status(out: &mut Vec<u8>, status: Status) -> Result<(), AllocError> {
 }
 
 // Appends a row, with a comma before it unless it is the first.
-fn put_row(
-    out: &mut Vec<u8>,
-    place: usize,
-    key: &[u8],
-    value: &[u8],
-) -> Result<(), AllocError> {
+fn put_row(out: &mut Vec<u8>, place: usize, key: &[u8], value: &[u8]) -> Result<(), AllocError> {
     if place > 0 {
         out.extend_from_slice(b",")?;
     }
@@ -111,18 +112,18 @@ fn cause_word(cause: Cause) -> &'static str {
     }
 }
 
-fn put_words(out: &mut Vec<u8>, reply: &Reply) -> Result<(), AllocError> {
-    match reply {
-        Reply::Said(_) | Reply::Ended(..) => Ok(()),
-        Reply::Regions(count) => put_numbered(out, "regions", *count as u64),
-        Reply::Rows(rows) => put_rows(out, rows),
-        Reply::Locked(minimum) => put_numbered(out, "locked", minimum.get()),
-        Reply::Resolved(status) => {
+fn put_words(out: &mut Vec<u8>, words: &Words) -> Result<(), AllocError> {
+    match words {
+        Words::Plain(_) => Ok(()),
+        Words::Regions(count) => put_numbered(out, "regions", *count as u64),
+        Words::Rows(rows) => put_rows(out, rows),
+        Words::Locked(minimum) => put_numbered(out, "locked", minimum.get()),
+        Words::Resolved(status) => {
             put_word(out, "status")?;
             put_status(out, *status)
         }
-        Reply::OracleSpent => put_word(out, "E11"),
-        Reply::Fault(cause) => {
+        Words::OracleSpent => put_word(out, "E11"),
+        Words::Fault(cause) => {
             put_word(out, "E16")?;
             put_word(out, cause_word(*cause))
         }
@@ -132,14 +133,14 @@ fn put_words(out: &mut Vec<u8>, reply: &Reply) -> Result<(), AllocError> {
 /// Appends the line of an answer, with its newline.
 pub(crate) fn put_line(out: &mut Vec<u8>, spoken: &Spoken) -> Result<(), AllocError> {
     match &spoken.reply {
-        Reply::Said(reply) => put_reply(out, spoken.number, reply),
+        Reply::Said(Words::Plain(reply)) => put_reply(out, spoken.number, reply),
         Reply::Ended(_, outcome) => {
             put_reply(out, spoken.number, &tx_lines::Reply::Ended(*outcome))
         }
-        other => {
+        Reply::Said(words) => {
             out.extend_from_slice(b"[")?;
             put_digits(out, spoken.number)?;
-            put_words(out, other)?;
+            put_words(out, words)?;
             out.extend_from_slice(b"]\n")
         }
     }

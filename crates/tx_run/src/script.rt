@@ -31,13 +31,9 @@ pub(crate) struct Said {
 pub(crate) struct Script {
     /// The keys between the regions; none where line 1 says none.
     pub bounds: Vec<Key>,
-    /// How many regions there are.
-    pub regions: usize,
     pub seeds: Vec<Said>,
     /// The lines of each session, in the order of their first lines.
     pub sessions: Vec<Vec<Said>>,
-    /// How many lines there are.
-    pub lines: u64,
 }
 
 // Which session has this name.
@@ -51,10 +47,8 @@ struct Reading {
 // The name of the session of a step; none of a seed's.
 fn name_of<'a>(step: Step<'a>) -> Option<&'a str> {
     match step {
-        Step::Begin(name)
-        | Step::Act(name, _)
-        | Step::Send(name, _, _)
-        | Step::Transfer(name, _) => Some(name),
+        Step::Begin(name) | Step::Act(name, _) | Step::Send(name, _, _) | Step::Transfer(name, _) =>
+            Some(name),
         _ => None,
     }
 }
@@ -78,10 +72,8 @@ impl Reading {
             alloc,
             script: Script {
                 bounds: Vec::new(alloc),
-                regions: 1,
                 seeds: Vec::new(alloc),
                 sessions: Vec::new(alloc),
-                lines: 0,
             },
             places: BTreeMap::new(alloc),
         }
@@ -172,7 +164,7 @@ pub(crate) fn read_script<B: BufRead>(
             Found::Line => reading.take(number, text.as_slice())?,
         };
         match taken {
-            Ok(()) => reading.script.lines = number,
+            Ok(()) => {}
             Err(cause) => return Ok(Err((number, cause))),
         }
     }

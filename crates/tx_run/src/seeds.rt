@@ -1,8 +1,12 @@
 //! The seeds of a run, each a transaction of its own, and what all keys have at its end.
+ghost use Rattle.std.specs.Prelude.{◌≡◌, All, None, true, false, IfOk, OnOk};
+ghost use Rattle.tx_client.specs.Sessions.{is_declared};
+ghost use Rattle.tx_run.specs.Outcomes.{start_of};
+
 use crate::access::Access;
 use crate::acts::done;
 use crate::balance::{BALANCES, balance_of};
-use crate::reply::{Reply, Spoken};
+use crate::reply::{Reply, Spoken, Words};
 use crate::script::Said;
 use crate::transfer::TTL;
 use std::alloc::Global;
@@ -28,10 +32,10 @@ fn put<J: Naming, F: Families + Drop, R: Wait + Drop>(
     access: &Access<J, F, R>,
     key: Key,
     value: Value,
-) -> Result<(), Fault> {
-    if session.is_declared() {
-        return Err(Fault::OutOfMemory);
-    }
+) -> Result<(), Fault>
+    requires { is_declared session.old.state ≡ false }
+    ensures { OnOk result (is_declared session.new.state ≡ true) }
+{
     session.put(key, value)?;
     session.declare(access.alloc, TERMS)
 }
@@ -40,8 +44,10 @@ fn put<J: Naming, F: Families + Drop, R: Wait + Drop>(
 fn commit<J: Naming, F: Families + Drop, R: Wait + Drop>(
     session: &mut Session<J>,
     access: &Access<J, F, R>,
-) -> Result<(), Fault> {
-    if !session.is_declared() || access.prewrite(session).is_err() {
+) -> Result<(), Fault>
+    requires { is_declared session.old.state ≡ true }
+{
+    if access.prewrite(session).is_err() {
         return Err(Fault::OutOfMemory);
     }
     if session.can_draw() {
@@ -51,6 +57,19 @@ fn commit<J: Naming, F: Families + Drop, R: Wait + Drop>(
         return Err(Fault::OutOfMemory);
     }
     Ok(())
+}
+
+// Puts the value on the key, and commits it.
+fn write<J: Naming, F: Families + Drop, R: Wait + Drop>(
+    session: &mut Session<J>,
+    access: &Access<J, F, R>,
+    key: Key,
+    value: Value,
+) -> Result<(), Fault>
+    requires { is_declared session.old.state ≡ false }
+{
+    put(session, access, key, value)?;
+    commit(session, access)
 }
 
 // Ends the session, whatever it came to.
@@ -80,11 +99,8 @@ fn seed<J: Naming, F: Families + Drop, R: Wait + Drop>(
         Ok((key, value)) => match Session::begin(access.alloc, seat) {
             Err(seat) => (seat, Err(Fault::OracleSpent)),
             Ok(mut session) => {
-                let mut result = put(&mut session, access, key, value);
-                if result.is_ok() {
-                    result = commit(&mut session, access);
-                }
-                (end(session), result)
+                let written = write(&mut session, access, key, value);
+                (end(session), written)
             }
         },
     }
@@ -95,14 +111,14 @@ fn play<J: Naming, F: Families + Drop, R: Wait + Drop>(
     seat: Seat<J>,
     access: &Access<J, F, R>,
     said: &Said,
-) -> (Seat<J>, Reply) {
+) -> (Seat<J>, Words) {
     if let Ok(Ok(line)) = Line::read(access.alloc, said.number, said.text.as_slice()) {
         if let Some(Step::Seed(key, value)) = line.step(Program::Run) {
             let (seat, result) = seed(seat, access, key, value);
             return (seat, done(result));
         }
     }
-    (seat, Reply::Said(tx_lines::Reply::OutOfMemory))
+    (seat, Words::Plain(tx_lines::Reply::OutOfMemory))
 }
 
 /// Makes the seeds in the order of their lines, and keeps their answers.
@@ -111,13 +127,16 @@ pub(crate) fn play_seeds<J: Naming, F: Families + Drop, R: Wait + Drop>(
     access: &Access<J, F, R>,
     seeds: &[Said],
     replies: &mut Vec<Spoken>,
-) -> Result<Seat<J>, Broken> {
+) -> Result<Seat<J>, Broken>
+    requires { All (λ s. start_of s.reply ≡ None) replies.old.items }
+    ensures { OnOk result (All (λ s. start_of s.reply ≡ None) replies.new.items) }
+{
     for said in seeds {
-        let (next, reply) = play(seat, access, said);
+        let (next, words) = play(seat, access, said);
         seat = next;
         let spoken = Spoken {
             number: said.number,
-            reply,
+            reply: Reply::Said(words),
         };
         if replies.push(spoken).is_err() {
             drop(seat);
@@ -129,7 +148,7 @@ pub(crate) fn play_seeds<J: Naming, F: Families + Drop, R: Wait + Drop>(
 
 /// A sum of balances: `low` is below 10^15, and `high` counts 10^15 each.
 #[derive(Clone, Copy, Debug)]
-pub(crate) struct Total {
+pub struct Total {
     pub high: u64,
     pub low: u64,
 }

@@ -1,40 +1,32 @@
 //! Runs, by several numbers of workers.
-use crate::run_script;
+use crate::{Played, Reply, run_script};
 use std::alloc::{AllocError, Global};
 use std::sync::Wait;
 use std::test::Fail;
 use std::thread::Threads;
 use tx_cells::{FlatCells, NestedCells};
+use tx_core::Outcome;
 use tx_lines::Broken;
 use tx_sched::Open;
 
-// Plays a script, and gives what it writes.
+// Plays a script, and writes what it is answered.
 fn run<R: Threads + Wait + Sync + Send + Clone + Drop>(
     rt: &R,
     alloc: Global,
     workers: usize,
     input: &[u8],
-) -> Result<Vec<u8>, Broken> {
+    output: &mut Vec<u8>,
+) -> Result<Option<Played>, Broken> {
     let mut reader = input;
-    let mut output: Vec<u8> = Vec::new(alloc);
-    let ended = run_script::<FlatCells, _, _, _, _>(
+    let (_, played) = run_script::<FlatCells, _, _, _, _>(
         rt,
         alloc,
         workers,
         &Open,
         &mut reader,
-        &mut output,
-    );
-    match ended {
-        Ok(ended) => {
-            drop(ended);
-            Ok(output)
-        }
-        Err(e) => {
-            drop(output);
-            Err(e)
-        }
-    }
+        output,
+    )?;
+    Ok(played)
 }
 
 // Whether a script writes just this.
@@ -44,8 +36,10 @@ fn writes<R: Threads + Wait + Sync + Send + Clone + Drop>(
     script: &str,
     wanted: &str,
 ) -> Result<bool, Broken> {
-    let text = run(rt, alloc, 2, script.as_bytes())?;
-    let same = text.as_slice() == wanted.as_bytes();
+    let mut text = Vec::new(alloc);
+    let played = run(rt, alloc, 2, script.as_bytes(), &mut text);
+    let same = played.is_ok() && text.as_slice() == wanted.as_bytes();
+    drop(played);
     drop(text);
     Ok(same)
 }
@@ -118,92 +112,89 @@ fn transfers(alloc: Global, sessions: u32, rounds: u32) -> Result<String, AllocE
 
 fn transfer(alloc: Global, i: u32, j: u32) -> Result<String, AllocError> {
     let from = i.wrapping_add(j) % 10;
-    let to = i.wrapping_mul(3).wrapping_add(j.wrapping_mul(7)).wrapping_add(1) % 10;
+    let to = i
+        .wrapping_mul(3)
+        .wrapping_add(j.wrapping_mul(7))
+        .wrapping_add(1)
+        % 10;
     let mode = if j % 2 == 0 { "async" } else { "two-phase" };
     format!(in alloc; "[\"transfer\",\"S{j}\",\"a{from}\",\"a{to}\",1,\"{mode}\"]\n")
 }
 
-// The numbers of the last line but one, and of the last, where these are `["outcomes",..]` and `["total",n]`, and how many
-// lines there are.
+// How many outcomes of each kind there are, how many answers, and the sum of all balances.
 #[derive(Clone, Copy, Debug, PartialEq, Eq)]
 struct Sums {
-    lines: usize,
-    outcomes: [u64; 4],
+    answers: usize,
+    committed: u32,
+    aborted: u32,
+    unknown: u32,
+    read_only: u32,
     total: u64,
 }
 
-// The next number in the text, and what comes after it.
-fn next_number(text: &str) -> (u64, &str) {
-    let mut number: u64 = 0;
-    let mut seen = false;
-    for (place, c) in text.char_indices() {
-        match c.to_digit(10) {
-            Some(digit) => {
-                number = number.wrapping_mul(10).wrapping_add(u64::from(digit));
-                seen = true;
-            }
-            None => if seen {
-                return (number, &text[place..]);
-            },
+fn sums_of(played: &Played) -> Sums {
+    let mut sums = Sums {
+        answers: played.replies.len(),
+        committed: 0,
+        aborted: 0,
+        unknown: 0,
+        read_only: 0,
+        total: played.total.low,
+    };
+    for spoken in &played.replies {
+        match &spoken.reply {
+            Reply::Said(_) => {}
+            Reply::Ended(_, Outcome::Committed(_)) => sums.committed = sums
+                .committed
+                .wrapping_add(1),
+            Reply::Ended(_, Outcome::Aborted) => sums.aborted = sums.aborted.wrapping_add(1),
+            Reply::Ended(_, Outcome::Unknown(_)) => sums.unknown = sums.unknown.wrapping_add(1),
+            Reply::Ended(_, Outcome::ReadOnly) => sums.read_only = sums.read_only.wrapping_add(1),
         }
     }
-    (number, "")
+    sums
 }
 
-fn sums_of(text: &str) -> Option<Sums> {
-    let lines = text.lines().count();
-    let start = text.find("[\"outcomes\",")?;
-    let (committed, rest) = next_number(&text[start..]);
-    let (aborted, rest) = next_number(rest);
-    let (unknown, rest) = next_number(rest);
-    let (read_only, rest) = next_number(rest);
-    let (total, _) = next_number(rest);
-    Some(Sums {
-        lines,
-        outcomes: [committed, aborted, unknown, read_only],
-        total,
-    })
-}
-
-fn sums<R: Threads + Wait + Sync + Send + Clone + Drop>(
+// What comes of a hundred rounds of transfers by so many sessions.
+fn sums_by<R: Threads + Wait + Sync + Send + Clone + Drop>(
     rt: &R,
     alloc: Global,
     workers: usize,
     sessions: u32,
 ) -> Result<Option<Sums>, Broken> {
     let script = transfers(alloc, sessions, 100)?;
-    let text = run(rt, alloc, workers, script.as_bytes())?;
-    let sums = match str::from_utf8(text.as_slice()) {
-        Ok(text) => sums_of(text),
-        Err(_) => None,
-    };
+    let mut text = Vec::new(alloc);
+    let played = run(rt, alloc, workers, script.as_bytes(), &mut text);
     drop(text);
     drop(script);
-    Ok(sums)
+    match played {
+        Ok(Some(played)) => {
+            let sums = sums_of(&played);
+            drop(played);
+            Ok(Some(sums))
+        }
+        Ok(None) => Ok(None),
+        Err(e) => Err(e),
+    }
 }
 
 // What must be so of eight sessions, whatever the schedule.
-fn keeps(sums: Option<Sums>) -> bool {
-    match sums {
-        Some(Sums {
-            lines,
-            outcomes: [committed, aborted, unknown, read_only],
-            total,
-        }) => {
-            lines == 813
-                && unknown == 0
-                && committed.wrapping_add(aborted).wrapping_add(read_only) == 800
-                && total == 1000
-        }
-        None => false,
-    }
+fn keeps(sums: Sums) -> bool {
+    sums.answers == 811
+        && sums.unknown == 0
+        && sums
+            .committed
+            .wrapping_add(sums.aborted)
+            .wrapping_add(sums.read_only)
+            == 800
+        && sums.total == 1000
 }
 
 #[test]
 fn transfers_keep_the_total(rt: HostRuntime) -> Result<(), Fail> {
     for workers in [1, 2, 4, 8] {
-        let sums = sums(&rt, rt.alloc(), workers, 8)?;
-        assert!(rt; keeps(sums), "{workers} workers: {sums:?}");
+        let sums = sums_by(&rt, rt.alloc(), workers, 8)?;
+        assert!(rt; sums.is_some_and(keeps), "{workers} workers: {sums:?}");
     }
     Ok(())
 }
@@ -212,11 +203,14 @@ fn transfers_keep_the_total(rt: HostRuntime) -> Result<(), Fail> {
 fn one_session_commits_each_transfer(rt: HostRuntime) -> Result<(), Fail> {
     for workers in [1, 2, 4, 8] {
         let wanted = Sums {
-            lines: 113,
-            outcomes: [100, 0, 0, 0],
+            answers: 111,
+            committed: 100,
+            aborted: 0,
+            unknown: 0,
+            read_only: 0,
             total: 1000,
         };
-        assert_eq!(rt; sums(&rt, rt.alloc(), workers, 1)?, Some(wanted));
+        assert_eq!(rt; sums_by(&rt, rt.alloc(), workers, 1)?, Some(wanted));
     }
     Ok(())
 }

@@ -1,5 +1,10 @@
 //! A transfer: a transaction that reads the balances of two keys and moves an amount from the first to the second. Each of its
 //! requests is one step.
+ghost use Rattle.std.specs.Prelude.{◌≡◌, ◌<◌, false, IfErr};
+ghost use Rattle.tx_types.specs.declared.fault.Fault.TheVariants as fault;
+ghost use Rattle.tx_client.specs.Sessions.{is_declared};
+ghost use Rattle.tx_run.specs.declared.balance.TheConstants.{BALANCES};
+
 use crate::access::Access;
 use crate::balance::{after_transfer, balance_of, value_of};
 use std::alloc::Global;
@@ -56,6 +61,7 @@ pub(crate) struct Moving {
     late: u32,
     /// The slots of the lock that is to be resolved next.
     resolving: Option<Vec<Slot>>,
+    ghost small: { found < BALANCES },
 }
 
 impl Moving {
@@ -74,7 +80,9 @@ impl Moving {
     }
 
     /// The slots of its next step.
-    pub fn slots(&self, alloc: Global) -> Result<Vec<Slot>, Fault> {
+    pub fn slots(&self, alloc: Global) -> Result<Vec<Slot>, Fault>
+        ensures { IfErr result (λ e. e ≡ fault.OutOfMemory) }
+    {
         let mut slots = Vec::new(alloc);
         if let Some(met) = &self.resolving {
             slots.extend_from_slice(met.as_slice())?;
@@ -122,11 +130,12 @@ fn declare<J: Naming>(
     session: &mut Session<J>,
     alloc: Global,
     moving: &Moving,
-    (from, to): (u64, u64),
-) -> Result<(), Fault> {
-    if session.is_declared() {
-        return Err(Fault::OutOfMemory);
-    }
+    left: (u64, u64),
+) -> Result<(), Fault>
+    requires declared { is_declared session.old.state ≡ false }
+    requires most { (left.0 < BALANCES) × (left.1 < BALANCES) }
+{
+    let (from, to) = left;
     session.put(moving.from.clone()?, value_of(alloc, from)?)?;
     session.put(moving.to.clone()?, value_of(alloc, to)?)?;
     session.declare(
@@ -141,7 +150,9 @@ fn declare<J: Naming>(
 
 impl Moving {
     // The balance of a key was read.
-    fn read<J: Naming>(&mut self, session: &mut Session<J>, alloc: Global, balance: u64) -> After {
+    fn read<J: Naming>(&mut self, session: &mut Session<J>, alloc: Global, balance: u64) -> After
+        requires { balance < BALANCES }
+    {
         if self.stage == Stage::ReadFrom {
             self.found = balance;
             self.stage = Stage::ReadTo;
@@ -150,6 +161,9 @@ impl Moving {
         let Some(left) = after_transfer(self.found, balance, self.amount) else {
             return After::Ends;
         };
+        if session.is_declared() {
+            return After::Ends;
+        }
         match declare(session, alloc, self, left) {
             Ok(()) => {
                 self.stage = Stage::Prewrite;
