@@ -63,15 +63,13 @@ and_right true b e = e
 and_right false b e = absurd (cc)
 
 pub all_of : (text : List ℕ) → is_balance text ≡ true → list_all is_ascii_digit text ≡ true
-all_of text is = and_right (nat_le (length text) 15) _ (and_right (nat_lt 0 (length text)) _ is)
+all_of text is = and_right (nat_lt 0 (length text) && nat_le (length text) 15) (list_all is_ascii_digit text) is
 
 pub few_of : (text : List ℕ) → is_balance text ≡ true → length text ≤ 15
-few_of text is = leb-true (length text) 15 (and_left (nat_le (length text) 15) (list_all is_ascii_digit text) (and_right (nat_lt 0 (length text)) _ is))
+few_of text is = leb-true (length text) 15 (and_right (nat_lt 0 (length text)) (nat_le (length text) 15) (and_left (nat_lt 0 (length text) && nat_le (length text) 15) (list_all is_ascii_digit text) is))
 
 pub balance_less : (text : List ℕ) → is_balance text ≡ true → digits_value 10 text < 1000000000000000
-balance_less text is =
-    let few = and_right (nat_lt 0 (length text)) (nat_le (length text) 15 && list_all is_ascii_digit text) is in
-    digits_value_short own text 15 (and_right (nat_le (length text) 15) (list_all is_ascii_digit text) few) (leb-true (length text) 15 (and_left (nat_le (length text) 15) (list_all is_ascii_digit text) few))
+balance_less text is = digits_value_short own text 15 (all_of text is) (few_of text is)
 
 -- the text of a balance says it
 pub decimal_says : (n : ℕ) → n < 1000000000000000 → balance_of (decimal n) ≡ n

@@ -47,7 +47,7 @@ front_from : (first : ℕ) (all front : List Known) (x : Known) → all ≡ fron
 front_from first all front x is from k s e =
     let within = slice_get_within front k s e in
     let there : slice_get (front ++ x ∷ []) k ≡ Some s =
-        slice_get-get_or (front ++ x ∷ []) k s (omega (arith, within, length-append front (x ∷ []))) ∙ ap Some (get_or_append_left front (x ∷ []) s k within ∙ get_or_from_slice_get front k s s e) in
+    slice_get-get_or (front ++ x ∷ []) k s (omega (arith, within, length-append front (x ∷ []))) ∙ ap Some (get_or_append_left front (x ∷ []) s k within ∙ get_or_from_slice_get front k s s e) in
     from k s (subst (λ l. slice_get l k ≡ Some s) (sym is) there)
 
 module _ (first : ℕ) (all mid rest : List Known) (seat resolver : Known) (one : all ≡ mid ++ seat ∷ []) (two : mid ≡ rest ++ resolver ∷ []) (from : AreFrom first all) where

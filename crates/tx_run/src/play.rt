@@ -59,6 +59,7 @@ fn open<J: Naming, F: Fresh>(
 ) -> Result<(Store<J, F>, Vec<Seat<J>>), Fault>
     requires name { (opened.table ≡ J.table) × (opened.bounds ≡ J.bounds) × (opened.seats ≡ J.seats) }
     requires count { (regions ≡ length J.bounds + 1) × (regions ≤ 64) × (regions ≤ J.seats) }
+    ensures { IfOk result (λ r. AreFrom (length J.bounds + 1) r.1.items) }
 {
     let (journal, mut seats) = opened.named::<J>(alloc)?;
     let others = seats.split_off(regions)?;
@@ -142,7 +143,7 @@ fn gather<J: Naming>(
     let mut faulted = false;
     for out in outs {
         let fault = join(out, seat, replies)?;
-        faulted = faulted || fault;
+        faulted |= fault;
     }
     Ok(faulted)
 }
@@ -213,7 +214,8 @@ where
     ensures { IfOk result (λ outs. AreFalling outs.items) }
 {
     let jobs = jobs(rt, alloc, store, seats, sessions)?;
-    run_sessions(rt, alloc, workers, jobs, gate)
+    let outs = run_sessions(rt, alloc, workers, jobs, gate)?;
+    Ok(outs)
 }
 // The first line's answer, where it says the keys between regions.
 fn tell_regions(replies: &mut Vec<Spoken>, regions: usize) -> Result<(), Broken>
