@@ -1,5 +1,0 @@
--- Why a run tells what it promises.
-pub mod Answering
-pub mod Digits
-pub mod Gathering
-pub mod Seating

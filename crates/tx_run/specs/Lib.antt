@@ -1,3 +1,0 @@
-pub mod Balances
-pub mod Outcomes
-pub mod Logs
