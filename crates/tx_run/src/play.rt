@@ -217,6 +217,7 @@ where
     let outs = run_sessions(rt, alloc, workers, jobs, gate)?;
     Ok(outs)
 }
+
 // The first line's answer, where it says the keys between regions.
 fn tell_regions(replies: &mut Vec<Spoken>, regions: usize) -> Result<(), Broken>
     requires { All (λ s. start_of s.reply ≡ None) replies.old.items }
@@ -255,9 +256,9 @@ where
         seeds,
         sessions,
     } = script;
-    let (store, mut access, seat, seats) = set_out::<J, F, R>(rt, alloc, opened, regions).map_err(
-        memory,
-    )?;
+    let Ok((store, mut access, seat, seats)) = set_out::<J, F, R>(rt, alloc, opened, regions) else {
+        return Err(Broken::Memory);
+    };
     let mut replies = Vec::new(alloc);
     tell_regions(&mut replies, regions)?;
     let mut seat = play_seeds(seat, &access, seeds.as_slice(), &mut replies)?;
