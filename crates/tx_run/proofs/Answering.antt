@@ -1,18 +1,16 @@
 -- The answers of one session, as its seat goes on.
-use Rattle.std.proofs.Common.{◌≡◌, ◌≢◌, ◌⊎◌, inl, inr, ℕ, ◌+◌, ◌<◌, ◌==◌, Bool, true, false, cond, List, [], ◌∷◌, ◌++◌, All, length, get_or, Option, Some, None, Ok, Err, refl, sym, ap, subst, ◌∙◌}
-use Rattle.std.specs.List.{AllPairs}
+use Rattle.std.proofs.Common.{◌≡◌, ◌≢◌, inl, inr, ℕ, true, false, List, [], ◌∷◌, ◌++◌, All, get_or, Some, refl, sym, ap, subst, ◌∙◌}
 use Rattle.std.proofs.lemmas.List.Elements.{All-push}
 use Rattle.std.proofs.lemmas.List.Quantifiers.{all_pairs_push}
 use Rattle.tx_types.specs.declared.key.Key.{Key}
 use Rattle.tx_core.specs.declared.event.Outcome.{Outcome}
-use Rattle.tx_core.specs.declared.event.Event.{Event}
-use Rattle.tx_core.specs.declared.event.Event.TheVariants.{Drawn, Began, Declared, Answered, Stopped, Took}
-use Rattle.tx_core.specs.Histories.{History, Among, Begins, drawer, answered}
+use Rattle.tx_core.specs.declared.event.Event.TheVariants.{Answered, Took}
+use Rattle.tx_core.specs.Histories.{History, Among, Begins, answered}
 use Rattle.tx_core.specs.Worlds.{IsWorldRun}
 use Rattle.tx_core.proofs.Basics.{nat_same}
 use Rattle.tx_core.proofs.seats.Beginnings.{begins_more, begins_all, extends_begins}
 use Rattle.tx_core.proofs.seats.Staying.{drawer_on, answered_on, among_on}
-use Rattle.tx_journal.specs.Known.{Known, HasSeen, HasRecorded}
+use Rattle.tx_journal.specs.Known.{Known, HasSeen}
 use Rattle.tx_types.specs.declared.lock.LockInfo.{LockInfo}
 use Rattle.tx_core.specs.Laws.{WasToldOf}
 use Rattle.tx_client.specs.Calls.{Records}

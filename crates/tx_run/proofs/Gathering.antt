@@ -1,5 +1,5 @@
 -- The answers of several sessions in one list.
-use Rattle.std.proofs.Common.{◌≡◌, ◌≢◌, ◌⊎◌, inl, inr, ℕ, suc, ◌∷◌, ◌+◌, ◌-◌, ◌<◌, ◌≤◌, List, ◌++◌, All, length-append, None, length, get_or, Option, Some, refl, sym, ap, subst, ◌∙◌, arith}
+use Rattle.std.proofs.Common.{◌≡◌, inl, inr, ℕ, suc, ◌∷◌, ◌+◌, ◌-◌, ◌<◌, ◌≤◌, List, ◌++◌, All, length-append, None, length, get_or, Option, Some, refl, ap, subst, ◌∙◌, arith}
 use Rattle.std.specs.List.{AllPairs}
 use Rattle.std.proofs.lemmas.List.Elements.{All-append}
 use Rattle.std.proofs.lemmas.List.{get_or_append_left, get_or-append-add}
@@ -13,7 +13,7 @@ use Rattle.tx_run.specs.declared.reply.Reply.{Reply}
 use Rattle.tx_run.specs.declared.reply.Reply.TheVariants.{Said, Ended}
 use Rattle.tx_run.specs.declared.reply.Spoken.{Spoken}
 use Rattle.tx_run.specs.Outcomes.{IsTold, start_of, AreApart, TellsOutcomes}
-use Rattle.tx_run.specs.Logs.{StandsBy, TellsBy, IsAbove, Working, Came, AreFalling}
+use Rattle.tx_run.specs.Logs.{StandsBy, TellsBy, IsAbove, Working, AreFalling}
 
 pairs_append : {X : Type 0} (R : X → X → Type 0) (xs ys : List X) → AllPairs R xs → AllPairs R ys → ((i j : ℕ) (d : X) → i < length xs → j < length ys → R (get_or xs i d) (get_or ys j d)) → AllPairs R (xs ++ ys)
 pairs_append R xs ys a b cross i j d lt bound =

@@ -1,5 +1,5 @@
 -- The limits of a script that is played.
-use Rattle.std.specs.Prelude.{◌<◌, ◌≤◌, ◌*◌, vec_len}
+use Rattle.std.specs.Prelude.{◌<◌, ◌≤◌, vec_len}
 use Rattle.tx_types.specs.declared.limits.TheConstants.{MAX_REGIONS, MAX_LIVE_SESSIONS}
 use Rattle.tx_journal.specs.Known.{AreRising}
 use Rattle.tx_run.specs.declared.script.Script.{Script}

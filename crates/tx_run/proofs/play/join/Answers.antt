@@ -1,4 +1,4 @@
-use Rattle.std.proofs.Common.{◌≡◌, ◌+◌, ◌++◌, sym, ap, subst, ◌∙◌, All, List, ℕ, get_or, length, ◌<◌}
+use Rattle.std.proofs.Common.{◌+◌, ◌++◌, sym, ap, subst, ◌∙◌, All, List, ℕ}
 use Rattle.tx_core.proofs.seats.Beginnings.{extends_begins}
 use Rattle.tx_run.specs.declared.reply.Spoken.{Spoken}
 use Rattle.tx_core.specs.Histories.{History, Begins}

@@ -1,4 +1,4 @@
-use Rattle.std.proofs.Common.{◌≡◌, ◌+◌, length, subst, arith, ℕ}
+use Rattle.std.proofs.Common.{subst, arith, ℕ}
 use Rattle.tx_store.proofs.Making.{are_dealt}
 use Rattle.tx_run.specs.Logs.{AreFrom}
 use Rattle.tx_run.proofs.Seating.{from_drop}
