@@ -1,16 +1,13 @@
 //! The commands of the program, and their help.
-use clap::builder::ValueParser;
-use clap::{Arg, ArgMatches, Command, Error};
+use clap::{ArgMatches, Command, Error};
 use std::alloc::Global;
 use std::env::Env;
 use std::{env, io};
-use tx_types::limits::MAX_WORKERS;
 
 static ABOUT: &str = "The transaction layer of a key-value store, in one process";
 
 static EXAMPLES: &str = "Examples:
   txkv simulate < commit_then_read.script   Run a script of sessions
-  txkv run --workers 4 < transfers.script  Run its sessions side by side
   txkv check < commit_then_read.trace       Check a trace of machine steps
   txkv simulate --help                      Show the steps of a script
   txkv check --help                         Show the steps of a trace
@@ -37,19 +34,6 @@ Examples:
   echo '[\"begin\",\"A\"]' | txkv simulate           [1,\"start\",1], status 0
   echo '[\"get\",\"A\",\"a\"]' | txkv simulate         [1,\"E16\",\"name\"], no session is live, status 2";
 
-static RUN_ABOUT: &str = "Run the sessions of a script side by side, on several threads";
-
-static RUN_HELP: &str = "The script is read whole. Its seeds run in the order of their lines, and then the lines of each session in
-theirs, the sessions side by side; s names a session:
-  [\"regions\",[key,..]]                  In line 1 alone: the keys between the regions
-  [\"seed\",key,value]                    Puts a value on a key, in a transaction of its own
-  [\"transfer\",s,from,to,amount,mode]    Moves an amount between two balances; mode is \"two-phase\" or \"async\"
-and the steps of sessions: begin, put, delete, lock, get, scan, declare, prewrite, draw, commit, abort, heartbeat,
-finish, stop and resolve, with no words after them of what becomes of a request.
-
-A balance is a text of 1 to 15 decimal digits. The replies come in the order of the lines; then the counts of the outcomes
-committed, aborted, unknown and read-only, and the sum of all balances.";
-
 static CHECK_ABOUT: &str =
     "Check a trace: is it a run of the machine that commits each transaction in one step?";
 
@@ -72,16 +56,11 @@ Examples:
 #[derive(Clone, Copy, Debug, PartialEq, Eq)]
 pub enum Job {
     Simulate,
-    /// By so many workers.
-    Run(usize),
     Check,
 }
 
 /// The job of a command line that was read.
 pub fn job_of(matches: &ArgMatches<'_>) -> Job {
-    if let Some(run) = matches.subcommand_matches("run") {
-        return Job::Run(run.get_one::<usize>("workers").unwrap_or(1));
-    }
     match matches.subcommand_name() {
         Some("simulate") => Job::Simulate,
         _ => Job::Check,
@@ -105,23 +84,12 @@ pub fn parse<'a>(alloc: Global, words: &'a [String]) -> Result<ArgMatches<'a>, E
     let simulate = Command::new(alloc, "simulate")
         .about(SIMULATE_ABOUT)
         .after_help(SIMULATE_HELP);
-    let workers = Arg::new(alloc, "workers")
-        .long("workers")
-        .value_name("N")
-        .help("How many threads make steps, 1 to 64")
-        .required(true)
-        .value_parser(ValueParser::Unsigned(1, MAX_WORKERS as u64));
-    let run = Command::new(alloc, "run")
-        .about(RUN_ABOUT)
-        .after_help(RUN_HELP)
-        .arg(workers)?;
     let command = Command::new(alloc, "txkv")
         .about(ABOUT)
         .version("0.1.0")
         .after_help(EXAMPLES)
         .subcommand_required(true)
         .subcommand(simulate)?
-        .subcommand(run)?
         .subcommand(check)?;
     command.try_get_matches_from(words)
 }
