@@ -1,0 +1,141 @@
+-- The answers of several sessions in one list.
+use Rattle.std.proofs.Common.{◌≡◌, inl, inr, ℕ, suc, ◌∷◌, ◌+◌, ◌-◌, ◌<◌, ◌≤◌, List, ◌++◌, All, length-append, None, length, get_or, Option, Some, refl, ap, subst, ◌∙◌, arith}
+use Rattle.std.specs.List.{AllPairs}
+use Rattle.std.proofs.lemmas.List.Elements.{All-append}
+use Rattle.std.proofs.lemmas.List.{get_or_append_left, get_or-append-add}
+use Rattle.std.proofs.lemmas.Bool.{cases_lt}
+use Rattle.tx_types.specs.declared.key.Key.{Key}
+use Rattle.tx_core.specs.Histories.{History, Begins, drawer}
+use Rattle.tx_core.specs.declared.event.Event.TheVariants.{Answered}
+use Rattle.tx_core.specs.Worlds.{IsWorldRun}
+use Rattle.tx_core.proofs.seats.Staying.{drawer_on, among_on}
+use Rattle.tx_run.specs.declared.reply.Reply.{Reply}
+use Rattle.tx_run.specs.declared.reply.Reply.TheVariants.{Said, Ended}
+use Rattle.tx_run.specs.declared.reply.Spoken.{Spoken}
+use Rattle.tx_run.specs.Outcomes.{IsTold, start_of, AreApart, TellsOutcomes}
+use Rattle.tx_run.specs.Logs.{StandsBy, TellsBy, IsAbove, Working, AreFalling}
+
+pairs_append : {X : Type 0} (R : X → X → Type 0) (xs ys : List X) → AllPairs R xs → AllPairs R ys → ((i j : ℕ) (d : X) → i < length xs → j < length ys → R (get_or xs i d) (get_or ys j d)) → AllPairs R (xs ++ ys)
+pairs_append R xs ys a b cross i j d lt bound =
+    elim (cases_lt j (length xs)) [
+      | inl left ↦
+          let li : i < length xs = omega arith in
+          rw (get_or_append_left xs ys d i li, get_or_append_left xs ys d j left) (a i j d lt left)
+      | inr right ↦
+          let n = j - length xs in
+          let e : j ≡ length xs + n = omega arith in
+          let gj : get_or (xs ++ ys) j d ≡ get_or ys n d = ap (λ m. get_or (xs ++ ys) m d) e ∙ get_or-append-add xs ys n d in
+          let bn : n < length ys = omega (arith, length-append xs ys) in
+          elim (cases_lt i (length xs)) [
+            | inl li ↦ rw (get_or_append_left xs ys d i li, gj) (cross i n d li bn)
+            | inr ri ↦
+                let m = i - length xs in
+                let f : i ≡ length xs + m = omega arith in
+                let gi : get_or (xs ++ ys) i d ≡ get_or ys m d = ap (λ k. get_or (xs ++ ys) k d) f ∙ get_or-append-add xs ys m d in
+                let less : m < n = omega arith in
+                rw (gi, gj) (b m n d less bn)
+          ]
+    ]
+
+-- ---- as more is known
+
+told_on : (h n : History) → Begins h n → (r : Reply) → IsTold h r → IsTold n r
+told_on h n more (Ended t o) is = among_on h n more (Answered t o) is
+told_on h n more (Said said) is = tt
+
+above_on : (bounds : List Key) (h n : History) → IsWorldRun bounds n → Begins h n → (k : ℕ) (r : Reply) → IsAbove h k r → IsAbove n k r
+above_on bounds h n run more k (Ended t o) is = (is.0, drawer_on bounds h n run more t is.0 is.1, is.2)
+above_on bounds h n run more k (Said said) is = tt
+
+pub outcomes_on : (h n : History) → Begins h n → (xs : List Spoken) → TellsOutcomes h xs → TellsOutcomes n xs
+outcomes_on h n more xs is = record { told = λ k d lt. told_on h n more _ (is.told k d lt); apart = is.apart }
+
+pub all_above_on : (bounds : List Key) (h n : History) → IsWorldRun bounds n → Begins h n → (k : ℕ) (xs : List Spoken) → All (λ s. IsAbove h k s.reply) xs → All (λ s. IsAbove n k s.reply) xs
+all_above_on bounds h n run more k xs is i d lt = above_on bounds h n run more k _ (is i d lt)
+
+-- ---- the answers of one more session, whose seat is below those before
+
+stands_above : (h : History) (seat : ℕ) (r : Reply) → StandsBy h seat r → IsAbove h seat r
+stands_above h seat (Ended t o) is = (seat, is.drew, omega arith)
+stands_above h seat (Said said) is = tt
+
+lower : (h : History) (seat : ℕ) (r : Reply) → IsAbove h (seat + 1) r → IsAbove h seat r
+lower h seat (Ended t o) is = (is.0, is.1, omega (arith, is.2))
+lower h seat (Said said) is = tt
+
+stands_told : (h : History) (seat : ℕ) (r : Reply) → StandsBy h seat r → IsTold h r
+stands_told h seat (Ended t o) is = is.among
+stands_told h seat (Said said) is = tt
+
+other : (h : History) (seat : ℕ) (x y : Reply) → IsAbove h (seat + 1) x → StandsBy h seat y → (t : ℕ) → start_of x ≡ Some t → start_of y ≡ Some t → ⊥
+other h seat (Ended u o) (Ended v p) a b t e f =
+    let q = a.0 in
+    let du : drawer h u ≡ Some q = a.1 in
+    let dv : drawer h v ≡ Some seat = b.drew in
+    let ut : u ≡ t = cc in
+    let vt : v ≡ t = cc in
+    let same : q ≡ seat = cc in
+    absurd (omega (arith, same, a.2))
+other h seat (Said said) y a b t e f = absurd (cc)
+other h seat (Ended u o) (Said said) a b t e f = absurd (cc)
+
+module _ (h : History) (seat : ℕ) (xs ys : List Spoken) where
+  pub joined : TellsOutcomes h xs → All (λ s. IsAbove h (seat + 1) s.reply) xs → TellsBy h seat ys → TellsOutcomes h (xs ++ ys)
+  joined is above more = record {
+    told = All-append (λ s. IsTold h s.reply) xs ys is.told (λ k d lt. stands_told h seat _ (more.told k d lt));
+    apart = pairs_append AreApart xs ys is.apart more.apart (λ i j d li lj. other h seat _ _ (above i d li) (more.told j d lj));
+  }
+
+  pub joined_above : All (λ s. IsAbove h (seat + 1) s.reply) xs → TellsBy h seat ys → All (λ s. IsAbove h seat s.reply) (xs ++ ys)
+  joined_above above more = All-append (λ s. IsAbove h seat s.reply) xs ys (λ k d lt. lower h seat _ (above k d lt)) (λ k d lt. stands_above h seat _ (more.told k d lt))
+
+-- ---- before any session
+
+module _ (xs : List Spoken) (none : All (λ s. start_of s.reply ≡ None) xs) where
+  no_told : (h : History) (r : Reply) → start_of r ≡ None → IsTold h r
+  no_told h (Ended t o) e = absurd (cc)
+  no_told h (Said said) e = tt
+
+  no_above : (h : History) (k : ℕ) (r : Reply) → start_of r ≡ None → IsAbove h k r
+  no_above h k (Ended t o) e = absurd (cc)
+  no_above h k (Said said) e = tt
+
+  clash : (t : ℕ) (o : Option ℕ) → o ≡ None → o ≡ Some t → ⊥
+  clash t o e f = absurd (cc)
+
+  pub none_told : (h : History) → TellsOutcomes h xs
+  none_told h = record { told = λ k d lt. no_told h _ (none k d lt); apart = λ i j d lt bound t e f. clash t _ (none j d bound) f }
+
+  pub none_above : (h : History) (n : ℕ) → All (λ s. IsAbove h n s.reply) xs
+  none_above h n k d lt = no_above h n _ (none k d lt)
+
+-- ---- one session after another
+
+length-cons : (x : Working) (xs : List Working) → length (x ∷ xs) ≡ suc (length xs)
+length-cons x xs = refl
+
+weaker : (h : History) (m n : ℕ) (r : Reply) → m ≤ n → IsAbove h n r → IsAbove h m r
+weaker h m n (Ended t o) le is = (is.0, is.1, omega (arith, le, is.2))
+weaker h m n (Said said) le is = tt
+
+-- what is told so far lies above the results that are left, of which each is of a lower seat than those before it
+pub record AreLeft (h : History) (replies : List Spoken) (rest : List Working) : Type 0 where
+  pub falling : AreFalling rest
+  pub told : TellsOutcomes h replies
+  pub above : All (λ o. All (λ s. IsAbove h (o.log.seat + 1) s.reply) replies) rest
+
+module _ (h : History) (replies : List Spoken) (out : Working) (rest : List Working) where
+  pub first_above : AreLeft h replies (out ∷ rest) → All (λ s. IsAbove h (out.log.seat + 1) s.reply) replies
+  first_above left = left.above 0 out (omega (arith, length-cons out rest))
+
+  pub left_next : (all : List Working) → all ≡ out ∷ rest → AreFalling all → TellsOutcomes h replies → All (λ s. IsAbove h out.log.seat s.reply) replies → AreLeft h replies rest
+  left_next all is falling told above =
+      let fall : AreFalling (out ∷ rest) = subst (λ l. AreFalling l) is falling in
+      record {
+        falling = λ i j d lt bound. fall (suc i) (suc j) d (omega arith) (omega (arith, length-cons out rest));
+        told = told;
+        above = λ k d lt i e in_list. weaker h ((get_or rest k d).log.seat + 1) out.log.seat _ (lower_than fall k d lt) (above i e in_list);
+      }
+    where
+      lower_than : AreFalling (out ∷ rest) → (k : ℕ) (d : Working) → k < length rest → (get_or rest k d).log.seat + 1 ≤ out.log.seat
+      lower_than fall k d lt = let less : (get_or rest k d).log.seat < out.log.seat = fall 0 (suc k) d (omega arith) (omega (arith, length-cons out rest)) in omega arith

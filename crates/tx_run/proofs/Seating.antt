@@ -1,0 +1,71 @@
+-- Each session has a seat of its own.
+use Rattle.std.proofs.Common.{◌≡◌, inl, inr, ℕ, ◌+◌, ◌*◌, ◌<◌, ◌≤◌, List, [], ◌∷◌, ◌++◌, length, drop, length-drop, get_or, Some, refl, sym, ap, subst, ◌∙◌, arith, length-append}
+use Rattle.std.specs.List.{slice_get}
+use Rattle.std.proofs.lemmas.Bool.{cases_lt}
+use Rattle.std.proofs.lemmas.List.{get_or_append_left, get_or_push, get_or-drop}
+use Rattle.std.proofs.lemmas.Option.{slice_get_within, get_or_from_slice_get, slice_get_read, slice_get-get_or}
+use Rattle.tx_journal.specs.Known.{Known}
+use Rattle.tx_run.specs.Logs.{Working, HaveOwnSeats, AreFalling, AreFrom}
+
+-- one more job, of a seat two below the last
+pub own_push : (last : ℕ) (jobs : List Working) (job : Working) → HaveOwnSeats last jobs → job.number ≡ length jobs → job.log.seat + 2 * length jobs ≡ last → HaveOwnSeats last (jobs ++ job ∷ [])
+own_push last jobs job have number seat k j e =
+    let within = slice_get_within (jobs ++ job ∷ []) k j e in
+    let at : get_or (jobs ++ job ∷ []) k j ≡ j = get_or_from_slice_get (jobs ++ job ∷ []) k j j e in
+    elim (cases_lt k (length jobs)) [
+      | inl lt ↦ have k j (slice_get_read jobs (length jobs) k j refl lt (sym at ∙ get_or_append_left jobs (job ∷ []) j k lt))
+      | inr ge ↦
+          let is : length jobs ≡ k = omega (arith, within, length-append jobs (job ∷ [])) in
+          let same : job ≡ j = sym (get_or_push jobs job j k is) ∙ at in
+          subst (λ (x : Working). (x.number ≡ k) × (x.log.seat + 2 * k ≡ last)) same (number ∙ is, subst (λ n. job.log.seat + 2 * n ≡ last) is seat)
+    ]
+
+-- no two jobs have one number
+pub own_distinct : (last : ℕ) (jobs : List Working) → HaveOwnSeats last jobs → (i j : ℕ) (a b : Working) → slice_get jobs i ≡ Some a → slice_get jobs j ≡ Some b → a.number ≡ b.number → i ≡ j
+own_distinct last jobs own i j a b p q e = sym (own i a p).0 ∙ e ∙ (own j b q).0
+
+-- each result is of a lower seat than those before it
+pub falling : (last : ℕ) (jobs outs : List Working) → HaveOwnSeats last jobs → length outs ≡ length jobs
+    → ((place : ℕ) (job out : Working) → slice_get jobs place ≡ Some job → slice_get outs place ≡ Some out → out.log.seat ≡ job.log.seat) → AreFalling outs
+falling last jobs outs own len kept i j d lt bound =
+    let si = seat_at i (omega arith) in
+    let sj = seat_at j bound in
+    omega (arith, si, sj)
+  where
+    seat_at : (n : ℕ) → n < length outs → (get_or outs n d).log.seat + 2 * n ≡ last
+    seat_at n b =
+        let of_job = slice_get-get_or jobs n d (omega (arith, len, b)) in
+        let is = kept n (get_or jobs n d) (get_or outs n d) of_job (slice_get-get_or outs n d b) in
+        ap (λ m. m + 2 * n) is ∙ (own n (get_or jobs n d) of_job).1
+
+-- ---- seats in their order
+
+at_end : (xs : List Known) (x : Known) → slice_get (xs ++ x ∷ []) (length xs) ≡ Some x
+at_end xs x = slice_get-get_or (xs ++ x ∷ []) (length xs) x (omega (arith, length-append xs (x ∷ []))) ∙ ap Some (get_or_push xs x x (length xs) refl)
+
+front_from : (first : ℕ) (all front : List Known) (x : Known) → all ≡ front ++ x ∷ [] → AreFrom first all → AreFrom first front
+front_from first all front x is from k s e =
+    let within = slice_get_within front k s e in
+    let there : slice_get (front ++ x ∷ []) k ≡ Some s =
+    slice_get-get_or (front ++ x ∷ []) k s (omega (arith, within, length-append front (x ∷ []))) ∙ ap Some (get_or_append_left front (x ∷ []) s k within ∙ get_or_from_slice_get front k s s e) in
+    from k s (subst (λ l. slice_get l k ≡ Some s) (sym is) there)
+
+module _ (first : ℕ) (all mid rest : List Known) (seat resolver : Known) (one : all ≡ mid ++ seat ∷ []) (two : mid ≡ rest ++ resolver ∷ []) (from : AreFrom first all) where
+  pub two_rest : AreFrom first rest
+  two_rest = front_from first mid rest resolver two (front_from first all mid seat one from)
+
+  pub two_seat : (seat.seat + 1 ≡ first + length all) × (length rest + 2 ≡ length all)
+  two_seat =
+      let number : seat.seat ≡ first + length mid = from (length mid) seat (subst (λ l. slice_get l (length mid) ≡ Some seat) (sym one) (at_end mid seat)) in
+      let a : length all ≡ length mid + 1 = ap length one ∙ length-append mid (seat ∷ []) in
+      let b : length mid ≡ length rest + 1 = ap length two ∙ length-append rest (resolver ∷ []) in
+      (omega (arith, number, a), omega (arith, a, b))
+
+-- those after the first n of seats that were dealt in their order
+pub from_drop : (seats : List Known) (n : ℕ) → ((k : ℕ) (s : Known) → slice_get seats k ≡ Some s → (s.seat ≡ k) × (s.events ≡ [])) → n ≤ length seats → (back : List Known) → back ≡ drop n seats → AreFrom n back
+from_drop seats n dealt fits back is k s e =
+    let e' = subst (λ l. slice_get l k ≡ Some s) is e in
+    let within : k < length (drop n seats) = slice_get_within (drop n seats) k s e' in
+    let there : n + k < length seats = omega (arith, within, length-drop n seats) in
+    let same : get_or seats (n + k) s ≡ s = sym (get_or-drop n seats k s) ∙ get_or_from_slice_get (drop n seats) k s s e' in
+    (dealt (n + k) s (slice_get-get_or seats (n + k) s there ∙ ap Some same)).0

@@ -1,0 +1,19 @@
+use Rattle.std.proofs.Common.{sym, subst, ◌∙◌, ℕ}
+use Rattle.std.proofs.lemmas.Bool.{eqb-true}
+use Rattle.tx_core.specs.Histories.{History, Begins}
+use Rattle.tx_core.specs.declared.event.Event.TheVariants.{Answered}
+use Rattle.tx_client.specs.Calls.{Records}
+use Rattle.tx_run.specs.Logs.{Logged, TellsBy}
+use Rattle.tx_run.proofs.Answering.{can_tell}
+use Rattle.tx_run.proofs.log.Log.finish.Goals as goal
+
+pub ended-requires : goal.ended-requires
+ended-requires g c =
+    let bounds = g.J.Naming.bounds in
+    let k = c.hear_of.new.self.seat in
+    let log : Logged = record { seat = c.self.inside.seat; told = c.copy.new.told; replies = c.self.inside.replies.items } in
+    let knew = subst (λ (h : History). Begins h k.events) (c.copy.ensures.copy ∙ sym c.copy.ensures.same) c.hear_of.ensures.heard.knows in
+    let records = subst (λ (t : ℕ). Records bounds k (Answered t c.in-Ok.outcome) c.in-Ok.seat) (sym c.start-start.ensures) c.in-Ok.ensures.ended.1 in
+    let same = sym c.number.ensures.number ∙ eqb-true _ _ (sym c.if-eq.ensures) in
+    let tells = subst (λ (h : History). TellsBy h c.self.inside.seat c.self.inside.replies.items) (sym c.copy.ensures.same) c.self.invariant in
+    can_tell bounds log k c.start-start.result c.in-Ok.outcome c.in-Ok.seat knew records same tells

@@ -1,0 +1,5 @@
+use Rattle.tx_run.proofs.Gathering.{AreLeft}
+use Rattle.tx_run.proofs.play.gather.Given as goal
+
+abbrev pub invariant-loop-out : goal.invariant-loop-out
+invariant-loop-out g l = AreLeft l.seat.events l.replies.items l.out-iterator.rest.items

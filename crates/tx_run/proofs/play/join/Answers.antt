@@ -1,0 +1,43 @@
+use Rattle.std.proofs.Common.{◌+◌, ◌++◌, sym, ap, subst, ◌∙◌, All, List, ℕ}
+use Rattle.tx_core.proofs.seats.Beginnings.{extends_begins}
+use Rattle.tx_run.specs.declared.reply.Spoken.{Spoken}
+use Rattle.tx_core.specs.Histories.{History, Begins}
+use Rattle.tx_run.specs.Outcomes.{TellsOutcomes}
+use Rattle.tx_run.specs.Logs.{IsAbove, TellsBy, Working}
+use Rattle.tx_run.proofs.Answering.{tells_on}
+use Rattle.tx_run.proofs.Gathering.{joined, joined_above, outcomes_on, all_above_on}
+use Rattle.tx_run.proofs.play.join.Goals as goal
+
+pub returns-clause-told : goal.returns-clause-told
+returns-clause-told g c =
+    let bounds = g.J.Naming.bounds in
+    let old = c.args.seat.now.events in
+    let now = c.learn.new.self.events in
+    let run = c.learn.ensures.seen.run in
+    let more = extends_begins c.args.seat.now.seat old now c.learn.ensures.seen.extends in
+    let log = c.out.inside.log in
+    let seat = c.args.out.log.seat in
+    let xs = c.args.replies.now.items in
+    let same = ap (λ (o : Working). o.log.seat) c.out.view_is in
+    let knows = subst (λ (h : History). Begins h now) c.into_parts-told.ensures.parts.0 c.learn.ensures.told in
+    let tells = subst (λ (s : ℕ). TellsBy now s log.replies) same (tells_on bounds log.told now run knows log.seat log.replies c.into_parts-told.ensures.tells) in
+    let all = c.in_ok-append.ensures.items ∙ ap (λ (l : List Spoken). xs ++ l) c.into_parts-told.ensures.parts.1 in
+    subst (λ (l : List Spoken). TellsOutcomes now l) (sym all)
+    (joined now seat xs log.replies (outcomes_on old now more xs c.requires.told) (all_above_on bounds old now run more (seat + 1) xs c.requires.above) tells)
+
+pub returns-clause-above : goal.returns-clause-above
+returns-clause-above g c =
+    let bounds = g.J.Naming.bounds in
+    let old = c.args.seat.now.events in
+    let now = c.learn.new.self.events in
+    let run = c.learn.ensures.seen.run in
+    let more = extends_begins c.args.seat.now.seat old now c.learn.ensures.seen.extends in
+    let log = c.out.inside.log in
+    let seat = c.args.out.log.seat in
+    let xs = c.args.replies.now.items in
+    let same = ap (λ (o : Working). o.log.seat) c.out.view_is in
+    let knows = subst (λ (h : History). Begins h now) c.into_parts-told.ensures.parts.0 c.learn.ensures.told in
+    let tells = subst (λ (s : ℕ). TellsBy now s log.replies) same (tells_on bounds log.told now run knows log.seat log.replies c.into_parts-told.ensures.tells) in
+    let all = c.in_ok-append.ensures.items ∙ ap (λ (l : List Spoken). xs ++ l) c.into_parts-told.ensures.parts.1 in
+    subst (λ (l : List Spoken). All (λ s. IsAbove now seat s.reply) l) (sym all)
+    (joined_above now seat xs log.replies (all_above_on bounds old now run more (seat + 1) xs c.requires.above) tells)

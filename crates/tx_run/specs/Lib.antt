@@ -1,0 +1,4 @@
+pub mod Balances
+pub mod Outcomes
+pub mod Logs
+pub mod Scripts

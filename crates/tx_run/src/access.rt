@@ -1,0 +1,157 @@
+//! How a session of a run reaches the regions, and resolves what stands in its way.
+ghost use Rattle.std.specs.Prelude.{◌≡◌, true, []};
+ghost use Rattle.tx_core.specs.Laws.{WasToldOf};
+ghost use Rattle.tx_client.specs.Sessions.{is_declared, can_commit, can_abort, has_primary};
+
+use crate::log::Log;
+use crate::reply::Spoken;
+use std::alloc::Global;
+use std::sync::{Arc, Wait};
+use tx_cells::Families;
+use tx_client::{Miss, Resolved, Session, Status};
+use tx_core::Answer;
+use tx_journal::{Naming, Seat, Told};
+use tx_resolve::resolve;
+use tx_store::{Store, Wire};
+use tx_types::{Fault, Key, LockInfo, Ts};
+
+/// What the calls of a session need: the store, what its locks wait by, and a seat that resolves.
+#[derive(Drop)]
+pub(crate) struct Access<J: Naming, F: Families + Drop, R: Wait + Drop> {
+    pub alloc: Global,
+    rt: R,
+    store: Arc<Store<J, F>>,
+    resolver: Seat<J>,
+}
+
+impl<J: Naming, F: Families + Drop, R: Wait + Drop> Access<J, F, R> {
+    pub fn new(
+        alloc: Global,
+        rt: R,
+        store: Arc<Store<J, F>>,
+        resolver: Seat<J>,
+    ) -> Access<J, F, R> {
+        Access {
+            alloc,
+            rt,
+            store,
+            resolver,
+        }
+    }
+
+    pub fn get(&self, session: &mut Session<J>, key: &Key) -> Result<Answer, Miss> {
+        let mut wire = Wire::new(&self.rt, &self.store);
+        wire.show();
+        session.get(key, &mut wire)
+    }
+
+    pub fn scan(
+        &self,
+        session: &mut Session<J>,
+        from: &Key,
+        to: &Key,
+        limit: u32,
+    ) -> Result<Answer, Miss> {
+        let _ = self.store.bounds();
+        let mut wire = Wire::new(&self.rt, &self.store);
+        wire.show();
+        session.scan(self.alloc, from, to, limit, &mut wire)
+    }
+
+    pub fn prewrite(&self, session: &mut Session<J>) -> Result<Option<Answer>, Miss>
+        requires { is_declared session.old.state ≡ true }
+    {
+        let mut wire = Wire::new(&self.rt, &self.store);
+        wire.show();
+        session.prewrite_next(self.alloc, &mut wire)
+    }
+
+    pub fn commit(&self, session: &mut Session<J>) -> Result<Option<Answer>, Miss>
+        requires { can_commit session.old.state ≡ true }
+    {
+        let mut wire = Wire::new(&self.rt, &self.store);
+        wire.show();
+        session.commit_next(&mut wire)
+    }
+
+    pub fn abort(&self, session: &mut Session<J>) -> Result<Option<Answer>, Miss>
+        requires { can_abort session.old.state ≡ true }
+    {
+        let mut wire = Wire::new(&self.rt, &self.store);
+        wire.show();
+        session.abort_next(&mut wire)
+    }
+
+    pub fn heartbeat(&self, session: &mut Session<J>, ttl: u32) -> Result<Option<Answer>, Miss>
+        requires { has_primary session.old.state ≡ true }
+    {
+        let mut wire = Wire::new(&self.rt, &self.store);
+        wire.show();
+        session.heartbeat(ttl, &mut wire)
+    }
+}
+
+impl<J: Naming, F: Families + Drop, R: Wait + Drop> Access<J, F, R> {
+    // Finds what became of the transaction of this lock, which stood in the way of a reader.
+    fn resolve_lock(
+        &mut self,
+        info: &LockInfo,
+        told: Told<J>,
+        reader: Ts,
+        now: Option<Ts>,
+    ) -> Resolved<J>
+        requires { WasToldOf told info.now }
+    {
+        self.resolver.learn(told);
+        let last = self.resolver.last();
+        let mut wire = Wire::new(&self.rt, &self.store);
+        wire.show();
+        resolve(
+            &mut self.resolver,
+            info,
+            reader,
+            now.unwrap_or(last),
+            &mut wire,
+        )
+    }
+
+    /// Resolves the lock that last stood in the session's way, at this time or at the last timestamp that was drawn, and tells
+    /// the session. None where no lock stood in its way.
+    pub fn resolve(
+        &mut self,
+        session: &mut Session<J>,
+        now: Option<Ts>,
+    ) -> Result<Option<Status>, Fault> {
+        let Some(met) = session.met()? else {
+            return Ok(None);
+        };
+        let (info, told) = met.into_parts();
+        let resolved = self.resolve_lock(&info, told, session.start(), now);
+        let status = resolved.status();
+        session.learn(resolved)?;
+        Ok(Some(status))
+    }
+
+    /// Ends a transaction, and keeps its outcome in the log: its seat is then free. Where it has no outcome, the session comes
+    /// back.
+    pub fn finish(
+        &self,
+        log: &mut Log<J>,
+        number: u64,
+        session: Session<J>,
+    ) -> Result<Seat<J>, Session<J>>
+        ensures { log.new.seat ≡ log.old.seat }
+    {
+        log.finish(&self.resolver, number, session)
+    }
+
+    /// What a log says; it is then empty.
+    pub fn take(&self, log: &mut Log<J>, empty: Vec<Spoken>) -> Log<J>
+        requires { empty.items ≡ [] }
+        ensures same { log.new.seat ≡ log.old.seat }
+        ensures told { log.new.told ≡ log.old.told }
+        ensures log { result ≡ log.old }
+    {
+        log.take(&self.resolver, empty)
+    }
+}

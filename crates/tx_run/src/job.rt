@@ -1,0 +1,361 @@
+//! A session of a run, as a job of the workers: each line is a step, and each request of a transfer.
+ghost use Rattle.std.specs.Prelude.{◌≡◌, ◌<◌, IfOk};
+ghost use Rattle.tx_run.specs.Logs.{StaysSame};
+
+use crate::access::Access;
+use crate::acts::{act, send};
+use crate::log::Log;
+use crate::place::Place;
+use crate::reply::Words;
+use crate::script::{Asks, Said};
+use crate::transfer::{After, Moving, slots_of};
+use std::alloc::Global;
+use std::marker::Model;
+use std::mem::replace;
+use std::sync::Wait;
+use tx_cells::Families;
+use tx_client::Session;
+use tx_core::Answer;
+use tx_journal::{Naming, Seat};
+use tx_latch::{Slot, slot_of};
+use tx_sched::{Job, Turn};
+use tx_steps::{Action, Line, Program, Step, Transfer};
+use tx_types::limits::MAX_NAME_BYTES;
+use tx_types::{Cause, Fault, Key};
+
+/// What came of a session's lines. Contracts see its number and its log.
+#[derive(Drop)]
+pub(crate) struct Out<J: Naming> {
+    pub number: u32,
+    pub log: Log<J>,
+    /// Whether a fault of the script ended it.
+    pub faulted: bool,
+}
+
+impl<J: Naming> Model for Out<J> {
+    ghost use Rattle.tx_run.specs.Logs.{Working};
+
+    ghost Value = { Working };
+
+    ghost view = { λ o. record { number = o.number; log = o.log } };
+}
+
+/// A session, the lines that are left of it, and what was answered. Contracts see its number and its log.
+#[derive(Drop)]
+pub(crate) struct ScriptJob<J: Naming, F: Families + Drop, R: Wait + Drop> {
+    number: u32,
+    access: Access<J, F, R>,
+    place: Place<Seat<J>, Session<J>>,
+    log: Log<J>,
+    /// The last line first.
+    lines: Vec<Said>,
+    /// The transfer on its way, and the number of its line.
+    moving: Option<(u64, Moving)>,
+    /// The slots of the keys in the buffer.
+    touched: Vec<Slot>,
+    /// The slots of the lock that last stood in its way.
+    met: Vec<Slot>,
+    faulted: bool,
+}
+
+impl<J: Naming, F: Families + Drop, R: Wait + Drop> Model for ScriptJob<J, F, R> {
+    ghost use Rattle.tx_run.specs.Logs.{Working};
+
+    ghost Value = { Working };
+
+    ghost view = { λ j. record { number = j.number; log = j.log } };
+}
+
+// The transfer that a step tells of.
+fn moving_of(alloc: Global, transfer: &Transfer<'_>) -> Result<Moving, Fault> {
+    let from = Key::new(alloc, transfer.from.as_bytes())?;
+    let to = Key::new(alloc, transfer.to.as_bytes())?;
+    Ok(Moving::new(from, to, transfer.amount, transfer.mode))
+}
+
+fn is_name(name: &str) -> bool {
+    !name.is_empty() && name.len() <= MAX_NAME_BYTES
+}
+
+impl<J: Naming, F: Families + Drop, R: Wait + Drop> ScriptJob<J, F, R> {
+    /// A job of these lines, which come in the order of the script.
+    pub fn new(
+        number: u32,
+        access: Access<J, F, R>,
+        seat: Seat<J>,
+        mut lines: Vec<Said>,
+    ) -> Result<ScriptJob<J, F, R>, Fault>
+        ensures { IfOk result (λ job. (job.number ≡ number) × (job.log.seat ≡ seat.seat)) }
+    {
+        let alloc = access.alloc;
+        let mut seat = seat;
+        let log = Log::new(&mut seat, Vec::with_capacity(alloc, lines.len())?);
+        lines.reverse();
+        Ok(ScriptJob {
+            number,
+            access,
+            place: Place::Free(seat),
+            log,
+            lines,
+            moving: None,
+            touched: Vec::new(alloc),
+            met: Vec::new(alloc),
+            faulted: false,
+        })
+    }
+
+    // Keeps the answer of a line.
+    fn tell(&mut self, number: u64, words: Words)
+        ensures { StaysSame self.old self.new }
+    {
+        if let Words::Plain(tx_lines::Reply::Answered(Answer::KeyIsLocked(info))) = &words {
+            if let Ok(slots) = slots_of(self.access.alloc, info) {
+                self.met = slots;
+            }
+        }
+        self.log.say(number, words);
+    }
+
+    // A fault of the script ends the session.
+    fn fails(&mut self, number: u64, cause: Cause)
+        ensures { StaysSame self.old self.new }
+    {
+        self.faulted = true;
+        self.lines.clear();
+        self.tell(number, Words::Fault(cause));
+    }
+
+    // Keeps what came of a line.
+    fn heed(&mut self, number: u64, came: Result<Words, Cause>)
+        ensures { StaysSame self.old self.new }
+    {
+        match came {
+            Ok(words) => self.tell(number, words),
+            Err(cause) => self.fails(number, cause),
+        }
+    }
+
+    fn begins(&mut self, number: u64, seat: Seat<J>)
+        ensures { StaysSame self.old self.new }
+    {
+        match Session::begin(self.access.alloc, seat) {
+            Ok(session) => {
+                let start = session.start();
+                self.touched.clear();
+                self.place = Place::Live(session);
+                self.tell(number, Words::Plain(tx_lines::Reply::Start(start)));
+            }
+            Err(seat) => {
+                self.place = Place::Free(seat);
+                self.tell(number, Words::OracleSpent);
+            }
+        }
+    }
+
+    fn finishes(&mut self, number: u64, session: Session<J>)
+        ensures { StaysSame self.old self.new }
+    {
+        match self.access.finish(&mut self.log, number, session) {
+            Ok(seat) => self.place = Place::Free(seat),
+            Err(session) => {
+                self.place = Place::Live(session);
+                self.fails(number, Cause::Order);
+            }
+        }
+    }
+
+    fn stops(&mut self, number: u64, session: Session<J>, words: Words)
+        ensures { StaysSame self.old self.new }
+    {
+        self.place = Place::Free(session.stop());
+        self.tell(number, words);
+    }
+
+    // A transfer begins: nothing is told before it ends.
+    fn moves(&mut self, number: u64, seat: Seat<J>, transfer: Transfer<'_>)
+        ensures { StaysSame self.old self.new }
+    {
+        let alloc = self.access.alloc;
+        let Ok(moving) = moving_of(alloc, &transfer) else {
+            self.place = Place::Free(seat);
+            self.tell(number, Words::Plain(tx_lines::Reply::KeyLength));
+            return;
+        };
+        match Session::begin(alloc, seat) {
+            Ok(session) => {
+                self.place = Place::Live(session);
+                self.moving = Some((number, moving));
+            }
+            Err(seat) => {
+                self.place = Place::Free(seat);
+                self.tell(number, Words::OracleSpent);
+            }
+        }
+    }
+
+    // Keeps the slot of a key that enters the buffer.
+    fn touches(&mut self, action: Action<'_>) -> Result<(), Fault>
+        ensures { StaysSame self.old self.new }
+    {
+        match action {
+            Action::Put(key, _) | Action::Delete(key) | Action::Lock(key) => {
+                let key = Key::new(self.access.alloc, key.as_bytes())?;
+                self.touched.push(slot_of(&key))?;
+                Ok(())
+            }
+            _ => Ok(()),
+        }
+    }
+
+    // A step of a session that is live.
+    fn acts(&mut self, number: u64, mut session: Session<J>, step: Step<'_>)
+        ensures { StaysSame self.old self.new }
+    {
+        let result = match step {
+            Step::Act(_, action) => {
+                let _ = self.touches(action);
+                act(&mut session, &mut self.access, action)
+            }
+            Step::Send(_, request, _) => send(&mut session, &self.access, request),
+            Step::Begin(_) => Err(Cause::Name),
+            _ => Err(Cause::Order),
+        };
+        self.place = Place::Live(session);
+        self.heed(number, result);
+    }
+
+    // Makes the step of a line.
+    fn make(&mut self, number: u64, step: Step<'_>)
+        ensures { StaysSame self.old self.new }
+    {
+        match replace(&mut self.place, Place::Gone) {
+            Place::Free(seat) => match step {
+                Step::Begin(name) if is_name(name) => self.begins(number, seat),
+                Step::Transfer(name, transfer) if is_name(name) => {
+                    self.moves(number, seat, transfer);
+                }
+                _ => {
+                    self.place = Place::Free(seat);
+                    self.fails(number, Cause::Name);
+                }
+            },
+            Place::Live(session) => match step {
+                Step::Act(_, Action::Finish) => self.finishes(number, session),
+                Step::Act(_, Action::Stop) => {
+                    self.stops(number, session, Words::Plain(tx_lines::Reply::Fine));
+                }
+                other => self.acts(number, session, other),
+            },
+            Place::Gone => self.fails(number, Cause::Order),
+        }
+    }
+
+    // Makes the step that a line says.
+    fn play(&mut self, said: &Said)
+        ensures { StaysSame self.old self.new }
+    {
+        match Line::read(self.access.alloc, said.number, said.text.as_slice()) {
+            Ok(Ok(line)) => match line.step(Program::Run) {
+                Some(step) => self.make(said.number, step),
+                None => self.fails(said.number, Cause::Form),
+            },
+            Ok(Err(cause)) => self.fails(said.number, cause),
+            Err(_) => self.tell(said.number, Words::Plain(tx_lines::Reply::OutOfMemory)),
+        }
+    }
+
+    // A transfer is over.
+    fn moved(&mut self, number: u64, session: Session<J>)
+        ensures { StaysSame self.old self.new }
+    {
+        match self.access.finish(&mut self.log, number, session) {
+            Ok(seat) => self.place = Place::Free(seat),
+            Err(session) => {
+                self.stops(number, session, Words::Plain(tx_lines::Reply::OutOfMemory));
+            }
+        }
+    }
+
+    // Makes the next step of a transfer.
+    fn goes_on(&mut self, number: u64, mut moving: Moving, mut session: Session<J>)
+        ensures { StaysSame self.old self.new }
+    {
+        match moving.step(&mut session, &mut self.access) {
+            After::Goes => {
+                self.place = Place::Live(session);
+                self.moving = Some((number, moving));
+            }
+            After::Ends => self.moved(number, session),
+            After::Spent => self.stops(number, session, Words::OracleSpent),
+            After::NoMemory => {
+                self.stops(number, session, Words::Plain(tx_lines::Reply::OutOfMemory));
+            }
+        }
+    }
+
+    fn out(&mut self) -> Out<J>
+        ensures out { (result.number ≡ self.old.number) × (result.log.seat ≡ self.old.log.seat) }
+    {
+        let empty = Vec::new(self.access.alloc);
+        let log = self.access.take(&mut self.log, empty);
+        Out {
+            number: self.number,
+            log,
+            faulted: self.faulted,
+        }
+    }
+
+    fn advance(&mut self)
+        ensures { StaysSame self.old self.new }
+    {
+        if let Some((number, moving)) = self.moving.take() {
+            match replace(&mut self.place, Place::Gone) {
+                Place::Live(session) => self.goes_on(number, moving, session),
+                _ => self.fails(number, Cause::Order),
+            }
+            return;
+        }
+        if let Some(said) = self.lines.pop() {
+            self.play(&said);
+        }
+    }
+}
+
+impl<J: Naming, F: Families + Drop, R: Wait + Drop> Job for ScriptJob<J, F, R> {
+    ghost use Rattle.std.specs.Prelude.{◌≡◌};
+
+    type Out = Out<J>;
+
+    ghost numbered = { λ j. j.number };
+
+    ghost tells = { λ o. o.number };
+
+    ghost promised = { λ j o. o.log.seat ≡ j.log.seat };
+
+    fn number(&self) -> u32 {
+        self.number
+    }
+
+    fn slots(&self) -> Result<Vec<Slot>, Fault> {
+        let alloc: Global = self.access.alloc;
+        if let Some((_, moving)) = &self.moving {
+            return moving.slots(alloc);
+        }
+        let mut slots = Vec::new(alloc);
+        match self.lines.last().map(|said| said.asks) {
+            None | Some(Asks::Nothing) => {}
+            Some(Asks::Buffer) => slots.extend_from_slice(self.touched.as_slice())?,
+            Some(Asks::Met) => slots.extend_from_slice(self.met.as_slice())?,
+        }
+        Ok(slots)
+    }
+
+    fn step(&mut self) -> Turn<Out<J>> {
+        self.advance();
+        if self.moving.is_none() && self.lines.is_empty() {
+            Turn::Done(self.out())
+        } else {
+            Turn::More
+        }
+    }
+}

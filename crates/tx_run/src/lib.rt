@@ -1,0 +1,25 @@
+//! Scripts of sessions that run side by side. A script is read whole; its seeds run in the order of their lines, and then each
+//! session is a job of the workers, with its lines in their order. All of them send to one store, and a `transfer` moves an amount
+//! between the balances of two keys.
+#![tactic(auto)]
+
+mod access;
+mod acts;
+mod balance;
+mod job;
+mod log;
+mod place;
+mod play;
+mod reply;
+mod run;
+mod script;
+mod seeds;
+#[cfg(test)]
+mod tests;
+mod transfer;
+mod write;
+
+pub use play::{Fresh, Played};
+pub use reply::{Reply, Spoken, Words};
+pub use run::run_script;
+pub use seeds::Total;

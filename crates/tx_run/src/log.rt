@@ -1,0 +1,146 @@
+//! What the lines of one session were answered, with what its session had seen.
+ghost use Rattle.std.specs.Prelude.{◌≡◌, []};
+ghost use Rattle.tx_core.specs.Histories.{Begins};
+ghost use Rattle.tx_run.specs.Logs.{CanTell, IsAnswered, TellsBy, TellsNone};
+
+use crate::reply::{Reply, Spoken, Words};
+use std::marker::Model;
+use std::mem::replace;
+use tx_client::Session;
+use tx_core::{Outcome, SeatNo};
+use tx_journal::{Naming, Seat, Told};
+use tx_types::Ts;
+
+/// The answers of a session's lines. Each outcome among them was answered by the session's seat in what the log was told, and no two
+/// are of one transaction.
+#[derive(Drop)]
+pub(crate) struct Log<J: Naming> {
+    seat: SeatNo,
+    told: Told<J>,
+    replies: Vec<Spoken>,
+    /// Whether an answer was lost, for want of memory.
+    lost: bool,
+}
+
+impl<J: Naming> Model for Log<J> {
+    ghost use Rattle.tx_run.specs.Logs.{Logged, TellsBy};
+
+    ghost Value = { Logged };
+
+    ghost view = { λ l. record { seat = l.seat; told = l.told; replies = l.replies.items } };
+
+    ghost invariant = { λ l. TellsBy l.told l.seat l.replies.items };
+}
+
+impl<J: Naming> Log<J> {
+    /// A log of this seat, in which nothing stands.
+    pub fn new(seat: &mut Seat<J>, replies: Vec<Spoken>) -> Log<J>
+        requires { replies.items ≡ [] }
+        ensures log { result.seat ≡ seat.old.seat }
+        ensures same { seat.new ≡ seat.old }
+    {
+        let number = seat.number();
+        let told = seat.tell();
+        Log {
+            seat: number,
+            told,
+            replies,
+            lost: false,
+        }
+    }
+
+    /// Keeps an answer that tells no outcome.
+    pub fn say(&mut self, number: u64, words: Words)
+        ensures { (self.new.seat ≡ self.old.seat) × (self.new.told ≡ self.old.told) }
+    {
+        let reply = Reply::Said(words);
+        if self.replies.push(Spoken { number, reply }).is_err() {
+            self.lost = true;
+        }
+    }
+
+    // Knows what its session has seen since.
+    fn learn(&mut self, seat: &mut Seat<J>)
+        requires { Begins self.old.told seat.old.events }
+        ensures log { (self.new.seat ≡ self.old.seat) × (self.new.told ≡ seat.old.events) × (self.new.replies ≡ self.old.replies) }
+        ensures same { seat.new ≡ seat.old }
+    {
+        self.told = seat.tell();
+    }
+
+    // Keeps an outcome.
+    fn end(&mut self, number: u64, start: Ts, outcome: Outcome)
+        requires answered { IsAnswered self.old.told self.old.seat start outcome }
+        requires fresh { TellsNone start self.old.replies }
+        ensures { self.new.seat ≡ self.old.seat }
+    {
+        let reply = Reply::Ended(start, outcome);
+        if self.replies.push(Spoken { number, reply }).is_err() {
+            self.lost = true;
+        }
+    }
+
+    // Keeps the outcome of a session that knew what the log was told, by its seat.
+    fn ended(&mut self, number: u64, start: Ts, outcome: Outcome, seat: &mut Seat<J>)
+        requires { CanTell self.old start outcome seat.old }
+        ensures { self.new.seat ≡ self.old.seat }
+    {
+        self.learn(seat);
+        self.end(number, start, outcome);
+    }
+
+    /// Ends a transaction, and keeps its outcome: its seat is then free. Where it has no outcome, the session comes back. A session
+    /// of another seat than the log's is not told of: the log has no such session. `by` is a seat of the journal.
+    pub fn finish(
+        &mut self,
+        by: &Seat<J>,
+        number: u64,
+        mut session: Session<J>,
+    ) -> Result<Seat<J>, Session<J>>
+        ensures { self.new.seat ≡ self.old.seat }
+    {
+        session.hear_of(by.copy(&mut self.told));
+        let start = session.start();
+        match session.finish() {
+            Ok((outcome, mut seat)) => {
+                if seat.number() == self.seat {
+                    self.ended(number, start, outcome, &mut seat);
+                } else {
+                    self.lost = true;
+                }
+                Ok(seat)
+            }
+            Err(session) => Err(session),
+        }
+    }
+
+    /// What the lines were answered, with what the log was told and whether an answer was lost; the log is then empty. `by` is a seat of the
+    /// journal.
+    pub fn take(&mut self, by: &Seat<J>, empty: Vec<Spoken>) -> Log<J>
+        requires { empty.items ≡ [] }
+        ensures same { (self.new.seat ≡ self.old.seat) × (self.new.told ≡ self.old.told) }
+        ensures log { result ≡ self.old }
+    {
+        let told = by.copy(&mut self.told);
+        Log {
+            seat: self.seat,
+            told,
+            replies: replace(&mut self.replies, empty),
+            lost: self.lost,
+        }
+    }
+
+    /// What it was told, the answers, and whether one was lost.
+    pub fn into_parts(self) -> (Told<J>, Vec<Spoken>, bool)
+        ensures parts { (result.0 ≡ self.told) × (result.1.items ≡ self.replies) }
+        ensures tells { TellsBy self.told self.seat self.replies }
+    {
+        let Log {
+            seat: _,
+            told,
+            replies,
+            lost,
+        } = self;
+        (told, replies, lost)
+    }
+}

@@ -1,0 +1,316 @@
+//! Playing a script: its seeds, and then its sessions side by side, by workers.
+ghost use Rattle.std.specs.Prelude.{◌≡◌, ◌+◌, ◌*◌, ◌≤◌, ℕ, [], All, IfOk, IfSome, OnOk, None, length, vec_len};
+ghost use Rattle.tx_cells.specs.Contents.{nothing_held};
+ghost use Rattle.tx_run.specs.Outcomes.{TellsOutcomes, start_of};
+ghost use Rattle.tx_run.specs.Logs.{IsAbove, AreFalling, AreFrom, HaveOwnSeats};
+ghost use Rattle.tx_run.specs.Scripts.{IsWithin};
+
+use crate::access::Access;
+use crate::job::{Out, ScriptJob};
+use crate::reply::{Reply, Spoken, Words};
+use crate::script::{Said, Script};
+use crate::seeds::{Total, play_seeds, read_total};
+use std::alloc::Global;
+use std::marker::Brand;
+use std::sync::{Arc, Wait};
+use std::thread::Threads;
+use tx_cells::{Families, FlatCells, NestedCells};
+use tx_journal::{Naming, Opened, Seat, Unnamed};
+use tx_lines::Broken;
+use tx_sched::{Gate, run_sessions};
+use tx_store::Store;
+use tx_types::Fault;
+
+/// Families that can be made.
+pub trait Fresh: Families + Drop {
+    /// Families that hold nothing.
+    fn fresh(alloc: Global) -> Self
+        ensures { Self.content result ≡ (λ k. nothing_held) };
+}
+
+impl Fresh for NestedCells {
+    fn fresh(alloc: Global) -> NestedCells {
+        NestedCells::new(alloc)
+    }
+}
+
+impl Fresh for FlatCells {
+    fn fresh(alloc: Global) -> FlatCells {
+        FlatCells::new(alloc)
+    }
+}
+
+// Families for so many regions.
+fn families<F: Fresh>(alloc: Global, count: usize) -> Result<Vec<F>, Fault>
+    ensures { IfOk result (λ fs. (vec_len fs ≡ count) × All (λ f. F.content f ≡ (λ k. nothing_held)) fs.items) }
+{
+    let mut families = Vec::with_capacity(alloc, count)?;
+    for _i in 0..count {
+        families.push(F::fresh(alloc))?;
+    }
+    Ok(families)
+}
+
+// A store, and the seats for others than its regions.
+fn open<J: Naming, F: Fresh>(
+    alloc: Global,
+    opened: Opened,
+    regions: usize,
+) -> Result<(Store<J, F>, Vec<Seat<J>>), Fault>
+    requires name { (opened.table ≡ J.table) × (opened.bounds ≡ J.bounds) × (opened.seats ≡ J.seats) }
+    requires count { (regions ≡ length J.bounds + 1) × (regions ≤ 64) × (regions ≤ J.seats) }
+    ensures { IfOk result (λ r. AreFrom (length J.bounds + 1) r.1.items) }
+{
+    let (journal, mut seats) = opened.named::<J>(alloc)?;
+    let others = seats.split_off(regions)?;
+    let families = families::<F>(alloc, regions)?;
+    let store = Store::new(alloc, &journal, seats, families)?;
+    drop(journal);
+    Ok((store, others))
+}
+
+// The last two of the seats: for a session, and for its resolver.
+fn two_seats<J: Naming>(seats: &mut Vec<Seat<J>>) -> Option<(Seat<J>, Seat<J>)>
+    requires { AreFrom (length J.bounds + 1) seats.old.items }
+    ensures rest { AreFrom (length J.bounds + 1) seats.new.items }
+    ensures two { IfSome result (λ two. (vec_len seats.new + 2 ≡ vec_len seats.old) × (two.0.seat ≡ length J.bounds + vec_len seats.old)) }
+{
+    let seat = seats.pop()?;
+    let resolver = seats.pop()?;
+    Some((seat, resolver))
+}
+
+// The sessions' jobs, numbered in their order, each with a seat of its own.
+fn jobs<J: Naming, F: Fresh, R: Wait + Clone + Drop>(
+    rt: &R,
+    alloc: Global,
+    store: &Arc<Store<J, F>>,
+    mut seats: Vec<Seat<J>>,
+    sessions: Vec<Vec<Said>>,
+) -> Result<Vec<ScriptJob<J, F, R>>, Fault>
+    requires seats { AreFrom (length J.bounds + 1) seats.items }
+    requires few { vec_len sessions ≤ 256 }
+    ensures { IfOk result (λ jobs. HaveOwnSeats (length J.bounds + vec_len seats) jobs.items) }
+{
+    let mut jobs = Vec::with_capacity(alloc, sessions.len())?;
+    let mut number: u32 = 0;
+    for lines in sessions {
+        let Some((seat, resolver)) = two_seats(&mut seats) else {
+            return Err(Fault::OutOfMemory);
+        };
+        let access = Access::new(alloc, rt.clone()?, store.clone()?, resolver);
+        jobs.push(ScriptJob::new(number, access, seat, lines)?)?;
+        number += 1;
+    }
+    Ok(jobs)
+}
+
+// Takes over what a session came to, of which others' answers are above: whether a fault ended it.
+fn join<J: Naming>(
+    out: Out<J>,
+    seat: &mut Seat<J>,
+    replies: &mut Vec<Spoken>,
+) -> Result<bool, Broken>
+    requires told { TellsOutcomes seat.old.events replies.old.items }
+    requires above { All (λ s. IsAbove seat.old.events (out.log.seat + 1) s.reply) replies.old.items }
+    ensures told { OnOk result (TellsOutcomes seat.new.events replies.new.items) }
+    ensures above { OnOk result (All (λ s. IsAbove seat.new.events out.log.seat s.reply) replies.new.items) }
+{
+    let Out {
+        number: _,
+        log,
+        faulted,
+    } = out;
+    let (told, mut more, lost) = log.into_parts();
+    seat.learn(told);
+    if lost {
+        return Err(Broken::Memory);
+    }
+    replies.append(&mut more)?;
+    Ok(faulted)
+}
+
+// Takes over what all sessions came to: whether a fault ended one.
+fn gather<J: Naming>(
+    outs: Vec<Out<J>>,
+    seat: &mut Seat<J>,
+    replies: &mut Vec<Spoken>,
+) -> Result<bool, Broken>
+    requires falling { AreFalling outs.items }
+    requires none { All (λ s. start_of s.reply ≡ None) replies.old.items }
+    ensures { OnOk result (TellsOutcomes seat.new.events replies.new.items) }
+{
+    let mut faulted = false;
+    for out in outs {
+        let fault = join(out, seat, replies)?;
+        faulted |= fault;
+    }
+    Ok(faulted)
+}
+
+fn memory(_fault: Fault) -> Broken {
+    Broken::Memory
+}
+
+// What is to be played over so many regions.
+#[derive(Drop)]
+struct Lines {
+    regions: usize,
+    seeds: Vec<Said>,
+    sessions: Vec<Vec<Said>>,
+}
+
+/// What came of a script that was played. Each outcome among the answers was answered in what was seen, of a transaction of its
+/// own.
+#[derive(Drop)]
+pub struct Played {
+    /// The answer of each line that was reached.
+    pub replies: Vec<Spoken>,
+    /// Whether a fault of the script ended a session.
+    pub faulted: bool,
+    /// The sum of all balances at the end.
+    pub total: Total,
+    /// What all sessions had seen.
+    pub seen: Unnamed,
+}
+
+// The store, what the seeds send with, and the seats of the sessions.
+fn set_out<J: Naming, F: Fresh, R: Wait + Clone + Drop>(
+    rt: &R,
+    alloc: Global,
+    opened: Opened,
+    regions: usize,
+) -> Result<(Arc<Store<J, F>>, Access<J, F, R>, Seat<J>, Vec<Seat<J>>), Fault>
+    requires name { (opened.table ≡ J.table) × (opened.bounds ≡ J.bounds) × (opened.seats ≡ J.seats) }
+    requires count { (regions ≡ length J.bounds + 1) × (regions ≤ 64) × (regions ≤ J.seats) }
+    ensures { IfOk result (λ r. AreFrom (length J.bounds + 1) r.3.items) }
+{
+    let (store, mut seats) = open::<J, F>(alloc, opened, regions)?;
+    let store = Arc::new(alloc, store)?;
+    let Some((seat, resolver)) = two_seats(&mut seats) else {
+        return Err(Fault::OutOfMemory);
+    };
+    let access = Access::new(alloc, rt.clone()?, store.clone()?, resolver);
+    Ok((store, access, seat, seats))
+}
+
+// Makes the sessions' lines by the workers.
+fn work<J, F, G, R>(
+    rt: &R,
+    alloc: Global,
+    workers: usize,
+    gate: &G,
+    store: &Arc<Store<J, F>>,
+    seats: Vec<Seat<J>>,
+    sessions: Vec<Vec<Said>>,
+) -> Result<Vec<Out<J>>, Fault>
+where
+    J: Naming + Send + Sync,
+    F: Fresh + Send,
+    G: Gate + Sync,
+    R: Threads + Wait + Sync + Send + Clone + Drop,
+    requires seats { AreFrom (length J.bounds + 1) seats.items }
+    requires few { vec_len sessions ≤ 256 }
+    ensures { IfOk result (λ outs. AreFalling outs.items) }
+{
+    let jobs = jobs(rt, alloc, store, seats, sessions)?;
+    let outs = run_sessions(rt, alloc, workers, jobs, gate)?;
+    Ok(outs)
+}
+
+// The first line's answer, where it says the keys between regions.
+fn tell_regions(replies: &mut Vec<Spoken>, regions: usize) -> Result<(), Broken>
+    requires { All (λ s. start_of s.reply ≡ None) replies.old.items }
+    ensures { OnOk result (All (λ s. start_of s.reply ≡ None) replies.new.items) }
+{
+    if regions > 1 {
+        replies.push(Spoken {
+            number: 1,
+            reply: Reply::Said(Words::Regions(regions)),
+        })?;
+    }
+    Ok(())
+}
+
+// Plays the seeds and then the sessions, and sums up.
+fn play<J, F, G, R>(
+    rt: &R,
+    alloc: Global,
+    workers: usize,
+    gate: &G,
+    opened: Opened,
+    script: Lines,
+) -> Result<Played, Broken>
+where
+    J: Naming + Send + Sync,
+    F: Fresh + Send,
+    G: Gate + Sync,
+    R: Threads + Wait + Sync + Send + Clone + Drop,
+    requires name { (opened.table ≡ J.table) × (opened.bounds ≡ J.bounds) × (opened.seats ≡ J.seats) }
+    requires count { (script.regions ≡ length J.bounds + 1) × (script.regions ≤ 64) × (script.regions ≤ J.seats) }
+    requires few { vec_len script.sessions ≤ 256 }
+    ensures { IfOk result (λ played. TellsOutcomes played.seen.events played.replies.items) }
+{
+    let Lines {
+        regions,
+        seeds,
+        sessions,
+    } = script;
+    let Ok((store, mut access, seat, seats)) = set_out::<J, F, R>(rt, alloc, opened, regions) else {
+        return Err(Broken::Memory);
+    };
+    let mut replies = Vec::new(alloc);
+    tell_regions(&mut replies, regions)?;
+    let mut seat = play_seeds(seat, &access, seeds.as_slice(), &mut replies)?;
+    let outs = work(rt, alloc, workers, gate, &store, seats, sessions).map_err(memory)?;
+    let faulted = gather(outs, &mut seat, &mut replies)?;
+    let told = seat.tell();
+    let (total, seat) = read_total(seat, &mut access)?;
+    Ok(Played {
+        replies,
+        faulted,
+        total,
+        seen: told.unnamed(seat),
+    })
+}
+
+/// Plays a script that was read, by so many workers: the seeds in the order of their lines, and then the lines of each session
+/// in their order, the sessions side by side. Each outcome that a line is told was answered in what was seen, and no two are of
+/// one transaction.
+///
+/// `Memory` where a growth was refused outside of a session's calls.
+pub(crate) fn play_script<F, G, R>(
+    rt: &R,
+    alloc: Global,
+    workers: usize,
+    gate: &G,
+    script: Script,
+) -> Result<Played, Broken>
+where
+    F: Fresh + Send,
+    G: Gate + Sync,
+    R: Threads + Wait + Sync + Send + Clone + Drop,
+    requires { IsWithin script }
+    ensures { IfOk result (λ played. TellsOutcomes played.seen.events played.replies.items) }
+{
+    let Script {
+        bounds,
+        seeds,
+        sessions,
+    } = script;
+    let regions = bounds.len() + 1;
+    let others = 2 * sessions.len() + 2;
+    let opened = Opened::new(alloc, bounds, others).map_err(memory)?;
+    play::<Brand, F, G, R>(
+        rt,
+        alloc,
+        workers,
+        gate,
+        opened,
+        Lines {
+            regions,
+            seeds,
+            sessions,
+        },
+    )
+}

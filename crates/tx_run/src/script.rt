@@ -1,0 +1,196 @@
+//! A script of a run, read whole: its regions, its seeds, and the lines of each session.
+ghost use Rattle.std.specs.Prelude.{IfOk, OnOk};
+ghost use Rattle.tx_run.specs.Scripts.{IsWithin};
+
+use std::alloc::Global;
+use std::collections::BTreeMap;
+use std::io::BufRead;
+use tx_lines::{Broken, Found, read_line};
+use tx_steps::{Action, Line, Program, Request, Step};
+use tx_types::limits::MAX_LIVE_SESSIONS;
+use tx_types::{Cause, Key};
+
+/// Which latches a line asks for.
+#[derive(Clone, Copy, Debug, PartialEq, Eq)]
+pub(crate) enum Asks {
+    /// It changes nothing in the store.
+    Nothing,
+    /// Those of the keys in its session's buffer.
+    Buffer,
+    /// Those of the lock that last stood in its session's way.
+    Met,
+}
+
+/// A line that says a step, with its number.
+#[derive(Debug, Drop)]
+pub(crate) struct Said {
+    pub number: u64,
+    pub asks: Asks,
+    pub text: Vec<u8>,
+}
+
+/// A script.
+#[derive(Debug, Drop)]
+pub(crate) struct Script {
+    /// The keys between the regions; none where line 1 says none.
+    pub bounds: Vec<Key>,
+    pub seeds: Vec<Said>,
+    /// The lines of each session, in the order of their first lines.
+    pub sessions: Vec<Vec<Said>>,
+}
+
+// Which session has this name.
+#[derive(Drop)]
+struct Reading {
+    alloc: Global,
+    script: Script,
+    places: BTreeMap<String, usize>,
+}
+
+// The name of the session of a step; none of a seed's.
+fn name_of<'a>(step: Step<'a>) -> Option<&'a str> {
+    match step {
+        Step::Begin(name) | Step::Act(name, _) | Step::Send(name, _, _) | Step::Transfer(name, _) =>
+            Some(name),
+        _ => None,
+    }
+}
+
+// The latches that a step asks for. Those of a transfer change on its way.
+fn asks_of(step: Step<'_>) -> Asks {
+    match step {
+        Step::Send(
+            _,
+            Request::Prewrite | Request::Commit | Request::Abort | Request::Heartbeat(_),
+            _,
+        ) => Asks::Buffer,
+        Step::Act(_, Action::Resolve(_)) => Asks::Met,
+        _ => Asks::Nothing,
+    }
+}
+
+impl Reading {
+    fn new(alloc: Global) -> Reading
+        ensures { IsWithin result.script }
+    {
+        Reading {
+            alloc,
+            script: Script {
+                bounds: Vec::new(alloc),
+                seeds: Vec::new(alloc),
+                sessions: Vec::new(alloc),
+            },
+            places: BTreeMap::new(alloc),
+        }
+    }
+
+    // The place of the session of this name, which is made where it is the first line of it. `Sessions` where there are too
+    // many.
+    fn place(&mut self, name: &str) -> Result<Result<usize, Cause>, Broken>
+        requires { IsWithin self.old.script }
+        ensures { OnOk result (IsWithin self.new.script) }
+    {
+        if let Some(place) = self.places.get(name) {
+            return Ok(Ok(*place));
+        }
+        let place = self.script.sessions.len();
+        if place >= MAX_LIVE_SESSIONS {
+            return Ok(Err(Cause::Sessions));
+        }
+        self.script.sessions.push(Vec::new(self.alloc))?;
+        let name = String::from_str(self.alloc, name)?;
+        self.places.insert(name, place)?;
+        Ok(Ok(place))
+    }
+
+    // Enters a line of a session, or a seed.
+    fn enter(&mut self, said: Said, name: Option<&str>) -> Result<Result<(), Cause>, Broken>
+        requires { IsWithin self.old.script }
+        ensures { OnOk result (IsWithin self.new.script) }
+    {
+        let Some(name) = name else {
+            self.script.seeds.push(said)?;
+            return Ok(Ok(()));
+        };
+        match self.place(name)? {
+            Ok(place) => {
+                if let Some(lines) = self.script.sessions.get_mut(place) {
+                    lines.push(said)?;
+                }
+                Ok(Ok(()))
+            }
+            Err(cause) => Ok(Err(cause)),
+        }
+    }
+
+    // Takes the keys between the regions from line 1, where it says some.
+    fn opens(&mut self, number: u64, line: &Line<'_>) -> Result<bool, Broken>
+        requires { IsWithin self.old.script }
+        ensures { OnOk result (IsWithin self.new.script) }
+    {
+        if number != 1 {
+            return Ok(false);
+        }
+        match line.bounds(self.alloc) {
+            Ok(Some(bounds)) => {
+                self.script.bounds = bounds;
+                Ok(true)
+            }
+            Ok(None) => Ok(false),
+            Err(_) => Err(Broken::Memory),
+        }
+    }
+
+    // Takes a line.
+    fn take(&mut self, number: u64, text: &[u8]) -> Result<Result<(), Cause>, Broken>
+        requires { IsWithin self.old.script }
+        ensures { OnOk result (IsWithin self.new.script) }
+    {
+        let line = match Line::read(self.alloc, number, text)? {
+            Ok(line) => line,
+            Err(cause) => return Ok(Err(cause)),
+        };
+        if self.opens(number, &line)? {
+            return Ok(Ok(()));
+        }
+        match line.step(Program::Run) {
+            Some(step) => {
+                let said = Said {
+                    number,
+                    asks: asks_of(step),
+                    text: Vec::from_slice(self.alloc, text)?,
+                };
+                self.enter(said, name_of(step))
+            }
+            None => Ok(Err(Cause::Form)),
+        }
+    }
+}
+
+/// Reads a script to its end, within the limits. A fault comes with the number of its line.
+pub(crate) fn read_script<B: BufRead>(
+    alloc: Global,
+    reader: &mut B,
+) -> Result<Result<Script, (u64, Cause)>, Broken>
+    ensures { IfOk result (λ read. IfOk read IsWithin) }
+{
+    let mut reading = Reading::new(alloc);
+    let mut text = Vec::new(alloc);
+    for number in 1..u64::MAX {
+        let taken = match read_line(reader, &mut text)? {
+            Found::End => break,
+            Found::Long => Err(Cause::Long),
+            Found::Line => reading.take(number, text.as_slice())?,
+        };
+        match taken {
+            Ok(()) => {}
+            Err(cause) => return Ok(Err((number, cause))),
+        }
+    }
+    let Reading {
+        alloc: _,
+        script,
+        places: _,
+    } = reading;
+    Ok(Ok(script))
+}

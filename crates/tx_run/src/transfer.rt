@@ -1,0 +1,310 @@
+//! A transfer: a transaction that reads the balances of two keys and moves an amount from the first to the second. Each of its
+//! requests is one step.
+ghost use Rattle.std.specs.Prelude.{◌≡◌, ◌<◌, false, IfErr};
+ghost use Rattle.tx_types.specs.declared.fault.Fault.TheVariants as fault;
+ghost use Rattle.tx_client.specs.Sessions.{is_declared};
+ghost use Rattle.tx_run.specs.declared.balance.TheConstants.{BALANCES};
+
+use crate::access::Access;
+use crate::balance::{after_transfer, balance_of, value_of};
+use std::alloc::Global;
+use std::sync::Wait;
+use tx_cells::Families;
+use tx_client::{Miss, Session, Terms};
+use tx_core::Answer;
+use tx_journal::Naming;
+use tx_latch::{Slot, slot_of};
+use tx_types::{Fault, Key, LockInfo, Mode};
+
+/// How often one transfer resolves a lock, and how often it draws again.
+const TRIES: u32 = 16;
+
+/// How long its locks live, in ticks.
+pub(crate) const TTL: u32 = 64;
+
+// What it does next.
+#[derive(Clone, Copy, Debug, PartialEq, Eq)]
+enum Stage {
+    ReadFrom,
+    ReadTo,
+    Prewrite,
+    Commit,
+    Abort,
+}
+
+/// What comes of a step.
+#[derive(Clone, Copy, Debug, PartialEq, Eq)]
+pub(crate) enum After {
+    /// It goes on.
+    Goes,
+    /// It is over: the session is to be finished.
+    Ends,
+    /// Its seat's ticks are spent.
+    Spent,
+    /// Memory was refused to the session.
+    NoMemory,
+}
+
+/// A transfer on its way.
+#[derive(Drop)]
+pub(crate) struct Moving {
+    from: Key,
+    to: Key,
+    amount: u64,
+    mode: Mode,
+    stage: Stage,
+    /// The balance of the first key, once it is read.
+    found: u64,
+    /// How often a lock was resolved.
+    resolved: u32,
+    /// How often the commit came too late.
+    late: u32,
+    /// The slots of the lock that is to be resolved next.
+    resolving: Option<Vec<Slot>>,
+    ghost small: { found < BALANCES },
+}
+
+impl Moving {
+    pub fn new(from: Key, to: Key, amount: u64, mode: Mode) -> Moving {
+        Moving {
+            from,
+            to,
+            amount,
+            mode,
+            stage: Stage::ReadFrom,
+            found: 0,
+            resolved: 0,
+            late: 0,
+            resolving: None,
+        }
+    }
+
+    /// The slots of its next step.
+    pub fn slots(&self, alloc: Global) -> Result<Vec<Slot>, Fault>
+        ensures { IfErr result (λ e. e ≡ fault.OutOfMemory) }
+    {
+        let mut slots = Vec::new(alloc);
+        if let Some(met) = &self.resolving {
+            slots.extend_from_slice(met.as_slice())?;
+            return Ok(slots);
+        }
+        match self.stage {
+            Stage::ReadFrom | Stage::ReadTo => Ok(slots),
+            Stage::Prewrite | Stage::Commit | Stage::Abort => {
+                slots.push(slot_of(&self.from))?;
+                slots.push(slot_of(&self.to))?;
+                Ok(slots)
+            }
+        }
+    }
+
+    // A lock stands in the way: it is to be resolved next, unless that was done often enough.
+    fn meets(&mut self, alloc: Global, info: &LockInfo, otherwise: After) -> After {
+        if self.resolved >= TRIES {
+            return otherwise;
+        }
+        match slots_of(alloc, info) {
+            Ok(slots) => {
+                self.resolved += 1;
+                self.resolving = Some(slots);
+                After::Goes
+            }
+            Err(_) => After::NoMemory,
+        }
+    }
+}
+
+/// The slots of a lock, its primary and the keys that it lists.
+pub(crate) fn slots_of(alloc: Global, info: &LockInfo) -> Result<Vec<Slot>, Fault> {
+    let mut slots = Vec::new(alloc);
+    slots.push(slot_of(&info.key))?;
+    slots.push(slot_of(&info.primary))?;
+    for key in info.secondaries.as_slice() {
+        slots.push(slot_of(key))?;
+    }
+    Ok(slots)
+}
+
+// Enters both changes, and declares them.
+fn declare<J: Naming>(
+    session: &mut Session<J>,
+    alloc: Global,
+    moving: &Moving,
+    left: (u64, u64),
+) -> Result<(), Fault>
+    requires declared { is_declared session.old.state ≡ false }
+    requires most { (left.0 < BALANCES) × (left.1 < BALANCES) }
+{
+    let (from, to) = left;
+    session.put(moving.from.clone()?, value_of(alloc, from)?)?;
+    session.put(moving.to.clone()?, value_of(alloc, to)?)?;
+    session.declare(
+        alloc,
+        Terms {
+            mode: moving.mode,
+            ttl: TTL,
+            max_commit: None,
+        },
+    )
+}
+
+impl Moving {
+    // The balance of a key was read.
+    fn read<J: Naming>(&mut self, session: &mut Session<J>, alloc: Global, balance: u64) -> After
+        requires { balance < BALANCES }
+    {
+        if self.stage == Stage::ReadFrom {
+            self.found = balance;
+            self.stage = Stage::ReadTo;
+            return After::Goes;
+        }
+        let Some(left) = after_transfer(self.found, balance, self.amount) else {
+            return After::Ends;
+        };
+        if session.is_declared() {
+            return After::Ends;
+        }
+        match declare(session, alloc, self, left) {
+            Ok(()) => {
+                self.stage = Stage::Prewrite;
+                After::Goes
+            }
+            Err(_) => After::NoMemory,
+        }
+    }
+
+    // Reads the balance that is read next.
+    fn reads<J: Naming, F: Families + Drop, R: Wait + Drop>(
+        &mut self,
+        session: &mut Session<J>,
+        access: &Access<J, F, R>,
+    ) -> After {
+        let key = if self.stage == Stage::ReadFrom {
+            &self.from
+        } else {
+            &self.to
+        };
+        match access.get(session, key) {
+            Ok(Answer::Found(value)) => {
+                self.read(session, access.alloc, balance_of(value.as_bytes()))
+            }
+            Ok(Answer::Nothing) => self.read(session, access.alloc, 0),
+            Ok(Answer::KeyIsLocked(info)) => self.meets(access.alloc, &info, After::Ends),
+            Ok(_) => After::Ends,
+            Err(_) => After::NoMemory,
+        }
+    }
+
+    // It gives up, if it still may.
+    fn aborts(&mut self) -> After {
+        self.stage = Stage::Abort;
+        After::Goes
+    }
+
+    // What comes of a prewrite.
+    fn prewritten(&mut self, alloc: Global, answered: Result<Option<Answer>, Miss>) -> After {
+        match answered {
+            Ok(Some(Answer::Prewritten(_) | Answer::AlreadyCommitted { .. })) => After::Goes,
+            Ok(Some(Answer::KeyIsLocked(info))) => {
+                if self.resolved >= TRIES {
+                    self.aborts()
+                } else {
+                    self.meets(alloc, &info, After::Goes)
+                }
+            }
+            Ok(Some(Answer::BelowSafePoint { .. })) | Err(_) => After::Ends,
+            Ok(_) => self.aborts(),
+        }
+    }
+
+    // Locks the next key, until the commit is due.
+    fn prewrites<J: Naming, F: Families + Drop, R: Wait + Drop>(
+        &mut self,
+        session: &mut Session<J>,
+        access: &Access<J, F, R>,
+    ) -> After {
+        if session.can_commit() || session.can_draw() {
+            self.stage = Stage::Commit;
+            return self.commits(session, access);
+        }
+        if !session.is_declared() {
+            return After::Ends;
+        }
+        let answered = access.prewrite(session);
+        self.prewritten(access.alloc, answered)
+    }
+
+    // What comes of a commit.
+    fn committed(&mut self, may_abort: bool, answered: Result<Option<Answer>, Miss>) -> After {
+        match answered {
+            Ok(Some(Answer::Committed(_))) => After::Goes,
+            Ok(Some(Answer::BelowSafePoint { .. })) | Ok(None) | Err(_) => After::Ends,
+            Ok(Some(_)) => {
+                self.late = self.late.saturating_add(1);
+                if self.late > TRIES && may_abort {
+                    self.aborts()
+                } else {
+                    After::Goes
+                }
+            }
+        }
+    }
+
+    // Commits the next key, at a timestamp that is drawn where none is.
+    fn commits<J: Naming, F: Families + Drop, R: Wait + Drop>(
+        &mut self,
+        session: &mut Session<J>,
+        access: &Access<J, F, R>,
+    ) -> After {
+        if session.can_draw() && session.draw_commit().is_err() {
+            return After::Spent;
+        }
+        if !session.can_commit() {
+            return self.aborts();
+        }
+        let answered = access.commit(session);
+        let may_abort = session.can_abort();
+        self.committed(may_abort, answered)
+    }
+
+    // Takes it back, as far as that is open.
+    fn takes_back<J: Naming, F: Families + Drop, R: Wait + Drop>(
+        &mut self,
+        session: &mut Session<J>,
+        access: &Access<J, F, R>,
+    ) -> After {
+        if session.can_abort() {
+            return match access.abort(session) {
+                Ok(None) | Ok(Some(Answer::BelowSafePoint { .. })) | Err(_) => After::Ends,
+                Ok(Some(_)) => After::Goes,
+            };
+        }
+        if session.can_commit() || session.can_draw() {
+            self.stage = Stage::Commit;
+            self.commits(session, access)
+        } else {
+            After::Ends
+        }
+    }
+
+    /// Makes the next step.
+    pub fn step<J: Naming, F: Families + Drop, R: Wait + Drop>(
+        &mut self,
+        session: &mut Session<J>,
+        access: &mut Access<J, F, R>,
+    ) -> After {
+        if self.resolving.is_some() {
+            self.resolving = None;
+            return match access.resolve(session, None) {
+                Ok(_) => After::Goes,
+                Err(_) => After::NoMemory,
+            };
+        }
+        match self.stage {
+            Stage::ReadFrom | Stage::ReadTo => self.reads(session, access),
+            Stage::Prewrite => self.prewrites(session, access),
+            Stage::Commit => self.commits(session, access),
+            Stage::Abort => self.takes_back(session, access),
+        }
+    }
+}

@@ -1,0 +1,89 @@
+//! Writing what was played.
+use crate::play::Played;
+use crate::reply::{Reply, Spoken, Words, put_line, put_sum};
+use crate::seeds::Total;
+use std::alloc::Global;
+use std::io::Write;
+use tx_core::Outcome;
+use tx_lines::{Broken, finish, send};
+use tx_types::Cause;
+
+// The counts of outcomes: committed, aborted, unknown, read-only.
+fn count(replies: &[Spoken]) -> [u64; 4] {
+    let mut counts = [0_u64; 4];
+    for spoken in replies {
+        let place = match &spoken.reply {
+            Reply::Ended(_, Outcome::Committed(_)) => 0,
+            Reply::Ended(_, Outcome::Aborted) => 1,
+            Reply::Ended(_, Outcome::Unknown(_)) => 2,
+            Reply::Ended(_, Outcome::ReadOnly) => 3,
+            _ => continue,
+        };
+        counts[place] = counts[place].saturating_add(1);
+    }
+    counts
+}
+
+// Appends the line `["total",n]`.
+fn put_total(alloc: Global, out: &mut Vec<u8>, total: Total) -> Result<(), Broken> {
+    if total.high == 0 {
+        put_sum(out, "total", &[total.low])?;
+        return Ok(());
+    }
+    let Total { high, low } = total;
+    let text = format!(in alloc; "[\"total\",{high}{low:015}]\n")?;
+    out.extend_from_slice(text.as_bytes())?;
+    Ok(())
+}
+
+// The places of the answers, in the order of their lines.
+fn in_order(alloc: Global, replies: &[Spoken]) -> Result<Vec<(u64, usize)>, Broken> {
+    let mut places = Vec::with_capacity(alloc, replies.len())?;
+    for (place, spoken) in replies.iter().enumerate() {
+        places.push((spoken.number, place))?;
+    }
+    places.sort()?;
+    Ok(places)
+}
+
+/// Writes the answers in the order of their lines, then the counts of the outcomes, and the sum of all balances.
+pub(crate) fn write_all<W: Write>(
+    alloc: Global,
+    writer: &mut W,
+    played: &Played,
+) -> Result<(), Broken> {
+    let counts = count(played.replies.as_slice());
+    let places = in_order(alloc, played.replies.as_slice())?;
+    let mut text = Vec::new(alloc);
+    for (_, place) in &places {
+        if let Some(spoken) = played.replies.get(*place) {
+            text.clear();
+            put_line(&mut text, spoken)?;
+            send(writer, text.as_slice())?;
+        }
+    }
+    text.clear();
+    put_sum(&mut text, "outcomes", &counts)?;
+    put_total(alloc, &mut text, played.total)?;
+    send(writer, text.as_slice())?;
+    finish(writer)
+}
+
+/// Tells the fault of a script that was not played.
+pub(crate) fn tell_fault<W: Write>(
+    alloc: Global,
+    writer: &mut W,
+    number: u64,
+    cause: Cause,
+) -> Result<(), Broken> {
+    let mut text = Vec::new(alloc);
+    put_line(
+        &mut text,
+        &Spoken {
+            number,
+            reply: Reply::Said(Words::Fault(cause)),
+        },
+    )?;
+    send(writer, text.as_slice())?;
+    finish(writer)
+}
