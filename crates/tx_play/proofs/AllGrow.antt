@@ -25,7 +25,7 @@ use Rattle.tx_lines.specs.declared.reply.Reply.TheVariants as reply
 use Rattle.tx_play.specs.Posts.{Course, taken, holding}
 use Rattle.tx_play.specs.Steps.{Deed, put, delete, lock, get, scan, declare, prewrite, draw, commit, abort, heartbeat, course_of, Call, begin, acts, finish, stop, deliver, read, tick, resolve, gc}
 use Rattle.tx_play.specs.Scenes.{Scene, Turn, goes, inquires, stops, is_refused, later_of, calls, is_key, is_value, is_name, at_stage, at_history, with_session, began, declared_in, read_by, said_by, asked, sent, runs, runs_to, first_free, live_at, enters, may_go, is_too_many, deeds_by, deeds, delivered_by, delivers, finishes_by, begins_at, in_session, turn, learns, resolves_by, collected_as}
-use Rattle.tx_play.specs.Plays.{Leads, Played, Plays}
+use Rattle.tx_play.specs.Plays.{Leads}
 
 -- Whatever a turn leads to, and wherever it asks a region, h has happened there; it stops at most where `from` has happened.
 abbrev pub AllGrow : History → History → Turn → Type 0
@@ -149,19 +149,9 @@ module _ (bounds : List Key) where
     turn_grows refused (tick n) = either h h (nat_eq n 0) _ _ (begins_all h) (either h h (nat_le n scene.ticks) _ _ (inr (begins_all h)) (begins_all h))
     turn_grows refused (gc safe) = runs_grow bounds h Plain refused scene (gc_walk bounds safe) (λ r next left. goes next (collected_as r) left) (λ r next left. begins_all next.stage.history)
 
-  -- ---- plays
-
   -- where each scene that a turn goes on to begins a history, h does
   pub leads_begin : (Goes : Scene → Reply → List Bool → Type 0) (Stops : Cause → Type 0) (from h end : History) → ((next : Scene) (said : Reply) (left : List Bool) → Goes next said left → Begins next.stage.history end) → ((c : Cause) → Stops c → Begins from end)
       → (t : Turn) → AllGrow from h t → Leads bounds Goes Stops t → Begins h end
   leads_begin Goes Stops from h end go halt (goes scene said refused) grow leads = begins_more h scene.stage.history end grow (go scene said refused leads)
   leads_begin Goes Stops from h end go halt (inquires stage body more) grow (a, answers, leads) = begins_more h stage.history end grow.0 (leads_begin Goes Stops from stage.history end go halt (more a) (grow.1 a) leads)
   leads_begin Goes Stops from h end go halt (stops c) grow leads = begins_more h from end grow (halt c leads)
-
-  pub plays_begin : (steps : List Call) (scene : Scene) (refused : List Bool) (p : Played) → Plays bounds scene refused steps p → Begins scene.stage.history p.history
-  plays_begin [] scene refused p plays = subst (λ (q : Played). Begins scene.stage.history q.history) (sym plays) (begins_all scene.stage.history)
-  plays_begin (step ∷ steps) scene refused p plays =
-      leads_begin _ _ scene.stage.history scene.stage.history p.history
-      (λ next said left x. subst (λ (q : Played). Begins next.stage.history q.history) (sym x.2) (plays_begin steps next left x.0 x.1))
-      (λ c is. subst (λ (q : Played). Begins scene.stage.history q.history) (sym is) (begins_all scene.stage.history))
-      (turn bounds refused step scene) (turn_grows scene refused step) plays

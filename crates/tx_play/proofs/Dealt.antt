@@ -1,26 +1,19 @@
 -- An engine over the seats of a new journal.
-use Rattle.std.proofs.Common.{◌≡◌, ◌<◌, ◌≤◌, ◌+◌, ℕ, suc, List, [], ◌∷◌, ◌++◌, map, length, replicate, slice_get, slice_index_or, drop, Some, Result, Ok, Err, refl, sym, ap, subst, ◌∙◌, append-nil, arith, length-append}
+use Rattle.std.proofs.Common.{◌≡◌, ◌<◌, ◌≤◌, ◌+◌, ℕ, suc, List, [], ◌∷◌, ◌++◌, map, length, replicate, slice_get, slice_index_or, drop, Some, refl, sym, ap, subst, ◌∙◌, arith, length-append}
 use Rattle.std.specs.Prelude.{All}
 use Rattle.std.proofs.Math.ListN.{get_or-append}
 use Rattle.std.proofs.Math.Seq.{get_or-append_seam}
 use Rattle.std.specs.List.{sum_by}
-use Rattle.std.specs.Result.{IfOk, OnErr}
 use Rattle.std.proofs.lemmas.List.Sums.{sum_by-cons}
 use Rattle.tx_types.specs.declared.key.Key.{Key}
 use Rattle.tx_core.proofs.Basics.{some_same}
 use Rattle.tx_journal.specs.Known.{Known, known}
 use Rattle.tx_play.specs.declared.places.Slot.TheVariants.{Free}
-use Rattle.tx_lines.specs.declared.reply.Reply.{Reply}
-use Rattle.tx_play.specs.declared.step.End.TheVariants.{Well}
 use Rattle.tx_play.specs.Posts.{AreNumbered, made_by, body_at}
-use Rattle.tx_play.specs.Steps.{Call}
-use Rattle.tx_play.specs.Scenes.{free, opening}
-use Rattle.tx_play.specs.Plays.{ending}
+use Rattle.tx_play.specs.Scenes.{free}
 use Rattle.tx_play.specs.Places.{Held, seat_in, place_of, name_at, made_in, AreSeated, AllSeated}
-use Rattle.tx_play.specs.Openings.{frees, AreDealt}
-use Rattle.tx_play.specs.Scripts.{IsOpening, BreaksScript}
+use Rattle.tx_play.specs.Openings.{frees, AreDealt, IsOpening}
 use Rattle.tx_play.proofs.Keeping.{seated_fewer}
-use Rattle.tx_play.proofs.OnePlay.{is_play}
 
 dealt : (i : ℕ) (seats : List Known) → ((k : ℕ) → k < length seats → slice_get seats k ≡ Some (known (i + k) 4294967296 [])) → AreDealt i seats
 dealt i [] each = tt
@@ -84,10 +77,6 @@ module _ (bounds : List Key) (e : Held) (regions : List Known) (clerk : Known) (
         omega (arith, made, ap (sum_by made_by) at_regions, none_taken 0 regions taken, ap (sum_by (λ p. made_in (seat_in p))) places, none_made (suc (length bounds + 1)) seats all.1));
   }
 
--- broken off before the first step
-pub breaks_first : (bounds : List Key) (n : ℕ) (steps : List Call) (old : List Reply) → BreaksScript bounds n steps old old
-breaks_first bounds n steps old = ([], [], steps, ending (opening n) Well, [], [], refl, is_play bounds n [] [] (ending (opening n) Well) refl tt, sym (append-nil old), refl)
-
 -- the first of a list was taken
 pub removed : {X : Type 0} (xs ys : List X) (x : X) → 0 < length xs → x ≡ slice_index_or xs 0 x → ys ≡ drop 1 xs → xs ≡ x ∷ ys
 removed [] ys x some is rest = absurd (omega (arith, some))
@@ -104,21 +93,3 @@ last_of P xs front x is all =
 
 pub front_of : {X : Type 0} (P : X → Type 0) (xs front : List X) (x : X) → xs ≡ front ++ x ∷ [] → All P xs → All P front
 front_of P xs front x is all = λ k d h. subst P (get_or-append front (x ∷ []) d k h) (subst (All P) is all k d (omega (arith, h, length-append front (x ∷ []))))
-
--- what holds of the number of places
-pub if_ends : {T E : Type 0} (P : ℕ → T → Type 0) (r : Result T E) (before seats n : ℕ) → seats ≡ before + n → IfOk r (P n) → IfOk r (λ x. (m : ℕ) → seats ≡ before + m → P m x)
-if_ends P (Ok x) before seats n is p = λ m also. subst (λ k. P k x) (let e : n ≡ m = omega (arith, is, also) in e) p
-if_ends P (Err x) before seats n is p = tt
-
-pub on_breaks : {T E : Type 0} (P : ℕ → Type 0) (r : Result T E) (before seats n : ℕ) → seats ≡ before + n → OnErr r (P n) → OnErr r ((m : ℕ) → seats ≡ before + m → P m)
-on_breaks P (Ok x) before seats n is p = tt
-on_breaks P (Err x) before seats n is p = λ m also. subst P (let e : n ≡ m = omega (arith, is, also) in e) p
-
--- what follows from what holds of a result
-pub then_ok : {T E : Type 0} (P Q : T → Type 0) (r : Result T E) → IfOk r P → ((x : T) → P x → Q x) → IfOk r Q
-then_ok P Q (Ok x) p on = on x p
-then_ok P Q (Err x) p on = tt
-
-pub then_err : {T E : Type 0} (P Q : Type 0) (r : Result T E) → OnErr r P → (P → Q) → OnErr r Q
-then_err P Q (Ok x) p on = tt
-then_err P Q (Err x) p on = on p

@@ -22,14 +22,10 @@ pub mod Turning
 pub mod Engines
 -- At the end each seat has learnt what is newest: so the history is no longer than what the seats have made.
 pub mod Settling
--- Histories only grow as steps are played.
+-- Histories only grow in a turn.
 pub mod AllGrow
--- Steps have one play where its events are a world run.
+-- A turn leads to one thing where what it leads to is a world run.
 pub mod OnePlay
--- The loop over the steps.
-pub mod Scripts
--- When all has settled, the condition holds: nobody else acted.
-pub mod Ending
 -- An engine over the seats of a new journal.
 pub mod Dealt
 -- What a live session does is its turn.

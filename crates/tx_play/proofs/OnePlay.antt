@@ -1,18 +1,16 @@
--- Steps have one play where its events are a world run: wherever a region is asked, a beginning of them has happened.
-use Rattle.std.proofs.Common.{◌≡◌, ℕ, Bool, List, [], ◌∷◌, sym, ap, subst, ◌∙◌}
+-- A turn leads to one thing where that is of a world run: wherever a region is asked, a beginning of it has happened.
+use Rattle.std.proofs.Common.{Bool, List, subst}
 use Rattle.tx_types.specs.declared.fault.Cause.{Cause}
 use Rattle.tx_types.specs.declared.key.Key.{Key}
 use Rattle.tx_core.specs.Histories.{History, Begins, last}
 use Rattle.tx_core.specs.Worlds.{IsWorldRun}
-use Rattle.tx_core.proofs.seats.Beginnings.{begins_all, run_beginning}
+use Rattle.tx_core.proofs.seats.Beginnings.{run_beginning}
 use Rattle.tx_core.proofs.unique.OneAnswer.{one_answer}
 use Rattle.tx_lines.specs.declared.reply.Reply.{Reply}
-use Rattle.tx_play.specs.declared.step.End.TheVariants.{Faulted}
 use Rattle.tx_play.specs.Posts.{region_for}
-use Rattle.tx_play.specs.Steps.{Call}
-use Rattle.tx_play.specs.Scenes.{Scene, opening, Turn, goes, inquires, stops, turn}
-use Rattle.tx_play.specs.Plays.{Leads, Played, before, ending, Plays, IsPlay}
-use Rattle.tx_play.proofs.AllGrow.{AllGrow, turn_grows, leads_begin, plays_begin}
+use Rattle.tx_play.specs.Scenes.{Scene, Turn, goes, inquires, stops}
+use Rattle.tx_play.specs.Plays.{Leads}
+use Rattle.tx_play.proofs.AllGrow.{AllGrow, leads_begin}
 
 module _ (bounds : List Key) where
   -- where two things come of a turn, they come of it on one way
@@ -26,16 +24,3 @@ module _ (bounds : List Key) where
       one_lead Goes Went Stops Stopped R from stage.history end run go stop on off (more a) (grow.1 a) x
       (subst (λ c. Leads bounds Went Stopped (more c)) (one_answer bounds stage.history (region_for bounds body) (last stage.history) body b a run_here also answers) y)
   one_lead Goes Went Stops Stopped R from h end run go stop on off (stops c) grow x y = off c x y
-
-  one_play : (steps : List Call) (scene : Scene) (refused : List Bool) (p q : Played) → IsWorldRun bounds p.history → Plays bounds scene refused steps p → Plays bounds scene refused steps q → q ≡ p
-  one_play [] scene refused p q run is also = also ∙ sym is
-  one_play (step ∷ steps) scene refused p q run x y =
-      one_lead _ _ (λ c. p ≡ ending scene (Faulted c)) (λ c. q ≡ ending scene (Faulted c)) (q ≡ p) scene.stage.history scene.stage.history p.history run
-      (λ next said left z. subst (λ (r : Played). Begins next.stage.history r.history) (sym z.2) (plays_begin bounds steps next left z.0 z.1))
-      (λ c is. subst (λ (r : Played). Begins scene.stage.history r.history) (sym is) (begins_all scene.stage.history))
-      (λ next said left z w. w.2 ∙ (ap (before said) (one_play steps next left z.0 w.0 (subst (λ (r : Played). IsWorldRun bounds r.history) z.2 run) z.1 w.1) ∙ sym z.2))
-      (λ c is also. also ∙ sym is)
-      (turn bounds refused step scene) (turn_grows bounds scene refused step) x y
-
-  pub is_play : (n : ℕ) (refused : List Bool) (steps : List Call) (p : Played) → Plays bounds (opening n) refused steps p → IsWorldRun bounds p.history → IsPlay bounds n refused steps p
-  is_play n refused steps p plays run = record { plays = plays; only = λ q also. one_play steps (opening n) refused p q run plays also; run = run }

@@ -3,5 +3,4 @@ pub mod Steps
 pub mod Scenes
 pub mod Plays
 pub mod Places
-pub mod Scripts
 pub mod Openings

@@ -1,5 +1,5 @@
-//! Scripts of steps in one thread, over the regions and the seats of one journal. What a script has written is what its only play
-//! has, whose events are a run of the protocol.
+//! The engine of scripts in one thread, over the regions and the seats of one journal. Each step is its turn: a definition of what it
+//! leads to. In the end all seats are settled, which shows that nobody else acted.
 #![tactic(auto)]
 
 mod acts;
@@ -9,15 +9,10 @@ mod opening;
 mod places;
 mod post;
 mod resolving;
-mod script;
 mod step;
-#[cfg(test)]
-mod tests;
-#[cfg(test)]
-mod words;
 
 pub use engine::Engine;
-pub use opening::{engine_of, run};
+pub use opening::engine_of;
 pub use places::Slot;
 pub use post::{Post, Way};
-pub use step::{Act, Broken, End, Reply, Step};
+pub use step::{Act, Reply, Step};

@@ -45,16 +45,3 @@ pub enum Step<'a> {
     /// Old versions are collected at a safe point, in each region.
     Gc(Ts),
 }
-
-/// How a script ends.
-#[derive(Clone, Copy, Debug, PartialEq, Eq)]
-pub enum End {
-    /// With its last step.
-    Well,
-    /// With a step that it does not allow.
-    Faulted(tx_types::Cause),
-}
-
-/// A script was broken off: a growth was refused outside of a step's own calls.
-#[derive(Clone, Copy, Debug, Drop)]
-pub struct Broken;

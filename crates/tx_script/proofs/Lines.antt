@@ -22,7 +22,7 @@ use Rattle.tx_lines.specs.Faults.{fault_words}
 use Rattle.tx_steps.specs.Lines.{data_said}
 use Rattle.tx_play.specs.Scenes.{stops}
 use Rattle.tx_play.specs.Places.{Held, scene_of, own, Goes}
-use Rattle.tx_play.specs.Scripts.{IsOpening}
+use Rattle.tx_play.specs.Openings.{IsOpening}
 use Rattle.tx_script.specs.declared.line.Turned.{Turned}
 use Rattle.tx_script.specs.declared.line.Turned.TheVariants as turned
 use Rattle.tx_script.specs.Play.{said_turn, line_turn}

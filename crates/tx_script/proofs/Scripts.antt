@@ -20,7 +20,7 @@ use Rattle.tx_lines.specs.Faults.{fault_words}
 use Rattle.tx_play.specs.Scenes.{Scene, opening, Turn, goes, inquires, stops}
 use Rattle.tx_play.specs.Plays.{Leads}
 use Rattle.tx_play.specs.Places.{Held, scene_of, own, AllSeated, Goes, GoesTo}
-use Rattle.tx_play.specs.Scripts.{IsOpening}
+use Rattle.tx_play.specs.Openings.{IsOpening}
 use Rattle.tx_play.proofs.AllGrow.{leads_begin}
 use Rattle.tx_play.proofs.Keeping.{all_fewer}
 use Rattle.tx_script.specs.Play.{line_turn, Played, before, ending, faulted, Plays, render}

@@ -2,7 +2,7 @@
 ghost use Rattle.std.specs.Prelude.{◌≡◌, ◌≤◌, ◌+◌, ℕ, List, length, IfOk, IfErr};
 ghost use Rattle.tx_types.specs.declared.limits.TheConstants as limits;
 ghost use Rattle.tx_play.specs.Places.{AllSeated, own};
-ghost use Rattle.tx_play.specs.Scripts.{IsOpening};
+ghost use Rattle.tx_play.specs.Openings.{IsOpening};
 ghost use Rattle.tx_script.specs.Play.{EndsLines, BreaksLines};
 ghost use Rattle.tx_script.specs.Loops.{Ahead, Kept, EndsAt, BreaksAt};
 

@@ -47,6 +47,12 @@ fn commit_out_of_order(rt: HostRuntime) -> Result<(), Fail> {
         "[\"begin\",\"A\"]\n[\"put\",\"A\",\"a\",\"x\"]\n[\"commit\",\"A\"]\n",
         End::Faulted,
         "[1,\"start\",1]\n[2,\"ok\"]\n[3,\"E16\",\"order\"]\n",
+    )?;
+    replies(
+        &rt,
+        "[\"begin\",\"A\"]\n[\"declare\",\"A\",\"two-phase\",10]\n[\"prewrite\",\"A\"]\n[\"put\",\"A\",\"a\",\"x\"]\n",
+        End::Faulted,
+        "[1,\"start\",1]\n[2,\"ok\"]\n[3,\"done\"]\n[4,\"E16\",\"order\"]\n",
     )
 }
 
@@ -69,6 +75,12 @@ fn names_are_live_once(rt: HostRuntime) -> Result<(), Fail> {
         "[\"begin\",\"\"]\n",
         End::Faulted,
         "[1,\"E16\",\"name\"]\n",
+    )?;
+    replies(
+        &rt,
+        "[\"begin\",\"A\"]\n[\"stop\",\"A\"]\n[\"draw\",\"A\"]\n",
+        End::Faulted,
+        "[1,\"start\",1]\n[2,\"ok\"]\n[3,\"E16\",\"name\"]\n",
     )
 }
 
