@@ -10,10 +10,6 @@ mod laws;
 mod lists;
 mod plan;
 mod planned;
-#[cfg(test)]
-mod table_tests;
-#[cfg(test)]
-mod tests;
 mod view;
 mod walk;
 

@@ -1,5 +1,5 @@
 //! What is seen of a key, in a word.
-use crate::{CommitAt, LockHead, RecordHead, TxnView};
+use tx_plan::{CommitAt, LockHead, RecordHead, TxnView};
 use tx_types::{Fault, Key, LockKind, Mode, Ts};
 
 /// What the transaction that started at 5 sees of a key. Locks live 10 ticks and may be committed from 7 on.

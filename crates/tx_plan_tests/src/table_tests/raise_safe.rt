@@ -1,7 +1,7 @@
 //! The rows of RaiseSafe.
 use crate::table_tests::shown::Word::*;
 use crate::table_tests::shown::{BELOW, FUTURE, Short, answer_of, is};
-use crate::{RaiseSafe, RegionNo, plan_raise_safe};
+use tx_plan::{RaiseSafe, RegionNo, plan_raise_safe};
 use tx_types::Ts;
 
 const DONE: Short = (Raised, 0, 0);

@@ -3,7 +3,7 @@ use crate::table_tests::shown::Word::*;
 use crate::table_tests::shown::{BELOW, SAME, Short, is_plan};
 use crate::table_tests::views::Seen::*;
 use crate::table_tests::views::{Seen, key, view_of};
-use crate::{TxnHeartBeat, plan_txn_heart_beat};
+use tx_plan::{TxnHeartBeat, plan_txn_heart_beat};
 use tx_types::{Fault, Ts};
 
 const NOT_FOUND: Short = (TxnLockNotFound, 0, 0);

@@ -3,7 +3,7 @@ use crate::table_tests::shown::Word::*;
 use crate::table_tests::shown::{BELOW, FUTURE, Short, is_read};
 use crate::table_tests::views::Seen::*;
 use crate::table_tests::views::{Seen, key, lock_of};
-use crate::{Get, ReadView, Starts, plan_get};
+use tx_plan::{Get, ReadView, Starts, plan_get};
 use tx_types::{Fault, Ts, Value};
 
 const NONE: u64 = 0;

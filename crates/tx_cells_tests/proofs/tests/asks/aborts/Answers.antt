@@ -1,7 +1,7 @@
 use Rattle.std.proofs.Common.{subst, sym}
 use Rattle.tx_plan.specs.Changes.{Applies}
 use Rattle.tx_cells.specs.Contents.{cells_of}
-use Rattle.tx_cells.proofs.tests.asks.aborts.Goals as goal
+use Rattle.tx_cells_tests.proofs.tests.asks.aborts.Goals as goal
 
 pub apply-requires : goal.apply-requires
 apply-requires g c =

@@ -1,7 +1,7 @@
 //! The rows of Scan that need no key.
 use crate::table_tests::shown::Word::*;
 use crate::table_tests::shown::{BELOW, FUTURE, SAME, Short, answer_of, is, is_read};
-use crate::{Answer, Scan, Starts, plan_scan, scan_refusal};
+use tx_plan::{Answer, Scan, Starts, plan_scan, scan_refusal};
 use tx_types::{Fault, Key, KeyValues, Ts};
 
 // Timestamp, and why it is refused.

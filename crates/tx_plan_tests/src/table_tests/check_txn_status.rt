@@ -3,7 +3,7 @@ use crate::table_tests::shown::Word::*;
 use crate::table_tests::shown::{BELOW, FUTURE, SAME, Short, is_plan};
 use crate::table_tests::views::Seen::*;
 use crate::table_tests::views::{Seen, key, view_of};
-use crate::{CheckTxnStatus, plan_check_txn_status};
+use tx_plan::{CheckTxnStatus, plan_check_txn_status};
 use tx_types::{Fault, Ts};
 
 // Start, the caller's timestamp, and the time against which the lock is held.

@@ -4,10 +4,10 @@ mod finds;
 mod scenarios;
 mod steps;
 
-use crate::{Families, FlatCells, NestedCells};
 use scenarios::{LONG_VALUE, MARKS, SCANS, SURVIVORS};
 use std::alloc::Global;
 use steps::{Step, goes, steps_that_go};
+use tx_cells::{Families, FlatCells, NestedCells};
 
 /// A name, and the steps.
 type Scenario = (&'static str, &'static [Step]);

@@ -3,7 +3,7 @@ use crate::table_tests::shown::Word::*;
 use crate::table_tests::shown::{BELOW, SAME, Short, is_plan};
 use crate::table_tests::views::Seen::*;
 use crate::table_tests::views::{Seen, key, view_of};
-use crate::{ResolveLock, plan_resolve_lock};
+use tx_plan::{ResolveLock, plan_resolve_lock};
 use tx_types::{Fate, Fault, Ts};
 
 const DONE: Short = (Resolved, 0, 0);

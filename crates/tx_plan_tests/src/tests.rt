@@ -1,5 +1,5 @@
-use crate::*;
 use std::alloc::Global;
+use tx_plan::*;
 use tx_types::{Fault, Key, Ts};
 
 fn get(alloc: Global) -> Result<Body, Fault> {

@@ -1,34 +1,36 @@
-//! The rows of CheckSecondaryLocks.
+//! The rows of BatchRollback.
 use crate::table_tests::shown::Word::*;
 use crate::table_tests::shown::{BELOW, SAME, Short, is_plan};
 use crate::table_tests::views::Seen::*;
 use crate::table_tests::views::{Seen, key, view_of};
-use crate::{CheckSecondaryLocks, plan_check_secondary_locks};
+use tx_plan::{BatchRollback, plan_batch_rollback};
 use tx_types::{Fault, Ts};
 
-const NONE: Short = (Missing, 0, 0);
+const DONE: Short = (RolledBack, 0, 0);
 
 // Start, what is seen of the key, the answer and the change.
 type Row = (u64, Seen, Short, Short);
 
-const ROWS: [Row; 6] = [
+const ROWS: [Row; 8] = [
     (2, Free, BELOW, SAME),
-    (5, OwnAsync, (Locked, 7, 0), SAME),
-    (5, Done, (Committed, 8, 0), SAME),
-    (5, Undone, NONE, (Stays, 5, 0)),
-    (5, Shared, NONE, (Mark, 5, 0)),
-    (5, Others, NONE, (Rollback, 5, 0)),
+    (5, Own, DONE, (Rollback, 5, 1)),
+    (5, OwnAndStart, DONE, (Mark, 5, 1)),
+    (5, Done, (AlreadyCommitted, 8, 0), SAME),
+    (5, Undone, DONE, (Stays, 5, 0)),
+    (5, Marked, DONE, (Stays, 5, 0)),
+    (5, Free, DONE, (Rollback, 5, 0)),
+    (5, Others, DONE, (Rollback, 5, 0)),
 ];
 
-fn body(rt: &HostRuntime, row: Row) -> Result<CheckSecondaryLocks, Fault> {
+fn body(rt: &HostRuntime, row: Row) -> Result<BatchRollback, Fault> {
     let key = key(rt)?;
     let start = Ts::new(row.0);
-    Ok(CheckSecondaryLocks { key, start })
+    Ok(BatchRollback { key, start })
 }
 
-fn plans(body: CheckSecondaryLocks, row: Row) -> bool {
+fn plans(body: BatchRollback, row: Row) -> bool {
     let (_, seen, answer, change) = row;
-    let given = plan_check_secondary_locks(&view_of(seen), Ts::new(3), &body);
+    let given = plan_batch_rollback(&view_of(seen), Ts::new(3), &body);
     drop(body);
     is_plan(given, answer, change)
 }
@@ -41,7 +43,7 @@ fn holds(rt: &HostRuntime, row: Row) -> bool {
 }
 
 #[test]
-fn rows_of_check_secondary_locks(rt: HostRuntime) {
+fn rows_of_batch_rollback(rt: HostRuntime) {
     for row in ROWS {
         assert!(rt; holds(&rt, row));
     }

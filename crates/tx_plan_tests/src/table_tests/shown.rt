@@ -1,5 +1,5 @@
 //! What a plan gives, in short.
-use crate::{Answer, KeyChange, Left, NewLock, Planned, PlannedAnswer};
+use tx_plan::{Answer, KeyChange, Left, NewLock, Planned, PlannedAnswer};
 use tx_types::Mode;
 
 /// The words of answers and changes.

@@ -2,7 +2,7 @@ use Rattle.std.proofs.Common.{subst, sym, IfSome}
 use Rattle.tx_plan.specs.declared.key_change.KeyChange.{KeyChange}
 use Rattle.tx_plan.specs.Changes.{new_lock, CanPut}
 use Rattle.tx_cells.specs.Contents.{cells_of}
-use Rattle.tx_cells.proofs.tests.asks.locks.Goals as goal
+use Rattle.tx_cells_tests.proofs.tests.asks.locks.Goals as goal
 
 pub put_lock-requires : goal.put_lock-requires
 put_lock-requires g c =

@@ -1,9 +1,9 @@
 //! The steps of a scenario: what is asked of the families, and what the rules say to it. A key is one byte, and a value is known by
 //! its length.
-use crate::Families;
 use crate::tests::asks::{collect, commit, prewrite, put, roll_back};
 use crate::tests::finds::{blocked, met, read, remain, rows, stands, told};
 use std::alloc::Global;
+use tx_cells::Families;
 use tx_types::{Fault, Mutation};
 
 /// A key, and the start of a transaction or a timestamp.

@@ -1,6 +1,6 @@
 //! What is told of a lock, by an answer that names it.
 use crate::table_tests::views::key;
-use crate::{Answer, PlannedAnswer};
+use tx_plan::{Answer, PlannedAnswer};
 use tx_types::{
     Fault, Key, LockInfo, LockKind, LockMode, LockRec, Mode, Secondaries, StoredMutation, Ts,
 };

@@ -3,9 +3,9 @@ ghost use Rattle.std.specs.Prelude.{◌≡◌, IfSome};
 ghost use Rattle.tx_plan.specs.Changes.{new_lock, CanPut};
 ghost use Rattle.tx_cells.specs.Contents.{cells_of};
 
-use crate::Families;
 use crate::tests::steps::At;
 use std::alloc::Global;
+use tx_cells::Families;
 use tx_plan::{
     BatchRollback, Commit, Dropped, KeyChange, Planned, Prewrite, plan_batch_rollback, plan_commit,
     plan_prewrite,

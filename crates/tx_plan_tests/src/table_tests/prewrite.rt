@@ -3,7 +3,7 @@ use crate::table_tests::shown::Word::*;
 use crate::table_tests::shown::{BELOW, FUTURE, SAME, Short, is_plan};
 use crate::table_tests::views::Seen::*;
 use crate::table_tests::views::{Seen, key, view_of};
-use crate::{Prewrite, plan_prewrite};
+use tx_plan::{Prewrite, plan_prewrite};
 use tx_types::{Fault, Mode, Mutation, Secondaries, Ts};
 
 const TWO_PHASE: Mode = Mode::TwoPhase;

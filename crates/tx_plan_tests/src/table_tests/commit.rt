@@ -3,7 +3,7 @@ use crate::table_tests::shown::Word::*;
 use crate::table_tests::shown::{BELOW, SAME, Short, is_plan};
 use crate::table_tests::views::Seen::*;
 use crate::table_tests::views::{Seen, key, view_of};
-use crate::{body as request, plan_commit};
+use tx_plan::{Commit as Request, plan_commit};
 use tx_types::{Fault, Ts};
 
 // Start and commit timestamp, what is seen of the key, the answer and the change.
@@ -22,14 +22,14 @@ const ROWS: [Row; 10] = [
     (5, 9, Others, (TxnLockNotFound, 0, 0), SAME),
 ];
 
-fn body(rt: &HostRuntime, row: Row) -> Result<request::Commit, Fault> {
+fn body(rt: &HostRuntime, row: Row) -> Result<Request, Fault> {
     let key = key(rt)?;
     let start = Ts::new(row.0);
     let commit = Ts::new(row.1);
-    Ok(request::Commit { key, start, commit })
+    Ok(Request { key, start, commit })
 }
 
-fn plans(body: request::Commit, row: Row) -> bool {
+fn plans(body: Request, row: Row) -> bool {
     let (_, _, seen, answer, change) = row;
     let given = plan_commit(&view_of(seen), Ts::new(3), &body);
     drop(body);

@@ -1,7 +1,7 @@
 //! What is found in the families.
 use crate::tests::steps::{At, Range, Record};
-use crate::{Families, KeyCopy};
 use std::alloc::Global;
+use tx_cells::{Families, KeyCopy};
 use tx_plan::{Answer, Infos, LockHead, ReadView, RecordHead, Scan, Starts};
 use tx_types::{Fault, Key, LockInfo, Ts};
 

@@ -1,6 +1,6 @@
 //! The rows of Collect that need no lock and no record.
 use crate::table_tests::shown::{BELOW, SAME, Short, answer_of, is};
-use crate::{Collect, RegionNo, collect_refusal};
+use tx_plan::{Collect, RegionNo, collect_refusal};
 use tx_types::Ts;
 
 // What is asked of a region whose safe point is 3, and why it is refused.

@@ -1,0 +1,5 @@
+//! The same scenarios on every representation of the families.
+#![tactic(auto)]
+
+#[cfg(test)]
+mod tests;
