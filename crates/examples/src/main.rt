@@ -1,9 +1,12 @@
 //! Runs each example and compares what it writes with the file beside it that shows it. An example is a script
 //! (`NAME.script`, run as `txkv simulate` does) or a trace (`NAME.trace`, checked as `txkv check` does); what it writes is
-//! shown in `NAME.script.out` and `NAME.trace.out`.
+//! shown in `NAME.script.out` and `NAME.trace.out`. Many small ones stand in `scripts.rows` and `traces.rows`, each with what it writes.
 #![tactic(auto)]
 
+mod rows;
+
 use anyhow::Result;
+use rows::count_shown;
 use std::fs;
 use std::rt::Files;
 use tx_script::{check, simulate};
@@ -31,25 +34,32 @@ const TRACES: [&str; 3] = [
     "machine_refuses_read.trace",
 ];
 
-// Whether this was written on the example, as the file beside it shows.
-fn is_shown<R: Files + AllocGlobal>(rt: &R, name: &str, written: &[u8]) -> Result<bool> {
+/// What an example is.
+#[derive(Clone, Copy, Debug)]
+enum Kind {
+    Script,
+    Trace,
+}
+
+impl Kind {
+    // Runs an example. Whether it came to its end.
+    fn run<R: AllocGlobal>(self, rt: &R, text: &[u8], written: &mut Vec<u8>) -> bool {
+        let mut reader = text;
+        match self {
+            Kind::Script => simulate(rt.alloc(), &mut reader, written).is_ok(),
+            Kind::Trace => check(rt.alloc(), &mut reader, written).is_ok(),
+        }
+    }
+}
+
+// Whether an example writes what the file beside it shows.
+fn is_shown<R: Files + AllocGlobal>(rt: &R, name: &str, kind: Kind) -> Result<bool> {
+    let text = fs::read(rt, name)?;
     let path = format!(in rt.alloc(); "{name}.out")?;
     let shown = fs::read(rt, path)?;
-    Ok(shown.as_slice() == written)
-}
-
-fn script_is_shown<R: Files + AllocGlobal>(rt: &R, name: &str) -> Result<bool> {
-    let script = fs::read(rt, name)?;
     let mut written = Vec::new(rt.alloc());
-    let ended = simulate(rt.alloc(), &mut script.as_slice(), &mut written);
-    Ok(ended.is_ok() && is_shown(rt, name, written.as_slice())?)
-}
-
-fn trace_is_shown<R: Files + AllocGlobal>(rt: &R, name: &str) -> Result<bool> {
-    let trace = fs::read(rt, name)?;
-    let mut written = Vec::new(rt.alloc());
-    let ended = check(rt.alloc(), &mut trace.as_slice(), &mut written);
-    Ok(ended.is_ok() && is_shown(rt, name, written.as_slice())?)
+    let ended = kind.run(rt, text.as_slice(), &mut written);
+    Ok(ended && written.as_slice() == shown.as_slice())
 }
 
 fn verdict(is_shown: bool) -> &'static str {
@@ -62,12 +72,16 @@ fn verdict(is_shown: bool) -> &'static str {
 
 fn main(rt: HostRuntime) -> Result<()> {
     for name in SCRIPTS {
-        let shown = script_is_shown(&rt, name)?;
+        let shown = is_shown(&rt, name, Kind::Script)?;
         println!(rt; "{name}: {}", verdict(shown))?;
     }
     for name in TRACES {
-        let shown = trace_is_shown(&rt, name)?;
+        let shown = is_shown(&rt, name, Kind::Trace)?;
         println!(rt; "{name}: {}", verdict(shown))?;
     }
+    let scripts = count_shown(&rt, "scripts.rows", Kind::Script)?;
+    println!(rt; "scripts.rows: {scripts} as shown")?;
+    let traces = count_shown(&rt, "traces.rows", Kind::Trace)?;
+    println!(rt; "traces.rows: {traces} as shown")?;
     Ok(())
 }

@@ -5,12 +5,11 @@ ghost use Rattle.tx_core.specs.Histories.{History};
 
 use crate::region::Region;
 use crate::table_tests::asked::{Ask, key, of_region};
-use crate::table_tests::rows::Fresh;
 use crate::table_tests::shown::{BARE, RAISED, Short, Word, answered, is, stands};
 use std::alloc::Global;
 use std::marker::Brand;
 use std::test::Fail;
-use tx_cells::NestedCells;
+use tx_cells::{Fresh, NestedCells};
 use tx_core::Body;
 use tx_journal::{Naming, Opened, Reply, Request, Seat};
 use tx_types::Fault;

@@ -19,7 +19,7 @@ mod tests;
 mod transfer;
 mod write;
 
-pub use play::{Fresh, Played};
+pub use play::Played;
 pub use reply::{Reply, Spoken, Words};
 pub use run::run_script;
 pub use seeds::Total;

@@ -14,31 +14,12 @@ use std::alloc::Global;
 use std::marker::Brand;
 use std::sync::{Arc, Wait};
 use std::thread::Threads;
-use tx_cells::{Families, FlatCells, NestedCells};
+use tx_cells::Fresh;
 use tx_journal::{Naming, Opened, Seat, Unnamed};
 use tx_lines::Broken;
 use tx_sched::{Gate, run_sessions};
 use tx_store::Store;
 use tx_types::Fault;
-
-/// Families that can be made.
-pub trait Fresh: Families + Drop {
-    /// Families that hold nothing.
-    fn fresh(alloc: Global) -> Self
-        ensures { Self.content result ≡ (λ k. nothing_held) };
-}
-
-impl Fresh for NestedCells {
-    fn fresh(alloc: Global) -> NestedCells {
-        NestedCells::new(alloc)
-    }
-}
-
-impl Fresh for FlatCells {
-    fn fresh(alloc: Global) -> FlatCells {
-        FlatCells::new(alloc)
-    }
-}
 
 // Families for so many regions.
 fn families<F: Fresh>(alloc: Global, count: usize) -> Result<Vec<F>, Fault>

@@ -2,13 +2,14 @@
 ghost use Rattle.std.specs.Prelude.{IfOk, IfSome};
 ghost use Rattle.tx_run.specs.Outcomes.{TellsOutcomes};
 
-use crate::play::{Fresh, Played, play_script};
+use crate::play::{Played, play_script};
 use crate::script::read_script;
 use crate::write::{tell_fault, write_all};
 use std::alloc::Global;
 use std::io::{BufRead, Write};
 use std::sync::Wait;
 use std::thread::Threads;
+use tx_cells::Fresh;
 use tx_lines::{Broken, End};
 use tx_sched::Gate;
 

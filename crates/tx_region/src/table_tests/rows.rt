@@ -1,34 +1,10 @@
 //! How a row is tried.
-ghost use Rattle.std.specs.Prelude.{◌≡◌};
-ghost use Rattle.tx_cells.specs.Contents.{nothing_held};
-
 use crate::records::Records;
 use crate::table_tests::asked::{Ask, body, key};
 use crate::table_tests::shown::{Short, Stand, Word, answered, is, stands};
 use std::alloc::Global;
-use tx_cells::{Families, FlatCells, NestedCells};
+use tx_cells::{Families, FlatCells, Fresh, NestedCells};
 use tx_types::Ts;
-
-/// Families that hold nothing.
-pub trait Fresh: Families + Drop {
-    ghost use Rattle.std.specs.Prelude.{◌≡◌};
-    ghost use Rattle.tx_cells.specs.Contents.{nothing_held};
-
-    fn fresh(alloc: Global) -> Self
-        ensures { Self.content result ≡ (λ k. nothing_held) };
-}
-
-impl Fresh for NestedCells {
-    fn fresh(alloc: Global) -> NestedCells {
-        NestedCells::new(alloc)
-    }
-}
-
-impl Fresh for FlatCells {
-    fn fresh(alloc: Global) -> FlatCells {
-        FlatCells::new(alloc)
-    }
-}
 
 /// What was asked before, what is asked, what is answered, and what then stands on the key `k`.
 pub type Row = (&'static [Ask], Ask, Short, Stand);
