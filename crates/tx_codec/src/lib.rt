@@ -8,8 +8,6 @@ mod marks;
 mod order;
 mod reading;
 mod records;
-#[cfg(test)]
-mod tests;
 mod writing;
 
 pub use key::{decode_key, decode_version, encode_key, encode_version};

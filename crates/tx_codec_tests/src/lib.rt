@@ -1,0 +1,5 @@
+//! Spellings of keys, versions and records, as digits.
+#![tactic(auto)]
+
+#[cfg(test)]
+mod tests;
