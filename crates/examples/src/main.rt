@@ -11,17 +11,19 @@ use std::fs;
 use std::rt::Files;
 use tx_script::{check, simulate};
 
-const SCRIPTS: [&str; 14] = [
+const SCRIPTS: [&str; 16] = [
     "abandoned_async.script",
     "collection.script",
     "commit_then_read.script",
     "delivered_twice.script",
     "late_prewrite_commits.script",
     "late_prewrite_is_refused.script",
+    "long_values.script",
     "lost_reply.script",
     "push.script",
     "repeats_and_losses.script",
     "resolved_then_collected.script",
+    "rollback_shares_a_record.script",
     "ticks_run_out.script",
     "truncated_script.script",
     "two_regions.script",
