@@ -1,15 +1,18 @@
 //! Runs each example and compares what it writes with the file beside it that shows it. An example is a script
 //! (`NAME.script`, run as `txkv simulate` does) or a trace (`NAME.trace`, checked as `txkv check` does); what it writes is
-//! shown in `NAME.script.out` and `NAME.trace.out`. Many small ones stand in `scripts.rows` and `traces.rows`, each with what it writes.
+//! shown in `NAME.script.out` and `NAME.trace.out`. Scripts are played over both families.
+//! Many small ones stand in `scripts.rows` and `traces.rows`, each with what it writes.
 #![tactic(auto)]
 
 mod rows;
 
 use anyhow::Result;
 use rows::count_shown;
+use std::alloc::Global;
 use std::fs;
 use std::rt::Files;
-use tx_script::{check, simulate};
+use tx_cells::NestedCells;
+use tx_script::{check, simulate, simulate_with};
 
 const SCRIPTS: [&str; 16] = [
     "abandoned_async.script",
@@ -40,7 +43,14 @@ const TRACES: [&str; 3] = [
 #[derive(Clone, Copy, Debug)]
 enum Kind {
     Script,
+    /// A script over nested maps, in place of the flat ones that scripts are played on.
+    Nested,
     Trace,
+}
+
+fn nested(alloc: Global, text: &[u8], written: &mut Vec<u8>) -> bool {
+    let mut reader = text;
+    simulate_with::<NestedCells, _, _>(alloc, &mut reader, written).is_ok()
 }
 
 impl Kind {
@@ -49,6 +59,7 @@ impl Kind {
         let mut reader = text;
         match self {
             Kind::Script => simulate(rt.alloc(), &mut reader, written).is_ok(),
+            Kind::Nested => nested(rt.alloc(), text, written),
             Kind::Trace => check(rt.alloc(), &mut reader, written).is_ok(),
         }
     }
@@ -74,15 +85,17 @@ fn verdict(is_shown: bool) -> &'static str {
 
 fn main(rt: HostRuntime) -> Result<()> {
     for name in SCRIPTS {
-        let shown = is_shown(&rt, name, Kind::Script)?;
+        let shown = is_shown(&rt, name, Kind::Script)? && is_shown(&rt, name, Kind::Nested)?;
         println!(rt; "{name}: {}", verdict(shown))?;
     }
     for name in TRACES {
         let shown = is_shown(&rt, name, Kind::Trace)?;
         println!(rt; "{name}: {}", verdict(shown))?;
     }
-    let scripts = count_shown(&rt, "scripts.rows", Kind::Script)?;
-    println!(rt; "scripts.rows: {scripts} as shown")?;
+    let flat = count_shown(&rt, "scripts.rows", Kind::Script)?;
+    println!(rt; "scripts.rows, over flat maps: {flat} as shown")?;
+    let nested = count_shown(&rt, "scripts.rows", Kind::Nested)?;
+    println!(rt; "scripts.rows, over nested maps: {nested} as shown")?;
     let traces = count_shown(&rt, "traces.rows", Kind::Trace)?;
     println!(rt; "traces.rows: {traces} as shown")?;
     Ok(())

@@ -19,5 +19,5 @@ mod tests;
 mod words;
 
 pub use checker::check;
-pub use opening::simulate;
+pub use opening::{simulate, simulate_with};
 pub use tx_lines::{Broken, End};

@@ -2,7 +2,6 @@
 ghost use Rattle.std.specs.Prelude.{◌≡◌, ◌<◌, ◌+◌, ℕ, List, All, length, vec_len, IfOk, IfErr, IfSome};
 ghost use Rattle.tx_types.specs.declared.limits.TheConstants as limits;
 ghost use Rattle.tx_cells.specs.Contents.{nothing_held};
-ghost use Rattle.tx_cells.specs.Flats.{flat_content};
 ghost use Rattle.tx_journal.specs.Known.{AreRising};
 ghost use Rattle.tx_script.specs.Play.{EndsLines, BreaksLines, EndsScript, BreaksScript};
 ghost use Rattle.tx_script.specs.Loops.{Ahead, first_bounds};
@@ -11,7 +10,7 @@ use crate::script::simulate_over;
 use std::alloc::Global;
 use std::io::{BufRead, Write};
 use std::marker::Brand;
-use tx_cells::{Families, FlatCells};
+use tx_cells::{Families, FlatCells, Fresh};
 use tx_journal::{Naming, Opened};
 use tx_lines::{Broken, End, Found, read_line};
 use tx_play::engine_of;
@@ -39,13 +38,13 @@ fn bounds_at(alloc: Global, first: Found, line: &[u8]) -> Result<Vec<Key>, Broke
 }
 
 // So many families that hold nothing.
-fn empty_families(alloc: Global, count: usize) -> Result<Vec<FlatCells>, Broken>
+fn empty_families<F: Fresh>(alloc: Global, count: usize) -> Result<Vec<F>, Broken>
     ensures count { IfOk result (λ families. vec_len families ≡ count) }
-    ensures empty { IfOk result (λ families. All (λ f. flat_content f ≡ (λ k. nothing_held)) families.items) }
+    ensures empty { IfOk result (λ families. All (λ f. F.content f ≡ (λ k. nothing_held)) families.items) }
 {
     let mut families = Vec::with_capacity(alloc, count)?;
     'families: while families.len() < count {
-        families.push(FlatCells::new(alloc))?;
+        families.push(F::fresh(alloc))?;
     }
     Ok(families)
 }
@@ -78,6 +77,29 @@ fn over<J: Naming, F: Families + Drop, R: BufRead, W: Write>(
     simulate_over(alloc, engine, reader, writer, first, line)
 }
 
+/// Plays a script as `simulate` does, over families of one's own choice, which begin with nothing.
+pub fn simulate_with<F: Fresh, R: BufRead, W: Write>(
+    alloc: Global,
+    reader: &mut R,
+    writer: &mut W,
+) -> Result<End, Broken>
+    // Not broken off, it has written the replies of what the script means, and nothing else.
+    ensures ends { IfOk result (λ end. IfSome (R.remaining reader.old)
+        (λ input. EndsScript input (W.contents writer.old) (W.contents writer.new) end)) }
+    // Broken off, it has written a beginning of them: whole replies, unless a write failed.
+    ensures breaks { IfErr result (λ why. IfSome (R.remaining reader.old)
+        (λ input. BreaksScript why input (W.contents writer.old) (W.contents writer.new))) }
+{
+    let mut line = Vec::new(alloc);
+    let first = read_line(reader, &mut line)?;
+    let bounds = bounds_at(alloc, first, line.as_slice())?;
+    let families = empty_families::<F>(alloc, bounds.len() + 1)?;
+    let Ok(opened) = Opened::new(alloc, bounds, MAX_LIVE_SESSIONS + 1) else {
+        return Err(Broken::Memory);
+    };
+    over::<Brand, F, R, W>(alloc, opened, families, reader, writer, first, &mut line)
+}
+
 /// Plays a script, in one thread: reads its steps line by line, and writes one reply line a step. Line 1 may say the keys between its
 /// regions; else there is one region. At most 256 sessions live at once. It ends well at the end of the input, and `Faulted` at the first
 /// line that is no step or that the script does not allow, whose reply names the cause.
@@ -96,12 +118,5 @@ pub fn simulate<R: BufRead, W: Write>(
     ensures breaks { IfErr result (λ why. IfSome (R.remaining reader.old)
         (λ input. BreaksScript why input (W.contents writer.old) (W.contents writer.new))) }
 {
-    let mut line = Vec::new(alloc);
-    let first = read_line(reader, &mut line)?;
-    let bounds = bounds_at(alloc, first, line.as_slice())?;
-    let families = empty_families(alloc, bounds.len() + 1)?;
-    let Ok(opened) = Opened::new(alloc, bounds, MAX_LIVE_SESSIONS + 1) else {
-        return Err(Broken::Memory);
-    };
-    over::<Brand, FlatCells, R, W>(alloc, opened, families, reader, writer, first, &mut line)
+    simulate_with::<FlatCells, R, W>(alloc, reader, writer)
 }

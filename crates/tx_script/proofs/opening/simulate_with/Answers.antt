@@ -7,7 +7,7 @@ use Rattle.tx_script.specs.Loops.{first_bounds}
 use Rattle.tx_script.proofs.Scripts.{if_any_err}
 use Rattle.tx_script.proofs.Lines.{reads_ahead}
 use Rattle.tx_script.proofs.Ending.{then_ok, then_err, if_some, any_some, breaks_first, bounds_ahead}
-use Rattle.tx_script.proofs.opening.simulate.Goals as goal
+use Rattle.tx_script.proofs.opening.simulate_with.Goals as goal
 
 pub returns-in_err-first-clause-breaks : goal.returns-in_err-first-clause-breaks
 returns-in_err-first-clause-breaks g c = if_any_err _ (λ why. any_some _ (g.R.Read.remaining c.args.reader.now) (λ input. breaks_first (bounds_of (lines_of input)) why (lines_of input) (g.W.Write.contents c.args.writer.now) _ (Keeps-refl _)))
