@@ -1,6 +1,6 @@
 -- What families show of a key is what its cells show.
-use Rattle.std.proofs.Common.{◌≡◌, ◌≢◌, ◌↔◌, ℕ, Bool, true, inl, inr, List, [], Option, Some, None, length, refl, sym, ap, subst, ◌∙◌}
-use Rattle.std.specs.Prelude.{Contains, IsSome, option_map, is_some}
+use Rattle.std.proofs.Common.{◌≡◌, ◌↔◌, ℕ, true, inl, inr, [], Option, Some, None, length, refl, sym, ap, subst, ◌∙◌}
+use Rattle.std.specs.Prelude.{Contains, IsSome, option_map}
 use mathlib.Core.Logic.{∥∥₁_elim}
 use Rattle.std.proofs.Math.Logic.{∥∥₁_map}
 use Rattle.std.proofs.Math.Bool.{Bool-set}
@@ -10,13 +10,10 @@ use Rattle.tx_types.specs.declared.value.Value.{Value}
 use Rattle.tx_types.specs.declared.value.StoredValue.TheVariants.{Inline, InDefault}
 use Rattle.tx_types.specs.declared.mutation.StoredMutation.{StoredMutation}
 use Rattle.tx_types.specs.declared.mutation.StoredMutation.TheVariants as stored
-use Rattle.tx_types.specs.declared.write.CommitRec.{CommitRec}
 use Rattle.tx_plan.specs.declared.view.RecordHead.{RecordHead}
 use Rattle.tx_plan.specs.Cells as tables
 use Rattle.tx_plan.specs.Cells.{CommitRecord, is_long}
-use Rattle.tx_plan.specs.Own.{OwnLock, OwnCommit}
 use Rattle.tx_plan.proofs.LockRows.{contains_none}
-use Rattle.tx_cells.specs.declared.copies.RecordAt.{RecordAt}
 use Rattle.tx_cells.specs.declared.copies.KeyCopy.{KeyCopy}
 use Rattle.tx_cells.specs.Heads.{write_head, lock_head, keeps_apart}
 use Rattle.tx_cells.specs.Contents.{OnKey, nothing_held, cells_of, lock_of, whole, IsKept, IsWhole}

@@ -1,5 +1,5 @@
 -- Cells show one copy: what lies in a list whose timestamps fall determines the list.
-use Rattle.std.proofs.Common.{◌≡◌, ◌↔◌, ℕ, ◌<◌, suc, inl, inr, List, [], ◌∷◌, refl, sym, ap, ◌∙◌, arith}
+use Rattle.std.proofs.Common.{◌≡◌, ℕ, ◌<◌, suc, inl, inr, List, [], ◌∷◌, refl, sym, ap, ◌∙◌, arith}
 use Rattle.std.specs.Prelude.{Contains}
 use Rattle.tx_plan.specs.Cells.{Cells}
 use Rattle.tx_plan.proofs.LockRows.{contains_first, contains_cases, contains_none}

@@ -1,4 +1,4 @@
-use Rattle.std.proofs.Common.{◌≡◌, ◌↔◌, ◌<◌, ◌^◌, ℕ, List, Option, Some, ap, sym, subst, ◌∙◌, arith}
+use Rattle.std.proofs.Common.{◌≡◌, ◌↔◌, ℕ, List, Some, ap, sym, subst, ◌∙◌}
 use Rattle.std.specs.Prelude.{Contains, IsSome, option_map}
 use Rattle.std.specs.BTreeMap as tree
 use Rattle.tx_cells.specs.Heads.{write_head}
