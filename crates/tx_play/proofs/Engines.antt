@@ -29,7 +29,7 @@ use Rattle.tx_play.specs.Posts.{Desk, stage_of, with_events, Met}
 use Rattle.tx_play.specs.Steps.{Deed, Call, begin, acts, finish, stop, read, tick}
 use Rattle.tx_play.specs.Scenes.{free, session, goes, stops, is_name, is_key, delivered_by, asked, at_stage, at_history, seat_at, began, gone, ticked, first_free, lives, at_place, live_at, in_session, deeds, finishes, finishes_by, leaves, turn}
 use Rattle.tx_play.specs.Plays.{Leads}
-use Rattle.tx_play.specs.Places.{Kept, place_of, Held, texts, name_at, scene_with, scene_of, AllSeated, Acts, Serves, Goes, Did, Turned}
+use Rattle.tx_play.specs.Places.{ActsIn, Kept, place_of, Held, texts, name_at, scene_with, scene_of, AllSeated, Acts, Serves, Goes, Did, Turned}
 use Rattle.tx_play.proofs.Keeping.{set_here, seated_at, at_place_of, acted, served, rested, known_ticks}
 use Rattle.tx_play.proofs.Turning.{goes_at, asked_leads}
 
@@ -273,3 +273,21 @@ pub first_more : (p : Kept) (ps : List Kept) (n : ℕ) → ((k : Known) → p �
 first_more (Free k) ps n never = absurd (never k refl)
 first_more (Live s) ps n never = first_after (first_free (map place_of ps)) n
 first_more Lent ps n never = first_after (first_free (map place_of ps)) n
+
+-- a step in a place
+module _ (bounds : List Key) (old : Held) (name : List ℕ) (k : ℕ) (named : name_at old.names name ≡ Some k) (ready : AllSeated bounds 1 old) where
+  stays : (new : Held) (x y : Kept) → slice_get old.places k ≡ Some x → ((s : Seated) → x ≡ Live s → ⊥) → new.places ≡ slice_set old.places k y → new.clerk ≡ old.clerk → (deed : Deed) (r : Result Reply Cause)
+      → (r ≡ Err cause.Name) × (y ≡ x) × (new.desk ≡ old.desk) → Goes bounds old new (Turned bounds (acts name deed) r old new)
+  stays new x y there never placed clerk deed r (refused, same, desk) =
+      let is : new.places ≡ old.places = placed ∙ ap (slice_set old.places k) same ∙ set_here old.places k x there in
+      subst (λ (o : Result Reply Cause). Goes bounds old new (Turned bounds (acts name deed) o old new)) (sym refused)
+      (step_stops bounds old new (acts name deed) cause.Name (ap (λ (d : Desk). d.regions) desk) (ap (λ (d : Desk). d.newest) desk) clerk is
+      (act_stops bounds old name deed (not_live bounds old name k named x there never ready)))
+
+  pub step_in : (new : Held) (x y : Kept) → slice_get old.places k ≡ Some x → new.places ≡ slice_set old.places k y → new.clerk ≡ old.clerk → new.names ≡ old.names → (deed : Deed) (r : Result Reply Cause)
+      → ActsIn bounds deed x y r old.desk new.desk → Goes bounds old new (Turned bounds (acts name deed) r old new)
+  step_in new (Live s) y there placed clerk names deed r (t, lives, did) =
+      let lent = slice_set old.places k Lent in
+      step_acted bounds old name k s named there ready new t lent refl (placed ∙ ap (slice_set old.places k) lives ∙ sym (put old.places lent (slice_set lent k (Live t)) k (Live t) refl refl)) clerk names deed r did
+  step_in new (Free s) y there placed clerk names deed r stopped = stays new (Free s) y there (λ live e. absurd (cc e)) placed clerk deed r stopped
+  step_in new Lent y there placed clerk names deed r stopped = stays new Lent y there (λ live e. absurd (cc e)) placed clerk deed r stopped

@@ -4,6 +4,7 @@ use Rattle.std.specs.Global.{Global}
 use Rattle.std.specs.List.{sum_by}
 use Rattle.std.specs.Map.{lookup}
 use Rattle.tx_types.specs.declared.fault.Cause.{Cause}
+use Rattle.tx_types.specs.declared.fault.Cause.TheVariants as cause
 use Rattle.tx_types.specs.declared.key.Key.{Key}
 use Rattle.tx_core.specs.Histories.{History}
 use Rattle.tx_journal.specs.Known.{Known}
@@ -16,8 +17,8 @@ use Rattle.tx_play.specs.declared.places.Slot.TheVariants.{Free, Live, Lent}
 use Rattle.tx_lines.specs.declared.reply.Reply.{Reply}
 use Rattle.tx_lines.specs.declared.reply.Reply.TheVariants as replies
 use Rattle.tx_play.specs.Posts.{Desk, stage_of, Stage, made_by, IsDone, AreNumbered}
-use Rattle.tx_play.specs.Steps.{Call}
-use Rattle.tx_play.specs.Scenes.{Place, free, session, Scene, Turn, stops, seat_at, resolves, delivers, inspects, turn}
+use Rattle.tx_play.specs.Steps.{Call, Deed}
+use Rattle.tx_play.specs.Scenes.{Place, free, session, Scene, Turn, stops, seat_at, deeds, resolves, delivers, inspects, turn}
 use Rattle.tx_play.specs.Plays.{Leads}
 
 -- what a place has
@@ -142,6 +143,11 @@ Sent bounds turn reply old new from to = Acts old.seat new.seat from to (Session
 abbrev pub Did : List Key → (List Bool → Scene → ℕ → State → Turn) → Result Reply Cause → Seated → Seated → Desk → Desk → Type 0
 Did bounds turn (Ok reply) old new from to = Sent bounds turn reply old new from to
 Did bounds turn (Err cause) old new from to = (new ≡ old) × (to ≡ from) × ((refused : List Bool) (ticks : ℕ) (names : List ℕ → Option ℕ) (places : List Place) (k : ℕ) → turn refused (scene_with (stage_of from) ticks names places) k old.state ≡ stops cause)
+
+-- what a step of a session does in a place: the live session there makes it; with none it is not allowed, and changes nothing
+abbrev pub ActsIn : List Key → Deed → Kept → Kept → Result Reply Cause → Desk → Desk → Type 0
+ActsIn bounds deed (Live s) new result from to = (t : Seated) × (new ≡ Live t) × Did bounds (λ refused scene k x. deeds refused scene k x bounds deed) result s t from to
+ActsIn bounds deed old new result from to = (result ≡ Err cause.Name) × (new ≡ old) × (to ≡ from)
 
 -- what a session learnt of what was found; or memory for it was refused
 abbrev pub Learnt : List Key → Found → Reply → Seated → Seated → Type 0

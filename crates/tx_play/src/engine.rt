@@ -1,9 +1,11 @@
 //! An engine in one thread: places with seats and sessions, names that point to places, a seat for what no session does, and the way to
 //! the regions.
-ghost use Rattle.std.specs.Prelude.{◌≡◌, ◌+◌, length, ℕ, List, [], Some, OnOk, OnErr, bytes_eq};
+ghost use Rattle.std.specs.Prelude.{◌≡◌, ◌<◌, ◌+◌, length, ℕ, List, [], Some, OnOk, OnErr, bytes_eq};
 ghost use Rattle.std.specs.Map.{update};
 ghost use Rattle.std.specs.BTreeMap.{get_by_text};
-ghost use Rattle.tx_play.specs.Places.{Held, Goes, AllSeated, Settled, Turned};
+ghost use Rattle.tx_client.specs.Calls.{Seated};
+ghost use Rattle.tx_play.specs.declared.places.Slot.TheVariants as slots;
+ghost use Rattle.tx_play.specs.Places.{ActsIn, Held, Goes, AllSeated, Settled, Turned};
 ghost use Rattle.tx_play.specs.Scenes.{delivered_by, is_name as name_test};
 ghost use Rattle.tx_play.specs.Steps.{begin, acts, finish, stop, resolve, deliver as to_deliver, read, versions as to_show, tick, gc, call_of, deed_of};
 
@@ -65,6 +67,22 @@ fn reply_to(came: Came) -> Reply
         Came::Lost => Reply::Lost,
         Came::Unsaid => Reply::OutOfMemory,
         Came::Said(answer) => Reply::Answered(answer),
+    }
+}
+
+// The live session of a place acts, where it is. A place with none stays as it is.
+fn act_in<J: Naming, F: Families>(
+    alloc: Global,
+    place: &mut Slot<Seat<J>, Session<J>>,
+    post: &mut Post<J, F>,
+    deed: &Act<'_>,
+) -> Result<Reply, Cause>
+    requires ticks { (s : Seated) → place.old ≡ slots.Live s → 0 < s.seat.ticks }
+    ensures { ActsIn J.bounds (deed_of deed.now) place.old place.new result post.old post.new }
+{
+    match place {
+        Slot::Live(session) => act(alloc, session, post, deed),
+        _ => Err(Cause::Name),
     }
 }
 
@@ -141,17 +159,7 @@ impl<J: Naming, F: Families> Engine<J, F> {
         if k >= self.places.len() {
             return Err(Cause::Name);
         }
-        match swap_slot(&mut self.places, k, Slot::Lent) {
-            Slot::Live(mut session) => {
-                let reply = act(self.alloc, &mut session, &mut self.direct.post, deed);
-                swap_slot(&mut self.places, k, Slot::Live(session));
-                reply
-            }
-            other => {
-                swap_slot(&mut self.places, k, other);
-                Err(Cause::Name)
-            }
-        }
+        act_in(self.alloc, &mut self.places[k], &mut self.direct.post, deed)
     }
 
     // The live session of a name answers its outcome, and is gone.

@@ -25,6 +25,9 @@ fn next_lock(
     ensures next { IfOk result (λ found. MatchOption found ((j : Key) → IsTrue (key_lt key.now j) → tree.get (slice_cmp nat_cmp) locks.now j ≡ None) (λ k. IsNextLock (tree.get (slice_cmp nat_cmp) locks.now) key.now k)) }
     ensures err { IfErr result (λ e. e ≡ Fault.OutOfMemory) }
 {
+    if locks.is_empty() {
+        return Ok(None);
+    }
     let spelt = KeyBytes::new(alloc, key)?;
     let mut rest = locks.range((Bound::Excluded(&spelt), Bound::Unbounded));
     let Some((next, _)) = rest.next() else {
@@ -33,16 +36,17 @@ fn next_lock(
     Ok(Some(next.read(alloc)?))
 }
 
-/// The next key that has write records. What lies behind the last version that a key may have is of another.
+/// The next key that has write records, by a version of the last key. What lies behind the last version that a key may have is
+/// of another.
 fn next_front(
     writes: &BTreeMap<VersionBytes, WriteBytes>,
     alloc: Global,
-    key: &Key,
+    mut last: VersionBytes,
 ) -> Result<Option<Key>, Fault>
-    ensures next { IfOk result (λ found. MatchOption found ((j : Key) (q : ℕ) → IsTrue (key_lt key.now j) → tree.get version_cmp writes.now (j, q) ≡ None) (λ k. IsNextFront (λ j q. tree.get version_cmp writes.now (j, q)) key.now k)) }
+    ensures next { IfOk result (λ found. MatchOption found ((j : Key) (q : ℕ) → IsTrue (key_lt last.0 j) → tree.get version_cmp writes.now (j, q) ≡ None) (λ k. IsNextFront (λ j q. tree.get version_cmp writes.now (j, q)) last.0 k)) }
     ensures err { IfErr result (λ e. e ≡ Fault.OutOfMemory) }
 {
-    let last = VersionBytes::new(alloc, key, Ts::ZERO)?;
+    last.set_at(Ts::ZERO);
     let mut rest = writes.range((Bound::Excluded(&last), Bound::Unbounded));
     let Some((next, _)) = rest.next() else {
         return Ok(None);
@@ -69,13 +73,19 @@ fn lesser(a: Option<Key>, b: Option<Key>) -> Option<Key>
 impl FlatCells {
     ghost use Rattle.tx_cells.specs.Flats.{flat_content};
 
-    /// The next key of which a lock or a write record is held.
-    pub(super) fn next_key(&self, alloc: Global, key: &Key) -> Result<Option<Key>, Fault>
+    /// The next key of which a lock or a write record is held. `version` is one of this key.
+    pub(super) fn next_key(
+        &self,
+        alloc: Global,
+        key: &Key,
+        version: VersionBytes,
+    ) -> Result<Option<Key>, Fault>
+        requires { version.0 ≡ key.now }
         ensures next { IfOk result (λ found. MatchOption found ((j : Key) → IsTrue (key_lt key.now j) → IsHeld (flat_content self.now j) → ⊥) (λ k. IsNextKey (flat_content self.now) key.now k)) }
         ensures err { IfErr result (λ e. e ≡ Fault.OutOfMemory) }
     {
         let lock = next_lock(&self.locks, alloc, key)?;
-        let front = next_front(&self.writes, alloc, key)?;
+        let front = next_front(&self.writes, alloc, version)?;
         Ok(lesser(lock, front))
     }
 }

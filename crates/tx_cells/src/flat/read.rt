@@ -41,17 +41,18 @@ impl FlatCells {
     fn value_of(
         &self,
         alloc: Global,
-        mut version: VersionBytes,
+        version: &mut VersionBytes,
         at: Ts,
         seen: Seen,
     ) -> Result<Option<Value>, Fault>
-        requires { IsSeen (flat_content self.now version.0).write at seen.commit seen.start seen.kind }
-        ensures value { IfOk result (λ value. Reads (cells_of (flat_content self.now version.0)).write at value) }
+        requires { IsSeen (flat_content self.now version.old.0).write at seen.commit seen.start seen.kind }
+        ensures value { IfOk result (λ value. Reads (cells_of (flat_content self.now version.old.0)).write at value) }
+        ensures same_key { version.new.0 ≡ version.old.0 }
         ensures err { IfErr result (λ e. e ≡ Fault.OutOfMemory) }
     {
         let _ = at;
         version.set_at(seen.commit);
-        let rec = match self.writes.get(&version) {
+        let rec = match self.writes.get(&*version) {
             Some(bytes) => bytes.read(alloc)?,
             None => return Ok(None),
         };
@@ -66,15 +67,21 @@ impl FlatCells {
         match mutation {
             StoredMutation::Put(value) => {
                 version.set_at(start);
-                stored_value(&self.values, &version, value)
+                stored_value(&self.values, version, value)
             }
             StoredMutation::Delete | StoredMutation::Lock => Ok(None),
         }
     }
 
-    /// What a read at this timestamp sees of its key.
-    pub(crate) fn read_of(&self, alloc: Global, key: &Key, at: Ts) -> Result<ReadView, Fault>
-        ensures shows { IfOk result (λ view. ShowsRead (cells_of (flat_content self.now key.now)) at view) }
+    /// What a read at this timestamp sees of its key, and a version of that key.
+    pub(super) fn read_by(
+        &self,
+        alloc: Global,
+        key: &Key,
+        at: Ts,
+    ) -> Result<(ReadView, VersionBytes), Fault>
+        ensures shows { IfOk result (λ r. ShowsRead (cells_of (flat_content self.now key.now)) at r.0) }
+        ensures version { IfOk result (λ r. r.1.0 ≡ key.now) }
         ensures err { IfErr result (λ e. e ≡ Fault.OutOfMemory) }
     {
         let lock = head_on(&self.locks, alloc, key)?;
@@ -83,12 +90,21 @@ impl FlatCells {
             writes: &self.writes,
             version,
         };
-        match seen_at(&mut history, at) {
-            Some(seen) => {
-                let value = self.value_of(alloc, history.version, at, seen)?;
-                Ok(ReadView { lock, value })
-            }
-            None => Ok(ReadView { lock, value: None }),
-        }
+        let seen = seen_at(&mut history, at);
+        let mut version = history.version;
+        let value = match seen {
+            Some(seen) => self.value_of(alloc, &mut version, at, seen)?,
+            None => None,
+        };
+        Ok((ReadView { lock, value }, version))
+    }
+
+    /// What a read at this timestamp sees of its key.
+    pub(crate) fn read_of(&self, alloc: Global, key: &Key, at: Ts) -> Result<ReadView, Fault>
+        ensures shows { IfOk result (λ view. ShowsRead (cells_of (flat_content self.now key.now)) at view) }
+        ensures err { IfErr result (λ e. e ≡ Fault.OutOfMemory) }
+    {
+        let (view, _) = self.read_by(alloc, key, at)?;
+        Ok(view)
     }
 }

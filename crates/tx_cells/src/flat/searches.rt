@@ -80,6 +80,9 @@ pub(super) fn head_on(
     ensures ok { IfOk result (λ head. head ≡ option_map lock_head (tree.get (slice_cmp nat_cmp) locks.now key.now)) }
     ensures err { IfErr result (λ e. e ≡ Fault.OutOfMemory) }
 {
+    if locks.is_empty() {
+        return Ok(None);
+    }
     let key = KeyBytes::new(alloc, key)?;
     match locks.get(&key) {
         Some(bytes) => Ok(Some(lock_head_of(bytes))),

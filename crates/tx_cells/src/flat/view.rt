@@ -1,20 +1,51 @@
 //! What a request sees of its key.
-ghost use Rattle.std.specs.Prelude.{◌≡◌, IfOk, IfErr};
+ghost use Rattle.std.specs.Prelude.{◌≡◌, IfOk, IfErr, option_map};
 ghost use Rattle.tx_plan.specs.Views.{Shows};
 ghost use Rattle.tx_cells.specs.Contents.{cells_of};
+ghost use Rattle.tx_cells.specs.Heads.{lock_head};
 
 use super::FlatCells;
 use super::searches::{FlatHistory, head_at, head_on};
-use crate::history::{Above, commits_above};
+use crate::history::{Above, are_past, commits_above};
 use crate::spelling::VersionBytes;
 use std::alloc::Global;
-use tx_plan::TxnView;
+use tx_plan::{LockHead, TxnView};
 use tx_types::{Fault, Key, Ts};
 
 impl FlatCells {
     ghost use Rattle.tx_cells.specs.Flats.{flat_content};
 
-    /// What a request of the transaction that started then sees of its key, and of the record at `commit`.
+    // What a request sees of this version's key, whose lock has this head.
+    fn view_by(
+        &self,
+        mut version: VersionBytes,
+        lock: Option<LockHead>,
+        start: Ts,
+        commit: Ts,
+    ) -> TxnView
+        requires { lock ≡ option_map lock_head (flat_content self.now version.0).lock }
+        ensures { Shows (cells_of (flat_content self.now version.0)) start commit result }
+    {
+        version.set_at(start);
+        let at_start = head_at(&self.writes, &version);
+        version.set_at(commit);
+        let at_commit = head_at(&self.writes, &version);
+        let mut history = FlatHistory {
+            writes: &self.writes,
+            version,
+        };
+        let Above { own_commit, newest } = commits_above(&mut history, start);
+        TxnView {
+            lock,
+            at_start,
+            at_commit,
+            own_commit,
+            newest_above: newest,
+        }
+    }
+
+    /// What a request of the transaction that started then sees of its key, and of the record at `commit`. Mostly all records
+    /// are older, which one search tells.
     pub(crate) fn view_of(
         &self,
         alloc: Global,
@@ -26,21 +57,20 @@ impl FlatCells {
         ensures err { IfErr result (λ e. e ≡ Fault.OutOfMemory) }
     {
         let lock = head_on(&self.locks, alloc, key)?;
-        let mut version = VersionBytes::new(alloc, key, start)?;
-        let at_start = head_at(&self.writes, &version);
-        version.set_at(commit);
-        let at_commit = head_at(&self.writes, &version);
+        let version = VersionBytes::new(alloc, key, start)?;
         let mut history = FlatHistory {
             writes: &self.writes,
             version,
         };
-        let Above { own_commit, newest } = commits_above(&mut history, start);
-        Ok(TxnView {
-            lock,
-            at_start,
-            at_commit,
-            own_commit,
-            newest_above: newest,
-        })
+        if are_past(&mut history, start, commit) {
+            return Ok(TxnView {
+                lock,
+                at_start: None,
+                at_commit: None,
+                own_commit: None,
+                newest_above: None,
+            });
+        }
+        Ok(self.view_by(history.version, lock, start, commit))
     }
 }

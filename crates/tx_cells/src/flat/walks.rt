@@ -33,8 +33,8 @@ impl<'a> ReadWalk for FlatReads<'a> {
         let Some(key) = self.upcoming.take() else {
             return Ok(None);
         };
-        let view = self.cells.read_of(alloc, &key, at)?;
-        self.upcoming = self.cells.next_key(alloc, &key)?;
+        let (view, version) = self.cells.read_by(alloc, &key, at)?;
+        self.upcoming = self.cells.next_key(alloc, &key, version)?;
         Ok(Some((key, view)))
     }
 

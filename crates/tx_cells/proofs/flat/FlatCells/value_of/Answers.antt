@@ -16,23 +16,23 @@ use Rattle.tx_cells.proofs.flat.FlatCells.value_of.Goals as goal
 pub returns-in-Put-clause-value : goal.returns-in-Put-clause-value
 returns-in-Put-clause-value c =
     let flat = c.args.self.now in
-    let x = flat_content flat c.args.version.0 in
+    let x = flat_content flat c.args.version.now.0 in
     let seen = c.args.seen in
     let rec = c.in-Commit.rec in
-    let e : tree.get version_cmp flat.writes (c.args.version.0, seen.commit) ≡ Some (Commit rec) =
+    let e : tree.get version_cmp flat.writes (c.args.version.now.0, seen.commit) ≡ Some (Commit rec) =
     ap (tree.get version_cmp flat.writes) (sym c.set_at.ensures) ∙ sym c.in-Some.ensures.value ∙ ap (λ (r : WriteRec). Some r) (sym c.in_ok-rec-in-Some.ensures.ok ∙ c.in-Commit.is) in
     let same = c.set_at-in-Put.ensures ∙ ap (λ (v : List ℕ × ℕ). (v.0, rec.start)) c.set_at.ensures in
     if_ok c.stored_value.result (λ (found : Option Value). found ≡ value_kept (tree.get version_cmp flat.values c.set_at-in-Put.new.self) c.in-Put.value) (Reads (cells_of x).write c.args.at)
-    (λ found is. value_found x c.args.at seen.commit seen.start seen.kind c.requires rec e c.in-Put.value c.in-Put.is (write_kept x (whole_at (flat_content flat) flat.whole c.args.version.0) seen.commit rec e) found
+    (λ found is. value_found x c.args.at seen.commit seen.start seen.kind c.requires rec e c.in-Put.value c.in-Put.is (write_kept x (whole_at (flat_content flat) flat.whole c.args.version.now.0) seen.commit rec e) found
     (is ∙ ap (λ (v : List ℕ × ℕ). value_kept (tree.get version_cmp flat.values v) c.in-Put.value) same))
     c.stored_value.ensures.value
 
-pub returns : goal.returns
-returns c =
+pub returns-in-Delete : goal.returns-in-Delete
+returns-in-Delete c =
     let flat = c.args.self.now in
-    let x = flat_content flat c.args.version.0 in
+    let x = flat_content flat c.args.version.now.0 in
     let seen = c.args.seen in
     let rec = c.in-Commit.rec in
-    let e : tree.get version_cmp flat.writes (c.args.version.0, seen.commit) ≡ Some (Commit rec) =
+    let e : tree.get version_cmp flat.writes (c.args.version.now.0, seen.commit) ≡ Some (Commit rec) =
     ap (tree.get version_cmp flat.writes) (sym c.set_at.ensures) ∙ sym c.in-Some.ensures.value ∙ ap (λ (r : WriteRec). Some r) (sym c.in_ok-rec-in-Some.ensures.ok ∙ c.in-Commit.is) in
-    record { value = no_put x c.args.at seen.commit seen.start seen.kind c.requires rec e c.in-Delete.is; err = tt }
+    record { value = no_put x c.args.at seen.commit seen.start seen.kind c.requires rec e c.in-Delete.is; same_key = ap (λ (v : List ℕ × ℕ). v.0) c.set_at.ensures; err = tt }

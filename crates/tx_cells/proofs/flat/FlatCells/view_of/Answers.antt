@@ -1,31 +1,31 @@
-use Rattle.std.proofs.Common.{◌≡◌, ℕ, List, ap, sym, subst, ◌∙◌}
-use Rattle.std.specs.Prelude.{MatchOption, option_map}
+use Rattle.std.proofs.Common.{◌≡◌, ◌≤◌, ℕ, List, None, ap, sym, subst, ◌∙◌}
 use Rattle.std.specs.BTreeMap as tree
-use Rattle.tx_plan.specs.declared.view.CommitAt.{CommitAt}
+use Rattle.std.specs.Prelude.{IsTrue}
+use Rattle.tx_plan.specs.Views.{Shows}
+use Rattle.tx_cells.specs.Contents.{cells_of}
 use Rattle.tx_cells.specs.Spelt.{version_cmp}
 use Rattle.tx_cells.specs.Flats.{flat_content}
-use Rattle.tx_cells.specs.Histories.{Records, CommitsAt, CommitsAbove, IsNewest}
-use Rattle.tx_cells.specs.Heads.{write_head}
+use Rattle.tx_cells.specs.Histories.{Records}
 use Rattle.tx_cells.proofs.Facts.{dated, fitting, whole_at}
-use Rattle.tx_cells.proofs.Showing.{shown}
+use Rattle.tx_cells.proofs.Showing.{shown, shown_past}
 use Rattle.tx_cells.proofs.flat.FlatCells.view_of.Goals as goal
 
-pub commits_above-own_commit-requires-clause-dated : goal.commits_above-own_commit-requires-clause-dated
-commits_above-own_commit-requires-clause-dated c = dated (flat_content c.args.self.now c.set_at.new.self.0) (whole_at (flat_content c.args.self.now) c.args.self.now.whole c.set_at.new.self.0)
+pub are_past-requires : goal.are_past-requires
+are_past-requires c = record { fitting = fitting (flat_content c.args.self.now c.in_ok-version.version.0) (whole_at (flat_content c.args.self.now) c.args.self.now.whole c.in_ok-version.version.0) }
 
-pub commits_above-own_commit-requires-clause-fitting : goal.commits_above-own_commit-requires-clause-fitting
-commits_above-own_commit-requires-clause-fitting c = fitting (flat_content c.args.self.now c.set_at.new.self.0) (whole_at (flat_content c.args.self.now) c.args.self.now.whole c.set_at.new.self.0)
+pub returns-then-are_past-clause-shows : goal.returns-then-are_past-clause-shows
+returns-then-are_past-clause-shows c =
+    let flat = c.args.self.now in
+    let key = c.args.key.now in
+    let x = flat_content flat key in
+    let records : List ℕ → Records = λ k q. tree.get version_cmp flat.writes (k, q) in
+    let same = ap (λ (v : List ℕ × ℕ). v.0) c.in_ok-version.ensures.ok in
+    shown_past x c.args.start c.args.commit c.in_ok-lock.lock (dated x (whole_at (flat_content flat) flat.whole key))
+    (λ q le. subst (λ (k : List ℕ). records k q ≡ None) same (c.are_past.ensures.start c.if-are_past.true q le))
+    (λ q le. subst (λ (k : List ℕ). records k q ≡ None) same (c.are_past.ensures.commit c.if-are_past.true q le))
+    c.in_ok-lock.ensures.ok
 
 pub returns-clause-shows : goal.returns-clause-shows
 returns-clause-shows c =
-    let flat = c.args.self.now in
-    let key = c.args.key.now in
-    let ok = c.in_ok-version.ensures.ok in
-    let at_commit = c.set_at.ensures ∙ ap (λ (v : List ℕ × ℕ). (v.0, c.args.commit)) ok in
-    let records : List ℕ → Records = λ k q. tree.get version_cmp flat.writes (k, q) in
-    let same = ap (λ (v : List ℕ × ℕ). records v.0) at_commit in
-    shown (flat_content flat key) c.args.start c.args.commit _ c.in_ok-lock.ensures.ok
-    (c.head_at-at_start.ensures ∙ ap (λ (v : List ℕ × ℕ). option_map write_head (tree.get version_cmp flat.writes v)) ok)
-    (c.head_at-at_commit.ensures ∙ ap (λ (v : List ℕ × ℕ). option_map write_head (tree.get version_cmp flat.writes v)) at_commit)
-    (subst (λ (w : Records). MatchOption c.commits_above-own_commit.result.own_commit ((d : ℕ) → CommitsAt w c.args.start d → ⊥) (λ d. CommitsAt w c.args.start d)) same c.commits_above-own_commit.ensures.own)
-    (subst (λ (w : Records). MatchOption c.commits_above-own_commit.result.newest (CommitsAbove w c.args.start → ⊥) (λ (at : CommitAt). IsNewest w c.args.start at.start at.commit)) same c.commits_above-own_commit.ensures.newest)
+    subst (λ (k : List ℕ). Shows (cells_of (flat_content c.args.self.now k)) c.args.start c.args.commit c.view_by.result)
+    (c.are_past.ensures.same_key ∙ ap (λ (v : List ℕ × ℕ). v.0) c.in_ok-version.ensures.ok) c.view_by.ensures
