@@ -12,10 +12,6 @@ mod line;
 mod machine_step;
 mod opening;
 mod script;
-#[cfg(test)]
-mod script_tests;
-#[cfg(test)]
-mod tests;
 mod words;
 
 pub use checker::check;

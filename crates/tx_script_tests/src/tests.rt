@@ -1,15 +1,13 @@
 //! Traces with their verdicts, on readers and writers in memory, and on some that fail.
 ghost use Rattle.std.specs.Prelude.{Some};
 
-use crate::checker::line_step;
-use crate::{Broken, End, check};
 use std::alloc::Global;
 use std::io;
 use std::io::{BufReader, ErrorKind, Read, Write};
 use std::process::Abort;
 use std::test::Fail;
-use tx_types::Cause;
-use tx_types::limits::{MAX_KEY_BYTES, MAX_LINE_BYTES, MAX_LINES, MAX_VALUE_BYTES};
+use tx_script::{Broken, End, check};
+use tx_types::limits::{MAX_KEY_BYTES, MAX_LINE_BYTES, MAX_VALUE_BYTES};
 
 static COMMIT_THEN_READ: &str =
     "[\"draw\",3]\n[\"begin\",3]\n[\"declare\",3,[[\"a\",\"put\",\"x\"]]]\n[\"commit\",3,4]\n[\"draw\",4]\n[\"read\",4,\"a\",\"x\"]\n[\"read\",4,\"b\",null]\n";
@@ -166,17 +164,6 @@ fn long_line_is_named(rt: HostRuntime) -> Result<(), Fail> {
     says(&rt, line.as_bytes(), End::Faulted, "[1,\"E16\",\"long\"]\n")?;
     line.push_str("\n[\"draw\",2]\n")?;
     says(&rt, line.as_bytes(), End::Faulted, "[1,\"E16\",\"long\"]\n")
-}
-
-#[test]
-fn line_after_the_last_is_named(rt: HostRuntime) -> Result<(), Fail> {
-    let last = line_step(rt.alloc(), MAX_LINES, b"[\"draw\",1]")?;
-    assert!(rt; last.is_ok());
-    for line in ["[\"draw\",1]", "no step"] {
-        let after = line_step(rt.alloc(), MAX_LINES + 1, line.as_bytes())?;
-        assert!(rt; matches!(after, Err(Cause::Lines)));
-    }
-    Ok(())
 }
 
 // A writer that takes a byte a write, and fails once it has no room.

@@ -1,9 +1,9 @@
 //! Scripts with their replies, on readers and writers in memory.
 use crate::tests::{Drip, torn_reader};
-use crate::{Broken, End, simulate};
 use std::process::Abort;
 use std::test::Fail;
 use tx_lines::{REFUSAL_BYTES, Reply, put_reply};
+use tx_script::{Broken, End, simulate};
 
 // Checks that the script ends so, and that these replies alone are written.
 fn replies<R: Abort + AllocGlobal>(rt: &R, script: &str, end: End, text: &str) -> Result<(), Fail> {

@@ -1,0 +1,7 @@
+//! Scripts and traces with what they write, over readers and writers that may fail.
+#![tactic(auto)]
+
+#[cfg(test)]
+mod script_tests;
+#[cfg(test)]
+mod tests;
