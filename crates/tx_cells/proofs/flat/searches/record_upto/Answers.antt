@@ -1,9 +1,4 @@
-use Rattle.std.proofs.Common.{◌≡◌, refl, ap, sym, subst, ◌∙◌, []}
-use Rattle.std.specs.declared.ops.Bound.TheVariants.{Included, Unbounded}
-use Rattle.std.specs.BTreeMap.Range.{IsRangeOf}
-use Rattle.std.specs.Prelude.{option_map}
-use Rattle.tx_cells.specs.Heads.{write_head}
-use Rattle.tx_cells.specs.Spelt.{version_cmp}
+use Rattle.std.proofs.Common.{refl}
 use Rattle.tx_cells.proofs.Nearest.{from_none, from_found, from_nearest, from_other}
 use Rattle.tx_cells.proofs.flat.searches.record_upto.Goals as goal
 
