@@ -1,5 +1,5 @@
 //! What a read sees of its key.
-ghost use Rattle.std.specs.Prelude.{◌≡◌, IfOk, IfErr};
+ghost use Rattle.std.specs.Prelude.{◌≡◌, Some, IfOk, IfErr};
 ghost use Rattle.std.specs.BTreeMap as tree;
 ghost use Rattle.tx_plan.specs.Reads.{Reads};
 ghost use Rattle.tx_plan.specs.Views.{ShowsRead};
@@ -8,8 +8,9 @@ ghost use Rattle.tx_cells.specs.Spelt.{version_cmp};
 ghost use Rattle.tx_cells.specs.Histories.{IsSeen, value_kept};
 
 use super::FlatCells;
-use super::searches::{FlatHistory, head_on};
+use super::searches::{FlatHistory, head_on, newest_seen};
 use crate::history::{Seen, seen_at};
+use crate::records::WriteBytes;
 use crate::spelling::VersionBytes;
 use std::alloc::Global;
 use std::collections::BTreeMap;
@@ -38,25 +39,22 @@ impl FlatCells {
     ghost use Rattle.tx_cells.specs.Flats.{flat_content};
 
     // The value that a read at this timestamp sees by this record of the version's key, the newest put or delete.
-    fn value_of(
+    fn value_in(
         &self,
         alloc: Global,
         version: &mut VersionBytes,
+        bytes: &WriteBytes,
         at: Ts,
         seen: Seen,
     ) -> Result<Option<Value>, Fault>
-        requires { IsSeen (flat_content self.now version.old.0).write at seen.commit seen.start seen.kind }
+        requires seen { IsSeen (flat_content self.now version.old.0).write at seen.commit seen.start seen.kind }
+        requires stands { (flat_content self.now version.old.0).write seen.commit ≡ Some bytes.now }
         ensures value { IfOk result (λ value. Reads (cells_of (flat_content self.now version.old.0)).write at value) }
         ensures same_key { version.new.0 ≡ version.old.0 }
         ensures err { IfErr result (λ e. e ≡ Fault.OutOfMemory) }
     {
-        let _ = at;
-        version.set_at(seen.commit);
-        let rec = match self.writes.get(&*version) {
-            Some(bytes) => bytes.read(alloc)?,
-            None => return Ok(None),
-        };
-        let WriteRec::Commit(rec) = rec else {
+        let _ = (at, seen);
+        let WriteRec::Commit(rec) = bytes.read(alloc)? else {
             return Ok(None);
         };
         let CommitRec {
@@ -73,7 +71,34 @@ impl FlatCells {
         }
     }
 
-    /// What a read at this timestamp sees of its key, and a version of that key.
+    // The value that a read at this timestamp sees of the version's key, whatever record is the newest.
+    fn value_below(
+        &self,
+        alloc: Global,
+        version: VersionBytes,
+        at: Ts,
+    ) -> Result<(Option<Value>, VersionBytes), Fault>
+        ensures value { IfOk result (λ r. Reads (cells_of (flat_content self.now version.0)).write at r.0) }
+        ensures same_key { IfOk result (λ r. r.1.0 ≡ version.0) }
+        ensures err { IfErr result (λ e. e ≡ Fault.OutOfMemory) }
+    {
+        let mut history = FlatHistory {
+            writes: &self.writes,
+            version,
+        };
+        let Some(seen) = seen_at(&mut history, at) else {
+            return Ok((None, history.version));
+        };
+        let mut version = history.version;
+        version.set_at(seen.commit);
+        let value = match self.writes.get(&version) {
+            Some(bytes) => self.value_in(alloc, &mut version, bytes, at, seen)?,
+            None => None,
+        };
+        Ok((value, version))
+    }
+
+    /// What a read at this timestamp sees of its key, and a version of that key. Mostly the newest record is a put or a delete.
     pub(super) fn read_by(
         &self,
         alloc: Global,
@@ -85,18 +110,17 @@ impl FlatCells {
         ensures err { IfErr result (λ e. e ≡ Fault.OutOfMemory) }
     {
         let lock = head_on(&self.locks, alloc, key)?;
-        let version = VersionBytes::new(alloc, key, at)?;
-        let mut history = FlatHistory {
-            writes: &self.writes,
-            version,
-        };
-        let seen = seen_at(&mut history, at);
-        let mut version = history.version;
-        let value = match seen {
-            Some(seen) => self.value_of(alloc, &mut version, at, seen)?,
-            None => None,
-        };
-        Ok((ReadView { lock, value }, version))
+        let mut version = VersionBytes::new(alloc, key, at)?;
+        match newest_seen(&self.writes, &version) {
+            Some((seen, bytes)) => {
+                let value = self.value_in(alloc, &mut version, bytes, at, seen)?;
+                Ok((ReadView { lock, value }, version))
+            }
+            None => {
+                let (value, version) = self.value_below(alloc, version, at)?;
+                Ok((ReadView { lock, value }, version))
+            }
+        }
     }
 
     /// What a read at this timestamp sees of its key.

@@ -5,8 +5,9 @@ ghost use Rattle.std.specs.Ordering.{nat_cmp};
 ghost use Rattle.std.specs.Cmp.Lexicographic.{slice_cmp};
 ghost use Rattle.tx_cells.specs.Spelt.{version_cmp};
 ghost use Rattle.tx_cells.specs.Heads.{write_head, lock_head, record_kind};
+ghost use Rattle.tx_cells.specs.Histories.{IsSeen};
 
-use crate::history::History;
+use crate::history::{History, Seen};
 use crate::records::{LockBytes, WriteBytes};
 use crate::spelling::{KeyBytes, VersionBytes};
 use std::alloc::Global;
@@ -103,6 +104,22 @@ pub(super) fn head_at(
     }
 }
 
+/// The record nearest to a version of its key, at its timestamp or below.
+pub(super) fn record_upto<'a>(
+    writes: &'a BTreeMap<VersionBytes, WriteBytes>,
+    bound: &VersionBytes,
+) -> Option<(Ts, &'a WriteBytes)>
+    ensures found { IfSome result (λ x. (x.0 ≤ bound.now.1) × (tree.get version_cmp writes.now (bound.now.0, x.0) ≡ Some x.1.now)) }
+    ensures nearest { IfSome result (λ x. (q : ℕ) → q ≤ bound.now.1 → IsSome (tree.get version_cmp writes.now (bound.now.0, q)) → q ≤ x.0) }
+    ensures none { IfNone result ((q : ℕ) → q ≤ bound.now.1 → tree.get version_cmp writes.now (bound.now.0, q) ≡ None) }
+{
+    let (version, bytes) = writes.range(bound..).next()?;
+    if !version.is_beside(bound) {
+        return None;
+    }
+    Some((version.at(), bytes))
+}
+
 /// What is asked of the record nearest to a version of its key, at its timestamp or below.
 fn head_upto(
     writes: &BTreeMap<VersionBytes, WriteBytes>,
@@ -112,11 +129,35 @@ fn head_upto(
     ensures nearest { IfSome result (λ x. (q : ℕ) → q ≤ bound.now.1 → IsSome (tree.get version_cmp writes.now (bound.now.0, q)) → q ≤ x.0) }
     ensures none { IfNone result ((q : ℕ) → q ≤ bound.now.1 → tree.get version_cmp writes.now (bound.now.0, q) ≡ None) }
 {
-    let (version, bytes) = writes.range(bound..).next()?;
-    if !version.is_beside(bound) {
+    let Some((at, bytes)) = record_upto(writes, bound) else {
+        return None;
+    };
+    Some((at, head_of(bytes)))
+}
+
+/// The record nearest to a version of its key, at its timestamp or below, where it is a put or a delete.
+pub(super) fn newest_seen<'a>(
+    writes: &'a BTreeMap<VersionBytes, WriteBytes>,
+    bound: &VersionBytes,
+) -> Option<(Seen, &'a WriteBytes)>
+    ensures seen { IfSome result (λ x. IsSeen (λ q. tree.get version_cmp writes.now (bound.now.0, q)) bound.now.1 x.0.commit x.0.start x.0.kind) }
+    ensures stands { IfSome result (λ x. tree.get version_cmp writes.now (bound.now.0, x.0.commit) ≡ Some x.1.now) }
+{
+    let Some((commit, bytes)) = record_upto(writes, bound) else {
+        return None;
+    };
+    let RecordHead::Commit { kind, start, .. } = head_of(bytes) else {
+        return None;
+    };
+    if kind == LockKind::Lock {
         return None;
     }
-    Some((version.at(), head_of(bytes)))
+    let seen = Seen {
+        commit,
+        start,
+        kind,
+    };
+    Some((seen, bytes))
 }
 
 /// The write records of one key.

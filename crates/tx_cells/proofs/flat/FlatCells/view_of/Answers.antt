@@ -1,13 +1,12 @@
-use Rattle.std.proofs.Common.{◌≡◌, ◌≤◌, ℕ, List, None, ap, sym, subst, ◌∙◌}
+use Rattle.std.proofs.Common.{◌≡◌, ℕ, List, None, ap, subst, ◌∙◌}
 use Rattle.std.specs.BTreeMap as tree
-use Rattle.std.specs.Prelude.{IsTrue}
 use Rattle.tx_plan.specs.Views.{Shows}
 use Rattle.tx_cells.specs.Contents.{cells_of}
 use Rattle.tx_cells.specs.Spelt.{version_cmp}
 use Rattle.tx_cells.specs.Flats.{flat_content}
 use Rattle.tx_cells.specs.Histories.{Records}
 use Rattle.tx_cells.proofs.Facts.{dated, fitting, whole_at}
-use Rattle.tx_cells.proofs.Showing.{shown, shown_past}
+use Rattle.tx_cells.proofs.Showing.{shown_past}
 use Rattle.tx_cells.proofs.flat.FlatCells.view_of.Goals as goal
 
 pub are_past-requires : goal.are_past-requires

@@ -1,11 +1,6 @@
-use Rattle.std.proofs.Common.{◌≡◌, refl, ap, sym, subst, ◌∙◌, []}
-use Rattle.std.specs.declared.ops.Bound.TheVariants.{Included, Unbounded}
-use Rattle.std.specs.BTreeMap.Range.{IsRangeOf}
-use Rattle.std.specs.Prelude.{option_map}
-use Rattle.tx_cells.specs.Heads.{write_head}
-use Rattle.tx_cells.specs.Spelt.{version_cmp}
+use Rattle.std.proofs.Common.{refl}
 use Rattle.tx_cells.proofs.Nearest.{from_none, from_found, from_nearest, from_other}
-use Rattle.tx_cells.proofs.flat.searches.head_upto.Goals as goal
+use Rattle.tx_cells.proofs.flat.searches.record_upto.Goals as goal
 
 pub returns-in_err-version-clause-none : goal.returns-in_err-version-clause-none
 returns-in_err-version-clause-none c = rw c.from_residual.ensures (from_none c.args.writes.now c.args.bound.now (rw c.in_err-version.ensures.steps.0 at c.range.ensures.in_range tt))
@@ -18,7 +13,7 @@ pub returns-clause-found : goal.returns-clause-found
 returns-clause-found c =
     let same = c.if-not-is_beside.ensures.0 refl in
     let f = from_found c.args.writes.now c.args.bound.now c.in_ok-version.version.now c.in_ok-version.bytes.now c.next.new.self (rw c.in_ok-version.ensures.steps at c.range.ensures.in_range tt) same in
-    (rw c.at.ensures f.0, rw (c.at.ensures, c.head_of.ensures) (ap (option_map write_head) f.1))
+    (rw c.at.ensures f.0, rw c.at.ensures f.1)
 
 pub returns-clause-nearest : goal.returns-clause-nearest
 returns-clause-nearest c = λ q le some.
