@@ -1,11 +1,16 @@
 //! Runs each example and compares what it writes with the file beside it that shows it. An example is a script
-//! (`NAME.script`, run as `txkv simulate` does) or a trace (`NAME.trace`, checked as `txkv check` does); what it writes is
-//! shown in `NAME.script.out` and `NAME.trace.out`.
+//! (`NAME.script`, played as `txkv simulate` does), a script for workers (`NAME.run`, played as `txkv run --workers 2` does) or a
+//! trace (`NAME.trace`, checked as `txkv check` does); what it writes is shown in the file of its name with `.out` added.
 #![tactic(auto)]
 
 use anyhow::Result;
 use std::fs;
 use std::rt::Files;
+use std::sync::Wait;
+use std::thread::Threads;
+use tx_cells::FlatCells;
+use tx_run::run_script;
+use tx_sched::Open;
 use tx_script::{check, simulate};
 
 const SCRIPTS: [&str; 10] = [
@@ -20,6 +25,8 @@ const SCRIPTS: [&str; 10] = [
     "two_regions.script",
     "write_conflict.script",
 ];
+
+const RUNS: [&str; 1] = ["transfers.run"];
 
 const TRACES: [&str; 3] = [
     "commit_then_read.trace",
@@ -41,6 +48,23 @@ fn script_is_shown<R: Files + AllocGlobal>(rt: &R, name: &str) -> Result<bool> {
     Ok(ended.is_ok() && is_shown(rt, name, written.as_slice())?)
 }
 
+fn run_is_shown<R>(rt: &R, name: &str) -> Result<bool>
+where
+    R: Files + AllocGlobal + Threads + Wait + Sync + Send + Clone + Drop,
+{
+    let script = fs::read(rt, name)?;
+    let mut written = Vec::new(rt.alloc());
+    let ended = run_script::<FlatCells, _, _, _, _>(
+        rt,
+        rt.alloc(),
+        2,
+        &Open,
+        &mut script.as_slice(),
+        &mut written,
+    );
+    Ok(ended.is_ok() && is_shown(rt, name, written.as_slice())?)
+}
+
 fn trace_is_shown<R: Files + AllocGlobal>(rt: &R, name: &str) -> Result<bool> {
     let trace = fs::read(rt, name)?;
     let mut written = Vec::new(rt.alloc());
@@ -59,6 +83,10 @@ fn verdict(is_shown: bool) -> &'static str {
 fn main(rt: HostRuntime) -> Result<()> {
     for name in SCRIPTS {
         let shown = script_is_shown(&rt, name)?;
+        println!(rt; "{name}: {}", verdict(shown))?;
+    }
+    for name in RUNS {
+        let shown = run_is_shown(&rt, name)?;
         println!(rt; "{name}: {}", verdict(shown))?;
     }
     for name in TRACES {
