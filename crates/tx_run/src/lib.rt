@@ -17,9 +17,11 @@ mod seeds;
 #[cfg(test)]
 mod tests;
 mod transfer;
+mod words;
 mod write;
 
 pub use play::{Fresh, Played};
-pub use reply::{Reply, Spoken, Words};
+pub use reply::{Reply, Spoken};
 pub use run::run_script;
 pub use seeds::Total;
+pub use words::Words;

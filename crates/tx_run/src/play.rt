@@ -7,9 +7,10 @@ ghost use Rattle.tx_run.specs.Scripts.{IsWithin};
 
 use crate::access::Access;
 use crate::job::{Out, ScriptJob};
-use crate::reply::{Reply, Spoken, Words};
+use crate::reply::{Reply, Spoken};
 use crate::script::{Said, Script};
 use crate::seeds::{Total, play_seeds, read_total};
+use crate::words::Words;
 use std::alloc::Global;
 use std::marker::Brand;
 use std::sync::{Arc, Wait};
@@ -226,7 +227,7 @@ fn tell_regions(replies: &mut Vec<Spoken>, regions: usize) -> Result<(), Broken>
     if regions > 1 {
         replies.push(Spoken {
             number: 1,
-            reply: Reply::Said(Words::Regions(regions)),
+            reply: Reply::Said(Ok(Words::new(tx_lines::Reply::Regions(regions)))),
         })?;
     }
     Ok(())
