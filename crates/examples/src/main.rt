@@ -9,7 +9,7 @@ use std::rt::Files;
 use std::sync::Wait;
 use std::thread::Threads;
 use tx_cells::FlatCells;
-use tx_run::run_script;
+use tx_run::{Plain, run_script};
 use tx_sched::Open;
 use tx_script::{check, simulate};
 
@@ -54,10 +54,11 @@ where
 {
     let script = fs::read(rt, name)?;
     let mut written = Vec::new(rt.alloc());
-    let ended = run_script::<FlatCells, _, _, _, _>(
+    let ended = run_script::<FlatCells, _, _, _, _, _>(
         rt,
         rt.alloc(),
         2,
+        &Plain,
         &Open,
         &mut script.as_slice(),
         &mut written,

@@ -6,6 +6,7 @@
 mod access;
 mod acts;
 mod balance;
+mod families;
 mod job;
 mod log;
 mod place;
@@ -20,7 +21,8 @@ mod transfer;
 mod words;
 mod write;
 
-pub use play::{Fresh, Played};
+pub use families::{Makes, Plain};
+pub use play::Played;
 pub use reply::{Reply, Spoken};
 pub use run::run_script;
 pub use seeds::Total;

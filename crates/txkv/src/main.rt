@@ -16,7 +16,7 @@ use std::process::ExitCode;
 use std::sync::Wait;
 use std::thread::Threads;
 use tx_cells::FlatCells;
-use tx_run::run_script;
+use tx_run::{Plain, run_script};
 use tx_sched::Open;
 use tx_script::{Broken, End, check, simulate};
 
@@ -35,10 +35,11 @@ where
         Job::Simulate => simulate(rt.alloc(), &mut reader, &mut writer),
         Job::Run(workers) => {
             let alloc = rt.alloc();
-            let (end, played) = run_script::<FlatCells, _, _, _, _>(
+            let (end, played) = run_script::<FlatCells, _, _, _, _, _>(
                 rt,
                 alloc,
                 workers,
+                &Plain,
                 &Open,
                 &mut reader,
                 &mut writer,

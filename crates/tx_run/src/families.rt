@@ -1,0 +1,45 @@
+//! The families that the regions of a run start with.
+ghost use Rattle.std.specs.Prelude.{◌≡◌, All, IfOk, vec_len};
+ghost use Rattle.tx_cells.specs.Contents.{nothing_held};
+
+use std::alloc::Global;
+use tx_cells::{Families, FlatCells, NestedCells};
+use tx_types::Fault;
+
+/// Makes the families of a region.
+pub trait Makes<F: Families> {
+    /// Families that hold nothing.
+    fn make(&self, alloc: Global) -> Result<F, Fault>
+        ensures { IfOk result (λ f. F.content f ≡ (λ k. nothing_held)) };
+}
+
+/// Makes families of their own for each region.
+#[derive(Clone, Copy, Debug)]
+pub struct Plain;
+
+impl Makes<NestedCells> for Plain {
+    fn make(&self, alloc: Global) -> Result<NestedCells, Fault> {
+        Ok(NestedCells::new(alloc))
+    }
+}
+
+impl Makes<FlatCells> for Plain {
+    fn make(&self, alloc: Global) -> Result<FlatCells, Fault> {
+        Ok(FlatCells::new(alloc))
+    }
+}
+
+/// Families for so many regions.
+pub(crate) fn families<F: Families + Drop, M: Makes<F>>(
+    alloc: Global,
+    make: &M,
+    count: usize,
+) -> Result<Vec<F>, Fault>
+    ensures { IfOk result (λ fs. (vec_len fs ≡ count) × All (λ f. F.content f ≡ (λ k. nothing_held)) fs.items) }
+{
+    let mut families = Vec::with_capacity(alloc, count)?;
+    for _i in 0..count {
+        families.push(make.make(alloc)?)?;
+    }
+    Ok(families)
+}
