@@ -1,7 +1,7 @@
 //! Runs each example and compares what it writes with the file beside it that shows it. An example is a script
-//! (`NAME.script`, run as `txkv simulate` does) or a trace (`NAME.trace`, checked as `txkv check` does); what it writes is
-//! shown in `NAME.script.out` and `NAME.trace.out`. Scripts are played over both families.
-//! Many small ones stand in `scripts.rows` and `traces.rows`, each with what it writes.
+//! (`NAME.script`, played as `txkv simulate` does), a script for workers (`NAME.run`, played as `txkv run --workers 2` does) or a
+//! trace (`NAME.trace`, checked as `txkv check` does); what it writes is shown in the file of its name with `.out` added. Scripts are
+//! played over both families. Many small ones stand in `scripts.rows` and `traces.rows`, each with what it writes.
 #![tactic(auto)]
 
 mod rows;
@@ -11,7 +11,11 @@ use rows::count_shown;
 use std::alloc::Global;
 use std::fs;
 use std::rt::Files;
-use tx_cells::NestedCells;
+use std::sync::Wait;
+use std::thread::Threads;
+use tx_cells::{FlatCells, NestedCells};
+use tx_run::{Plain, run_script};
+use tx_sched::Open;
 use tx_script::{check, simulate, simulate_with};
 
 const SCRIPTS: [&str; 16] = [
@@ -32,6 +36,8 @@ const SCRIPTS: [&str; 16] = [
     "two_regions.script",
     "write_conflict.script",
 ];
+
+const RUNS: [&str; 1] = ["transfers.run"];
 
 const TRACES: [&str; 3] = [
     "commit_then_read.trace",
@@ -55,7 +61,7 @@ fn nested(alloc: Global, text: &[u8], written: &mut Vec<u8>) -> bool {
 
 impl Kind {
     // Runs an example. Whether it came to its end.
-    fn run<R: AllocGlobal>(self, rt: &R, text: &[u8], written: &mut Vec<u8>) -> bool {
+    fn run(self, rt: &HostRuntime, text: &[u8], written: &mut Vec<u8>) -> bool {
         let mut reader = text;
         match self {
             Kind::Script => simulate(rt.alloc(), &mut reader, written).is_ok(),
@@ -66,13 +72,34 @@ impl Kind {
 }
 
 // Whether an example writes what the file beside it shows.
-fn is_shown<R: Files + AllocGlobal>(rt: &R, name: &str, kind: Kind) -> Result<bool> {
+fn is_shown(rt: &HostRuntime, name: &str, kind: Kind) -> Result<bool> {
     let text = fs::read(rt, name)?;
     let path = format!(in rt.alloc(); "{name}.out")?;
     let shown = fs::read(rt, path)?;
     let mut written = Vec::new(rt.alloc());
     let ended = kind.run(rt, text.as_slice(), &mut written);
     Ok(ended && written.as_slice() == shown.as_slice())
+}
+
+// Whether a script for workers, of whom there are two, writes what the file beside it shows.
+fn run_is_shown<R>(rt: &R, name: &str) -> Result<bool>
+where
+    R: Files + AllocGlobal + Threads + Wait + Sync + Send + Clone + Drop,
+{
+    let script = fs::read(rt, name)?;
+    let path = format!(in rt.alloc(); "{name}.out")?;
+    let shown = fs::read(rt, path)?;
+    let mut written = Vec::new(rt.alloc());
+    let ended = run_script::<FlatCells, _, _, _, _, _>(
+        rt,
+        rt.alloc(),
+        2,
+        &Plain,
+        &Open,
+        &mut script.as_slice(),
+        &mut written,
+    );
+    Ok(ended.is_ok() && written.as_slice() == shown.as_slice())
 }
 
 fn verdict(is_shown: bool) -> &'static str {
@@ -86,6 +113,10 @@ fn verdict(is_shown: bool) -> &'static str {
 fn main(rt: HostRuntime) -> Result<()> {
     for name in SCRIPTS {
         let shown = is_shown(&rt, name, Kind::Script)? && is_shown(&rt, name, Kind::Nested)?;
+        println!(rt; "{name}: {}", verdict(shown))?;
+    }
+    for name in RUNS {
+        let shown = run_is_shown(&rt, name)?;
         println!(rt; "{name}: {}", verdict(shown))?;
     }
     for name in TRACES {

@@ -33,7 +33,7 @@ fn row_of<R: AllocGlobal>(rt: &R, lines: &str) -> Result<Row> {
 }
 
 // Whether the row under this title writes what is shown.
-fn is_shown<R: AllocGlobal>(rt: &R, kind: Kind, lines: &str) -> Result<bool> {
+fn is_shown(rt: &HostRuntime, kind: Kind, lines: &str) -> Result<bool> {
     let row = row_of(rt, lines)?;
     let mut written = Vec::new(rt.alloc());
     let ended = kind.run(rt, row.input.as_slice(), &mut written);

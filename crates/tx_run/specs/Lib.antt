@@ -1,4 +1,6 @@
 pub mod Balances
+pub mod Lines
 pub mod Outcomes
 pub mod Logs
 pub mod Scripts
+pub mod Words

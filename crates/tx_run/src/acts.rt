@@ -3,54 +3,45 @@ ghost use Rattle.std.specs.Prelude.{◌≡◌, false, true};
 ghost use Rattle.tx_client.specs.Sessions.{is_declared};
 
 use crate::access::Access;
-use crate::reply::Words;
+use crate::words::Words;
 use std::sync::Wait;
 use tx_cells::Families;
 use tx_client::{Miss, Session, Terms};
 use tx_core::Answer;
 use tx_journal::Naming;
+use tx_lines::Reply;
 use tx_steps::{Action, Request};
-use tx_types::{Cause, Fault, Key, Mode, Ts, Value};
+use tx_types::{Cause, Fault, Key, Ts, Value};
 
-// The reply of a refusal.
-fn refused(fault: Fault) -> Words {
+/// The reply of a refusal.
+pub(crate) fn refused(fault: Fault) -> Words {
     match fault {
-        Fault::KeyLength => Words::Plain(tx_lines::Reply::KeyLength),
-        Fault::ValueLength => Words::Plain(tx_lines::Reply::ValueLength),
-        Fault::TooManyKeys => Words::Plain(tx_lines::Reply::TooManyKeys),
-        Fault::OracleSpent => Words::OracleSpent,
-        _ => Words::Plain(tx_lines::Reply::OutOfMemory),
+        Fault::KeyLength => Words::new(Reply::KeyLength),
+        Fault::ValueLength => Words::new(Reply::ValueLength),
+        Fault::TooManyKeys => Words::new(Reply::TooManyKeys),
+        Fault::OracleSpent => Words::new(Reply::OracleSpent),
+        _ => Words::new(Reply::OutOfMemory),
     }
 }
 
 // The reply where there is nothing but a refusal to tell.
 pub(crate) fn done(came: Result<(), Fault>) -> Words {
     match came {
-        Ok(()) => Words::Plain(tx_lines::Reply::Fine),
+        Ok(()) => Words::new(Reply::Fine),
         Err(fault) => refused(fault),
     }
 }
 
 fn answered(came: Result<Answer, Miss>) -> Words {
     match came {
-        Ok(Answer::Rows(rows)) => Words::Rows(rows),
-        Ok(Answer::Locked(info)) => Words::Locked(minimum_of(info.mode, info.min)),
-        Ok(answer) => Words::Plain(tx_lines::Reply::Answered(answer)),
-        Err(_) => Words::Plain(tx_lines::Reply::OutOfMemory),
-    }
-}
-
-// The minimum that is told of a lock: 0 of a two-phase one.
-fn minimum_of(mode: Mode, minimum: Ts) -> Ts {
-    match mode {
-        Mode::TwoPhase => Ts::ZERO,
-        Mode::Async => minimum,
+        Ok(answer) => Words::new(Reply::Answered(answer)),
+        Err(_) => Words::new(Reply::OutOfMemory),
     }
 }
 
 fn sent(came: Result<Option<Answer>, Miss>) -> Words {
     match came {
-        Ok(None) => Words::Plain(tx_lines::Reply::Done),
+        Ok(None) => Words::new(Reply::Done),
         Ok(Some(answer)) => answered(Ok(answer)),
         Err(miss) => answered(Err(miss)),
     }
@@ -121,7 +112,7 @@ fn draw<J: Naming>(session: &mut Session<J>) -> Result<Words, Cause> {
         return Err(Cause::Order);
     }
     match session.draw_commit() {
-        Ok(commit) => Ok(Words::Plain(tx_lines::Reply::Drawn(commit))),
+        Ok(commit) => Ok(Words::new(Reply::Drawn(commit))),
         Err(fault) => Ok(refused(fault)),
     }
 }
@@ -133,7 +124,7 @@ fn resolve<J: Naming, F: Families + Drop, R: Wait + Drop>(
 ) -> Result<Words, Cause> {
     match access.resolve(session, Some(Ts::new(now))) {
         Ok(None) => Err(Cause::Order),
-        Ok(Some(status)) => Ok(Words::Resolved(status)),
+        Ok(Some(status)) => Ok(Words::new(Reply::Status(status))),
         Err(fault) => Ok(refused(fault)),
     }
 }

@@ -3,12 +3,12 @@ ghost use Rattle.std.specs.Prelude.{◌≡◌, ◌<◌, IfOk};
 ghost use Rattle.tx_run.specs.Logs.{StaysSame};
 
 use crate::access::Access;
-use crate::acts::{act, send};
+use crate::acts::{act, refused, send};
 use crate::log::Log;
 use crate::place::Place;
-use crate::reply::Words;
 use crate::script::{Asks, Said};
 use crate::transfer::{After, Moving, slots_of};
+use crate::words::Words;
 use std::alloc::Global;
 use std::marker::Model;
 use std::mem::replace;
@@ -18,6 +18,7 @@ use tx_client::Session;
 use tx_core::Answer;
 use tx_journal::{Naming, Seat};
 use tx_latch::{Slot, slot_of};
+use tx_lines::Reply;
 use tx_sched::{Job, Turn};
 use tx_steps::{Action, Line, Program, Step, Transfer};
 use tx_types::limits::MAX_NAME_BYTES;
@@ -108,12 +109,12 @@ impl<J: Naming, F: Families + Drop, R: Wait + Drop> ScriptJob<J, F, R> {
     fn tell(&mut self, number: u64, words: Words)
         ensures { StaysSame self.old self.new }
     {
-        if let Words::Plain(tx_lines::Reply::Answered(Answer::KeyIsLocked(info))) = &words {
+        if let Reply::Answered(Answer::KeyIsLocked(info)) = words.reply() {
             if let Ok(slots) = slots_of(self.access.alloc, info) {
                 self.met = slots;
             }
         }
-        self.log.say(number, words);
+        self.log.say(number, Ok(words));
     }
 
     // A fault of the script ends the session.
@@ -122,7 +123,7 @@ impl<J: Naming, F: Families + Drop, R: Wait + Drop> ScriptJob<J, F, R> {
     {
         self.faulted = true;
         self.lines.clear();
-        self.tell(number, Words::Fault(cause));
+        self.log.say(number, Err(cause));
     }
 
     // Keeps what came of a line.
@@ -143,11 +144,11 @@ impl<J: Naming, F: Families + Drop, R: Wait + Drop> ScriptJob<J, F, R> {
                 let start = session.start();
                 self.touched.clear();
                 self.place = Place::Live(session);
-                self.tell(number, Words::Plain(tx_lines::Reply::Start(start)));
+                self.tell(number, Words::new(Reply::Start(start)));
             }
             Err(seat) => {
                 self.place = Place::Free(seat);
-                self.tell(number, Words::OracleSpent);
+                self.tell(number, Words::new(Reply::OracleSpent));
             }
         }
     }
@@ -176,20 +177,21 @@ impl<J: Naming, F: Families + Drop, R: Wait + Drop> ScriptJob<J, F, R> {
         ensures { StaysSame self.old self.new }
     {
         let alloc = self.access.alloc;
-        let Ok(moving) = moving_of(alloc, &transfer) else {
-            self.place = Place::Free(seat);
-            self.tell(number, Words::Plain(tx_lines::Reply::KeyLength));
-            return;
-        };
-        match Session::begin(alloc, seat) {
-            Ok(session) => {
-                self.place = Place::Live(session);
-                self.moving = Some((number, moving));
-            }
-            Err(seat) => {
+        match moving_of(alloc, &transfer) {
+            Err(fault) => {
                 self.place = Place::Free(seat);
-                self.tell(number, Words::OracleSpent);
+                self.tell(number, refused(fault));
             }
+            Ok(moving) => match Session::begin(alloc, seat) {
+                Ok(session) => {
+                    self.place = Place::Live(session);
+                    self.moving = Some((number, moving));
+                }
+                Err(seat) => {
+                    self.place = Place::Free(seat);
+                    self.tell(number, Words::new(Reply::OracleSpent));
+                }
+            },
         }
     }
 
@@ -242,7 +244,7 @@ impl<J: Naming, F: Families + Drop, R: Wait + Drop> ScriptJob<J, F, R> {
             Place::Live(session) => match step {
                 Step::Act(_, Action::Finish) => self.finishes(number, session),
                 Step::Act(_, Action::Stop) => {
-                    self.stops(number, session, Words::Plain(tx_lines::Reply::Fine));
+                    self.stops(number, session, Words::new(Reply::Fine));
                 }
                 other => self.acts(number, session, other),
             },
@@ -260,7 +262,7 @@ impl<J: Naming, F: Families + Drop, R: Wait + Drop> ScriptJob<J, F, R> {
                 None => self.fails(said.number, Cause::Form),
             },
             Ok(Err(cause)) => self.fails(said.number, cause),
-            Err(_) => self.tell(said.number, Words::Plain(tx_lines::Reply::OutOfMemory)),
+            Err(_) => self.tell(said.number, Words::new(Reply::OutOfMemory)),
         }
     }
 
@@ -271,7 +273,7 @@ impl<J: Naming, F: Families + Drop, R: Wait + Drop> ScriptJob<J, F, R> {
         match self.access.finish(&mut self.log, number, session) {
             Ok(seat) => self.place = Place::Free(seat),
             Err(session) => {
-                self.stops(number, session, Words::Plain(tx_lines::Reply::OutOfMemory));
+                self.stops(number, session, Words::new(Reply::OutOfMemory));
             }
         }
     }
@@ -286,9 +288,9 @@ impl<J: Naming, F: Families + Drop, R: Wait + Drop> ScriptJob<J, F, R> {
                 self.moving = Some((number, moving));
             }
             After::Ends => self.moved(number, session),
-            After::Spent => self.stops(number, session, Words::OracleSpent),
+            After::Spent => self.stops(number, session, Words::new(Reply::OracleSpent)),
             After::NoMemory => {
-                self.stops(number, session, Words::Plain(tx_lines::Reply::OutOfMemory));
+                self.stops(number, session, Words::new(Reply::OutOfMemory));
             }
         }
     }

@@ -6,6 +6,7 @@
 mod access;
 mod acts;
 mod balance;
+mod families;
 mod job;
 mod log;
 mod place;
@@ -17,9 +18,12 @@ mod seeds;
 #[cfg(test)]
 mod tests;
 mod transfer;
+mod words;
 mod write;
 
+pub use families::{Makes, Plain};
 pub use play::Played;
-pub use reply::{Reply, Spoken, Words};
+pub use reply::{Reply, Spoken};
 pub use run::run_script;
 pub use seeds::Total;
+pub use words::Words;

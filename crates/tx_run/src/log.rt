@@ -3,13 +3,14 @@ ghost use Rattle.std.specs.Prelude.{◌≡◌, []};
 ghost use Rattle.tx_core.specs.Histories.{Begins};
 ghost use Rattle.tx_run.specs.Logs.{CanTell, IsAnswered, TellsBy, TellsNone};
 
-use crate::reply::{Reply, Spoken, Words};
+use crate::reply::{Reply, Spoken};
+use crate::words::Words;
 use std::marker::Model;
 use std::mem::replace;
 use tx_client::Session;
 use tx_core::{Outcome, SeatNo};
 use tx_journal::{Naming, Seat, Told};
-use tx_types::Ts;
+use tx_types::{Cause, Ts};
 
 /// The answers of a session's lines. Each outcome among them was answered by the session's seat in what the log was told, and no two
 /// are of one transaction.
@@ -49,11 +50,11 @@ impl<J: Naming> Log<J> {
         }
     }
 
-    /// Keeps an answer that tells no outcome.
-    pub fn say(&mut self, number: u64, words: Words)
+    /// Keeps an answer that says no outcome.
+    pub fn say(&mut self, number: u64, said: Result<Words, Cause>)
         ensures { (self.new.seat ≡ self.old.seat) × (self.new.told ≡ self.old.told) }
     {
-        let reply = Reply::Said(words);
+        let reply = Reply::Said(said);
         if self.replies.push(Spoken { number, reply }).is_err() {
             self.lost = true;
         }

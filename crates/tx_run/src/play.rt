@@ -1,40 +1,31 @@
 //! Playing a script: its seeds, and then its sessions side by side, by workers.
-ghost use Rattle.std.specs.Prelude.{◌≡◌, ◌+◌, ◌*◌, ◌≤◌, ℕ, [], All, IfOk, IfSome, OnOk, None, length, vec_len};
-ghost use Rattle.tx_cells.specs.Contents.{nothing_held};
+ghost use Rattle.std.specs.Prelude.{◌≡◌, ◌+◌, ◌*◌, ◌≤◌, ℕ, All, IfOk, IfSome, OnOk, None, length, vec_len};
 ghost use Rattle.tx_run.specs.Outcomes.{TellsOutcomes, start_of};
 ghost use Rattle.tx_run.specs.Logs.{IsAbove, AreFalling, AreFrom, HaveOwnSeats};
 ghost use Rattle.tx_run.specs.Scripts.{IsWithin};
 
 use crate::access::Access;
+use crate::families::{Makes, families};
 use crate::job::{Out, ScriptJob};
-use crate::reply::{Reply, Spoken, Words};
+use crate::reply::{Reply, Spoken};
 use crate::script::{Said, Script};
 use crate::seeds::{Total, play_seeds, read_total};
+use crate::words::Words;
 use std::alloc::Global;
 use std::marker::Brand;
 use std::sync::{Arc, Wait};
 use std::thread::Threads;
-use tx_cells::Fresh;
+use tx_cells::Families;
 use tx_journal::{Naming, Opened, Seat, Unnamed};
 use tx_lines::Broken;
 use tx_sched::{Gate, run_sessions};
 use tx_store::Store;
 use tx_types::Fault;
 
-// Families for so many regions.
-fn families<F: Fresh>(alloc: Global, count: usize) -> Result<Vec<F>, Fault>
-    ensures { IfOk result (λ fs. (vec_len fs ≡ count) × All (λ f. F.content f ≡ (λ k. nothing_held)) fs.items) }
-{
-    let mut families = Vec::with_capacity(alloc, count)?;
-    for _i in 0..count {
-        families.push(F::fresh(alloc))?;
-    }
-    Ok(families)
-}
-
 // A store, and the seats for others than its regions.
-fn open<J: Naming, F: Fresh>(
+fn open<J: Naming, F: Families + Drop, M: Makes<F>>(
     alloc: Global,
+    make: &M,
     opened: Opened,
     regions: usize,
 ) -> Result<(Store<J, F>, Vec<Seat<J>>), Fault>
@@ -44,7 +35,7 @@ fn open<J: Naming, F: Fresh>(
 {
     let (journal, mut seats) = opened.named::<J>(alloc)?;
     let others = seats.split_off(regions)?;
-    let families = families::<F>(alloc, regions)?;
+    let families = families(alloc, make, regions)?;
     let store = Store::new(alloc, &journal, seats, families)?;
     drop(journal);
     Ok((store, others))
@@ -62,7 +53,7 @@ fn two_seats<J: Naming>(seats: &mut Vec<Seat<J>>) -> Option<(Seat<J>, Seat<J>)>
 }
 
 // The sessions' jobs, numbered in their order, each with a seat of its own.
-fn jobs<J: Naming, F: Fresh, R: Wait + Clone + Drop>(
+fn jobs<J: Naming, F: Families + Drop, R: Wait + Clone + Drop>(
     rt: &R,
     alloc: Global,
     store: &Arc<Store<J, F>>,
@@ -156,9 +147,10 @@ pub struct Played {
 }
 
 // The store, what the seeds send with, and the seats of the sessions.
-fn set_out<J: Naming, F: Fresh, R: Wait + Clone + Drop>(
+fn set_out<J: Naming, F: Families + Drop, M: Makes<F>, R: Wait + Clone + Drop>(
     rt: &R,
     alloc: Global,
+    make: &M,
     opened: Opened,
     regions: usize,
 ) -> Result<(Arc<Store<J, F>>, Access<J, F, R>, Seat<J>, Vec<Seat<J>>), Fault>
@@ -166,7 +158,7 @@ fn set_out<J: Naming, F: Fresh, R: Wait + Clone + Drop>(
     requires count { (regions ≡ length J.bounds + 1) × (regions ≤ 64) × (regions ≤ J.seats) }
     ensures { IfOk result (λ r. AreFrom (length J.bounds + 1) r.3.items) }
 {
-    let (store, mut seats) = open::<J, F>(alloc, opened, regions)?;
+    let (store, mut seats) = open::<J, F, M>(alloc, make, opened, regions)?;
     let store = Arc::new(alloc, store)?;
     let Some((seat, resolver)) = two_seats(&mut seats) else {
         return Err(Fault::OutOfMemory);
@@ -187,7 +179,7 @@ fn work<J, F, G, R>(
 ) -> Result<Vec<Out<J>>, Fault>
 where
     J: Naming + Send + Sync,
-    F: Fresh + Send,
+    F: Families + Send + Drop,
     G: Gate + Sync,
     R: Threads + Wait + Sync + Send + Clone + Drop,
     requires seats { AreFrom (length J.bounds + 1) seats.items }
@@ -207,24 +199,26 @@ fn tell_regions(replies: &mut Vec<Spoken>, regions: usize) -> Result<(), Broken>
     if regions > 1 {
         replies.push(Spoken {
             number: 1,
-            reply: Reply::Said(Words::Regions(regions)),
+            reply: Reply::Said(Ok(Words::new(tx_lines::Reply::Regions(regions)))),
         })?;
     }
     Ok(())
 }
 
 // Plays the seeds and then the sessions, and sums up.
-fn play<J, F, G, R>(
+fn play<J, F, M, G, R>(
     rt: &R,
     alloc: Global,
     workers: usize,
+    make: &M,
     gate: &G,
     opened: Opened,
     script: Lines,
 ) -> Result<Played, Broken>
 where
     J: Naming + Send + Sync,
-    F: Fresh + Send,
+    F: Families + Send + Drop,
+    M: Makes<F>,
     G: Gate + Sync,
     R: Threads + Wait + Sync + Send + Clone + Drop,
     requires name { (opened.table ≡ J.table) × (opened.bounds ≡ J.bounds) × (opened.seats ≡ J.seats) }
@@ -237,7 +231,9 @@ where
         seeds,
         sessions,
     } = script;
-    let Ok((store, mut access, seat, seats)) = set_out::<J, F, R>(rt, alloc, opened, regions) else {
+    let Ok((store, mut access, seat, seats)) = set_out::<J, F, M, R>(
+        rt, alloc, make, opened, regions,
+    ) else {
         return Err(Broken::Memory);
     };
     let mut replies = Vec::new(alloc);
@@ -260,15 +256,17 @@ where
 /// one transaction.
 ///
 /// `Memory` where a growth was refused outside of a session's calls.
-pub(crate) fn play_script<F, G, R>(
+pub(crate) fn play_script<F, M, G, R>(
     rt: &R,
     alloc: Global,
     workers: usize,
+    make: &M,
     gate: &G,
     script: Script,
 ) -> Result<Played, Broken>
 where
-    F: Fresh + Send,
+    F: Families + Send + Drop,
+    M: Makes<F>,
     G: Gate + Sync,
     R: Threads + Wait + Sync + Send + Clone + Drop,
     requires { IsWithin script }
@@ -282,10 +280,11 @@ where
     let regions = bounds.len() + 1;
     let others = 2 * sessions.len() + 2;
     let opened = Opened::new(alloc, bounds, others).map_err(memory)?;
-    play::<Brand, F, G, R>(
+    play::<Brand, F, M, G, R>(
         rt,
         alloc,
         workers,
+        make,
         gate,
         opened,
         Lines {

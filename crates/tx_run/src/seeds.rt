@@ -6,9 +6,10 @@ ghost use Rattle.tx_run.specs.Outcomes.{start_of};
 use crate::access::Access;
 use crate::acts::done;
 use crate::balance::{BALANCES, balance_of};
-use crate::reply::{Reply, Spoken, Words};
+use crate::reply::{Reply, Spoken};
 use crate::script::Said;
 use crate::transfer::TTL;
+use crate::words::Words;
 use std::alloc::Global;
 use std::sync::Wait;
 use tx_cells::Families;
@@ -118,7 +119,7 @@ fn play<J: Naming, F: Families + Drop, R: Wait + Drop>(
             return (seat, done(result));
         }
     }
-    (seat, Words::Plain(tx_lines::Reply::OutOfMemory))
+    (seat, Words::new(tx_lines::Reply::OutOfMemory))
 }
 
 /// Makes the seeds in the order of their lines, and keeps their answers.
@@ -136,7 +137,7 @@ pub(crate) fn play_seeds<J: Naming, F: Families + Drop, R: Wait + Drop>(
         seat = next;
         let spoken = Spoken {
             number: said.number,
-            reply: Reply::Said(words),
+            reply: Reply::Said(Ok(words)),
         };
         if replies.push(spoken).is_err() {
             drop(seat);

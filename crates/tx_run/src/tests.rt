@@ -1,5 +1,8 @@
 //! Runs, by several numbers of workers.
-use crate::{Played, Reply, run_script};
+mod gates;
+mod meeting;
+
+use crate::{Plain, Played, Reply, run_script};
 use std::alloc::{AllocError, Global};
 use std::sync::Wait;
 use std::test::Fail;
@@ -18,10 +21,11 @@ fn run<R: Threads + Wait + Sync + Send + Clone + Drop>(
     output: &mut Vec<u8>,
 ) -> Result<Option<Played>, Broken> {
     let mut reader = input;
-    let (_, played) = run_script::<FlatCells, _, _, _, _>(
+    let (_, played) = run_script::<FlatCells, _, _, _, _, _>(
         rt,
         alloc,
         workers,
+        &Plain,
         &Open,
         &mut reader,
         output,

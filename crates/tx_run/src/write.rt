@@ -1,11 +1,11 @@
 //! Writing what was played.
 use crate::play::Played;
-use crate::reply::{Reply, Spoken, Words, put_line, put_sum};
+use crate::reply::{Reply, Spoken, put_line};
 use crate::seeds::Total;
-use std::alloc::Global;
+use std::alloc::{AllocError, Global};
 use std::io::Write;
 use tx_core::Outcome;
-use tx_lines::{Broken, finish, send};
+use tx_lines::{Broken, finish, put_fault, put_number, send};
 use tx_types::Cause;
 
 // The counts of outcomes: committed, aborted, unknown, read-only.
@@ -22,6 +22,17 @@ fn count(replies: &[Spoken]) -> [u64; 4] {
         counts[place] = counts[place].saturating_add(1);
     }
     counts
+}
+
+// Appends a line of a word and numbers.
+fn put_sum(out: &mut Vec<u8>, word: &str, numbers: &[u64]) -> Result<(), AllocError> {
+    out.extend_from_slice(b"[\"")?;
+    out.extend_from_slice(word.as_bytes())?;
+    out.extend_from_slice(b"\"")?;
+    for number in numbers {
+        put_number(out, *number)?;
+    }
+    out.extend_from_slice(b"]\n")
 }
 
 // Appends the line `["total",n]`.
@@ -77,13 +88,7 @@ pub(crate) fn tell_fault<W: Write>(
     cause: Cause,
 ) -> Result<(), Broken> {
     let mut text = Vec::new(alloc);
-    put_line(
-        &mut text,
-        &Spoken {
-            number,
-            reply: Reply::Said(Words::Fault(cause)),
-        },
-    )?;
+    put_fault(&mut text, number, cause)?;
     send(writer, text.as_slice())?;
     finish(writer)
 }

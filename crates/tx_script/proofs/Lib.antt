@@ -18,5 +18,3 @@ pub mod Scripts
 pub mod Lines
 -- When all has settled, the condition holds: nobody else acted.
 pub mod Ending
--- The keys between regions, as line 1 says them.
-pub mod Bounds

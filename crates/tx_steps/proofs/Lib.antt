@@ -2,3 +2,4 @@
 pub mod FirstMembers
 pub mod ReadKeys
 pub mod ManyMembers
+pub mod RisingBounds

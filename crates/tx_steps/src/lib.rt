@@ -13,6 +13,7 @@ mod line;
 mod members;
 mod program;
 mod request;
+mod runs;
 mod step;
 #[cfg(test)]
 mod tests;

@@ -1,15 +1,19 @@
 //! The commands of the program, and their help.
-use clap::{ArgMatches, Command, Error};
+use clap::builder::ValueParser;
+use clap::{Arg, ArgMatches, Command, Error};
 use std::alloc::Global;
 use std::env::Env;
 use std::{env, io};
+use tx_types::limits::MAX_WORKERS;
 
 static ABOUT: &str = "The transaction layer of a key-value store, in one process";
 
 static EXAMPLES: &str = "Examples:
   txkv simulate < commit_then_read.script   Run a script of sessions
+  txkv run --workers 4 < transfers.run      Run the sessions of a script side by side, on threads
   txkv check < commit_then_read.trace       Check a trace of machine steps
   txkv simulate --help                      Show the steps of a script
+  txkv run --help                           Show the steps of a run
   txkv check --help                         Show the steps of a trace
 
 Status: 0 well, 2 a fault of the input or the command line, 3 the verdict no, 4 a read, a write or a growth failed.";
@@ -45,6 +49,26 @@ Examples:
   echo '[\"begin\",\"A\"]' | txkv simulate           [1,\"start\",1], status 0
   echo '[\"get\",\"A\",\"a\"]' | txkv simulate         [1,\"E16\",\"name\"], no session is live, status 2";
 
+static RUN_ABOUT: &str = "Run the sessions of a script side by side, on several threads";
+
+static RUN_HELP: &str =
+    "The script is read whole. Its seeds run in the order of their lines, and then the lines of each session in theirs,
+the sessions side by side. s names a session; mode is \"two-phase\" or \"async\":
+  [\"regions\",[key,..]]                 Line 1 alone: the keys between the regions
+  [\"seed\",key,value]                   Puts a value on a key, in a transaction of its own
+  [\"transfer\",s,from,to,amount,mode]   Moves an amount between the balances of two keys, in one transaction
+and the steps of sessions as txkv simulate --help has them, with no delivery: begin, put, delete, lock, get, scan, declare,
+prewrite, draw, commit, abort, heartbeat, finish, stop, resolve
+
+A balance is a text of 1 to 15 decimal digits; any other text, or none, is a balance of 0.
+The replies come in the order of the lines. Then [\"outcomes\",committed,aborted,unknown,read-only] counts the outcomes that
+were told, and [\"total\",n] is the sum of all balances.
+
+Examples:
+  txkv run --workers 4 < transfers.run                    Two accounts, and transfers between them and a third
+  echo '[\"seed\",\"a\",\"5\"]' | txkv run --workers 1          [1,\"ok\"], [\"outcomes\",0,0,0,0], [\"total\",5], status 0
+  echo '[\"get\",\"A\",\"a\"]' | txkv run --workers 1           [1,\"E16\",\"name\"] and both sums, status 2";
+
 static CHECK_ABOUT: &str =
     "Check a trace: is it a run of the machine that commits each transaction in one step?";
 
@@ -67,11 +91,16 @@ Examples:
 #[derive(Clone, Copy, Debug, PartialEq, Eq)]
 pub enum Job {
     Simulate,
+    /// By so many workers.
+    Run(usize),
     Check,
 }
 
 /// The job of a command line that was read.
 pub fn job_of(matches: &ArgMatches<'_>) -> Job {
+    if let Some(run) = matches.subcommand_matches("run") {
+        return Job::Run(run.get_one::<usize>("workers").unwrap_or(1));
+    }
     match matches.subcommand_name() {
         Some("simulate") => Job::Simulate,
         _ => Job::Check,
@@ -95,12 +124,23 @@ pub fn parse<'a>(alloc: Global, words: &'a [String]) -> Result<ArgMatches<'a>, E
     let simulate = Command::new(alloc, "simulate")
         .about(SIMULATE_ABOUT)
         .after_help(SIMULATE_HELP);
+    let workers = Arg::new(alloc, "workers")
+        .long("workers")
+        .value_name("N")
+        .help("How many threads make steps, 1 to 64")
+        .required(true)
+        .value_parser(ValueParser::Unsigned(1, MAX_WORKERS as u64));
+    let run = Command::new(alloc, "run")
+        .about(RUN_ABOUT)
+        .after_help(RUN_HELP)
+        .arg(workers)?;
     let command = Command::new(alloc, "txkv")
         .about(ABOUT)
         .version("0.1.0")
         .after_help(EXAMPLES)
         .subcommand_required(true)
         .subcommand(simulate)?
+        .subcommand(run)?
         .subcommand(check)?;
     command.try_get_matches_from(words)
 }

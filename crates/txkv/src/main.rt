@@ -1,5 +1,5 @@
 //! `txkv`, the transaction layer at a shell. The words of the command line are read by `clap`; what a command does stands in
-//! `tx_script`, and this program gives it the standard streams and turns how it ended into a status.
+//! `tx_script` and `tx_run`, and this program gives it the standard streams and turns how it ended into a status.
 #![tactic(auto)]
 
 mod commands;
@@ -13,10 +13,18 @@ use status::{message_of, status_of};
 use std::io;
 use std::io::{BufReader, BufWriter};
 use std::process::ExitCode;
+use std::sync::Wait;
+use std::thread::Threads;
+use tx_cells::FlatCells;
+use tx_run::{Plain, run_script};
+use tx_sched::Open;
 use tx_script::{Broken, End, check, simulate};
 
 // Both streams are buffered; each job flushes what it writes.
-fn run<R: Input + Print + AllocGlobal>(rt: &R, job: Job) -> Result<End, Broken> {
+fn run<R>(rt: &R, job: Job) -> Result<End, Broken>
+where
+    R: Input + Print + AllocGlobal + Threads + Wait + Sync + Send + Clone + Drop,
+{
     let Ok(mut reader) = BufReader::new(rt.alloc(), rt.reader()) else {
         return Err(Broken::Memory);
     };
@@ -25,6 +33,20 @@ fn run<R: Input + Print + AllocGlobal>(rt: &R, job: Job) -> Result<End, Broken> 
     };
     match job {
         Job::Simulate => simulate(rt.alloc(), &mut reader, &mut writer),
+        Job::Run(workers) => {
+            let alloc = rt.alloc();
+            let (end, played) = run_script::<FlatCells, _, _, _, _, _>(
+                rt,
+                alloc,
+                workers,
+                &Plain,
+                &Open,
+                &mut reader,
+                &mut writer,
+            )?;
+            drop(played);
+            Ok(end)
+        }
         Job::Check => check(rt.alloc(), &mut reader, &mut writer),
     }
 }

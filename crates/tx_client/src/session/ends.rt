@@ -2,10 +2,13 @@
 ghost use Rattle.std.specs.Prelude.{◌≡◌, Some, None, IfOk, IfErr, OnOk, OnErr, option_map, is_some};
 ghost use Rattle.tx_types.specs.declared.fault.Fault.TheVariants as fault;
 ghost use Rattle.tx_core.specs.declared.event.Event.TheVariants.{Answered, Stopped};
+ghost use Rattle.tx_core.specs.Histories.{declared};
 ghost use Rattle.tx_core.specs.Recording.{MayRecord};
+ghost use Rattle.tx_core.specs.Worlds.{IsWorldRun};
 ghost use Rattle.tx_client.specs.Sessions.{with_passed, finish_of};
 ghost use Rattle.tx_client.specs.Statuses.{lies_above};
 ghost use Rattle.tx_client.specs.Calls.{HasHeard, Records, IsDecidedSo};
+ghost use Rattle.tx_client.specs.Facts.{standing};
 
 use super::{Session, add};
 use crate::resolved::{Decision, Met, Resolved};
@@ -37,6 +40,14 @@ impl<J: Naming> Session<J> {
         let fate = self.transaction.decision()?;
         let told = self.seat.tell();
         Some(Decision::new(self.transaction.start(), fate, told))
+    }
+
+    /// Shows what its seat has seen declared of its transaction: its buffer under its terms, once it has declared, and else nothing.
+    pub fn show(&self)
+        ensures run { IsWorldRun J.bounds self.now.seat.events }
+        ensures stands { declared self.now.seat.events self.now.state.start ≡ standing self.now.state.start self.now.state.buffer self.now.state.declared }
+    {
+        let _ = &self.transaction;
     }
 
     /// Whether a lock stood in its way.

@@ -1,6 +1,6 @@
 use Rattle.std.proofs.Common.{ap, sym, ◌∙◌, option_map}
 use Rattle.tx_steps.specs.Lines.{data_of}
-use Rattle.tx_script.proofs.Bounds.{fits}
+use Rattle.tx_steps.proofs.RisingBounds.{fits}
 use Rattle.tx_script.proofs.opening.bounds_at.Goals as goal
 
 pub returns-clause-rising : goal.returns-clause-rising

@@ -1,6 +1,6 @@
 use Rattle.std.proofs.Common.{◌≡◌, Some, option_map, sym, ap, ◌∙◌, arith}
 use Rattle.tx_steps.specs.Lines.{data_of, bounds_in}
-use Rattle.tx_run.proofs.Bounds.{fits}
+use Rattle.tx_steps.proofs.RisingBounds.{fits}
 use Rattle.tx_run.proofs.script.Reading.opens.Goals as goal
 
 pub returns-in-Ok-Some : goal.returns-in-Ok-Some

@@ -1,0 +1,39 @@
+//! The families that the regions of a run start with.
+ghost use Rattle.std.specs.Prelude.{◌≡◌, All, IfOk, vec_len};
+ghost use Rattle.tx_cells.specs.Contents.{nothing_held};
+
+use std::alloc::Global;
+use tx_cells::{Families, Fresh};
+use tx_types::Fault;
+
+/// Makes the families of a region.
+pub trait Makes<F: Families> {
+    /// Families that hold nothing.
+    fn make(&self, alloc: Global) -> Result<F, Fault>
+        ensures { IfOk result (λ f. F.content f ≡ (λ k. nothing_held)) };
+}
+
+/// Makes families of their own for each region.
+#[derive(Clone, Copy, Debug)]
+pub struct Plain;
+
+impl<F: Fresh> Makes<F> for Plain {
+    fn make(&self, alloc: Global) -> Result<F, Fault> {
+        Ok(F::fresh(alloc))
+    }
+}
+
+/// Families for so many regions.
+pub(crate) fn families<F: Families + Drop, M: Makes<F>>(
+    alloc: Global,
+    make: &M,
+    count: usize,
+) -> Result<Vec<F>, Fault>
+    ensures { IfOk result (λ fs. (vec_len fs ≡ count) × All (λ f. F.content f ≡ (λ k. nothing_held)) fs.items) }
+{
+    let mut families = Vec::with_capacity(alloc, count)?;
+    for _i in 0..count {
+        families.push(make.make(alloc)?)?;
+    }
+    Ok(families)
+}
