@@ -1,0 +1,7 @@
+//! The steps of the one-step machine, read off a run of the protocol as its events come: what a check of the run then looks at.
+#![tactic(auto)]
+
+mod pending;
+mod trace;
+
+pub use trace::Trace;
