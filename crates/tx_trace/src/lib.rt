@@ -2,6 +2,8 @@
 #![tactic(auto)]
 
 mod pending;
+#[cfg(test)]
+mod tests;
 mod trace;
 
 pub use trace::Trace;
