@@ -10,3 +10,4 @@ pub mod Leaves
 pub mod Texts
 -- Lists, entry by entry.
 pub mod Lists
+pub mod StepLines

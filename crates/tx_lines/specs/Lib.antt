@@ -7,3 +7,4 @@ pub mod Words
 pub mod Versions
 pub mod Replies
 pub mod Faults
+pub mod Steps

@@ -16,6 +16,7 @@ mod reply;
 mod rows;
 mod scan;
 mod status;
+mod step;
 #[cfg(test)]
 mod tests;
 mod text;
@@ -29,5 +30,6 @@ pub use output::{finish, send};
 pub use part::{MAX_PARTS, Part, Parts, parts_of};
 pub use reply::{REFUSAL_BYTES, Reply, put_reply};
 pub use scan::scanned;
+pub use step::put_step;
 pub use text::{put_number, put_text};
 pub use value::value_of;

@@ -1,0 +1,115 @@
+-- A trace goes on with each request.
+use Rattle.std.proofs.Common.{◌≡◌, ◌≢◌, ℕ, true, List, [], ◌∷◌, ◌++◌, None, Result, Ok, Err, refl, sym, ap, subst}
+use Rattle.std.specs.Result.{OnOk}
+use Rattle.tx_types.specs.declared.key.Key.{Key}
+use Rattle.tx_types.specs.declared.mutation.Change.{Change}
+use Rattle.tx_plan.specs.declared.body.Body.{Body}
+use Rattle.tx_plan.specs.declared.body.Body.TheVariants as body
+use Rattle.tx_plan.specs.declared.body.Get.{Get}
+use Rattle.tx_plan.specs.declared.body.Scan.{Scan}
+use Rattle.tx_plan.specs.declared.body.Prewrite.{Prewrite}
+use Rattle.tx_plan.specs.declared.body.Commit.{Commit}
+use Rattle.tx_plan.specs.declared.body.BatchRollback.{BatchRollback}
+use Rattle.tx_plan.specs.declared.body.TxnHeartBeat.{TxnHeartBeat}
+use Rattle.tx_plan.specs.declared.body.CheckTxnStatus.{CheckTxnStatus}
+use Rattle.tx_plan.specs.declared.body.CheckSecondaryLocks.{CheckSecondaryLocks}
+use Rattle.tx_plan.specs.declared.body.ResolveLock.{ResolveLock}
+use Rattle.tx_plan.specs.declared.answer.Answer.{Answer}
+use Rattle.tx_plan.specs.declared.answer.Answer.TheVariants.{Prewritten, Committed, RolledBack, Missing}
+use Rattle.tx_plan.specs.Answers.{start_in}
+use Rattle.tx_plan.specs.Cells.{Cells}
+use Rattle.tx_machine.specs.Machine.{Open, Done}
+use Rattle.tx_core.specs.declared.event.Taken.{Taken}
+use Rattle.tx_core.specs.declared.event.Event.TheVariants.{Took}
+use Rattle.tx_core.specs.Histories.{History, declared, is_first, left}
+use Rattle.tx_core.specs.Decisions.{NoEffect, effect, decided, fate_in}
+use Rattle.tx_core.specs.Worlds.{IsWorldRun}
+use Rattle.tx_core.specs.Shadow.{reading}
+use Rattle.tx_core.proofs.Basics.{some_of}
+use Rattle.tx_core.proofs.requests.Good.{took}
+use Rattle.tx_trace.specs.declared.log.Log.{Log}
+use Rattle.tx_trace.specs.Logs.{steps_of, Keeps, GoesOn, Writes, Tells, Prewrites}
+use Rattle.tx_trace.proofs.Answering.{reads, tells}
+use Rattle.tx_trace.proofs.Locking.{locked}
+
+-- what follows of a fact that holds where a call went well
+pub on_ok : {T E : Type 0} (r : Result T E) (A B : Type 0) → (A → B) → OnOk r A → OnOk r B
+on_ok (Ok x) A B f a = f a
+on_ok (Err e) A B f a = tt
+
+-- the trace goes on with this request and answer, of whatever region and with whatever number loaded
+abbrev pub Follow : Log → Body → Answer → Log → Type 0
+Follow old body a new = (x : Taken) → x.body ≡ body → x.answer ≡ a → GoesOn old (Took x) new
+
+module _ (old new : Log) where
+  of_taken : (body : Body) (a : Answer) → ((bounds : List Key) (h : History) (n l : ℕ) → IsWorldRun bounds (Took (took n body l a) ∷ h) → Keeps h old → Keeps (Took (took n body l a) ∷ h) new) → Follow old body a new
+  of_taken body a all x e f bounds h run t =
+      let same : took x.region body x.loaded a ≡ x = λ i. record { region = x.region; body = sym e i; loaded = x.loaded; answer = sym f i } in
+      subst (λ y. Keeps (Took y ∷ h) new) same (all bounds h x.region x.loaded (subst (λ y. IsWorldRun bounds (Took y ∷ h)) (sym same) run) t)
+
+  -- ---- reads
+
+  pub get_adds : (b : Get) (a : Answer) → Writes (reading (body.Get b) a) old new → Follow old (body.Get b) a new
+  get_adds b a w = of_taken (body.Get b) a (λ bounds h n l run t. reads bounds h (took n (body.Get b) l a) run old new t refl w)
+
+  pub scan_adds : (b : Scan) (a : Answer) → Writes (reading (body.Scan b) a) old new → Follow old (body.Scan b) a new
+  scan_adds b a w = of_taken (body.Scan b) a (λ bounds h n l run t. reads bounds h (took n (body.Scan b) l a) run old new t refl w)
+
+  -- ---- requests that name a transaction
+
+  no_commit : (cells : Key → Cells) (b : Commit) (a : Answer) → fate_in a ≡ None → effect cells (body.Commit b) a ≡ NoEffect
+  no_commit cells b (Committed c) e = absurd (cc e)
+  no_commit cells b _ e = refl
+
+  no_rollback : (cells : Key → Cells) (b : BatchRollback) (a : Answer) → fate_in a ≡ None → effect cells (body.BatchRollback b) a ≡ NoEffect
+  no_rollback cells b RolledBack e = absurd (cc e)
+  no_rollback cells b _ e = refl
+
+  no_check : (cells : Key → Cells) (b : CheckTxnStatus) (a : Answer) → fate_in a ≡ None → effect cells (body.CheckTxnStatus b) a ≡ NoEffect
+  no_check cells b RolledBack e = absurd (cc e)
+  no_check cells b _ e = refl
+
+  no_missing : (cells : Key → Cells) (b : CheckSecondaryLocks) (a : Answer) → fate_in a ≡ None → effect cells (body.CheckSecondaryLocks b) a ≡ NoEffect
+  no_missing cells b Missing e = absurd (cc e)
+  no_missing cells b _ e = refl
+
+  no_resolve : (h : History) (cells : Key → Cells) (b : ResolveLock) (a : Answer) → decided h b.start ≡ Done b.fate → decided h b.start ≡ Open → effect cells (body.ResolveLock b) a ≡ NoEffect
+  no_resolve h cells b a done still = absurd (cc (done, still))
+
+  no_prewrite : (cells : Key → Cells) (b : Prewrite) (a : Answer) → ((m : ℕ) → a ≢ Prewritten m) → effect cells (body.Prewrite b) a ≡ NoEffect
+  no_prewrite cells b (Prewritten m) other = absurd (other m refl)
+  no_prewrite cells b _ other = refl
+
+  pub commit_adds : (b : Commit) (a : Answer) → Tells b.start (fate_in a) old new → Follow old (body.Commit b) a new
+  commit_adds b a w = of_taken (body.Commit b) a (λ bounds h n l run t. tells bounds h (took n (body.Commit b) l a) run old new t b.start refl refl run.1.allowed.of run.1.allowed.stands (λ e still. no_commit (left h n).cells b a e) w)
+
+  pub rollback_adds : (b : BatchRollback) (a : Answer) → Tells b.start (fate_in a) old new → Follow old (body.BatchRollback b) a new
+  rollback_adds b a w = of_taken (body.BatchRollback b) a (λ bounds h n l run t. tells bounds h (took n (body.BatchRollback b) l a) run old new t b.start refl refl run.1.allowed.of run.1.allowed.stands (λ e still. no_rollback (left h n).cells b a e) w)
+
+  pub check_adds : (b : CheckTxnStatus) (a : Answer) → Tells b.start (fate_in a) old new → Follow old (body.CheckTxnStatus b) a new
+  check_adds b a w = of_taken (body.CheckTxnStatus b) a (λ bounds h n l run t. tells bounds h (took n (body.CheckTxnStatus b) l a) run old new t b.start refl refl run.1.allowed.of run.1.allowed.stands (λ e still. no_check (left h n).cells b a e) w)
+
+  pub secondary_adds : (b : CheckSecondaryLocks) (a : Answer) → Tells b.start (fate_in a) old new → Follow old (body.CheckSecondaryLocks b) a new
+  secondary_adds b a w = of_taken (body.CheckSecondaryLocks b) a (λ bounds h n l run t. tells bounds h (took n (body.CheckSecondaryLocks b) l a) run old new t b.start refl refl run.1.allowed.of run.1.allowed.stands (λ e still. no_missing (left h n).cells b a e) w)
+
+  pub beat_adds : (b : TxnHeartBeat) (a : Answer) → Tells b.start (fate_in a) old new → Follow old (body.TxnHeartBeat b) a new
+  beat_adds b a w = of_taken (body.TxnHeartBeat b) a (λ bounds h n l run t. (let of = some_of (declared h b.start) run.1.allowed in tells bounds h (took n (body.TxnHeartBeat b) l a) run old new t b.start refl refl of.0 of.1 (λ e still. refl) w))
+
+  pub resolve_adds : (b : ResolveLock) (a : Answer) → Tells b.start (fate_in a) old new → Follow old (body.ResolveLock b) a new
+  resolve_adds b a w = of_taken (body.ResolveLock b) a (λ bounds h n l run t. (let of = some_of (declared h b.start) run.1.allowed.stands in tells bounds h (took n (body.ResolveLock b) l a) run old new t b.start refl refl of.0 of.1 (λ e still. no_resolve h (left h n).cells b a run.1.allowed.decision still) w))
+
+  some_set : (set : List Change) (k : Key) → is_first set k ≡ true → set ≢ []
+  some_set [] k e none = cc e
+  some_set (c ∷ cs) k e none = cc none
+
+  prewrite_other : (b : Prewrite) (a : Answer) → ((m : ℕ) → a ≢ Prewritten m) → Tells b.start (fate_in a) old new → Follow old (body.Prewrite b) a new
+  prewrite_other b a other w = of_taken (body.Prewrite b) a (λ bounds h n l run t. tells bounds h (took n (body.Prewrite b) l a) run old new t b.start refl refl run.1.allowed.of run.1.allowed.stands (λ e still. no_prewrite (left h n).cells b a other) w)
+
+  pub prewrite_adds : (b : Prewrite) (a : Answer) → Prewrites b a old new → Follow old (body.Prewrite b) a new
+  prewrite_adds b (Prewritten m) w = of_taken (body.Prewrite b) (Prewritten m) (λ bounds h n l run t. locked bounds h n b l m run old new t (some_set run.1.allowed.of.changes b.primary run.1.allowed.primary) w)
+  prewrite_adds b a w = prewrite_other b a (λ m e. cc e) w
+
+-- ---- requests of a whole region
+
+pub region_adds : (old : Log) (body : Body) (a : Answer) → start_in body ≡ None → reading body a ≡ [] → Follow old body a old
+region_adds old body a none unread = of_taken old old body a (λ bounds h n l run t. reads bounds h (took n body l a) run old old t none (record { steps = sym (ap (λ r. r ++ steps_of old) unread); same = λ q. refl }))

@@ -1,0 +1,52 @@
+-- What a trace keeps, as callers see it.
+use Rattle.std.specs.Prelude.{ℕ, List, ◌∷◌, map, reverse, Option, Some, None, option_map}
+use Rattle.std.specs.BTreeMap as tree
+use Rattle.std.specs.Map.{lookup}
+use Rattle.std.specs.Ordering.{nat_cmp}
+use Rattle.tx_types.specs.declared.key.Key.{Key}
+use Rattle.tx_machine.specs.declared.step.Step.{Step}
+use Rattle.tx_core.specs.declared.event.Event.{Event}
+use Rattle.tx_core.specs.Histories.{History}
+use Rattle.tx_core.specs.Worlds.{IsWorldRun}
+use Rattle.tx_trace.specs.declared.pending.Pending.{Pending}
+use Rattle.tx_trace.specs.declared.pending.Pending.TheVariants as pending
+use Rattle.tx_trace.specs.declared.log.Log.{Log}
+use Rattle.tx_trace.specs.Pending.{Kept}
+use Rattle.tx_trace.specs.Logs.{Follows}
+
+-- what a transaction waits for: the keys that are left and the greatest minimum so far, or none where it waits for its primary alone
+abbrev pub Waits : Type 0
+Waits = Option (List Key × ℕ)
+
+-- the steps, newest first, and by start what each transaction that is declared and not decided waits for
+pub record Noted : Type 0 where
+  pub steps : List Step
+  pub waits : List (ℕ × Waits)
+
+abbrev pub waits_of : Pending → Waits
+waits_of pending.Primary = None
+waits_of (pending.Locks locks) = Some (locks.left.keys, locks.min)
+
+abbrev pub pending_of : Waits → Pending
+pending_of None = pending.Primary
+pending_of (Some x) = pending.Locks (record { left = record { keys = x.0 }; min = x.1 })
+
+-- what a log has
+abbrev pub noted : Log → Noted
+noted log = record { steps = reverse log.steps.items; waits = map (λ e. (e.0, waits_of e.1)) log.pending.entries }
+
+-- what each transaction waits for
+abbrev pub kept_of : List (ℕ × Waits) → Kept
+kept_of waits t = option_map pending_of (lookup (tree.is_at (nat_cmp t)) waits)
+
+-- A trace of a history has just the steps of the machine that are read off it, and each transaction stands as it does there.
+abbrev pub Traces : History → Noted → Type 0
+Traces h n = Follows h n.steps (kept_of n.waits)
+
+-- The trace goes on with an event: of whatever run it was, it is then of that run with the event.
+abbrev pub Adds : Noted → Event → Noted → Type 0
+Adds old e new = (bounds : List Key) (h : History) → IsWorldRun bounds (e ∷ h) → Traces h old → Traces (e ∷ h) new
+
+-- the trace is of the histories that it was of
+abbrev pub Stays : Noted → Noted → Type 0
+Stays old new = (h : History) → Traces h old → Traces h new
