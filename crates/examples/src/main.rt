@@ -8,14 +8,16 @@ use std::fs;
 use std::rt::Files;
 use tx_script::{check, simulate};
 
-const SCRIPTS: [&str; 10] = [
+const SCRIPTS: [&str; 12] = [
     "abandoned_async.script",
     "collection.script",
     "commit_then_read.script",
     "late_prewrite_commits.script",
     "late_prewrite_is_refused.script",
+    "long_values.script",
     "lost_reply.script",
     "push.script",
+    "rollback_shares_a_record.script",
     "truncated_script.script",
     "two_regions.script",
     "write_conflict.script",

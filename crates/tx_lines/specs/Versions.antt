@@ -39,5 +39,5 @@ record_data rec = array (item (stamp_data rec.at) (record_words rec.at rec.head)
 -- the lock, the write records from the newest on, and the starts of the values that are kept apart, from the newest on
 abbrev pub copy_words : KeyCopy → Items
 copy_words copy = item (lock_data copy.lock)
-    (item (array (items_of (map record_data copy.records.items)))
-    (item (array (items_of (map stamp_data copy.values.items))) no_items))
+    (item (array (items_of (map record_data copy.records)))
+    (item (array (items_of (map stamp_data copy.values))) no_items))

@@ -1,9 +1,12 @@
 use crate::{Reply, put_reply};
+use std::alloc::Global;
 use tx_cells::{KeyCopy, RecordAt};
 use tx_client::{Status, WaitCause};
 use tx_core::Answer;
 use tx_plan::{LockHead, RecordHead};
-use tx_types::{Fault, Key, KeyValue, KeyValues, LockInfo, LockKind, Mode, Secondaries, Ts, Value};
+use tx_types::{
+    Fault, Items, Key, KeyValue, KeyValues, LockInfo, LockKind, Mode, Secondaries, Ts, Value,
+};
 
 // Whether this is the line of a reply.
 fn says(rt: &HostRuntime, number: u64, reply: &Reply, line: &str) -> bool {
@@ -127,6 +130,14 @@ fn rows(rt: HostRuntime) {
     assert!(rt; says_rows(&rt, &[odd], "[12,\"rows\",[[null,\"\\\"é\\n\"]]]\n"));
 }
 
+fn list<T: Copy + Drop>(alloc: Global, items: &[T]) -> Result<Items<T>, Fault> {
+    let mut list = Items::new(alloc);
+    for item in items {
+        list.push(*item)?;
+    }
+    Ok(list)
+}
+
 fn copy_of(
     rt: &HostRuntime,
     kind: Option<LockKind>,
@@ -142,8 +153,8 @@ fn copy_of(
     });
     Ok(KeyCopy {
         lock,
-        records: Vec::from_slice(rt.alloc(), records)?,
-        values: Vec::from_slice(rt.alloc(), values)?,
+        records: list(rt.alloc(), records)?,
+        values: list(rt.alloc(), values)?,
     })
 }
 

@@ -7,6 +7,7 @@ use Rattle.tx_types.specs.declared.lock.LockInfo.{LockInfo}
 use Rattle.tx_plan.specs.declared.body.Body.{Body}
 use Rattle.tx_plan.specs.declared.body.Body.TheVariants as request
 use Rattle.tx_plan.specs.declared.answer.Answer.{Answer}
+use Rattle.tx_cells.specs.declared.copies.KeyCopy.{KeyCopy}
 use Rattle.tx_core.specs.declared.event.Declaration.{Declaration}
 use Rattle.tx_core.specs.declared.event.Outcome.{Outcome}
 use Rattle.tx_core.specs.Histories.{History, last, Begins}
@@ -23,19 +24,21 @@ use Rattle.tx_play.specs.declared.post.Way.TheVariants.{Plain, Lose, LoseReply, 
 use Rattle.tx_lines.specs.declared.reply.Reply.{Reply}
 use Rattle.tx_lines.specs.declared.reply.Reply.TheVariants as reply
 use Rattle.tx_play.specs.Posts.{Course, taken, holding}
-use Rattle.tx_play.specs.Steps.{Deed, put, delete, lock, get, scan, declare, prewrite, draw, commit, abort, heartbeat, course_of, Call, begin, acts, finish, stop, deliver, read, tick, resolve, gc}
-use Rattle.tx_play.specs.Scenes.{Scene, Turn, goes, inquires, stops, is_refused, later_of, calls, is_key, is_value, is_name, at_stage, at_history, with_session, began, declared_in, read_by, said_by, asked, sent, runs, runs_to, first_free, live_at, enters, may_go, is_too_many, deeds_by, deeds, delivered_by, delivers, finishes_by, begins_at, in_session, turn, learns, resolves_by, collected_as}
+use Rattle.tx_play.specs.Steps.{Deed, put, delete, lock, get, scan, declare, prewrite, draw, commit, abort, heartbeat, course_of, Call, begin, acts, finish, stop, deliver, read, versions, tick, resolve, gc}
+use Rattle.tx_play.specs.Scenes.{Scene, Turn, goes, inquires, shows, stops, is_refused, later_of, calls, is_key, is_value, is_name, at_stage, at_history, with_session, began, declared_in, read_by, said_by, asked, sent, runs, runs_to, first_free, live_at, enters, may_go, is_too_many, deeds_by, deeds, delivered_by, delivers, finishes_by, begins_at, in_session, turn, learns, resolves_by, collected_as}
 use Rattle.tx_play.specs.Plays.{Leads, Played, Plays}
 
 -- Whatever a turn leads to, and wherever it asks a region, h has happened there; it stops at most where `from` has happened.
 abbrev pub AllGrow : History → History → Turn → Type 0
 AllGrow from h (goes scene said refused) = Begins h scene.stage.history
 AllGrow from h (inquires stage body more) = Begins h stage.history × ((a : Answer) → AllGrow from stage.history (more a))
+AllGrow from h (shows stage key more) = Begins h stage.history × ((copy : KeyCopy) → AllGrow from stage.history (more copy))
 AllGrow from h (stops cause) = Begins h from
 
 grows_more : (from l h : History) (t : Turn) → Begins l h → AllGrow from h t → AllGrow from l t
 grows_more from l h (goes scene said refused) b grow = begins_more l h scene.stage.history b grow
 grows_more from l h (inquires stage body more) b grow = (begins_more l h stage.history b grow.0, grow.1)
+grows_more from l h (shows stage key more) b grow = (begins_more l h stage.history b grow.0, grow.1)
 grows_more from l h (stops cause) b grow = begins_more l h from b grow
 
 either : (from h : History) (b : Bool) (t u : Turn) → AllGrow from h t → AllGrow from h u → AllGrow from h (cond b t u)
@@ -145,6 +148,8 @@ module _ (bounds : List Key) where
     turn_grows refused (read key at) =
         either h h (not (is_key key)) _ _ (begins_all h) (calls_grow refused (λ left. asked bounds left scene (request.Get (record { key = key; at = at; bypass = [] })) (λ c next rest. goes next (delivered_by c) rest))
         (λ left. asked_grows bounds h left scene (request.Get (record { key = key; at = at; bypass = [] })) (λ c next rest. goes next (delivered_by c) rest) (λ c next rest. begins_all next.stage.history)))
+    turn_grows refused (versions key) =
+        either h h (not (is_key key)) _ _ (begins_all h) (calls_grow refused (λ left. shows scene.stage key (λ copy. goes scene (reply.Versions copy) left)) (λ left. (begins_all h, λ copy. begins_all h)))
     turn_grows refused (resolve name now) = session_grows (live_at scene name) _ (λ k s. resolve_grows refused k s now s.met)
     turn_grows refused (tick n) = either h h (nat_eq n 0) _ _ (begins_all h) (either h h (nat_le n scene.ticks) _ _ (inr (begins_all h)) (begins_all h))
     turn_grows refused (gc safe) = runs_grow bounds h Plain refused scene (gc_walk bounds safe) (λ r next left. goes next (collected_as r) left) (λ r next left. begins_all next.stage.history)
@@ -156,6 +161,7 @@ module _ (bounds : List Key) where
       → (t : Turn) → AllGrow from h t → Leads bounds Goes Stops t → Begins h end
   leads_begin Goes Stops from h end go halt (goes scene said refused) grow leads = begins_more h scene.stage.history end grow (go scene said refused leads)
   leads_begin Goes Stops from h end go halt (inquires stage body more) grow (a, answers, leads) = begins_more h stage.history end grow.0 (leads_begin Goes Stops from stage.history end go halt (more a) (grow.1 a) leads)
+  leads_begin Goes Stops from h end go halt (shows stage key more) grow (copy, is, leads) = begins_more h stage.history end grow.0 (leads_begin Goes Stops from stage.history end go halt (more copy) (grow.1 copy) leads)
   leads_begin Goes Stops from h end go halt (stops c) grow leads = begins_more h from end grow (halt c leads)
 
   pub plays_begin : (steps : List Call) (scene : Scene) (refused : List Bool) (p : Played) → Plays bounds scene refused steps p → Begins scene.stage.history p.history

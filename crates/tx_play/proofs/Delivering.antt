@@ -66,7 +66,7 @@ module _ (bounds : List Key) (name : List ℕ) where
 
   -- ---- the step
 
-  seats_stay : (old new : Held) → new.clerk ≡ old.clerk → new.places ≡ old.places → (n : ℕ) → AllSeated bounds (suc n) old → AllSeated bounds n new
+  pub seats_stay : (old new : Held) → new.clerk ≡ old.clerk → new.places ≡ old.places → (n : ℕ) → AllSeated bounds (suc n) old → AllSeated bounds n new
   seats_stay old new clerk places n h = record {
     clerk = ap (λ (c : Known). c.seat) clerk ∙ h.clerk;
     places = subst (AreSeated (length bounds + 2) n) (sym places) (seated_fewer (length bounds + 2) (suc n) n old.places (omega arith) h.places);

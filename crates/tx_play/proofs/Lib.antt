@@ -40,6 +40,8 @@ pub mod Entering
 pub mod Asking
 -- What a delivery gives is its turn.
 pub mod Delivering
+-- What a step gives that has a key shown is its turn.
+pub mod Inspecting
 -- A walk by the way that loses nothing.
 pub mod Directly
 -- What it gives to resolve a lock that a session met, and to collect.

@@ -2,15 +2,16 @@
 use Rattle.std.proofs.Common.{◌≡◌, ℕ, Bool, List, [], ◌∷◌, sym, ap, subst, ◌∙◌}
 use Rattle.tx_types.specs.declared.fault.Cause.{Cause}
 use Rattle.tx_types.specs.declared.key.Key.{Key}
-use Rattle.tx_core.specs.Histories.{History, Begins, last}
-use Rattle.tx_core.specs.Worlds.{IsWorldRun}
+use Rattle.tx_cells.proofs.OneCopy.{one_copy}
+use Rattle.tx_core.specs.Histories.{History, Begins, last, left}
+use Rattle.tx_core.specs.Worlds.{IsWorldRun, route}
 use Rattle.tx_core.proofs.seats.Beginnings.{begins_all, run_beginning}
 use Rattle.tx_core.proofs.unique.OneAnswer.{one_answer}
 use Rattle.tx_lines.specs.declared.reply.Reply.{Reply}
 use Rattle.tx_play.specs.declared.step.End.TheVariants.{Faulted}
 use Rattle.tx_play.specs.Posts.{region_for}
 use Rattle.tx_play.specs.Steps.{Call}
-use Rattle.tx_play.specs.Scenes.{Scene, opening, Turn, goes, inquires, stops, turn}
+use Rattle.tx_play.specs.Scenes.{Scene, opening, Turn, goes, inquires, shows, stops, turn}
 use Rattle.tx_play.specs.Plays.{Leads, Played, before, ending, Plays, IsPlay}
 use Rattle.tx_play.proofs.AllGrow.{AllGrow, turn_grows, leads_begin, plays_begin}
 
@@ -25,6 +26,8 @@ module _ (bounds : List Key) where
       let run_here : IsWorldRun bounds stage.history = run_beginning bounds stage.history end run (leads_begin bounds Goes Stops from stage.history end go stop (more a) (grow.1 a) x) in
       one_lead Goes Went Stops Stopped R from stage.history end run go stop on off (more a) (grow.1 a) x
       (subst (λ c. Leads bounds Went Stopped (more c)) (one_answer bounds stage.history (region_for bounds body) (last stage.history) body b a run_here also answers) y)
+  one_lead Goes Went Stops Stopped R from h end run go stop on off (shows stage key more) grow (a, is, x) (b, also, y) =
+      one_lead Goes Went Stops Stopped R from stage.history end run go stop on off (more a) (grow.1 a) x (subst (λ c. Leads bounds Went Stopped (more c)) (one_copy ((left stage.history (route bounds key)).cells key) b a also is) y)
   one_lead Goes Went Stops Stopped R from h end run go stop on off (stops c) grow x y = off c x y
 
   one_play : (steps : List Call) (scene : Scene) (refused : List Bool) (p q : Played) → IsWorldRun bounds p.history → Plays bounds scene refused steps p → Plays bounds scene refused steps q → q ≡ p

@@ -5,7 +5,7 @@ use Rattle.tx_types.specs.declared.key.Key.{Key}
 use Rattle.tx_lines.specs.declared.reply.Reply.{Reply}
 use Rattle.tx_play.specs.declared.step.End.TheVariants.{Well, Faulted}
 use Rattle.tx_play.specs.Steps.{Call}
-use Rattle.tx_play.specs.Scenes.{Scene, opening, Turn, goes, inquires, stops, turn}
+use Rattle.tx_play.specs.Scenes.{Scene, opening, Turn, goes, inquires, shows, stops, turn}
 use Rattle.tx_play.specs.Plays.{Leads, Played, before, ending, Plays}
 use Rattle.tx_play.specs.Places.{Held, scene_of, own, AllSeated, Goes, GoesTo, Turned}
 use Rattle.tx_play.specs.Scripts.{EndsAt, BreaksAt, IsOpening}
@@ -47,6 +47,7 @@ module _ (bounds : List Key) where
   lead_to : (next : Scene) (reply : Reply) (later : List Bool) (Goes : Scene → Reply → List Bool → Type 0) (Stops : Cause → Type 0) → Goes next reply later → (t : Turn) → Leads bounds (λ n said left. (n ≡ next) × (said ≡ reply) × (left ≡ later)) (λ c. ⊥) t → Leads bounds Goes Stops t
   lead_to next reply later Goes Stops here (goes n said left) (a, b, c) = subst (λ x. Goes x said left) (sym a) (subst (λ x. Goes next x left) (sym b) (subst (λ x. Goes next reply x) (sym c) here))
   lead_to next reply later Goes Stops here (inquires stage body more) (a, answers, leads) = (a, answers, lead_to next reply later Goes Stops here (more a) leads)
+  lead_to next reply later Goes Stops here (shows stage key more) (copy, is, leads) = (copy, is, lead_to next reply later Goes Stops here (more copy) leads)
   lead_to next reply later Goes Stops here (stops c) leads = absurd leads
 
   module _ (first e : Held) (steps : List Call) (old new : List Reply) where

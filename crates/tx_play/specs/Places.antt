@@ -17,7 +17,7 @@ use Rattle.tx_lines.specs.declared.reply.Reply.{Reply}
 use Rattle.tx_lines.specs.declared.reply.Reply.TheVariants as replies
 use Rattle.tx_play.specs.Posts.{Desk, stage_of, Stage, made_by, IsDone, AreNumbered}
 use Rattle.tx_play.specs.Steps.{Call}
-use Rattle.tx_play.specs.Scenes.{Place, free, session, Scene, Turn, stops, seat_at, resolves, delivers, turn}
+use Rattle.tx_play.specs.Scenes.{Place, free, session, Scene, Turn, stops, seat_at, resolves, delivers, inspects, turn}
 use Rattle.tx_play.specs.Plays.{Leads}
 
 -- what a place has
@@ -165,6 +165,13 @@ pub record Handed (bounds : List Key) (name : List ℕ) (reply : Reply) (from to
 abbrev pub Delivered : List Key → List ℕ → Result Reply Cause → Desk → Desk → Type 0
 Delivered bounds name (Ok reply) from to = Handed bounds name reply from to
 Delivered bounds name (Err cause) from to = (to ≡ from) × ((refused : List Bool) (ticks : ℕ) (names : List ℕ → Option ℕ) (places : List Place) → delivers bounds refused (scene_with (stage_of from) ticks names places) ((stage_of from).held name) ≡ stops cause)
+
+-- What a step gives that has a key shown: no event was made, and where none came, it is exact.
+pub record Inspected (bounds : List Key) (key : List ℕ) (reply : Reply) (from to : Desk) : Type 0 where
+  pub counts : at_regions to ≤ at_regions from
+  pub grows : length from.newest ≤ length to.newest
+  pub exact : length to.newest ≤ length from.newest
+      → ((ticks : ℕ) (names : List ℕ → Option ℕ) (places : List Place) → GoesTo bounds (λ refused. inspects refused (scene_with (stage_of from) ticks names places) key) reply (scene_with (stage_of to) ticks names places))
 
 -- a step goes on from the scene that the engine held to the one that it then holds, or it stops
 abbrev pub Turned : List Key → Call → Result Reply Cause → Held → Held → Type 0

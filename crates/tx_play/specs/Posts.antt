@@ -1,13 +1,16 @@
 -- What one thread's way to the regions makes of requests.
-use Rattle.std.specs.Prelude.{◌≡◌, ◌≤◌, ◌⊎◌, ℕ, suc, ◌+◌, cond, List, [], ◌∷◌, map, length, Option, Some, None, option_map, is_some, Ok, Err, String, string_bytes, bytes_eq}
+use Rattle.std.specs.Prelude.{◌≡◌, ◌≤◌, ◌⊎◌, ℕ, suc, ◌+◌, cond, List, [], ◌∷◌, map, length, Option, Some, None, option_map, is_some, Result, Ok, Err, IfOk, String, string_bytes, bytes_eq}
 use Rattle.std.specs.Global.{Global}
 use Rattle.std.specs.Map.{lookup, update}
 use Rattle.std.specs.List.{sum_by}
+use Rattle.tx_types.specs.declared.fault.Fault.{Fault}
 use Rattle.tx_types.specs.declared.key.Key.{Key}
 use Rattle.tx_plan.specs.declared.body.Body.{Body}
 use Rattle.tx_plan.specs.declared.body.Body.TheVariants.{Get, Scan, Prewrite, Commit, BatchRollback, TxnHeartBeat, CheckTxnStatus, CheckSecondaryLocks, ResolveLock, RaiseSafe, LocksBelow, Collect}
 use Rattle.tx_plan.specs.declared.answer.Answer.{Answer}
 use Rattle.tx_plan.specs.Answers.{AnswersLeast}
+use Rattle.tx_cells.specs.declared.copies.KeyCopy.{KeyCopy}
+use Rattle.tx_cells.specs.Copies.{Copies}
 use Rattle.tx_core.specs.declared.event.Event.TheVariants.{Took}
 use Rattle.tx_core.specs.Histories.{History, last, left, Begins}
 use Rattle.tx_core.specs.Recording.{part}
@@ -119,6 +122,22 @@ pub record Hands (n : ℕ) (from to : Desk) (q : Asked) (g : Given) : Type 0 whe
   pub held : to.held ≡ from.held
   pub way : to.way ≡ from.way
 
+-- ---- what regions show
+
+-- A region learnt what is newest, what it then knew is newest, and it showed a key; or memory for that was refused. It made no event.
+pub record Showed (k : Known) (from : History) (key : Key) (copied : Result KeyCopy Fault) (new : Known) (to : History) : Type 0 where
+  pub begins : Begins from to
+  pub number : new.seat ≡ k.seat
+  pub counts : made_by new ≤ made_by k
+  pub copies : IfOk copied (λ copy. Copies ((left to k.seat).cells key) copy)
+
+-- one of the regions did
+pub record Displays (n : ℕ) (from to : Desk) (key : Key) (copied : Result KeyCopy Fault) : Type 0 where
+  pub begins : Begins from.newest to.newest
+  pub counts : sum_by made_by to.regions ≤ sum_by made_by from.regions
+  pub held : to.held ≡ from.held
+  pub copies : IfOk copied (λ copy. Copies ((left to.newest n).cells key) copy)
+
 -- ---- the ways
 
 -- no reply came
@@ -221,6 +240,10 @@ module _ (bounds : List Key) where
   -- the region answers by the case tables from what its events left, with the least minimum for an async lock
   abbrev pub MayAnswerSo : Stage → Body → Answer → Type 0
   MayAnswerSo s body a = AnswersLeast (left s.history (region_for bounds body)) (last s.history) body a
+
+  -- the region of a key shows what its events left there
+  abbrev pub MayShowSo : Stage → Key → KeyCopy → Type 0
+  MayShowSo s key copy = Copies ((left s.history (route bounds key)).cells key) copy
 
   -- what came of a request that a region took, and what it changed
   abbrev pub Met : Stage → Body → Came → Stage → Type 0

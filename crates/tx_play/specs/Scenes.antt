@@ -15,6 +15,7 @@ use Rattle.tx_plan.specs.declared.body.Body.{Body}
 use Rattle.tx_plan.specs.declared.body.Body.TheVariants as request
 use Rattle.tx_plan.specs.declared.answer.Answer.{Answer}
 use Rattle.tx_plan.specs.declared.answer.Answer.TheVariants as answer
+use Rattle.tx_cells.specs.declared.copies.KeyCopy.{KeyCopy}
 use Rattle.tx_core.specs.declared.event.Declaration.{Declaration}
 use Rattle.tx_core.specs.declared.event.Outcome.{Outcome}
 use Rattle.tx_core.specs.declared.event.Event.TheVariants.{Drawn, Began, Declared, Answered, Stopped}
@@ -37,7 +38,7 @@ use Rattle.tx_play.specs.declared.post.Way.TheVariants.{Plain, Lose, LoseReply, 
 use Rattle.tx_lines.specs.declared.reply.Reply.{Reply}
 use Rattle.tx_lines.specs.declared.reply.Reply.TheVariants as reply
 use Rattle.tx_play.specs.Posts.{Course, Stage, with_events, taken, holding}
-use Rattle.tx_play.specs.Steps.{Deed, put, delete, lock, get, scan, declare, prewrite, draw, commit, abort, heartbeat, course_of, Call, begin, acts, finish, stop, resolve, deliver, read, tick, gc}
+use Rattle.tx_play.specs.Steps.{Deed, put, delete, lock, get, scan, declare, prewrite, draw, commit, abort, heartbeat, course_of, Call, begin, acts, finish, stop, resolve, deliver, read, versions, tick, gc}
 
 -- a place: free, or with a live session
 pub data Place : Type 0 where
@@ -57,10 +58,11 @@ abbrev pub opening : ℕ → Scene
 opening n = record { stage = record { history = []; held = λ q. None; kept = 0 }; ticks = 4294967296; names = λ q. None; places = replicate n free }
 
 -- A step goes on with a scene, a reply and the refusals that are left; or a region is first asked, at this stage, and it goes on by the
--- answer; or it stops the script.
+-- answer; or a region shows what it keeps of a key, and it goes on by that; or it stops the script.
 pub data Turn : Type 0 where
   goes : (scene : Scene) (said : Reply) (refused : List Bool) → Turn
   inquires : (stage : Stage) (body : Body) (more : Answer → Turn) → Turn
+  shows : (stage : Stage) (key : Key) (more : KeyCopy → Turn) → Turn
   stops : (cause : Cause) → Turn
 
 -- ---- want of memory: the k-th call that may need memory is refused where the k-th of a list says so
@@ -372,6 +374,14 @@ abbrev pub delivers : List Key → List Bool → Scene → Option Body → Turn
 delivers bounds refused scene None = stops Name
 delivers bounds refused scene (Some body) = asked bounds refused scene body (λ c next left. goes next (delivered_by c) left)
 
+-- ---- what is kept of a key
+
+-- what the region of a key keeps of it is shown: no request is sent, and nothing changes
+abbrev pub inspects : List Bool → Scene → List ℕ → Turn
+inspects refused scene key =
+    if not (is_key key) then goes scene reply.KeyLength refused
+    else calls refused scene (λ left. shows scene.stage key (λ copy. goes scene (reply.Versions copy) left))
+
 -- ---- the steps
 
 -- the step of a session, which has to be live
@@ -412,6 +422,7 @@ module _ (bounds : List Key) where
   turn refused (stop name) scene = in_session (live_at scene name) (λ k s. leaves refused scene k s bounds name)
   turn refused (deliver name) scene = delivers bounds refused scene (scene.stage.held name)
   turn refused (read key at) scene = looks refused scene key at
+  turn refused (versions key) scene = inspects refused scene key
   turn refused (resolve name now) scene = in_session (live_at scene name) (λ k s. resolves bounds refused scene k s now)
   turn refused (tick n) scene = ticks_by refused scene n
   turn refused (gc safe) scene = collects bounds refused scene safe

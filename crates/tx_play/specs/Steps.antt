@@ -5,7 +5,7 @@ use Rattle.tx_play.specs.declared.post.Way.TheVariants.{Plain}
 use Rattle.tx_play.specs.declared.step.Act.{Act}
 use Rattle.tx_play.specs.declared.step.Act.TheVariants.{Put, Delete, Lock, Get, Scan, Declare, Prewrite, Draw, Commit, Abort, Heartbeat}
 use Rattle.tx_play.specs.declared.step.Step.{Step}
-use Rattle.tx_play.specs.declared.step.Step.TheVariants.{Begin, Finish, Stop, Resolve, Deliver, Read, Tick, Gc}
+use Rattle.tx_play.specs.declared.step.Step.TheVariants.{Begin, Finish, Stop, Resolve, Deliver, Read, Versions, Tick, Gc}
 use Rattle.tx_play.specs.declared.step.Step.TheVariants as steps
 use Rattle.tx_play.specs.Posts.{Course, by_name}
 
@@ -24,8 +24,8 @@ pub data Deed : Type 0 where
   heartbeat : (ttl : ℕ) (way : Course) → Deed
 
 -- a step: a session begins under a name; a live session acts, answers its outcome, stops, or has the lock resolved that stood last in its
--- way, at a time; a held request is delivered; a key is read at a timestamp; so many ticks are drawn; old versions are collected at a safe
--- point
+-- way, at a time; a held request is delivered; a key is read at a timestamp; what is kept of a key is shown; so many ticks are drawn; old
+-- versions are collected at a safe point
 pub data Call : Type 0 where
   begin : (name : List ℕ) → Call
   acts : (name : List ℕ) (deed : Deed) → Call
@@ -34,6 +34,7 @@ pub data Call : Type 0 where
   resolve : (name : List ℕ) (now : ℕ) → Call
   deliver : (name : List ℕ) → Call
   read : (key : List ℕ) (at : ℕ) → Call
+  versions : (key : List ℕ) → Call
   tick : (ticks : ℕ) → Call
   gc : (safe : ℕ) → Call
 
@@ -69,5 +70,6 @@ call_of (Stop s) = stop s.now
 call_of (Resolve s now) = resolve s.now now
 call_of (Deliver name) = deliver name.now
 call_of (Read key at) = read key.now at
+call_of (Versions key) = versions key.now
 call_of (Tick ticks) = tick ticks
 call_of (Gc safe) = gc safe

@@ -9,10 +9,12 @@ ghost use Rattle.tx_play.specs.Steps.{course_of, deed_of};
 mod buffer;
 mod delivery;
 mod sending;
+mod versions;
 
 use crate::deeds::buffer::{declare, delete, lock, put};
 pub(crate) use crate::deeds::delivery::deliver;
 use crate::deeds::sending::{abort, commit, draw, get, heartbeat, prewrite, scan};
+pub(crate) use crate::deeds::versions::versions;
 use crate::post::{Post, Way};
 use crate::step::{Act, Reply};
 use std::alloc::Global;

@@ -5,10 +5,10 @@ ghost use Rattle.std.specs.Map.{update};
 ghost use Rattle.std.specs.BTreeMap.{get_by_text};
 ghost use Rattle.tx_play.specs.Places.{Held, Goes, AllSeated, Settled, Turned};
 ghost use Rattle.tx_play.specs.Scenes.{delivered_by, is_name as name_test};
-ghost use Rattle.tx_play.specs.Steps.{begin, acts, finish, stop, resolve, deliver as to_deliver, read, tick, gc, call_of, deed_of};
+ghost use Rattle.tx_play.specs.Steps.{begin, acts, finish, stop, resolve, deliver as to_deliver, read, versions as to_show, tick, gc, call_of, deed_of};
 
 use crate::acts::{begin_at, finish_at, read_at, stop_at, tick_at};
-use crate::deeds::{act, deliver, is_key};
+use crate::deeds::{act, deliver, is_key, versions};
 use crate::places::{Slot, first_free, swap_slot};
 use crate::post::Post;
 use crate::resolving::{Direct, collected_as, gc_at, resolve_at};
@@ -254,6 +254,13 @@ impl<J: Naming, F: Families> Engine<J, F> {
         Ok(reply_to(came))
     }
 
+    // What is kept of a key is shown.
+    fn versions(&mut self, key: &str) -> Result<Reply, Cause>
+        ensures goes { Goes J.bounds self.old self.new (Turned J.bounds (to_show key.now) result self.old self.new) }
+    {
+        Ok(versions(self.alloc, &mut self.direct.post, key))
+    }
+
     // So many ticks are drawn.
     fn tick(&mut self, ticks: u32) -> Result<Reply, Cause>
         requires ready { AllSeated J.bounds 1 self.old }
@@ -297,6 +304,7 @@ impl<J: Naming, F: Families> Engine<J, F> {
             Step::Resolve(name, now) => self.resolve(name, *now),
             Step::Deliver(name) => self.deliver(name),
             Step::Read(key, at) => self.read(key, *at),
+            Step::Versions(key) => self.versions(key),
             Step::Tick(ticks) => self.tick(*ticks),
             Step::Gc(safe) => self.gc(*safe),
         }

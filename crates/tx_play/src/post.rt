@@ -12,6 +12,8 @@ ghost use Rattle.tx_play.specs.declared.post.Way.TheVariants as ways;
 ghost use Rattle.tx_play.specs.Posts.{AreNumbered, AllFit, region_for, by_name, IsHold, IsSet, request_at, Taken, Hands, Twice, IsUntaken, HeldUnder, IsDone, stage_of};
 ghost use Rattle.tx_play.specs.Scenes.{may_go, is_crowded, is_name as name_test};
 
+mod showing;
+
 use std::alloc::Global;
 use std::collections::BTreeMap;
 use std::marker::Model;

@@ -40,6 +40,8 @@ pub enum Step<'a> {
     Deliver(&'a str),
     /// A key is read at a timestamp, by no session.
     Read(&'a str, Ts),
+    /// What is kept of a key is shown.
+    Versions(&'a str),
     /// So many ticks are drawn, at least one, by one seat for all such steps.
     Tick(u32),
     /// Old versions are collected at a safe point, in each region.

@@ -47,7 +47,7 @@ impl<F: Families> Records<F> {
 
     /// What is shown of a key.
     pub fn cells_of(&self, key: &Key) -> Result<KeyCopy, Fault>
-        ensures copies { IfOk result (λ copy. Copies (F.content self.now.families key.now) copy) }
+        ensures copies { IfOk result (λ copy. Copies ((region_of F.content self.now).cells key.now) copy) }
         ensures err { IfErr result (λ e. e ≡ Fault.OutOfMemory) }
     {
         self.families.cells(self.alloc, key)

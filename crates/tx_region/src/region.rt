@@ -3,7 +3,7 @@ ghost use Rattle.std.specs.Prelude.{◌≡◌, ◌≤◌, ◌↔◌, ℕ, [], le
 ghost use Rattle.tx_types.specs.declared.key.Key.{Key};
 ghost use Rattle.tx_plan.specs.declared.body.Body.{Body};
 ghost use Rattle.tx_plan.specs.declared.answer.Answer.{Answer};
-ghost use Rattle.tx_cells.specs.Contents.{OnKey, cells_of, nothing_held};
+ghost use Rattle.tx_cells.specs.Contents.{nothing_held};
 ghost use Rattle.tx_cells.specs.Copies.{Copies};
 ghost use Rattle.tx_core.specs.declared.event.Taken.{Taken as TakenOf};
 ghost use Rattle.tx_core.specs.declared.event.Event.TheVariants as events;
@@ -108,7 +108,7 @@ impl<J: Naming, F: Families> Region<J, F> {
 
     /// What is shown of a key.
     pub fn cells_of(&self, key: &Key) -> Result<KeyCopy, Fault>
-        ensures copies { IfOk result (λ copy. (x : OnKey) × Copies x copy × (cells_of x ≡ (left self.now.events self.now.seat).cells key.now)) }
+        ensures copies { IfOk result (λ copy. Copies ((left self.now.events self.now.seat).cells key.now) copy) }
         ensures err { IfErr result (λ e. e ≡ Fault.OutOfMemory) }
     {
         self.records.cells_of(key)

@@ -17,7 +17,7 @@ use Rattle.tx_lines.specs.Lines.{lines_of}
 use Rattle.tx_lines.specs.Output.{BreaksText}
 use Rattle.tx_lines.specs.Replies.{reply_words, reply_text}
 use Rattle.tx_lines.specs.Faults.{fault_words}
-use Rattle.tx_play.specs.Scenes.{Scene, opening, Turn, goes, inquires, stops}
+use Rattle.tx_play.specs.Scenes.{Scene, opening, Turn, goes, inquires, shows, stops}
 use Rattle.tx_play.specs.Plays.{Leads}
 use Rattle.tx_play.specs.Places.{Held, scene_of, own, AllSeated, Goes, GoesTo}
 use Rattle.tx_play.specs.Scripts.{IsOpening}
@@ -85,6 +85,7 @@ module _ (bounds : List Key) where
   lead_to : (next : Scene) (reply : Reply) (later : List Bool) (Goes : Scene → Reply → List Bool → Type 0) (Stops : Cause → Type 0) → Goes next reply later → (t : Turn) → Leads bounds (λ n said left. (n ≡ next) × (said ≡ reply) × (left ≡ later)) (λ c. ⊥) t → Leads bounds Goes Stops t
   lead_to next reply later Goes Stops here (goes n said left) (a, b, c) = subst (λ x. Goes x said left) (sym a) (subst (λ x. Goes next x left) (sym b) (subst (λ x. Goes next reply x) (sym c) here))
   lead_to next reply later Goes Stops here (inquires stage body more) (a, answers, leads) = (a, answers, lead_to next reply later Goes Stops here (more a) leads)
+  lead_to next reply later Goes Stops here (shows stage key more) (copy, is, leads) = (copy, is, lead_to next reply later Goes Stops here (more copy) leads)
   lead_to next reply later Goes Stops here (stops c) leads = absurd leads
 
   -- ---- before the next line

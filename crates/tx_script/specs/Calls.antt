@@ -1,8 +1,8 @@
--- The step that is played, by the form that a line says. What is not played yet is none.
+-- The step that is played, by the form that a line says. None for the steps of runs of workers.
 use Rattle.std.specs.Prelude.{ℕ, List, Option, Some, None, option_map}
 use Rattle.tx_play.specs.declared.post.Way.TheVariants.{Plain, Lose, LoseReply, Repeat, Hold}
 use Rattle.tx_play.specs.Posts.{Course}
-use Rattle.tx_play.specs.Steps.{Call, Deed, begin, acts, finish, stop, resolve, deliver, read, tick, gc}
+use Rattle.tx_play.specs.Steps.{Call, Deed, begin, acts, finish, stop, resolve, deliver, read, versions, tick, gc}
 use Rattle.tx_play.specs.Steps as deed
 use Rattle.tx_steps.specs.Steps.{Asked, Act, Sent, Way}
 use Rattle.tx_steps.specs.Steps as form
@@ -42,6 +42,7 @@ played (form.act name what) = acting name what
 played (form.send name what way) = Some (acts name (sending what (way_of way)))
 played (form.deliver name) = Some (deliver name)
 played (form.read key at) = Some (read key at)
+played (form.versions key) = Some (versions key)
 played (form.tick ticks) = Some (tick ticks)
 played (form.gc safe) = Some (gc safe)
 played _ = None

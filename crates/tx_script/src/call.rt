@@ -63,7 +63,7 @@ fn action<'a>(name: &'a str, what: Action<'a>) -> Option<tx_play::Step<'a>>
     Some(tx_play::Step::Act(name, act))
 }
 
-/// The step that is played. `None` for what is not played yet.
+/// The step that is played. `None` for the steps of runs of workers.
 pub(crate) fn call<'a>(step: Step<'a>) -> Option<tx_play::Step<'a>>
     ensures { option_map call_of result ≡ played (asked step.entry) }
 {
@@ -75,8 +75,9 @@ pub(crate) fn call<'a>(step: Step<'a>) -> Option<tx_play::Step<'a>>
         }
         Step::Deliver(name) => Some(tx_play::Step::Deliver(name)),
         Step::Read(key, at) => Some(tx_play::Step::Read(key, Ts::new(at))),
+        Step::Versions(key) => Some(tx_play::Step::Versions(key)),
         Step::Tick(ticks) => Some(tx_play::Step::Tick(ticks)),
         Step::Gc(safe) => Some(tx_play::Step::Gc(Ts::new(safe))),
-        Step::Versions(_) | Step::Seed(..) | Step::Transfer(..) => None,
+        Step::Seed(..) | Step::Transfer(..) => None,
     }
 }

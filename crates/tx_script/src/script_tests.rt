@@ -210,3 +210,33 @@ fn regions_only_at_line_1(rt: HostRuntime) -> Result<(), Fail> {
         "[1,\"start\",1]\n[2,\"E16\",\"form\"]\n",
     )
 }
+
+#[test]
+fn a_committed_put_is_shown(rt: HostRuntime) -> Result<(), Fail> {
+    replies(
+        &rt,
+        "[\"begin\",\"A\"]\n[\"put\",\"A\",\"a\",\"x\"]\n[\"declare\",\"A\",\"two-phase\",10]\n[\"prewrite\",\"A\"]\n[\"draw\",\"A\"]\n[\"commit\",\"A\"]\n[\"finish\",\"A\"]\n[\"begin\",\"B\"]\n[\"get\",\"B\",\"a\"]\n[\"read\",\"a\",1]\n[\"read\",\"a\",2]\n[\"versions\",\"a\"]\n[\"read\",\"a\",9]\n",
+        End::Well,
+        "[1,\"start\",1]\n[2,\"ok\"]\n[3,\"ok\"]\n[4,\"prewritten\",0]\n[5,\"drawn\",2]\n[6,\"committed\",2]\n[7,\"outcome\",\"committed\",2]\n[8,\"start\",3]\n[9,\"value\",\"x\"]\n[10,\"none\"]\n[11,\"value\",\"x\"]\n[12,\"versions\",null,[[2,\"put\",1]],[]]\n[13,\"E8\",3]\n",
+    )
+}
+
+#[test]
+fn a_lock_of_the_second_region_is_shown(rt: HostRuntime) -> Result<(), Fail> {
+    replies(
+        &rt,
+        "[\"regions\",[\"b\"]]\n[\"begin\",\"A\"]\n[\"begin\",\"B\"]\n[\"get\",\"B\",\"b\"]\n[\"put\",\"A\",\"a\",\"x\"]\n[\"put\",\"A\",\"b\",\"y\"]\n[\"declare\",\"A\",\"async\",10,2]\n[\"prewrite\",\"A\"]\n[\"prewrite\",\"A\"]\n[\"stop\",\"A\"]\n[\"get\",\"B\",\"a\"]\n[\"resolve\",\"B\",100]\n[\"get\",\"B\",\"a\"]\n[\"versions\",\"b\"]\n",
+        End::Well,
+        "[1,\"regions\",2]\n[2,\"start\",1]\n[3,\"start\",2]\n[4,\"none\"]\n[5,\"ok\"]\n[6,\"ok\"]\n[7,\"ok\"]\n[8,\"prewritten\",2]\n[9,\"prewritten\",0]\n[10,\"ok\"]\n[11,\"E1\",\"a\",1,\"a\",2,\"async\"]\n[12,\"status\",\"aborted\"]\n[13,\"none\"]\n[14,\"versions\",[\"put\",1,2,\"two-phase\"],[],[]]\n",
+    )
+}
+
+#[test]
+fn nothing_is_shown_of_an_empty_key(rt: HostRuntime) -> Result<(), Fail> {
+    replies(
+        &rt,
+        "[\"versions\",\"\"]\n[\"versions\",\"a\"]\n",
+        End::Well,
+        "[1,\"E13\"]\n[2,\"versions\",null,[],[]]\n",
+    )
+}

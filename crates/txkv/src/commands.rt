@@ -35,6 +35,7 @@ static SIMULATE_HELP: &str =
   [\"deliver\",name]                Takes a request that is held
   [\"gc\",ts]                       Resolves what is below ts, and drops old versions
   [\"read\",key,ts], [\"tick\",n]    Reads a key at a timestamp; draws n ticks
+  [\"versions\",key]                Shows what stands on a key: its lock, its write records, its long values
 A delivery is nothing, or \"lose\", \"lose-reply\", \"repeat\", or \"hold\",name
 
 Each reply is the number of the line and the step's words; docs/SCRIPT.md has all replies, refusals and causes.

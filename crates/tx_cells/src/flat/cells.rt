@@ -2,6 +2,7 @@
 ghost use Rattle.std.specs.Prelude.{◌≡◌, ◌↔◌, ◌^◌, ◌<◌, ◌≤◌, ℕ, Some, None, Contains, IsSome, IfSome, IfNone, IfOk, IfErr, MatchOption, option_map};
 ghost use Rattle.std.specs.BTreeMap as tree;
 ghost use Rattle.tx_plan.specs.declared.view.RecordHead.{RecordHead};
+ghost use Rattle.tx_cells.specs.Contents.{cells_of};
 ghost use Rattle.tx_cells.specs.Heads.{write_head};
 ghost use Rattle.tx_cells.specs.Histories.{AreFitting};
 ghost use Rattle.tx_cells.specs.Spelt.{version_cmp};
@@ -16,17 +17,17 @@ use crate::spelling::VersionBytes;
 use std::alloc::Global;
 use std::collections::BTreeMap;
 use tx_plan::LockHead;
-use tx_types::{Fault, Key, Ts, Value};
+use tx_types::{Fault, Items, Key, Ts, Value};
 
 /// The heads of the write records of a key, from the newest on.
-fn records_down<H: History>(alloc: Global, history: &mut H) -> Result<Vec<RecordAt>, Fault>
+fn records_down<H: History>(alloc: Global, history: &mut H) -> Result<Items<RecordAt>, Fault>
     requires { AreFitting (H.writes history.old) }
-    ensures fall { IfOk result (λ records. AreFalling (times_of records.items)) }
-    ensures all { IfOk result (λ records. (at : ℕ) (head : RecordHead) → Contains records.items (record { at = at; head = head }) ↔ (option_map write_head (H.writes history.old at) ≡ Some head)) }
+    ensures fall { IfOk result (λ records. AreFalling (times_of records)) }
+    ensures all { IfOk result (λ records. (at : ℕ) (head : RecordHead) → Contains records (record { at = at; head = head }) ↔ (option_map write_head (H.writes history.old at) ≡ Some head)) }
     ensures same_key { H.key history.new ≡ H.key history.old }
     ensures err { IfErr result (λ e. e ≡ Fault.OutOfMemory) }
 {
-    let mut records = Vec::new(alloc);
+    let mut records = Items::new(alloc);
     let mut bound = u64::MAX;
     'records: loop {
         let Some(entry) = history.upto(Ts::new(bound)) else {
@@ -60,12 +61,12 @@ fn starts_down(
     alloc: Global,
     values: &BTreeMap<VersionBytes, Value>,
     mut version: VersionBytes,
-) -> Result<Vec<Ts>, Fault>
-    ensures fall { IfOk result (λ starts. AreFalling starts.items) }
-    ensures all { IfOk result (λ starts. (t : ℕ) → Contains starts.items t ↔ ((t < 2 ^ 64) × IsSome (tree.get version_cmp values.now (version.0, t)))) }
+) -> Result<Items<Ts>, Fault>
+    ensures fall { IfOk result (λ starts. AreFalling starts) }
+    ensures all { IfOk result (λ starts. (t : ℕ) → Contains starts t ↔ ((t < 2 ^ 64) × IsSome (tree.get version_cmp values.now (version.0, t)))) }
     ensures err { IfErr result (λ e. e ≡ Fault.OutOfMemory) }
 {
-    let mut starts = Vec::new(alloc);
+    let mut starts = Items::new(alloc);
     let mut bound = u64::MAX;
     'values: loop {
         version.set_at(Ts::new(bound));
@@ -94,7 +95,7 @@ impl FlatCells {
 
     /// What is shown of this key.
     pub(crate) fn copy_of(&self, alloc: Global, key: &Key) -> Result<KeyCopy, Fault>
-        ensures copies { IfOk result (λ copy. Copies (flat_content self.now key.now) copy) }
+        ensures copies { IfOk result (λ copy. Copies (cells_of (flat_content self.now key.now)) copy) }
         ensures err { IfErr result (λ e. e ≡ Fault.OutOfMemory) }
     {
         let lock = head_on(&self.locks, alloc, key)?;

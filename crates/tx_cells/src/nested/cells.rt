@@ -2,6 +2,7 @@
 ghost use Rattle.std.specs.Prelude.{◌≡◌, IfOk, IfErr};
 ghost use Rattle.std.specs.BTreeMap.{IsOrdered};
 ghost use Rattle.std.specs.Ordering.{nat_cmp};
+ghost use Rattle.tx_cells.specs.Contents.{cells_of};
 ghost use Rattle.tx_cells.specs.Copies.{Copies, records_down, starts_down};
 
 use super::NestedCells;
@@ -10,15 +11,15 @@ use crate::copies::{KeyCopy, RecordAt};
 use crate::heads::{head_of, head_on};
 use std::alloc::Global;
 use std::collections::BTreeMap;
-use tx_types::{Fault, Key, Ts, Value, WriteRec};
+use tx_types::{Fault, Items, Key, Ts, Value, WriteRec};
 
 /// The heads of the records, from the newest on.
-fn heads(alloc: Global, writes: &BTreeMap<Ts, WriteRec>) -> Result<Vec<RecordAt>, Fault>
+fn heads(alloc: Global, writes: &BTreeMap<Ts, WriteRec>) -> Result<Items<RecordAt>, Fault>
     ensures ordered { IsOrdered nat_cmp writes.now }
-    ensures ok { IfOk result (λ heads. heads.items ≡ records_down writes.now.entries) }
+    ensures ok { IfOk result (λ heads. heads ≡ records_down writes.now.entries) }
     ensures err { IfErr result (λ e. e ≡ Fault.OutOfMemory) }
 {
-    let mut heads = Vec::new(alloc);
+    let mut heads = Items::new(alloc);
     let mut entries = writes.iter();
     'records: while let Some((at, rec)) = entries.next_back() {
         heads.push(RecordAt {
@@ -30,12 +31,12 @@ fn heads(alloc: Global, writes: &BTreeMap<Ts, WriteRec>) -> Result<Vec<RecordAt>
 }
 
 /// The starts of the values, from the newest on.
-fn starts(alloc: Global, values: &BTreeMap<Ts, Value>) -> Result<Vec<Ts>, Fault>
+fn starts(alloc: Global, values: &BTreeMap<Ts, Value>) -> Result<Items<Ts>, Fault>
     ensures ordered { IsOrdered nat_cmp values.now }
-    ensures ok { IfOk result (λ starts. starts.items ≡ starts_down values.now.entries) }
+    ensures ok { IfOk result (λ starts. starts ≡ starts_down values.now.entries) }
     ensures err { IfErr result (λ e. e ≡ Fault.OutOfMemory) }
 {
-    let mut starts = Vec::new(alloc);
+    let mut starts = Items::new(alloc);
     let mut entries = values.iter();
     'values: while let Some((start, _)) = entries.next_back() {
         starts.push(*start)?;
@@ -48,7 +49,7 @@ impl KeyFamilies {
 
     // What is shown of the key.
     fn copy(&self, alloc: Global) -> Result<KeyCopy, Fault>
-        ensures copies { IfOk result (λ copy. Copies (held self.now) copy) }
+        ensures copies { IfOk result (λ copy. Copies (cells_of (held self.now)) copy) }
         ensures err { IfErr result (λ e. e ≡ Fault.OutOfMemory) }
     {
         let lock = head_on(&self.lock);
@@ -67,15 +68,15 @@ impl NestedCells {
 
     /// What is shown of this key.
     pub(crate) fn copy_of(&self, alloc: Global, key: &Key) -> Result<KeyCopy, Fault>
-        ensures copies { IfOk result (λ copy. Copies (nested_content self.now key.now) copy) }
+        ensures copies { IfOk result (λ copy. Copies (cells_of (nested_content self.now key.now)) copy) }
         ensures err { IfErr result (λ e. e ≡ Fault.OutOfMemory) }
     {
         match self.keys.get(key) {
             Some(on_key) => on_key.copy(alloc),
             None => Ok(KeyCopy {
                 lock: None,
-                records: Vec::new(alloc),
-                values: Vec::new(alloc),
+                records: Items::new(alloc),
+                values: Items::new(alloc),
             }),
         }
     }

@@ -34,7 +34,8 @@ fn start_of(lock: Option<LockHead>) -> u64 {
 }
 
 fn is_copy(copy: &KeyCopy, start: u64, counts: (usize, usize)) -> bool {
-    start_of(copy.lock) == start && (copy.records.len(), copy.values.len()) == counts
+    start_of(copy.lock) == start
+        && (copy.records.as_slice().len(), copy.values.as_slice().len()) == counts
 }
 
 /// Whether a key has the lock that started then (0: none), and so many write records and values apart.

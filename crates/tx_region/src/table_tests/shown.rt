@@ -176,10 +176,10 @@ fn stand(copy: &KeyCopy) -> Stand {
     [
         min,
         ttl,
-        copy.records.len() as u64,
+        copy.records.as_slice().len() as u64,
         at,
         marked,
-        copy.values.len() as u64,
+        copy.values.as_slice().len() as u64,
     ]
 }
 

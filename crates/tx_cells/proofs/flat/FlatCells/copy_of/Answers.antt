@@ -1,11 +1,10 @@
-use Rattle.std.proofs.Common.{◌≡◌, ◌≢◌, ◌↔◌, ◌<◌, ◌^◌, ℕ, List, Option, Some, None, ap, sym, subst, ◌∙◌, arith}
+use Rattle.std.proofs.Common.{◌≡◌, ◌↔◌, ℕ, List, Some, ap, sym, subst, ◌∙◌}
 use Rattle.std.specs.Prelude.{Contains, IsSome, option_map}
 use Rattle.std.specs.BTreeMap as tree
-use Rattle.tx_plan.specs.declared.view.RecordHead.{RecordHead}
-use Rattle.tx_cells.specs.declared.copies.RecordAt.{RecordAt}
 use Rattle.tx_cells.specs.Heads.{write_head}
 use Rattle.tx_cells.specs.Spelt.{version_cmp}
 use Rattle.tx_cells.specs.Flats.{flat_content}
+use Rattle.tx_cells.proofs.Copied.{copied}
 use Rattle.tx_cells.proofs.Facts.{fitting, whole_at}
 use Rattle.tx_cells.proofs.Falling.{starts_fit}
 use Rattle.tx_cells.proofs.flat.FlatCells.copy_of.Goals as goal
@@ -17,18 +16,16 @@ pub returns-clause-copies : goal.returns-clause-copies
 returns-clause-copies c =
     let flat = c.args.self.now in
     let x = flat_content flat c.args.key.now in
+    let whole = whole_at (flat_content flat) flat.whole c.args.key.now in
     let writes = tree.get version_cmp flat.writes in
     let values = tree.get version_cmp flat.values in
     let first = ap (λ (v : List ℕ × ℕ). v.0) c.in_ok-version.ensures.ok in
     let key = c.records_down.ensures.same_key ∙ first in
-    let fits = starts_fit x (whole_at (flat_content flat) flat.whole c.args.key.now) c.in_ok-lock.lock c.in_ok-lock.ensures.ok c.start_fits.ensures in
-    record {
-      lock = c.in_ok-lock.ensures.ok;
-      records_fall = c.in_ok-records.ensures.fall;
-      records = λ at head. subst (λ (k : List ℕ). Contains c.in_ok-records.records.items (record { at = at; head = head }) ↔ (option_map write_head (writes (k, at)) ≡ Some head)) first (c.in_ok-records.ensures.all at head);
-      values_fall = c.in_ok-values.ensures.fall;
-      values = λ t. (
-        λ has. subst (λ (k : List ℕ). IsSome (values (k, t))) key ((c.in_ok-values.ensures.all t).0 has).1,
-        λ some. (c.in_ok-values.ensures.all t).1 (fits t some, subst (λ (k : List ℕ). IsSome (values (k, t))) (sym key) some),
-      );
-    }
+    let fits = starts_fit x whole c.in_ok-lock.lock c.in_ok-lock.ensures.ok c.start_fits.ensures in
+    copied x (record { lock = c.in_ok-lock.lock; records = c.in_ok-records.records; values = c.in_ok-values.values }) whole c.in_ok-lock.ensures.ok c.in_ok-records.ensures.fall
+    (λ at head. subst (λ (k : List ℕ). Contains c.in_ok-records.records (record { at = at; head = head }) ↔ (option_map write_head (writes (k, at)) ≡ Some head)) first (c.in_ok-records.ensures.all at head))
+    c.in_ok-values.ensures.fall
+    (λ t. (
+      λ has. subst (λ (k : List ℕ). IsSome (values (k, t))) key ((c.in_ok-values.ensures.all t).0 has).1,
+      λ some. (c.in_ok-values.ensures.all t).1 (fits t some, subst (λ (k : List ℕ). IsSome (values (k, t))) (sym key) some),
+    ))

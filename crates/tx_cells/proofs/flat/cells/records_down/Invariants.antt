@@ -10,7 +10,7 @@ invariant-records g l =
     record {
       same : writes l.history ≡ writes l.fn.history;
       same_key : g.H.History.key l.history ≡ g.H.History.key l.fn.history;
-      down : Down (λ (x : RecordAt). x.at) (IsHead (writes l.fn.history)) l.bound l.records.items (times_of l.records.items);
+      down : Down (λ (x : RecordAt). x.at) (IsHead (writes l.fn.history)) l.bound l.records (times_of l.records);
     }
 
 abbrev pub decreases-records : goal.decreases-records

@@ -10,14 +10,14 @@ values-init c =
     let has = HasStart (tree.get version_cmp c.args.values.now) c.args.version.0 in
     record {
       same_key = refl;
-      down = subst (λ (it : List ℕ). Down (λ (t : ℕ). t) has (2 ^ 64 - 1) it it) (sym c.new-starts.ensures.items) (down_starts (λ (t : ℕ). t) has (2 ^ 64 - 1) (λ q h. (let lt = h.0 in omega (arith, lt))));
+      down = subst (λ (it : List ℕ). Down (λ (t : ℕ). t) has (2 ^ 64 - 1) it it) (sym c.new-starts.ensures) (down_starts (λ (t : ℕ). t) has (2 ^ 64 - 1) (λ q h. (let lt = h.0 in omega (arith, lt))));
     }
 
 pub returns-in_default-clause-all : goal.returns-in_default-clause-all
 returns-in_default-clause-all c =
     let values = tree.get version_cmp c.args.values.now in
     let key = ap (λ (v : List ℕ × ℕ). v.0) c.set_at.ensures ∙ c.values.invariant.same_key in
-    starts_end (HasStart values c.args.version.0) c.values.bound c.set_at.new.self.1 (ap (λ (v : List ℕ × ℕ). v.1) c.set_at.ensures ∙ c.new.ensures) c.values.starts.items c.values.invariant.down
+    starts_end (HasStart values c.args.version.0) c.values.bound c.set_at.new.self.1 (ap (λ (v : List ℕ × ℕ). v.1) c.set_at.ensures ∙ c.new.ensures) c.values.starts c.values.invariant.down
     (λ q has le. some_none (values (c.args.version.0, q)) has.1 (ap (λ (k : List ℕ). values (k, q)) (sym key) ∙ c.in_default.ensures.none q le))
 
 pub returns-then-get-eq0-clause-fall : goal.returns-then-get-eq0-clause-fall
@@ -26,9 +26,9 @@ returns-then-get-eq0-clause-fall c =
     let start = c.in-Some.start in
     let key = ap (λ (v : List ℕ × ℕ). v.0) c.set_at.ensures ∙ c.values.invariant.same_key in
     let lt : start < 2 ^ 64 = omega (arith, c.get.ensures, c.get.type_inv) in
-    starts_fall (HasStart values c.args.version.0) c.values.bound c.set_at.new.self.1 (ap (λ (v : List ℕ × ℕ). v.1) c.set_at.ensures ∙ c.new.ensures) c.values.starts.items c.values.invariant.down
+    starts_fall (HasStart values c.args.version.0) c.values.bound c.set_at.new.self.1 (ap (λ (v : List ℕ × ℕ). v.1) c.set_at.ensures ∙ c.new.ensures) c.values.starts c.values.invariant.down
     start (c.in-Some.ensures.found.0, (lt, subst (λ (k : List ℕ). IsSome (values (k, start))) key c.in-Some.ensures.found.1))
-    (λ q has le. c.in-Some.ensures.nearest q le (subst (λ (k : List ℕ). IsSome (values (k, q))) (sym key) has.1)) c.push.new.self.items c.in_ok-push.ensures.items
+    (λ q has le. c.in-Some.ensures.nearest q le (subst (λ (k : List ℕ). IsSome (values (k, q))) (sym key) has.1)) c.push.new.self c.in_ok-push.ensures.ok
 
 pub returns-then-get-eq0-clause-all : goal.returns-then-get-eq0-clause-all
 returns-then-get-eq0-clause-all c =
@@ -36,9 +36,9 @@ returns-then-get-eq0-clause-all c =
     let start = c.in-Some.start in
     let key = ap (λ (v : List ℕ × ℕ). v.0) c.set_at.ensures ∙ c.values.invariant.same_key in
     let lt : start < 2 ^ 64 = omega (arith, c.get.ensures, c.get.type_inv) in
-    starts_last (HasStart values c.args.version.0) c.values.bound c.set_at.new.self.1 (ap (λ (v : List ℕ × ℕ). v.1) c.set_at.ensures ∙ c.new.ensures) c.values.starts.items c.values.invariant.down
+    starts_last (HasStart values c.args.version.0) c.values.bound c.set_at.new.self.1 (ap (λ (v : List ℕ × ℕ). v.1) c.set_at.ensures ∙ c.new.ensures) c.values.starts c.values.invariant.down
     start (c.in-Some.ensures.found.0, (lt, subst (λ (k : List ℕ). IsSome (values (k, start))) key c.in-Some.ensures.found.1))
-    (λ q has le. c.in-Some.ensures.nearest q le (subst (λ (k : List ℕ). IsSome (values (k, q))) (sym key) has.1)) c.push.new.self.items c.in_ok-push.ensures.items (omega (arith, c.if-get-eq0.true, c.get.ensures))
+    (λ q has le. c.in-Some.ensures.nearest q le (subst (λ (k : List ℕ). IsSome (values (k, q))) (sym key) has.1)) c.push.new.self c.in_ok-push.ensures.ok (omega (arith, c.if-get-eq0.true, c.get.ensures))
 
 pub values-preserved : goal.values-preserved
 values-preserved c =
@@ -46,8 +46,8 @@ values-preserved c =
     let start = c.in-Some.start in
     let key = ap (λ (v : List ℕ × ℕ). v.0) c.set_at.ensures ∙ c.values.invariant.same_key in
     let lt : start < 2 ^ 64 = omega (arith, c.get.ensures, c.get.type_inv) in
-    let on = starts_on (HasStart values c.args.version.0) c.values.bound c.set_at.new.self.1 (ap (λ (v : List ℕ × ℕ). v.1) c.set_at.ensures ∙ c.new.ensures) c.values.starts.items c.values.invariant.down
+    let on = starts_on (HasStart values c.args.version.0) c.values.bound c.set_at.new.self.1 (ap (λ (v : List ℕ × ℕ). v.1) c.set_at.ensures ∙ c.new.ensures) c.values.starts c.values.invariant.down
     start (c.in-Some.ensures.found.0, (lt, subst (λ (k : List ℕ). IsSome (values (k, start))) key c.in-Some.ensures.found.1))
-    (λ q has le. c.in-Some.ensures.nearest q le (subst (λ (k : List ℕ). IsSome (values (k, q))) (sym key) has.1)) c.push.new.self.items c.in_ok-push.ensures.items
+    (λ q has le. c.in-Some.ensures.nearest q le (subst (λ (k : List ℕ). IsSome (values (k, q))) (sym key) has.1)) c.push.new.self c.in_ok-push.ensures.ok
     (c.get-bound.result - 1) (omega (arith, c.get-bound.ensures)) (omega (arith, c.if-get-eq0.false, c.get.ensures)) in
     record { same_key = key; down = on }

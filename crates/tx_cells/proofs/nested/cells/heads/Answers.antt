@@ -9,6 +9,6 @@ use Rattle.tx_cells.proofs.nested.cells.heads.Goals as goal
 pub records-preserved : goal.records-preserved
 records-preserved c =
     let e : ℕ × WriteRec = (c.in-Some.at.now, c.in-Some.rec.now) in
-    let shown = c.in_ok-push.ensures.items ∙ ap (λ (h : RecordHead). c.records.heads.items ++ (record { at = c.in-Some.at.now; head = h }) ∷ []) c.head_of.ensures in
-    records_step (records_down c.args.writes.now.entries) c.records.heads.items c.records.entries c.next_back.new.self e c.records.invariant c.in-Some.ensures.steps
+    let shown = c.in_ok-push.ensures.ok ∙ ap (λ (h : RecordHead). c.records.heads ++ (record { at = c.in-Some.at.now; head = h }) ∷ []) c.head_of.ensures in
+    records_step (records_down c.args.writes.now.entries) c.records.heads c.records.entries c.next_back.new.self e c.records.invariant c.in-Some.ensures.steps
     ∙ ap (λ (w : List RecordAt). w ++ records_down c.next_back.new.self) (sym shown)

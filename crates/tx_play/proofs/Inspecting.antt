@@ -1,0 +1,119 @@
+-- What a step gives that has a key shown is its turn.
+use Rattle.std.proofs.Common.{◌≡◌, ◌≤◌, ◌+◌, ℕ, Bool, true, false, not, cond, List, [], ◌∷◌, ◌++◌, map, length, slice_get, slice_set, Option, Some, Result, Ok, Err, refl, sym, ap, subst, ◌∙◌, arith}
+use Rattle.std.specs.List.{sum_by}
+use Rattle.std.specs.Prelude.{IfOk}
+use Rattle.std.proofs.lemmas.List.Sums.{sum_by-set}
+use Rattle.std.proofs.lemmas.Option.{slice_get_within, get_or_from_slice_get}
+use Rattle.tx_types.specs.declared.fault.Fault.{Fault}
+use Rattle.tx_types.specs.declared.key.Key.{Key}
+use Rattle.tx_cells.specs.declared.copies.KeyCopy.{KeyCopy}
+use Rattle.tx_cells.specs.Copies.{Copies}
+use Rattle.tx_core.specs.Histories.{History, left, Begins}
+use Rattle.tx_core.specs.Recording.{part}
+use Rattle.tx_core.specs.Worlds.{route}
+use Rattle.tx_core.proofs.seats.Beginnings.{begins_length, begins_whole}
+use Rattle.tx_journal.specs.Known.{Known}
+use Rattle.tx_lines.specs.declared.reply.Reply.{Reply}
+use Rattle.tx_lines.specs.declared.reply.Reply.TheVariants as reply
+use Rattle.tx_play.specs.Posts.{Desk, Stage, stage_of, made_by, AreNumbered, Showed, Displays, MayShowSo}
+use Rattle.tx_play.specs.Scenes.{Scene, Turn, goes, shows, calls, is_key, Place, inspects, turn}
+use Rattle.tx_play.specs.Steps.{versions}
+use Rattle.tx_play.specs.Plays.{Leads}
+use Rattle.tx_play.specs.Places.{seat_in, place_of, Held, name_at, scene_with, scene_of, made_in, GoesTo, Goes, Inspected, Turned}
+use Rattle.tx_play.proofs.Delivering.{seats_stay}
+use Rattle.tx_play.proofs.Keeping.{known_ticks}
+use Rattle.tx_play.proofs.Posting.{numbered_at}
+use Rattle.tx_play.proofs.Stages.{same_stage}
+use Rattle.tx_play.proofs.Turning.{goes_at}
+
+-- ---- a region shows a key
+
+-- the region k learnt what is newest, was then l, and showed a key
+pub showed_by : (k l : Known) (n : History) (key : Key) (copied : Result KeyCopy Fault) → l.seat ≡ k.seat → part k.seat l.events ≡ part k.seat k.events → Begins n l.events
+    → IfOk copied (λ copy. Copies ((left l.events l.seat).cells key) copy) → Showed k n key copied l l.events
+showed_by k l n key copied number own knows copies = record {
+  begins = knows;
+  number = number;
+  counts = (let here : made_by l ≡ length (part k.seat l.events) = ap (λ i. length (part i l.events)) number in omega (arith, here, ap length own));
+  copies = subst (λ i. IfOk copied (λ copy. Copies ((left l.events i).cells key) copy)) number copies;
+}
+
+-- the region at a place did
+pub displayed_at : (n place : ℕ) (from to : Desk) (k new : Known) (key : Key) (copied : Result KeyCopy Fault) → place ≡ n → slice_get from.regions place ≡ Some k → AreNumbered 0 from.regions → to.regions ≡ slice_set from.regions place new
+    → to.held ≡ from.held → Showed k from.newest key copied new to.newest → Displays n from to key copied
+displayed_at n place from to k new key copied is there all placed held showed =
+    let number : k.seat ≡ n = numbered_at 0 place from.regions k there all ∙ (omega (arith, is)) in
+    let sums = sum_by-set made_by from.regions place new k (slice_get_within from.regions place k there) in
+    let here = ap made_by (get_or_from_slice_get from.regions place k k there) in
+    record {
+      begins = showed.begins;
+      counts = omega (arith, sums, here, showed.counts, ap (sum_by made_by) placed);
+      held = held;
+      copies = subst (λ i. IfOk copied (λ copy. Copies ((left to.newest i).cells key) copy)) number showed.copies;
+    }
+
+-- ---- its turn
+
+module _ (bounds : List Key) (key : List ℕ) where
+  -- nothing changes where no region is asked
+  stays : (desk : Desk) (bits : List Bool) (said : Reply) → ((later : List Bool) (scene : Scene) → inspects (bits ++ later) scene key ≡ goes scene said later) → Inspected bounds key said desk desk
+  stays desk bits said is = record {
+    counts = omega arith;
+    grows = omega arith;
+    exact = λ le ticks names places. goes_at bounds (λ refused. inspects refused (scene_with (stage_of desk) ticks names places) key) bits said said _ _ (λ later. is later (scene_with (stage_of desk) ticks names places)) refl refl;
+  }
+
+  pub inspect_unkeyed : is_key key ≡ false → (desk : Desk) → Inspected bounds key reply.KeyLength desk desk
+  inspect_unkeyed bad desk = stays desk [] reply.KeyLength (λ later scene. rw bad refl)
+
+  module _ (good : is_key key ≡ true) where
+    shows_at : (later : List Bool) (scene : Scene) → inspects (false ∷ later) scene key ≡ shows scene.stage key (λ copy. goes scene (reply.Versions copy) later)
+    shows_at later scene = rw good refl
+
+    refused_at : (later : List Bool) (scene : Scene) → inspects (true ∷ later) scene key ≡ goes scene reply.OutOfMemory later
+    refused_at later scene = rw good refl
+
+    pub inspect_short : (desk : Desk) → Inspected bounds key reply.OutOfMemory desk desk
+    inspect_short desk = stays desk (true ∷ []) reply.OutOfMemory refused_at
+
+    module _ (from to : Desk) (copied : Result KeyCopy Fault) (shown : Displays (route bounds key) from to key copied) where
+      newest_stays : length to.newest ≤ length from.newest → to.newest ≡ from.newest
+      newest_stays le = sym (begins_whole from.newest to.newest shown.begins (omega (arith, le)))
+
+      stage_stays : length to.newest ≤ length from.newest → stage_of to ≡ stage_of from
+      stage_stays le = same_stage from to from.newest (newest_stays le) shown.held
+
+      -- the turn goes on so from any scene of this stage
+      said_so : (said : Reply) → (length to.newest ≤ length from.newest → (ticks : ℕ) (names : List ℕ → Option ℕ) (places : List Place) → GoesTo bounds (λ refused. inspects refused (scene_with (stage_of from) ticks names places) key) said (scene_with (stage_of from) ticks names places))
+          → Inspected bounds key said from to
+      said_so said on = record {
+        counts = shown.counts;
+        grows = begins_length from.newest to.newest shown.begins;
+        exact = λ le ticks names places. subst (λ s. GoesTo bounds (λ refused. inspects refused (scene_with (stage_of from) ticks names places) key) said (scene_with s ticks names places)) (sym (stage_stays le)) (on le ticks names places);
+      }
+
+      -- memory for it was refused
+      pub inspect_refused : Inspected bounds key reply.OutOfMemory from to
+      inspect_refused = said_so reply.OutOfMemory (λ le ticks names places. goes_at bounds (λ refused. inspects refused (scene_with (stage_of from) ticks names places) key) (true ∷ []) reply.OutOfMemory reply.OutOfMemory _ _ (λ later. refused_at later (scene_with (stage_of from) ticks names places)) refl refl)
+
+      pub inspect_shown : (copy : KeyCopy) → copied ≡ Ok copy → Inspected bounds key (reply.Versions copy) from to
+      inspect_shown copy is = said_so (reply.Versions copy) (λ le ticks names places. (
+        false ∷ [],
+        λ later. subst (Leads bounds _ _) (sym (shows_at later (scene_with (stage_of from) ticks names places)))
+            (copy, subst (λ h. Copies ((left h (route bounds key)).cells key) copy) (newest_stays le) (subst (λ r. IfOk r (λ copy. Copies ((left to.newest (route bounds key)).cells key) copy)) is shown.copies), (refl, refl, refl)),
+      ))
+
+  -- ---- the step
+
+  -- what an engine's step gives, where nothing else of the engine changes
+  pub step_inspected : (old new : Held) → new.clerk ≡ old.clerk → new.names ≡ old.names → new.places ≡ old.places → (said : Reply) → Inspected bounds key said old.desk new.desk → Goes bounds old new (Turned bounds (versions key) (Ok said) old new)
+  step_inspected old new clerk names places said seen = record {
+    made = 0;
+    counts = omega (arith, seen.counts, ap made_by clerk, ap (sum_by (λ p. made_in (seat_in p))) places);
+    size = ap length places;
+    seated = seats_stay bounds key old new clerk places;
+    grows = omega (arith, seen.grows);
+    exact = λ le. subst (GoesTo bounds (λ refused. turn bounds refused (versions key) (scene_of old)) said)
+        (λ i. scene_with (stage_of new.desk) (known_ticks (sym clerk i)) (λ q. name_at (sym names i) q) (map place_of (sym places i)))
+        (seen.exact (omega (arith, le)) old.clerk.ticks (λ q. name_at old.names q) (map place_of old.places));
+  }
