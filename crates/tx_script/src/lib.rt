@@ -7,6 +7,7 @@
 #![tactic(auto)]
 
 mod call;
+mod checked;
 mod checker;
 mod line;
 mod machine_step;
@@ -19,5 +20,5 @@ mod tests;
 mod words;
 
 pub use checker::check;
-pub use opening::simulate;
+pub use opening::{simulate, simulate_checked};
 pub use tx_lines::{Broken, End};

@@ -1,5 +1,5 @@
 //! The commands of the program, and their help.
-use clap::{ArgMatches, Command, Error};
+use clap::{Arg, ArgAction, ArgMatches, Command, Error};
 use std::alloc::Global;
 use std::env::Env;
 use std::{env, io};
@@ -67,13 +67,16 @@ Examples:
 #[derive(Clone, Copy, Debug, PartialEq, Eq)]
 pub enum Job {
     Simulate,
+    /// Simulate, and tell the machine's steps of the run.
+    SimulateChecked,
     Check,
 }
 
 /// The job of a command line that was read.
 pub fn job_of(matches: &ArgMatches<'_>) -> Job {
-    match matches.subcommand_name() {
-        Some("simulate") => Job::Simulate,
+    match matches.subcommand() {
+        Some(("simulate", asked)) if asked.get_flag("check") => Job::SimulateChecked,
+        Some(("simulate", _)) => Job::Simulate,
         _ => Job::Check,
     }
 }
@@ -92,9 +95,14 @@ pub fn parse<'a>(alloc: Global, words: &'a [String]) -> Result<ArgMatches<'a>, E
     let check = Command::new(alloc, "check")
         .about(CHECK_ABOUT)
         .after_help(CHECK_HELP);
+    let check_flag = Arg::new(alloc, "check")
+        .long("check")
+        .action(ArgAction::SetTrue)
+        .help("Writes the machine's steps of the run after its replies, and that they are one");
     let simulate = Command::new(alloc, "simulate")
         .about(SIMULATE_ABOUT)
-        .after_help(SIMULATE_HELP);
+        .after_help(SIMULATE_HELP)
+        .arg(check_flag)?;
     let command = Command::new(alloc, "txkv")
         .about(ABOUT)
         .version("0.1.0")

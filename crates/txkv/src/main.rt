@@ -13,7 +13,7 @@ use status::{message_of, status_of};
 use std::io;
 use std::io::{BufReader, BufWriter};
 use std::process::ExitCode;
-use tx_script::{Broken, End, check, simulate};
+use tx_script::{Broken, End, check, simulate, simulate_checked};
 
 // Both streams are buffered; each job flushes what it writes.
 fn run<R: Input + Print + AllocGlobal>(rt: &R, job: Job) -> Result<End, Broken> {
@@ -25,6 +25,7 @@ fn run<R: Input + Print + AllocGlobal>(rt: &R, job: Job) -> Result<End, Broken> 
     };
     match job {
         Job::Simulate => simulate(rt.alloc(), &mut reader, &mut writer),
+        Job::SimulateChecked => simulate_checked(rt.alloc(), &mut reader, &mut writer),
         Job::Check => check(rt.alloc(), &mut reader, &mut writer),
     }
 }
