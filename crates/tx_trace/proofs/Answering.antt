@@ -18,9 +18,9 @@ use Rattle.tx_core.proofs.runs.Consequences.{told_fate}
 use Rattle.tx_core.proofs.seats.Beginnings.{begins_all}
 use Rattle.tx_core.proofs.seats.StaysDecided.{decided_on}
 use Rattle.tx_trace.specs.declared.pending.Pending.{Pending}
-use Rattle.tx_trace.specs.declared.trace.Trace.{Trace}
+use Rattle.tx_trace.specs.declared.log.Log.{Log}
 use Rattle.tx_trace.specs.Pending.{Accepted, Awaits}
-use Rattle.tx_trace.specs.Traces.{Stands, Traces, steps_of, kept_in, ended, Writes, Ends, Tells}
+use Rattle.tx_trace.specs.Logs.{Stands, Keeps, steps_of, kept_in, ended, Writes, Ends, Tells}
 use Rattle.tx_trace.proofs.Effects.{effect_on, accepted_apart, decision_apart}
 
 -- the same of other parts that are equal
@@ -58,14 +58,14 @@ module _ (bounds : List Key) (h : History) (x : Taken) (run : IsWorldRun bounds 
   quiet_decided : effect_in h x ≡ NoEffect → (t : ℕ) → decided (Took x ∷ h) t ≡ decided h t
   quiet_decided none t = ap (λ e. first_decided (decision (set_at h t) (accepted (Took x ∷ h) t) e t) (decided h t)) none
 
-  module _ (old new : Trace) (f : Traces h old) where
+  module _ (old new : Log) (f : Keeps h old) where
     -- another transaction stands as it did
     others_stand : (t : ℕ) → start_in x.body ≢ Some t → (d : Declaration) → declared h t ≡ Some d → kept_in new t ≡ kept_in old t → Stands (decided (Took x ∷ h) t) d (accepted (Took x ∷ h) t) (kept_in new t)
     others_stand t apart d is same = stands_by (decided h t) (decided (Took x ∷ h) t) d (accepted h t) (accepted (Took x ∷ h) t) (kept_in old t) (kept_in new t) (other_decided t apart) (other_accepted t apart) same (f.pending t d is)
 
     -- ---- requests that name no transaction
 
-    pub reads : start_in x.body ≡ None → Writes (reading x.body x.answer) old new → Traces (Took x ∷ h) new
+    pub reads : start_in x.body ≡ None → Writes (reading x.body x.answer) old new → Keeps (Took x ∷ h) new
     reads none w =
         record {
           shadows = w.steps ∙ (ap (λ s. reading x.body x.answer ++ s) f.shadows ∙ sym (ap (λ o. deciding_in h x o ++ (reading x.body x.answer ++ shadow h)) none));
@@ -84,7 +84,7 @@ module _ (bounds : List Key) (h : History) (x : Taken) (run : IsWorldRun bounds 
       pub goes : (more : List Step) → steps_of new ≡ more ++ steps_of old → deciding t (decided h t) (decided (Took x ∷ h) t) ≡ more
           → ((q : ℕ) → q ≢ t → kept_in new q ≡ kept_in old q)
           → ((d : Declaration) → declared h t ≡ Some d → Stands (decided (Took x ∷ h) t) d (accepted (Took x ∷ h) t) (kept_in new t))
-          → Traces (Took x ∷ h) new
+          → Keeps (Took x ∷ h) new
       goes more steps decides others own =
           record {
             shadows = steps ∙ (ap (λ s. more ++ s) f.shadows ∙ sym (shadow_is ∙ ap (λ s. s ++ shadow h) decides));
@@ -95,20 +95,20 @@ module _ (bounds : List Key) (h : History) (x : Taken) (run : IsWorldRun bounds 
           }
 
       -- one that is decided stays so
-      pub done : (end : Fate) → decided h t ≡ Done end → kept_in old t ≡ None → Writes [] old new → Traces (Took x ∷ h) new
+      pub done : (end : Fate) → decided h t ≡ Done end → kept_in old t ≡ None → Writes [] old new → Keeps (Took x ∷ h) new
       done end is gone w =
           goes [] w.steps (ap (λ s. deciding t s (decided (Took x ∷ h) t)) is) (λ q other. w.same q)
           (λ d e. subst (λ s. Stands s d (accepted (Took x ∷ h) t) (kept_in new t)) (sym (decided_stays t end is)) (w.same t ∙ gone))
 
       -- one that is decided now
       pub decides : (end : Fate) → decided h t ≡ Open → decided (Took x ∷ h) t ≡ Done end → steps_of new ≡ ended t end ∷ steps_of old
-          → ((q : ℕ) → q ≢ t → kept_in new q ≡ kept_in old q) → kept_in new t ≡ None → Traces (Took x ∷ h) new
+          → ((q : ℕ) → q ≢ t → kept_in new q ≡ kept_in old q) → kept_in new t ≡ None → Keeps (Took x ∷ h) new
       decides end before now steps others gone =
           goes (ended t end ∷ []) steps (ap (λ s. deciding t s (decided (Took x ∷ h) t)) before ∙ (ap (deciding t Open) now ∙ decision_step t end)) others
           (λ d e. subst (λ s. Stands s d (accepted (Took x ∷ h) t) (kept_in new t)) (sym now) gone)
 
       -- one that is open, of which nothing is said
-      quiet : decided h t ≡ Open → effect_in h x ≡ NoEffect → Writes [] old new → Traces (Took x ∷ h) new
+      quiet : decided h t ≡ Open → effect_in h x ≡ NoEffect → Writes [] old new → Keeps (Took x ∷ h) new
       quiet before none w =
           goes [] w.steps (ap (λ s. deciding t s (decided (Took x ∷ h) t)) before ∙ ap (deciding t Open) (quiet_decided none t ∙ before)) (λ q other. w.same q)
           (λ d e. stands_by (decided h t) (decided (Took x ∷ h) t) d (accepted h t) (accepted (Took x ∷ h) t) (kept_in old t) (kept_in new t) (quiet_decided none t) (quiet_accepted none t) (w.same t) (f.pending t d e))
@@ -121,14 +121,14 @@ module _ (bounds : List Key) (h : History) (x : Taken) (run : IsWorldRun bounds 
         pub kept_before : decided h t ≡ Open → (p : Pending) × (kept_in old t ≡ Some p) × Awaits d (accepted h t) p
         kept_before e = open_kept d (accepted h t) (kept_in old t) (subst (λ s. Stands s d (accepted h t) (kept_in old t)) e (f.pending t d is))
 
-        ends_done : (end : Fate) → decided h t ≡ Done end → (told : Fate) → Ends t told old new → Traces (Took x ∷ h) new
+        ends_done : (end : Fate) → decided h t ≡ Done end → (told : Fate) → Ends t told old new → Keeps (Took x ∷ h) new
         ends_done end e told ends =
             elim ends [
               | inl y ↦ done end e (gone_before end e) y.1
               | inr y ↦ (let none = gone_before end e in absurd (cc (none, y.before)))
             ]
 
-        ends_open : decided h t ≡ Open → (end : Fate) → fate_in x.answer ≡ Some end → Ends t end old new → Traces (Took x ∷ h) new
+        ends_open : decided h t ≡ Open → (end : Fate) → fate_in x.answer ≡ Some end → Ends t end old new → Keeps (Took x ∷ h) new
         ends_open e end tells ends =
             elim ends [
               | inl y ↦ (let some = (kept_before e).1 in absurd (cc (y.0, some)))
@@ -138,10 +138,10 @@ module _ (bounds : List Key) (h : History) (x : Taken) (run : IsWorldRun bounds 
             ]
 
         -- the answer tells its fate, or nothing
-        pub tells : (fate_in x.answer ≡ None → decided h t ≡ Open → effect_in h x ≡ NoEffect) → Tells t (fate_in x.answer) old new → Traces (Took x ∷ h) new
+        pub tells : (fate_in x.answer ≡ None → decided h t ≡ Open → effect_in h x ≡ NoEffect) → Tells t (fate_in x.answer) old new → Keeps (Took x ∷ h) new
         tells nothing does = go (decided h t) refl (fate_in x.answer) refl does
           where
-            go : (s : State) → decided h t ≡ s → (o : Option Fate) → fate_in x.answer ≡ o → Tells t o old new → Traces (Took x ∷ h) new
+            go : (s : State) → decided h t ≡ s → (o : Option Fate) → fate_in x.answer ≡ o → Tells t o old new → Keeps (Took x ∷ h) new
             go (Done end) e None g w = done end e (gone_before end e) w
             go (Done end) e (Some told) g w = ends_done end e told w
             go Open e None g w = quiet e (nothing g e) w

@@ -17,9 +17,9 @@ use Rattle.tx_core.proofs.runs.AllRuns.{run_told}
 use Rattle.tx_trace.specs.declared.pending.Locks.{Locks}
 use Rattle.tx_trace.specs.declared.pending.Pending.{Pending}
 use Rattle.tx_trace.specs.declared.pending.Pending.TheVariants as pending
-use Rattle.tx_trace.specs.declared.trace.Trace.{Trace}
+use Rattle.tx_trace.specs.declared.log.Log.{Log}
 use Rattle.tx_trace.specs.Pending.{Accepted, AwaitsLocks, Awaits, AreAll, IsFirst}
-use Rattle.tx_trace.specs.Traces.{Stands, Traces, kept_in, Enters}
+use Rattle.tx_trace.specs.Logs.{Stands, Keeps, kept_in, Enters}
 use Rattle.tx_trace.proofs.Minimums.{greatest_none}
 
 -- ---- what is waited for at first
@@ -55,7 +55,7 @@ module _ (d : Declaration) (some : d.changes ≢ []) (accepted : Accepted) (none
 
 -- ---- the declaration
 
-module _ (bounds : List Key) (h : History) (d : Declaration) (run : IsWorldRun bounds (Declared d ∷ h)) (old new : Trace) (f : Traces h old) (enters : Enters d old new) where
+module _ (bounds : List Key) (h : History) (d : Declaration) (run : IsWorldRun bounds (Declared d ∷ h)) (old new : Log) (f : Keeps h old) (enters : Enters d old new) where
   inv : Inv (view bounds h)
   inv = (run_told bounds h run.0).0.sound.inv
 
@@ -80,5 +80,5 @@ module _ (bounds : List Key) (h : History) (d : Declaration) (run : IsWorldRun b
         | inr x ↦ subst (λ o. Stands (decided h t) of (accepted h t) o) (sym (enters.others t ∙ cond_false (d.start == t) (Some enters.first) (kept_in old t) x.0)) (f.pending t of (sym (cond_false (d.start == t) (Some d) (declared h t) x.0) ∙ is))
       ]
 
-  pub declares : Traces (Declared d ∷ h) new
+  pub declares : Keeps (Declared d ∷ h) new
   declares = record { shadows = enters.steps ∙ ap (λ s. step.Declare d.start d.changes ∷ s) f.shadows; pending = stands }

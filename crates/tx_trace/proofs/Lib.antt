@@ -16,3 +16,5 @@ pub mod Declaring
 pub mod Requests
 -- Steps that are added at the end, and a map that has one more.
 pub mod Steps
+-- A trace is of the histories that its log is of.
+pub mod Noting

@@ -21,9 +21,9 @@ use Rattle.tx_core.proofs.Basics.{nat_test, nat_same, key_test, key_same, some_s
 use Rattle.tx_core.proofs.requests.Good.{took}
 use Rattle.tx_core.proofs.runs.Consequences.{accepted_two_phase, prewritten_accepted}
 use Rattle.tx_trace.specs.declared.pending.Pending.{Pending}
-use Rattle.tx_trace.specs.declared.trace.Trace.{Trace}
+use Rattle.tx_trace.specs.declared.log.Log.{Log}
 use Rattle.tx_trace.specs.Pending.{Awaits, Turns}
-use Rattle.tx_trace.specs.Traces.{Stands, Traces, kept_in, Closes, Locked}
+use Rattle.tx_trace.specs.Logs.{Stands, Keeps, kept_in, Closes, Locked}
 use Rattle.tx_trace.proofs.Waiting.{IsNew, Gains, comes}
 use Rattle.tx_trace.proofs.Answering.{gone_before, kept_before, done, decides, goes}
 
@@ -102,13 +102,13 @@ module _ (bounds : List Key) (h : History) (n : ℕ) (b : Prewrite) (l m : ℕ) 
 
   -- ---- what is kept
 
-  module _ (old new : Trace) (f : Traces h old) where
+  module _ (old new : Log) (f : Keeps h old) where
     others_of : (p : Option Pending) (kept : ℕ → Option Pending) → ((q : ℕ) → kept q ≡ cond (t == q) p (kept_in old q)) → (q : ℕ) → q ≢ t → kept q ≡ kept_in old q
     others_of p kept changed q apart = changed q ∙ elim (nat_test t q) [ inl y ↦ absurd (apart (sym y.1)) | inr y ↦ cond_false (t == q) p (kept_in old q) y.0 ]
 
     -- it waits on
     waits : (between : ℕ → Option Pending) (now : Pending) → decided h t ≡ Open → ((q : ℕ) → between q ≡ cond (t == q) (Some now) (kept_in old q))
-        → greatest (accepted (Took x ∷ h) t) of.changes ≡ None → Awaits of (accepted (Took x ∷ h) t) now → Closes t old between new None → Traces (Took x ∷ h) new
+        → greatest (accepted (Took x ∷ h) t) of.changes ≡ None → Awaits of (accepted (Took x ∷ h) t) now → Closes t old between new None → Keeps (Took x ∷ h) new
     waits between now e changed none awaits closes =
         let after = still_open e none in
         goes bounds h x run old new f t refl refl [] closes.0 (ap (λ s. deciding t s (decided (Took x ∷ h) t)) e ∙ ap (deciding t Open) after)
@@ -119,7 +119,7 @@ module _ (bounds : List Key) (h : History) (n : ℕ) (b : Prewrite) (l m : ℕ) 
 
     -- it is committed
     commits : (between : ℕ → Option Pending) (now : Pending) (c : ℕ) → decided h t ≡ Open → ((q : ℕ) → between q ≡ cond (t == q) (Some now) (kept_in old q))
-        → greatest (accepted (Took x ∷ h) t) of.changes ≡ Some c → accepted h t b.key ≡ None → Closes t old between new (Some c) → Traces (Took x ∷ h) new
+        → greatest (accepted (Took x ∷ h) t) of.changes ≡ Some c → accepted h t b.key ≡ None → Closes t old between new (Some c) → Keeps (Took x ∷ h) new
     commits between now c e changed all none closes =
         decides bounds h x run old new f t refl refl (Committed c) e (now_done c e none all) closes.0
         (λ q apart. closes.1 q ∙ (elim (nat_test t q) [ inl y ↦ absurd (apart (sym y.1)) | inr y ↦ cond_false (t == q) None (between q) y.0 ] ∙ others_of (Some now) between changed q apart))
@@ -128,7 +128,7 @@ module _ (bounds : List Key) (h : History) (n : ℕ) (b : Prewrite) (l m : ℕ) 
     two_phase : of.mode ≡ TwoPhase → (q : Key) (by : Acceptance) → accepted (Took x ∷ h) t q ≡ Some by → by.lock.mode ≡ TwoPhase
     two_phase mode q by e = accepted_two_phase bounds (Took x ∷ h) run t q by e of is mode
 
-    turned : (some : of.changes ≢ []) (between : ℕ → Option Pending) (commit : Option ℕ) → decided h t ≡ Open → Turns t b.key m (kept_in old) between commit → Closes t old between new commit → Traces (Took x ∷ h) new
+    turned : (some : of.changes ≢ []) (between : ℕ → Option Pending) (commit : Option ℕ) → decided h t ≡ Open → Turns t b.key m (kept_in old) between commit → Closes t old between new commit → Keeps (Took x ∷ h) new
     turned some between commit e turns closes =
         let kept = kept_before bounds h x run old new f t refl refl of is e in
         let was : kept.0 ≡ turns.was = some_same kept.0 turns.was (sym kept.1 ∙ turns.before) in
@@ -137,13 +137,13 @@ module _ (bounds : List Key) (h : History) (n : ℕ) (b : Prewrite) (l m : ℕ) 
           | inr y ↦ commits between turns.now y.0 e turns.changed y.2 y.3 (subst (Closes t old between new) y.1 closes)
         ]
 
-    pub locked : of.changes ≢ [] → Locked t b.key m old new → Traces (Took x ∷ h) new
+    pub locked : of.changes ≢ [] → Locked t b.key m old new → Keeps (Took x ∷ h) new
     locked some a = go (decided h t) refl
       where
-        unchanged : (end : Fate) → decided h t ≡ Done end → kept_in old t ≡ None → ((q : ℕ) → a.between q ≡ kept_in old q) → Closes t old a.between new None → Traces (Took x ∷ h) new
+        unchanged : (end : Fate) → decided h t ≡ Done end → kept_in old t ≡ None → ((q : ℕ) → a.between q ≡ kept_in old q) → Closes t old a.between new None → Keeps (Took x ∷ h) new
         unchanged end e gone same closes = done bounds h x run old new f t refl refl end e gone (record { steps = closes.0; same = λ q. closes.1 q ∙ same q })
 
-        go : (s : State) → decided h t ≡ s → Traces (Took x ∷ h) new
+        go : (s : State) → decided h t ≡ s → Keeps (Took x ∷ h) new
         go (Done end) e =
             (let gone = gone_before bounds h x run old new f t refl refl of is end e in
             elim a.accepts [

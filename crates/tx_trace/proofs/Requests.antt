@@ -20,15 +20,15 @@ use Rattle.tx_plan.specs.Answers.{start_in}
 use Rattle.tx_plan.specs.Cells.{Cells}
 use Rattle.tx_machine.specs.Machine.{Open, Done}
 use Rattle.tx_core.specs.declared.event.Taken.{Taken}
-use Rattle.tx_core.specs.declared.event.Event.TheVariants.{Stopped, Took}
+use Rattle.tx_core.specs.declared.event.Event.TheVariants.{Took}
 use Rattle.tx_core.specs.Histories.{History, declared, is_first, left}
 use Rattle.tx_core.specs.Decisions.{NoEffect, effect, decided, fate_in}
 use Rattle.tx_core.specs.Worlds.{IsWorldRun}
 use Rattle.tx_core.specs.Shadow.{reading}
 use Rattle.tx_core.proofs.Basics.{some_of}
 use Rattle.tx_core.proofs.requests.Good.{took}
-use Rattle.tx_trace.specs.declared.trace.Trace.{Trace}
-use Rattle.tx_trace.specs.Traces.{steps_of, Traces, Adds, Writes, Tells, Prewrites}
+use Rattle.tx_trace.specs.declared.log.Log.{Log}
+use Rattle.tx_trace.specs.Logs.{steps_of, Keeps, GoesOn, Writes, Tells, Prewrites}
 use Rattle.tx_trace.proofs.Answering.{reads, tells}
 use Rattle.tx_trace.proofs.Locking.{locked}
 
@@ -38,14 +38,14 @@ on_ok (Ok x) A B f a = f a
 on_ok (Err e) A B f a = tt
 
 -- the trace goes on with this request and answer, of whatever region and with whatever number loaded
-abbrev pub Follow : Trace → Body → Answer → Trace → Type 0
-Follow old body a new = (x : Taken) → x.body ≡ body → x.answer ≡ a → Adds old (Took x) new
+abbrev pub Follow : Log → Body → Answer → Log → Type 0
+Follow old body a new = (x : Taken) → x.body ≡ body → x.answer ≡ a → GoesOn old (Took x) new
 
-module _ (old new : Trace) where
-  of_taken : (body : Body) (a : Answer) → ((bounds : List Key) (h : History) (n l : ℕ) → IsWorldRun bounds (Took (took n body l a) ∷ h) → Traces h old → Traces (Took (took n body l a) ∷ h) new) → Follow old body a new
+module _ (old new : Log) where
+  of_taken : (body : Body) (a : Answer) → ((bounds : List Key) (h : History) (n l : ℕ) → IsWorldRun bounds (Took (took n body l a) ∷ h) → Keeps h old → Keeps (Took (took n body l a) ∷ h) new) → Follow old body a new
   of_taken body a all x e f bounds h run t =
       let same : took x.region body x.loaded a ≡ x = λ i. record { region = x.region; body = sym e i; loaded = x.loaded; answer = sym f i } in
-      subst (λ y. Traces (Took y ∷ h) new) same (all bounds h x.region x.loaded (subst (λ y. IsWorldRun bounds (Took y ∷ h)) (sym same) run) t)
+      subst (λ y. Keeps (Took y ∷ h) new) same (all bounds h x.region x.loaded (subst (λ y. IsWorldRun bounds (Took y ∷ h)) (sym same) run) t)
 
   -- ---- reads
 
@@ -111,10 +111,5 @@ module _ (old new : Trace) where
 
 -- ---- requests of a whole region
 
-pub region_adds : (old : Trace) (body : Body) (a : Answer) → start_in body ≡ None → reading body a ≡ [] → Follow old body a old
+pub region_adds : (old : Log) (body : Body) (a : Answer) → start_in body ≡ None → reading body a ≡ [] → Follow old body a old
 region_adds old body a none unread = of_taken old old body a (λ bounds h n l run t. reads bounds h (took n body l a) run old old t none (record { steps = sym (ap (λ r. r ++ steps_of old) unread); same = λ q. refl }))
-
--- ---- a session that stops
-
-pub stopped_adds : (old : Trace) (seat : ℕ) → Adds old (Stopped seat) old
-stopped_adds old seat bounds h run t = record { shadows = t.shadows; pending = t.pending }

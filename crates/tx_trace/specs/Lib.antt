@@ -1,4 +1,6 @@
 -- What a declared transaction that is not decided waits for.
 pub mod Pending
--- What a trace keeps of a history.
+-- What is kept of a history, and how each event changes it.
+pub mod Logs
+-- What a trace keeps, as callers see it.
 pub mod Traces

@@ -1,105 +1,52 @@
--- What a trace keeps of a history.
-use Rattle.std.specs.Prelude.{◌≡◌, ◌⊎◌, ℕ, ◌==◌, cond, ◌++◌, List, [], ◌∷◌, reverse, Option, Some, None}
+-- What a trace keeps, as callers see it.
+use Rattle.std.specs.Prelude.{ℕ, List, ◌∷◌, map, reverse, Option, Some, None, option_map}
 use Rattle.std.specs.BTreeMap as tree
+use Rattle.std.specs.Map.{lookup}
 use Rattle.std.specs.Ordering.{nat_cmp}
 use Rattle.tx_types.specs.declared.key.Key.{Key}
-use Rattle.tx_types.specs.declared.mutation.Fate.{Fate}
-use Rattle.tx_types.specs.declared.mutation.Fate.TheVariants.{Committed, Aborted}
-use Rattle.tx_plan.specs.declared.body.Prewrite.{Prewrite}
-use Rattle.tx_plan.specs.declared.answer.Answer.{Answer}
-use Rattle.tx_plan.specs.declared.answer.Answer.TheVariants.{Prewritten}
 use Rattle.tx_machine.specs.declared.step.Step.{Step}
-use Rattle.tx_machine.specs.declared.step.Step.TheVariants as step
-use Rattle.tx_machine.specs.Machine.{State, Open, Done}
-use Rattle.tx_core.specs.declared.event.Declaration.{Declaration}
 use Rattle.tx_core.specs.declared.event.Event.{Event}
-use Rattle.tx_core.specs.Histories.{History, declared}
-use Rattle.tx_core.specs.Decisions.{accepted, decided, fate_in}
+use Rattle.tx_core.specs.Histories.{History}
 use Rattle.tx_core.specs.Worlds.{IsWorldRun}
-use Rattle.tx_core.specs.Shadow.{shadow}
 use Rattle.tx_trace.specs.declared.pending.Pending.{Pending}
-use Rattle.tx_trace.specs.declared.trace.Trace.{Trace}
-use Rattle.tx_trace.specs.Pending.{Accepted, Awaits, Kept, IsFirst, AcceptsIn}
+use Rattle.tx_trace.specs.declared.pending.Pending.TheVariants as pending
+use Rattle.tx_trace.specs.declared.log.Log.{Log}
+use Rattle.tx_trace.specs.Pending.{Kept}
+use Rattle.tx_trace.specs.Logs.{Follows}
 
--- a declared transaction that is not decided is kept with what it waits for, one that is decided is not kept
-abbrev pub Stands : State → Declaration → Accepted → Option Pending → Type 0
-Stands (Done end) d accepted kept = kept ≡ None
-Stands Open d accepted None = ⊥
-Stands Open d accepted (Some pending) = Awaits d accepted pending
+-- what a transaction waits for: the keys that are left and the greatest minimum so far, or none where it waits for its primary alone
+abbrev pub Waits : Type 0
+Waits = Option (List Key × ℕ)
 
--- the steps are those of the machine that are read off the history, newest first, and each transaction stands as it does there
-pub record Follows (h : History) (steps : List Step) (kept : Kept) : Type 0 where
-  pub shadows : steps ≡ shadow h
-  pub pending : (t : ℕ) (d : Declaration) → declared h t ≡ Some d → Stands (decided h t) d (accepted h t) (kept t)
+-- the steps, newest first, and by start what each transaction that is declared and not decided waits for
+pub record Noted : Type 0 where
+  pub steps : List Step
+  pub waits : List (ℕ × Waits)
 
--- the steps of a trace, newest first
-abbrev pub steps_of : Trace → List Step
-steps_of trace = reverse trace.steps.items
+abbrev pub waits_of : Pending → Waits
+waits_of pending.Primary = None
+waits_of (pending.Locks locks) = Some (locks.left.keys, locks.min)
 
--- what it keeps
-abbrev pub kept_in : Trace → Kept
-kept_in trace = tree.get nat_cmp trace.pending
+abbrev pub pending_of : Waits → Pending
+pending_of None = pending.Primary
+pending_of (Some x) = pending.Locks (record { left = record { keys = x.0 }; min = x.1 })
 
--- The trace has just the steps of the machine that are read off the history.
-abbrev pub Traces : History → Trace → Type 0
-Traces h trace = Follows h (steps_of trace) (kept_in trace)
+-- what a log has
+abbrev pub noted : Log → Noted
+noted log = record { steps = reverse log.steps.items; waits = map (λ e. (e.0, waits_of e.1)) log.pending.entries }
 
--- The trace goes on with an event, whatever run it is of.
-abbrev pub Adds : Trace → Event → Trace → Type 0
+-- what each transaction waits for
+abbrev pub kept_of : List (ℕ × Waits) → Kept
+kept_of waits t = option_map pending_of (lookup (tree.is_at (nat_cmp t)) waits)
+
+-- A trace of a history has just the steps of the machine that are read off it, and each transaction stands as it does there.
+abbrev pub Traces : History → Noted → Type 0
+Traces h n = Follows h n.steps (kept_of n.waits)
+
+-- The trace goes on with an event: of whatever run it was, it is then of that run with the event.
+abbrev pub Adds : Noted → Event → Noted → Type 0
 Adds old e new = (bounds : List Key) (h : History) → IsWorldRun bounds (e ∷ h) → Traces h old → Traces (e ∷ h) new
 
 -- the trace is of the histories that it was of
-abbrev pub Stays : Trace → Trace → Type 0
+abbrev pub Stays : Noted → Noted → Type 0
 Stays old new = (h : History) → Traces h old → Traces h new
-
--- ---- parts of an event
-
--- the step at which a transaction is decided
-abbrev pub ended : ℕ → Fate → Step
-ended t (Committed c) = step.Commit t c
-ended t Aborted = step.Abort t
-
--- some steps are added, and what is kept is the same
-pub record Writes (more : List Step) (old new : Trace) : Type 0 where
-  pub steps : steps_of new ≡ more ++ steps_of old
-  pub same : (t : ℕ) → kept_in new t ≡ kept_in old t
-
--- a transaction that is kept is decided: its step is added, and it is kept no more
-pub record Decides (t : ℕ) (end : Fate) (old new : Trace) : Type 0 where
-  pub was : Pending
-  pub before : kept_in old t ≡ Some was
-  pub steps : steps_of new ≡ ended t end ∷ steps_of old
-  pub gone : (q : ℕ) → kept_in new q ≡ cond (t == q) None (kept_in old q)
-
--- a transaction is decided, if it is kept
-abbrev pub Ends : ℕ → Fate → Trace → Trace → Type 0
-Ends t end old new = ((kept_in old t ≡ None) × Writes [] old new) ⊎ Decides t end old new
-
--- an answer that tells a fate decides
-abbrev pub Tells : ℕ → Option Fate → Trace → Trace → Type 0
-Tells t None old new = Writes [] old new
-Tells t (Some end) old new = Ends t end old new
-
--- a transaction is committed, where that is completed: its step is added, and it is kept no more
-abbrev pub Closes : ℕ → Trace → Kept → Trace → Option ℕ → Type 0
-Closes t old between new None = (steps_of new ≡ steps_of old) × ((q : ℕ) → kept_in new q ≡ between q)
-Closes t old between new (Some c) = (steps_of new ≡ step.Commit t c ∷ steps_of old) × ((q : ℕ) → kept_in new q ≡ cond (t == q) None (between q))
-
--- a key of a transaction is locked with the minimum m: where the transaction is kept, the key is accepted, and the last key commits it
-pub record Locked (t : ℕ) (k : Key) (m : ℕ) (old new : Trace) : Type 0 where
-  pub between : Kept
-  pub commit : Option ℕ
-  pub accepts : AcceptsIn t k m (kept_in old) between commit
-  pub closes : Closes t old between new commit
-
--- a prewrite is answered
-abbrev pub Prewrites : Prewrite → Answer → Trace → Trace → Type 0
-Prewrites b (Prewritten m) old new = Locked b.start b.key m old new
-Prewrites b a old new = Tells b.start (fate_in a) old new
-
--- a transaction is kept from its declaration on
-pub record Enters (d : Declaration) (old new : Trace) : Type 0 where
-  pub first : Pending
-  pub is : IsFirst d first
-  pub steps : steps_of new ≡ step.Declare d.start d.changes ∷ steps_of old
-  pub others : (q : ℕ) → kept_in new q ≡ cond (d.start == q) (Some first) (kept_in old q)

@@ -1,57 +1,30 @@
 //! The machine's steps of the events so far.
-ghost use Rattle.std.specs.Prelude.{◌≡◌, ◌∷◌, ℕ, [], reverse, OnOk, OnErr, IfOk, IfErr};
-ghost use Rattle.tx_plan.specs.declared.body.Body.TheVariants as request;
-ghost use Rattle.tx_machine.specs.declared.step.Step.TheVariants as steps;
+ghost use Rattle.std.specs.Prelude.{◌≡◌, ℕ, [], reverse, OnOk, OnErr, IfErr};
 ghost use Rattle.tx_core.specs.declared.event.Event.TheVariants as event;
 ghost use Rattle.tx_core.specs.declared.event.Taken.{Taken};
-ghost use Rattle.tx_core.specs.Decisions.{fate_in};
-ghost use Rattle.tx_core.specs.Histories.{History};
-ghost use Rattle.tx_core.specs.Shadow.{shadow, reading, answering};
-ghost use Rattle.tx_trace.specs.Traces.{Traces, Adds, Stays, Writes, Ends, Tells, Locked, Prewrites, Enters, ended};
+ghost use Rattle.tx_trace.specs.Traces.{Traces, Adds, Stays};
 
-use crate::pending::{Pending, accept_in};
+use crate::log::Log;
 use std::alloc::Global;
-use std::collections::BTreeMap;
-use tx_core::{Answer, Body, Declaration, Event, Get, Outcome, Prewrite, Scan};
-use tx_machine::{ScanRead, Step};
-use tx_types::{Fate, Fault, Key, Ts};
+use std::marker::Model;
+use tx_core::{Answer, Body, Declaration, Event, Outcome};
+use tx_machine::Step;
+use tx_types::{Fault, Ts};
 
-/// The machine's steps of the events so far, oldest first, and what each transaction that is declared and not decided waits for.
+/// The machine's steps of a run so far, as its events come. Where memory is refused for one, the trace is that of the events before it.
+/// An event costs about the logarithm of what is kept. Contracts see the steps, newest first, and what each transaction waits for that is
+/// declared and not decided.
 #[derive(Drop)]
 pub struct Trace {
-    alloc: Global,
-    steps: Vec<Step>,
-    pending: BTreeMap<Ts, Pending>,
+    log: Log,
 }
 
-// The step at which a transaction is decided.
-fn decided(start: Ts, fate: Fate) -> Step
-    ensures { result ≡ ended start fate }
-{
-    match fate {
-        Fate::Committed(commit) => Step::Commit(start, commit),
-        Fate::Aborted => Step::Abort(start),
-    }
-}
+impl Model for Trace {
+    ghost use Rattle.tx_trace.specs.Traces.{Noted, noted};
 
-// The step of a declaration.
-fn declaring(of: &Declaration) -> Result<Step, Fault>
-    ensures ok { IfOk result (λ step. step ≡ steps.Declare of.now.start of.now.changes) }
-    ensures err { IfErr result (λ e. e ≡ Fault.OutOfMemory) }
-{
-    Ok(Step::Declare(of.start, of.changes.clone()?))
-}
+    ghost Value = { Noted };
 
-// The fate that an answer tells of the transaction that its request names, if it tells one.
-fn fate_told(answer: &Answer) -> Option<Fate>
-    ensures { result ≡ fate_in answer.now }
-{
-    match answer {
-        Answer::Committed(commit) => Some(Fate::Committed(*commit)),
-        Answer::AlreadyCommitted { commit } => Some(Fate::Committed(*commit)),
-        Answer::RolledBack | Answer::Missing | Answer::AlreadyRolledBack => Some(Fate::Aborted),
-        _ => None,
-    }
+    ghost view = { λ t. noted t.log };
 }
 
 impl Trace {
@@ -60,125 +33,15 @@ impl Trace {
         ensures { Traces [] result }
     {
         Trace {
-            alloc,
-            steps: Vec::new(alloc),
-            pending: BTreeMap::new(alloc),
+            log: Log::new(alloc),
         }
     }
 
-    /// The steps, oldest first: those of the machine that are read off each history that this is the trace of.
+    /// The steps, oldest first: by `Traces` those of the machine that are read off the history that this is the trace of.
     pub fn steps(&self) -> &[Step]
-        ensures { (h : History) → Traces h self.now → reverse result.now ≡ shadow h }
+        ensures { reverse result.now ≡ self.now.steps }
     {
-        self.steps.as_slice()
-    }
-
-    // Adds a step.
-    fn write(&mut self, step: Step) -> Result<(), Fault>
-        ensures ok { OnOk result (Writes (step ∷ []) self.old self.new) }
-        ensures same { OnErr result (Stays self.old self.new) }
-        ensures err { IfErr result (λ e. e ≡ Fault.OutOfMemory) }
-    {
-        self.steps.push(step)?;
-        Ok(())
-    }
-
-    // A transaction is kept from its declaration on.
-    fn enter(&mut self, of: &Declaration) -> Result<(), Fault>
-        ensures ok { OnOk result (Enters of.now self.old self.new) }
-        ensures same { OnErr result (Stays self.old self.new) }
-        ensures err { IfErr result (λ e. e ≡ Fault.OutOfMemory) }
-    {
-        let first = Pending::new(self.alloc, of)?;
-        let step = declaring(of)?;
-        self.steps.reserve(1)?;
-        self.pending.insert(of.start, first)?;
-        self.steps.push_reserved(step);
-        Ok(())
-    }
-
-    // A transaction is decided, if it is kept.
-    fn end(&mut self, start: Ts, fate: Fate) -> Result<(), Fault>
-        ensures ok { OnOk result (Ends start fate self.old self.new) }
-        ensures same { OnErr result (Stays self.old self.new) }
-        ensures err { IfErr result (λ e. e ≡ Fault.OutOfMemory) }
-    {
-        if self.pending.contains_key(&start) {
-            self.steps.push(decided(start, fate))?;
-            self.pending.remove(&start);
-        }
-        Ok(())
-    }
-
-    // A transaction is decided where an answer tells its fate.
-    fn tell(&mut self, start: Ts, answer: &Answer) -> Result<(), Fault>
-        ensures ok { OnOk result (Tells start (fate_in answer.now) self.old self.new) }
-        ensures same { OnErr result (Stays self.old self.new) }
-        ensures err { IfErr result (λ e. e ≡ Fault.OutOfMemory) }
-    {
-        match fate_told(answer) {
-            Some(fate) => self.end(start, fate),
-            None => Ok(()),
-        }
-    }
-
-    // A key of a transaction is locked with a minimum, 0 of a two-phase lock.
-    fn lock(&mut self, start: Ts, key: &Key, min: Ts) -> Result<(), Fault>
-        ensures ok { OnOk result (Locked start key.now min self.old self.new) }
-        ensures same { OnErr result (Stays self.old self.new) }
-        ensures err { IfErr result (λ e. e ≡ Fault.OutOfMemory) }
-    {
-        self.steps.reserve(1)?;
-        if let Some(commit) = accept_in(&mut self.pending, start, key, min) {
-            self.steps.push_reserved(Step::Commit(start, commit));
-            self.pending.remove(&start);
-        }
-        Ok(())
-    }
-
-    // A read of one key is answered.
-    fn read(&mut self, body: &Get, answer: &Answer) -> Result<(), Fault>
-        ensures ok { OnOk result (Writes (reading (request.Get body.now) answer.now) self.old self.new) }
-        ensures same { OnErr result (Stays self.old self.new) }
-        ensures err { IfErr result (λ e. e ≡ Fault.OutOfMemory) }
-    {
-        let found = match answer {
-            Answer::Found(value) => Some(value.clone()?),
-            Answer::Nothing => None,
-            _ => return Ok(()),
-        };
-        self.write(Step::Read(body.key.clone()?, body.at, found))
-    }
-
-    // A read of a range is answered.
-    fn scan(&mut self, body: &Scan, answer: &Answer) -> Result<(), Fault>
-        ensures ok { OnOk result (Writes (reading (request.Scan body.now) answer.now) self.old self.new) }
-        ensures same { OnErr result (Stays self.old self.new) }
-        ensures err { IfErr result (λ e. e ≡ Fault.OutOfMemory) }
-    {
-        let Answer::Rows(rows) = answer else {
-            return Ok(());
-        };
-        let step = ScanRead {
-            from: body.from.clone()?,
-            to: body.to.clone()?,
-            at: body.at,
-            limit: body.limit,
-            rows: rows.clone()?,
-        };
-        self.write(Step::Scan(step))
-    }
-
-    // A prewrite is answered.
-    fn prewrite(&mut self, body: &Prewrite, answer: &Answer) -> Result<(), Fault>
-        ensures ok { OnOk result (Prewrites body.now answer.now self.old self.new) }
-        ensures same { OnErr result (Stays self.old self.new) }
-        ensures err { IfErr result (λ e. e ≡ Fault.OutOfMemory) }
-    {
-        match answer {
-            Answer::Prewritten(min) => self.lock(body.start, &body.key, *min),
-            _ => self.tell(body.start, answer),
-        }
+        self.log.steps()
     }
 
     /// Goes on with a request that a region took, and its answer.
@@ -187,18 +50,7 @@ impl Trace {
         ensures same { OnErr result (Stays self.old self.new) }
         ensures err { IfErr result (λ e. e ≡ Fault.OutOfMemory) }
     {
-        match body {
-            Body::Get(body) => self.read(body, answer),
-            Body::Scan(body) => self.scan(body, answer),
-            Body::Prewrite(body) => self.prewrite(body, answer),
-            Body::Commit(body) => self.tell(body.start, answer),
-            Body::BatchRollback(body) => self.tell(body.start, answer),
-            Body::TxnHeartBeat(body) => self.tell(body.start, answer),
-            Body::CheckTxnStatus(body) => self.tell(body.start, answer),
-            Body::CheckSecondaryLocks(body) => self.tell(body.start, answer),
-            Body::ResolveLock(body) => self.tell(body.start, answer),
-            Body::RaiseSafe(_) | Body::LocksBelow(_) | Body::Collect(_) => Ok(()),
-        }
+        self.log.took(body, answer)
     }
 
     /// Goes on with a number that a seat drew.
@@ -207,7 +59,7 @@ impl Trace {
         ensures same { OnErr result (Stays self.old self.new) }
         ensures err { IfErr result (λ e. e ≡ Fault.OutOfMemory) }
     {
-        self.write(Step::Draw(ts))
+        self.log.drew(ts)
     }
 
     /// Goes on with a transaction that began.
@@ -216,7 +68,7 @@ impl Trace {
         ensures same { OnErr result (Stays self.old self.new) }
         ensures err { IfErr result (λ e. e ≡ Fault.OutOfMemory) }
     {
-        self.write(Step::Begin(start))
+        self.log.began(start)
     }
 
     /// Goes on with what a transaction declared.
@@ -225,7 +77,7 @@ impl Trace {
         ensures same { OnErr result (Stays self.old self.new) }
         ensures err { IfErr result (λ e. e ≡ Fault.OutOfMemory) }
     {
-        self.enter(of)
+        self.log.declared(of)
     }
 
     /// Goes on with what a session answered of its transaction.
@@ -234,15 +86,10 @@ impl Trace {
         ensures same { OnErr result (Stays self.old self.new) }
         ensures err { IfErr result (λ e. e ≡ Fault.OutOfMemory) }
     {
-        match outcome {
-            Outcome::Committed(commit) => self.write(Step::Answer(start, Fate::Committed(commit))),
-            Outcome::Aborted => self.write(Step::Answer(start, Fate::Aborted)),
-            Outcome::Unknown(_) | Outcome::ReadOnly => Ok(()),
-        }
+        self.log.answered(start, outcome)
     }
 
-    /// Goes on with an event of a run. Where memory is refused, the trace is that of the events before, as each of these calls leaves it.
-    /// An event costs about the logarithm of what is kept.
+    /// Goes on with an event.
     pub fn push(&mut self, event: &Event) -> Result<(), Fault>
         ensures ok { OnOk result (Adds self.old event.now self.new) }
         ensures same { OnErr result (Stays self.old self.new) }

@@ -1,8 +1,9 @@
 use Rattle.tx_core.specs.declared.event.Event.TheVariants.{Declared}
-use Rattle.tx_trace.specs.Traces.{Adds, Enters}
-use Rattle.tx_trace.proofs.Declaring.{declares}
-use Rattle.tx_trace.proofs.Requests.{on_ok}
+use Rattle.tx_trace.proofs.Noting.{adds_view, stays_view}
 use Rattle.tx_trace.proofs.trace.Trace.declared.Goals as goal
 
 pub returns-clause-ok : goal.returns-clause-ok
-returns-clause-ok c = on_ok c.enter.result (Enters c.args.of.now c.args.self.now c.enter.new.self) (Adds c.args.self.now (Declared c.args.of.now) c.enter.new.self) (λ enters bounds h run t. declares bounds h c.args.of.now run c.args.self.now c.enter.new.self t enters) c.enter.ensures.ok
+returns-clause-ok c = adds_view c.declared.result c.self.inside.log c.declared.new.self c.args.self.now c.self.view_is (Declared c.args.of.now) c.declared.ensures.ok
+
+pub returns-clause-same : goal.returns-clause-same
+returns-clause-same c = stays_view c.declared.result c.self.inside.log c.declared.new.self c.args.self.now c.self.view_is c.declared.ensures.same

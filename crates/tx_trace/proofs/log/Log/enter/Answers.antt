@@ -1,8 +1,8 @@
 use Rattle.std.proofs.Common.{Some, ap, ◌∷◌, ◌∙◌}
 use Rattle.tx_machine.specs.declared.step.Step.{Step}
-use Rattle.tx_trace.specs.Traces.{steps_of, kept_in}
+use Rattle.tx_trace.specs.Logs.{steps_of, kept_in}
 use Rattle.tx_trace.proofs.Steps.{one_more, changed_at}
-use Rattle.tx_trace.proofs.trace.Trace.enter.Goals as goal
+use Rattle.tx_trace.proofs.log.Log.enter.Goals as goal
 
 pub returns-clause-ok : goal.returns-clause-ok
 returns-clause-ok c =

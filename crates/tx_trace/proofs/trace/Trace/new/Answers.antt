@@ -1,0 +1,6 @@
+use Rattle.std.proofs.Common.{[]}
+use Rattle.tx_trace.proofs.Noting.{outward}
+use Rattle.tx_trace.proofs.trace.Trace.new.Goals as goal
+
+pub returns : goal.returns
+returns c = outward [] c.new.result c.new.ensures
