@@ -1,11 +1,13 @@
-use crate::{Reply, put_reply};
+use crate::{Reply, put_reply, put_step};
 use std::alloc::Global;
 use tx_cells::{KeyCopy, RecordAt};
 use tx_client::{Status, WaitCause};
 use tx_core::Answer;
+use tx_machine::{ScanRead, Step};
 use tx_plan::{LockHead, RecordHead};
 use tx_types::{
-    Fault, Items, Key, KeyValue, KeyValues, LockInfo, LockKind, Mode, Secondaries, Ts, Value,
+    Change, Changes, Fate, Fault, Items, Key, KeyValue, KeyValues, LockInfo, LockKind, Mode,
+    Mutation, Secondaries, Ts, Value,
 };
 
 // Whether this is the line of a reply.
@@ -215,4 +217,58 @@ fn versions(rt: HostRuntime) {
     ] {
         assert!(rt; says_versions(&rt, kind, records, values, line));
     }
+}
+
+// Whether this is the line of a step.
+fn says_step(rt: &HostRuntime, step: &Step, line: &str) -> bool {
+    let mut text = Vec::new(rt.alloc());
+    put_step(&mut text, step).is_ok() && text.as_slice() == line.as_bytes()
+}
+
+fn change(rt: &HostRuntime, name: &[u8], mutation: Mutation) -> Result<Change, Fault> {
+    Ok(Change {
+        key: Key::new(rt.alloc(), name)?,
+        mutation,
+    })
+}
+
+fn declared(rt: &HostRuntime) -> Result<Step, Fault> {
+    let mut changes = Changes::new(rt.alloc());
+    let put = Mutation::Put(Value::new(rt.alloc(), b"x")?);
+    changes.push(change(rt, b"a", put)?)?;
+    changes.push(change(rt, b"b", Mutation::Delete)?)?;
+    changes.push(change(rt, b"c", Mutation::Lock)?)?;
+    Ok(Step::Declare(Ts::new(1), changes))
+}
+
+fn scanned(rt: &HostRuntime) -> Result<Step, Fault> {
+    let rows = rows_of(rt, &[(b"a", b"x")])?;
+    Ok(Step::Scan(ScanRead {
+        from: Key::new(rt.alloc(), b"a")?,
+        to: Key::new(rt.alloc(), b"m")?,
+        at: Ts::new(4),
+        limit: 9,
+        rows,
+    }))
+}
+
+fn read(rt: &HostRuntime) -> Result<Step, Fault> {
+    let found = Some(Value::new(rt.alloc(), b"x")?);
+    Ok(Step::Read(Key::new(rt.alloc(), b"a")?, Ts::new(3), found))
+}
+
+// Whether this is the line of a step that was made.
+fn says_made(rt: &HostRuntime, step: Result<Step, Fault>, line: &str) -> bool {
+    step.is_ok_and(|step| says_step(rt, &step, line))
+}
+
+#[test]
+fn steps(rt: HostRuntime) {
+    let declare = "[\"declare\",1,[[\"a\",\"put\",\"x\"],[\"b\",\"delete\"],[\"c\",\"lock\"]]]\n";
+    assert!(rt; says_made(&rt, declared(&rt), declare));
+    let scan = "[\"scan\",4,\"a\",\"m\",9,[[\"a\",\"x\"]]]\n";
+    assert!(rt; says_made(&rt, scanned(&rt), scan));
+    assert!(rt; says_made(&rt, read(&rt), "[\"read\",3,\"a\",\"x\"]\n"));
+    let answer = Step::Answer(Ts::new(1), Fate::Committed(Ts::new(2)));
+    assert!(rt; says_step(&rt, &answer, "[\"answer\",1,\"committed\",2]\n"));
 }

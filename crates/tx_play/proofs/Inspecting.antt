@@ -1,5 +1,5 @@
 -- What a step gives that has a key shown is its turn.
-use Rattle.std.proofs.Common.{◌≡◌, ◌≤◌, ◌+◌, ℕ, Bool, true, false, not, cond, List, [], ◌∷◌, ◌++◌, map, length, slice_get, slice_set, Option, Some, Result, Ok, Err, refl, sym, ap, subst, ◌∙◌, arith}
+use Rattle.std.proofs.Common.{◌≡◌, ◌≤◌, ◌+◌, ℕ, Bool, true, false, List, [], ◌∷◌, ◌++◌, map, length, slice_get, slice_set, Option, Some, Result, Ok, refl, sym, ap, subst, ◌∙◌, arith}
 use Rattle.std.specs.List.{sum_by}
 use Rattle.std.specs.Prelude.{IfOk}
 use Rattle.std.proofs.lemmas.List.Sums.{sum_by-set}
@@ -15,8 +15,8 @@ use Rattle.tx_core.proofs.seats.Beginnings.{begins_length, begins_whole}
 use Rattle.tx_journal.specs.Known.{Known}
 use Rattle.tx_lines.specs.declared.reply.Reply.{Reply}
 use Rattle.tx_lines.specs.declared.reply.Reply.TheVariants as reply
-use Rattle.tx_play.specs.Posts.{Desk, Stage, stage_of, made_by, AreNumbered, Showed, Displays, MayShowSo}
-use Rattle.tx_play.specs.Scenes.{Scene, Turn, goes, shows, calls, is_key, Place, inspects, turn}
+use Rattle.tx_play.specs.Posts.{Desk, stage_of, made_by, AreNumbered, Showed, Displays}
+use Rattle.tx_play.specs.Scenes.{Scene, goes, shows, is_key, Place, inspects, turn}
 use Rattle.tx_play.specs.Steps.{versions}
 use Rattle.tx_play.specs.Plays.{Leads}
 use Rattle.tx_play.specs.Places.{seat_in, place_of, Held, name_at, scene_with, scene_of, made_in, GoesTo, Goes, Inspected, Turned}

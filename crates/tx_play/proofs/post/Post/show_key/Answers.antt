@@ -1,4 +1,4 @@
-use Rattle.std.proofs.Common.{◌≡◌, slice_set, option_map, string_bytes, refl, subst, ◌∙◌, arith}
+use Rattle.std.proofs.Common.{slice_set, option_map, string_bytes, refl, subst, ◌∙◌, arith}
 use Rattle.std.proofs.lemmas.List.{length-set}
 use Rattle.tx_core.specs.Worlds.{route}
 use Rattle.tx_play.specs.Posts.{Desk, Displays, requests, by_name}
