@@ -200,6 +200,14 @@ impl<J: Naming> Session<J> {
         self.transaction.lock(key)
     }
 
+    /// What its buffer declares under these terms, which is nothing where it is empty.
+    pub fn declaration(&self, alloc: Global, terms: &Terms) -> Result<Option<Declaration>, Fault>
+        ensures ok { IfOk result (λ d. d ≡ declaration self.now.state.start self.now.state.buffer terms.now) }
+        ensures err { IfErr result (λ e. e ≡ fault.OutOfMemory) }
+    {
+        self.transaction.declaration(alloc, terms)
+    }
+
     /// Fixes the write set, and records it where it is not empty. `TooManyKeys` where it is to commit asynchronously and has
     /// more than 256 keys. A refusal leaves the session as it was.
     pub fn declare(&mut self, alloc: Global, terms: Terms) -> Result<(), Fault>

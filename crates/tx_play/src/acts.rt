@@ -12,7 +12,7 @@ use crate::post::{Post, Way};
 use std::alloc::Global;
 use tx_cells::Families;
 use tx_client::{Came, Session, Terms, ask};
-use tx_core::{Body, Get, Outcome, Starts};
+use tx_core::{Body, Declaration, Get, Outcome, Starts};
 use tx_journal::{Naming, Seat};
 use tx_types::{Fault, Key, Ts};
 
@@ -32,7 +32,35 @@ pub(crate) fn begin_at<J: Naming, F: Families>(
     };
     let start = session.start();
     post.set_newest(session.tell());
+    post.drew(start);
+    post.began(start);
     (session, start)
+}
+
+// What a session is going to declare, where steps are kept. Memory for that may be refused.
+fn declaration_of<J: Naming, F: Families>(
+    alloc: Global,
+    session: &Session<J>,
+    post: &Post<J, F>,
+    terms: &Terms,
+) -> Result<Option<Declaration>, Fault> {
+    if post.is_traced() {
+        session.declaration(alloc, terms)
+    } else {
+        Ok(None)
+    }
+}
+
+// A session has declared this, if it declared anything.
+fn note_declared<J: Naming, F: Families>(
+    post: &mut Post<J, F>,
+    copy: Result<Option<Declaration>, Fault>,
+) {
+    match copy {
+        Ok(None) => {}
+        Ok(Some(of)) => post.declared(&of),
+        Err(_) => post.lose_trace(),
+    }
 }
 
 /// A session declares its buffer. A refusal is no event, and leaves its state as it was.
@@ -47,8 +75,12 @@ pub(crate) fn declare_at<J: Naming, F: Families>(
     ensures err { IfErr result (λ e. ((e ≡ Fault.OutOfMemory) ⊎ ((e ≡ Fault.TooManyKeys) × (exceeds session.old.state.buffer terms ≡ true))) × (session.new.state ≡ session.old.state) × Acts session.old.seat session.new.seat post.old post.new (stage_of post.new ≡ stage_of post.old)) }
 {
     session.hear_of(post.newest());
+    let copy = declaration_of(alloc, session, post, &terms);
     let declared = session.declare(alloc, terms);
     post.set_newest(session.tell());
+    if declared.is_ok() {
+        note_declared(post, copy);
+    }
     declared
 }
 
@@ -64,6 +96,7 @@ pub(crate) fn draw_at<J: Naming, F: Families>(session: &mut Session<J>, post: &m
         unreachable!()
     };
     post.set_newest(session.tell());
+    post.drew(commit);
     commit
 }
 
@@ -76,9 +109,11 @@ pub(crate) fn finish_at<J: Naming, F: Families>(
     ensures open_yet { IfErr result (λ s. (finish_of session.state ≡ None) × (s.state ≡ session.state) × Acts session.seat s.seat post.old post.new (post.new.newest ≡ post.old.newest)) }
 {
     session.hear_of(post.newest());
+    let start = session.start();
     match session.finish() {
         Ok((outcome, mut seat)) => {
             post.set_newest(seat.tell());
+            post.answered(start, outcome);
             Ok((outcome, seat))
         }
         Err(mut session) => {
@@ -103,6 +138,7 @@ pub(crate) fn tick_at<J: Naming, F: Families>(
         return None;
     };
     post.set_newest(clerk.tell());
+    post.drew(last);
     Some(last)
 }
 

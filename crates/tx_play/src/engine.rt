@@ -21,6 +21,7 @@ use std::marker::Model;
 use tx_cells::Families;
 use tx_client::{Came, Session};
 use tx_journal::{Naming, Seat, Told};
+use tx_trace::Trace;
 use tx_types::limits::MAX_NAME_BYTES;
 use tx_types::{Cause, Key, Ts};
 
@@ -297,6 +298,16 @@ impl<J: Naming, F: Families> Engine<J, F> {
         ensures { result ≡ length J.bounds + 1 }
     {
         self.direct.post.count()
+    }
+
+    /// Keeps the steps of the machine from now on: nothing has happened yet.
+    pub fn keep_trace(&mut self) {
+        self.direct.post.keep_trace(self.alloc);
+    }
+
+    /// The steps of the machine that were kept: none where memory for one was refused.
+    pub fn take_trace(&mut self) -> Option<Trace> {
+        self.direct.post.take_trace()
     }
 
     /// Plays one step.

@@ -13,6 +13,7 @@ ghost use Rattle.tx_play.specs.Posts.{AreNumbered, AllFit, region_for, by_name, 
 ghost use Rattle.tx_play.specs.Scenes.{may_go, is_crowded, is_name as name_test};
 
 mod showing;
+mod tracing;
 
 use std::alloc::Global;
 use std::collections::BTreeMap;
@@ -22,6 +23,8 @@ use tx_client::{Lost, Sender};
 use tx_core::{Answer, Body};
 use tx_journal::{Journal, Naming, Reply, Request, Seat, Told};
 use tx_region::{Region, route};
+use crate::post::tracing::noted;
+use tx_trace::Trace;
 use tx_types::limits::{MAX_HELD_REQUESTS, MAX_NAME_BYTES};
 use tx_types::{Fault, Key};
 
@@ -49,6 +52,7 @@ pub struct Post<J: Naming, F: Families> {
     newest: Told<J>,
     held: BTreeMap<String, Request<J>>,
     way: Option<Way<String>>,
+    trace: Option<Trace>,
 }
 
 impl<J: Naming, F: Families> Model for Post<J, F> {
@@ -71,6 +75,7 @@ impl<J: Naming, F: Families + Drop> Drop for Post<J, F> {
             newest: _,
             held: _,
             way: _,
+            trace: _,
         } = self;
     }
 }
@@ -190,7 +195,8 @@ impl<J: Naming, F: Families> Post<J, F> {
         ensures { Hands (region_for J.bounds request.body) self.old self.new request result }
     {
         let place = self.place_of(request.body());
-        take_at(&mut self.regions[place], &mut self.newest, request)
+        let reply = take_at(&mut self.regions[place], &mut self.newest, request);
+        noted(&mut self.trace, reply)
     }
 
     // No region takes a request, since memory was refused.
@@ -326,6 +332,7 @@ impl<J: Naming, F: Families> Post<J, F> {
             newest,
             held: BTreeMap::new(alloc),
             way: Some(Way::Plain),
+            trace: None,
         }
     }
 
@@ -351,6 +358,7 @@ impl<J: Naming, F: Families + Drop> Post<J, F> {
             newest: _,
             held: _,
             way: _,
+            trace: _,
         } = self;
         'regions: while let Some(mut region) = regions.pop() {
             region.learn(by.copy(newest));

@@ -7,6 +7,7 @@
 #![tactic(auto)]
 
 mod call;
+mod checked;
 mod checker;
 mod line;
 mod machine_step;
@@ -15,5 +16,5 @@ mod script;
 mod words;
 
 pub use checker::check;
-pub use opening::{simulate, simulate_with};
+pub use opening::{simulate, simulate_checked, simulate_with};
 pub use tx_lines::{Broken, End};

@@ -58,6 +58,7 @@ fn over<J: Naming, F: Families + Drop, R: BufRead, W: Write>(
     writer: &mut W,
     first: Found,
     line: &mut Vec<u8>,
+    checks: bool,
 ) -> Result<End, Broken>
     requires named { (opened.table ≡ J.table) × (opened.bounds ≡ J.bounds) × (opened.seats ≡ J.seats) }
     requires few { vec_len families ≡ length opened.bounds + 1 }
@@ -74,7 +75,24 @@ fn over<J: Naming, F: Families + Drop, R: BufRead, W: Write>(
     let Ok(engine) = engine_of(alloc, journal, seats, families) else {
         return Err(Broken::Memory);
     };
-    simulate_over(alloc, engine, reader, writer, first, line)
+    simulate_over(alloc, engine, reader, writer, first, line, checks)
+}
+
+// Plays a script, and tells the steps of its run where that is asked.
+fn play<F: Fresh, R: BufRead, W: Write>(
+    alloc: Global,
+    reader: &mut R,
+    writer: &mut W,
+    checks: bool,
+) -> Result<End, Broken> {
+    let mut line = Vec::new(alloc);
+    let first = read_line(reader, &mut line)?;
+    let bounds = bounds_at(alloc, first, line.as_slice())?;
+    let families = empty_families::<F>(alloc, bounds.len() + 1)?;
+    let Ok(opened) = Opened::new(alloc, bounds, MAX_LIVE_SESSIONS + 1) else {
+        return Err(Broken::Memory);
+    };
+    over::<Brand, F, R, W>(alloc, opened, families, reader, writer, first, &mut line, checks)
 }
 
 /// Plays a script as `simulate` does, over families of one's own choice, which begin with nothing.
@@ -90,14 +108,7 @@ pub fn simulate_with<F: Fresh, R: BufRead, W: Write>(
     ensures breaks { IfErr result (λ why. IfSome (R.remaining reader.old)
         (λ input. BreaksScript why input (W.contents writer.old) (W.contents writer.new))) }
 {
-    let mut line = Vec::new(alloc);
-    let first = read_line(reader, &mut line)?;
-    let bounds = bounds_at(alloc, first, line.as_slice())?;
-    let families = empty_families::<F>(alloc, bounds.len() + 1)?;
-    let Ok(opened) = Opened::new(alloc, bounds, MAX_LIVE_SESSIONS + 1) else {
-        return Err(Broken::Memory);
-    };
-    over::<Brand, F, R, W>(alloc, opened, families, reader, writer, first, &mut line)
+    play::<F, R, W>(alloc, reader, writer, false)
 }
 
 /// Plays a script, in one thread: reads its steps line by line, and writes one reply line a step. Line 1 may say the keys between its
@@ -118,5 +129,15 @@ pub fn simulate<R: BufRead, W: Write>(
     ensures breaks { IfErr result (λ why. IfSome (R.remaining reader.old)
         (λ input. BreaksScript why input (W.contents writer.old) (W.contents writer.new))) }
 {
-    simulate_with::<FlatCells, R, W>(alloc, reader, writer)
+    play::<FlatCells, R, W>(alloc, reader, writer, false)
+}
+
+/// The same. Where the script ended well, the machine's steps of its run follow its replies, a line each, and then the line that says
+/// that they are a run.
+pub fn simulate_checked<R: BufRead, W: Write>(
+    alloc: Global,
+    reader: &mut R,
+    writer: &mut W,
+) -> Result<End, Broken> {
+    play::<FlatCells, R, W>(alloc, reader, writer, true)
 }

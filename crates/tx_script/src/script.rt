@@ -6,6 +6,7 @@ ghost use Rattle.tx_play.specs.Openings.{IsOpening};
 ghost use Rattle.tx_script.specs.Play.{EndsLines, BreaksLines};
 ghost use Rattle.tx_script.specs.Loops.{Ahead, Kept, EndsAt, BreaksAt};
 
+use crate::checked::tell_trace;
 use crate::line::{Turned, play_found, tell, tell_fault};
 use std::alloc::Global;
 use std::io::{BufRead, Write};
@@ -66,6 +67,7 @@ pub(crate) fn simulate_over<J: Naming, F: Families + Drop, R: BufRead, W: Write>
     writer: &mut W,
     first: Found,
     line: &mut Vec<u8>,
+    checks: bool,
 ) -> Result<End, Broken>
     requires opening { IsOpening engine }
     requires places { length engine.places ≡ limits.MAX_LIVE_SESSIONS }
@@ -77,8 +79,15 @@ pub(crate) fn simulate_over<J: Naming, F: Families + Drop, R: BufRead, W: Write>
         → BreaksLines J.bounds why lines (W.contents writer.old) (W.contents writer.new)) }
 {
     let mut engine = engine;
+    if checks {
+        engine.keep_trace();
+    }
     let end = play_lines(alloc, &mut engine, reader, writer, first, line);
+    let trace = engine.take_trace();
     let told = engine.settle();
     told.show();
+    if checks && matches!(&end, Ok(End::Well)) {
+        return tell_trace(alloc, writer, trace);
+    }
     end
 }

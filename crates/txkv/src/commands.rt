@@ -1,6 +1,6 @@
 //! The commands of the program, and their help.
 use clap::builder::ValueParser;
-use clap::{Arg, ArgMatches, Command, Error};
+use clap::{Arg, ArgAction, ArgMatches, Command, Error};
 use std::alloc::Global;
 use std::env::Env;
 use std::{env, io};
@@ -93,6 +93,8 @@ pub enum Job {
     Simulate,
     /// By so many workers.
     Run(usize),
+    /// Simulate, and tell the machine's steps of the run.
+    SimulateChecked,
     Check,
 }
 
@@ -101,8 +103,9 @@ pub fn job_of(matches: &ArgMatches<'_>) -> Job {
     if let Some(run) = matches.subcommand_matches("run") {
         return Job::Run(run.get_one::<usize>("workers").unwrap_or(1));
     }
-    match matches.subcommand_name() {
-        Some("simulate") => Job::Simulate,
+    match matches.subcommand() {
+        Some(("simulate", asked)) if asked.get_flag("check") => Job::SimulateChecked,
+        Some(("simulate", _)) => Job::Simulate,
         _ => Job::Check,
     }
 }
@@ -121,9 +124,14 @@ pub fn parse<'a>(alloc: Global, words: &'a [String]) -> Result<ArgMatches<'a>, E
     let check = Command::new(alloc, "check")
         .about(CHECK_ABOUT)
         .after_help(CHECK_HELP);
+    let check_flag = Arg::new(alloc, "check")
+        .long("check")
+        .action(ArgAction::SetTrue)
+        .help("Writes the machine's steps of the run after its replies, and that they are one");
     let simulate = Command::new(alloc, "simulate")
         .about(SIMULATE_ABOUT)
-        .after_help(SIMULATE_HELP);
+        .after_help(SIMULATE_HELP)
+        .arg(check_flag)?;
     let workers = Arg::new(alloc, "workers")
         .long("workers")
         .value_name("N")

@@ -18,7 +18,7 @@ use std::thread::Threads;
 use tx_cells::FlatCells;
 use tx_run::{Plain, run_script};
 use tx_sched::Open;
-use tx_script::{Broken, End, check, simulate};
+use tx_script::{Broken, End, check, simulate, simulate_checked};
 
 // Both streams are buffered; each job flushes what it writes.
 fn run<R>(rt: &R, job: Job) -> Result<End, Broken>
@@ -47,6 +47,7 @@ where
             drop(played);
             Ok(end)
         }
+        Job::SimulateChecked => simulate_checked(rt.alloc(), &mut reader, &mut writer),
         Job::Check => check(rt.alloc(), &mut reader, &mut writer),
     }
 }
