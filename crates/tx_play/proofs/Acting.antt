@@ -12,32 +12,35 @@ use Rattle.tx_core.proofs.seats.Beginnings.{begins_length, begins_whole}
 use Rattle.tx_journal.specs.Known.{Known}
 use Rattle.tx_client.specs.Calls.{HasHeard, BeganAt, Records, Draws, RecordsDeclared}
 use Rattle.tx_client.specs.Walks.{Walk, Sends}
-use Rattle.tx_play.specs.Posts.{Desk, made_by, stage_of, with_events, Passes, Runs}
+use Rattle.tx_play.specs.Posts.{Desk, made_by, GoesOnWith, NotesDrawn, NotesDeclared, stage_of, with_events, Passes, Runs}
 use Rattle.tx_play.specs.Places.{Acts, at_regions}
 use Rattle.tx_play.specs.Scenes.{declared_in}
 use Rattle.tx_play.proofs.Alone.{recorded_grows, recorded_alone, drawn_grows, drawn_number, drawn_alone, begun_grows, begun_number, begun_alone}
 use Rattle.tx_play.proofs.Counts.{recorded_part, drawn_part}
 use Rattle.tx_play.proofs.Stages.{same_stage}
+use Rattle.tx_play.proofs.Tracing.{traced_same, traced_on, traced_twice}
 use Rattle.tx_play.proofs.Walking.{walk_comes}
+use Rattle.tx_trace.specs.declared.trace.Trace.{Trace}
 
 -- one and the same seat
 made_same : (k l : Known) → l.seat ≡ k.seat → length (part k.seat l.events) ≤ length (part k.seat k.events) → made_by l ≤ made_by k
 made_same k l number le = (let same : made_by l ≡ length (part k.seat l.events) = ap (λ i. length (part i l.events)) number in omega (arith, same, le))
 
 -- nothing happens
-pub still_acts : (k m : Known) (from to : Desk) (Exact : Type 0) → m ≡ k → to.regions ≡ from.regions → to.newest ≡ from.newest → Exact → Acts k m from to Exact
-still_acts k m from to Exact same regions newest exact = record {
+pub still_acts : (k m : Known) (from to : Desk) (Exact : Type 0) → m ≡ k → to.regions ≡ from.regions → to.newest ≡ from.newest → to.trace ≡ from.trace → Exact → Acts k m from to Exact
+still_acts k m from to Exact same regions newest trace exact = record {
   made = 0;
   counts = omega (arith, ap made_by same, ap (sum_by made_by) regions);
   seat = ap (λ (x : Known). x.seat) same;
   ticks = omega (arith, ap (λ (x : Known). x.ticks) same);
   grows = omega (arith, ap length newest);
   exact = λ le. exact;
+  traced = λ le. traced_same from to newest trace;
 }
 
 -- what is exact may be said otherwise
 pub acts_so : (k m : Known) (from to : Desk) (Exact Then : Type 0) → Acts k m from to Exact → (Exact → Then) → Acts k m from to Then
-acts_so k m from to Exact Then acts on = record { made = acts.made; counts = acts.counts; seat = acts.seat; ticks = acts.ticks; grows = acts.grows; exact = λ le. on (acts.exact le) }
+acts_so k m from to Exact Then acts on = record { made = acts.made; counts = acts.counts; seat = acts.seat; ticks = acts.ticks; grows = acts.grows; exact = λ le. on (acts.exact le); traced = acts.traced }
 
 -- the seat k learnt what is newest and is then l
 module _ (bounds : List Key) (from to : Desk) (k l m : Known) (heard : HasHeard bounds k from.newest l) (regions : to.regions ≡ from.regions) (newest : to.newest ≡ m.events) (held : to.held ≡ from.held) where
@@ -51,8 +54,8 @@ module _ (bounds : List Key) (from to : Desk) (k l m : Known) (heard : HasHeard 
   learnt = made_same k l heard.number (omega (arith, ap length heard.own))
 
   -- it makes no event
-  pub heard_acts : m ≡ l → Acts k m from to (stage_of to ≡ stage_of from)
-  heard_acts same = record {
+  pub heard_acts : m ≡ l → to.trace ≡ from.trace → Acts k m from to (stage_of to ≡ stage_of from)
+  heard_acts same trace = record {
     made = 0;
     counts = omega (arith, learnt, ap made_by same, regions_same);
     seat = ap (λ (x : Known). x.seat) same ∙ heard.number;
@@ -61,11 +64,14 @@ module _ (bounds : List Key) (from to : Desk) (k l m : Known) (heard : HasHeard 
     exact = λ le.
         (let events : m.events ≡ l.events = ap (λ (x : Known). x.events) same in
         same_stage from to from.newest (newest ∙ (events ∙ sym (begins_whole n l.events heard.knows (omega (arith, le, ap length newest, ap length events))))) held);
+    traced = λ le.
+        (let events : m.events ≡ l.events = ap (λ (x : Known). x.events) same in
+        traced_same from to (newest ∙ (events ∙ sym (begins_whole n l.events heard.knows (omega (arith, le, ap length newest, ap length events))))) trace);
   }
 
   -- it records an event
-  pub recorded_acts : (e : Event) → Records bounds l e m → Acts k m from to (stage_of to ≡ with_events (stage_of from) (e ∷ from.newest))
-  recorded_acts e r = record {
+  pub recorded_acts : (e : Event) → Records bounds l e m → GoesOnWith from.trace e to.trace → Acts k m from to (stage_of to ≡ with_events (stage_of from) (e ∷ from.newest))
+  recorded_acts e r notes = record {
     made = 1;
     counts =
         (let one = recorded_part bounds l.seat l.events e m.events r.recorded in
@@ -75,16 +81,17 @@ module _ (bounds : List Key) (from to : Desk) (k l m : Known) (heard : HasHeard 
     ticks = (let a = r.ticks in let b = heard.ticks in omega (arith, a, b));
     grows = omega (arith, recorded_grows bounds l.seat n l.events heard.knows e m.events r.recorded, ap length newest);
     exact = λ le. same_stage from to (e ∷ from.newest) (newest ∙ recorded_alone bounds l.seat n l.events heard.knows e m.events r.recorded (omega (arith, le, ap length newest))) held;
+    traced = λ le. traced_on from to e (newest ∙ recorded_alone bounds l.seat n l.events heard.knows e m.events r.recorded (omega (arith, le, ap length newest))) notes;
   }
 
   -- it declares, where something is declared
-  pub declared_acts : (o : Option Declaration) → RecordsDeclared bounds l o m → Acts k m from to (stage_of to ≡ with_events (stage_of from) (declared_in from.newest o))
-  declared_acts None same = heard_acts same
-  declared_acts (Some d) r = recorded_acts (Declared d) r
+  pub declared_acts : (o : Option Declaration) → RecordsDeclared bounds l o m → NotesDeclared o from.trace to.trace → Acts k m from to (stage_of to ≡ with_events (stage_of from) (declared_in from.newest o))
+  declared_acts None same notes = heard_acts same notes
+  declared_acts (Some d) r notes = recorded_acts (Declared d) r notes
 
   -- it draws
-  pub drew_acts : (t : ℕ) → Draws bounds l t m → Acts k m from to ((t ≡ last from.newest + 1) × (stage_of to ≡ with_events (stage_of from) (Drawn k.seat (last from.newest + 1) ∷ from.newest)))
-  drew_acts t d = record {
+  pub drew_acts : (t : ℕ) → Draws bounds l t m → NotesDrawn t from.trace to.trace → Acts k m from to ((t ≡ last from.newest + 1) × (stage_of to ≡ with_events (stage_of from) (Drawn k.seat (last from.newest + 1) ∷ from.newest)))
+  drew_acts t d notes = record {
     made = 1;
     counts =
         (let one = drawn_part bounds l.seat l.events 1 t m.events d.drawn in
@@ -97,11 +104,12 @@ module _ (bounds : List Key) (from to : Desk) (k l m : Known) (heard : HasHeard 
         (let few : length m.events ≤ length n + 1 = omega (arith, le, ap length newest) in
         let at : t ≡ last n + 1 = drawn_number bounds l.seat n l.events heard.knows 1 t m.events d.drawn few in
         (at, same_stage from to _ (newest ∙ (drawn_alone bounds l.seat n l.events heard.knows 1 t m.events d.drawn few ∙ (λ i. Drawn (heard.number i) (at i) ∷ n))) held));
+    traced = λ le. (let few : length m.events ≤ length n + 1 = omega (arith, le, ap length newest) in traced_on from to (Drawn l.seat t) (newest ∙ drawn_alone bounds l.seat n l.events heard.knows 1 t m.events d.drawn few) (notes l.seat));
   }
 
   -- it draws, and a session begins
-  pub begun_acts : (t : ℕ) → BeganAt bounds l t m → (said : ℕ) → said ≡ t → Acts k m from to ((said ≡ last from.newest + 1) × (stage_of to ≡ with_events (stage_of from) (Began (last from.newest + 1) ∷ Drawn k.seat (last from.newest + 1) ∷ from.newest)))
-  begun_acts t b said is = record {
+  pub begun_acts : (t : ℕ) → BeganAt bounds l t m → (said : ℕ) → said ≡ t → (mid : Option Trace) → NotesDrawn t from.trace mid → GoesOnWith mid (Began t) to.trace → Acts k m from to ((said ≡ last from.newest + 1) × (stage_of to ≡ with_events (stage_of from) (Began (last from.newest + 1) ∷ Drawn k.seat (last from.newest + 1) ∷ from.newest)))
+  begun_acts t b said is mid first second = record {
     made = 2;
     counts =
         (let one = recorded_part bounds l.seat b.mid (Began t) m.events b.began in
@@ -115,12 +123,13 @@ module _ (bounds : List Key) (from to : Desk) (k l m : Known) (heard : HasHeard 
         (let few : length m.events ≤ length n + 2 = omega (arith, le, ap length newest) in
         let at : t ≡ last n + 1 = begun_number bounds l.seat n l.events heard.knows t b.mid m.events b.drew b.began few in
         (is ∙ at, same_stage from to _ (newest ∙ (begun_alone bounds l.seat n l.events heard.knows t b.mid m.events b.drew b.began few ∙ (λ i. Began (at i) ∷ Drawn (heard.number i) (at i) ∷ n))) held));
+    traced = λ le. (let few : length m.events ≤ length n + 2 = omega (arith, le, ap length newest) in traced_twice from to (Drawn l.seat t) (Began t) mid (newest ∙ begun_alone bounds l.seat n l.events heard.knows t b.mid m.events b.drew b.began few) (first l.seat) second);
   }
 
 -- a walk of requests, by the way that was set
-pub sent_acts : {R : Type 0} (bounds : List Key) (w : Walk R) (k new : Known) (from at to : Desk) (result : R) → at.regions ≡ from.regions → at.newest ≡ from.newest → stage_of at ≡ stage_of from
+pub sent_acts : {R : Type 0} (bounds : List Key) (w : Walk R) (k new : Known) (from at to : Desk) (result : R) → at.regions ≡ from.regions → at.newest ≡ from.newest → at.trace ≡ from.trace → stage_of at ≡ stage_of from
     → Sends (λ (x : Desk) q y z. Passes bounds x.way x q y z) bounds k at w result to new → Acts k new from to (Runs bounds at.way (stage_of from) w result (stage_of to))
-sent_acts bounds w k new from at to result regions newest stage sent =
+sent_acts bounds w k new from at to result regions newest trace stage sent =
     let comes = walk_comes bounds w k new at to result sent in
     record {
       made = comes.made;
@@ -129,6 +138,7 @@ sent_acts bounds w k new from at to result regions newest stage sent =
       ticks = (let same = comes.ticks in omega (arith, same));
       grows = omega (arith, comes.grows, ap length newest);
       exact = λ le. subst (λ s. Runs bounds at.way s w result (stage_of to)) stage (comes.exact (omega (arith, le, ap length newest)));
+      traced = λ le t. comes.traced (omega (arith, le, ap length newest)) (traced_same from at newest trace t);
     }
 
 -- ---- by what a call gave

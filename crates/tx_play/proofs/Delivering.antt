@@ -11,7 +11,7 @@ use Rattle.tx_journal.specs.Replies.{Asked, Given}
 use Rattle.tx_client.specs.Senders.{came_by}
 use Rattle.tx_lines.specs.declared.reply.Reply.{Reply}
 use Rattle.tx_lines.specs.declared.reply.Reply.TheVariants as reply
-use Rattle.tx_play.specs.Posts.{Desk, region_for, made_by, Hands, request_at, stage_of}
+use Rattle.tx_play.specs.Posts.{Desk, region_for, made_by, Hands, request_at, IsTraced, stage_of}
 use Rattle.tx_play.specs.Steps.{deliver}
 use Rattle.tx_play.specs.Scenes.{Place, goes, delivered_by, delivers, turn}
 use Rattle.tx_play.specs.Plays.{Leads}
@@ -38,6 +38,7 @@ module _ (bounds : List Key) (name : List ℕ) where
       made = 0;
       counts = omega (arith, ap (λ (d : Desk). sum_by made_by d.regions) same);
       grows = omega (arith, ap (λ (d : Desk). length d.newest) same);
+      traced = λ le. subst IsTraced (sym same);
       exact = λ le ticks names places.
           goes_at bounds (λ refused. delivers bounds refused (scene_with (stage_of from) ticks names places) ((stage_of from).held name)) (true ∷ []) reply.OutOfMemory reply.OutOfMemory (scene_with (stage_of from) ticks names places) (scene_with (stage_of to) ticks names places)
           (λ later. delivers_is (true ∷ later) ticks names places) (λ i. scene_with (stage_of (sym same i)) ticks names places) refl;
@@ -51,6 +52,7 @@ module _ (bounds : List Key) (name : List ℕ) where
           made = one.made;
           counts = one.counts;
           grows = one.grows;
+          traced = one.traced;
           exact = λ le ticks names places.
               (let scene = scene_with (stage_of from) ticks names places in
               let led = asked_leads bounds (λ later n told left. (n ≡ scene_with (stage_of to) ticks names places) × (told ≡ said) × (left ≡ later)) scene q.body (came_by g.answer) (stage_of to) (one.exact le) (λ c next left. goes next (delivered_by c) left) in (
@@ -81,10 +83,11 @@ module _ (bounds : List Key) (name : List ℕ) where
     size = ap length places;
     seated = seats_stay old new clerk places;
     grows = handed.grows;
+    traced = handed.traced;
     exact = λ le. subst (GoesTo bounds (λ refused. turn bounds refused (deliver name) (scene_of old)) said)
         (λ i. scene_with (stage_of new.desk) (known_ticks (sym clerk i)) (λ q. name_at (sym names i) q) (map place_of (sym places i)))
         (handed.exact le old.clerk.ticks (λ q. name_at old.names q) (map place_of old.places));
   }
   step_delivered old new clerk names places (Err c) (desk, halts) =
-      rested bounds old new (ap (λ (d : Desk). d.regions) desk) (ap (λ (d : Desk). d.newest) desk) clerk places _
+      rested bounds old new (ap (λ (d : Desk). d.regions) desk) (ap (λ (d : Desk). d.newest) desk) (ap (λ (d : Desk). d.trace) desk) clerk places _
       (ap (λ (d : Desk). d.newest) desk, λ later. halts later old.clerk.ticks (λ q. name_at old.names q) (map place_of old.places))

@@ -48,4 +48,5 @@ module _ {S : Type 0} (desk : S → Desk) (bounds : List Key) where
           seat = comes.number ∙ number;
           grows = comes.grows;
           exact = comes.exact;
+          traced = comes.traced;
         }

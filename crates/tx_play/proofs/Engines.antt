@@ -72,9 +72,9 @@ back ps qs rs k x there lent is = put ps qs rs k x lent is ∙ set_here ps k x t
 
 module _ (bounds : List Key) where
   -- a step that is not allowed
-  pub step_stops : (old new : Held) (step : Call) (c : Cause) → new.desk.regions ≡ old.desk.regions → new.desk.newest ≡ old.desk.newest → new.clerk ≡ old.clerk → new.places ≡ old.places
+  pub step_stops : (old new : Held) (step : Call) (c : Cause) → new.desk.regions ≡ old.desk.regions → new.desk.newest ≡ old.desk.newest → new.desk.trace ≡ old.desk.trace → new.clerk ≡ old.clerk → new.places ≡ old.places
       → ((later : List Bool) → turn bounds later step (scene_of old) ≡ stops c) → Goes bounds old new (Turned bounds step (Err c) old new)
-  step_stops old new step c regions newest clerk places halts = rested bounds old new regions newest clerk places _ (newest, halts)
+  step_stops old new step c regions newest trace clerk places halts = rested bounds old new regions newest trace clerk places _ (newest, halts)
 
   -- ---- begin
 
@@ -100,7 +100,7 @@ module _ (bounds : List Key) where
           -- no memory for its name
           pub step_refused : (new : Held) → new.desk ≡ old.desk → new.clerk ≡ old.clerk → new.places ≡ old.places → ((q : List ℕ) → name_at new.names q ≡ name_at old.names q) → Goes bounds old new (Turned bounds (begin name) (Ok reply.OutOfMemory) old new)
           step_refused new desk clerk places names =
-              rested bounds old new (ap (λ (d : Desk). d.regions) desk) (ap (λ (d : Desk). d.newest) desk) clerk places _
+              rested bounds old new (ap (λ (d : Desk). d.regions) desk) (ap (λ (d : Desk). d.newest) desk) (ap (λ (d : Desk). d.trace) desk) clerk places _
               (goes_at bounds (λ refused. turn bounds refused (begin name) (scene_of old)) (true ∷ []) reply.OutOfMemory reply.OutOfMemory (scene_of old) (scene_of new) begin_refused_is
               (λ i. scene_with (stage_of (sym desk i)) (known_ticks (sym clerk i)) (λ q. sym (names q) i) (map place_of (sym places i))) refl)
 
@@ -240,14 +240,14 @@ module _ (bounds : List Key) where
   module _ (old new : Held) (key : List ℕ) (at : ℕ) (names : new.names ≡ old.names) (places : new.places ≡ old.places) where
     pub step_unkeyed : not (is_key key) ≡ true → new.desk ≡ old.desk → new.clerk ≡ old.clerk → Goes bounds old new (Turned bounds (read key at) (Ok reply.KeyLength) old new)
     step_unkeyed bad desk clerk =
-        rested bounds old new (ap (λ (d : Desk). d.regions) desk) (ap (λ (d : Desk). d.newest) desk) clerk places _
+        rested bounds old new (ap (λ (d : Desk). d.regions) desk) (ap (λ (d : Desk). d.newest) desk) (ap (λ (d : Desk). d.trace) desk) clerk places _
         (goes_at bounds (λ refused. turn bounds refused (read key at) (scene_of old)) [] reply.KeyLength reply.KeyLength (scene_of old) (scene_of new) (λ later. rw bad refl)
         (λ i. scene_with (stage_of (sym desk i)) (known_ticks (sym clerk i)) (λ q. name_at (sym names i) q) (map place_of (sym places i))) refl)
 
     module _ (right : not (is_key key) ≡ false) where
       pub step_unread : new.desk ≡ old.desk → new.clerk ≡ old.clerk → Goes bounds old new (Turned bounds (read key at) (Ok reply.OutOfMemory) old new)
       step_unread desk clerk =
-          rested bounds old new (ap (λ (d : Desk). d.regions) desk) (ap (λ (d : Desk). d.newest) desk) clerk places _
+          rested bounds old new (ap (λ (d : Desk). d.regions) desk) (ap (λ (d : Desk). d.newest) desk) (ap (λ (d : Desk). d.trace) desk) clerk places _
           (goes_at bounds (λ refused. turn bounds refused (read key at) (scene_of old)) (true ∷ []) reply.OutOfMemory reply.OutOfMemory (scene_of old) (scene_of new) (λ later. rw right refl)
           (λ i. scene_with (stage_of (sym desk i)) (known_ticks (sym clerk i)) (λ q. name_at (sym names i) q) (map place_of (sym places i))) refl)
 

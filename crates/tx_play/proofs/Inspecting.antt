@@ -20,6 +20,7 @@ use Rattle.tx_play.specs.Scenes.{Scene, goes, shows, is_key, Place, inspects, tu
 use Rattle.tx_play.specs.Steps.{versions}
 use Rattle.tx_play.specs.Plays.{Leads}
 use Rattle.tx_play.specs.Places.{seat_in, place_of, Held, name_at, scene_with, scene_of, made_in, GoesTo, Goes, Inspected, Turned}
+use Rattle.tx_play.proofs.Tracing.{traced_same}
 use Rattle.tx_play.proofs.Delivering.{seats_stay}
 use Rattle.tx_play.proofs.Keeping.{known_ticks}
 use Rattle.tx_play.proofs.Posting.{numbered_at}
@@ -60,6 +61,7 @@ module _ (bounds : List Key) (key : List ℕ) where
   stays desk bits said is = record {
     counts = omega arith;
     grows = omega arith;
+    traced = λ le t. t;
     exact = λ le ticks names places. goes_at bounds (λ refused. inspects refused (scene_with (stage_of desk) ticks names places) key) bits said said _ _ (λ later. is later (scene_with (stage_of desk) ticks names places)) refl refl;
   }
 
@@ -89,6 +91,7 @@ module _ (bounds : List Key) (key : List ℕ) where
       said_so said on = record {
         counts = shown.counts;
         grows = begins_length from.newest to.newest shown.begins;
+        traced = λ le. traced_same from to (newest_stays le) shown.trace;
         exact = λ le ticks names places. subst (λ s. GoesTo bounds (λ refused. inspects refused (scene_with (stage_of from) ticks names places) key) said (scene_with s ticks names places)) (sym (stage_stays le)) (on le ticks names places);
       }
 
@@ -113,6 +116,7 @@ module _ (bounds : List Key) (key : List ℕ) where
     size = ap length places;
     seated = seats_stay bounds key old new clerk places;
     grows = omega (arith, seen.grows);
+    traced = λ le. seen.traced (omega (arith, le));
     exact = λ le. subst (GoesTo bounds (λ refused. turn bounds refused (versions key) (scene_of old)) said)
         (λ i. scene_with (stage_of new.desk) (known_ticks (sym clerk i)) (λ q. name_at (sym names i) q) (map place_of (sym places i)))
         (seen.exact (omega (arith, le)) old.clerk.ticks (λ q. name_at old.names q) (map place_of old.places));

@@ -8,6 +8,7 @@ use Rattle.tx_types.specs.declared.key.Key.{Key}
 use Rattle.tx_core.proofs.Basics.{some_same}
 use Rattle.tx_journal.specs.Known.{Known}
 use Rattle.tx_play.specs.Posts.{made_by}
+use Rattle.tx_play.proofs.Tracing.{traced_same}
 use Rattle.tx_play.specs.Places.{Kept, seat_in, Held, made_in, IsSeat, AreSeated, AllSeated, Acts, Serves, Finds, Goes}
 
 abbrev pub known_ticks : Known → ℕ
@@ -75,6 +76,7 @@ module _ (old new : Held) (k : ℕ) (x y : Kept) (there : slice_get old.places k
     };
     grows = acts.grows;
     exact = λ le. on (acts.exact le);
+    traced = acts.traced;
   }
 
 -- the seat for what no session does sends, and the session of a place learns what was found
@@ -91,6 +93,7 @@ found bounds old new k x y there placed a b was now Exact Then finds on = record
   };
   grows = finds.grows;
   exact = λ le. on (finds.exact le);
+  traced = finds.traced;
 }
 
 -- the seat for what no session does acts
@@ -102,15 +105,17 @@ served bounds old new Exact Then places serves on = record {
   seated = λ n h. record { clerk = serves.seat ∙ h.clerk; places = subst (AreSeated (length bounds + 2) n) (sym places) (seated_fewer (length bounds + 2) (suc n) n old.places (omega arith) h.places); few = h.few };
   grows = serves.grows;
   exact = λ le. on (serves.exact le);
+  traced = serves.traced;
 }
 
 -- nothing is counted, and nothing changes
-pub rested : (bounds : List Key) (old new : Held) → new.desk.regions ≡ old.desk.regions → new.desk.newest ≡ old.desk.newest → new.clerk ≡ old.clerk → new.places ≡ old.places → (Exact : Type 0) → Exact → Goes bounds old new Exact
-rested bounds old new regions newest clerk places Exact exact = record {
+pub rested : (bounds : List Key) (old new : Held) → new.desk.regions ≡ old.desk.regions → new.desk.newest ≡ old.desk.newest → new.desk.trace ≡ old.desk.trace → new.clerk ≡ old.clerk → new.places ≡ old.places → (Exact : Type 0) → Exact → Goes bounds old new Exact
+rested bounds old new regions newest trace clerk places Exact exact = record {
   made = 0;
   counts = omega (arith, ap (sum_by made_by) regions, ap made_by clerk, ap (sum_by (λ p. made_in (seat_in p))) places);
   size = ap length places;
   seated = λ n h. record { clerk = ap (λ (c : Known). c.seat) clerk ∙ h.clerk; places = subst (AreSeated (length bounds + 2) n) (sym places) (seated_fewer (length bounds + 2) (suc n) n old.places (omega arith) h.places); few = h.few };
   grows = omega (arith, ap length newest);
   exact = λ le. exact;
+  traced = λ le. traced_same old.desk new.desk newest trace;
 }

@@ -8,6 +8,8 @@ pub mod Holding
 pub mod Stages
 -- What the post's taking makes of what is newest.
 pub mod Posting
+-- The trace that is kept, as what is newest grows.
+pub mod Tracing
 -- A walk through the one thread's way.
 pub mod Walking
 -- What a session's acts count, and what they are where nobody else acted.

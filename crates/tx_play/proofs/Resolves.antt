@@ -51,6 +51,7 @@ module _ (bounds : List Key) (now : ℕ) where
     clerk = refl;
     left = refl;
     grows = omega arith;
+    traced = λ le t. t;
     exact = λ le. session_rests bounds (λ refused scene k x. resolves bounds refused scene k x now) s.seat.seat s.state s.state (stage_of desk) (stage_of desk) reply.OutOfMemory reply.OutOfMemory (true ∷ []) (uncopied s s.state.met some) refl refl refl;
   }
 
@@ -111,6 +112,7 @@ module _ (bounds : List Key) (now : ℕ) where
       clerk = serves.seat;
       left = left;
       grows = serves.grows;
+      traced = serves.traced;
       exact = λ le. by_learnt (serves.exact le) learnt;
     }
 

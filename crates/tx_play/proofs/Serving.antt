@@ -11,11 +11,12 @@ use Rattle.tx_client.specs.declared.state.Came.{Came}
 use Rattle.tx_client.specs.Calls.{Asks}
 use Rattle.tx_client.specs.Walks.{Walk, asks, ends}
 use Rattle.tx_play.specs.declared.post.Way.TheVariants.{Plain}
-use Rattle.tx_play.specs.Posts.{Desk, made_by, Stage, stage_of, with_events, IsSet, Passes, Met, Runs}
+use Rattle.tx_play.specs.Posts.{Desk, made_by, NotesDrawn, IsTraced, Stage, stage_of, with_events, IsSet, Passes, Met, Runs}
 use Rattle.tx_play.specs.Places.{Serves, at_regions}
 use Rattle.tx_play.proofs.Alone.{drawn_grows, drawn_number, drawn_alone}
 use Rattle.tx_play.proofs.Counts.{drawn_part}
-use Rattle.tx_play.proofs.Stages.{same_stage, set_regions, set_newest, set_stage, set_runs}
+use Rattle.tx_play.proofs.Stages.{same_stage, set_regions, set_newest, set_trace, set_stage, set_runs}
+use Rattle.tx_play.proofs.Tracing.{traced_same, traced_on}
 use Rattle.tx_play.proofs.Walking.{walk_comes}
 
 -- the seat k learnt what is newest and is then l
@@ -24,9 +25,9 @@ module _ (bounds : List Key) (from to : Desk) (k l : Known) (number : l.seat ≡
   learnt = ap (λ i. length (part i l.events)) number ∙ ap length own
 
   -- it draws so many ticks
-  pub tick_serves : (n t : ℕ) (m : Known) → HasDrawn bounds l.seat l.events n t m.events → m.seat ≡ l.seat → to.regions ≡ from.regions → to.newest ≡ m.events → to.held ≡ from.held
+  pub tick_serves : (n t : ℕ) (m : Known) → HasDrawn bounds l.seat l.events n t m.events → m.seat ≡ l.seat → to.regions ≡ from.regions → to.newest ≡ m.events → to.held ≡ from.held → NotesDrawn t from.trace to.trace
       → Serves k m from to ((t ≡ last from.newest + n) × (stage_of to ≡ with_events (stage_of from) (Drawn k.seat (last from.newest + n) ∷ from.newest)))
-  tick_serves n t m drawn same regions newest held = record {
+  tick_serves n t m drawn same regions newest held notes = record {
     made = 1;
     counts =
         (let one = drawn_part bounds l.seat l.events n t m.events drawn in
@@ -38,6 +39,7 @@ module _ (bounds : List Key) (from to : Desk) (k l : Known) (number : l.seat ≡
         (let few : length m.events ≤ length from.newest + 1 = omega (arith, le, ap length newest) in
         let at : t ≡ last from.newest + n = drawn_number bounds l.seat from.newest l.events knows n t m.events drawn few in
         (at, same_stage from to _ (newest ∙ (drawn_alone bounds l.seat from.newest l.events knows n t m.events drawn few ∙ (λ i. Drawn (number i) (at i) ∷ from.newest))) held));
+    traced = λ le. (let few : length m.events ≤ length from.newest + 1 = omega (arith, le, ap length newest) in traced_on from to (Drawn l.seat t) (newest ∙ drawn_alone bounds l.seat from.newest l.events knows n t m.events drawn few) (notes l.seat));
   }
 
   -- it has no tick left
@@ -48,6 +50,7 @@ module _ (bounds : List Key) (from to : Desk) (k l : Known) (number : l.seat ≡
     seat = ap (λ (x : Known). x.seat) same ∙ number;
     grows = omega (arith, ap (λ (d : Desk). length d.newest) is);
     exact = λ le. ap stage_of is;
+    traced = λ le. subst IsTraced (sym is);
   }
 
 -- it asks a region once, by a way that loses nothing
@@ -65,6 +68,7 @@ ask_serves bounds from at to k m body c set asked =
           (let run : Runs bounds (Some Plain) (stage_of from) w c (stage_of to) = set_runs bounds Plain from at w (stage_of from) c (stage_of to) set
           (subst (λ s. Runs bounds at.way s w c (stage_of to)) (set_stage Plain from at set) (comes.exact (omega (arith, le, ap length (set_newest Plain from at set))))) in
           met_at run);
+      traced = λ le t. comes.traced (omega (arith, le, ap length (set_newest Plain from at set))) (traced_same from at (set_newest Plain from at set) (set_trace Plain from at set) t);
     }
   where
     met_at : Runs bounds (Some Plain) (stage_of from) (asks body ends) c (stage_of to) → Met bounds (stage_of from) body c (stage_of to)

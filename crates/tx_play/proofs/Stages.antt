@@ -40,6 +40,10 @@ pub set_newest : (way : Course) (from at : Desk) → IsSet way from at → at.ne
 set_newest way from at (inl is) = ap (λ (d : Desk). d.newest) is
 set_newest way from at (inr is) = ap (λ (d : Desk). d.newest) is.1
 
+pub set_trace : (way : Course) (from at : Desk) → IsSet way from at → at.trace ≡ from.trace
+set_trace way from at (inl is) = ap (λ (d : Desk). d.trace) is
+set_trace way from at (inr is) = ap (λ (d : Desk). d.trace) is.1
+
 pub set_stage : (way : Course) (from at : Desk) → IsSet way from at → stage_of at ≡ stage_of from
 set_stage way from at (inl is) = ap stage_of is
 set_stage way from at (inr is) = ap stage_of is.1

@@ -16,7 +16,7 @@ use Rattle.tx_play.specs.Plays.{Leads}
 use Rattle.tx_play.specs.Places.{scene_with, GoesTo, SessionGoes, Sent, Did}
 use Rattle.tx_play.proofs.Acting.{still_acts, acts_so, sent_acts}
 use Rattle.tx_play.proofs.Keeping.{set_here}
-use Rattle.tx_play.proofs.Stages.{set_regions, set_newest, set_stage, set_runs}
+use Rattle.tx_play.proofs.Stages.{set_regions, set_newest, set_trace, set_stage, set_runs}
 
 -- ---- walks
 
@@ -105,13 +105,13 @@ module _ (bounds : List Key) (turn : List Bool → Scene → ℕ → State → T
 
   -- it changes nothing but the session's state
   pub did_change : (old new : Seated) (desk : Desk) (said : Reply) → new.seat ≡ old.seat → SessionGoes bounds turn old.seat.seat old.state new.state (stage_of desk) (stage_of desk) said → Did bounds turn (Ok said) old new desk desk
-  did_change old new desk said seat on = still_acts old.seat new.seat desk desk _ seat refl refl on
+  did_change old new desk said seat on = still_acts old.seat new.seat desk desk _ seat refl refl refl on
 
   -- it sends
   pub did_send : {R : Type 0} (old new : Seated) (from at to : Desk) (bits : List Bool) (way : Course) (w : Walk (State × R)) (say : R → Reply) (result : R) (said : Reply) → IsSet way from at
       → Sends (λ (x : Desk) q y z. Passes bounds x.way x q y z) bounds old.seat at w (new.state, result) to new.seat
       → ((later : List Bool) (scene : Scene) (k : ℕ) → turn (bits ++ later) scene k old.state ≡ runs_to bounds say k way later scene w) → said ≡ say result → Sent bounds turn said old new from to
   did_send old new from at to bits way w say result said set sent is also =
-      let acts = sent_acts bounds w old.seat new.seat from at to (new.state, result) (set_regions way from at set) (set_newest way from at set) (set_stage way from at set) sent in
+      let acts = sent_acts bounds w old.seat new.seat from at to (new.state, result) (set_regions way from at set) (set_newest way from at set) (set_trace way from at set) (set_stage way from at set) sent in
       acts_so old.seat new.seat from to _ _ acts
       (λ run. session_runs bounds turn old.seat.seat old.state new.state (stage_of from) (stage_of to) said bits way w say result is (set_runs bounds way from at w (stage_of from) (new.state, result) (stage_of to) set run) (sym also))

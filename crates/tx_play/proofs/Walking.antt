@@ -14,8 +14,9 @@ use Rattle.tx_client.specs.declared.state.Came.TheVariants as came
 use Rattle.tx_client.specs.Senders.{Reached, IsHeld, IsWay, came_by, came_of, Learns}
 use Rattle.tx_client.specs.Walks.{Walk, asks, grows, ends, Sends}
 use Rattle.tx_play.specs.declared.post.Way.TheVariants.{Plain, Lose, LoseReply, Repeat, Hold}
-use Rattle.tx_play.specs.Posts.{Course, Desk, region_for, made_by, made_for, TakesBy, Hands, IsUntaken, Passes, stage_of, Met, MetHold, Reach, Runs}
+use Rattle.tx_play.specs.Posts.{Course, Desk, region_for, made_by, made_for, TakesBy, Hands, IsUntaken, NotesTaken, IsTraced, Passes, stage_of, Met, MetHold, Reach, Runs}
 use Rattle.tx_play.proofs.Stages.{same_stage, kept_stage}
+use Rattle.tx_play.proofs.Tracing.{traced_same, traced_on}
 use Rattle.tx_play.proofs.Alone.{took_grows, took_alone, took_answers}
 
 -- ---- the way
@@ -45,6 +46,7 @@ pub record Comes (k : Known) (from : Desk) (to : Desk) (new : Known) (Exact : Ty
   pub way : to.way ≡ from.way
   pub grows : length from.newest + made ≤ length to.newest
   pub exact : length to.newest ≤ length from.newest + made → Exact
+  pub traced : length to.newest ≤ length from.newest + made → IsTraced from → IsTraced to
 
 -- who sends makes no event
 pub record IsSame (k new : Known) : Type 0 where
@@ -71,6 +73,7 @@ rest_comes k new from to Exact is same exact = record {
   way = ap (λ (d : Desk). d.way) is;
   grows = omega (arith, ap (λ (d : Desk). length d.newest) is);
   exact = λ le. exact;
+  traced = λ le. subst IsTraced (sym is);
 }
 
 -- ---- one take
@@ -82,16 +85,18 @@ pub record One (bounds : List Key) (from to : Desk) (body : Body) (c : Came) : T
   pub way : to.way ≡ from.way
   pub grows : length from.newest + made ≤ length to.newest
   pub exact : length to.newest ≤ length from.newest + made → Met bounds (stage_of from) body c (stage_of to)
+  pub traced : length to.newest ≤ length from.newest + made → IsTraced from → IsTraced to
 
-take_by : (bounds : List Key) (from to : Desk) (body : Body) (o : Option Answer) → to.way ≡ from.way → to.held ≡ from.held → sum_by made_by to.regions ≤ sum_by made_by from.regions + made_for o → TakesBy (region_for bounds body) from.newest body o to.newest → One bounds from to body (came_by o)
-take_by bounds from to body None way held counts begins = record {
+take_by : (bounds : List Key) (from to : Desk) (body : Body) (o : Option Answer) → to.way ≡ from.way → to.held ≡ from.held → sum_by made_by to.regions ≤ sum_by made_by from.regions + made_for o → TakesBy (region_for bounds body) from.newest body o to.newest → NotesTaken body o from.trace to.trace → One bounds from to body (came_by o)
+take_by bounds from to body None way held counts begins notes = record {
   made = 0;
   counts = counts;
   way = way;
   grows = omega (arith, begins_length from.newest to.newest begins);
   exact = λ le. (let same = begins_whole from.newest to.newest begins (omega (arith, le)) in same_stage from to from.newest (sym same) held);
+  traced = λ le. traced_same from to (sym (begins_whole from.newest to.newest begins (omega (arith, le)))) notes;
 }
-take_by bounds from to body (Some a) way held counts took =
+take_by bounds from to body (Some a) way held counts took notes =
     let n = region_for bounds body in
     record {
       made = 1;
@@ -99,10 +104,11 @@ take_by bounds from to body (Some a) way held counts took =
       way = way;
       grows = took_grows n from.newest body a to.newest took;
       exact = λ le. (took_answers n from.newest body a to.newest took le, same_stage from to _ (took_alone n from.newest body a to.newest took le) held);
+      traced = λ le. traced_on from to _ (took_alone n from.newest body a to.newest took le) (notes _ refl refl);
     }
 
 pub take_one : (bounds : List Key) (from to : Desk) (q : Asked) (g : Given) → Hands (region_for bounds q.body) from to q g → One bounds from to q.body (came_by g.answer)
-take_one bounds from to q g h = take_by bounds from to q.body g.answer h.way h.held h.counts h.takes
+take_one bounds from to q g h = take_by bounds from to q.body g.answer h.way h.held h.counts h.takes h.notes
 
 pub one_comes : (bounds : List Key) (from to : Desk) (body : Body) (c : Came) (k new : Known) (Exact : Type 0) → One bounds from to body c → IsSame k new → (Met bounds (stage_of from) body c (stage_of to) → Exact) → Comes k from to new Exact
 one_comes bounds from to body c k new Exact one same on = record {
@@ -114,6 +120,7 @@ one_comes bounds from to body c k new Exact one same on = record {
   way = one.way;
   grows = one.grows;
   exact = λ le. on (one.exact le);
+  traced = one.traced;
 }
 
 -- two after one another
@@ -128,6 +135,7 @@ two_comes bounds from mid to body c d k new Exact one two same on = record {
   way = two.way ∙ one.way;
   grows = omega (arith, one.grows, two.grows);
   exact = λ le. on (one.exact (omega (arith, le, two.grows))) (two.exact (omega (arith, le, one.grows)));
+  traced = λ le t. two.traced (omega (arith, le, one.grows)) (one.traced (omega (arith, le, two.grows)) t);
 }
 
 -- ---- one send
@@ -150,6 +158,7 @@ module _ (bounds : List Key) (from mid : Desk) (q : Asked) (k then_known : Known
     way = ap (λ (d : Desk). d.way) p.same;
     grows = omega (arith, ap (λ (d : Desk). length d.newest) p.same);
     exact = λ le. on (ap came_by p.answer) (ap stage_of p.same);
+    traced = λ le. subst IsTraced (sym p.same);
   }
 
   send_comes : (g : Reached) (w : Option Course) → from.way ≡ w → Passes bounds w from q g mid → IsSame k then_known → Comes k from mid then_known (Exactly g)
@@ -167,6 +176,7 @@ module _ (bounds : List Key) (from mid : Desk) (q : Asked) (k then_known : Known
     way = ap (λ (d : Desk). d.way) p.0;
     grows = omega (arith, ap (λ (d : Desk). length d.newest) p.0);
     exact = λ le. at_way (Some Lose) at (Err l) (ap stage_of p.0);
+    traced = λ le. subst IsTraced (sym p.0);
   }
   send_comes (Ok g) (Some LoseReply) at p same = absurd p.1
   send_comes (Err l) (Some LoseReply) at p same =
@@ -187,6 +197,7 @@ module _ (bounds : List Key) (from mid : Desk) (q : Asked) (k then_known : Known
     way = p.way;
     grows = omega (arith, ap length p.newest);
     exact = λ le. at_way (Some (Hold name)) at (Err l) (kept_stage name from mid q p);
+    traced = λ le. traced_same from mid p.newest p.trace;
   }
 
 -- one after another
@@ -200,10 +211,11 @@ then_comes k mid new from at to First Second Both p q both = record {
   way = q.way ∙ p.way;
   grows = omega (arith, p.grows, q.grows);
   exact = λ le. both (p.exact (omega (arith, le, q.grows))) (q.exact (omega (arith, le, p.grows)));
+  traced = λ le t. q.traced (omega (arith, le, p.grows)) (p.traced (omega (arith, le, q.grows)) t);
 }
 
 pub or_comes : (k new : Known) (from to : Desk) (Exact Then : Type 0) → (Exact → Then) → Comes k from to new Exact → Comes k from to new Then
-or_comes k new from to Exact Then on p = record { made = p.made; counts = p.counts; number = p.number; ticks = p.ticks; own = p.own; way = p.way; grows = p.grows; exact = λ le. on (p.exact le) }
+or_comes k new from to Exact Then on p = record { made = p.made; counts = p.counts; number = p.number; ticks = p.ticks; own = p.own; way = p.way; grows = p.grows; exact = λ le. on (p.exact le); traced = p.traced }
 
 -- a whole walk
 pub walk_comes : {R : Type 0} (bounds : List Key) (w : Walk R) (k new : Known) (from to : Desk) (result : R) → Sends (λ (x : Desk) q y z. Passes bounds x.way x q y z) bounds k from w result to new → Comes k from to new (Runs bounds from.way (stage_of from) w result (stage_of to))

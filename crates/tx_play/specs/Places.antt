@@ -16,7 +16,7 @@ use Rattle.tx_play.specs.declared.places.Slot.{Slot}
 use Rattle.tx_play.specs.declared.places.Slot.TheVariants.{Free, Live, Lent}
 use Rattle.tx_lines.specs.declared.reply.Reply.{Reply}
 use Rattle.tx_lines.specs.declared.reply.Reply.TheVariants as replies
-use Rattle.tx_play.specs.Posts.{Desk, stage_of, Stage, made_by, IsDone, AreNumbered}
+use Rattle.tx_play.specs.Posts.{Desk, stage_of, Stage, made_by, IsDone, AreNumbered, IsTraced}
 use Rattle.tx_play.specs.Steps.{Call, Deed}
 use Rattle.tx_play.specs.Scenes.{Place, free, session, Scene, Turn, stops, seat_at, deeds, resolves, delivers, inspects, turn}
 use Rattle.tx_play.specs.Plays.{Leads}
@@ -95,6 +95,7 @@ pub record Acts (old new : Known) (from to : Desk) (Exact : Type 0) : Type 0 whe
   pub ticks : old.ticks ≤ new.ticks + 1
   pub grows : length from.newest + made ≤ length to.newest
   pub exact : length to.newest ≤ length from.newest + made → Exact
+  pub traced : length to.newest ≤ length from.newest + made → IsTraced from → IsTraced to
 
 -- the same of the seat for no session, which may draw more ticks at once
 pub record Serves (old new : Known) (from to : Desk) (Exact : Type 0) : Type 0 where
@@ -103,6 +104,7 @@ pub record Serves (old new : Known) (from to : Desk) (Exact : Type 0) : Type 0 w
   pub seat : new.seat ≡ old.seat
   pub grows : length from.newest + made ≤ length to.newest
   pub exact : length to.newest ≤ length from.newest + made → Exact
+  pub traced : length to.newest ≤ length from.newest + made → IsTraced from → IsTraced to
 
 -- the same of that seat, which sends, and of a session's, which learns what was found
 pub record Finds (old new k m : Known) (from to : Desk) (Exact : Type 0) : Type 0 where
@@ -114,6 +116,7 @@ pub record Finds (old new k m : Known) (from to : Desk) (Exact : Type 0) : Type 
   pub left : m.ticks ≡ k.ticks
   pub grows : length from.newest + made ≤ length to.newest
   pub exact : length to.newest ≤ length from.newest + made → Exact
+  pub traced : length to.newest ≤ length from.newest + made → IsTraced from → IsTraced to
 
 -- the same of an engine
 pub record Goes (bounds : List Key) (old new : Held) (Exact : Type 0) : Type 0 where
@@ -123,6 +126,7 @@ pub record Goes (bounds : List Key) (old new : Held) (Exact : Type 0) : Type 0 w
   pub seated : (n : ℕ) → AllSeated bounds (suc n) old → AllSeated bounds n new
   pub grows : length old.desk.newest + made ≤ length new.desk.newest
   pub exact : length new.desk.newest ≤ length old.desk.newest + made → Exact
+  pub traced : length new.desk.newest ≤ length old.desk.newest + made → IsTraced old.desk → IsTraced new.desk
 
 -- ---- steps
 
@@ -164,6 +168,7 @@ pub record Handed (bounds : List Key) (name : List ℕ) (reply : Reply) (from to
   pub made : ℕ
   pub counts : at_regions to ≤ at_regions from + made
   pub grows : length from.newest + made ≤ length to.newest
+  pub traced : length to.newest ≤ length from.newest + made → IsTraced from → IsTraced to
   pub exact : length to.newest ≤ length from.newest + made
       → ((ticks : ℕ) (names : List ℕ → Option ℕ) (places : List Place) → GoesTo bounds (λ refused. delivers bounds refused (scene_with (stage_of from) ticks names places) ((stage_of from).held name)) reply (scene_with (stage_of to) ticks names places))
 
@@ -176,6 +181,7 @@ Delivered bounds name (Err cause) from to = (to ≡ from) × ((refused : List Bo
 pub record Inspected (bounds : List Key) (key : List ℕ) (reply : Reply) (from to : Desk) : Type 0 where
   pub counts : at_regions to ≤ at_regions from
   pub grows : length from.newest ≤ length to.newest
+  pub traced : length to.newest ≤ length from.newest → IsTraced from → IsTraced to
   pub exact : length to.newest ≤ length from.newest
       → ((ticks : ℕ) (names : List ℕ → Option ℕ) (places : List Place) → GoesTo bounds (λ refused. inspects refused (scene_with (stage_of from) ticks names places) key) reply (scene_with (stage_of to) ticks names places))
 

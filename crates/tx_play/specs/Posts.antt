@@ -1,5 +1,5 @@
 -- What one thread's way to the regions makes of requests.
-use Rattle.std.specs.Prelude.{◌≡◌, ◌≤◌, ◌⊎◌, ℕ, suc, ◌+◌, cond, List, [], ◌∷◌, map, length, Option, Some, None, option_map, is_some, Result, Ok, Err, IfOk, String, string_bytes, bytes_eq}
+use Rattle.std.specs.Prelude.{◌≡◌, ◌≤◌, ◌⊎◌, ℕ, suc, ◌+◌, cond, List, [], ◌∷◌, map, length, Option, Some, None, option_map, is_some, Result, Ok, Err, IfOk, IfSome, String, string_bytes, bytes_eq}
 use Rattle.std.specs.Global.{Global}
 use Rattle.std.specs.Map.{lookup, update}
 use Rattle.std.specs.List.{sum_by}
@@ -11,11 +11,17 @@ use Rattle.tx_plan.specs.declared.answer.Answer.{Answer}
 use Rattle.tx_plan.specs.Answers.{AnswersLeast}
 use Rattle.tx_cells.specs.declared.copies.KeyCopy.{KeyCopy}
 use Rattle.tx_cells.specs.Copies.{Copies}
-use Rattle.tx_core.specs.declared.event.Event.TheVariants.{Took}
+use Rattle.tx_core.specs.declared.event.Event.TheVariants.{Declared, Drawn, Took}
 use Rattle.tx_core.specs.Histories.{History, last, left, Begins}
 use Rattle.tx_core.specs.Recording.{part}
 use Rattle.tx_core.specs.Worlds.{route}
 use Rattle.tx_journal.specs.Known.{Known}
+use Rattle.tx_core.specs.declared.event.Event.{Event}
+use Rattle.tx_core.specs.declared.event.Declaration.{Declaration}
+use Rattle.tx_core.specs.declared.event.Taken.{Taken as TakenOf}
+use Rattle.tx_core.specs.Worlds.{IsWorldRun}
+use Rattle.tx_trace.specs.declared.trace.Trace.{Trace}
+use Rattle.tx_trace.specs.Traces.{Traces, Adds}
 use Rattle.tx_journal.specs.Replies.{Asked, Given}
 use Rattle.tx_play.specs.declared.post.Way.{Way}
 use Rattle.tx_play.specs.declared.post.Way.TheVariants.{Plain, Lose, LoseReply, Repeat, Hold}
@@ -36,13 +42,14 @@ by_name f (Hold name) = Hold (f name)
 abbrev pub Course : Type 0
 Course = Way (List ℕ)
 
--- The regions in their order, the newest history that anyone here has seen, the requests that are held, by name, and what becomes of the
--- next request: none where memory for the name of its hold was refused.
+-- The regions in their order, the newest history that anyone here has seen, the requests that are held, by name, what becomes of the
+-- next request: none where memory for the name of its hold was refused; and the machine's steps, where they are kept.
 pub record Desk : Type 0 where
   pub regions : List Known
   pub newest : History
   pub held : List (List ℕ × Asked)
   pub way : Option Course
+  pub trace : Option Trace
 
 -- held requests by the bytes of their names
 abbrev pub requests : List (String Global × Asked) → List (List ℕ × Asked)
@@ -91,6 +98,32 @@ made_for (Some a) = 1
 abbrev pub IsDone : History → Known → Type 0
 IsDone n k = length (part k.seat n) ≤ made_by k
 
+-- ---- the machine's steps
+
+-- a trace that is kept goes on with an event; or it is kept no more
+abbrev pub GoesOnWith : Option Trace → Event → Option Trace → Type 0
+GoesOnWith old e None = Unit {0}
+GoesOnWith None e (Some new) = ⊥
+GoesOnWith (Some old) e (Some new) = Adds old e new
+
+-- a number was drawn, by whatever seat
+abbrev pub NotesDrawn : ℕ → Option Trace → Option Trace → Type 0
+NotesDrawn t old new = (seat : ℕ) → GoesOnWith old (Drawn seat t) new
+
+-- something was declared, or nothing
+abbrev pub NotesDeclared : Option Declaration → Option Trace → Option Trace → Type 0
+NotesDeclared None old new = new ≡ old
+NotesDeclared (Some d) old new = GoesOnWith old (Declared d) new
+
+-- a region answered a request, or was refused memory
+abbrev pub NotesTaken : Body → Option Answer → Option Trace → Option Trace → Type 0
+NotesTaken body None old new = new ≡ old
+NotesTaken body (Some a) old new = (x : TakenOf) → x.body ≡ body → x.answer ≡ a → GoesOnWith old (Took x) new
+
+-- where a trace is kept, it is that of what is newest
+abbrev pub IsTraced : Desk → Type 0
+IsTraced d = IfSome d.trace (λ t. (bounds : List Key) → IsWorldRun bounds d.newest → Traces d.newest t)
+
 -- ---- what regions take
 
 -- The region n took a request after `from`, and answered so: others may have acted before it loaded the last number, and after.
@@ -121,6 +154,7 @@ pub record Hands (n : ℕ) (from to : Desk) (q : Asked) (g : Given) : Type 0 whe
   pub counts : sum_by made_by to.regions ≤ sum_by made_by from.regions + made_for g.answer
   pub held : to.held ≡ from.held
   pub way : to.way ≡ from.way
+  pub notes : NotesTaken q.body g.answer from.trace to.trace
 
 -- ---- what regions show
 
@@ -136,6 +170,7 @@ pub record Displays (n : ℕ) (from to : Desk) (key : Key) (copied : Result KeyC
   pub begins : Begins from.newest to.newest
   pub counts : sum_by made_by to.regions ≤ sum_by made_by from.regions
   pub held : to.held ≡ from.held
+  pub trace : to.trace ≡ from.trace
   pub copies : IfOk copied (λ copy. Copies ((left to.newest n).cells key) copy)
 
 -- ---- the ways
@@ -165,6 +200,7 @@ pub record Keeps (name : List ℕ) (from to : Desk) (q : Asked) : Type 0 where
   pub held : (k : List ℕ) → request_at to.held k ≡ update bytes_eq (request_at from.held) name (Some q) k
   pub many : length to.held ≡ length from.held + cond (is_some (request_at from.held name)) 0 1
   pub way : to.way ≡ from.way
+  pub trace : to.trace ≡ from.trace
 
 abbrev pub Untaken : Desk → Asked → Reached → Desk → Type 0
 Untaken a q (Ok g) b = IsUntaken a b q g

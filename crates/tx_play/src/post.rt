@@ -61,7 +61,7 @@ impl<J: Naming, F: Families> Model for Post<J, F> {
 
     ghost Value = { Desk };
 
-    ghost view = { λ p. record { regions = p.regions.items; newest = p.newest; held = requests p.held.entries; way = option_map (by_name string_bytes) p.way } };
+    ghost view = { λ p. record { regions = p.regions.items; newest = p.newest; held = requests p.held.entries; way = option_map (by_name string_bytes) p.way; trace = p.trace } };
 
     ghost invariant = { λ p. AreNumbered 0 p.regions.items × (length p.regions.items ≡ length J.bounds + 1) × AllFit J.bounds (requests p.held.entries) };
 }
@@ -323,7 +323,7 @@ impl<J: Naming, F: Families> Post<J, F> {
         newest: Told<J>,
     ) -> Post<J, F>
         requires { AreNumbered 0 regions.items × (length regions.items ≡ length J.bounds + 1) }
-        ensures { result ≡ record { regions = regions.items; newest = newest; held = []; way = Some ways.Plain } }
+        ensures { result ≡ record { regions = regions.items; newest = newest; held = []; way = Some ways.Plain; trace = None } }
     {
         Post {
             alloc,

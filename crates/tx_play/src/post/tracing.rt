@@ -1,28 +1,73 @@
 //! The machine's steps of what happens, where they are kept. Where memory for one is refused, they are kept no more.
+ghost use Rattle.std.specs.Prelude.{◌≡◌, [], Option, Some, None, is_some};
+ghost use Rattle.tx_core.specs.declared.event.Event.TheVariants as events;
+ghost use Rattle.tx_play.specs.Posts.{GoesOnWith, NotesDrawn, NotesTaken};
+ghost use Rattle.tx_trace.specs.declared.trace.Trace.{Trace as Kept};
+ghost use Rattle.tx_trace.specs.Traces.{Traces};
+
 use super::Post;
 use std::alloc::Global;
 use tx_cells::Families;
 use tx_core::{Answer, Body, Declaration, Outcome};
 use tx_journal::{Naming, Reply};
 use tx_trace::Trace;
-use tx_types::{Fault, Ts};
+use tx_types::Ts;
 
-// Where memory was refused, no steps are kept any more.
-fn kept(trace: &mut Option<Trace>, noted: Result<(), Fault>) {
-    if noted.is_err() {
-        *trace = None;
+fn note_drawn(trace: &mut Option<Trace>, ts: Ts)
+    ensures { NotesDrawn ts trace.old trace.new }
+{
+    if let Some(steps) = trace {
+        if steps.drew(ts).is_err() {
+            *trace = None;
+        }
     }
 }
 
-fn note_taken(trace: &mut Option<Trace>, body: &Body, answer: &Answer) {
+fn note_began(trace: &mut Option<Trace>, start: Ts)
+    ensures { GoesOnWith trace.old (events.Began start) trace.new }
+{
     if let Some(steps) = trace {
-        let noted = steps.took(body, answer);
-        kept(trace, noted);
+        if steps.began(start).is_err() {
+            *trace = None;
+        }
+    }
+}
+
+fn note_declared(trace: &mut Option<Trace>, of: &Declaration)
+    ensures { GoesOnWith trace.old (events.Declared of.now) trace.new }
+{
+    if let Some(steps) = trace {
+        if steps.declared(of).is_err() {
+            *trace = None;
+        }
+    }
+}
+
+fn note_answered(trace: &mut Option<Trace>, start: Ts, outcome: Outcome)
+    ensures { GoesOnWith trace.old (events.Answered start outcome) trace.new }
+{
+    if let Some(steps) = trace {
+        if steps.answered(start, outcome).is_err() {
+            *trace = None;
+        }
+    }
+}
+
+fn note_taken(trace: &mut Option<Trace>, body: &Body, answer: &Answer)
+    ensures { NotesTaken body.now (Some answer.now) trace.old trace.new }
+{
+    if let Some(steps) = trace {
+        if steps.took(body, answer).is_err() {
+            *trace = None;
+        }
     }
 }
 
 /// Notes what a region answered, if it did.
-pub(crate) fn noted<J: Naming>(trace: &mut Option<Trace>, reply: Reply<J>) -> Reply<J> {
+pub(crate) fn noted<J: Naming>(trace: &mut Option<Trace>, reply: Reply<J>) -> Reply<J>
+    ensures same { result ≡ reply }
+    ensures notes { NotesTaken reply.request.body reply.answer trace.old trace.new }
+{
     let (request, answer, told) = reply.into_parts();
     if let Some(answer) = &answer {
         note_taken(trace, request.body(), answer);
@@ -32,54 +77,59 @@ pub(crate) fn noted<J: Naming>(trace: &mut Option<Trace>, reply: Reply<J>) -> Re
 
 impl<J: Naming, F: Families> Post<J, F> {
     /// Keeps the steps from now on: nothing has happened yet.
-    pub(crate) fn keep_trace(&mut self, alloc: Global) {
+    pub(crate) fn keep_trace(&mut self, alloc: Global)
+        ensures { (t : Kept) × Traces [] t × (self.new ≡ record self.old { trace = Some t }) }
+    {
         self.trace = Some(Trace::new(alloc));
     }
 
     /// Whether they are kept.
-    pub(crate) fn is_traced(&self) -> bool {
+    pub(crate) fn is_traced(&self) -> bool
+        ensures { result ≡ is_some self.now.trace }
+    {
         self.trace.is_some()
     }
 
     /// The steps, which are kept no more.
-    pub(crate) fn take_trace(&mut self) -> Option<Trace> {
+    pub(crate) fn take_trace(&mut self) -> Option<Trace>
+        ensures value { result ≡ self.old.trace }
+        ensures after { self.new ≡ record self.old { trace = None } }
+    {
         self.trace.take()
     }
 
     /// Keeps no more steps.
-    pub(crate) fn lose_trace(&mut self) {
+    pub(crate) fn lose_trace(&mut self)
+        ensures { self.new ≡ record self.old { trace = None } }
+    {
         self.trace = None;
     }
 
     /// A number was drawn.
-    pub(crate) fn drew(&mut self, ts: Ts) {
-        if let Some(steps) = &mut self.trace {
-            let noted = steps.drew(ts);
-            kept(&mut self.trace, noted);
-        }
+    pub(crate) fn drew(&mut self, ts: Ts)
+        ensures { (t : Option Kept) × NotesDrawn ts self.old.trace t × (self.new ≡ record self.old { trace = t }) }
+    {
+        note_drawn(&mut self.trace, ts);
     }
 
     /// A transaction began.
-    pub(crate) fn began(&mut self, start: Ts) {
-        if let Some(steps) = &mut self.trace {
-            let noted = steps.began(start);
-            kept(&mut self.trace, noted);
-        }
+    pub(crate) fn began(&mut self, start: Ts)
+        ensures { (t : Option Kept) × GoesOnWith self.old.trace (events.Began start) t × (self.new ≡ record self.old { trace = t }) }
+    {
+        note_began(&mut self.trace, start);
     }
 
     /// A transaction declared this.
-    pub(crate) fn declared(&mut self, of: &Declaration) {
-        if let Some(steps) = &mut self.trace {
-            let noted = steps.declared(of);
-            kept(&mut self.trace, noted);
-        }
+    pub(crate) fn declared(&mut self, of: &Declaration)
+        ensures { (t : Option Kept) × GoesOnWith self.old.trace (events.Declared of.now) t × (self.new ≡ record self.old { trace = t }) }
+    {
+        note_declared(&mut self.trace, of);
     }
 
     /// A session answered this of its transaction.
-    pub(crate) fn answered(&mut self, start: Ts, outcome: Outcome) {
-        if let Some(steps) = &mut self.trace {
-            let noted = steps.answered(start, outcome);
-            kept(&mut self.trace, noted);
-        }
+    pub(crate) fn answered(&mut self, start: Ts, outcome: Outcome)
+        ensures { (t : Option Kept) × GoesOnWith self.old.trace (events.Answered start outcome) t × (self.new ≡ record self.old { trace = t }) }
+    {
+        note_answered(&mut self.trace, start, outcome);
     }
 }
