@@ -1,4 +1,5 @@
 -- What a session's acts count, and what they are where nobody else acted.
+use Rattle.tx_trace.specs.Traces.{Noted}
 use Rattle.std.proofs.Common.{◌≡◌, ◌≤◌, ◌+◌, ℕ, List, ◌∷◌, length, Option, Some, None, Result, Ok, Err, sym, ap, subst, ◌∙◌, arith}
 use Rattle.std.specs.List.{sum_by}
 use Rattle.std.specs.Prelude.{OnOk, OnErr, IfErr}
@@ -20,7 +21,6 @@ use Rattle.tx_play.proofs.Counts.{recorded_part, drawn_part}
 use Rattle.tx_play.proofs.Stages.{same_stage}
 use Rattle.tx_play.proofs.Tracing.{traced_same, traced_on, traced_twice}
 use Rattle.tx_play.proofs.Walking.{walk_comes}
-use Rattle.tx_trace.specs.declared.trace.Trace.{Trace}
 
 -- one and the same seat
 made_same : (k l : Known) → l.seat ≡ k.seat → length (part k.seat l.events) ≤ length (part k.seat k.events) → made_by l ≤ made_by k
@@ -108,7 +108,7 @@ module _ (bounds : List Key) (from to : Desk) (k l m : Known) (heard : HasHeard 
   }
 
   -- it draws, and a session begins
-  pub begun_acts : (t : ℕ) → BeganAt bounds l t m → (said : ℕ) → said ≡ t → (mid : Option Trace) → NotesDrawn t from.trace mid → GoesOnWith mid (Began t) to.trace → Acts k m from to ((said ≡ last from.newest + 1) × (stage_of to ≡ with_events (stage_of from) (Began (last from.newest + 1) ∷ Drawn k.seat (last from.newest + 1) ∷ from.newest)))
+  pub begun_acts : (t : ℕ) → BeganAt bounds l t m → (said : ℕ) → said ≡ t → (mid : Option Noted) → NotesDrawn t from.trace mid → GoesOnWith mid (Began t) to.trace → Acts k m from to ((said ≡ last from.newest + 1) × (stage_of to ≡ with_events (stage_of from) (Began (last from.newest + 1) ∷ Drawn k.seat (last from.newest + 1) ∷ from.newest)))
   begun_acts t b said is mid first second = record {
     made = 2;
     counts =

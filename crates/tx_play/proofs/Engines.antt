@@ -173,7 +173,7 @@ module _ (bounds : List Key) where
           ))
       step_acted new t lent lends placed clerk names deed (Err c) (same, desk, halts) =
           let is : new.places ≡ old.places = back old.places lent new.places k (Live s) there lends (placed ∙ ap (λ x. slice_set lent k (Live x)) same) in
-          step_stops old new (acts name deed) c (ap (λ (d : Desk). d.regions) desk) (ap (λ (d : Desk). d.newest) desk) clerk is
+          step_stops old new (acts name deed) c (ap (λ (d : Desk). d.regions) desk) (ap (λ (d : Desk). d.newest) desk) (ap (λ (d : Desk). d.trace) desk) clerk is
           (λ later. ap (λ o. in_session o (λ j y. deeds later (scene_of old) j y bounds deed)) (is_live k named s there) ∙ halts later old.clerk.ticks (λ q. name_at old.names q) (map place_of old.places) k)
 
       -- it is gone

@@ -141,7 +141,7 @@ module _ (bounds : List Key) (now : ℕ) where
           ))
       step_resolved new t lent lends placed names (Err c) (same, clerk, desk, halts) =
           let is : new.places ≡ old.places = back old.places lent new.places k (Live s) there lends (placed ∙ ap (λ x. slice_set lent k (Live x)) same) in
-          step_stops bounds old new (resolve name now) c (ap (λ (d : Desk). d.regions) desk) (ap (λ (d : Desk). d.newest) desk) clerk is
+          step_stops bounds old new (resolve name now) c (ap (λ (d : Desk). d.regions) desk) (ap (λ (d : Desk). d.newest) desk) (ap (λ (d : Desk). d.trace) desk) clerk is
           (λ later. ap (λ o. in_session o (λ j y. resolves bounds later (scene_of old) j y now)) (is_live bounds old name k named s there) ∙ halts later (scene_of old) k)
 
 -- old versions are collected

@@ -20,8 +20,7 @@ use Rattle.tx_core.specs.declared.event.Event.{Event}
 use Rattle.tx_core.specs.declared.event.Declaration.{Declaration}
 use Rattle.tx_core.specs.declared.event.Taken.{Taken as TakenOf}
 use Rattle.tx_core.specs.Worlds.{IsWorldRun}
-use Rattle.tx_trace.specs.declared.trace.Trace.{Trace}
-use Rattle.tx_trace.specs.Traces.{Traces, Adds}
+use Rattle.tx_trace.specs.Traces.{Noted, Traces, Adds}
 use Rattle.tx_journal.specs.Replies.{Asked, Given}
 use Rattle.tx_play.specs.declared.post.Way.{Way}
 use Rattle.tx_play.specs.declared.post.Way.TheVariants.{Plain, Lose, LoseReply, Repeat, Hold}
@@ -49,7 +48,7 @@ pub record Desk : Type 0 where
   pub newest : History
   pub held : List (List ℕ × Asked)
   pub way : Option Course
-  pub trace : Option Trace
+  pub trace : Option Noted
 
 -- held requests by the bytes of their names
 abbrev pub requests : List (String Global × Asked) → List (List ℕ × Asked)
@@ -101,22 +100,22 @@ IsDone n k = length (part k.seat n) ≤ made_by k
 -- ---- the machine's steps
 
 -- a trace that is kept goes on with an event; or it is kept no more
-abbrev pub GoesOnWith : Option Trace → Event → Option Trace → Type 0
+abbrev pub GoesOnWith : Option Noted → Event → Option Noted → Type 0
 GoesOnWith old e None = Unit {0}
 GoesOnWith None e (Some new) = ⊥
 GoesOnWith (Some old) e (Some new) = Adds old e new
 
 -- a number was drawn, by whatever seat
-abbrev pub NotesDrawn : ℕ → Option Trace → Option Trace → Type 0
+abbrev pub NotesDrawn : ℕ → Option Noted → Option Noted → Type 0
 NotesDrawn t old new = (seat : ℕ) → GoesOnWith old (Drawn seat t) new
 
 -- something was declared, or nothing
-abbrev pub NotesDeclared : Option Declaration → Option Trace → Option Trace → Type 0
+abbrev pub NotesDeclared : Option Declaration → Option Noted → Option Noted → Type 0
 NotesDeclared None old new = new ≡ old
 NotesDeclared (Some d) old new = GoesOnWith old (Declared d) new
 
 -- a region answered a request, or was refused memory
-abbrev pub NotesTaken : Body → Option Answer → Option Trace → Option Trace → Type 0
+abbrev pub NotesTaken : Body → Option Answer → Option Noted → Option Noted → Type 0
 NotesTaken body None old new = new ≡ old
 NotesTaken body (Some a) old new = (x : TakenOf) → x.body ≡ body → x.answer ≡ a → GoesOnWith old (Took x) new
 

@@ -2,8 +2,7 @@
 ghost use Rattle.std.specs.Prelude.{◌≡◌, [], Option, Some, None, is_some};
 ghost use Rattle.tx_core.specs.declared.event.Event.TheVariants as events;
 ghost use Rattle.tx_play.specs.Posts.{GoesOnWith, NotesDrawn, NotesTaken};
-ghost use Rattle.tx_trace.specs.declared.trace.Trace.{Trace as Kept};
-ghost use Rattle.tx_trace.specs.Traces.{Traces};
+ghost use Rattle.tx_trace.specs.Traces.{Noted, Traces};
 
 use super::Post;
 use std::alloc::Global;
@@ -78,7 +77,7 @@ pub(crate) fn noted<J: Naming>(trace: &mut Option<Trace>, reply: Reply<J>) -> Re
 impl<J: Naming, F: Families> Post<J, F> {
     /// Keeps the steps from now on: nothing has happened yet.
     pub(crate) fn keep_trace(&mut self, alloc: Global)
-        ensures { (t : Kept) × Traces [] t × (self.new ≡ record self.old { trace = Some t }) }
+        ensures { (t : Noted) × Traces [] t × (self.new ≡ record self.old { trace = Some t }) }
     {
         self.trace = Some(Trace::new(alloc));
     }
@@ -107,28 +106,28 @@ impl<J: Naming, F: Families> Post<J, F> {
 
     /// A number was drawn.
     pub(crate) fn drew(&mut self, ts: Ts)
-        ensures { (t : Option Kept) × NotesDrawn ts self.old.trace t × (self.new ≡ record self.old { trace = t }) }
+        ensures { (t : Option Noted) × NotesDrawn ts self.old.trace t × (self.new ≡ record self.old { trace = t }) }
     {
         note_drawn(&mut self.trace, ts);
     }
 
     /// A transaction began.
     pub(crate) fn began(&mut self, start: Ts)
-        ensures { (t : Option Kept) × GoesOnWith self.old.trace (events.Began start) t × (self.new ≡ record self.old { trace = t }) }
+        ensures { (t : Option Noted) × GoesOnWith self.old.trace (events.Began start) t × (self.new ≡ record self.old { trace = t }) }
     {
         note_began(&mut self.trace, start);
     }
 
     /// A transaction declared this.
     pub(crate) fn declared(&mut self, of: &Declaration)
-        ensures { (t : Option Kept) × GoesOnWith self.old.trace (events.Declared of.now) t × (self.new ≡ record self.old { trace = t }) }
+        ensures { (t : Option Noted) × GoesOnWith self.old.trace (events.Declared of.now) t × (self.new ≡ record self.old { trace = t }) }
     {
         note_declared(&mut self.trace, of);
     }
 
     /// A session answered this of its transaction.
     pub(crate) fn answered(&mut self, start: Ts, outcome: Outcome)
-        ensures { (t : Option Kept) × GoesOnWith self.old.trace (events.Answered start outcome) t × (self.new ≡ record self.old { trace = t }) }
+        ensures { (t : Option Noted) × GoesOnWith self.old.trace (events.Answered start outcome) t × (self.new ≡ record self.old { trace = t }) }
     {
         note_answered(&mut self.trace, start, outcome);
     }

@@ -10,7 +10,7 @@ use Rattle.tx_play.proofs.acts.begin_at.Goals as goal
 pub returns-clause-acts : goal.returns-clause-acts
 returns-clause-acts g c =
     let from = c.args.post.now in
-    let to = c.set_newest.new.self in
+    let to = c.began.new.self in
     let k = c.args.seat in
     let l = c.learn.new.self in
     let s = c.in-Ok.session in
@@ -24,7 +24,7 @@ returns-clause-acts g c =
       own = c.learn.ensures.own;
     } in
     let acts = begun_acts g.J.Naming.bounds from to k l s.seat heard
-    (ap (λ (d : Desk). d.regions) c.set_newest.ensures ∙ ap (λ (d : Desk). d.regions) c.newest.ensures.same)
-    (ap (λ (d : Desk). d.newest) c.set_newest.ensures ∙ c.tell.ensures.told) (ap (λ (d : Desk). d.held) c.set_newest.ensures ∙ ap (λ (d : Desk). d.held) c.newest.ensures.same)
-    s.state.start began.1 c.start-start.result c.start-start.ensures in
+    (ap (λ (d : Desk). d.regions) c.drew.ensures.2 ∙ ap (λ (d : Desk). d.regions) c.began.ensures.2 ∙ ap (λ (d : Desk). d.regions) c.set_newest.ensures ∙ ap (λ (d : Desk). d.regions) c.newest.ensures.same)
+    (ap (λ (d : Desk). d.newest) c.drew.ensures.2 ∙ ap (λ (d : Desk). d.newest) c.began.ensures.2 ∙ ap (λ (d : Desk). d.newest) c.set_newest.ensures ∙ c.tell.ensures.told) (ap (λ (d : Desk). d.held) c.drew.ensures.2 ∙ ap (λ (d : Desk). d.held) c.began.ensures.2 ∙ ap (λ (d : Desk). d.held) c.set_newest.ensures ∙ ap (λ (d : Desk). d.held) c.newest.ensures.same)
+    s.state.start began.1 c.start-start.result c.start-start.ensures c.drew.new.self.trace (λ seat. ?) (?) in
     subst (λ (x : Seated). Acts k x.seat from to ((c.start-start.result ≡ last from.newest + 1) × (stage_of to ≡ with_events (stage_of from) (Began (last from.newest + 1) ∷ Drawn k.seat (last from.newest + 1) ∷ from.newest)))) (sym same) acts

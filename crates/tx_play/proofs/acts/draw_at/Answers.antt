@@ -1,23 +1,24 @@
-use Rattle.std.proofs.Common.{◌≡◌, ◌+◌, ◌∷◌, sym, ap, subst, ◌∙◌}
+use Rattle.std.proofs.Common.{Option, ◌≡◌, ◌+◌, ◌∷◌, sym, ap, subst, ◌∙◌}
 use Rattle.tx_core.specs.declared.event.Event.TheVariants.{Drawn}
 use Rattle.tx_core.specs.Histories.{History, last}
 use Rattle.tx_client.specs.Calls.{Seated, HasHeard}
-use Rattle.tx_play.specs.Posts.{Desk, stage_of, with_events}
+use Rattle.tx_play.specs.Posts.{Desk, GoesOnWith, stage_of, with_events}
 use Rattle.tx_play.specs.Places.{Acts}
+use Rattle.tx_trace.specs.Traces.{Noted}
 use Rattle.tx_play.proofs.Acting.{drew_acts}
 use Rattle.tx_play.proofs.acts.draw_at.Goals as goal
 
 pub returns-clause-acts : goal.returns-clause-acts
 returns-clause-acts g c =
     let from = c.args.post.now in
-    let to = c.set_newest.new.self in
+    let to = c.drew.new.self in
     let k = c.args.session.now.seat in
     let l = c.hear_of.new.self.seat in
     let m = c.draw_commit.new.self.seat in
     let t = c.in-Ok.commit in
     let heard : HasHeard g.J.Naming.bounds k from.newest l = subst (λ (h : History). HasHeard g.J.Naming.bounds k h l) c.newest.ensures.told c.hear_of.ensures.heard in
     let acts = drew_acts g.J.Naming.bounds from to k l m heard
-    (ap (λ (d : Desk). d.regions) c.set_newest.ensures ∙ ap (λ (d : Desk). d.regions) c.newest.ensures.same)
-    (ap (λ (d : Desk). d.newest) c.set_newest.ensures ∙ c.tell.ensures.told) (ap (λ (d : Desk). d.held) c.set_newest.ensures ∙ ap (λ (d : Desk). d.held) c.newest.ensures.same)
-    t c.in-Ok.ensures.ok.1 in
+    (ap (λ (d : Desk). d.regions) c.drew.ensures.2 ∙ ap (λ (d : Desk). d.regions) c.set_newest.ensures ∙ ap (λ (d : Desk). d.regions) c.newest.ensures.same)
+    (ap (λ (d : Desk). d.newest) c.drew.ensures.2 ∙ ap (λ (d : Desk). d.newest) c.set_newest.ensures ∙ c.tell.ensures.told) (ap (λ (d : Desk). d.held) c.drew.ensures.2 ∙ ap (λ (d : Desk). d.held) c.set_newest.ensures ∙ ap (λ (d : Desk). d.held) c.newest.ensures.same)
+    t c.in-Ok.ensures.ok.1 (λ seat. subst (λ (o : Option Noted). GoesOnWith o (Drawn seat t) to.trace) (ap (λ (d : Desk). d.trace) c.set_newest.ensures ∙ ap (λ (d : Desk). d.trace) c.newest.ensures.same) (subst (GoesOnWith c.set_newest.new.self.trace (Drawn seat t)) (sym (ap (λ (d : Desk). d.trace) c.drew.ensures.2)) (c.drew.ensures.1 seat))) in
     subst (λ (x : Seated). Acts k x.seat from to ((t ≡ last from.newest + 1) × (stage_of to ≡ with_events (stage_of from) (Drawn k.seat (last from.newest + 1) ∷ from.newest)))) (sym c.tell.ensures.same) acts

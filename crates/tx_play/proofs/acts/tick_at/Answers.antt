@@ -1,16 +1,17 @@
-use Rattle.std.proofs.Common.{◌≡◌, ◌+◌, ◌∷◌, sym, ap, subst, ◌∙◌}
+use Rattle.std.proofs.Common.{Option, ◌≡◌, ◌+◌, ◌∷◌, sym, ap, subst, ◌∙◌}
 use Rattle.tx_core.specs.declared.event.Event.TheVariants.{Drawn}
 use Rattle.tx_core.specs.Histories.{last, Begins}
 use Rattle.tx_journal.specs.Known.{Known}
-use Rattle.tx_play.specs.Posts.{Desk, stage_of, with_events}
+use Rattle.tx_play.specs.Posts.{Desk, GoesOnWith, stage_of, with_events}
 use Rattle.tx_play.specs.Places.{Serves}
+use Rattle.tx_trace.specs.Traces.{Noted}
 use Rattle.tx_play.proofs.Serving.{tick_serves}
 use Rattle.tx_play.proofs.acts.tick_at.Goals as goal
 
 pub returns-clause-drawn : goal.returns-clause-drawn
 returns-clause-drawn g c =
     let from = c.args.post.now in
-    let to = c.set_newest.new.self in
+    let to = c.drew.new.self in
     let k = c.args.clerk.now in
     let l = c.learn.new.self in
     let m = c.draw.new.self in
@@ -20,7 +21,7 @@ returns-clause-drawn g c =
     let knows : Begins from.newest l.events = subst (λ h. Begins h l.events) c.newest.ensures.told c.learn.ensures.told in
     let serves : Serves k m from to ((t ≡ last from.newest + n) × (stage_of to ≡ with_events (stage_of from) (Drawn k.seat (last from.newest + n) ∷ from.newest))) =
     tick_serves g.J.Naming.bounds from to k l c.learn.ensures.same.0 knows c.learn.ensures.own n t m drew.drawn drew.seat
-    (ap (λ (d : Desk). d.regions) c.set_newest.ensures ∙ ap (λ (d : Desk). d.regions) c.newest.ensures.same)
-    (ap (λ (d : Desk). d.newest) c.set_newest.ensures ∙ c.tell.ensures.told)
-    (ap (λ (d : Desk). d.held) c.set_newest.ensures ∙ ap (λ (d : Desk). d.held) c.newest.ensures.same) in
+    (ap (λ (d : Desk). d.regions) c.drew.ensures.2 ∙ ap (λ (d : Desk). d.regions) c.set_newest.ensures ∙ ap (λ (d : Desk). d.regions) c.newest.ensures.same)
+    (ap (λ (d : Desk). d.newest) c.drew.ensures.2 ∙ ap (λ (d : Desk). d.newest) c.set_newest.ensures ∙ c.tell.ensures.told)
+    (ap (λ (d : Desk). d.held) c.drew.ensures.2 ∙ ap (λ (d : Desk). d.held) c.set_newest.ensures ∙ ap (λ (d : Desk). d.held) c.newest.ensures.same) (λ seat. subst (λ (o : Option Noted). GoesOnWith o (Drawn seat t) to.trace) (ap (λ (d : Desk). d.trace) c.set_newest.ensures ∙ ap (λ (d : Desk). d.trace) c.newest.ensures.same) (subst (GoesOnWith c.set_newest.new.self.trace (Drawn seat t)) (sym (ap (λ (d : Desk). d.trace) c.drew.ensures.2)) (c.drew.ensures.1 seat))) in
     subst (λ (x : Known). (k.ticks ≡ x.ticks + n) × Serves k x from to ((t ≡ last from.newest + n) × (stage_of to ≡ with_events (stage_of from) (Drawn k.seat (last from.newest + n) ∷ from.newest)))) (sym c.tell.ensures.same) (sym c.learn.ensures.same.1 ∙ drew.ticks, serves)

@@ -16,7 +16,7 @@ returns-in_default g c =
     let bounds = g.J.Naming.bounds in
     let old : Held = record { desk = s.direct.post; clerk = s.clerk; names = texts s.names.entries; places = s.places.items } in
     let none : name_at old.names name ≡ None = named s.names name ∙ sym c.in_default.ensures.value in
-    record { goes = subst (λ (o : Held). Goes bounds o o (Turned bounds (acts c.args.name.now (deed_of c.args.deed.now)) (Err cause.Name) o o)) c.self.view_is (step_stops bounds old old (acts c.args.name.now (deed_of c.args.deed.now)) cause.Name refl refl refl refl (act_stops bounds old name (deed_of c.args.deed.now) (no_name bounds old name none))) }
+    record { goes = subst (λ (o : Held). Goes bounds o o (Turned bounds (acts c.args.name.now (deed_of c.args.deed.now)) (Err cause.Name) o o)) c.self.view_is (step_stops bounds old old (acts c.args.name.now (deed_of c.args.deed.now)) cause.Name refl refl refl refl refl (act_stops bounds old name (deed_of c.args.deed.now) (no_name bounds old name none))) }
 
 pub returns-then-k-len : goal.returns-then-k-len
 returns-then-k-len g c =
@@ -27,7 +27,7 @@ returns-then-k-len g c =
     let old : Held = record { desk = s.direct.post; clerk = s.clerk; names = texts s.names.entries; places = s.places.items } in
     let at : name_at old.names name ≡ Some k = named s.names name ∙ sym c.in-Some.ensures.value in
     let le : length old.places ≤ k = omega (arith, c.if-k-len.true, c.len.ensures, s.places.ok.0) in
-    record { goes = subst (λ (o : Held). Goes bounds o o (Turned bounds (acts c.args.name.now (deed_of c.args.deed.now)) (Err cause.Name) o o)) c.self.view_is (step_stops bounds old old (acts c.args.name.now (deed_of c.args.deed.now)) cause.Name refl refl refl refl (act_stops bounds old name (deed_of c.args.deed.now) (no_place bounds old name k at le))) }
+    record { goes = subst (λ (o : Held). Goes bounds o o (Turned bounds (acts c.args.name.now (deed_of c.args.deed.now)) (Err cause.Name) o o)) c.self.view_is (step_stops bounds old old (acts c.args.name.now (deed_of c.args.deed.now)) cause.Name refl refl refl refl refl (act_stops bounds old name (deed_of c.args.deed.now) (no_place bounds old name k at le))) }
 
 pub act_in-requires : goal.act_in-requires
 act_in-requires g c =

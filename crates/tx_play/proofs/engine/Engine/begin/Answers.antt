@@ -17,7 +17,7 @@ returns-then-not-is_name g c =
     let bounds = g.J.Naming.bounds in
     let old = c.args.self.now in
     let bad : not (is_name name) ≡ true = search rules in
-    record { goes = step_stops bounds old old (begin name) cause.Name refl refl refl refl (begin_unnamed bounds old name bad) }
+    record { goes = step_stops bounds old old (begin name) cause.Name refl refl refl refl refl (begin_unnamed bounds old name bad) }
 
 pub returns-then-contains_key : goal.returns-then-contains_key
 returns-then-contains_key g c =
@@ -27,7 +27,7 @@ returns-then-contains_key g c =
     let old : Held = record { desk = s.direct.post; clerk = s.clerk; names = texts s.names.entries; places = s.places.items } in
     let right : not (is_name name) ≡ false = search rules in
     let taken : is_some (name_at old.names name) ≡ true = ap is_some (named s.names name) ∙ sym c.if-contains_key.ensures in
-    record { goes = subst (λ (o : Held). Goes bounds o o (Turned bounds (begin name) (Err cause.Name) o o)) c.self.view_is (step_stops bounds old old (begin name) cause.Name refl refl refl refl (begin_taken bounds old name right taken)) }
+    record { goes = subst (λ (o : Held). Goes bounds o o (Turned bounds (begin name) (Err cause.Name) o o)) c.self.view_is (step_stops bounds old old (begin name) cause.Name refl refl refl refl refl (begin_taken bounds old name right taken)) }
 
 pub returns-in_default : goal.returns-in_default
 returns-in_default g c =
@@ -38,7 +38,7 @@ returns-in_default g c =
     let right : not (is_name name) ≡ false = search rules in
     let unnamed : is_some (name_at old.names name) ≡ false = ap is_some (named s.names name) ∙ sym c.if-contains_key.ensures in
     let full : first_free (map place_of old.places) ≡ None = sym (c.in_default.ensures.first ∙ ap (λ ps. first_free (map place_of ps)) c.deref.ensures.value) in
-    record { goes = subst (λ (o : Held). Goes bounds o o (Turned bounds (begin name) (Err cause.Sessions) o o)) c.self.view_is (step_stops bounds old old (begin name) cause.Sessions refl refl refl refl (begin_full bounds old name right unnamed full)) }
+    record { goes = subst (λ (o : Held). Goes bounds o o (Turned bounds (begin name) (Err cause.Sessions) o o)) c.self.view_is (step_stops bounds old old (begin name) cause.Sessions refl refl refl refl refl (begin_full bounds old name right unnamed full)) }
 
 pub returns-then-is_err : goal.returns-then-is_err
 returns-then-is_err g c =

@@ -14,7 +14,7 @@ returns-in_default g c =
     let bounds = g.J.Naming.bounds in
     let old : Held = record { desk = s.direct.post; clerk = s.clerk; names = texts s.names.entries; places = s.places.items } in
     let none : name_at old.names name ≡ None = named s.names name ∙ sym c.in_default.ensures.value in
-    record { goes = subst (λ (o : Held). Goes bounds o o (Turned bounds (resolve c.args.name.now c.args.now) (Err cause.Name) o o)) c.self.view_is (step_stops bounds old old (resolve c.args.name.now c.args.now) cause.Name refl refl refl refl (resolve_stops bounds c.args.now old name (no_name bounds old name none))) }
+    record { goes = subst (λ (o : Held). Goes bounds o o (Turned bounds (resolve c.args.name.now c.args.now) (Err cause.Name) o o)) c.self.view_is (step_stops bounds old old (resolve c.args.name.now c.args.now) cause.Name refl refl refl refl refl (resolve_stops bounds c.args.now old name (no_name bounds old name none))) }
 
 pub returns-then-k-len : goal.returns-then-k-len
 returns-then-k-len g c =
@@ -25,7 +25,7 @@ returns-then-k-len g c =
     let old : Held = record { desk = s.direct.post; clerk = s.clerk; names = texts s.names.entries; places = s.places.items } in
     let at : name_at old.names name ≡ Some k = named s.names name ∙ sym c.in-Some.ensures.value in
     let le : length old.places ≤ k = omega (arith, c.if-k-len.true, c.len.ensures, s.places.ok.0) in
-    record { goes = subst (λ (o : Held). Goes bounds o o (Turned bounds (resolve c.args.name.now c.args.now) (Err cause.Name) o o)) c.self.view_is (step_stops bounds old old (resolve c.args.name.now c.args.now) cause.Name refl refl refl refl (resolve_stops bounds c.args.now old name (no_place bounds old name k at le))) }
+    record { goes = subst (λ (o : Held). Goes bounds o o (Turned bounds (resolve c.args.name.now c.args.now) (Err cause.Name) o o)) c.self.view_is (step_stops bounds old old (resolve c.args.name.now c.args.now) cause.Name refl refl refl refl refl (resolve_stops bounds c.args.now old name (no_place bounds old name k at le))) }
 
 pub returns-in_default-swap_slot : goal.returns-in_default-swap_slot
 returns-in_default-swap_slot g c =
@@ -38,7 +38,7 @@ returns-in_default-swap_slot g c =
     let at : name_at old.names name ≡ Some k = named s.names name ∙ sym c.in-Some.ensures.value in
     let ready : AllSeated bounds 1 old = subst (AllSeated bounds 1) (sym c.self.view_is) c.requires.ready in
     let places : new.places ≡ old.places = back s.places.items c.swap_slot.new.places.items new.places k c.swap_slot.result c.swap_slot.ensures.value c.swap_slot.ensures.after c.swap_slot-in_default-swap_slot.ensures.after in
-    record { goes = subst (λ (o : Held). Goes bounds o new (Turned bounds (resolve c.args.name.now c.args.now) (Err cause.Name) o new)) c.self.view_is (step_stops bounds old new (resolve c.args.name.now c.args.now) cause.Name refl refl refl places (resolve_stops bounds c.args.now old name (not_live bounds old name k at c.swap_slot.result c.swap_slot.ensures.value c.in_default-swap_slot.not-Live ready))) }
+    record { goes = subst (λ (o : Held). Goes bounds o new (Turned bounds (resolve c.args.name.now c.args.now) (Err cause.Name) o new)) c.self.view_is (step_stops bounds old new (resolve c.args.name.now c.args.now) cause.Name refl refl refl refl places (resolve_stops bounds c.args.now old name (not_live bounds old name k at c.swap_slot.result c.swap_slot.ensures.value c.in_default-swap_slot.not-Live ready))) }
 
 pub returns-in-Live : goal.returns-in-Live
 returns-in-Live g c =

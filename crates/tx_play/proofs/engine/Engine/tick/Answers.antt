@@ -11,7 +11,7 @@ pub returns-then-ticks-eq0 : goal.returns-then-ticks-eq0
 returns-then-ticks-eq0 g c =
     let bounds = g.J.Naming.bounds in
     let old = c.args.self.now in
-    record { goes = step_stops bounds old old (tick c.args.ticks) cause.Form refl refl refl refl (tick_stops bounds old c.args.ticks c.if-ticks-eq0.true) }
+    record { goes = step_stops bounds old old (tick c.args.ticks) cause.Form refl refl refl refl refl (tick_stops bounds old c.args.ticks c.if-ticks-eq0.true) }
 
 pub returns-in_default : goal.returns-in_default
 returns-in_default g c =
