@@ -43,9 +43,11 @@ static SIMULATE_HELP: &str =
 A delivery is nothing, or \"lose\", \"lose-reply\", \"repeat\", or \"hold\",name
 
 Each reply is the number of the line and the step's words; docs/SCRIPT.md has all replies, refusals and causes.
+With --check, a script that ended without a fault is followed by the machine's steps of its run, in the form of txkv check.
 
 Examples:
   txkv simulate < commit_then_read.script     One transaction and a reader
+  txkv simulate --check < push.script         The same of any script, and what it was for the machine
   echo '[\"begin\",\"A\"]' | txkv simulate           [1,\"start\",1], status 0
   echo '[\"get\",\"A\",\"a\"]' | txkv simulate         [1,\"E16\",\"name\"], no session is live, status 2";
 
