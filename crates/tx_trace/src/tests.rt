@@ -94,6 +94,16 @@ fn read(rt: &HostRuntime, at: u64, name: &[u8], found: bool) -> Result<Event, Fa
     Ok(took(Body::Get(body), answer))
 }
 
+// A key is committed.
+fn committed(rt: &HostRuntime, start: u64, name: &[u8], commit: u64) -> Result<Event, Fault> {
+    let body = Commit {
+        key: key(rt, name)?,
+        start: Ts::new(start),
+        commit: Ts::new(commit),
+    };
+    Ok(took(Body::Commit(body), Answer::Committed(Ts::new(commit))))
+}
+
 fn event(rt: &HostRuntime, deed: Deed) -> Result<Event, Fault> {
     match deed {
         Deed::Draws(ts) => Ok(Event::Drawn {
@@ -103,14 +113,7 @@ fn event(rt: &HostRuntime, deed: Deed) -> Result<Event, Fault> {
         Deed::Begins(start) => Ok(Event::Began(Ts::new(start))),
         Deed::Declares(start, mode, names) => declared(rt, start, mode, names),
         Deed::Locks(start, name, min) => locked(rt, start, name, min),
-        Deed::Commits(start, name, commit) => {
-            let body = Commit {
-                key: key(rt, name)?,
-                start: Ts::new(start),
-                commit: Ts::new(commit),
-            };
-            Ok(took(Body::Commit(body), Answer::Committed(Ts::new(commit))))
-        }
+        Deed::Commits(start, name, commit) => committed(rt, start, name, commit),
         Deed::RollsBack(start) => {
             let body = BatchRollback {
                 key: key(rt, b"a")?,
