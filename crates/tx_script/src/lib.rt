@@ -16,5 +16,5 @@ mod script;
 mod words;
 
 pub use checker::check;
-pub use opening::{simulate, simulate_checked, simulate_with};
+pub use opening::{simulate, simulate_checked, simulate_checked_with, simulate_with};
 pub use tx_lines::{Broken, End};

@@ -3,10 +3,12 @@ ghost use Rattle.std.specs.Prelude.{◌≡◌, ◌≤◌, ◌+◌, ℕ, List, le
 ghost use Rattle.tx_types.specs.declared.limits.TheConstants as limits;
 ghost use Rattle.tx_play.specs.Places.{AllSeated, own};
 ghost use Rattle.tx_play.specs.Openings.{IsOpening};
+ghost use Rattle.tx_play.specs.Posts.{IsTraced};
 ghost use Rattle.tx_script.specs.Play.{EndsLines, BreaksLines};
+ghost use Rattle.tx_script.specs.Checked.{EndsCheckedLines, BreaksCheckedLines};
 ghost use Rattle.tx_script.specs.Loops.{Ahead, Kept, EndsAt, BreaksAt};
 
-use crate::checked::tell_trace;
+use crate::checked::tell_rest;
 use crate::line::{Turned, play_found, tell, tell_fault};
 use std::alloc::Global;
 use std::io::{BufRead, Write};
@@ -29,6 +31,7 @@ fn play_lines<J: Naming, F: Families, R: BufRead, W: Write>(
     requires places { length engine.old.places ≡ limits.MAX_LIVE_SESSIONS }
     requires ready { AllSeated J.bounds (limits.MAX_LINES + 1) engine.old }
     ensures kept { Kept J.bounds engine.new }
+    ensures traced { length engine.new.desk.newest ≤ own engine.new → IsTraced engine.old.desk → IsTraced engine.new.desk }
     ensures ends { IfOk result (λ end. length engine.new.desk.newest ≤ own engine.new → (lines : List (List ℕ)) → Ahead first line.old.items (R.remaining reader.old) lines
         → EndsAt J.bounds lines engine.new.desk.newest (W.contents writer.old) (W.contents writer.new) end) }
     ensures breaks { IfErr result (λ why. length engine.new.desk.newest ≤ own engine.new → (lines : List (List ℕ)) → Ahead first line.old.items (R.remaining reader.old) lines
@@ -67,7 +70,6 @@ pub(crate) fn simulate_over<J: Naming, F: Families + Drop, R: BufRead, W: Write>
     writer: &mut W,
     first: Found,
     line: &mut Vec<u8>,
-    checks: bool,
 ) -> Result<End, Broken>
     requires opening { IsOpening engine }
     requires places { length engine.places ≡ limits.MAX_LIVE_SESSIONS }
@@ -79,15 +81,37 @@ pub(crate) fn simulate_over<J: Naming, F: Families + Drop, R: BufRead, W: Write>
         → BreaksLines J.bounds why lines (W.contents writer.old) (W.contents writer.new)) }
 {
     let mut engine = engine;
-    if checks {
-        engine.keep_trace();
-    }
     let end = play_lines(alloc, &mut engine, reader, writer, first, line);
+    let told = engine.settle();
+    told.show();
+    end
+}
+
+/// The same with a check: where the script ended well, the machine's steps of its run follow its replies, and that they are a run.
+pub(crate) fn check_over<J: Naming, F: Families + Drop, R: BufRead, W: Write>(
+    alloc: Global,
+    engine: Engine<J, F>,
+    reader: &mut R,
+    writer: &mut W,
+    first: Found,
+    line: &mut Vec<u8>,
+) -> Result<End, Broken>
+    requires opening { IsOpening engine }
+    requires places { length engine.places ≡ limits.MAX_LIVE_SESSIONS }
+    requires ready { AllSeated J.bounds (limits.MAX_LINES + 1) engine }
+    requires seats { J.seats ≡ length J.bounds + 2 + limits.MAX_LIVE_SESSIONS }
+    ensures ends { IfOk result (λ end. (lines : List (List ℕ)) → Ahead first line.old.items (R.remaining reader.old) lines
+        → EndsCheckedLines J.bounds lines (W.contents writer.old) (W.contents writer.new) end) }
+    ensures breaks { IfErr result (λ why. (lines : List (List ℕ)) → Ahead first line.old.items (R.remaining reader.old) lines
+        → BreaksCheckedLines J.bounds why lines (W.contents writer.old) (W.contents writer.new)) }
+{
+    let mut engine = engine;
+    engine.keep_trace();
+    let ended = play_lines(alloc, &mut engine, reader, writer, first, line);
     let trace = engine.take_trace();
     let told = engine.settle();
     told.show();
-    if checks && matches!(&end, Ok(End::Well)) {
-        return tell_trace(alloc, writer, trace);
-    }
-    end
+    let end = ended?;
+    tell_rest(alloc, writer, end, trace)?;
+    Ok(end)
 }

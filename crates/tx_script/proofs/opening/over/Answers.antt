@@ -4,14 +4,15 @@ use Rattle.tx_types.specs.declared.key.Key.{Key}
 use Rattle.tx_types.specs.declared.limits.TheConstants.{MAX_LIVE_SESSIONS, MAX_LINES}
 use Rattle.tx_script.specs.Play.{EndsLines, BreaksLines}
 use Rattle.tx_play.proofs.Dealt.{dealt_all}
-use Rattle.tx_script.proofs.Ending.{then_ok, then_err, breaks_first}
+use Rattle.tx_script.proofs.Ending.{then_ok, then_err}
+use Rattle.tx_script.proofs.Checking.{breaks_first_asked, asked, not_asked}
 use Rattle.tx_script.proofs.opening.over.Goals as goal
 
 pub returns-in_default-clause-breaks : goal.returns-in_default-clause-breaks
-returns-in_default-clause-breaks g c lines a = breaks_first c.args.opened.bounds _ lines (g.W.Write.contents c.args.writer.now) _ (Keeps-refl _)
+returns-in_default-clause-breaks g c lines a = breaks_first_asked c.args.checks c.args.opened.bounds _ lines (g.W.Write.contents c.args.writer.now) _ (Keeps-refl _)
 
 pub returns-in_default-engine_of-clause-breaks : goal.returns-in_default-engine_of-clause-breaks
-returns-in_default-engine_of-clause-breaks g c lines a = breaks_first c.args.opened.bounds _ lines (g.W.Write.contents c.args.writer.now) _ (Keeps-refl _)
+returns-in_default-engine_of-clause-breaks g c lines a = breaks_first_asked c.args.checks c.args.opened.bounds _ lines (g.W.Write.contents c.args.writer.now) _ (Keeps-refl _)
 
 pub engine_of-requires-clause-dealt : goal.engine_of-requires-clause-dealt
 engine_of-requires-clause-dealt g c = dealt_all c.in-Ok.seats.items g.J.Naming.seats (omega (arith, c.in-Ok.ensures.count, c.in-Ok.seats.ok.0)) c.in-Ok.ensures.seats
