@@ -103,7 +103,9 @@ fn play<F: Fresh, R: BufRead, W: Write>(
     let Ok(opened) = Opened::new(alloc, bounds, MAX_LIVE_SESSIONS + 1) else {
         return Err(Broken::Memory);
     };
-    over::<Brand, F, R, W>(alloc, opened, families, reader, writer, first, &mut line, checks)
+    over::<Brand, F, R, W>(
+        alloc, opened, families, reader, writer, first, &mut line, checks,
+    )
 }
 
 /// Plays a script as `simulate` does, over families of one's own choice, which begin with nothing.

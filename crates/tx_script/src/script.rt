@@ -1,6 +1,7 @@
 //! The lines of a script, one after another, and then the count that shows that nobody else acted.
 ghost use Rattle.std.specs.Prelude.{◌≡◌, ◌≤◌, ◌+◌, ℕ, List, length, IfOk, IfErr};
 ghost use Rattle.tx_types.specs.declared.limits.TheConstants as limits;
+ghost use Rattle.tx_core.specs.Worlds.{IsWorldRun};
 ghost use Rattle.tx_play.specs.Places.{AllSeated, own};
 ghost use Rattle.tx_play.specs.Openings.{IsOpening};
 ghost use Rattle.tx_play.specs.Posts.{IsTraced};
@@ -16,6 +17,7 @@ use tx_cells::Families;
 use tx_journal::Naming;
 use tx_lines::{Broken, End, Found, REFUSAL_BYTES, finish, read_line};
 use tx_play::Engine;
+use tx_trace::Trace;
 use tx_types::limits::MAX_LINES;
 
 // Plays the lines that come next, one after another: the first is in `line`, as it was found.
@@ -60,6 +62,22 @@ fn play_lines<J: Naming, F: Families, R: BufRead, W: Write>(
     }
 }
 
+// Ends the play: nobody else acted, so that what is newest is no more than was made here, and a run of the protocol. The machine's steps
+// of it, where they were kept.
+fn close<J: Naming, F: Families + Drop>(engine: Engine<J, F>) -> Option<Trace>
+    requires kept { Kept J.bounds engine }
+    requires seats { J.seats ≡ length J.bounds + 2 + limits.MAX_LIVE_SESSIONS }
+    ensures came { length engine.desk.newest ≤ own engine }
+    ensures run { IsWorldRun J.bounds engine.desk.newest }
+    ensures trace { result ≡ engine.desk.trace }
+{
+    let mut engine = engine;
+    let trace = engine.take_trace();
+    let told = engine.settle();
+    told.show();
+    trace
+}
+
 /// Plays the lines that come next in one thread, the first of which is in `line`, as it was found. What it has then written is the text
 /// of the only play of the lines, whose history is a run of the protocol; broken off, it has written a beginning of the text of the first
 /// lines.
@@ -82,8 +100,7 @@ pub(crate) fn simulate_over<J: Naming, F: Families + Drop, R: BufRead, W: Write>
 {
     let mut engine = engine;
     let end = play_lines(alloc, &mut engine, reader, writer, first, line);
-    let told = engine.settle();
-    told.show();
+    drop(close(engine));
     end
 }
 
@@ -108,9 +125,7 @@ pub(crate) fn check_over<J: Naming, F: Families + Drop, R: BufRead, W: Write>(
     let mut engine = engine;
     engine.keep_trace();
     let ended = play_lines(alloc, &mut engine, reader, writer, first, line);
-    let trace = engine.take_trace();
-    let told = engine.settle();
-    told.show();
+    let trace = close(engine);
     let end = ended?;
     tell_rest(alloc, writer, end, trace)?;
     Ok(end)
