@@ -13,13 +13,13 @@ use Rattle.tx_core.proofs.seats.Beginnings.{begins_length, begins_whole}
 use Rattle.tx_journal.specs.Known.{Known}
 use Rattle.tx_client.specs.Calls.{HasHeard, BeganAt, Records, Draws, RecordsDeclared}
 use Rattle.tx_client.specs.Walks.{Walk, Sends}
-use Rattle.tx_play.specs.Posts.{Desk, made_by, GoesOnWith, NotesDrawn, NotesDeclared, stage_of, with_events, Passes, Runs}
+use Rattle.tx_play.specs.Posts.{Desk, made_by, GoesOnWith, KeptAs, NotesDrawn, NotesDeclared, stage_of, with_events, Passes, Runs}
 use Rattle.tx_play.specs.Places.{Acts, at_regions}
 use Rattle.tx_play.specs.Scenes.{declared_in}
 use Rattle.tx_play.proofs.Alone.{recorded_grows, recorded_alone, drawn_grows, drawn_number, drawn_alone, begun_grows, begun_number, begun_alone}
 use Rattle.tx_play.proofs.Counts.{recorded_part, drawn_part}
 use Rattle.tx_play.proofs.Stages.{same_stage}
-use Rattle.tx_play.proofs.Tracing.{traced_same, traced_on, traced_twice}
+use Rattle.tx_play.proofs.Tracing.{traced_same, traced_kept, traced_on, traced_twice}
 use Rattle.tx_play.proofs.Walking.{walk_comes}
 
 -- one and the same seat
@@ -54,8 +54,8 @@ module _ (bounds : List Key) (from to : Desk) (k l m : Known) (heard : HasHeard 
   learnt = made_same k l heard.number (omega (arith, ap length heard.own))
 
   -- it makes no event
-  pub heard_acts : m ≡ l → to.trace ≡ from.trace → Acts k m from to (stage_of to ≡ stage_of from)
-  heard_acts same trace = record {
+  pub heard_acts : m ≡ l → KeptAs from.trace to.trace → Acts k m from to (stage_of to ≡ stage_of from)
+  heard_acts same kept = record {
     made = 0;
     counts = omega (arith, learnt, ap made_by same, regions_same);
     seat = ap (λ (x : Known). x.seat) same ∙ heard.number;
@@ -66,7 +66,7 @@ module _ (bounds : List Key) (from to : Desk) (k l m : Known) (heard : HasHeard 
         same_stage from to from.newest (newest ∙ (events ∙ sym (begins_whole n l.events heard.knows (omega (arith, le, ap length newest, ap length events))))) held);
     traced = λ le.
         (let events : m.events ≡ l.events = ap (λ (x : Known). x.events) same in
-        traced_same from to (newest ∙ (events ∙ sym (begins_whole n l.events heard.knows (omega (arith, le, ap length newest, ap length events))))) trace);
+        traced_kept from to (newest ∙ (events ∙ sym (begins_whole n l.events heard.knows (omega (arith, le, ap length newest, ap length events))))) kept);
   }
 
   -- it records an event

@@ -281,7 +281,7 @@ module _ (bounds : List Key) (old : Held) (name : List ℕ) (k : ℕ) (named : n
   stays new x y there never placed clerk deed r (refused, same, desk) =
       let is : new.places ≡ old.places = placed ∙ ap (slice_set old.places k) same ∙ set_here old.places k x there in
       subst (λ (o : Result Reply Cause). Goes bounds old new (Turned bounds (acts name deed) o old new)) (sym refused)
-      (step_stops bounds old new (acts name deed) cause.Name (ap (λ (d : Desk). d.regions) desk) (ap (λ (d : Desk). d.newest) desk) clerk is
+      (step_stops bounds old new (acts name deed) cause.Name (ap (λ (d : Desk). d.regions) desk) (ap (λ (d : Desk). d.newest) desk) (ap (λ (d : Desk). d.trace) desk) clerk is
       (act_stops bounds old name deed (not_live bounds old name k named x there never ready)))
 
   pub step_in : (new : Held) (x y : Kept) → slice_get old.places k ≡ Some x → new.places ≡ slice_set old.places k y → new.clerk ≡ old.clerk → new.names ≡ old.names → (deed : Deed) (r : Result Reply Cause)

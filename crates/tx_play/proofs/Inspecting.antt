@@ -41,8 +41,8 @@ showed_by k l n key copied number own knows copies = record {
 
 -- the region at a place did
 pub displayed_at : (n place : ℕ) (from to : Desk) (k new : Known) (key : Key) (copied : Result KeyCopy Fault) → place ≡ n → slice_get from.regions place ≡ Some k → AreNumbered 0 from.regions → to.regions ≡ slice_set from.regions place new
-    → to.held ≡ from.held → Showed k from.newest key copied new to.newest → Displays n from to key copied
-displayed_at n place from to k new key copied is there all placed held showed =
+    → to.held ≡ from.held → to.trace ≡ from.trace → Showed k from.newest key copied new to.newest → Displays n from to key copied
+displayed_at n place from to k new key copied is there all placed held trace showed =
     let number : k.seat ≡ n = numbered_at 0 place from.regions k there all ∙ (omega (arith, is)) in
     let sums = sum_by-set made_by from.regions place new k (slice_get_within from.regions place k there) in
     let here = ap made_by (get_or_from_slice_get from.regions place k k there) in
@@ -50,6 +50,7 @@ displayed_at n place from to k new key copied is there all placed held showed =
       begins = showed.begins;
       counts = omega (arith, sums, here, showed.counts, ap (sum_by made_by) placed);
       held = held;
+      trace = trace;
       copies = subst (λ i. IfOk copied (λ copy. Copies ((left to.newest i).cells key) copy)) number showed.copies;
     }
 

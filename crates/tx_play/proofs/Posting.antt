@@ -18,7 +18,7 @@ use Rattle.tx_core.proofs.seats.Parts.{part_extends}
 use Rattle.tx_journal.specs.Known.{Known, HasSeen}
 use Rattle.tx_journal.specs.Replies.{Asked, Given}
 use Rattle.tx_region.specs.Taking.{Answered}
-use Rattle.tx_play.specs.Posts.{Desk, AreNumbered, made_by, made_for, TakesBy, Taken, Hands}
+use Rattle.tx_play.specs.Posts.{Desk, AreNumbered, made_by, made_for, NotesTaken, TakesBy, Taken, Hands}
 use Rattle.tx_play.proofs.Counts.{part_upto}
 
 -- the region k learnt what is newest and was then k1, and is k2 after it took the request
@@ -81,8 +81,8 @@ numbered_set i (suc n) (x ∷ ks) k new there kept all = (all.0, numbered_set (s
 
 -- the region at a place took a request
 pub handed_at : (n place : ℕ) (from to : Desk) (k new : Known) (q : Asked) (g : Given) → place ≡ n → slice_get from.regions place ≡ Some k → AreNumbered 0 from.regions → to.regions ≡ slice_set from.regions place new → to.held ≡ from.held → to.way ≡ from.way
-    → Taken k from.newest q g new to.newest → Hands n from to q g
-handed_at n place from to k new q g is there all placed held way took =
+    → Taken k from.newest q g new to.newest → NotesTaken q.body g.answer from.trace to.trace → Hands n from to q g
+handed_at n place from to k new q g is there all placed held way took notes =
     let number : k.seat ≡ n = numbered_at 0 place from.regions k there all ∙ (omega (arith, is)) in
     let sums = sum_by-set made_by from.regions place new k (slice_get_within from.regions place k there) in
     let here = ap made_by (get_or_from_slice_get from.regions place k k there) in
@@ -92,4 +92,5 @@ handed_at n place from to k new q g is there all placed held way took =
       counts = omega (arith, sums, here, took.counts, ap (sum_by made_by) placed);
       held = held;
       way = way;
+      notes = notes;
     }

@@ -109,10 +109,19 @@ GoesOnWith (Some old) e (Some new) = Adds old e new
 abbrev pub NotesDrawn : ℕ → Option Noted → Option Noted → Type 0
 NotesDrawn t old new = (seat : ℕ) → GoesOnWith old (Drawn seat t) new
 
+-- a trace that is kept is as it was; or it is kept no more
+abbrev pub KeptAs : Option Noted → Option Noted → Type 0
+KeptAs old new = IfSome new (λ t. old ≡ Some t)
+
 -- something was declared, or nothing
 abbrev pub NotesDeclared : Option Declaration → Option Noted → Option Noted → Type 0
-NotesDeclared None old new = new ≡ old
+NotesDeclared None old new = KeptAs old new
 NotesDeclared (Some d) old new = GoesOnWith old (Declared d) new
+
+-- where a trace is kept, what is going to be declared is at hand, or memory for that was refused
+abbrev pub Foresees : Option Noted → Option Declaration → Result (Option Declaration) Fault → Type 0
+Foresees None d copy = copy ≡ Ok None
+Foresees (Some t) d copy = IfOk copy (λ x. x ≡ d)
 
 -- a region answered a request, or was refused memory
 abbrev pub NotesTaken : Body → Option Answer → Option Noted → Option Noted → Type 0

@@ -1,10 +1,10 @@
 //! What a session does in one thread: it knows what is newest before it acts, and what it knows after is the newest.
-ghost use Rattle.std.specs.Prelude.{◌≡◌, ◌<◌, ◌+◌, [], ◌∷◌, ◌⊎◌, Some, None, true, false, IfOk, IfErr, OnOk, IfSome, IfNone};
+ghost use Rattle.std.specs.Prelude.{◌≡◌, ◌<◌, ◌+◌, [], ◌∷◌, ◌⊎◌, Option, Some, None, true, false, IfOk, IfErr, OnOk, IfSome, IfNone};
 ghost use Rattle.tx_core.specs.declared.event.Event.TheVariants as events;
 ghost use Rattle.tx_core.specs.Histories.{last};
 ghost use Rattle.tx_client.specs.Sessions.{begun, can_draw, declaration, exceeds, finish_of, is_declared};
 ghost use Rattle.tx_plan.specs.declared.body.Body.TheVariants as body;
-ghost use Rattle.tx_play.specs.Posts.{stage_of, with_events, Met};
+ghost use Rattle.tx_play.specs.Posts.{stage_of, with_events, Foresees, Met, NotesDeclared};
 ghost use Rattle.tx_play.specs.Places.{Acts, Serves};
 ghost use Rattle.tx_play.specs.Scenes.{declared_in};
 
@@ -43,7 +43,9 @@ fn declaration_of<J: Naming, F: Families>(
     session: &Session<J>,
     post: &Post<J, F>,
     terms: &Terms,
-) -> Result<Option<Declaration>, Fault> {
+) -> Result<Option<Declaration>, Fault>
+    ensures { Foresees post.now.trace (declaration session.now.state.start session.now.state.buffer terms.now) result }
+{
     if post.is_traced() {
         session.declaration(alloc, terms)
     } else {
@@ -55,7 +57,10 @@ fn declaration_of<J: Naming, F: Families>(
 fn note_declared<J: Naming, F: Families>(
     post: &mut Post<J, F>,
     copy: Result<Option<Declaration>, Fault>,
-) {
+)
+    ensures same { post.new ≡ record post.old { trace = post.new.trace } }
+    ensures notes { (d : Option Declaration) → Foresees post.old.trace d copy → NotesDeclared d post.old.trace post.new.trace }
+{
     match copy {
         Ok(None) => {}
         Ok(Some(of)) => post.declared(&of),
@@ -76,12 +81,17 @@ pub(crate) fn declare_at<J: Naming, F: Families>(
 {
     session.hear_of(post.newest());
     let copy = declaration_of(alloc, session, post, &terms);
-    let declared = session.declare(alloc, terms);
-    post.set_newest(session.tell());
-    if declared.is_ok() {
-        note_declared(post, copy);
+    match session.declare(alloc, terms) {
+        Ok(()) => {
+            post.set_newest(session.tell());
+            note_declared(post, copy);
+            Ok(())
+        }
+        Err(fault) => {
+            post.set_newest(session.tell());
+            Err(fault)
+        }
     }
-    declared
 }
 
 /// A session draws its commit timestamp.
@@ -113,7 +123,7 @@ pub(crate) fn finish_at<J: Naming, F: Families>(
     match session.finish() {
         Ok((outcome, mut seat)) => {
             post.set_newest(seat.tell());
-            post.answered(start, outcome);
+            post.answered(start, &outcome);
             Ok((outcome, seat))
         }
         Err(mut session) => {

@@ -1,12 +1,13 @@
 //! An engine in one thread: places with seats and sessions, names that point to places, a seat for what no session does, and the way to
 //! the regions.
-ghost use Rattle.std.specs.Prelude.{◌≡◌, ◌<◌, ◌+◌, length, ℕ, List, [], Some, OnOk, OnErr, bytes_eq};
+ghost use Rattle.std.specs.Prelude.{◌≡◌, ◌<◌, ◌+◌, length, ℕ, List, [], Some, None, OnOk, OnErr, bytes_eq};
 ghost use Rattle.std.specs.Map.{update};
 ghost use Rattle.std.specs.BTreeMap.{get_by_text};
 ghost use Rattle.tx_client.specs.Calls.{Seated};
 ghost use Rattle.tx_play.specs.declared.places.Slot.TheVariants as slots;
 ghost use Rattle.tx_play.specs.Places.{ActsIn, Held, Goes, AllSeated, Settled, Turned};
 ghost use Rattle.tx_play.specs.Scenes.{delivered_by, is_name as name_test};
+ghost use Rattle.tx_trace.specs.Traces.{Noted, Traces};
 ghost use Rattle.tx_play.specs.Steps.{begin, acts, finish, stop, resolve, deliver as to_deliver, read, versions as to_show, tick, gc, call_of, deed_of};
 
 use crate::acts::{begin_at, finish_at, read_at, stop_at, tick_at};
@@ -301,12 +302,17 @@ impl<J: Naming, F: Families> Engine<J, F> {
     }
 
     /// Keeps the steps of the machine from now on: nothing has happened yet.
-    pub fn keep_trace(&mut self) {
+    pub fn keep_trace(&mut self)
+        ensures { (t : Noted) × Traces [] t × (self.new ≡ record self.old { desk = record self.old.desk { trace = Some t } }) }
+    {
         self.direct.post.keep_trace(self.alloc);
     }
 
     /// The steps of the machine that were kept: none where memory for one was refused.
-    pub fn take_trace(&mut self) -> Option<Trace> {
+    pub fn take_trace(&mut self) -> Option<Trace>
+        ensures value { result ≡ self.old.desk.trace }
+        ensures after { self.new ≡ record self.old { desk = record self.old.desk { trace = None } } }
+    {
         self.direct.post.take_trace()
     }
 

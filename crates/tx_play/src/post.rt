@@ -15,6 +15,7 @@ ghost use Rattle.tx_play.specs.Scenes.{may_go, is_crowded, is_name as name_test}
 mod showing;
 mod tracing;
 
+use crate::post::tracing::note_reply;
 use std::alloc::Global;
 use std::collections::BTreeMap;
 use std::marker::Model;
@@ -23,7 +24,6 @@ use tx_client::{Lost, Sender};
 use tx_core::{Answer, Body};
 use tx_journal::{Journal, Naming, Reply, Request, Seat, Told};
 use tx_region::{Region, route};
-use crate::post::tracing::noted;
 use tx_trace::Trace;
 use tx_types::limits::{MAX_HELD_REQUESTS, MAX_NAME_BYTES};
 use tx_types::{Fault, Key};
@@ -196,7 +196,8 @@ impl<J: Naming, F: Families> Post<J, F> {
     {
         let place = self.place_of(request.body());
         let reply = take_at(&mut self.regions[place], &mut self.newest, request);
-        noted(&mut self.trace, reply)
+        note_reply(&mut self.trace, &reply);
+        reply
     }
 
     // No region takes a request, since memory was refused.

@@ -42,11 +42,11 @@ fn note_declared(trace: &mut Option<Trace>, of: &Declaration)
     }
 }
 
-fn note_answered(trace: &mut Option<Trace>, start: Ts, outcome: Outcome)
-    ensures { GoesOnWith trace.old (events.Answered start outcome) trace.new }
+fn note_answered(trace: &mut Option<Trace>, start: Ts, outcome: &Outcome)
+    ensures { GoesOnWith trace.old (events.Answered start outcome.now) trace.new }
 {
     if let Some(steps) = trace {
-        if steps.answered(start, outcome).is_err() {
+        if steps.answered(start, *outcome).is_err() {
             *trace = None;
         }
     }
@@ -63,15 +63,12 @@ fn note_taken(trace: &mut Option<Trace>, body: &Body, answer: &Answer)
 }
 
 /// Notes what a region answered, if it did.
-pub(crate) fn noted<J: Naming>(trace: &mut Option<Trace>, reply: Reply<J>) -> Reply<J>
-    ensures same { result ≡ reply }
-    ensures notes { NotesTaken reply.request.body reply.answer trace.old trace.new }
+pub(crate) fn note_reply<J: Naming>(trace: &mut Option<Trace>, reply: &Reply<J>)
+    ensures { NotesTaken reply.now.request.body reply.now.answer trace.old trace.new }
 {
-    let (request, answer, told) = reply.into_parts();
-    if let Some(answer) = &answer {
-        note_taken(trace, request.body(), answer);
+    if let Some(answer) = reply.answer() {
+        note_taken(trace, reply.request().body(), answer);
     }
-    Reply::new(request, answer, told)
 }
 
 impl<J: Naming, F: Families> Post<J, F> {
@@ -106,28 +103,32 @@ impl<J: Naming, F: Families> Post<J, F> {
 
     /// A number was drawn.
     pub(crate) fn drew(&mut self, ts: Ts)
-        ensures { (t : Option Noted) × NotesDrawn ts self.old.trace t × (self.new ≡ record self.old { trace = t }) }
+        ensures same { self.new ≡ record self.old { trace = self.new.trace } }
+        ensures notes { NotesDrawn ts self.old.trace self.new.trace }
     {
         note_drawn(&mut self.trace, ts);
     }
 
     /// A transaction began.
     pub(crate) fn began(&mut self, start: Ts)
-        ensures { (t : Option Noted) × GoesOnWith self.old.trace (events.Began start) t × (self.new ≡ record self.old { trace = t }) }
+        ensures same { self.new ≡ record self.old { trace = self.new.trace } }
+        ensures notes { GoesOnWith self.old.trace (events.Began start) self.new.trace }
     {
         note_began(&mut self.trace, start);
     }
 
     /// A transaction declared this.
     pub(crate) fn declared(&mut self, of: &Declaration)
-        ensures { (t : Option Noted) × GoesOnWith self.old.trace (events.Declared of.now) t × (self.new ≡ record self.old { trace = t }) }
+        ensures same { self.new ≡ record self.old { trace = self.new.trace } }
+        ensures notes { GoesOnWith self.old.trace (events.Declared of.now) self.new.trace }
     {
         note_declared(&mut self.trace, of);
     }
 
     /// A session answered this of its transaction.
-    pub(crate) fn answered(&mut self, start: Ts, outcome: Outcome)
-        ensures { (t : Option Noted) × GoesOnWith self.old.trace (events.Answered start outcome) t × (self.new ≡ record self.old { trace = t }) }
+    pub(crate) fn answered(&mut self, start: Ts, outcome: &Outcome)
+        ensures same { self.new ≡ record self.old { trace = self.new.trace } }
+        ensures notes { GoesOnWith self.old.trace (events.Answered start outcome.now) self.new.trace }
     {
         note_answered(&mut self.trace, start, outcome);
     }

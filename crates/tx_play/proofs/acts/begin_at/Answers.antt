@@ -1,8 +1,9 @@
-use Rattle.std.proofs.Common.{◌≡◌, ◌+◌, ◌∷◌, sym, ap, subst, ◌∙◌}
+use Rattle.std.proofs.Common.{◌≡◌, ◌+◌, ℕ, ◌∷◌, Option, sym, ap, subst, ◌∙◌}
 use Rattle.tx_core.specs.declared.event.Event.TheVariants.{Began, Drawn}
 use Rattle.tx_core.specs.Histories.{last, Begins}
 use Rattle.tx_client.specs.Calls.{Seated, HasHeard}
-use Rattle.tx_play.specs.Posts.{Desk, stage_of, with_events}
+use Rattle.tx_trace.specs.Traces.{Noted}
+use Rattle.tx_play.specs.Posts.{Desk, GoesOnWith, NotesDrawn, stage_of, with_events}
 use Rattle.tx_play.specs.Places.{Acts}
 use Rattle.tx_play.proofs.Acting.{begun_acts}
 use Rattle.tx_play.proofs.acts.begin_at.Goals as goal
@@ -23,8 +24,12 @@ returns-clause-acts g c =
       knows = subst (λ h. Begins h l.events) c.newest.ensures.told c.learn.ensures.told;
       own = c.learn.ensures.own;
     } in
+    let kept : c.set_newest.new.self.trace ≡ from.trace = ap (λ (d : Desk). d.trace) c.set_newest.ensures ∙ ap (λ (d : Desk). d.trace) c.newest.ensures.same in
+    let first : NotesDrawn s.state.start from.trace c.drew.new.self.trace =
+    λ seat. subst (λ (x : ℕ × Option Noted). GoesOnWith x.1 (Drawn seat x.0) c.drew.new.self.trace) (λ i. (c.start-start.ensures i, kept i)) (c.drew.ensures.notes seat) in
+    let second : GoesOnWith c.drew.new.self.trace (Began s.state.start) to.trace = subst (λ (x : ℕ). GoesOnWith c.drew.new.self.trace (Began x) to.trace) c.start-start.ensures c.began.ensures.notes in
     let acts = begun_acts g.J.Naming.bounds from to k l s.seat heard
-    (ap (λ (d : Desk). d.regions) c.drew.ensures.2 ∙ ap (λ (d : Desk). d.regions) c.began.ensures.2 ∙ ap (λ (d : Desk). d.regions) c.set_newest.ensures ∙ ap (λ (d : Desk). d.regions) c.newest.ensures.same)
-    (ap (λ (d : Desk). d.newest) c.drew.ensures.2 ∙ ap (λ (d : Desk). d.newest) c.began.ensures.2 ∙ ap (λ (d : Desk). d.newest) c.set_newest.ensures ∙ c.tell.ensures.told) (ap (λ (d : Desk). d.held) c.drew.ensures.2 ∙ ap (λ (d : Desk). d.held) c.began.ensures.2 ∙ ap (λ (d : Desk). d.held) c.set_newest.ensures ∙ ap (λ (d : Desk). d.held) c.newest.ensures.same)
-    s.state.start began.1 c.start-start.result c.start-start.ensures c.drew.new.self.trace (λ seat. ?) (?) in
+    (ap (λ (d : Desk). d.regions) c.began.ensures.same ∙ ap (λ (d : Desk). d.regions) c.drew.ensures.same ∙ ap (λ (d : Desk). d.regions) c.set_newest.ensures ∙ ap (λ (d : Desk). d.regions) c.newest.ensures.same)
+    (ap (λ (d : Desk). d.newest) c.began.ensures.same ∙ ap (λ (d : Desk). d.newest) c.drew.ensures.same ∙ ap (λ (d : Desk). d.newest) c.set_newest.ensures ∙ c.tell.ensures.told) (ap (λ (d : Desk). d.held) c.began.ensures.same ∙ ap (λ (d : Desk). d.held) c.drew.ensures.same ∙ ap (λ (d : Desk). d.held) c.set_newest.ensures ∙ ap (λ (d : Desk). d.held) c.newest.ensures.same)
+    s.state.start began.1 c.start-start.result c.start-start.ensures c.drew.new.self.trace first second in
     subst (λ (x : Seated). Acts k x.seat from to ((c.start-start.result ≡ last from.newest + 1) × (stage_of to ≡ with_events (stage_of from) (Began (last from.newest + 1) ∷ Drawn k.seat (last from.newest + 1) ∷ from.newest)))) (sym same) acts

@@ -18,7 +18,7 @@ returns-clause-acts g c =
     let t = c.in-Ok.commit in
     let heard : HasHeard g.J.Naming.bounds k from.newest l = subst (λ (h : History). HasHeard g.J.Naming.bounds k h l) c.newest.ensures.told c.hear_of.ensures.heard in
     let acts = drew_acts g.J.Naming.bounds from to k l m heard
-    (ap (λ (d : Desk). d.regions) c.drew.ensures.2 ∙ ap (λ (d : Desk). d.regions) c.set_newest.ensures ∙ ap (λ (d : Desk). d.regions) c.newest.ensures.same)
-    (ap (λ (d : Desk). d.newest) c.drew.ensures.2 ∙ ap (λ (d : Desk). d.newest) c.set_newest.ensures ∙ c.tell.ensures.told) (ap (λ (d : Desk). d.held) c.drew.ensures.2 ∙ ap (λ (d : Desk). d.held) c.set_newest.ensures ∙ ap (λ (d : Desk). d.held) c.newest.ensures.same)
-    t c.in-Ok.ensures.ok.1 (λ seat. subst (λ (o : Option Noted). GoesOnWith o (Drawn seat t) to.trace) (ap (λ (d : Desk). d.trace) c.set_newest.ensures ∙ ap (λ (d : Desk). d.trace) c.newest.ensures.same) (subst (GoesOnWith c.set_newest.new.self.trace (Drawn seat t)) (sym (ap (λ (d : Desk). d.trace) c.drew.ensures.2)) (c.drew.ensures.1 seat))) in
+    (ap (λ (d : Desk). d.regions) c.drew.ensures.same ∙ ap (λ (d : Desk). d.regions) c.set_newest.ensures ∙ ap (λ (d : Desk). d.regions) c.newest.ensures.same)
+    (ap (λ (d : Desk). d.newest) c.drew.ensures.same ∙ ap (λ (d : Desk). d.newest) c.set_newest.ensures ∙ c.tell.ensures.told) (ap (λ (d : Desk). d.held) c.drew.ensures.same ∙ ap (λ (d : Desk). d.held) c.set_newest.ensures ∙ ap (λ (d : Desk). d.held) c.newest.ensures.same)
+    t c.in-Ok.ensures.ok.1 (λ seat. subst (λ (o : Option Noted). GoesOnWith o (Drawn seat t) to.trace) (ap (λ (d : Desk). d.trace) c.set_newest.ensures ∙ ap (λ (d : Desk). d.trace) c.newest.ensures.same) (c.drew.ensures.notes seat)) in
     subst (λ (x : Seated). Acts k x.seat from to ((t ≡ last from.newest + 1) × (stage_of to ≡ with_events (stage_of from) (Drawn k.seat (last from.newest + 1) ∷ from.newest)))) (sym c.tell.ensures.same) acts

@@ -21,7 +21,7 @@ returns-clause-drawn g c =
     let knows : Begins from.newest l.events = subst (λ h. Begins h l.events) c.newest.ensures.told c.learn.ensures.told in
     let serves : Serves k m from to ((t ≡ last from.newest + n) × (stage_of to ≡ with_events (stage_of from) (Drawn k.seat (last from.newest + n) ∷ from.newest))) =
     tick_serves g.J.Naming.bounds from to k l c.learn.ensures.same.0 knows c.learn.ensures.own n t m drew.drawn drew.seat
-    (ap (λ (d : Desk). d.regions) c.drew.ensures.2 ∙ ap (λ (d : Desk). d.regions) c.set_newest.ensures ∙ ap (λ (d : Desk). d.regions) c.newest.ensures.same)
-    (ap (λ (d : Desk). d.newest) c.drew.ensures.2 ∙ ap (λ (d : Desk). d.newest) c.set_newest.ensures ∙ c.tell.ensures.told)
-    (ap (λ (d : Desk). d.held) c.drew.ensures.2 ∙ ap (λ (d : Desk). d.held) c.set_newest.ensures ∙ ap (λ (d : Desk). d.held) c.newest.ensures.same) (λ seat. subst (λ (o : Option Noted). GoesOnWith o (Drawn seat t) to.trace) (ap (λ (d : Desk). d.trace) c.set_newest.ensures ∙ ap (λ (d : Desk). d.trace) c.newest.ensures.same) (subst (GoesOnWith c.set_newest.new.self.trace (Drawn seat t)) (sym (ap (λ (d : Desk). d.trace) c.drew.ensures.2)) (c.drew.ensures.1 seat))) in
+    (ap (λ (d : Desk). d.regions) c.drew.ensures.same ∙ ap (λ (d : Desk). d.regions) c.set_newest.ensures ∙ ap (λ (d : Desk). d.regions) c.newest.ensures.same)
+    (ap (λ (d : Desk). d.newest) c.drew.ensures.same ∙ ap (λ (d : Desk). d.newest) c.set_newest.ensures ∙ c.tell.ensures.told)
+    (ap (λ (d : Desk). d.held) c.drew.ensures.same ∙ ap (λ (d : Desk). d.held) c.set_newest.ensures ∙ ap (λ (d : Desk). d.held) c.newest.ensures.same) (λ seat. subst (λ (o : Option Noted). GoesOnWith o (Drawn seat t) to.trace) (ap (λ (d : Desk). d.trace) c.set_newest.ensures ∙ ap (λ (d : Desk). d.trace) c.newest.ensures.same) (c.drew.ensures.notes seat)) in
     subst (λ (x : Known). (k.ticks ≡ x.ticks + n) × Serves k x from to ((t ≡ last from.newest + n) × (stage_of to ≡ with_events (stage_of from) (Drawn k.seat (last from.newest + n) ∷ from.newest)))) (sym c.tell.ensures.same) (sym c.learn.ensures.same.1 ∙ drew.ticks, serves)

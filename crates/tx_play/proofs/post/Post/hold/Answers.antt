@@ -19,11 +19,12 @@ returns-in-Ok g c =
     let new = c.keep.new.held in
     let name = string_bytes c.args.name in
     let s = c.self.inside in
-    let to : Desk = record { regions = s.regions.items; newest = s.newest; held = requests new.entries; way = option_map (by_name string_bytes) s.way } in
+    let to : Desk = record { regions = s.regions.items; newest = s.newest; held = requests new.entries; way = option_map (by_name string_bytes) s.way; trace = s.trace } in
     subst (λ (d : Desk). Keeps name d to c.args.request) c.self.view_is (record {
       regions = refl;
       newest = refl;
       held = requests_set old new name c.args.request c.in-Ok.ensures.sets;
       many = many_set old new name c.in-Ok.ensures.many;
       way = refl;
+      trace = refl;
     })

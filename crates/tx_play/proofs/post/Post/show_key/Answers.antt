@@ -19,8 +19,8 @@ pub returns : goal.returns
 returns g c =
     let s = c.self.inside in
     let place = c.place-place.result in
-    let from : Desk = record { regions = s.regions.items; newest = s.newest; held = requests s.held.entries; way = option_map (by_name string_bytes) s.way } in
-    let to : Desk = record { regions = slice_set s.regions.items place c.show_at.new.region; newest = c.show_at.new.newest; held = requests s.held.entries; way = option_map (by_name string_bytes) s.way } in
+    let from : Desk = record { regions = s.regions.items; newest = s.newest; held = requests s.held.entries; way = option_map (by_name string_bytes) s.way; trace = s.trace } in
+    let to : Desk = record { regions = slice_set s.regions.items place c.show_at.new.region; newest = c.show_at.new.newest; held = requests s.held.entries; way = option_map (by_name string_bytes) s.way; trace = s.trace } in
     let n = route g.J.Naming.bounds c.args.key.now in
     let there = there_at s.regions.items place c.index_mut.result.now (omega (arith, c.place-place.ensures.1, c.self.invariant.1)) c.index_mut.ensures.value in
-    subst (λ (d : Desk). Displays n d to c.args.key.now c.show_at.result) c.self.view_is (displayed_at n place from to c.index_mut.result.now c.show_at.new.region c.args.key.now c.show_at.result c.place-place.ensures.0 there c.self.invariant.0 refl refl c.show_at.ensures)
+    subst (λ (d : Desk). Displays n d to c.args.key.now c.show_at.result) c.self.view_is (displayed_at n place from to c.index_mut.result.now c.show_at.new.region c.args.key.now c.show_at.result c.place-place.ensures.0 there c.self.invariant.0 refl refl refl c.show_at.ensures)
