@@ -1,7 +1,8 @@
 //! Runs each example and compares what it writes with the file beside it that shows it. An example is a script
 //! (`NAME.script`, played as `txkv simulate` does), a script for workers (`NAME.run`, played as `txkv run --workers 2` does) or a
 //! trace (`NAME.trace`, checked as `txkv check` does); what it writes is shown in the file of its name with `.out` added. Scripts are
-//! played over both families. Many small ones stand in `scripts.rows` and `traces.rows`, each with what it writes.
+//! played over both families. Many small ones stand in `scripts.rows`, `checked.rows` (played as `txkv simulate --check` does) and
+//! `traces.rows`, each with what it writes.
 #![tactic(auto)]
 
 mod rows;
@@ -16,7 +17,7 @@ use std::thread::Threads;
 use tx_cells::{FlatCells, NestedCells};
 use tx_run::{Plain, run_script};
 use tx_sched::Open;
-use tx_script::{check, simulate, simulate_with};
+use tx_script::{check, simulate, simulate_checked, simulate_checked_with, simulate_with};
 
 const SCRIPTS: [&str; 16] = [
     "abandoned_async.script",
@@ -51,12 +52,21 @@ enum Kind {
     Script,
     /// A script over nested maps, in place of the flat ones that scripts are played on.
     Nested,
+    /// A script with its check.
+    Checked,
+    /// The same over nested maps.
+    CheckedNested,
     Trace,
 }
 
 fn nested(alloc: Global, text: &[u8], written: &mut Vec<u8>) -> bool {
     let mut reader = text;
     simulate_with::<NestedCells, _, _>(alloc, &mut reader, written).is_ok()
+}
+
+fn checked_nested(alloc: Global, text: &[u8], written: &mut Vec<u8>) -> bool {
+    let mut reader = text;
+    simulate_checked_with::<NestedCells, _, _>(alloc, &mut reader, written).is_ok()
 }
 
 impl Kind {
@@ -66,6 +76,8 @@ impl Kind {
         match self {
             Kind::Script => simulate(rt.alloc(), &mut reader, written).is_ok(),
             Kind::Nested => nested(rt.alloc(), text, written),
+            Kind::Checked => simulate_checked(rt.alloc(), &mut reader, written).is_ok(),
+            Kind::CheckedNested => checked_nested(rt.alloc(), text, written),
             Kind::Trace => check(rt.alloc(), &mut reader, written).is_ok(),
         }
     }
@@ -127,6 +139,10 @@ fn main(rt: HostRuntime) -> Result<()> {
     println!(rt; "scripts.rows, over flat maps: {flat} as shown")?;
     let nested = count_shown(&rt, "scripts.rows", Kind::Nested)?;
     println!(rt; "scripts.rows, over nested maps: {nested} as shown")?;
+    let checked = count_shown(&rt, "checked.rows", Kind::Checked)?;
+    println!(rt; "checked.rows, over flat maps: {checked} as shown")?;
+    let checked = count_shown(&rt, "checked.rows", Kind::CheckedNested)?;
+    println!(rt; "checked.rows, over nested maps: {checked} as shown")?;
     let traces = count_shown(&rt, "traces.rows", Kind::Trace)?;
     println!(rt; "traces.rows: {traces} as shown")?;
     Ok(())

@@ -22,22 +22,19 @@ use Rattle.tx_script.specs.Play.{EndsLines, BreaksLines, ending, bounds_of}
 use Rattle.tx_script.specs.Loops.{Ahead, first_bounds, EndsAt, BreaksAt}
 use Rattle.tx_script.proofs.OnePlay.{is_play}
 
-module _ (bounds : List Key) (e : Held) (seats : ℕ) (size : length e.places ≡ MAX_LIVE_SESSIONS) (seated : AllSeated bounds 0 e) (settled : Settled bounds e)
-    (told : History) (is : told ≡ e.desk.newest) (shown : IsWorldRun bounds told × AllOfSeats seats told) (count : seats ≡ length bounds + 2 + MAX_LIVE_SESSIONS) where
-  all_came : length e.desk.newest ≤ own e
-  all_came = history_upto bounds e seated settled (subst (λ (p : ℕ × History). AllOfSeats p.0 p.1) (λ i. ((count ∙ (λ j. length bounds + 2 + sym size j)) i, is i)) shown.1)
+-- all that came was made by the engine
+pub all_came : (bounds : List Key) (e : Held) (seats : ℕ) → length e.places ≡ MAX_LIVE_SESSIONS → AllSeated bounds 0 e → Settled bounds e → AllOfSeats seats e.desk.newest → seats ≡ length bounds + 2 + MAX_LIVE_SESSIONS → length e.desk.newest ≤ own e
+all_came bounds e seats size seated settled all count = history_upto bounds e seated settled (subst (λ n. AllOfSeats n e.desk.newest) (count ∙ ap (λ n. length bounds + 2 + n) (sym size)) all)
 
-  run : IsWorldRun bounds e.desk.newest
-  run = subst (IsWorldRun bounds) is shown.0
-
+module _ (bounds : List Key) (e : Held) (came : length e.desk.newest ≤ own e) (run : IsWorldRun bounds e.desk.newest) where
   pub ends_lines : (lines : List (List ℕ)) (old new : Option (List ℕ)) (end : End) → (length e.desk.newest ≤ own e → EndsAt bounds lines e.desk.newest old new end) → EndsLines bounds lines old new end
   ends_lines lines old new end h =
-      let (refused, p, plays, history, wrote, ended) = h all_came in
+      let (refused, p, plays, history, wrote, ended) = h came in
       (refused, p, is_play bounds refused lines p plays (subst (IsWorldRun bounds) (sym history) run), wrote, ended)
 
   pub breaks_lines : (lines : List (List ℕ)) (old new : Option (List ℕ)) (why : Broken) → (length e.desk.newest ≤ own e → BreaksAt bounds lines why e.desk.newest old new) → BreaksLines bounds why lines old new
   breaks_lines lines old new why h =
-      let (refused, first, rest, p, written, more, split, plays, begins, wrote, whole, cause) = h all_came in
+      let (refused, first, rest, p, written, more, split, plays, begins, wrote, whole, cause) = h came in
       (refused, first, rest, p, written, more, split, is_play bounds refused first p plays (run_beginning bounds p.history e.desk.newest run begins), wrote, whole, cause)
 
 -- what follows from what holds of a result

@@ -18,3 +18,7 @@ pub mod Scripts
 pub mod Lines
 -- When all has settled, the condition holds: nobody else acted.
 pub mod Ending
+-- Lines that are written one after another, up to where that was broken off.
+pub mod Begun
+-- A script that is checked: the steps that were kept are those of its run, which are a run of the machine.
+pub mod Checking

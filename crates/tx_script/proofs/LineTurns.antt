@@ -22,10 +22,10 @@ use Rattle.tx_script.specs.Loops.{TurnedBy}
 module _ (bounds : List Key) where
   -- the engine was not asked
   pub stops_so : (e : Held) (turn : List Bool → Scene → Turn) (c : Cause) → ((later : List Bool) → turn later (scene_of e) ≡ stops c) → Goes bounds e e (TurnedBy bounds turn (Err c) e e)
-  stops_so e turn c stop = rested bounds e e refl refl refl refl _ (refl, stop)
+  stops_so e turn c stop = rested bounds e e refl refl refl refl refl _ (refl, stop)
 
   pub says_so : (e : Held) (turn : List Bool → Scene → Turn) (reply : Reply) → ((later : List Bool) → turn later (scene_of e) ≡ goes (scene_of e) reply later) → Goes bounds e e (TurnedBy bounds turn (Ok reply) e e)
-  says_so e turn reply goes_on = rested bounds e e refl refl refl refl _ ([], λ later. subst (Leads bounds (λ n said left. (n ≡ scene_of e) × (said ≡ reply) × (left ≡ later)) (λ c. ⊥)) (sym (goes_on later)) (refl, refl, refl))
+  says_so e turn reply goes_on = rested bounds e e refl refl refl refl refl _ ([], λ later. subst (Leads bounds (λ n said left. (n ≡ scene_of e) × (said ≡ reply) × (left ≡ later)) (λ c. ⊥)) (sym (goes_on later)) (refl, refl, refl))
 
   turns_as : (old new : Held) (t u : List Bool → Scene → Turn) → ((refused : List Bool) → u refused (scene_of old) ≡ t refused (scene_of old)) → (r : Result Reply Cause) → TurnedBy bounds t r old new → TurnedBy bounds u r old new
   turns_as old new t u same (Ok reply) go = (go.0, λ later. subst (Leads bounds (λ n said left. (n ≡ scene_of new) × (said ≡ reply) × (left ≡ later)) (λ c. ⊥)) (sym (same (go.0 ++ later))) (go.1 later))
@@ -40,6 +40,7 @@ module _ (bounds : List Key) where
     seated = g.seated;
     grows = g.grows;
     exact = λ le. turns_as old new t u same r (g.exact le);
+    traced = g.traced;
   }
 
   -- a step of the engine is its turn
@@ -55,6 +56,7 @@ module _ (bounds : List Key) where
     seated = g.seated;
     grows = g.grows;
     exact = λ le. engine_turned old new call r (g.exact le);
+    traced = g.traced;
   }
 
 by_tests : (number : ℕ) (long late : Bool) (r : Result Data Cause) (d : Data) → nat_lt max_lines number ≡ late → cond long (Err cause.Long) (cond late (Err cause.Lines) r) ≡ Ok d → number ≤ MAX_LINES

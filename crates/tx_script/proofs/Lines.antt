@@ -54,7 +54,7 @@ module _ (bounds : List Key) (number : ℕ) (line : List ℕ) (left : Option (Li
 
   -- what a step made, where more is known of it
   goes_then : (P Q : Type 0) → Goes bounds e next P → (P → Q) → Goes bounds e next Q
-  goes_then P Q g on = record { made = g.made; counts = g.counts; size = g.size; seated = g.seated; grows = g.grows; exact = λ le. on (g.exact le) }
+  goes_then P Q g on = record { made = g.made; counts = g.counts; size = g.size; seated = g.seated; grows = g.grows; exact = λ le. on (g.exact le); traced = g.traced }
 
   stop_found : (f : Found) (ahead : List (List ℕ)) (c : Cause) → FitsFound f (turned.Stops c) → Ahead f line left ahead → Goes bounds e next (FoundTurned bounds number f line (turned.Stops c) e next)
       → (first : List ℕ) × (rest : List (List ℕ)) × First first rest ahead × Goes bounds e next (TurnedBy bounds (λ refused. line_turn bounds refused number first) (Err c) e next)

@@ -19,6 +19,7 @@ use Rattle.tx_lines.specs.Replies.{reply_words, reply_text}
 use Rattle.tx_lines.specs.Faults.{fault_words}
 use Rattle.tx_play.specs.Scenes.{Scene, opening, Turn, goes, inquires, shows, stops}
 use Rattle.tx_play.specs.Plays.{Leads}
+use Rattle.tx_play.specs.Posts.{Desk, IsTraced}
 use Rattle.tx_play.specs.Places.{Held, scene_of, own, AllSeated, Goes, GoesTo}
 use Rattle.tx_play.specs.Openings.{IsOpening}
 use Rattle.tx_play.proofs.AllGrow.{leads_begin}
@@ -160,6 +161,10 @@ module _ (bounds : List Key) where
 
       pub exactly : Exact
       exactly = goes.exact (omega (arith, le, goes.counts, c.counts))
+
+      -- the steps that are kept go on
+      pub traced_on : (from : Desk) → (length e.desk.newest ≤ own e → IsTraced from → IsTraced e.desk) → IsTraced from → IsTraced next.desk
+      traced_on from before first = goes.traced (omega (arith, le, goes.counts, c.counts)) (before before_too first)
 
   module _ (all : List (List ℕ)) (line : List ℕ) (rest : List (List ℕ)) (old new : Option (List ℕ)) (number : ℕ) (e next : Held) (c : Counts number e) (x : PlaysOn all (line ∷ rest) old new number e) where
     -- a fault

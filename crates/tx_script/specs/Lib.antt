@@ -4,4 +4,5 @@ pub mod Check
 pub mod Turns
 pub mod Calls
 pub mod Play
+pub mod Checked
 pub mod Loops

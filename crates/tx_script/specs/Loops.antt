@@ -1,5 +1,5 @@
 -- Where the loop over the lines stands.
-use Rattle.std.specs.Prelude.{◌≡◌, ◌⊎◌, ◌<◌, ◌≤◌, ℕ, List, [], ◌∷◌, ◌++◌, Bool, length, Option, Some, Result, Ok, Err}
+use Rattle.std.specs.Prelude.{◌≡◌, ◌⊎◌, ◌<◌, ◌≤◌, ℕ, List, [], ◌∷◌, ◌++◌, Bool, true, false, length, Option, Some, IfSome, Result, Ok, Err}
 use Rattle.std.specs.Io.KnownBytes.{Appends}
 use Rattle.serde_json.specs.Data.{Data}
 use Rattle.tx_types.specs.declared.fault.Cause.{Cause}
@@ -7,6 +7,8 @@ use Rattle.tx_types.specs.declared.fault.Cause.TheVariants as cause
 use Rattle.tx_types.specs.declared.key.Key.{Key}
 use Rattle.tx_types.specs.declared.limits.TheConstants.{MAX_LIVE_SESSIONS}
 use Rattle.tx_core.specs.Histories.{History, Begins}
+use Rattle.tx_core.specs.Shadow.{shadow}
+use Rattle.tx_trace.specs.Traces.{Noted}
 use Rattle.tx_lines.specs.declared.end.Broken.{Broken}
 use Rattle.tx_lines.specs.declared.end.Broken.TheVariants.{Output}
 use Rattle.tx_lines.specs.declared.end.End.{End}
@@ -18,7 +20,8 @@ use Rattle.tx_play.specs.Scenes.{Scene, opening, Turn, stops}
 use Rattle.tx_play.specs.Places.{Held, scene_of, own, AllSeated, GoesTo}
 use Rattle.tx_script.specs.declared.line.Turned.{Turned}
 use Rattle.tx_script.specs.declared.line.Turned.TheVariants as turned
-use Rattle.tx_script.specs.Play.{said_turn, line_turn, Played, Plays, render, bounds_at}
+use Rattle.tx_script.specs.Play.{said_turn, line_turn, Played, Plays, render, bounds_at, EndsLines, BreaksLines}
+use Rattle.tx_script.specs.Checked.{IsBegun, EndsCheckedLines, BreaksCheckedLines}
 use Rattle.tx_steps.specs.Lines.{data_said}
 
 -- these lines come next, by what was found of the first of them
@@ -70,3 +73,23 @@ module _ (bounds : List Key) (lines : List (List ℕ)) where
   BreaksAt why h old new = (refused : List Bool) × (first rest : List (List ℕ)) × (p : Played) × (written more : List ℕ)
       × (lines ≡ first ++ rest) × Plays bounds (opening MAX_LIVE_SESSIONS) 0 refused first p × Begins p.history h × Appends old new written
       × (render p.replies ≡ written ++ more) × ((why ≡ Output) ⊎ (more ≡ []))
+
+-- ---- what follows the replies
+
+-- the steps that were kept, where they were, are those that are read off the history
+abbrev pub AreOf : History → Option Noted → Type 0
+AreOf h trace = IfSome trace (λ t. t.steps ≡ shadow h)
+
+-- a beginning of the text of lines was written: whole lines, unless a write failed
+abbrev pub AppendsBegun : Broken → Option (List ℕ) → Option (List ℕ) → List (List ℕ) → Type 0
+AppendsBegun why old new lines = (written : List ℕ) × IsBegun why lines written × Appends old new written
+
+-- lines were played to their end, and checked where that was asked
+abbrev pub EndsAsked : Bool → List Key → List (List ℕ) → Option (List ℕ) → Option (List ℕ) → End → Type 0
+EndsAsked false bounds lines old new ended = EndsLines bounds lines old new ended
+EndsAsked true bounds lines old new ended = EndsCheckedLines bounds lines old new ended
+
+-- they were broken off
+abbrev pub BreaksAsked : Bool → List Key → Broken → List (List ℕ) → Option (List ℕ) → Option (List ℕ) → Type 0
+BreaksAsked false bounds why lines old new = BreaksLines bounds why lines old new
+BreaksAsked true bounds why lines old new = BreaksCheckedLines bounds why lines old new

@@ -3,10 +3,12 @@ ghost use Rattle.std.specs.Prelude.{◌≡◌, ◌<◌, ◌+◌, ℕ, List, All,
 ghost use Rattle.tx_types.specs.declared.limits.TheConstants as limits;
 ghost use Rattle.tx_cells.specs.Contents.{nothing_held};
 ghost use Rattle.tx_journal.specs.Known.{AreRising};
-ghost use Rattle.tx_script.specs.Play.{EndsLines, BreaksLines, EndsScript, BreaksScript};
-ghost use Rattle.tx_script.specs.Loops.{Ahead, first_bounds};
+ghost use Rattle.tx_lines.specs.Lines.{lines_of};
+ghost use Rattle.tx_script.specs.Play.{bounds_of, EndsScript, BreaksScript};
+ghost use Rattle.tx_script.specs.Checked.{EndsChecked, BreaksChecked};
+ghost use Rattle.tx_script.specs.Loops.{Ahead, first_bounds, EndsAsked, BreaksAsked};
 
-use crate::script::simulate_over;
+use crate::script::{check_over, simulate_over};
 use std::alloc::Global;
 use std::io::{BufRead, Write};
 use std::marker::Brand;
@@ -65,9 +67,9 @@ fn over<J: Naming, F: Families + Drop, R: BufRead, W: Write>(
     requires seats { opened.seats ≡ length opened.bounds + 2 + limits.MAX_LIVE_SESSIONS }
     requires empty { All (λ f. F.content f ≡ (λ k. nothing_held)) families.items }
     ensures ends { IfOk result (λ end. (lines : List (List ℕ)) → Ahead first line.old.items (R.remaining reader.old) lines
-        → EndsLines opened.bounds lines (W.contents writer.old) (W.contents writer.new) end) }
+        → EndsAsked checks opened.bounds lines (W.contents writer.old) (W.contents writer.new) end) }
     ensures breaks { IfErr result (λ why. (lines : List (List ℕ)) → Ahead first line.old.items (R.remaining reader.old) lines
-        → BreaksLines opened.bounds why lines (W.contents writer.old) (W.contents writer.new)) }
+        → BreaksAsked checks opened.bounds why lines (W.contents writer.old) (W.contents writer.new)) }
 {
     let Ok((journal, seats)) = opened.named::<J>(alloc) else {
         return Err(Broken::Memory);
@@ -75,16 +77,25 @@ fn over<J: Naming, F: Families + Drop, R: BufRead, W: Write>(
     let Ok(engine) = engine_of(alloc, journal, seats, families) else {
         return Err(Broken::Memory);
     };
-    simulate_over(alloc, engine, reader, writer, first, line, checks)
+    if checks {
+        check_over(alloc, engine, reader, writer, first, line)
+    } else {
+        simulate_over(alloc, engine, reader, writer, first, line)
+    }
 }
 
-// Plays a script, and tells the steps of its run where that is asked.
+// Plays a script, and checks it where that is asked.
 fn play<F: Fresh, R: BufRead, W: Write>(
     alloc: Global,
     reader: &mut R,
     writer: &mut W,
     checks: bool,
-) -> Result<End, Broken> {
+) -> Result<End, Broken>
+    ensures ends { IfOk result (λ end. IfSome (R.remaining reader.old)
+        (λ input. EndsAsked checks (bounds_of (lines_of input)) (lines_of input) (W.contents writer.old) (W.contents writer.new) end)) }
+    ensures breaks { IfErr result (λ why. IfSome (R.remaining reader.old)
+        (λ input. BreaksAsked checks (bounds_of (lines_of input)) why (lines_of input) (W.contents writer.old) (W.contents writer.new))) }
+{
     let mut line = Vec::new(alloc);
     let first = read_line(reader, &mut line)?;
     let bounds = bounds_at(alloc, first, line.as_slice())?;
@@ -92,7 +103,9 @@ fn play<F: Fresh, R: BufRead, W: Write>(
     let Ok(opened) = Opened::new(alloc, bounds, MAX_LIVE_SESSIONS + 1) else {
         return Err(Broken::Memory);
     };
-    over::<Brand, F, R, W>(alloc, opened, families, reader, writer, first, &mut line, checks)
+    over::<Brand, F, R, W>(
+        alloc, opened, families, reader, writer, first, &mut line, checks,
+    )
 }
 
 /// Plays a script as `simulate` does, over families of one's own choice, which begin with nothing.
@@ -129,15 +142,41 @@ pub fn simulate<R: BufRead, W: Write>(
     ensures breaks { IfErr result (λ why. IfSome (R.remaining reader.old)
         (λ input. BreaksScript why input (W.contents writer.old) (W.contents writer.new))) }
 {
-    play::<FlatCells, R, W>(alloc, reader, writer, false)
+    simulate_with::<FlatCells, R, W>(alloc, reader, writer)
 }
 
-/// The same. Where the script ended well, the machine's steps of its run follow its replies, a line each, and then the line that says
-/// that they are a run.
+/// Plays and checks a script as `simulate_checked` does, over families of one's own choice, which begin with nothing.
+pub fn simulate_checked_with<F: Fresh, R: BufRead, W: Write>(
+    alloc: Global,
+    reader: &mut R,
+    writer: &mut W,
+) -> Result<End, Broken>
+    // Not broken off, it has written the replies of what the script means, where it ended well the machine's steps, and nothing else.
+    ensures ends { IfOk result (λ end. IfSome (R.remaining reader.old)
+        (λ input. EndsChecked input (W.contents writer.old) (W.contents writer.new) end)) }
+    // Broken off, it has written a beginning of that: whole lines, unless a write failed.
+    ensures breaks { IfErr result (λ why. IfSome (R.remaining reader.old)
+        (λ input. BreaksChecked why input (W.contents writer.old) (W.contents writer.new))) }
+{
+    play::<F, R, W>(alloc, reader, writer, true)
+}
+
+/// Plays a script as `simulate` does, and checks it: where it ended well, the steps of the machine that commits each transaction in one step
+/// follow its replies, a line each, in the order in which they happened in its run; and then a line says that they are a run of the
+/// machine, as the machine's checker finds.
+///
+/// It is broken off as `simulate` is, with `Memory` also where the steps could not be kept or checked for want of it.
 pub fn simulate_checked<R: BufRead, W: Write>(
     alloc: Global,
     reader: &mut R,
     writer: &mut W,
-) -> Result<End, Broken> {
-    play::<FlatCells, R, W>(alloc, reader, writer, true)
+) -> Result<End, Broken>
+    // Not broken off, it has written the replies of what the script means, where it ended well the machine's steps, and nothing else.
+    ensures ends { IfOk result (λ end. IfSome (R.remaining reader.old)
+        (λ input. EndsChecked input (W.contents writer.old) (W.contents writer.new) end)) }
+    // Broken off, it has written a beginning of that: whole lines, unless a write failed.
+    ensures breaks { IfErr result (λ why. IfSome (R.remaining reader.old)
+        (λ input. BreaksChecked why input (W.contents writer.old) (W.contents writer.new))) }
+{
+    simulate_checked_with::<FlatCells, R, W>(alloc, reader, writer)
 }

@@ -1,12 +1,15 @@
 //! The lines of a script, one after another, and then the count that shows that nobody else acted.
 ghost use Rattle.std.specs.Prelude.{◌≡◌, ◌≤◌, ◌+◌, ℕ, List, length, IfOk, IfErr};
 ghost use Rattle.tx_types.specs.declared.limits.TheConstants as limits;
+ghost use Rattle.tx_core.specs.Worlds.{IsWorldRun};
 ghost use Rattle.tx_play.specs.Places.{AllSeated, own};
 ghost use Rattle.tx_play.specs.Openings.{IsOpening};
+ghost use Rattle.tx_play.specs.Posts.{IsTraced};
 ghost use Rattle.tx_script.specs.Play.{EndsLines, BreaksLines};
+ghost use Rattle.tx_script.specs.Checked.{EndsCheckedLines, BreaksCheckedLines};
 ghost use Rattle.tx_script.specs.Loops.{Ahead, Kept, EndsAt, BreaksAt};
 
-use crate::checked::tell_trace;
+use crate::checked::tell_rest;
 use crate::line::{Turned, play_found, tell, tell_fault};
 use std::alloc::Global;
 use std::io::{BufRead, Write};
@@ -14,6 +17,7 @@ use tx_cells::Families;
 use tx_journal::Naming;
 use tx_lines::{Broken, End, Found, REFUSAL_BYTES, finish, read_line};
 use tx_play::Engine;
+use tx_trace::Trace;
 use tx_types::limits::MAX_LINES;
 
 // Plays the lines that come next, one after another: the first is in `line`, as it was found.
@@ -29,6 +33,7 @@ fn play_lines<J: Naming, F: Families, R: BufRead, W: Write>(
     requires places { length engine.old.places ≡ limits.MAX_LIVE_SESSIONS }
     requires ready { AllSeated J.bounds (limits.MAX_LINES + 1) engine.old }
     ensures kept { Kept J.bounds engine.new }
+    ensures traced { length engine.new.desk.newest ≤ own engine.new → IsTraced engine.old.desk → IsTraced engine.new.desk }
     ensures ends { IfOk result (λ end. length engine.new.desk.newest ≤ own engine.new → (lines : List (List ℕ)) → Ahead first line.old.items (R.remaining reader.old) lines
         → EndsAt J.bounds lines engine.new.desk.newest (W.contents writer.old) (W.contents writer.new) end) }
     ensures breaks { IfErr result (λ why. length engine.new.desk.newest ≤ own engine.new → (lines : List (List ℕ)) → Ahead first line.old.items (R.remaining reader.old) lines
@@ -57,6 +62,22 @@ fn play_lines<J: Naming, F: Families, R: BufRead, W: Write>(
     }
 }
 
+// Ends the play: nobody else acted, so that what is newest is no more than was made here, and a run of the protocol. The machine's steps
+// of it, where they were kept.
+fn close<J: Naming, F: Families + Drop>(engine: Engine<J, F>) -> Option<Trace>
+    requires kept { Kept J.bounds engine }
+    requires seats { J.seats ≡ length J.bounds + 2 + limits.MAX_LIVE_SESSIONS }
+    ensures came { length engine.desk.newest ≤ own engine }
+    ensures run { IsWorldRun J.bounds engine.desk.newest }
+    ensures trace { result ≡ engine.desk.trace }
+{
+    let mut engine = engine;
+    let trace = engine.take_trace();
+    let told = engine.settle();
+    told.show();
+    trace
+}
+
 /// Plays the lines that come next in one thread, the first of which is in `line`, as it was found. What it has then written is the text
 /// of the only play of the lines, whose history is a run of the protocol; broken off, it has written a beginning of the text of the first
 /// lines.
@@ -67,7 +88,6 @@ pub(crate) fn simulate_over<J: Naming, F: Families + Drop, R: BufRead, W: Write>
     writer: &mut W,
     first: Found,
     line: &mut Vec<u8>,
-    checks: bool,
 ) -> Result<End, Broken>
     requires opening { IsOpening engine }
     requires places { length engine.places ≡ limits.MAX_LIVE_SESSIONS }
@@ -79,15 +99,34 @@ pub(crate) fn simulate_over<J: Naming, F: Families + Drop, R: BufRead, W: Write>
         → BreaksLines J.bounds why lines (W.contents writer.old) (W.contents writer.new)) }
 {
     let mut engine = engine;
-    if checks {
-        engine.keep_trace();
-    }
     let end = play_lines(alloc, &mut engine, reader, writer, first, line);
-    let trace = engine.take_trace();
-    let told = engine.settle();
-    told.show();
-    if checks && matches!(&end, Ok(End::Well)) {
-        return tell_trace(alloc, writer, trace);
-    }
+    drop(close(engine));
     end
+}
+
+/// The same with a check: where the script ended well, the machine's steps of its run follow its replies, and that they are a run.
+pub(crate) fn check_over<J: Naming, F: Families + Drop, R: BufRead, W: Write>(
+    alloc: Global,
+    engine: Engine<J, F>,
+    reader: &mut R,
+    writer: &mut W,
+    first: Found,
+    line: &mut Vec<u8>,
+) -> Result<End, Broken>
+    requires opening { IsOpening engine }
+    requires places { length engine.places ≡ limits.MAX_LIVE_SESSIONS }
+    requires ready { AllSeated J.bounds (limits.MAX_LINES + 1) engine }
+    requires seats { J.seats ≡ length J.bounds + 2 + limits.MAX_LIVE_SESSIONS }
+    ensures ends { IfOk result (λ end. (lines : List (List ℕ)) → Ahead first line.old.items (R.remaining reader.old) lines
+        → EndsCheckedLines J.bounds lines (W.contents writer.old) (W.contents writer.new) end) }
+    ensures breaks { IfErr result (λ why. (lines : List (List ℕ)) → Ahead first line.old.items (R.remaining reader.old) lines
+        → BreaksCheckedLines J.bounds why lines (W.contents writer.old) (W.contents writer.new)) }
+{
+    let mut engine = engine;
+    engine.keep_trace();
+    let ended = play_lines(alloc, &mut engine, reader, writer, first, line);
+    let trace = close(engine);
+    let end = ended?;
+    tell_rest(alloc, writer, end, trace)?;
+    Ok(end)
 }

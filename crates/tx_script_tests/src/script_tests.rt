@@ -3,7 +3,7 @@ use crate::tests::{Drip, torn_reader};
 use std::process::Abort;
 use std::test::Fail;
 use tx_lines::{REFUSAL_BYTES, Reply, put_reply};
-use tx_script::{Broken, End, simulate};
+use tx_script::{Broken, End, simulate, simulate_checked};
 
 // Checks that the script ends so, and that these replies alone are written.
 fn replies<R: Abort + AllocGlobal>(rt: &R, script: &str, end: End, text: &str) -> Result<(), Fail> {
@@ -50,6 +50,23 @@ fn failing_writer_has_a_beginning_of_the_replies(rt: HostRuntime) -> Result<(), 
             room,
         };
         let ended = simulate(rt.alloc(), &mut reader, &mut writer);
+        assert_eq!(rt; ended, Err(Broken::Output), "with room for {room}");
+        assert_eq!(rt; writer.held.as_slice(), &text.as_bytes()[..room]);
+    }
+    Ok(())
+}
+
+#[test]
+fn failing_writer_has_a_beginning_of_the_steps(rt: HostRuntime) -> Result<(), Fail> {
+    let text =
+        "[1,\"start\",1]\n[2,\"outcome\",\"read-only\"]\n[\"draw\",1]\n[\"begin\",1]\n[\"check\",\"yes\"]\n";
+    for room in 0..=text.len() {
+        let mut reader = "[\"begin\",\"A\"]\n[\"finish\",\"A\"]\n".as_bytes();
+        let mut writer = Drip {
+            held: Vec::new(rt.alloc()),
+            room,
+        };
+        let ended = simulate_checked(rt.alloc(), &mut reader, &mut writer);
         assert_eq!(rt; ended, Err(Broken::Output), "with room for {room}");
         assert_eq!(rt; writer.held.as_slice(), &text.as_bytes()[..room]);
     }

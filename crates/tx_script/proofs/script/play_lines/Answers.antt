@@ -4,9 +4,10 @@ use Rattle.std.specs.Result.{IsErrAnd}
 use Rattle.tx_types.specs.declared.limits.TheConstants.{MAX_LINES}
 use Rattle.tx_lines.specs.declared.end.Broken.{Broken}
 use Rattle.tx_play.specs.Places.{Held, own, Goes}
+use Rattle.tx_play.specs.Posts.{IsTraced}
 use Rattle.tx_script.specs.declared.line.Turned.TheVariants as turned
 use Rattle.tx_script.specs.Loops.{FoundTurned, FitsFound, Kept}
-use Rattle.tx_script.proofs.Scripts.{counts_first, kept, ready, still, kept_after, if_err_is, if_any_err}
+use Rattle.tx_script.proofs.Scripts.{counts_first, kept, ready, still, kept_after, traced_on, if_err_is, if_any_err}
 use Rattle.tx_script.proofs.Lines.{On, AllBreak, on_first, break_before, end_well, end_broken, fault_ends, fault_breaks, fault_breaks_last, reply_breaks, read_breaks, on_next}
 use Rattle.tx_script.proofs.script.play_lines.Goals as goal
 
@@ -24,7 +25,7 @@ returns-in_err-text-clause-breaks g c =
 pub lines-init : goal.lines-init
 lines-init g c =
     let counts = counts_first g.J.Naming.bounds c.args.engine.now c.requires.opening c.requires.places c.requires.ready in
-    (counts, omega arith, on_first g.J.Naming.bounds c.args.first c.args.line.now.items (g.R.Read.remaining c.args.reader.now) (g.W.Write.contents c.args.writer.now) c.args.engine.now c.requires.opening c.requires.places)
+    (counts, omega arith, on_first g.J.Naming.bounds c.args.first c.args.line.now.items (g.R.Read.remaining c.args.reader.now) (g.W.Write.contents c.args.writer.now) c.args.engine.now c.requires.opening c.requires.places, λ le first. first)
 
 pub play_found-requires : goal.play_found-requires
 play_found-requires g c = record { ready = ready g.J.Naming.bounds c.lines.number c.lines.engine c.lines.invariant.0 c.lines.invariant.1 }
@@ -126,4 +127,32 @@ lines-preserved g c =
       still g.J.Naming.bounds c.lines.number c.lines.engine c.play_found.new.engine c.lines.invariant.0 _ goes some,
       some,
       on_next g.J.Naming.bounds c.args.first c.args.line.now.items (g.R.Read.remaining c.args.reader.now) (g.W.Write.contents c.args.writer.now) c.lines.found c.lines.line.items (g.R.Read.remaining c.lines.reader) (g.W.Write.contents c.lines.writer) c.lines.number c.lines.engine c.lines.invariant.2 c.play_found.new.engine c.lines.invariant.0 c.in-Goes.reply goes fits (g.W.Write.contents c.tell.new.writer) c.in_ok-tell-in-Goes.ensures.all c.in_ok-found.found c.read_line.new.line.items (g.R.Read.remaining c.read_line.new.reader) c.in_ok-found.ensures.reads,
+      λ le. traced_on g.J.Naming.bounds c.lines.number c.lines.engine c.play_found.new.engine c.lines.invariant.0 _ goes le c.args.engine.now.desk c.lines.invariant.3,
     )
+
+pub returns-in_err-finish-in-End-clause-traced : goal.returns-in_err-finish-in-End-clause-traced
+returns-in_err-finish-in-End-clause-traced g c = λ le. traced_on g.J.Naming.bounds c.lines.number c.lines.engine c.play_found.new.engine c.lines.invariant.0 _ c.in_ok-play_found.ensures.goes le c.args.engine.now.desk c.lines.invariant.3
+
+pub returns-in-End-clause-traced : goal.returns-in-End-clause-traced
+returns-in-End-clause-traced g c = λ le. traced_on g.J.Naming.bounds c.lines.number c.lines.engine c.play_found.new.engine c.lines.invariant.0 _ c.in_ok-play_found.ensures.goes le c.args.engine.now.desk c.lines.invariant.3
+
+pub returns-in_err-tell-in-Goes-clause-traced : goal.returns-in_err-tell-in-Goes-clause-traced
+returns-in_err-tell-in-Goes-clause-traced g c = λ le. traced_on g.J.Naming.bounds c.lines.number c.lines.engine c.play_found.new.engine c.lines.invariant.0 _ c.in_ok-play_found.ensures.goes le c.args.engine.now.desk c.lines.invariant.3
+
+pub returns-in_err-tell_fault-in-Stops-clause-traced : goal.returns-in_err-tell_fault-in-Stops-clause-traced
+returns-in_err-tell_fault-in-Stops-clause-traced g c = λ le. traced_on g.J.Naming.bounds c.lines.number c.lines.engine c.play_found.new.engine c.lines.invariant.0 _ c.in_ok-play_found.ensures.goes le c.args.engine.now.desk c.lines.invariant.3
+
+pub returns-in_err-finish-in-Stops-clause-traced : goal.returns-in_err-finish-in-Stops-clause-traced
+returns-in_err-finish-in-Stops-clause-traced g c = λ le. traced_on g.J.Naming.bounds c.lines.number c.lines.engine c.play_found.new.engine c.lines.invariant.0 _ c.in_ok-play_found.ensures.goes le c.args.engine.now.desk c.lines.invariant.3
+
+pub returns-in-Stops-clause-traced : goal.returns-in-Stops-clause-traced
+returns-in-Stops-clause-traced g c = λ le. traced_on g.J.Naming.bounds c.lines.number c.lines.engine c.play_found.new.engine c.lines.invariant.0 _ c.in_ok-play_found.ensures.goes le c.args.engine.now.desk c.lines.invariant.3
+
+pub returns-in_err-found-clause-traced : goal.returns-in_err-found-clause-traced
+returns-in_err-found-clause-traced g c = λ le. traced_on g.J.Naming.bounds c.lines.number c.lines.engine c.play_found.new.engine c.lines.invariant.0 _ c.in_ok-play_found.ensures.goes le c.args.engine.now.desk c.lines.invariant.3
+
+pub returns-in_err-text-clause-traced : goal.returns-in_err-text-clause-traced
+returns-in_err-text-clause-traced g c = λ le first. first
+
+pub returns-in_err-play_found-clause-traced : goal.returns-in_err-play_found-clause-traced
+returns-in_err-play_found-clause-traced g c = subst (λ (e : Held). length e.desk.newest ≤ own e → IsTraced c.args.engine.now.desk → IsTraced e.desk) (sym c.in_err-play_found.ensures.same) c.lines.invariant.3

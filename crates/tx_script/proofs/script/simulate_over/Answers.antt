@@ -2,17 +2,9 @@ use Rattle.tx_script.proofs.Ending.{ends_lines, breaks_lines, then_ok, then_err}
 use Rattle.tx_script.proofs.script.simulate_over.Goals as goal
 
 pub returns-clause-ends : goal.returns-clause-ends
-returns-clause-ends g c =
-    let x = c.play_lines-end.ensures in
-    let s = c.settle-told.ensures in
-    then_ok _ _ c.play_lines-end.result x.ends
-    (λ end h lines a. ends_lines g.J.Naming.bounds c.play_lines-end.new.engine g.J.Naming.seats x.kept.size x.kept.seated s.settled c.settle-told.result s.told c.show.ensures c.requires.seats
-    lines (g.W.Write.contents c.args.writer.now) (g.W.Write.contents c.play_lines-end.new.writer) end (λ le. h le lines a))
+returns-clause-ends g c = then_ok _ _ c.play_lines-end.result c.play_lines-end.ensures.ends
+    (λ end h lines a. ends_lines g.J.Naming.bounds c.play_lines-end.new.engine c.close.ensures.came c.close.ensures.run lines (g.W.Write.contents c.args.writer.now) (g.W.Write.contents c.play_lines-end.new.writer) end (λ le. h le lines a))
 
 pub returns-clause-breaks : goal.returns-clause-breaks
-returns-clause-breaks g c =
-    let x = c.play_lines-end.ensures in
-    let s = c.settle-told.ensures in
-    then_err _ _ c.play_lines-end.result x.breaks
-    (λ why h lines a. breaks_lines g.J.Naming.bounds c.play_lines-end.new.engine g.J.Naming.seats x.kept.size x.kept.seated s.settled c.settle-told.result s.told c.show.ensures c.requires.seats
-    lines (g.W.Write.contents c.args.writer.now) (g.W.Write.contents c.play_lines-end.new.writer) why (λ le. h le lines a))
+returns-clause-breaks g c = then_err _ _ c.play_lines-end.result c.play_lines-end.ensures.breaks
+    (λ why h lines a. breaks_lines g.J.Naming.bounds c.play_lines-end.new.engine c.close.ensures.came c.close.ensures.run lines (g.W.Write.contents c.args.writer.now) (g.W.Write.contents c.play_lines-end.new.writer) why (λ le. h le lines a))

@@ -1,4 +1,4 @@
-use Rattle.tx_script.proofs.opening.simulate_with.Given as goal
+use Rattle.tx_script.proofs.opening.play.Given as goal
 
 -- the journal that was just opened
 abbrev pub ghosts-over : goal.ghosts-over

@@ -2,24 +2,25 @@ use Rattle.std.proofs.Common.{◌≡◌, List, refl, ap, subst, ◌∙◌}
 use Rattle.std.proofs.KnownBytes.{Keeps-refl}
 use Rattle.tx_types.specs.declared.key.Key.{Key}
 use Rattle.tx_lines.specs.Lines.{lines_of}
-use Rattle.tx_script.specs.Play.{bounds_of, EndsLines, BreaksLines}
-use Rattle.tx_script.specs.Loops.{first_bounds}
+use Rattle.tx_script.specs.Play.{bounds_of}
+use Rattle.tx_script.specs.Loops.{first_bounds, EndsAsked, BreaksAsked}
 use Rattle.tx_script.proofs.Scripts.{if_any_err}
 use Rattle.tx_script.proofs.Lines.{reads_ahead}
-use Rattle.tx_script.proofs.Ending.{then_ok, then_err, if_some, any_some, breaks_first, bounds_ahead}
-use Rattle.tx_script.proofs.opening.simulate_with.Goals as goal
+use Rattle.tx_script.proofs.Ending.{then_ok, then_err, if_some, any_some, bounds_ahead}
+use Rattle.tx_script.proofs.Checking.{breaks_first_asked}
+use Rattle.tx_script.proofs.opening.play.Goals as goal
 
 pub returns-in_err-first-clause-breaks : goal.returns-in_err-first-clause-breaks
-returns-in_err-first-clause-breaks g c = if_any_err _ (λ why. any_some _ (g.R.Read.remaining c.args.reader.now) (λ input. breaks_first (bounds_of (lines_of input)) why (lines_of input) (g.W.Write.contents c.args.writer.now) _ (Keeps-refl _)))
+returns-in_err-first-clause-breaks g c = if_any_err _ (λ why. any_some _ (g.R.Read.remaining c.args.reader.now) (λ input. breaks_first_asked c.args.checks (bounds_of (lines_of input)) why (lines_of input) (g.W.Write.contents c.args.writer.now) _ (Keeps-refl _)))
 
 pub returns-in_err-bounds-clause-breaks : goal.returns-in_err-bounds-clause-breaks
-returns-in_err-bounds-clause-breaks g c = if_any_err _ (λ why. any_some _ (g.R.Read.remaining c.args.reader.now) (λ input. breaks_first (bounds_of (lines_of input)) why (lines_of input) (g.W.Write.contents c.args.writer.now) _ (Keeps-refl _)))
+returns-in_err-bounds-clause-breaks g c = if_any_err _ (λ why. any_some _ (g.R.Read.remaining c.args.reader.now) (λ input. breaks_first_asked c.args.checks (bounds_of (lines_of input)) why (lines_of input) (g.W.Write.contents c.args.writer.now) _ (Keeps-refl _)))
 
 pub returns-in_err-families-clause-breaks : goal.returns-in_err-families-clause-breaks
-returns-in_err-families-clause-breaks g c = if_any_err _ (λ why. any_some _ (g.R.Read.remaining c.args.reader.now) (λ input. breaks_first (bounds_of (lines_of input)) why (lines_of input) (g.W.Write.contents c.args.writer.now) _ (Keeps-refl _)))
+returns-in_err-families-clause-breaks g c = if_any_err _ (λ why. any_some _ (g.R.Read.remaining c.args.reader.now) (λ input. breaks_first_asked c.args.checks (bounds_of (lines_of input)) why (lines_of input) (g.W.Write.contents c.args.writer.now) _ (Keeps-refl _)))
 
 pub returns-in_default-clause-breaks : goal.returns-in_default-clause-breaks
-returns-in_default-clause-breaks g c = any_some _ (g.R.Read.remaining c.args.reader.now) (λ input. breaks_first (bounds_of (lines_of input)) _ (lines_of input) (g.W.Write.contents c.args.writer.now) _ (Keeps-refl _))
+returns-in_default-clause-breaks g c = any_some _ (g.R.Read.remaining c.args.reader.now) (λ input. breaks_first_asked c.args.checks (bounds_of (lines_of input)) _ (lines_of input) (g.W.Write.contents c.args.writer.now) _ (Keeps-refl _))
 
 pub over-requires-clause-named : goal.over-requires-clause-named
 over-requires-clause-named g c = (refl, refl, refl)
@@ -34,7 +35,7 @@ returns-clause-ends g c =
     then_ok _ _ c.over.result c.over.ensures.ends
     (λ end h. if_some _ _ (g.R.Read.remaining c.args.reader.now)
     (λ input reads. (let ahead = reads_ahead c.in_ok-first.first line input left reads in
-    subst (λ (bounds : List Key). EndsLines bounds (lines_of input) old new end) (said ∙ bounds_ahead c.in_ok-first.first line left (lines_of input) ahead) (h (lines_of input) ahead)))
+    subst (λ (bounds : List Key). EndsAsked c.args.checks bounds (lines_of input) old new end) (said ∙ bounds_ahead c.in_ok-first.first line left (lines_of input) ahead) (h (lines_of input) ahead)))
     c.in_ok-first.ensures.reads)
 
 pub returns-clause-breaks : goal.returns-clause-breaks
@@ -47,5 +48,5 @@ returns-clause-breaks g c =
     then_err _ _ c.over.result c.over.ensures.breaks
     (λ why h. if_some _ _ (g.R.Read.remaining c.args.reader.now)
     (λ input reads. (let ahead = reads_ahead c.in_ok-first.first line input left reads in
-    subst (λ (bounds : List Key). BreaksLines bounds why (lines_of input) old new) (said ∙ bounds_ahead c.in_ok-first.first line left (lines_of input) ahead) (h (lines_of input) ahead)))
+    subst (λ (bounds : List Key). BreaksAsked c.args.checks bounds why (lines_of input) old new) (said ∙ bounds_ahead c.in_ok-first.first line left (lines_of input) ahead) (h (lines_of input) ahead)))
     c.in_ok-first.ensures.reads)
