@@ -1,5 +1,5 @@
 -- A script that is checked: the steps that were kept are those of its run, which are a run of the machine.
-use Rattle.std.proofs.Common.{◌≡◌, ◌≤◌, ◌⊎◌, inl, inr, ◌+◌, ℕ, Bool, true, false, List, [], ◌++◌, length, Option, Some, None, IfSome, refl, sym, ap, subst, ◌∙◌}
+use Rattle.std.proofs.Common.{◌≡◌, ◌≤◌, inl, inr, ◌+◌, ℕ, Bool, true, false, List, [], length, Option, Some, None, IfSome, sym, ap, subst, ◌∙◌}
 use Rattle.std.specs.Io.KnownBytes.{Appends, Keeps}
 use Rattle.std.proofs.KnownBytes.{Appends-trans}
 use Rattle.tx_types.specs.declared.key.Key.{Key}
@@ -19,7 +19,7 @@ use Rattle.tx_play.specs.Posts.{IsTraced}
 use Rattle.tx_play.specs.Places.{Held, own, AllSeated, Settled}
 use Rattle.tx_play.specs.Openings.{IsOpening}
 use Rattle.tx_script.specs.Checked.{IsBegun, step_lines, steps_told, EndsCheckedLines, BreaksCheckedLines}
-use Rattle.tx_script.specs.Loops.{Kept, EndsAt, AreOf, AppendsBegun, EndsAsked, BreaksAsked}
+use Rattle.tx_script.specs.Loops.{Kept, EndsAt, AreOf, AppendsBegun, BreaksAsked}
 use Rattle.tx_script.proofs.OnePlay.{is_play}
 use Rattle.tx_script.proofs.Ending.{all_came, breaks_first, if_some}
 

@@ -1,5 +1,5 @@
 -- What a line leads to, by what it says.
-use Rattle.std.proofs.Common.{◌≡◌, ◌≤◌, ◌==◌, ◌&&◌, ℕ, ◌+◌, Bool, true, false, cond, List, [], ◌++◌, length, nat_lt, Option, Some, None, is_some, option_map, option_and_then, Result, Ok, Err, ok_or, refl, sym, ap, subst, ◌∙◌, arith}
+use Rattle.std.proofs.Common.{◌≡◌, ◌≤◌, ℕ, ◌+◌, Bool, true, false, cond, List, [], ◌++◌, length, nat_lt, is_some, Result, Ok, Err, ok_or, refl, sym, ap, subst, ◌∙◌}
 use Rattle.std.proofs.lemmas.Bool.{ltb-false}
 use Rattle.serde_json.specs.Data.{Data}
 use Rattle.tx_types.specs.declared.fault.Cause.{Cause}
@@ -14,7 +14,7 @@ use Rattle.tx_steps.specs.Lines.{data_said, bounds_in}
 use Rattle.tx_play.specs.Steps.{Call}
 use Rattle.tx_play.specs.Scenes.{Scene, Turn, goes, stops, turn}
 use Rattle.tx_play.specs.Plays.{Leads}
-use Rattle.tx_play.specs.Places.{Held, scene_of, Goes, GoesTo, Turned}
+use Rattle.tx_play.specs.Places.{Held, scene_of, Goes, Turned}
 use Rattle.tx_play.proofs.Keeping.{rested}
 use Rattle.tx_script.specs.Play.{value_turn}
 use Rattle.tx_script.specs.Loops.{TurnedBy}

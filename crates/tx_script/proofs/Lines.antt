@@ -1,12 +1,12 @@
 -- The loop over the lines, by what was found of each.
-use Rattle.std.proofs.Common.{◌≡◌, ◌≤◌, ◌<◌, ◌+◌, ℕ, Bool, List, [], ◌∷◌, length, nat_lt, Option, Some, Result, Ok, Err, cond, refl, sym, ap, subst, ◌∙◌, arith, IfSome, ok_or}
+use Rattle.std.proofs.Common.{◌≡◌, ◌≤◌, ◌<◌, ◌+◌, ℕ, Bool, List, [], ◌∷◌, length, Option, Some, Ok, Err, refl, sym, ap, subst, ◌∙◌, IfSome}
 use Rattle.std.proofs.lemmas.Bool.{lt-ltb}
 use Rattle.std.specs.Io.KnownBytes.{Appends, Keeps}
 use Rattle.std.proofs.KnownBytes.{Keeps-refl}
 use Rattle.tx_types.specs.declared.fault.Cause.{Cause}
 use Rattle.tx_types.specs.declared.fault.Cause.TheVariants as cause
 use Rattle.tx_types.specs.declared.key.Key.{Key}
-use Rattle.tx_types.specs.declared.limits.TheConstants.{MAX_LIVE_SESSIONS, MAX_LINES}
+use Rattle.tx_types.specs.declared.limits.TheConstants.{MAX_LIVE_SESSIONS}
 use Rattle.tx_core.specs.Histories.{History}
 use Rattle.tx_lines.specs.declared.end.Broken.{Broken}
 use Rattle.tx_lines.specs.declared.end.End.{End}
@@ -14,18 +14,15 @@ use Rattle.tx_lines.specs.declared.end.End.TheVariants.{Well, Faulted}
 use Rattle.tx_lines.specs.declared.lines.Found.{Found}
 use Rattle.tx_lines.specs.declared.lines.Found.TheVariants as found
 use Rattle.tx_lines.specs.declared.reply.Reply.{Reply}
-use Rattle.tx_lines.specs.Lines.{lines_of, max_line, max_lines, Reads}
+use Rattle.tx_lines.specs.Lines.{lines_of, max_line, Reads}
 use Rattle.tx_lines.specs.Output.{BreaksText}
-use Rattle.tx_lines.specs.Parts.{json_of}
 use Rattle.tx_lines.specs.Replies.{reply_words, reply_text}
 use Rattle.tx_lines.specs.Faults.{fault_words}
-use Rattle.tx_steps.specs.Lines.{data_said}
 use Rattle.tx_play.specs.Scenes.{stops}
 use Rattle.tx_play.specs.Places.{Held, scene_of, own, Goes}
 use Rattle.tx_play.specs.Openings.{IsOpening}
-use Rattle.tx_script.specs.declared.line.Turned.{Turned}
 use Rattle.tx_script.specs.declared.line.Turned.TheVariants as turned
-use Rattle.tx_script.specs.Play.{said_turn, line_turn}
+use Rattle.tx_script.specs.Play.{line_turn}
 use Rattle.tx_script.specs.Loops.{Ahead, TurnedBy, FoundTurned, FitsFound, EndsAt, BreaksAt}
 use Rattle.tx_script.proofs.Scripts.{Counts, PlaysOn, at_first, breaks, ends_well, before_too, exactly, ends_faulted, breaks_fault, breaks_last, goes_on, breaks_reply}
 

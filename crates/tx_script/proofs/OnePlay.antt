@@ -1,24 +1,22 @@
 -- Lines have one play where its events are a world run: wherever a region is asked, a beginning of them has happened.
 use Rattle.std.proofs.Common.{◌≡◌, ◌==◌, ◌&&◌, ℕ, ◌+◌, Bool, true, false, cond, List, [], ◌∷◌, length, Option, Some, None, is_some, option_and_then, Result, Ok, Err, sym, ap, subst, ◌∙◌}
-use Rattle.serde_json.specs.Data.{Data, Items}
+use Rattle.serde_json.specs.Data.{Data}
 use Rattle.tx_types.specs.declared.fault.Cause.{Cause}
 use Rattle.tx_types.specs.declared.key.Key.{Key}
 use Rattle.tx_types.specs.declared.limits.TheConstants.{MAX_LIVE_SESSIONS}
 use Rattle.tx_core.specs.Histories.{History, Begins}
 use Rattle.tx_core.specs.Worlds.{IsWorldRun}
 use Rattle.tx_core.proofs.seats.Beginnings.{begins_all}
-use Rattle.tx_lines.specs.declared.reply.Reply.{Reply}
 use Rattle.tx_lines.specs.declared.reply.Reply.TheVariants.{Regions}
 use Rattle.tx_lines.specs.Replies.{reply_words}
 use Rattle.tx_steps.specs.declared.program.Program.TheVariants.{Simulate}
 use Rattle.tx_steps.specs.Lines.{data_said, step_in, bounds_in}
 use Rattle.tx_play.specs.Steps.{Call}
-use Rattle.tx_play.specs.Scenes.{Scene, opening, Turn, goes, inquires, stops, turn}
-use Rattle.tx_play.specs.Plays.{Leads}
+use Rattle.tx_play.specs.Scenes.{Scene, opening, Turn, goes}
 use Rattle.tx_play.proofs.AllGrow.{AllGrow, turn_grows, leads_begin}
 use Rattle.tx_play.proofs.OnePlay.{one_lead}
 use Rattle.tx_script.specs.Calls.{played}
-use Rattle.tx_script.specs.Play.{call_turn, value_turn, said_turn, line_turn, Played, before, ending, faulted, Plays, IsPlay}
+use Rattle.tx_script.specs.Play.{call_turn, said_turn, line_turn, Played, before, faulted, Plays, IsPlay}
 
 module _ (bounds : List Key) where
   module _ (scene : Scene) (refused : List Bool) where

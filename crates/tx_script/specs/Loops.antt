@@ -1,7 +1,6 @@
 -- Where the loop over the lines stands.
 use Rattle.std.specs.Prelude.{◌≡◌, ◌⊎◌, ◌<◌, ◌≤◌, ℕ, List, [], ◌∷◌, ◌++◌, Bool, true, false, length, Option, Some, IfSome, Result, Ok, Err}
 use Rattle.std.specs.Io.KnownBytes.{Appends}
-use Rattle.serde_json.specs.Data.{Data}
 use Rattle.tx_types.specs.declared.fault.Cause.{Cause}
 use Rattle.tx_types.specs.declared.fault.Cause.TheVariants as cause
 use Rattle.tx_types.specs.declared.key.Key.{Key}
@@ -20,7 +19,7 @@ use Rattle.tx_play.specs.Scenes.{Scene, opening, Turn, stops}
 use Rattle.tx_play.specs.Places.{Held, scene_of, own, AllSeated, GoesTo}
 use Rattle.tx_script.specs.declared.line.Turned.{Turned}
 use Rattle.tx_script.specs.declared.line.Turned.TheVariants as turned
-use Rattle.tx_script.specs.Play.{said_turn, line_turn, Played, Plays, render, bounds_at, EndsLines, BreaksLines}
+use Rattle.tx_script.specs.Play.{line_turn, Played, Plays, render, bounds_at, EndsLines, BreaksLines}
 use Rattle.tx_script.specs.Checked.{IsBegun, EndsCheckedLines, BreaksCheckedLines}
 use Rattle.tx_steps.specs.Lines.{data_said}
 

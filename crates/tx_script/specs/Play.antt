@@ -13,7 +13,6 @@ use Rattle.tx_lines.specs.declared.end.Broken.{Broken}
 use Rattle.tx_lines.specs.declared.end.Broken.TheVariants.{Output}
 use Rattle.tx_lines.specs.declared.end.End.{End}
 use Rattle.tx_lines.specs.declared.end.End.TheVariants.{Well, Faulted}
-use Rattle.tx_lines.specs.declared.reply.Reply.{Reply}
 use Rattle.tx_lines.specs.declared.reply.Reply.TheVariants.{Regions}
 use Rattle.tx_lines.specs.Lines.{lines_of}
 use Rattle.tx_lines.specs.Replies.{reply_words, reply_text}

@@ -1,4 +1,4 @@
-use Rattle.std.proofs.Common.{◌≡◌, ap, subst, ◌∙◌, string_bytes, []}
+use Rattle.std.proofs.Common.{◌≡◌, ap, subst, ◌∙◌, []}
 use Rattle.tx_lines.specs.Output.{AppendsPart}
 use Rattle.tx_lines.specs.Texts.{line_text}
 use Rattle.tx_script.specs.declared.words.Verdict.TheVariants.{Yes}

@@ -1,4 +1,4 @@
-use Rattle.std.proofs.Common.{ap, sym, ◌∙◌, cond, ◌+◌, length}
+use Rattle.std.proofs.Common.{sym, ◌∙◌}
 use Rattle.tx_lines.specs.declared.reply.Reply.TheVariants.{Regions}
 use Rattle.tx_steps.specs.Lines.{data_of}
 use Rattle.tx_script.specs.Play.{value_turn}

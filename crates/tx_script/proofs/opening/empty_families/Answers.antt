@@ -1,4 +1,4 @@
-use Rattle.std.proofs.Common.{arith, subst, sym, ap, refl, ◌≡◌, length, length-append, ◌∷◌, [], All}
+use Rattle.std.proofs.Common.{arith, subst, sym, ap, ◌≡◌, length, length-append, ◌∷◌, [], All}
 use Rattle.std.proofs.lemmas.List.Elements.{All-push}
 use Rattle.tx_cells.specs.Contents.{nothing_held}
 use Rattle.tx_script.proofs.opening.empty_families.Goals as goal

@@ -1,7 +1,7 @@
-use Rattle.std.proofs.Common.{◌≡◌, ◌+◌, ◌≤◌, ℕ, Bool, List, length, sym, ap, subst, arith}
+use Rattle.std.proofs.Common.{◌+◌, Bool, List, length, sym, ap, subst, arith}
 use Rattle.std.proofs.KnownBytes.{Keeps-refl}
 use Rattle.tx_types.specs.declared.key.Key.{Key}
-use Rattle.tx_types.specs.declared.limits.TheConstants.{MAX_LIVE_SESSIONS, MAX_LINES}
+use Rattle.tx_types.specs.declared.limits.TheConstants.{MAX_LINES}
 use Rattle.tx_script.specs.Play.{EndsLines, BreaksLines}
 use Rattle.tx_script.specs.Checked.{EndsCheckedLines, BreaksCheckedLines}
 use Rattle.tx_script.specs.Loops.{EndsAsked, BreaksAsked}

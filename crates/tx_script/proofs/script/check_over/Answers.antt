@@ -1,4 +1,4 @@
-use Rattle.std.proofs.Common.{◌≡◌, ◌+◌, length, List, inl, ap, ◌∙◌}
+use Rattle.std.proofs.Common.{◌+◌, length, inl, ap, ◌∙◌}
 use Rattle.tx_types.specs.declared.limits.TheConstants.{MAX_LINES}
 use Rattle.tx_play.specs.Places.{Held}
 use Rattle.tx_play.specs.Posts.{IsTraced}

@@ -1,6 +1,5 @@
-use Rattle.std.proofs.Common.{◌≡◌, ◌≤◌, ◌+◌, ℕ, Option, List, length, sym, subst, refl, arith}
+use Rattle.std.proofs.Common.{◌≤◌, ◌+◌, length, sym, subst, arith}
 use Rattle.std.proofs.KnownBytes.{Keeps-refl}
-use Rattle.std.specs.Result.{IsErrAnd}
 use Rattle.tx_types.specs.declared.limits.TheConstants.{MAX_LINES}
 use Rattle.tx_lines.specs.declared.end.Broken.{Broken}
 use Rattle.tx_play.specs.Places.{Held, own, Goes}
@@ -8,7 +7,7 @@ use Rattle.tx_play.specs.Posts.{IsTraced}
 use Rattle.tx_script.specs.declared.line.Turned.TheVariants as turned
 use Rattle.tx_script.specs.Loops.{FoundTurned, FitsFound, Kept}
 use Rattle.tx_script.proofs.Scripts.{counts_first, kept, ready, still, kept_after, traced_on, if_err_is, if_any_err}
-use Rattle.tx_script.proofs.Lines.{On, AllBreak, on_first, break_before, end_well, end_broken, fault_ends, fault_breaks, fault_breaks_last, reply_breaks, read_breaks, on_next}
+use Rattle.tx_script.proofs.Lines.{AllBreak, on_first, break_before, end_well, end_broken, fault_ends, fault_breaks, fault_breaks_last, reply_breaks, read_breaks, on_next}
 use Rattle.tx_script.proofs.script.play_lines.Goals as goal
 
 pub returns-in_err-text-clause-kept : goal.returns-in_err-text-clause-kept
