@@ -2,6 +2,8 @@
 ghost use Rattle.std.specs.Prelude.{◌≡◌, true, []};
 ghost use Rattle.tx_core.specs.Laws.{WasToldOf};
 ghost use Rattle.tx_client.specs.Sessions.{is_declared, can_commit, can_abort, has_primary};
+ghost use Rattle.tx_client.specs.Calls.{KeepsSet};
+ghost use Rattle.tx_run.specs.Transfers.{MovesSome};
 
 use crate::log::Log;
 use crate::reply::Spoken;
@@ -39,7 +41,9 @@ impl<J: Naming, F: Families + Drop, R: Wait + Drop> Access<J, F, R> {
         }
     }
 
-    pub fn get(&self, session: &mut Session<J>, key: &Key) -> Result<Answer, Miss> {
+    pub fn get(&self, session: &mut Session<J>, key: &Key) -> Result<Answer, Miss>
+        ensures { KeepsSet session.old.state session.new.state }
+    {
         let mut wire = Wire::new(&self.rt, &self.store);
         wire.show();
         session.get(key, &mut wire)
@@ -60,6 +64,7 @@ impl<J: Naming, F: Families + Drop, R: Wait + Drop> Access<J, F, R> {
 
     pub fn prewrite(&self, session: &mut Session<J>) -> Result<Option<Answer>, Miss>
         requires { is_declared session.old.state ≡ true }
+        ensures { KeepsSet session.old.state session.new.state }
     {
         let mut wire = Wire::new(&self.rt, &self.store);
         wire.show();
@@ -68,6 +73,7 @@ impl<J: Naming, F: Families + Drop, R: Wait + Drop> Access<J, F, R> {
 
     pub fn commit(&self, session: &mut Session<J>) -> Result<Option<Answer>, Miss>
         requires { can_commit session.old.state ≡ true }
+        ensures { KeepsSet session.old.state session.new.state }
     {
         let mut wire = Wire::new(&self.rt, &self.store);
         wire.show();
@@ -76,6 +82,7 @@ impl<J: Naming, F: Families + Drop, R: Wait + Drop> Access<J, F, R> {
 
     pub fn abort(&self, session: &mut Session<J>) -> Result<Option<Answer>, Miss>
         requires { can_abort session.old.state ≡ true }
+        ensures { KeepsSet session.old.state session.new.state }
     {
         let mut wire = Wire::new(&self.rt, &self.store);
         wire.show();
@@ -121,7 +128,9 @@ impl<J: Naming, F: Families + Drop, R: Wait + Drop> Access<J, F, R> {
         &mut self,
         session: &mut Session<J>,
         now: Option<Ts>,
-    ) -> Result<Option<Status>, Fault> {
+    ) -> Result<Option<Status>, Fault>
+        ensures { KeepsSet session.old.state session.new.state }
+    {
         let Some(met) = session.met()? else {
             return Ok(None);
         };
@@ -139,10 +148,12 @@ impl<J: Naming, F: Families + Drop, R: Wait + Drop> Access<J, F, R> {
         log: &mut Log<J>,
         number: u64,
         session: Session<J>,
+        keys: Option<(Key, Key)>,
     ) -> Result<Seat<J>, Session<J>>
+        requires { MovesSome keys session.state }
         ensures { log.new.seat ≡ log.old.seat }
     {
-        log.finish(&self.resolver, number, session)
+        log.finish(&self.resolver, number, session, keys)
     }
 
     /// What a log says; it is then empty.
