@@ -1,8 +1,9 @@
 -- The answers of one session, as its seat goes on.
-use Rattle.std.proofs.Common.{◌≡◌, ◌≢◌, inl, inr, ℕ, true, false, List, [], ◌∷◌, ◌++◌, All, get_or, Option, Some, refl, sym, ap, subst, ◌∙◌}
+use Rattle.std.proofs.Common.{◌≡◌, ◌≢◌, inl, inr, ℕ, Bool, true, false, Result, if◌then◌else◌, List, [], ◌∷◌, ◌++◌, All, get_or, Option, Some, refl, sym, ap, subst, ◌∙◌}
 use Rattle.std.proofs.lemmas.List.Elements.{All-push}
 use Rattle.std.proofs.lemmas.List.Quantifiers.{all_pairs_push}
 use Rattle.tx_types.specs.declared.key.Key.{Key}
+use Rattle.tx_types.specs.declared.fault.Cause.{Cause}
 use Rattle.tx_core.specs.declared.event.Outcome.{Outcome}
 use Rattle.tx_core.specs.declared.event.Event.TheVariants.{Answered, Took}
 use Rattle.tx_core.specs.Histories.{History, Among, Begins, answered}
@@ -14,6 +15,7 @@ use Rattle.tx_journal.specs.Known.{Known, HasSeen}
 use Rattle.tx_types.specs.declared.lock.LockInfo.{LockInfo}
 use Rattle.tx_core.specs.Laws.{WasToldOf}
 use Rattle.tx_client.specs.Calls.{Records}
+use Rattle.tx_run.specs.declared.words.Words.{Words}
 use Rattle.tx_run.specs.declared.reply.Reply.{Reply}
 use Rattle.tx_run.specs.declared.reply.Reply.TheVariants.{Said, Ended}
 use Rattle.tx_run.specs.declared.reply.Spoken.{Spoken}
@@ -37,6 +39,14 @@ told_more h seat xs x is stands apart = record {
   told = All-push (λ s. StandsBy h seat s.reply) xs x is.told stands;
   apart = all_pairs_push AreApart xs x is.apart apart;
 }
+
+-- an answer was added where there was room
+pub told_if : (h : History) (seat : ℕ) (xs ys : List Spoken) (x : Spoken) (added : Bool) → ys ≡ (if added then xs ++ x ∷ [] else xs) → TellsBy h seat xs → StandsBy h seat x.reply → All (λ s. AreApart s x) xs → TellsBy h seat ys
+told_if h seat xs ys x true is tells stands apart = subst (λ (l : List Spoken). TellsBy h seat l) (sym is) (told_more h seat xs x tells stands apart)
+told_if h seat xs ys x false is tells stands apart = subst (λ (l : List Spoken). TellsBy h seat l) (sym is) tells
+
+pub said_apart : (said : Result Words Cause) (number : ℕ) (xs : List Spoken) → All (λ s. AreApart s (record { number = number; reply = Said said })) xs
+said_apart said number xs k d lt t a b = absurd (cc (b))
 
 pub none_apart : (start : ℕ) (o : Outcome) (keys : Option (Key × Key)) (number : ℕ) (xs : List Spoken) → TellsNone start xs → All (λ s. AreApart s (record { number = number; reply = Ended start o keys })) xs
 none_apart start o keys number xs none k d lt t a b = none k d lt (a ∙ sym b)

@@ -1,10 +1,9 @@
 -- A transfer's session writes its two keys.
-use Rattle.std.proofs.Common.{◌≡◌, ◌≢◌, ◌⊎◌, inl, inr, ℕ, Bool, true, false, List, [], ◌∷◌, map, Option, Some, None, cond, refl, sym, ap, subst, ◌∙◌}
+use Rattle.std.proofs.Common.{◌≡◌, ◌≢◌, ◌⊎◌, inl, inr, ℕ, Bool, true, false, List, [], ◌∷◌, map, Option, Some, None, Result, Ok, Err, OnOk, OnErr, cond, refl, sym, ap, subst, ◌∙◌}
 use Rattle.std.specs.Prelude.{bytes_eq, is_some}
 use Rattle.tx_types.specs.declared.key.Key.{Key}
 use Rattle.tx_types.specs.declared.mutation.Change.{Change}
 use Rattle.tx_types.specs.declared.mutation.Mutation.{Mutation}
-use Rattle.tx_machine.specs.Machine.{Done}
 use Rattle.tx_types.specs.declared.mutation.Fate.TheVariants as fate
 use Rattle.tx_core.specs.declared.event.Outcome.{Outcome}
 use Rattle.tx_core.specs.declared.event.Outcome.TheVariants.{Committed, Aborted, Unknown, ReadOnly}
@@ -18,7 +17,7 @@ use Rattle.tx_client.specs.declared.state.Terms.{Terms}
 use Rattle.tx_client.specs.Buffers.{Entries, keys_of, changes_of, touched, fresh}
 use Rattle.tx_client.specs.Sessions.{State, is_declared, declaration_of}
 use Rattle.tx_client.specs.Facts.{standing}
-use Rattle.tx_client.specs.Calls.{IsDecidedSo}
+use Rattle.tx_client.specs.Calls.{IsDecidedSo, Seated}
 use Rattle.tx_run.specs.Outcomes.{DeclaresJust, IsBetween}
 use Rattle.tx_client.specs.Calls.{KeepsSet}
 use Rattle.tx_run.specs.Transfers.{Moves, MovesSome, HasEntered}
@@ -62,7 +61,7 @@ between_on bounds h n run more t ReadOnly keys is = tt
 -- ---- what enters the buffer
 
 -- it has the first key, or both
-HasFirst : Key → Key → Entries → Type 0
+abbrev HasFirst : Key → Key → Entries → Type 0
 HasFirst from to es = (keys_of es ≡ from ∷ to ∷ []) ⊎ (keys_of es ≡ from ∷ [])
 
 put_same : (k : Key) (m : Mutation) (e : Key × Entry) (es : Entries) → bytes_eq k e.0 ≡ true → keys_of (touched (e ∷ es) k m) ≡ keys_of (e ∷ es)
@@ -116,3 +115,8 @@ module _ (from to : Key) (old one : State) (none : is_declared old ≡ false) (m
 
   pub entered_twice : (two : State) → from ≢ to → HasEntered one to two → keys_of two.buffer ≡ from ∷ to ∷ []
   entered_twice two apart (m, is) = ap (λ (s : State). keys_of s.buffer) is ∙ second_in from to m one.buffer apart has_first
+
+-- whatever a declaration came to, the buffer stays
+pub declared_both : {E : Type 0} (F G : Type 0) (r : Result (Unit {0}) E) (from to : Key) (terms : Terms) (old new : Seated) → OnOk r (F × (new.state ≡ record old.state { declared = Some terms }) × G) → OnErr r (new ≡ old) → keys_of old.state.buffer ≡ from ∷ to ∷ [] → Moves from to new.state
+declared_both F G (Ok u) from to terms old new ok same both = inl (ap (λ (s : State). keys_of s.buffer) ok.1 ∙ both)
+declared_both F G (Err e) from to terms old new ok same both = inl (ap (λ (s : Seated). keys_of s.state.buffer) same ∙ both)

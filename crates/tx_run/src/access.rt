@@ -7,6 +7,7 @@ ghost use Rattle.tx_run.specs.Transfers.{MovesSome};
 
 use crate::log::Log;
 use crate::reply::Spoken;
+use crate::sends;
 use std::alloc::Global;
 use std::sync::{Arc, Wait};
 use tx_cells::Families;
@@ -46,7 +47,7 @@ impl<J: Naming, F: Families + Drop, R: Wait + Drop> Access<J, F, R> {
     {
         let mut wire = Wire::new(&self.rt, &self.store);
         wire.show();
-        session.get(key, &mut wire)
+        sends::get(session, key, &mut wire)
     }
 
     pub fn scan(
@@ -68,7 +69,7 @@ impl<J: Naming, F: Families + Drop, R: Wait + Drop> Access<J, F, R> {
     {
         let mut wire = Wire::new(&self.rt, &self.store);
         wire.show();
-        session.prewrite_next(self.alloc, &mut wire)
+        sends::prewrite(session, self.alloc, &mut wire)
     }
 
     pub fn commit(&self, session: &mut Session<J>) -> Result<Option<Answer>, Miss>
@@ -77,7 +78,7 @@ impl<J: Naming, F: Families + Drop, R: Wait + Drop> Access<J, F, R> {
     {
         let mut wire = Wire::new(&self.rt, &self.store);
         wire.show();
-        session.commit_next(&mut wire)
+        sends::commit(session, &mut wire)
     }
 
     pub fn abort(&self, session: &mut Session<J>) -> Result<Option<Answer>, Miss>
@@ -86,7 +87,7 @@ impl<J: Naming, F: Families + Drop, R: Wait + Drop> Access<J, F, R> {
     {
         let mut wire = Wire::new(&self.rt, &self.store);
         wire.show();
-        session.abort_next(&mut wire)
+        sends::abort(session, &mut wire)
     }
 
     pub fn heartbeat(&self, session: &mut Session<J>, ttl: u32) -> Result<Option<Answer>, Miss>

@@ -95,6 +95,13 @@ impl<J: Naming, F: Families + Drop, R: Wait + Drop> ScriptJob<J, F, R> {
         })
     }
 
+    // Stands so from now on.
+    fn stand(&mut self, place: Place<Seat<J>, Session<J>, Moving<J>>)
+        ensures { StaysSame self.old self.new }
+    {
+        drop(replace(&mut self.place, place));
+    }
+
     // Keeps the answer of a line.
     fn tell(&mut self, number: u64, words: Words)
         ensures { StaysSame self.old self.new }
@@ -133,11 +140,11 @@ impl<J: Naming, F: Families + Drop, R: Wait + Drop> ScriptJob<J, F, R> {
             Ok(session) => {
                 let start = session.start();
                 self.touched.clear();
-                self.place = Place::Live(session);
+                self.stand(Place::Live(session));
                 self.tell(number, Words::new(Reply::Start(start)));
             }
             Err(seat) => {
-                self.place = Place::Free(seat);
+                self.stand(Place::Free(seat));
                 self.tell(number, Words::new(Reply::OracleSpent));
             }
         }
@@ -147,9 +154,9 @@ impl<J: Naming, F: Families + Drop, R: Wait + Drop> ScriptJob<J, F, R> {
         ensures { StaysSame self.old self.new }
     {
         match self.access.finish(&mut self.log, number, session, None) {
-            Ok(seat) => self.place = Place::Free(seat),
+            Ok(seat) => self.stand(Place::Free(seat)),
             Err(session) => {
-                self.place = Place::Live(session);
+                self.stand(Place::Live(session));
                 self.fails(number, Cause::Order);
             }
         }
@@ -158,7 +165,7 @@ impl<J: Naming, F: Families + Drop, R: Wait + Drop> ScriptJob<J, F, R> {
     fn stops(&mut self, number: u64, session: Session<J>, words: Words)
         ensures { StaysSame self.old self.new }
     {
-        self.place = Place::Free(session.stop());
+        self.stand(Place::Free(session.stop()));
         self.tell(number, words);
     }
 
@@ -169,13 +176,13 @@ impl<J: Naming, F: Families + Drop, R: Wait + Drop> ScriptJob<J, F, R> {
         let alloc = self.access.alloc;
         match Order::new(alloc, &transfer) {
             Err(fault) => {
-                self.place = Place::Free(seat);
+                self.stand(Place::Free(seat));
                 self.tell(number, refused(fault));
             }
             Ok(order) => match Session::begin(alloc, seat) {
-                Ok(session) => self.place = Place::Moving(number, Moving::new(session, order)),
+                Ok(session) => self.stand(Place::Moving(number, Moving::new(session, order))),
                 Err(seat) => {
-                    self.place = Place::Free(seat);
+                    self.stand(Place::Free(seat));
                     self.tell(number, Words::new(Reply::OracleSpent));
                 }
             },
@@ -209,7 +216,7 @@ impl<J: Naming, F: Families + Drop, R: Wait + Drop> ScriptJob<J, F, R> {
             Step::Begin(_) => Err(Cause::Name),
             _ => Err(Cause::Order),
         };
-        self.place = Place::Live(session);
+        self.stand(Place::Live(session));
         self.heed(number, result);
     }
 
@@ -224,7 +231,7 @@ impl<J: Naming, F: Families + Drop, R: Wait + Drop> ScriptJob<J, F, R> {
                     self.moves(number, seat, transfer);
                 }
                 _ => {
-                    self.place = Place::Free(seat);
+                    self.stand(Place::Free(seat));
                     self.fails(number, Cause::Name);
                 }
             },
@@ -262,7 +269,7 @@ impl<J: Naming, F: Families + Drop, R: Wait + Drop> ScriptJob<J, F, R> {
             .access
             .finish(&mut self.log, number, session, Some(keys))
         {
-            Ok(seat) => self.place = Place::Free(seat),
+            Ok(seat) => self.stand(Place::Free(seat)),
             Err(session) => self.stops(number, session, Words::new(Reply::OutOfMemory)),
         }
     }
@@ -281,7 +288,7 @@ impl<J: Naming, F: Families + Drop, R: Wait + Drop> ScriptJob<J, F, R> {
         ensures { StaysSame self.old self.new }
     {
         match moving.step(&mut self.access) {
-            After::Goes => self.place = Place::Moving(number, moving),
+            After::Goes => self.stand(Place::Moving(number, moving)),
             After::Ends => self.moved(number, moving),
             After::Spent => self.gives_up(number, moving, Words::new(Reply::OracleSpent)),
             After::NoMemory => self.gives_up(number, moving, Words::new(Reply::OutOfMemory)),
@@ -306,7 +313,7 @@ impl<J: Naming, F: Families + Drop, R: Wait + Drop> ScriptJob<J, F, R> {
         match replace(&mut self.place, Place::Gone) {
             Place::Moving(number, moving) => self.goes_on(number, moving),
             other => {
-                self.place = other;
+                self.stand(other);
                 if let Some(said) = self.lines.pop() {
                     self.play(&said);
                 }

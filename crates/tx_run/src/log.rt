@@ -1,5 +1,5 @@
 //! What the lines of one session were answered, with what its session had seen.
-ghost use Rattle.std.specs.Prelude.{◌≡◌, []};
+ghost use Rattle.std.specs.Prelude.{◌≡◌, ◌∷◌, ◌++◌, [], if◌then◌else◌};
 ghost use Rattle.tx_core.specs.Histories.{Begins};
 ghost use Rattle.tx_run.specs.Logs.{CanTell, IsAnswered, TellsBy, TellsNone};
 ghost use Rattle.tx_run.specs.Transfers.{MovesSome};
@@ -34,6 +34,13 @@ impl<J: Naming> Model for Log<J> {
     ghost invariant = { λ l. TellsBy l.told l.seat l.replies.items };
 }
 
+// Adds an answer: whether there was room.
+fn add(replies: &mut Vec<Spoken>, spoken: Spoken) -> bool
+    ensures { replies.new.items ≡ (if result then replies.old.items ++ spoken ∷ [] else replies.old.items) }
+{
+    replies.push(spoken).is_ok()
+}
+
 impl<J: Naming> Log<J> {
     /// A log of this seat, in which nothing stands.
     pub fn new(seat: &mut Seat<J>, replies: Vec<Spoken>) -> Log<J>
@@ -56,9 +63,8 @@ impl<J: Naming> Log<J> {
         ensures { (self.new.seat ≡ self.old.seat) × (self.new.told ≡ self.old.told) }
     {
         let reply = Reply::Said(said);
-        if self.replies.push(Spoken { number, reply }).is_err() {
-            self.lost = true;
-        }
+        let kept = add(&mut self.replies, Spoken { number, reply });
+        self.lost |= !kept;
     }
 
     // Knows what its session has seen since.
@@ -77,9 +83,8 @@ impl<J: Naming> Log<J> {
         ensures { self.new.seat ≡ self.old.seat }
     {
         let reply = Reply::Ended(start, outcome, keys);
-        if self.replies.push(Spoken { number, reply }).is_err() {
-            self.lost = true;
-        }
+        let kept = add(&mut self.replies, Spoken { number, reply });
+        self.lost |= !kept;
     }
 
     // Keeps the outcome of a session that knew what the log was told, by its seat.

@@ -1,5 +1,0 @@
-use Rattle.tx_client.proofs.Keeping.{keeps_due}
-use Rattle.tx_run.proofs.access.Access.commit.Goals as goal
-
-pub returns : goal.returns
-returns g c = keeps_due _ g.J.Naming.bounds _ _ _ _ _ _ _ _ c.commit_next.ensures
