@@ -24,3 +24,4 @@ pub mod Looking
 pub mod Routing
 -- A scan is its regions' parts in order.
 pub mod Scanning
+pub mod Keeping

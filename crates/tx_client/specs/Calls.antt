@@ -15,6 +15,7 @@ use Rattle.tx_core.specs.Recording.{part}
 use Rattle.tx_journal.specs.Known.{Known, HasSeen, HasRecorded, HasDrawn}
 use Rattle.tx_journal.specs.Replies.{Asked}
 use Rattle.tx_client.specs.declared.state.Came.{Came}
+use Rattle.tx_client.specs.Buffers.{keys_of}
 use Rattle.tx_client.specs.Sessions.{State}
 use Rattle.tx_client.specs.Senders.{Reached, came_of, Learns}
 
@@ -73,3 +74,8 @@ IsDecidedSo h t (outcome.Committed c) = decided h t ≡ Done (fate.Committed c)
 IsDecidedSo h t outcome.Aborted = decided h t ≡ Done fate.Aborted
 IsDecidedSo h t (outcome.Unknown why) = Unit {0}
 IsDecidedSo h t outcome.ReadOnly = Unit {0}
+
+-- the keys that a session writes stay, and whether they are declared
+pub record KeepsSet (old new : State) : Type 0 where
+  pub keys : keys_of new.buffer ≡ keys_of old.buffer
+  pub declared : new.declared ≡ old.declared

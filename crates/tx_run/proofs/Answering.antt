@@ -1,8 +1,9 @@
 -- The answers of one session, as its seat goes on.
-use Rattle.std.proofs.Common.{◌≡◌, ◌≢◌, inl, inr, ℕ, true, false, List, [], ◌∷◌, ◌++◌, All, get_or, Some, refl, sym, ap, subst, ◌∙◌}
+use Rattle.std.proofs.Common.{◌≡◌, ◌≢◌, inl, inr, ℕ, Bool, true, false, Result, if◌then◌else◌, List, [], ◌∷◌, ◌++◌, All, get_or, Option, Some, refl, sym, ap, subst, ◌∙◌}
 use Rattle.std.proofs.lemmas.List.Elements.{All-push}
 use Rattle.std.proofs.lemmas.List.Quantifiers.{all_pairs_push}
 use Rattle.tx_types.specs.declared.key.Key.{Key}
+use Rattle.tx_types.specs.declared.fault.Cause.{Cause}
 use Rattle.tx_core.specs.declared.event.Outcome.{Outcome}
 use Rattle.tx_core.specs.declared.event.Event.TheVariants.{Answered, Took}
 use Rattle.tx_core.specs.Histories.{History, Among, Begins, answered}
@@ -14,16 +15,18 @@ use Rattle.tx_journal.specs.Known.{Known, HasSeen}
 use Rattle.tx_types.specs.declared.lock.LockInfo.{LockInfo}
 use Rattle.tx_core.specs.Laws.{WasToldOf}
 use Rattle.tx_client.specs.Calls.{Records}
+use Rattle.tx_run.specs.declared.words.Words.{Words}
 use Rattle.tx_run.specs.declared.reply.Reply.{Reply}
 use Rattle.tx_run.specs.declared.reply.Reply.TheVariants.{Said, Ended}
 use Rattle.tx_run.specs.declared.reply.Spoken.{Spoken}
-use Rattle.tx_run.specs.Outcomes.{start_of, AreApart}
+use Rattle.tx_run.specs.Outcomes.{IsBetween, start_of, AreApart}
+use Rattle.tx_run.proofs.Transferring.{between_on}
 use Rattle.tx_run.specs.Logs.{CanTell, IsAnswered, StandsBy, TellsBy, TellsNone, Logged}
 
 -- ---- more is known
 
 pub stands_on : (bounds : List Key) (h n : History) → IsWorldRun bounds n → Begins h n → (seat : ℕ) (r : Reply) → StandsBy h seat r → StandsBy n seat r
-stands_on bounds h n run more seat (Ended start o) is = record { drew = drawer_on bounds h n run more start seat is.drew; among = among_on h n more (Answered start o) is.among }
+stands_on bounds h n run more seat (Ended start o keys) is = record { drew = drawer_on bounds h n run more start seat is.drew; among = among_on h n more (Answered start o) is.among; between = between_on bounds h n run more start o keys is.between }
 stands_on bounds h n run more seat (Said said) is = tt
 
 pub tells_on : (bounds : List Key) (h n : History) → IsWorldRun bounds n → Begins h n → (seat : ℕ) (xs : List Spoken) → TellsBy h seat xs → TellsBy n seat xs
@@ -37,8 +40,16 @@ told_more h seat xs x is stands apart = record {
   apart = all_pairs_push AreApart xs x is.apart apart;
 }
 
-pub none_apart : (start : ℕ) (o : Outcome) (number : ℕ) (xs : List Spoken) → TellsNone start xs → All (λ s. AreApart s (record { number = number; reply = Ended start o })) xs
-none_apart start o number xs none k d lt t a b = none k d lt (a ∙ sym b)
+-- an answer was added where there was room
+pub told_if : (h : History) (seat : ℕ) (xs ys : List Spoken) (x : Spoken) (added : Bool) → ys ≡ (if added then xs ++ x ∷ [] else xs) → TellsBy h seat xs → StandsBy h seat x.reply → All (λ s. AreApart s x) xs → TellsBy h seat ys
+told_if h seat xs ys x true is tells stands apart = subst (λ (l : List Spoken). TellsBy h seat l) (sym is) (told_more h seat xs x tells stands apart)
+told_if h seat xs ys x false is tells stands apart = subst (λ (l : List Spoken). TellsBy h seat l) (sym is) tells
+
+pub said_apart : (said : Result Words Cause) (number : ℕ) (xs : List Spoken) → All (λ s. AreApart s (record { number = number; reply = Said said })) xs
+said_apart said number xs k d lt t a b = absurd (cc (b))
+
+pub none_apart : (start : ℕ) (o : Outcome) (keys : Option (Key × Key)) (number : ℕ) (xs : List Spoken) → TellsNone start xs → All (λ s. AreApart s (record { number = number; reply = Ended start o keys })) xs
+none_apart start o keys number xs none k d lt t a b = none k d lt (a ∙ sym b)
 
 -- ---- a transaction is answered once
 
@@ -53,7 +64,7 @@ pub fresh : (bounds : List Key) (h n : History) (seat t : ℕ) (o : Outcome) (xs
 fresh bounds h n seat t o xs run more is k d lt = not_this (get_or xs k d).reply (is.told k d lt)
   where
     not_this : (r : Reply) → StandsBy h seat r → start_of r ≢ Some t
-    not_this (Ended u p) stands e =
+    not_this (Ended u p keys) stands e =
         let is_u : u ≡ t = cc in
         let before : answered n t ≡ true = subst (λ v. answered n v ≡ true) is_u (answered_on h n more u (answered_of h u p stands.among)) in
         let first : answered n t ≡ false = run.1.1 in
@@ -63,14 +74,15 @@ fresh bounds h n seat t o xs run more is k d lt = not_this (get_or xs k d).reply
 -- ---- an outcome is told
 
 -- a session that had heard what its log was told was answered so, and its seat is the log's
-pub can_tell : (bounds : List Key) (l : Logged) (k : Known) (t : ℕ) (o : Outcome) (n : Known) → Begins l.told k.events → Records bounds k (Answered t o) n → n.seat ≡ l.seat → TellsBy l.told l.seat l.replies → CanTell l t o n
-can_tell bounds l k t o n knew r same tells =
+pub can_tell : (bounds : List Key) (l : Logged) (k : Known) (t : ℕ) (o : Outcome) (keys : Option (Key × Key)) (n : Known) → Begins l.told k.events → Records bounds k (Answered t o) n → n.seat ≡ l.seat → IsBetween k.events t o keys → TellsBy l.told l.seat l.replies → CanTell l t o keys n
+can_tell bounds l k t o keys n knew r same between tells =
     let before : Begins l.told r.recorded.before = begins_more l.told k.events r.recorded.before knew (extends_begins k.seat k.events r.recorded.before r.recorded.extends) in
     let seat : k.seat ≡ l.seat = sym r.number ∙ same in
+    let run : IsWorldRun bounds (Answered t o ∷ r.recorded.before) = subst (λ h. IsWorldRun bounds h) r.recorded.is r.recorded.run in
     record {
       knows = subst (λ h. Begins l.told h) (sym r.recorded.is) (inr before);
-      answered = subst (λ h. IsAnswered h l.seat t o) (sym r.recorded.is) (record { drew = r.recorded.own ∙ ap Some seat; among = inl refl });
-      fresh = fresh bounds l.told r.recorded.before l.seat t o l.replies (subst (λ h. IsWorldRun bounds h) r.recorded.is r.recorded.run) before tells;
+      answered = subst (λ h. IsAnswered h l.seat t o keys) (sym r.recorded.is) (record { drew = r.recorded.own ∙ ap Some seat; among = inl refl; between = between_on bounds k.events (Answered t o ∷ r.recorded.before) run (inr (extends_begins k.seat k.events r.recorded.before r.recorded.extends)) t o keys between });
+      fresh = fresh bounds l.told r.recorded.before l.seat t o l.replies run before tells;
     }
 
 -- ---- what was told of a lock

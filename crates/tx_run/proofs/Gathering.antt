@@ -13,6 +13,7 @@ use Rattle.tx_run.specs.declared.reply.Reply.{Reply}
 use Rattle.tx_run.specs.declared.reply.Reply.TheVariants.{Said, Ended}
 use Rattle.tx_run.specs.declared.reply.Spoken.{Spoken}
 use Rattle.tx_run.specs.Outcomes.{IsTold, start_of, AreApart, TellsOutcomes}
+use Rattle.tx_run.proofs.Transferring.{between_on}
 use Rattle.tx_run.specs.Logs.{StandsBy, TellsBy, IsAbove, Working, AreFalling}
 
 pairs_append : {X : Type 0} (R : X → X → Type 0) (xs ys : List X) → AllPairs R xs → AllPairs R ys → ((i j : ℕ) (d : X) → i < length xs → j < length ys → R (get_or xs i d) (get_or ys j d)) → AllPairs R (xs ++ ys)
@@ -39,16 +40,16 @@ pairs_append R xs ys a b cross i j d lt bound =
 
 -- ---- as more is known
 
-told_on : (h n : History) → Begins h n → (r : Reply) → IsTold h r → IsTold n r
-told_on h n more (Ended t o) is = among_on h n more (Answered t o) is
-told_on h n more (Said said) is = tt
+told_on : (bounds : List Key) (h n : History) → IsWorldRun bounds n → Begins h n → (r : Reply) → IsTold h r → IsTold n r
+told_on bounds h n run more (Ended t o keys) is = (among_on h n more (Answered t o) is.0, between_on bounds h n run more t o keys is.1)
+told_on bounds h n run more (Said said) is = tt
 
 above_on : (bounds : List Key) (h n : History) → IsWorldRun bounds n → Begins h n → (k : ℕ) (r : Reply) → IsAbove h k r → IsAbove n k r
-above_on bounds h n run more k (Ended t o) is = (is.0, drawer_on bounds h n run more t is.0 is.1, is.2)
+above_on bounds h n run more k (Ended t o keys) is = (is.0, drawer_on bounds h n run more t is.0 is.1, is.2)
 above_on bounds h n run more k (Said said) is = tt
 
-pub outcomes_on : (h n : History) → Begins h n → (xs : List Spoken) → TellsOutcomes h xs → TellsOutcomes n xs
-outcomes_on h n more xs is = record { told = λ k d lt. told_on h n more _ (is.told k d lt); apart = is.apart }
+pub outcomes_on : (bounds : List Key) (h n : History) → IsWorldRun bounds n → Begins h n → (xs : List Spoken) → TellsOutcomes h xs → TellsOutcomes n xs
+outcomes_on bounds h n run more xs is = record { told = λ k d lt. told_on bounds h n run more _ (is.told k d lt); apart = is.apart }
 
 pub all_above_on : (bounds : List Key) (h n : History) → IsWorldRun bounds n → Begins h n → (k : ℕ) (xs : List Spoken) → All (λ s. IsAbove h k s.reply) xs → All (λ s. IsAbove n k s.reply) xs
 all_above_on bounds h n run more k xs is i d lt = above_on bounds h n run more k _ (is i d lt)
@@ -56,19 +57,19 @@ all_above_on bounds h n run more k xs is i d lt = above_on bounds h n run more k
 -- ---- the answers of one more session, whose seat is below those before
 
 stands_above : (h : History) (seat : ℕ) (r : Reply) → StandsBy h seat r → IsAbove h seat r
-stands_above h seat (Ended t o) is = (seat, is.drew, omega arith)
+stands_above h seat (Ended t o keys) is = (seat, is.drew, omega arith)
 stands_above h seat (Said said) is = tt
 
 lower : (h : History) (seat : ℕ) (r : Reply) → IsAbove h (seat + 1) r → IsAbove h seat r
-lower h seat (Ended t o) is = (is.0, is.1, omega (arith, is.2))
+lower h seat (Ended t o keys) is = (is.0, is.1, omega (arith, is.2))
 lower h seat (Said said) is = tt
 
 stands_told : (h : History) (seat : ℕ) (r : Reply) → StandsBy h seat r → IsTold h r
-stands_told h seat (Ended t o) is = is.among
+stands_told h seat (Ended t o keys) is = (is.among, is.between)
 stands_told h seat (Said said) is = tt
 
 other : (h : History) (seat : ℕ) (x y : Reply) → IsAbove h (seat + 1) x → StandsBy h seat y → (t : ℕ) → start_of x ≡ Some t → start_of y ≡ Some t → ⊥
-other h seat (Ended u o) (Ended v p) a b t e f =
+other h seat (Ended u o keys) (Ended v p more) a b t e f =
     let q = a.0 in
     let du : drawer h u ≡ Some q = a.1 in
     let dv : drawer h v ≡ Some seat = b.drew in
@@ -77,7 +78,7 @@ other h seat (Ended u o) (Ended v p) a b t e f =
     let same : q ≡ seat = cc in
     absurd (omega (arith, same, a.2))
 other h seat (Said said) y a b t e f = absurd (cc)
-other h seat (Ended u o) (Said said) a b t e f = absurd (cc)
+other h seat (Ended u o keys) (Said said) a b t e f = absurd (cc)
 
 module _ (h : History) (seat : ℕ) (xs ys : List Spoken) where
   pub joined : TellsOutcomes h xs → All (λ s. IsAbove h (seat + 1) s.reply) xs → TellsBy h seat ys → TellsOutcomes h (xs ++ ys)
@@ -93,11 +94,11 @@ module _ (h : History) (seat : ℕ) (xs ys : List Spoken) where
 
 module _ (xs : List Spoken) (none : All (λ s. start_of s.reply ≡ None) xs) where
   no_told : (h : History) (r : Reply) → start_of r ≡ None → IsTold h r
-  no_told h (Ended t o) e = absurd (cc)
+  no_told h (Ended t o keys) e = absurd (cc)
   no_told h (Said said) e = tt
 
   no_above : (h : History) (k : ℕ) (r : Reply) → start_of r ≡ None → IsAbove h k r
-  no_above h k (Ended t o) e = absurd (cc)
+  no_above h k (Ended t o keys) e = absurd (cc)
   no_above h k (Said said) e = tt
 
   clash : (t : ℕ) (o : Option ℕ) → o ≡ None → o ≡ Some t → ⊥
@@ -115,7 +116,7 @@ length-cons : (x : Working) (xs : List Working) → length (x ∷ xs) ≡ suc (l
 length-cons x xs = refl
 
 weaker : (h : History) (m n : ℕ) (r : Reply) → m ≤ n → IsAbove h n r → IsAbove h m r
-weaker h m n (Ended t o) le is = (is.0, is.1, omega (arith, le, is.2))
+weaker h m n (Ended t o keys) le is = (is.0, is.1, omega (arith, le, is.2))
 weaker h m n (Said said) le is = tt
 
 -- what is told so far lies above the results that are left, of which each is of a lower seat than those before it

@@ -3,3 +3,4 @@ pub mod Answering
 pub mod Digits
 pub mod Gathering
 pub mod Seating
+pub mod Transferring

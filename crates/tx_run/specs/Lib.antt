@@ -4,3 +4,4 @@ pub mod Outcomes
 pub mod Logs
 pub mod Scripts
 pub mod Words
+pub mod Transfers

@@ -14,7 +14,7 @@ use Rattle.tx_run.specs.declared.reply.Spoken.{Spoken}
 abbrev pub words_of : Reply → Items
 words_of (Said (Ok words)) = reply_words words.reply
 words_of (Said (Err cause)) = fault_words cause
-words_of (Ended start o) = reply_words (line.Ended o)
+words_of (Ended start o keys) = reply_words (line.Ended o)
 
 -- the line of an answer
 abbrev pub line_of : Spoken → List ℕ

@@ -2,9 +2,12 @@
 ghost use Rattle.std.specs.Prelude.{◌≡◌, true, []};
 ghost use Rattle.tx_core.specs.Laws.{WasToldOf};
 ghost use Rattle.tx_client.specs.Sessions.{is_declared, can_commit, can_abort, has_primary};
+ghost use Rattle.tx_client.specs.Calls.{KeepsSet};
+ghost use Rattle.tx_run.specs.Transfers.{MovesSome};
 
 use crate::log::Log;
 use crate::reply::Spoken;
+use crate::sends;
 use std::alloc::Global;
 use std::sync::{Arc, Wait};
 use tx_cells::Families;
@@ -39,10 +42,12 @@ impl<J: Naming, F: Families + Drop, R: Wait + Drop> Access<J, F, R> {
         }
     }
 
-    pub fn get(&self, session: &mut Session<J>, key: &Key) -> Result<Answer, Miss> {
+    pub fn get(&self, session: &mut Session<J>, key: &Key) -> Result<Answer, Miss>
+        ensures { KeepsSet session.old.state session.new.state }
+    {
         let mut wire = Wire::new(&self.rt, &self.store);
         wire.show();
-        session.get(key, &mut wire)
+        sends::get(session, key, &mut wire)
     }
 
     pub fn scan(
@@ -60,26 +65,29 @@ impl<J: Naming, F: Families + Drop, R: Wait + Drop> Access<J, F, R> {
 
     pub fn prewrite(&self, session: &mut Session<J>) -> Result<Option<Answer>, Miss>
         requires { is_declared session.old.state ≡ true }
+        ensures { KeepsSet session.old.state session.new.state }
     {
         let mut wire = Wire::new(&self.rt, &self.store);
         wire.show();
-        session.prewrite_next(self.alloc, &mut wire)
+        sends::prewrite(session, self.alloc, &mut wire)
     }
 
     pub fn commit(&self, session: &mut Session<J>) -> Result<Option<Answer>, Miss>
         requires { can_commit session.old.state ≡ true }
+        ensures { KeepsSet session.old.state session.new.state }
     {
         let mut wire = Wire::new(&self.rt, &self.store);
         wire.show();
-        session.commit_next(&mut wire)
+        sends::commit(session, &mut wire)
     }
 
     pub fn abort(&self, session: &mut Session<J>) -> Result<Option<Answer>, Miss>
         requires { can_abort session.old.state ≡ true }
+        ensures { KeepsSet session.old.state session.new.state }
     {
         let mut wire = Wire::new(&self.rt, &self.store);
         wire.show();
-        session.abort_next(&mut wire)
+        sends::abort(session, &mut wire)
     }
 
     pub fn heartbeat(&self, session: &mut Session<J>, ttl: u32) -> Result<Option<Answer>, Miss>
@@ -121,7 +129,9 @@ impl<J: Naming, F: Families + Drop, R: Wait + Drop> Access<J, F, R> {
         &mut self,
         session: &mut Session<J>,
         now: Option<Ts>,
-    ) -> Result<Option<Status>, Fault> {
+    ) -> Result<Option<Status>, Fault>
+        ensures { KeepsSet session.old.state session.new.state }
+    {
         let Some(met) = session.met()? else {
             return Ok(None);
         };
@@ -139,10 +149,12 @@ impl<J: Naming, F: Families + Drop, R: Wait + Drop> Access<J, F, R> {
         log: &mut Log<J>,
         number: u64,
         session: Session<J>,
+        keys: Option<(Key, Key)>,
     ) -> Result<Seat<J>, Session<J>>
+        requires { MovesSome keys session.state }
         ensures { log.new.seat ≡ log.old.seat }
     {
-        log.finish(&self.resolver, number, session)
+        log.finish(&self.resolver, number, session, keys)
     }
 
     /// What a log says; it is then empty.

@@ -7,7 +7,7 @@ use crate::acts::{act, refused, send};
 use crate::log::Log;
 use crate::place::Place;
 use crate::script::{Asks, Said};
-use crate::transfer::{After, Moving, slots_of};
+use crate::transfer::{After, Moving, Order, slots_of};
 use crate::words::Words;
 use std::alloc::Global;
 use std::marker::Model;
@@ -46,12 +46,10 @@ impl<J: Naming> Model for Out<J> {
 pub(crate) struct ScriptJob<J: Naming, F: Families + Drop, R: Wait + Drop> {
     number: u32,
     access: Access<J, F, R>,
-    place: Place<Seat<J>, Session<J>>,
+    place: Place<Seat<J>, Session<J>, Moving<J>>,
     log: Log<J>,
     /// The last line first.
     lines: Vec<Said>,
-    /// The transfer on its way, and the number of its line.
-    moving: Option<(u64, Moving)>,
     /// The slots of the keys in the buffer.
     touched: Vec<Slot>,
     /// The slots of the lock that last stood in its way.
@@ -65,13 +63,6 @@ impl<J: Naming, F: Families + Drop, R: Wait + Drop> Model for ScriptJob<J, F, R>
     ghost Value = { Working };
 
     ghost view = { λ j. record { number = j.number; log = j.log } };
-}
-
-// The transfer that a step tells of.
-fn moving_of(alloc: Global, transfer: &Transfer<'_>) -> Result<Moving, Fault> {
-    let from = Key::new(alloc, transfer.from.as_bytes())?;
-    let to = Key::new(alloc, transfer.to.as_bytes())?;
-    Ok(Moving::new(from, to, transfer.amount, transfer.mode))
 }
 
 fn is_name(name: &str) -> bool {
@@ -98,11 +89,17 @@ impl<J: Naming, F: Families + Drop, R: Wait + Drop> ScriptJob<J, F, R> {
             place: Place::Free(seat),
             log,
             lines,
-            moving: None,
             touched: Vec::new(alloc),
             met: Vec::new(alloc),
             faulted: false,
         })
+    }
+
+    // Stands so from now on.
+    fn stand(&mut self, place: Place<Seat<J>, Session<J>, Moving<J>>)
+        ensures { StaysSame self.old self.new }
+    {
+        drop(replace(&mut self.place, place));
     }
 
     // Keeps the answer of a line.
@@ -143,11 +140,11 @@ impl<J: Naming, F: Families + Drop, R: Wait + Drop> ScriptJob<J, F, R> {
             Ok(session) => {
                 let start = session.start();
                 self.touched.clear();
-                self.place = Place::Live(session);
+                self.stand(Place::Live(session));
                 self.tell(number, Words::new(Reply::Start(start)));
             }
             Err(seat) => {
-                self.place = Place::Free(seat);
+                self.stand(Place::Free(seat));
                 self.tell(number, Words::new(Reply::OracleSpent));
             }
         }
@@ -156,10 +153,10 @@ impl<J: Naming, F: Families + Drop, R: Wait + Drop> ScriptJob<J, F, R> {
     fn finishes(&mut self, number: u64, session: Session<J>)
         ensures { StaysSame self.old self.new }
     {
-        match self.access.finish(&mut self.log, number, session) {
-            Ok(seat) => self.place = Place::Free(seat),
+        match self.access.finish(&mut self.log, number, session, None) {
+            Ok(seat) => self.stand(Place::Free(seat)),
             Err(session) => {
-                self.place = Place::Live(session);
+                self.stand(Place::Live(session));
                 self.fails(number, Cause::Order);
             }
         }
@@ -168,7 +165,7 @@ impl<J: Naming, F: Families + Drop, R: Wait + Drop> ScriptJob<J, F, R> {
     fn stops(&mut self, number: u64, session: Session<J>, words: Words)
         ensures { StaysSame self.old self.new }
     {
-        self.place = Place::Free(session.stop());
+        self.stand(Place::Free(session.stop()));
         self.tell(number, words);
     }
 
@@ -177,18 +174,15 @@ impl<J: Naming, F: Families + Drop, R: Wait + Drop> ScriptJob<J, F, R> {
         ensures { StaysSame self.old self.new }
     {
         let alloc = self.access.alloc;
-        match moving_of(alloc, &transfer) {
+        match Order::new(alloc, &transfer) {
             Err(fault) => {
-                self.place = Place::Free(seat);
+                self.stand(Place::Free(seat));
                 self.tell(number, refused(fault));
             }
-            Ok(moving) => match Session::begin(alloc, seat) {
-                Ok(session) => {
-                    self.place = Place::Live(session);
-                    self.moving = Some((number, moving));
-                }
+            Ok(order) => match Session::begin(alloc, seat) {
+                Ok(session) => self.stand(Place::Moving(number, Moving::new(session, order))),
                 Err(seat) => {
-                    self.place = Place::Free(seat);
+                    self.stand(Place::Free(seat));
                     self.tell(number, Words::new(Reply::OracleSpent));
                 }
             },
@@ -222,7 +216,7 @@ impl<J: Naming, F: Families + Drop, R: Wait + Drop> ScriptJob<J, F, R> {
             Step::Begin(_) => Err(Cause::Name),
             _ => Err(Cause::Order),
         };
-        self.place = Place::Live(session);
+        self.stand(Place::Live(session));
         self.heed(number, result);
     }
 
@@ -237,7 +231,7 @@ impl<J: Naming, F: Families + Drop, R: Wait + Drop> ScriptJob<J, F, R> {
                     self.moves(number, seat, transfer);
                 }
                 _ => {
-                    self.place = Place::Free(seat);
+                    self.stand(Place::Free(seat));
                     self.fails(number, Cause::Name);
                 }
             },
@@ -248,7 +242,7 @@ impl<J: Naming, F: Families + Drop, R: Wait + Drop> ScriptJob<J, F, R> {
                 }
                 other => self.acts(number, session, other),
             },
-            Place::Gone => self.fails(number, Cause::Order),
+            Place::Moving(..) | Place::Gone => self.fails(number, Cause::Order),
         }
     }
 
@@ -267,31 +261,37 @@ impl<J: Naming, F: Families + Drop, R: Wait + Drop> ScriptJob<J, F, R> {
     }
 
     // A transfer is over.
-    fn moved(&mut self, number: u64, session: Session<J>)
+    fn moved(&mut self, number: u64, moving: Moving<J>)
         ensures { StaysSame self.old self.new }
     {
-        match self.access.finish(&mut self.log, number, session) {
-            Ok(seat) => self.place = Place::Free(seat),
-            Err(session) => {
-                self.stops(number, session, Words::new(Reply::OutOfMemory));
-            }
+        let (session, keys) = moving.into_parts();
+        match self
+            .access
+            .finish(&mut self.log, number, session, Some(keys))
+        {
+            Ok(seat) => self.stand(Place::Free(seat)),
+            Err(session) => self.stops(number, session, Words::new(Reply::OutOfMemory)),
         }
     }
 
-    // Makes the next step of a transfer.
-    fn goes_on(&mut self, number: u64, mut moving: Moving, mut session: Session<J>)
+    // A transfer is left as it is.
+    fn gives_up(&mut self, number: u64, moving: Moving<J>, words: Words)
         ensures { StaysSame self.old self.new }
     {
-        match moving.step(&mut session, &mut self.access) {
-            After::Goes => {
-                self.place = Place::Live(session);
-                self.moving = Some((number, moving));
-            }
-            After::Ends => self.moved(number, session),
-            After::Spent => self.stops(number, session, Words::new(Reply::OracleSpent)),
-            After::NoMemory => {
-                self.stops(number, session, Words::new(Reply::OutOfMemory));
-            }
+        let (session, keys) = moving.into_parts();
+        drop(keys);
+        self.stops(number, session, words);
+    }
+
+    // Makes the next step of a transfer.
+    fn goes_on(&mut self, number: u64, mut moving: Moving<J>)
+        ensures { StaysSame self.old self.new }
+    {
+        match moving.step(&mut self.access) {
+            After::Goes => self.stand(Place::Moving(number, moving)),
+            After::Ends => self.moved(number, moving),
+            After::Spent => self.gives_up(number, moving, Words::new(Reply::OracleSpent)),
+            After::NoMemory => self.gives_up(number, moving, Words::new(Reply::OutOfMemory)),
         }
     }
 
@@ -310,16 +310,20 @@ impl<J: Naming, F: Families + Drop, R: Wait + Drop> ScriptJob<J, F, R> {
     fn advance(&mut self)
         ensures { StaysSame self.old self.new }
     {
-        if let Some((number, moving)) = self.moving.take() {
-            match replace(&mut self.place, Place::Gone) {
-                Place::Live(session) => self.goes_on(number, moving, session),
-                _ => self.fails(number, Cause::Order),
+        match replace(&mut self.place, Place::Gone) {
+            Place::Moving(number, moving) => self.goes_on(number, moving),
+            other => {
+                self.stand(other);
+                if let Some(said) = self.lines.pop() {
+                    self.play(&said);
+                }
             }
-            return;
         }
-        if let Some(said) = self.lines.pop() {
-            self.play(&said);
-        }
+    }
+
+    // Whether it has nothing left to do.
+    fn is_done(&self) -> bool {
+        self.lines.is_empty() && !matches!(&self.place, Place::Moving(..))
     }
 }
 
@@ -340,7 +344,7 @@ impl<J: Naming, F: Families + Drop, R: Wait + Drop> Job for ScriptJob<J, F, R> {
 
     fn slots(&self) -> Result<Vec<Slot>, Fault> {
         let alloc: Global = self.access.alloc;
-        if let Some((_, moving)) = &self.moving {
+        if let Place::Moving(_, moving) = &self.place {
             return moving.slots(alloc);
         }
         let mut slots = Vec::new(alloc);
@@ -354,7 +358,7 @@ impl<J: Naming, F: Families + Drop, R: Wait + Drop> Job for ScriptJob<J, F, R> {
 
     fn step(&mut self) -> Turn<Out<J>> {
         self.advance();
-        if self.moving.is_none() && self.lines.is_empty() {
+        if self.is_done() {
             Turn::Done(self.out())
         } else {
             Turn::More

@@ -15,6 +15,7 @@ mod reply;
 mod run;
 mod script;
 mod seeds;
+mod sends;
 #[cfg(test)]
 mod tests;
 mod transfer;

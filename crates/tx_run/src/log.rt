@@ -1,7 +1,8 @@
 //! What the lines of one session were answered, with what its session had seen.
-ghost use Rattle.std.specs.Prelude.{◌≡◌, []};
+ghost use Rattle.std.specs.Prelude.{◌≡◌, ◌∷◌, ◌++◌, [], if◌then◌else◌};
 ghost use Rattle.tx_core.specs.Histories.{Begins};
 ghost use Rattle.tx_run.specs.Logs.{CanTell, IsAnswered, TellsBy, TellsNone};
+ghost use Rattle.tx_run.specs.Transfers.{MovesSome};
 
 use crate::reply::{Reply, Spoken};
 use crate::words::Words;
@@ -10,7 +11,7 @@ use std::mem::replace;
 use tx_client::Session;
 use tx_core::{Outcome, SeatNo};
 use tx_journal::{Naming, Seat, Told};
-use tx_types::{Cause, Ts};
+use tx_types::{Cause, Key, Ts};
 
 /// The answers of a session's lines. Each outcome among them was answered by the session's seat in what the log was told, and no two
 /// are of one transaction.
@@ -31,6 +32,13 @@ impl<J: Naming> Model for Log<J> {
     ghost view = { λ l. record { seat = l.seat; told = l.told; replies = l.replies.items } };
 
     ghost invariant = { λ l. TellsBy l.told l.seat l.replies.items };
+}
+
+// Adds an answer: whether there was room.
+fn add(replies: &mut Vec<Spoken>, spoken: Spoken) -> bool
+    ensures { replies.new.items ≡ (if result then replies.old.items ++ spoken ∷ [] else replies.old.items) }
+{
+    replies.push(spoken).is_ok()
 }
 
 impl<J: Naming> Log<J> {
@@ -55,9 +63,8 @@ impl<J: Naming> Log<J> {
         ensures { (self.new.seat ≡ self.old.seat) × (self.new.told ≡ self.old.told) }
     {
         let reply = Reply::Said(said);
-        if self.replies.push(Spoken { number, reply }).is_err() {
-            self.lost = true;
-        }
+        let kept = add(&mut self.replies, Spoken { number, reply });
+        self.lost |= !kept;
     }
 
     // Knows what its session has seen since.
@@ -70,42 +77,52 @@ impl<J: Naming> Log<J> {
     }
 
     // Keeps an outcome.
-    fn end(&mut self, number: u64, start: Ts, outcome: Outcome)
-        requires answered { IsAnswered self.old.told self.old.seat start outcome }
+    fn end(&mut self, number: u64, start: Ts, outcome: Outcome, keys: Option<(Key, Key)>)
+        requires answered { IsAnswered self.old.told self.old.seat start outcome keys }
         requires fresh { TellsNone start self.old.replies }
         ensures { self.new.seat ≡ self.old.seat }
     {
-        let reply = Reply::Ended(start, outcome);
-        if self.replies.push(Spoken { number, reply }).is_err() {
-            self.lost = true;
-        }
+        let reply = Reply::Ended(start, outcome, keys);
+        let kept = add(&mut self.replies, Spoken { number, reply });
+        self.lost |= !kept;
     }
 
     // Keeps the outcome of a session that knew what the log was told, by its seat.
-    fn ended(&mut self, number: u64, start: Ts, outcome: Outcome, seat: &mut Seat<J>)
-        requires { CanTell self.old start outcome seat.old }
+    fn ended(
+        &mut self,
+        number: u64,
+        start: Ts,
+        outcome: Outcome,
+        keys: Option<(Key, Key)>,
+        seat: &mut Seat<J>,
+    )
+        requires { CanTell self.old start outcome keys seat.old }
         ensures { self.new.seat ≡ self.old.seat }
     {
         self.learn(seat);
-        self.end(number, start, outcome);
+        self.end(number, start, outcome, keys);
     }
 
-    /// Ends a transaction, and keeps its outcome: its seat is then free. Where it has no outcome, the session comes back. A session
-    /// of another seat than the log's is not told of: the log has no such session. `by` is a seat of the journal.
+    /// Ends a transaction, and keeps its outcome: its seat is then free. Where it has no outcome, the session comes back. `keys` are
+    /// those that a transfer moves between. A session of another seat than the log's is not told of: the log has no such
+    /// session. `by` is a seat of the journal.
     pub fn finish(
         &mut self,
         by: &Seat<J>,
         number: u64,
         mut session: Session<J>,
+        keys: Option<(Key, Key)>,
     ) -> Result<Seat<J>, Session<J>>
+        requires { MovesSome keys session.state }
         ensures { self.new.seat ≡ self.old.seat }
     {
         session.hear_of(by.copy(&mut self.told));
+        session.show();
         let start = session.start();
         match session.finish() {
             Ok((outcome, mut seat)) => {
                 if seat.number() == self.seat {
-                    self.ended(number, start, outcome, &mut seat);
+                    self.ended(number, start, outcome, keys, &mut seat);
                 } else {
                     self.lost = true;
                 }

@@ -1,9 +1,10 @@
 //! Where a session stands.
 
-/// A free seat, or a session that has begun, or neither while one of them acts.
+/// A free seat, a session that has begun, or a transfer of this line on its way; none of them while one acts.
 #[derive(Drop)]
-pub(crate) enum Place<F, L> {
+pub(crate) enum Place<F, L, M> {
     Free(F),
     Live(L),
+    Moving(u64, M),
     Gone,
 }

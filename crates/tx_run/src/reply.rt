@@ -6,15 +6,15 @@ use crate::words::Words;
 use std::alloc::AllocError;
 use tx_core::Outcome;
 use tx_lines::{put_fault, put_reply};
-use tx_types::{Cause, Ts};
+use tx_types::{Cause, Key, Ts};
 
 /// What a line is answered.
 #[derive(Drop)]
 pub enum Reply {
     /// What says no outcome: a reply, or a fault of the script, which ends its session.
     Said(Result<Words, Cause>),
-    /// The outcome of the transaction that started there.
-    Ended(Ts, Outcome),
+    /// The outcome of the transaction that started there; of a transfer, with the keys that it moves between.
+    Ended(Ts, Outcome, Option<(Key, Key)>),
 }
 
 /// A line, by its number, and its answer.
@@ -31,7 +31,7 @@ pub(crate) fn put_line(out: &mut Vec<u8>, spoken: &Spoken) -> Result<(), AllocEr
     match &spoken.reply {
         Reply::Said(Ok(words)) => put_reply(out, spoken.number, words.reply()),
         Reply::Said(Err(cause)) => put_fault(out, spoken.number, *cause),
-        Reply::Ended(_, outcome) => {
+        Reply::Ended(_, outcome, _) => {
             put_reply(out, spoken.number, &tx_lines::Reply::Ended(*outcome))
         }
     }

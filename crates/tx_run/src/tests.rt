@@ -148,12 +148,14 @@ fn sums_of(played: &Played) -> Sums {
     for spoken in &played.replies {
         match &spoken.reply {
             Reply::Said(_) => {}
-            Reply::Ended(_, Outcome::Committed(_)) => sums.committed = sums
+            Reply::Ended(_, Outcome::Committed(_), _) => sums.committed = sums
                 .committed
                 .wrapping_add(1),
-            Reply::Ended(_, Outcome::Aborted) => sums.aborted = sums.aborted.wrapping_add(1),
-            Reply::Ended(_, Outcome::Unknown(_)) => sums.unknown = sums.unknown.wrapping_add(1),
-            Reply::Ended(_, Outcome::ReadOnly) => sums.read_only = sums.read_only.wrapping_add(1),
+            Reply::Ended(_, Outcome::Aborted, _) => sums.aborted = sums.aborted.wrapping_add(1),
+            Reply::Ended(_, Outcome::Unknown(_), _) => sums.unknown = sums.unknown.wrapping_add(1),
+            Reply::Ended(_, Outcome::ReadOnly, _) => sums.read_only = sums
+                .read_only
+                .wrapping_add(1),
         }
     }
     sums

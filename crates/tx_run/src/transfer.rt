@@ -1,19 +1,22 @@
 //! A transfer: a transaction that reads the balances of two keys and moves an amount from the first to the second. Each of its
 //! requests is one step.
-ghost use Rattle.std.specs.Prelude.{◌≡◌, ◌<◌, false, IfErr};
+ghost use Rattle.std.specs.Prelude.{◌≡◌, ◌≢◌, ◌<◌, false, IfOk, IfErr, OnOk, OnErr};
 ghost use Rattle.tx_types.specs.declared.fault.Fault.TheVariants as fault;
-ghost use Rattle.tx_client.specs.Sessions.{is_declared};
+ghost use Rattle.tx_client.specs.Sessions.{begun, is_declared};
+ghost use Rattle.tx_run.specs.Transfers.{HasEntered, Moves};
 ghost use Rattle.tx_run.specs.declared.balance.TheConstants.{BALANCES};
 
 use crate::access::Access;
 use crate::balance::{after_transfer, balance_of, value_of};
 use std::alloc::Global;
+use std::marker::Model;
 use std::sync::Wait;
 use tx_cells::Families;
 use tx_client::{Miss, Session, Terms};
 use tx_core::Answer;
 use tx_journal::Naming;
 use tx_latch::{Slot, slot_of};
+use tx_steps::Transfer;
 use tx_types::{Fault, Key, LockInfo, Mode};
 
 /// How often one transfer resolves a lock, and how often it draws again.
@@ -45,13 +48,37 @@ pub(crate) enum After {
     NoMemory,
 }
 
-/// A transfer on its way.
+/// What a transfer moves between two keys, and how its transaction commits.
 #[derive(Drop)]
-pub(crate) struct Moving {
+pub(crate) struct Order {
     from: Key,
     to: Key,
     amount: u64,
     mode: Mode,
+    ghost apart: { from ≢ to },
+}
+
+impl Order {
+    /// What a line orders.
+    pub fn new(alloc: Global, line: &Transfer<'_>) -> Result<Order, Fault>
+        ensures { IfOk result (λ order. (order.from ≡ line.now.from.now) × (order.to ≡ line.now.to.now)) }
+    {
+        let from = Key::new(alloc, line.from.as_bytes())?;
+        let to = Key::new(alloc, line.to.as_bytes())?;
+        Ok(Order {
+            from,
+            to,
+            amount: line.amount,
+            mode: line.mode,
+        })
+    }
+}
+
+/// A transfer on its way: a session that writes its two keys. Contracts see the session.
+#[derive(Drop)]
+pub(crate) struct Moving<J: Naming> {
+    session: Session<J>,
+    order: Order,
     stage: Stage,
     /// The balance of the first key, once it is read.
     found: u64,
@@ -64,19 +91,53 @@ pub(crate) struct Moving {
     ghost small: { found < BALANCES },
 }
 
-impl Moving {
-    pub fn new(from: Key, to: Key, amount: u64, mode: Mode) -> Moving {
+impl<J: Naming> Model for Moving<J> {
+    ghost use Rattle.tx_client.specs.Calls.{Seated};
+    ghost use Rattle.tx_run.specs.Transfers.{Moves};
+
+    ghost Value = { Seated };
+
+    ghost view = { λ m. m.session };
+
+    ghost invariant = { λ m. Moves m.order.from m.order.to m.session.state };
+}
+
+impl<J: Naming> Moving<J> {
+    /// A transfer of which nothing is read yet, in a session that has just begun.
+    pub fn new(session: Session<J>, order: Order) -> Moving<J>
+        requires { session.state ≡ begun session.state.start }
+    {
         Moving {
-            from,
-            to,
-            amount,
-            mode,
+            session,
+            order,
             stage: Stage::ReadFrom,
             found: 0,
             resolved: 0,
             late: 0,
             resolving: None,
         }
+    }
+
+    /// Its session, and the keys that it moves between.
+    pub fn into_parts(self) -> (Session<J>, (Key, Key))
+        ensures { Moves result.1.0 result.1.1 result.0.state }
+    {
+        let Moving {
+            session,
+            order,
+            stage: _,
+            found: _,
+            resolved: _,
+            late: _,
+            resolving: _,
+        } = self;
+        let Order {
+            from,
+            to,
+            amount: _,
+            mode: _,
+        } = order;
+        (session, (from, to))
     }
 
     /// The slots of its next step.
@@ -91,8 +152,8 @@ impl Moving {
         match self.stage {
             Stage::ReadFrom | Stage::ReadTo => Ok(slots),
             Stage::Prewrite | Stage::Commit | Stage::Abort => {
-                slots.push(slot_of(&self.from))?;
-                slots.push(slot_of(&self.to))?;
+                slots.push(slot_of(&self.order.from))?;
+                slots.push(slot_of(&self.order.to))?;
                 Ok(slots)
             }
         }
@@ -125,32 +186,50 @@ pub(crate) fn slots_of(alloc: Global, info: &LockInfo) -> Result<Vec<Slot>, Faul
     Ok(slots)
 }
 
+// Enters a balance of a key.
+fn enter<J: Naming>(
+    session: &mut Session<J>,
+    alloc: Global,
+    key: &Key,
+    balance: u64,
+) -> Result<(), Fault>
+    requires declared { is_declared session.old.state ≡ false }
+    requires most { balance < BALANCES }
+    ensures entered { OnOk result (HasEntered session.old.state key.now session.new.state) }
+    ensures same { OnErr result (session.new ≡ session.old) }
+{
+    let value = value_of(alloc, balance)?;
+    session.put(key.clone()?, value)
+}
+
 // Enters both changes, and declares them.
 fn declare<J: Naming>(
     session: &mut Session<J>,
     alloc: Global,
-    moving: &Moving,
+    order: &Order,
     left: (u64, u64),
 ) -> Result<(), Fault>
     requires declared { is_declared session.old.state ≡ false }
     requires most { (left.0 < BALANCES) × (left.1 < BALANCES) }
+    requires moves { Moves order.now.from order.now.to session.old.state }
+    ensures moves { Moves order.now.from order.now.to session.new.state }
 {
     let (from, to) = left;
-    session.put(moving.from.clone()?, value_of(alloc, from)?)?;
-    session.put(moving.to.clone()?, value_of(alloc, to)?)?;
+    enter(session, alloc, &order.from, from)?;
+    enter(session, alloc, &order.to, to)?;
     session.declare(
         alloc,
         Terms {
-            mode: moving.mode,
+            mode: order.mode,
             ttl: TTL,
             max_commit: None,
         },
     )
 }
 
-impl Moving {
+impl<J: Naming> Moving<J> {
     // The balance of a key was read.
-    fn read<J: Naming>(&mut self, session: &mut Session<J>, alloc: Global, balance: u64) -> After
+    fn read(&mut self, alloc: Global, balance: u64) -> After
         requires { balance < BALANCES }
     {
         if self.stage == Stage::ReadFrom {
@@ -158,13 +237,13 @@ impl Moving {
             self.stage = Stage::ReadTo;
             return After::Goes;
         }
-        let Some(left) = after_transfer(self.found, balance, self.amount) else {
+        let Some(left) = after_transfer(self.found, balance, self.order.amount) else {
             return After::Ends;
         };
-        if session.is_declared() {
+        if self.session.is_declared() {
             return After::Ends;
         }
-        match declare(session, alloc, self, left) {
+        match declare(&mut self.session, alloc, &self.order, left) {
             Ok(()) => {
                 self.stage = Stage::Prewrite;
                 After::Goes
@@ -174,21 +253,15 @@ impl Moving {
     }
 
     // Reads the balance that is read next.
-    fn reads<J: Naming, F: Families + Drop, R: Wait + Drop>(
-        &mut self,
-        session: &mut Session<J>,
-        access: &Access<J, F, R>,
-    ) -> After {
-        let key = if self.stage == Stage::ReadFrom {
-            &self.from
+    fn reads<F: Families + Drop, R: Wait + Drop>(&mut self, access: &Access<J, F, R>) -> After {
+        let answered = if self.stage == Stage::ReadFrom {
+            access.get(&mut self.session, &self.order.from)
         } else {
-            &self.to
+            access.get(&mut self.session, &self.order.to)
         };
-        match access.get(session, key) {
-            Ok(Answer::Found(value)) => {
-                self.read(session, access.alloc, balance_of(value.as_bytes()))
-            }
-            Ok(Answer::Nothing) => self.read(session, access.alloc, 0),
+        match answered {
+            Ok(Answer::Found(value)) => { self.read(access.alloc, balance_of(value.as_bytes())) }
+            Ok(Answer::Nothing) => self.read(access.alloc, 0),
             Ok(Answer::KeyIsLocked(info)) => self.meets(access.alloc, &info, After::Ends),
             Ok(_) => After::Ends,
             Err(_) => After::NoMemory,
@@ -218,19 +291,15 @@ impl Moving {
     }
 
     // Locks the next key, until the commit is due.
-    fn prewrites<J: Naming, F: Families + Drop, R: Wait + Drop>(
-        &mut self,
-        session: &mut Session<J>,
-        access: &Access<J, F, R>,
-    ) -> After {
-        if session.can_commit() || session.can_draw() {
+    fn prewrites<F: Families + Drop, R: Wait + Drop>(&mut self, access: &Access<J, F, R>) -> After {
+        if self.session.can_commit() || self.session.can_draw() {
             self.stage = Stage::Commit;
-            return self.commits(session, access);
+            return self.commits(access);
         }
-        if !session.is_declared() {
+        if !self.session.is_declared() {
             return After::Ends;
         }
-        let answered = access.prewrite(session);
+        let answered = access.prewrite(&mut self.session);
         self.prewritten(access.alloc, answered)
     }
 
@@ -251,60 +320,54 @@ impl Moving {
     }
 
     // Commits the next key, at a timestamp that is drawn where none is.
-    fn commits<J: Naming, F: Families + Drop, R: Wait + Drop>(
-        &mut self,
-        session: &mut Session<J>,
-        access: &Access<J, F, R>,
-    ) -> After {
-        if session.can_draw() && session.draw_commit().is_err() {
+    fn commits<F: Families + Drop, R: Wait + Drop>(&mut self, access: &Access<J, F, R>) -> After {
+        if self.session.can_draw() && self.session.draw_commit().is_err() {
             return After::Spent;
         }
-        if !session.can_commit() {
+        if !self.session.can_commit() {
             return self.aborts();
         }
-        let answered = access.commit(session);
-        let may_abort = session.can_abort();
+        let answered = access.commit(&mut self.session);
+        let may_abort = self.session.can_abort();
         self.committed(may_abort, answered)
     }
 
     // Takes it back, as far as that is open.
-    fn takes_back<J: Naming, F: Families + Drop, R: Wait + Drop>(
+    fn takes_back<F: Families + Drop, R: Wait + Drop>(
         &mut self,
-        session: &mut Session<J>,
         access: &Access<J, F, R>,
     ) -> After {
-        if session.can_abort() {
-            return match access.abort(session) {
+        if self.session.can_abort() {
+            return match access.abort(&mut self.session) {
                 Ok(None) | Ok(Some(Answer::BelowSafePoint { .. })) | Err(_) => After::Ends,
                 Ok(Some(_)) => After::Goes,
             };
         }
-        if session.can_commit() || session.can_draw() {
+        if self.session.can_commit() || self.session.can_draw() {
             self.stage = Stage::Commit;
-            self.commits(session, access)
+            self.commits(access)
         } else {
             After::Ends
         }
     }
 
     /// Makes the next step.
-    pub fn step<J: Naming, F: Families + Drop, R: Wait + Drop>(
+    pub fn step<F: Families + Drop, R: Wait + Drop>(
         &mut self,
-        session: &mut Session<J>,
         access: &mut Access<J, F, R>,
     ) -> After {
         if self.resolving.is_some() {
             self.resolving = None;
-            return match access.resolve(session, None) {
+            return match access.resolve(&mut self.session, None) {
                 Ok(_) => After::Goes,
                 Err(_) => After::NoMemory,
             };
         }
         match self.stage {
-            Stage::ReadFrom | Stage::ReadTo => self.reads(session, access),
-            Stage::Prewrite => self.prewrites(session, access),
-            Stage::Commit => self.commits(session, access),
-            Stage::Abort => self.takes_back(session, access),
+            Stage::ReadFrom | Stage::ReadTo => self.reads(access),
+            Stage::Prewrite => self.prewrites(access),
+            Stage::Commit => self.commits(access),
+            Stage::Abort => self.takes_back(access),
         }
     }
 }

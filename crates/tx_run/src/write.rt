@@ -13,10 +13,10 @@ fn count(replies: &[Spoken]) -> [u64; 4] {
     let mut counts = [0_u64; 4];
     for spoken in replies {
         let place = match &spoken.reply {
-            Reply::Ended(_, Outcome::Committed(_)) => 0,
-            Reply::Ended(_, Outcome::Aborted) => 1,
-            Reply::Ended(_, Outcome::Unknown(_)) => 2,
-            Reply::Ended(_, Outcome::ReadOnly) => 3,
+            Reply::Ended(_, Outcome::Committed(_), _) => 0,
+            Reply::Ended(_, Outcome::Aborted, _) => 1,
+            Reply::Ended(_, Outcome::Unknown(_), _) => 2,
+            Reply::Ended(_, Outcome::ReadOnly, _) => 3,
             _ => continue,
         };
         counts[place] = counts[place].saturating_add(1);

@@ -23,7 +23,7 @@ returns-clause-told g c =
     let tells = subst (λ (s : ℕ). TellsBy now s log.replies) same (tells_on bounds log.told now run knows log.seat log.replies c.into_parts-told.ensures.tells) in
     let all = c.in_ok-append.ensures.items ∙ ap (λ (l : List Spoken). xs ++ l) c.into_parts-told.ensures.parts.1 in
     subst (λ (l : List Spoken). TellsOutcomes now l) (sym all)
-    (joined now seat xs log.replies (outcomes_on old now more xs c.requires.told) (all_above_on bounds old now run more (seat + 1) xs c.requires.above) tells)
+    (joined now seat xs log.replies (outcomes_on bounds old now run more xs c.requires.told) (all_above_on bounds old now run more (seat + 1) xs c.requires.above) tells)
 
 pub returns-clause-above : goal.returns-clause-above
 returns-clause-above g c =
