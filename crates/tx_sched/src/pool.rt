@@ -73,7 +73,7 @@ where
         let mut place = 0;
         for job in jobs {
             places.insert(job.number(), place)?;
-            let task: Task<J, N> = Task::new(job, place);
+            let task: Task<J, N> = Task::new(alloc, job, place)?;
             if queue.send(rt, Message::Ready(task)).is_err() {
                 return Err(Fault::OutOfMemory);
             }
