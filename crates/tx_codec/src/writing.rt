@@ -17,8 +17,8 @@ pub(crate) fn kind_byte(mutation: &StoredMutation) -> u8
     }
 }
 
-/// The bytes that the value takes.
-pub(crate) fn value_len(mutation: &StoredMutation) -> usize
+/// How many bytes a record takes for what it keeps of the value, which stands at its end.
+pub fn value_len(mutation: &StoredMutation) -> usize
     ensures len { result ≡ length (value_bytes mutation.now) }
     ensures small { result < 2 ^ 17 }
 {

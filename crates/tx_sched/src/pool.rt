@@ -3,11 +3,14 @@ ghost use Rattle.std.specs.Prelude.{◌≡◌, ◌≤◌, [], Some, map, IfErr, 
 ghost use Rattle.tx_types.specs.declared.fault.Fault.TheVariants.{OutOfMemory};
 ghost use Rattle.tx_sched.specs.Promises.{AreDistinct, Kept, AreKept, IsOf, AreOf, count_missing};
 
+mod asking;
+
 use crate::bench::Bench;
 use crate::gate::Gate;
 use crate::job::Job;
 use crate::results::Results;
 use crate::task::{Opening, Task};
+use asking::bench_of;
 use crossbeam_channel::{Receiver, Sender, bounded};
 use std::alloc::Global;
 use std::collections::HashMap;
@@ -73,7 +76,7 @@ where
         let mut place = 0;
         for job in jobs {
             places.insert(job.number(), place)?;
-            let task: Task<J, N> = Task::new(job, place);
+            let task: Task<J, N> = Task::new(alloc, job, place)?;
             if queue.send(rt, Message::Ready(task)).is_err() {
                 return Err(Fault::OutOfMemory);
             }
@@ -136,99 +139,10 @@ where
         }
     }
 
-    /// A job whose next step has its latches, and the slots, unless it is parked or memory was refused.
-    fn latched<R: Wait>(&self, rt: &R, task: Task<J, N>) -> Option<(Task<J, N>, Vec<Slot>)> {
-        let Ok(slots) = task.slots() else {
-            self.refuse(rt);
-            return None;
-        };
-        let asked = match slots.as_slice() {
-            [] => Ok(Some(task)),
-            [only] => self.ask_one(rt, *only, slots.as_slice(), task),
-            all => self.ask_each(rt, all, task),
-        };
-        match asked {
-            Ok(task) => Some((task?, slots)),
-            Err(_) => {
-                self.refuse(rt);
-                None
-            }
-        }
-    }
-
-    /// Asks for the one slot of a step, unless it was asked for already. None where the job is parked.
-    fn ask_one<R: Wait>(
-        &self,
-        rt: &R,
-        slot: Slot,
-        slots: &[Slot],
-        task: Task<J, N>,
-    ) -> Result<Option<Task<J, N>>, Fault>
-        ensures err { IfErr result (λ e. e ≡ OutOfMemory) }
-    {
-        if task.asked() != 0 {
-            return Ok(Some(task));
-        }
-        self.ask(rt, slot.get() % BENCHES, slots, task)
-    }
-
-    /// Asks for the slots of a step, bench by bench, from the first that was not asked yet. None where the job is parked.
-    fn ask_each<R: Wait>(
-        &self,
-        rt: &R,
-        slots: &[Slot],
-        task: Task<J, N>,
-    ) -> Result<Option<Task<J, N>>, Fault>
-        ensures err { IfErr result (λ e. e ≡ OutOfMemory) }
-    {
-        let mut task = task;
-        for bench in task.asked()..BENCHES {
-            let part = self.part(slots, bench)?;
-            if part.is_empty() {
-                continue;
-            }
-            match self.ask(rt, bench, part.as_slice(), task)? {
-                Some(granted) => task = granted,
-                None => return Ok(None),
-            }
-        }
-        Ok(Some(task))
-    }
-
-    /// Those of the slots that belong to a bench.
-    fn part(&self, slots: &[Slot], bench: u8) -> Result<Vec<Slot>, Fault>
-        ensures err { IfErr result (λ e. e ≡ OutOfMemory) }
-    {
-        let mut part = Vec::new(self.alloc);
-        for slot in slots {
-            if slot.get() % BENCHES == bench {
-                part.push(*slot)?;
-            }
-        }
-        Ok(part)
-    }
-
-    /// Asks for slots of one bench. None where the job is parked there.
-    fn ask<R: Wait>(
-        &self,
-        rt: &R,
-        bench: u8,
-        slots: &[Slot],
-        mut task: Task<J, N>,
-    ) -> Result<Option<Task<J, N>>, Fault>
-        ensures err { IfErr result (λ e. e ≡ OutOfMemory) }
-    {
-        task.ask_from(bench.saturating_add(1));
-        match self.benches.get(usize::from(bench)) {
-            Some(bench) => bench.lock(rt).ask(task.cid(), slots, task),
-            None => Ok(Some(task)),
-        }
-    }
-
     /// Gives the latches of a command back, and puts the jobs that waited for them on the ready queue.
     fn release<R: Wait>(&self, rt: &R, cid: Cid, slots: &[Slot]) {
         for slot in slots {
-            let Some(bench) = self.benches.get(usize::from(slot.get() % BENCHES)) else {
+            let Some(bench) = self.benches.get(usize::from(bench_of(*slot))) else {
                 continue;
             };
             let freed = bench.lock(rt).release(cid);

@@ -37,17 +37,7 @@ pub(super) fn commit_record(
     ensures ok { IfOk result (λ rec. rec ≡ stored.Commit (commit_of lock.now overlapped_rollback)) }
     ensures err { IfErr result (λ e. e ≡ Fault.OutOfMemory) }
 {
-    let LockRec {
-        mutation,
-        start,
-        ..
-    } = lock.read(alloc)?;
-    let rec = WriteRec::Commit(CommitRec {
-        mutation,
-        start,
-        overlapped_rollback,
-    });
-    WriteBytes::new(alloc, &rec)
+    lock.commit_record(alloc, overlapped_rollback)
 }
 
 /// The record of the rollback of the transaction that started then.
