@@ -13,6 +13,7 @@ use Rattle.tx_run.specs.declared.reply.Reply.{Reply}
 use Rattle.tx_run.specs.declared.reply.Reply.TheVariants.{Said, Ended}
 use Rattle.tx_run.specs.declared.reply.Spoken.{Spoken}
 use Rattle.tx_run.specs.Outcomes.{IsTold, start_of, AreApart, TellsOutcomes}
+use Rattle.tx_run.specs.Sources.{TellsPair}
 use Rattle.tx_run.proofs.Transferring.{between_on}
 use Rattle.tx_run.specs.Logs.{StandsBy, TellsBy, IsAbove, Working, AreFalling}
 
@@ -120,21 +121,23 @@ weaker h m n (Ended t o keys) le is = (is.0, is.1, omega (arith, le, is.2))
 weaker h m n (Said said) le is = tt
 
 -- what is told so far lies above the results that are left, of which each is of a lower seat than those before it
-pub record AreLeft (h : History) (replies : List Spoken) (rest : List Working) : Type 0 where
+pub record AreLeft (source : Option (List ℕ)) (h : History) (replies : List Spoken) (rest : List Working) : Type 0 where
   pub falling : AreFalling rest
   pub told : TellsOutcomes h replies
+  pub pairs : All (TellsPair source) replies
   pub above : All (λ o. All (λ s. IsAbove h (o.log.seat + 1) s.reply) replies) rest
 
-module _ (h : History) (replies : List Spoken) (out : Working) (rest : List Working) where
-  pub first_above : AreLeft h replies (out ∷ rest) → All (λ s. IsAbove h (out.log.seat + 1) s.reply) replies
+module _ (source : Option (List ℕ)) (h : History) (replies : List Spoken) (out : Working) (rest : List Working) where
+  pub first_above : AreLeft source h replies (out ∷ rest) → All (λ s. IsAbove h (out.log.seat + 1) s.reply) replies
   first_above left = left.above 0 out (omega (arith, length-cons out rest))
 
-  pub left_next : (all : List Working) → all ≡ out ∷ rest → AreFalling all → TellsOutcomes h replies → All (λ s. IsAbove h out.log.seat s.reply) replies → AreLeft h replies rest
-  left_next all is falling told above =
+  pub left_next : (all : List Working) → all ≡ out ∷ rest → AreFalling all → TellsOutcomes h replies → All (TellsPair source) replies → All (λ s. IsAbove h out.log.seat s.reply) replies → AreLeft source h replies rest
+  left_next all is falling told pairs above =
       let fall : AreFalling (out ∷ rest) = subst (λ l. AreFalling l) is falling in
       record {
         falling = λ i j d lt bound. fall (suc i) (suc j) d (omega arith) (omega (arith, length-cons out rest));
         told = told;
+        pairs = pairs;
         above = λ k d lt i e in_list. weaker h ((get_or rest k d).log.seat + 1) out.log.seat _ (lower_than fall k d lt) (above i e in_list);
       }
     where

@@ -3,4 +3,5 @@ pub mod Answering
 pub mod Digits
 pub mod Gathering
 pub mod Seating
+pub mod Sourcing
 pub mod Transferring

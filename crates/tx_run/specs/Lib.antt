@@ -4,4 +4,5 @@ pub mod Outcomes
 pub mod Logs
 pub mod Scripts
 pub mod Words
+pub mod Sources
 pub mod Transfers

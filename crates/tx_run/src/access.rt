@@ -3,11 +3,13 @@ ghost use Rattle.std.specs.Prelude.{◌≡◌, true, []};
 ghost use Rattle.tx_core.specs.Laws.{WasToldOf};
 ghost use Rattle.tx_client.specs.Sessions.{is_declared, can_commit, can_abort, has_primary};
 ghost use Rattle.tx_client.specs.Calls.{KeepsSet};
+ghost use Rattle.tx_run.specs.Sources.{HasPair};
 ghost use Rattle.tx_run.specs.Transfers.{MovesSome};
 
 use crate::log::Log;
 use crate::reply::Spoken;
 use crate::sends;
+use crate::source::Source;
 use std::alloc::Global;
 use std::sync::{Arc, Wait};
 use tx_cells::Families;
@@ -144,21 +146,22 @@ impl<J: Naming, F: Families + Drop, R: Wait + Drop> Access<J, F, R> {
 
     /// Ends a transaction, and keeps its outcome in the log: its seat is then free. Where it has no outcome, the session comes
     /// back.
-    pub fn finish(
+    pub fn finish<L: Source>(
         &self,
-        log: &mut Log<J>,
+        log: &mut Log<J, L>,
         number: u64,
         session: Session<J>,
         keys: Option<(Key, Key)>,
     ) -> Result<Seat<J>, Session<J>>
-        requires { MovesSome keys session.state }
+        requires moves { MovesSome keys session.state }
+        requires pair { HasPair L.text number keys }
         ensures { log.new.seat ≡ log.old.seat }
     {
         log.finish(&self.resolver, number, session, keys)
     }
 
     /// What a log says; it is then empty.
-    pub fn take(&self, log: &mut Log<J>, empty: Vec<Spoken>) -> Log<J>
+    pub fn take<L: Source>(&self, log: &mut Log<J, L>, empty: Vec<Spoken>) -> Log<J, L>
         requires { empty.items ≡ [] }
         ensures same { log.new.seat ≡ log.old.seat }
         ensures told { log.new.told ≡ log.old.told }

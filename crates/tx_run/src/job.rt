@@ -1,12 +1,15 @@
 //! A session of a run, as a job of the workers: each line is a step, and each request of a transfer.
-ghost use Rattle.std.specs.Prelude.{◌≡◌, ◌<◌, IfOk};
+ghost use Rattle.std.specs.Prelude.{◌≡◌, ◌<◌, Some, None, IfOk};
+ghost use Rattle.tx_steps.specs.Steps.{asked};
 ghost use Rattle.tx_run.specs.Logs.{StaysSame};
+ghost use Rattle.tx_run.specs.Sources.{HasPair, pair_of};
 
 use crate::access::Access;
 use crate::acts::{act, refused, send};
 use crate::log::Log;
 use crate::place::Place;
 use crate::script::{Asks, Said};
+use crate::source::Source;
 use crate::transfer::{After, Moving, Order, slots_of};
 use crate::words::Words;
 use std::alloc::Global;
@@ -26,14 +29,14 @@ use tx_types::{Cause, Fault, Key};
 
 /// What came of a session's lines. Contracts see its number and its log.
 #[derive(Drop)]
-pub(crate) struct Out<J: Naming> {
+pub(crate) struct Out<J: Naming, L: Source> {
     pub number: u32,
-    pub log: Log<J>,
+    pub log: Log<J, L>,
     /// Whether a fault of the script ended it.
     pub faulted: bool,
 }
 
-impl<J: Naming> Model for Out<J> {
+impl<J: Naming, L: Source> Model for Out<J, L> {
     ghost use Rattle.tx_run.specs.Logs.{Working};
 
     ghost Value = { Working };
@@ -43,13 +46,13 @@ impl<J: Naming> Model for Out<J> {
 
 /// A session, the lines that are left of it, and what was answered. Contracts see its number and its log.
 #[derive(Drop)]
-pub(crate) struct ScriptJob<J: Naming, F: Families + Drop, R: Wait + Drop> {
+pub(crate) struct ScriptJob<J: Naming, L: Source, F: Families + Drop, R: Wait + Drop> {
     number: u32,
     access: Access<J, F, R>,
-    place: Place<Seat<J>, Session<J>, Moving<J>>,
-    log: Log<J>,
+    place: Place<Seat<J>, Session<J>, Moving<J, L>>,
+    log: Log<J, L>,
     /// The last line first.
-    lines: Vec<Said>,
+    lines: Vec<Said<L>>,
     /// The slots of the keys in the buffer.
     touched: Vec<Slot>,
     /// The slots of the lock that last stood in its way.
@@ -57,7 +60,7 @@ pub(crate) struct ScriptJob<J: Naming, F: Families + Drop, R: Wait + Drop> {
     faulted: bool,
 }
 
-impl<J: Naming, F: Families + Drop, R: Wait + Drop> Model for ScriptJob<J, F, R> {
+impl<J: Naming, L: Source, F: Families + Drop, R: Wait + Drop> Model for ScriptJob<J, L, F, R> {
     ghost use Rattle.tx_run.specs.Logs.{Working};
 
     ghost Value = { Working };
@@ -69,14 +72,14 @@ fn is_name(name: &str) -> bool {
     !name.is_empty() && name.len() <= MAX_NAME_BYTES
 }
 
-impl<J: Naming, F: Families + Drop, R: Wait + Drop> ScriptJob<J, F, R> {
+impl<J: Naming, L: Source, F: Families + Drop, R: Wait + Drop> ScriptJob<J, L, F, R> {
     /// A job of these lines, which come in the order of the script.
     pub fn new(
         number: u32,
         access: Access<J, F, R>,
         seat: Seat<J>,
-        mut lines: Vec<Said>,
-    ) -> Result<ScriptJob<J, F, R>, Fault>
+        mut lines: Vec<Said<L>>,
+    ) -> Result<ScriptJob<J, L, F, R>, Fault>
         ensures { IfOk result (λ job. (job.number ≡ number) × (job.log.seat ≡ seat.seat)) }
     {
         let alloc = access.alloc;
@@ -96,7 +99,7 @@ impl<J: Naming, F: Families + Drop, R: Wait + Drop> ScriptJob<J, F, R> {
     }
 
     // Stands so from now on.
-    fn stand(&mut self, place: Place<Seat<J>, Session<J>, Moving<J>>)
+    fn stand(&mut self, place: Place<Seat<J>, Session<J>, Moving<J, L>>)
         ensures { StaysSame self.old self.new }
     {
         drop(replace(&mut self.place, place));
@@ -151,6 +154,7 @@ impl<J: Naming, F: Families + Drop, R: Wait + Drop> ScriptJob<J, F, R> {
     }
 
     fn finishes(&mut self, number: u64, session: Session<J>)
+        requires { HasPair L.text number None }
         ensures { StaysSame self.old self.new }
     {
         match self.access.finish(&mut self.log, number, session, None) {
@@ -171,16 +175,17 @@ impl<J: Naming, F: Families + Drop, R: Wait + Drop> ScriptJob<J, F, R> {
 
     // A transfer begins: nothing is told before it ends.
     fn moves(&mut self, number: u64, seat: Seat<J>, transfer: Transfer<'_>)
+        requires { HasPair L.text number (Some (transfer.from.now, transfer.to.now)) }
         ensures { StaysSame self.old self.new }
     {
         let alloc = self.access.alloc;
-        match Order::new(alloc, &transfer) {
+        match Order::new(alloc, number, &transfer) {
             Err(fault) => {
                 self.stand(Place::Free(seat));
                 self.tell(number, refused(fault));
             }
             Ok(order) => match Session::begin(alloc, seat) {
-                Ok(session) => self.stand(Place::Moving(number, Moving::new(session, order))),
+                Ok(session) => self.stand(Place::Moving(Moving::new(session, order))),
                 Err(seat) => {
                     self.stand(Place::Free(seat));
                     self.tell(number, Words::new(Reply::OracleSpent));
@@ -222,6 +227,7 @@ impl<J: Naming, F: Families + Drop, R: Wait + Drop> ScriptJob<J, F, R> {
 
     // Makes the step of a line.
     fn make(&mut self, number: u64, step: Step<'_>)
+        requires { HasPair L.text number (pair_of (asked step)) }
         ensures { StaysSame self.old self.new }
     {
         match replace(&mut self.place, Place::Gone) {
@@ -247,7 +253,7 @@ impl<J: Naming, F: Families + Drop, R: Wait + Drop> ScriptJob<J, F, R> {
     }
 
     // Makes the step that a line says.
-    fn play(&mut self, said: &Said)
+    fn play(&mut self, said: &Said<L>)
         ensures { StaysSame self.old self.new }
     {
         match Line::read(self.access.alloc, said.number, said.text.as_slice()) {
@@ -261,10 +267,10 @@ impl<J: Naming, F: Families + Drop, R: Wait + Drop> ScriptJob<J, F, R> {
     }
 
     // A transfer is over.
-    fn moved(&mut self, number: u64, moving: Moving<J>)
+    fn moved(&mut self, moving: Moving<J, L>)
         ensures { StaysSame self.old self.new }
     {
-        let (session, keys) = moving.into_parts();
+        let (session, number, keys) = moving.into_parts();
         match self
             .access
             .finish(&mut self.log, number, session, Some(keys))
@@ -275,27 +281,27 @@ impl<J: Naming, F: Families + Drop, R: Wait + Drop> ScriptJob<J, F, R> {
     }
 
     // A transfer is left as it is.
-    fn gives_up(&mut self, number: u64, moving: Moving<J>, words: Words)
+    fn gives_up(&mut self, moving: Moving<J, L>, words: Words)
         ensures { StaysSame self.old self.new }
     {
-        let (session, keys) = moving.into_parts();
+        let (session, number, keys) = moving.into_parts();
         drop(keys);
         self.stops(number, session, words);
     }
 
     // Makes the next step of a transfer.
-    fn goes_on(&mut self, number: u64, mut moving: Moving<J>)
+    fn goes_on(&mut self, mut moving: Moving<J, L>)
         ensures { StaysSame self.old self.new }
     {
         match moving.step(&mut self.access) {
-            After::Goes => self.stand(Place::Moving(number, moving)),
-            After::Ends => self.moved(number, moving),
-            After::Spent => self.gives_up(number, moving, Words::new(Reply::OracleSpent)),
-            After::NoMemory => self.gives_up(number, moving, Words::new(Reply::OutOfMemory)),
+            After::Goes => self.stand(Place::Moving(moving)),
+            After::Ends => self.moved(moving),
+            After::Spent => self.gives_up(moving, Words::new(Reply::OracleSpent)),
+            After::NoMemory => self.gives_up(moving, Words::new(Reply::OutOfMemory)),
         }
     }
 
-    fn out(&mut self) -> Out<J>
+    fn out(&mut self) -> Out<J, L>
         ensures out { (result.number ≡ self.old.number) × (result.log.seat ≡ self.old.log.seat) }
     {
         let empty = Vec::new(self.access.alloc);
@@ -311,7 +317,7 @@ impl<J: Naming, F: Families + Drop, R: Wait + Drop> ScriptJob<J, F, R> {
         ensures { StaysSame self.old self.new }
     {
         match replace(&mut self.place, Place::Gone) {
-            Place::Moving(number, moving) => self.goes_on(number, moving),
+            Place::Moving(moving) => self.goes_on(moving),
             other => {
                 self.stand(other);
                 if let Some(said) = self.lines.pop() {
@@ -327,10 +333,10 @@ impl<J: Naming, F: Families + Drop, R: Wait + Drop> ScriptJob<J, F, R> {
     }
 }
 
-impl<J: Naming, F: Families + Drop, R: Wait + Drop> Job for ScriptJob<J, F, R> {
+impl<J: Naming, L: Source, F: Families + Drop, R: Wait + Drop> Job for ScriptJob<J, L, F, R> {
     ghost use Rattle.std.specs.Prelude.{◌≡◌};
 
-    type Out = Out<J>;
+    type Out = Out<J, L>;
 
     ghost numbered = { λ j. j.number };
 
@@ -344,7 +350,7 @@ impl<J: Naming, F: Families + Drop, R: Wait + Drop> Job for ScriptJob<J, F, R> {
 
     fn slots(&self) -> Result<Vec<Slot>, Fault> {
         let alloc: Global = self.access.alloc;
-        if let Place::Moving(_, moving) = &self.place {
+        if let Place::Moving(moving) = &self.place {
             return moving.slots(alloc);
         }
         let mut slots = Vec::new(alloc);
@@ -356,7 +362,7 @@ impl<J: Naming, F: Families + Drop, R: Wait + Drop> Job for ScriptJob<J, F, R> {
         Ok(slots)
     }
 
-    fn step(&mut self) -> Turn<Out<J>> {
+    fn step(&mut self) -> Turn<Out<J, L>> {
         self.advance();
         if self.is_done() {
             Turn::Done(self.out())

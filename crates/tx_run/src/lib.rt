@@ -16,6 +16,7 @@ mod run;
 mod script;
 mod seeds;
 mod sends;
+mod source;
 #[cfg(test)]
 mod tests;
 mod transfer;

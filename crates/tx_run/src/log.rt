@@ -1,37 +1,42 @@
 //! What the lines of one session were answered, with what its session had seen.
-ghost use Rattle.std.specs.Prelude.{◌≡◌, ◌∷◌, ◌++◌, [], if◌then◌else◌};
+ghost use Rattle.std.specs.Prelude.{◌≡◌, ◌∷◌, ◌++◌, All, [], if◌then◌else◌};
 ghost use Rattle.tx_core.specs.Histories.{Begins};
 ghost use Rattle.tx_run.specs.Logs.{CanTell, IsAnswered, TellsBy, TellsNone};
+ghost use Rattle.tx_run.specs.Sources.{HasPair, TellsPair};
 ghost use Rattle.tx_run.specs.Transfers.{MovesSome};
 
 use crate::reply::{Reply, Spoken};
+use crate::source::Source;
 use crate::words::Words;
-use std::marker::Model;
+use std::marker::{Model, PhantomData};
 use std::mem::replace;
 use tx_client::Session;
 use tx_core::{Outcome, SeatNo};
 use tx_journal::{Naming, Seat, Told};
 use tx_types::{Cause, Key, Ts};
 
-/// The answers of a session's lines. Each outcome among them was answered by the session's seat in what the log was told, and no two
-/// are of one transaction.
+/// The answers of a session's lines. Each outcome among them was answered by the session's seat in what the log was told, no two
+/// are of one transaction, and each comes with the keys of the transfer that its line says.
 #[derive(Drop)]
-pub(crate) struct Log<J: Naming> {
+pub(crate) struct Log<J: Naming, L: Source> {
     seat: SeatNo,
     told: Told<J>,
     replies: Vec<Spoken>,
     /// Whether an answer was lost, for want of memory.
     lost: bool,
+    of: PhantomData<L>,
 }
 
-impl<J: Naming> Model for Log<J> {
+impl<J: Naming, L: Source> Model for Log<J, L> {
+    ghost use Rattle.std.specs.Prelude.{All};
     ghost use Rattle.tx_run.specs.Logs.{Logged, TellsBy};
+    ghost use Rattle.tx_run.specs.Sources.{TellsPair};
 
     ghost Value = { Logged };
 
     ghost view = { λ l. record { seat = l.seat; told = l.told; replies = l.replies.items } };
 
-    ghost invariant = { λ l. TellsBy l.told l.seat l.replies.items };
+    ghost invariant = { λ l. TellsBy l.told l.seat l.replies.items × All (TellsPair L.text) l.replies.items };
 }
 
 // Adds an answer: whether there was room.
@@ -41,9 +46,9 @@ fn add(replies: &mut Vec<Spoken>, spoken: Spoken) -> bool
     replies.push(spoken).is_ok()
 }
 
-impl<J: Naming> Log<J> {
+impl<J: Naming, L: Source> Log<J, L> {
     /// A log of this seat, in which nothing stands.
-    pub fn new(seat: &mut Seat<J>, replies: Vec<Spoken>) -> Log<J>
+    pub fn new(seat: &mut Seat<J>, replies: Vec<Spoken>) -> Log<J, L>
         requires { replies.items ≡ [] }
         ensures log { result.seat ≡ seat.old.seat }
         ensures same { seat.new ≡ seat.old }
@@ -55,6 +60,7 @@ impl<J: Naming> Log<J> {
             told,
             replies,
             lost: false,
+            of: PhantomData,
         }
     }
 
@@ -80,6 +86,7 @@ impl<J: Naming> Log<J> {
     fn end(&mut self, number: u64, start: Ts, outcome: Outcome, keys: Option<(Key, Key)>)
         requires answered { IsAnswered self.old.told self.old.seat start outcome keys }
         requires fresh { TellsNone start self.old.replies }
+        requires pair { HasPair L.text number keys }
         ensures { self.new.seat ≡ self.old.seat }
     {
         let reply = Reply::Ended(start, outcome, keys);
@@ -96,7 +103,8 @@ impl<J: Naming> Log<J> {
         keys: Option<(Key, Key)>,
         seat: &mut Seat<J>,
     )
-        requires { CanTell self.old start outcome keys seat.old }
+        requires tell { CanTell self.old start outcome keys seat.old }
+        requires pair { HasPair L.text number keys }
         ensures { self.new.seat ≡ self.old.seat }
     {
         self.learn(seat);
@@ -113,7 +121,8 @@ impl<J: Naming> Log<J> {
         mut session: Session<J>,
         keys: Option<(Key, Key)>,
     ) -> Result<Seat<J>, Session<J>>
-        requires { MovesSome keys session.state }
+        requires moves { MovesSome keys session.state }
+        requires pair { HasPair L.text number keys }
         ensures { self.new.seat ≡ self.old.seat }
     {
         session.hear_of(by.copy(&mut self.told));
@@ -134,7 +143,7 @@ impl<J: Naming> Log<J> {
 
     /// What the lines were answered, with what the log was told and whether an answer was lost; the log is then empty. `by` is a seat of the
     /// journal.
-    pub fn take(&mut self, by: &Seat<J>, empty: Vec<Spoken>) -> Log<J>
+    pub fn take(&mut self, by: &Seat<J>, empty: Vec<Spoken>) -> Log<J, L>
         requires { empty.items ≡ [] }
         ensures same { (self.new.seat ≡ self.old.seat) × (self.new.told ≡ self.old.told) }
         ensures log { result ≡ self.old }
@@ -145,6 +154,7 @@ impl<J: Naming> Log<J> {
             told,
             replies: replace(&mut self.replies, empty),
             lost: self.lost,
+            of: PhantomData,
         }
     }
 
@@ -152,12 +162,14 @@ impl<J: Naming> Log<J> {
     pub fn into_parts(self) -> (Told<J>, Vec<Spoken>, bool)
         ensures parts { (result.0 ≡ self.told) × (result.1.items ≡ self.replies) }
         ensures tells { TellsBy self.told self.seat self.replies }
+        ensures pairs { All (TellsPair L.text) self.replies }
     {
         let Log {
             seat: _,
             told,
             replies,
             lost,
+            of: _,
         } = self;
         (told, replies, lost)
     }

@@ -1,10 +1,10 @@
 //! Where a session stands.
 
-/// A free seat, a session that has begun, or a transfer of this line on its way; none of them while one acts.
+/// A free seat, a session that has begun, or a transfer on its way; none of them while one acts.
 #[derive(Drop)]
 pub(crate) enum Place<F, L, M> {
     Free(F),
     Live(L),
-    Moving(u64, M),
+    Moving(M),
     Gone,
 }

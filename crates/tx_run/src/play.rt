@@ -3,6 +3,7 @@ ghost use Rattle.std.specs.Prelude.{◌≡◌, ◌+◌, ◌*◌, ◌≤◌, ℕ,
 ghost use Rattle.tx_run.specs.Outcomes.{TellsOutcomes, start_of};
 ghost use Rattle.tx_run.specs.Logs.{IsAbove, AreFalling, AreFrom, HaveOwnSeats};
 ghost use Rattle.tx_run.specs.Scripts.{IsWithin};
+ghost use Rattle.tx_run.specs.Sources.{TellsPair};
 
 use crate::access::Access;
 use crate::families::{Makes, families};
@@ -10,6 +11,7 @@ use crate::job::{Out, ScriptJob};
 use crate::reply::{Reply, Spoken};
 use crate::script::{Said, Script};
 use crate::seeds::{Total, play_seeds, read_total};
+use crate::source::Source;
 use crate::words::Words;
 use std::alloc::Global;
 use std::marker::Brand;
@@ -53,13 +55,13 @@ fn two_seats<J: Naming>(seats: &mut Vec<Seat<J>>) -> Option<(Seat<J>, Seat<J>)>
 }
 
 // The sessions' jobs, numbered in their order, each with a seat of its own.
-fn jobs<J: Naming, F: Families + Drop, R: Wait + Clone + Drop>(
+fn jobs<J: Naming, L: Source, F: Families + Drop, R: Wait + Clone + Drop>(
     rt: &R,
     alloc: Global,
     store: &Arc<Store<J, F>>,
     mut seats: Vec<Seat<J>>,
-    sessions: Vec<Vec<Said>>,
-) -> Result<Vec<ScriptJob<J, F, R>>, Fault>
+    sessions: Vec<Vec<Said<L>>>,
+) -> Result<Vec<ScriptJob<J, L, F, R>>, Fault>
     requires seats { AreFrom (length J.bounds + 1) seats.items }
     requires few { vec_len sessions ≤ 256 }
     ensures { IfOk result (λ jobs. HaveOwnSeats (length J.bounds + vec_len seats) jobs.items) }
@@ -78,14 +80,16 @@ fn jobs<J: Naming, F: Families + Drop, R: Wait + Clone + Drop>(
 }
 
 // Takes over what a session came to, of which others' answers are above: whether a fault ended it.
-fn join<J: Naming>(
-    out: Out<J>,
+fn join<J: Naming, L: Source>(
+    out: Out<J, L>,
     seat: &mut Seat<J>,
     replies: &mut Vec<Spoken>,
 ) -> Result<bool, Broken>
     requires told { TellsOutcomes seat.old.events replies.old.items }
     requires above { All (λ s. IsAbove seat.old.events (out.log.seat + 1) s.reply) replies.old.items }
+    requires pairs { All (TellsPair L.text) replies.old.items }
     ensures told { OnOk result (TellsOutcomes seat.new.events replies.new.items) }
+    ensures pairs { OnOk result (All (TellsPair L.text) replies.new.items) }
     ensures above { OnOk result (All (λ s. IsAbove seat.new.events out.log.seat s.reply) replies.new.items) }
 {
     let Out {
@@ -103,14 +107,15 @@ fn join<J: Naming>(
 }
 
 // Takes over what all sessions came to: whether a fault ended one.
-fn gather<J: Naming>(
-    outs: Vec<Out<J>>,
+fn gather<J: Naming, L: Source>(
+    outs: Vec<Out<J, L>>,
     seat: &mut Seat<J>,
     replies: &mut Vec<Spoken>,
 ) -> Result<bool, Broken>
     requires falling { AreFalling outs.items }
     requires none { All (λ s. start_of s.reply ≡ None) replies.old.items }
-    ensures { OnOk result (TellsOutcomes seat.new.events replies.new.items) }
+    ensures told { OnOk result (TellsOutcomes seat.new.events replies.new.items) }
+    ensures pairs { OnOk result (All (TellsPair L.text) replies.new.items) }
 {
     let mut faulted = false;
     for out in outs {
@@ -126,10 +131,10 @@ fn memory(_fault: Fault) -> Broken {
 
 // What is to be played over so many regions.
 #[derive(Drop)]
-struct Lines {
+struct Lines<L: Source> {
     regions: usize,
-    seeds: Vec<Said>,
-    sessions: Vec<Vec<Said>>,
+    seeds: Vec<Said<L>>,
+    sessions: Vec<Vec<Said<L>>>,
 }
 
 /// What came of a script that was played. Each outcome among the answers was answered in what was seen, of a transaction of its
@@ -168,17 +173,18 @@ fn set_out<J: Naming, F: Families + Drop, M: Makes<F>, R: Wait + Clone + Drop>(
 }
 
 // Makes the sessions' lines by the workers.
-fn work<J, F, G, R>(
+fn work<J, L, F, G, R>(
     rt: &R,
     alloc: Global,
     workers: usize,
     gate: &G,
     store: &Arc<Store<J, F>>,
     seats: Vec<Seat<J>>,
-    sessions: Vec<Vec<Said>>,
-) -> Result<Vec<Out<J>>, Fault>
+    sessions: Vec<Vec<Said<L>>>,
+) -> Result<Vec<Out<J, L>>, Fault>
 where
     J: Naming + Send + Sync,
+    L: Source + Send,
     F: Families + Send + Drop,
     G: Gate + Sync,
     R: Threads + Wait + Sync + Send + Clone + Drop,
@@ -206,17 +212,18 @@ fn tell_regions(replies: &mut Vec<Spoken>, regions: usize) -> Result<(), Broken>
 }
 
 // Plays the seeds and then the sessions, and sums up.
-fn play<J, F, M, G, R>(
+fn play<J, L, F, M, G, R>(
     rt: &R,
     alloc: Global,
     workers: usize,
     make: &M,
     gate: &G,
     opened: Opened,
-    script: Lines,
+    script: Lines<L>,
 ) -> Result<Played, Broken>
 where
     J: Naming + Send + Sync,
+    L: Source + Send,
     F: Families + Send + Drop,
     M: Makes<F>,
     G: Gate + Sync,
@@ -224,7 +231,8 @@ where
     requires name { (opened.table ≡ J.table) × (opened.bounds ≡ J.bounds) × (opened.seats ≡ J.seats) }
     requires count { (script.regions ≡ length J.bounds + 1) × (script.regions ≤ 64) × (script.regions ≤ J.seats) }
     requires few { vec_len script.sessions ≤ 256 }
-    ensures { IfOk result (λ played. TellsOutcomes played.seen.events played.replies.items) }
+    ensures told { IfOk result (λ played. TellsOutcomes played.seen.events played.replies.items) }
+    ensures pairs { IfOk result (λ played. All (TellsPair L.text) played.replies.items) }
 {
     let Lines {
         regions,
@@ -256,21 +264,23 @@ where
 /// one transaction.
 ///
 /// `Memory` where a growth was refused outside of a session's calls.
-pub(crate) fn play_script<F, M, G, R>(
+pub(crate) fn play_script<L, F, M, G, R>(
     rt: &R,
     alloc: Global,
     workers: usize,
     make: &M,
     gate: &G,
-    script: Script,
+    script: Script<L>,
 ) -> Result<Played, Broken>
 where
+    L: Source + Send,
     F: Families + Send + Drop,
     M: Makes<F>,
     G: Gate + Sync,
     R: Threads + Wait + Sync + Send + Clone + Drop,
-    requires { IsWithin script }
-    ensures { IfOk result (λ played. TellsOutcomes played.seen.events played.replies.items) }
+    requires { IsWithin script.bounds.items (vec_len script.sessions) }
+    ensures told { IfOk result (λ played. TellsOutcomes played.seen.events played.replies.items) }
+    ensures pairs { IfOk result (λ played. All (TellsPair L.text) played.replies.items) }
 {
     let Script {
         bounds,
@@ -280,7 +290,7 @@ where
     let regions = bounds.len() + 1;
     let others = 2 * sessions.len() + 2;
     let opened = Opened::new(alloc, bounds, others).map_err(memory)?;
-    play::<Brand, F, M, G, R>(
+    play::<Brand, L, F, M, G, R>(
         rt,
         alloc,
         workers,

@@ -1,18 +1,60 @@
 //! A run, from the first byte of its script to the last of its answers.
-ghost use Rattle.std.specs.Prelude.{IfOk, IfSome};
+ghost use Rattle.std.specs.Prelude.{◌≡◌, All, IfOk, IfSome};
 ghost use Rattle.tx_run.specs.Outcomes.{TellsOutcomes};
+ghost use Rattle.tx_run.specs.Sources.{TellsPair};
 
 use crate::families::Makes;
 use crate::play::{Played, play_script};
 use crate::script::read_script;
+use crate::source::Source;
 use crate::write::{tell_fault, write_all};
 use std::alloc::Global;
 use std::io::{BufRead, Write};
+use std::marker::Brand;
 use std::sync::Wait;
 use std::thread::Threads;
 use tx_cells::Families;
 use tx_lines::{Broken, End};
 use tx_sched::Gate;
+
+// Reads the script of this text, plays it, and writes what came of it.
+fn run<L, F, M, G, R, B, W>(
+    rt: &R,
+    alloc: Global,
+    workers: usize,
+    make: &M,
+    gate: &G,
+    reader: &mut B,
+    writer: &mut W,
+) -> Result<(End, Option<Played>), Broken>
+where
+    L: Source + Send,
+    F: Families + Send + Drop,
+    M: Makes<F>,
+    G: Gate + Sync,
+    R: Threads + Wait + Sync + Send + Clone + Drop,
+    B: BufRead,
+    W: Write,
+    requires { L.text ≡ B.remaining reader.old }
+    ensures told { IfOk result (λ r. IfSome r.1 (λ played. TellsOutcomes played.seen.events played.replies.items)) }
+    ensures pairs { IfOk result (λ r. IfSome r.1 (λ played. All (TellsPair L.text) played.replies.items)) }
+{
+    let script = match read_script::<L, B>(alloc, reader)? {
+        Ok(script) => script,
+        Err((number, cause)) => {
+            tell_fault(alloc, writer, number, cause)?;
+            return Ok((End::Faulted, None));
+        }
+    };
+    let played = play_script::<L, F, M, G, R>(rt, alloc, workers, make, gate, script)?;
+    write_all(alloc, writer, &played)?;
+    let end = if played.faulted {
+        End::Faulted
+    } else {
+        End::Well
+    };
+    Ok((end, Some(played)))
+}
 
 /// Reads a script, and plays it by so many workers, 1 to 64: the seeds in the order of their lines, and then the lines of each
 /// session in their order, the sessions side by side. Then it writes the answer of each line in the order of the lines, the
@@ -20,7 +62,8 @@ use tx_sched::Gate;
 /// each region its families.
 ///
 /// It hands back what was played, where the script was played: each outcome that a line is told was answered in what all
-/// sessions had seen, and no two are of one transaction.
+/// sessions had seen, no two are of one transaction, and the transaction of a transfer that was committed or aborted declared
+/// changes of just the two keys that its line says.
 pub fn run_script<F, M, G, R, B, W>(
     rt: &R,
     alloc: Global,
@@ -37,21 +80,8 @@ where
     R: Threads + Wait + Sync + Send + Clone + Drop,
     B: BufRead,
     W: Write,
-    ensures { IfOk result (λ r. IfSome r.1 (λ played. TellsOutcomes played.seen.events played.replies.items)) }
+    ensures told { IfOk result (λ r. IfSome r.1 (λ played. TellsOutcomes played.seen.events played.replies.items)) }
+    ensures pairs { IfOk result (λ r. IfSome r.1 (λ played. All (TellsPair (B.remaining reader.old)) played.replies.items)) }
 {
-    let script = match read_script(alloc, reader)? {
-        Ok(script) => script,
-        Err((number, cause)) => {
-            tell_fault(alloc, writer, number, cause)?;
-            return Ok((End::Faulted, None));
-        }
-    };
-    let played = play_script::<F, M, G, R>(rt, alloc, workers, make, gate, script)?;
-    write_all(alloc, writer, &played)?;
-    let end = if played.faulted {
-        End::Faulted
-    } else {
-        End::Well
-    };
-    Ok((end, Some(played)))
+    run::<Brand, F, M, G, R, B, W>(rt, alloc, workers, make, gate, reader, writer)
 }

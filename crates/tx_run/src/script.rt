@@ -1,10 +1,14 @@
 //! A script of a run, read whole: its regions, its seeds, and the lines of each session.
-ghost use Rattle.std.specs.Prelude.{IfOk, OnOk};
+ghost use Rattle.std.specs.Prelude.{◌≡◌, IfOk, OnOk, vec_len};
 ghost use Rattle.tx_run.specs.Scripts.{IsWithin};
+ghost use Rattle.tx_run.specs.Sources.{HasLine};
+ghost use Rattle.std.proofs.Props.{props};
 
+use crate::source::Source;
 use std::alloc::Global;
 use std::collections::BTreeMap;
 use std::io::BufRead;
+use std::marker::PhantomData;
 use tx_lines::{Broken, Found, read_line};
 use tx_steps::{Action, Line, Program, Request, Step};
 use tx_types::limits::MAX_LIVE_SESSIONS;
@@ -21,29 +25,31 @@ pub(crate) enum Asks {
     Met,
 }
 
-/// A line that says a step, with its number.
-#[derive(Debug, Drop)]
-pub(crate) struct Said {
+/// A line that says a step, with its number. Where the text of the script is known, it has this line.
+#[derive(Drop)]
+pub(crate) struct Said<L: Source> {
     pub number: u64,
     pub asks: Asks,
     pub text: Vec<u8>,
+    of: PhantomData<L>,
+    ghost line: { HasLine L.text number text.items } by { Prim.hlevel props },
 }
 
 /// A script.
-#[derive(Debug, Drop)]
-pub(crate) struct Script {
+#[derive(Drop)]
+pub(crate) struct Script<L: Source> {
     /// The keys between the regions; none where line 1 says none.
     pub bounds: Vec<Key>,
-    pub seeds: Vec<Said>,
+    pub seeds: Vec<Said<L>>,
     /// The lines of each session, in the order of their first lines.
-    pub sessions: Vec<Vec<Said>>,
+    pub sessions: Vec<Vec<Said<L>>>,
 }
 
 // Which session has this name.
 #[derive(Drop)]
-struct Reading {
+struct Reading<L: Source> {
     alloc: Global,
-    script: Script,
+    script: Script<L>,
     places: BTreeMap<String, usize>,
 }
 
@@ -69,9 +75,9 @@ fn asks_of(step: Step<'_>) -> Asks {
     }
 }
 
-impl Reading {
-    fn new(alloc: Global) -> Reading
-        ensures { IsWithin result.script }
+impl<L: Source> Reading<L> {
+    fn new(alloc: Global) -> Reading<L>
+        ensures { IsWithin result.script.bounds.items (vec_len result.script.sessions) }
     {
         Reading {
             alloc,
@@ -87,8 +93,8 @@ impl Reading {
     // The place of the session of this name, which is made where it is the first line of it. `Sessions` where there are too
     // many.
     fn place(&mut self, name: &str) -> Result<Result<usize, Cause>, Broken>
-        requires { IsWithin self.old.script }
-        ensures { OnOk result (IsWithin self.new.script) }
+        requires { IsWithin self.old.script.bounds.items (vec_len self.old.script.sessions) }
+        ensures { OnOk result (IsWithin self.new.script.bounds.items (vec_len self.new.script.sessions)) }
     {
         if let Some(place) = self.places.get(name) {
             return Ok(Ok(*place));
@@ -104,9 +110,9 @@ impl Reading {
     }
 
     // Enters a line of a session, or a seed.
-    fn enter(&mut self, said: Said, name: Option<&str>) -> Result<Result<(), Cause>, Broken>
-        requires { IsWithin self.old.script }
-        ensures { OnOk result (IsWithin self.new.script) }
+    fn enter(&mut self, said: Said<L>, name: Option<&str>) -> Result<Result<(), Cause>, Broken>
+        requires { IsWithin self.old.script.bounds.items (vec_len self.old.script.sessions) }
+        ensures { OnOk result (IsWithin self.new.script.bounds.items (vec_len self.new.script.sessions)) }
     {
         let Some(name) = name else {
             self.script.seeds.push(said)?;
@@ -125,8 +131,8 @@ impl Reading {
 
     // Takes the keys between the regions from line 1, where it says some.
     fn opens(&mut self, number: u64, line: &Line<'_>) -> Result<bool, Broken>
-        requires { IsWithin self.old.script }
-        ensures { OnOk result (IsWithin self.new.script) }
+        requires { IsWithin self.old.script.bounds.items (vec_len self.old.script.sessions) }
+        ensures { OnOk result (IsWithin self.new.script.bounds.items (vec_len self.new.script.sessions)) }
     {
         if number != 1 {
             return Ok(false);
@@ -143,8 +149,9 @@ impl Reading {
 
     // Takes a line.
     fn take(&mut self, number: u64, text: &[u8]) -> Result<Result<(), Cause>, Broken>
-        requires { IsWithin self.old.script }
-        ensures { OnOk result (IsWithin self.new.script) }
+        requires within { IsWithin self.old.script.bounds.items (vec_len self.old.script.sessions) }
+        requires line { HasLine L.text number text.now }
+        ensures { OnOk result (IsWithin self.new.script.bounds.items (vec_len self.new.script.sessions)) }
     {
         let line = match Line::read(self.alloc, number, text)? {
             Ok(line) => line,
@@ -159,6 +166,7 @@ impl Reading {
                     number,
                     asks: asks_of(step),
                     text: Vec::from_slice(self.alloc, text)?,
+                    of: PhantomData,
                 };
                 self.enter(said, name_of(step))
             }
@@ -168,23 +176,22 @@ impl Reading {
 }
 
 /// Reads a script to its end, within the limits. A fault comes with the number of its line.
-pub(crate) fn read_script<B: BufRead>(
+pub(crate) fn read_script<L: Source, B: BufRead>(
     alloc: Global,
     reader: &mut B,
-) -> Result<Result<Script, (u64, Cause)>, Broken>
-    ensures { IfOk result (λ read. IfOk read IsWithin) }
+) -> Result<Result<Script<L>, (u64, Cause)>, Broken>
+    requires { L.text ≡ B.remaining reader.old }
+    ensures { IfOk result (λ read. IfOk read (λ script. IsWithin script.bounds.items (vec_len script.sessions))) }
 {
-    let mut reading = Reading::new(alloc);
+    let mut reading = Reading::<L>::new(alloc);
     let mut text = Vec::new(alloc);
     for number in 1..u64::MAX {
-        let taken = match read_line(reader, &mut text)? {
+        match read_line(reader, &mut text)? {
             Found::End => break,
-            Found::Long => Err(Cause::Long),
-            Found::Line => reading.take(number, text.as_slice())?,
-        };
-        match taken {
-            Ok(()) => {}
-            Err(cause) => return Ok(Err((number, cause))),
+            Found::Long => return Ok(Err((number, Cause::Long))),
+            Found::Line => if let Err(cause) = reading.take(number, text.as_slice())? {
+                return Ok(Err((number, cause)));
+            },
         }
     }
     let Reading {

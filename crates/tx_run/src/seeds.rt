@@ -8,6 +8,7 @@ use crate::acts::done;
 use crate::balance::{BALANCES, balance_of};
 use crate::reply::{Reply, Spoken};
 use crate::script::Said;
+use crate::source::Source;
 use crate::transfer::TTL;
 use crate::words::Words;
 use std::alloc::Global;
@@ -108,10 +109,10 @@ fn seed<J: Naming, F: Families + Drop, R: Wait + Drop>(
 }
 
 // Makes a seed's line.
-fn play<J: Naming, F: Families + Drop, R: Wait + Drop>(
+fn play<J: Naming, L: Source, F: Families + Drop, R: Wait + Drop>(
     seat: Seat<J>,
     access: &Access<J, F, R>,
-    said: &Said,
+    said: &Said<L>,
 ) -> (Seat<J>, Words) {
     if let Ok(Ok(line)) = Line::read(access.alloc, said.number, said.text.as_slice()) {
         if let Some(Step::Seed(key, value)) = line.step(Program::Run) {
@@ -123,10 +124,10 @@ fn play<J: Naming, F: Families + Drop, R: Wait + Drop>(
 }
 
 /// Makes the seeds in the order of their lines, and keeps their answers.
-pub(crate) fn play_seeds<J: Naming, F: Families + Drop, R: Wait + Drop>(
+pub(crate) fn play_seeds<J: Naming, L: Source, F: Families + Drop, R: Wait + Drop>(
     mut seat: Seat<J>,
     access: &Access<J, F, R>,
-    seeds: &[Said],
+    seeds: &[Said<L>],
     replies: &mut Vec<Spoken>,
 ) -> Result<Seat<J>, Broken>
     requires { All (λ s. start_of s.reply ≡ None) replies.old.items }

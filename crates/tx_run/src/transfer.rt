@@ -1,15 +1,18 @@
 //! A transfer: a transaction that reads the balances of two keys and moves an amount from the first to the second. Each of its
 //! requests is one step.
-ghost use Rattle.std.specs.Prelude.{◌≡◌, ◌≢◌, ◌<◌, false, IfOk, IfErr, OnOk, OnErr};
+ghost use Rattle.std.specs.Prelude.{◌≡◌, ◌≢◌, ◌<◌, false, Some, IfOk, IfErr, OnOk, OnErr};
 ghost use Rattle.tx_types.specs.declared.fault.Fault.TheVariants as fault;
 ghost use Rattle.tx_client.specs.Sessions.{begun, is_declared};
+ghost use Rattle.std.proofs.Props.{props};
+ghost use Rattle.tx_run.specs.Sources.{HasPair};
 ghost use Rattle.tx_run.specs.Transfers.{HasEntered, Moves};
 ghost use Rattle.tx_run.specs.declared.balance.TheConstants.{BALANCES};
 
 use crate::access::Access;
 use crate::balance::{after_transfer, balance_of, value_of};
+use crate::source::Source;
 use std::alloc::Global;
-use std::marker::Model;
+use std::marker::{Model, PhantomData};
 use std::sync::Wait;
 use tx_cells::Families;
 use tx_client::{Miss, Session, Terms};
@@ -48,37 +51,43 @@ pub(crate) enum After {
     NoMemory,
 }
 
-/// What a transfer moves between two keys, and how its transaction commits.
+/// What a line orders a transfer to move between two keys, and how its transaction commits.
 #[derive(Drop)]
-pub(crate) struct Order {
+pub(crate) struct Order<L: Source> {
+    number: u64,
     from: Key,
     to: Key,
     amount: u64,
     mode: Mode,
+    of: PhantomData<L>,
     ghost apart: { from ≢ to },
+    ghost pair: { HasPair L.text number (Some (from, to)) } by { Prim.hlevel props },
 }
 
-impl Order {
-    /// What a line orders.
-    pub fn new(alloc: Global, line: &Transfer<'_>) -> Result<Order, Fault>
+impl<L: Source> Order<L> {
+    /// What the line of this number orders.
+    pub fn new(alloc: Global, number: u64, line: &Transfer<'_>) -> Result<Order<L>, Fault>
+        requires { HasPair L.text number (Some (line.now.from.now, line.now.to.now)) }
         ensures { IfOk result (λ order. (order.from ≡ line.now.from.now) × (order.to ≡ line.now.to.now)) }
     {
         let from = Key::new(alloc, line.from.as_bytes())?;
         let to = Key::new(alloc, line.to.as_bytes())?;
         Ok(Order {
+            number,
             from,
             to,
             amount: line.amount,
             mode: line.mode,
+            of: PhantomData,
         })
     }
 }
 
 /// A transfer on its way: a session that writes its two keys. Contracts see the session.
 #[derive(Drop)]
-pub(crate) struct Moving<J: Naming> {
+pub(crate) struct Moving<J: Naming, L: Source> {
     session: Session<J>,
-    order: Order,
+    order: Order<L>,
     stage: Stage,
     /// The balance of the first key, once it is read.
     found: u64,
@@ -91,7 +100,7 @@ pub(crate) struct Moving<J: Naming> {
     ghost small: { found < BALANCES },
 }
 
-impl<J: Naming> Model for Moving<J> {
+impl<J: Naming, L: Source> Model for Moving<J, L> {
     ghost use Rattle.tx_client.specs.Calls.{Seated};
     ghost use Rattle.tx_run.specs.Transfers.{Moves};
 
@@ -102,9 +111,9 @@ impl<J: Naming> Model for Moving<J> {
     ghost invariant = { λ m. Moves m.order.from m.order.to m.session.state };
 }
 
-impl<J: Naming> Moving<J> {
+impl<J: Naming, L: Source> Moving<J, L> {
     /// A transfer of which nothing is read yet, in a session that has just begun.
-    pub fn new(session: Session<J>, order: Order) -> Moving<J>
+    pub fn new(session: Session<J>, order: Order<L>) -> Moving<J, L>
         requires { session.state ≡ begun session.state.start }
     {
         Moving {
@@ -118,9 +127,10 @@ impl<J: Naming> Moving<J> {
         }
     }
 
-    /// Its session, and the keys that it moves between.
-    pub fn into_parts(self) -> (Session<J>, (Key, Key))
-        ensures { Moves result.1.0 result.1.1 result.0.state }
+    /// Its session, the number of its line, and the keys that it moves between.
+    pub fn into_parts(self) -> (Session<J>, u64, (Key, Key))
+        ensures moves { Moves result.2.0 result.2.1 result.0.state }
+        ensures pair { HasPair L.text result.1 (Some result.2) }
     {
         let Moving {
             session,
@@ -132,12 +142,14 @@ impl<J: Naming> Moving<J> {
             resolving: _,
         } = self;
         let Order {
+            number,
             from,
             to,
             amount: _,
             mode: _,
+            of: _,
         } = order;
-        (session, (from, to))
+        (session, number, (from, to))
     }
 
     /// The slots of its next step.
@@ -203,10 +215,10 @@ fn enter<J: Naming>(
 }
 
 // Enters both changes, and declares them.
-fn declare<J: Naming>(
+fn declare<J: Naming, L: Source>(
     session: &mut Session<J>,
     alloc: Global,
-    order: &Order,
+    order: &Order<L>,
     left: (u64, u64),
 ) -> Result<(), Fault>
     requires declared { is_declared session.old.state ≡ false }
@@ -227,7 +239,7 @@ fn declare<J: Naming>(
     )
 }
 
-impl<J: Naming> Moving<J> {
+impl<J: Naming, L: Source> Moving<J, L> {
     // The balance of a key was read.
     fn read(&mut self, alloc: Global, balance: u64) -> After
         requires { balance < BALANCES }

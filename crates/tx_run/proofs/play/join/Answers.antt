@@ -2,7 +2,9 @@ use Rattle.std.proofs.Common.{◌+◌, ◌++◌, sym, ap, subst, ◌∙◌, All,
 use Rattle.tx_core.proofs.seats.Beginnings.{extends_begins}
 use Rattle.tx_run.specs.declared.reply.Spoken.{Spoken}
 use Rattle.tx_core.specs.Histories.{History, Begins}
+use Rattle.std.proofs.lemmas.List.Elements.{All-append}
 use Rattle.tx_run.specs.Outcomes.{TellsOutcomes}
+use Rattle.tx_run.specs.Sources.{TellsPair}
 use Rattle.tx_run.specs.Logs.{IsAbove, TellsBy, Working}
 use Rattle.tx_run.proofs.Answering.{tells_on}
 use Rattle.tx_run.proofs.Gathering.{joined, joined_above, outcomes_on, all_above_on}
@@ -41,3 +43,11 @@ returns-clause-above g c =
     let all = c.in_ok-append.ensures.items ∙ ap (λ (l : List Spoken). xs ++ l) c.into_parts-told.ensures.parts.1 in
     subst (λ (l : List Spoken). All (λ s. IsAbove now seat s.reply) l) (sym all)
     (joined_above now seat xs log.replies (all_above_on bounds old now run more (seat + 1) xs c.requires.above) tells)
+
+pub returns-clause-pairs : goal.returns-clause-pairs
+returns-clause-pairs g c =
+    let xs = c.args.replies.now.items in
+    let log = c.out.inside.log in
+    let all = c.in_ok-append.ensures.items ∙ ap (λ (l : List Spoken). xs ++ l) c.into_parts-told.ensures.parts.1 in
+    subst (λ (l : List Spoken). All (TellsPair g.L.Source.text) l) (sym all)
+    (All-append (TellsPair g.L.Source.text) xs log.replies c.requires.pairs c.into_parts-told.ensures.pairs)
