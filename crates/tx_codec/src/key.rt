@@ -49,10 +49,9 @@ fn append_key(out: &mut Vec<u8>, key: &[u8]) -> Result<(), AllocError>
     Ok(())
 }
 
-/// The encoded key. `OutOfMemory` where there is no room for it.
-pub fn encode_key(alloc: Global, key: &Key) -> Result<Vec<u8>, Fault>
-    ensures ok { IfOk result (λ bytes. bytes.items ≡ encoded_key key.now) }
-    ensures err { IfErr result (λ e. e ≡ Fault.OutOfMemory) }
+/// The encoded key. An error where there is no room for it.
+pub fn encode_key(alloc: Global, key: &Key) -> Result<Vec<u8>, AllocError>
+    ensures { IfOk result (λ bytes. bytes.items ≡ encoded_key key.now) }
 {
     let key = key.as_bytes();
     let mut out = Vec::with_capacity(alloc, encoded_len(key))?;
@@ -60,10 +59,9 @@ pub fn encode_key(alloc: Global, key: &Key) -> Result<Vec<u8>, Fault>
     Ok(out)
 }
 
-/// The encoded key and the timestamp's complement. `OutOfMemory` where there is no room for it.
-pub fn encode_version(alloc: Global, key: &Key, ts: Ts) -> Result<Vec<u8>, Fault>
-    ensures ok { IfOk result (λ bytes. bytes.items ≡ encoded_version key.now ts) }
-    ensures err { IfErr result (λ e. e ≡ Fault.OutOfMemory) }
+/// The encoded key and the timestamp's complement. An error where there is no room for it.
+pub fn encode_version(alloc: Global, key: &Key, ts: Ts) -> Result<Vec<u8>, AllocError>
+    ensures { IfOk result (λ bytes. bytes.items ≡ encoded_version key.now ts) }
 {
     let key = key.as_bytes();
     let mut out = Vec::with_capacity(alloc, encoded_len(key) + TIMESTAMP)?;

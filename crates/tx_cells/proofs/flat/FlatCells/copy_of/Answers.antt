@@ -19,7 +19,7 @@ returns-clause-copies c =
     let whole = whole_at (flat_content flat) flat.whole c.args.key.now in
     let writes = tree.get version_cmp flat.writes in
     let values = tree.get version_cmp flat.values in
-    let first = ap (λ (v : List ℕ × ℕ). v.0) c.in_ok-version.ensures.ok in
+    let first = ap (λ (v : List ℕ × ℕ). v.0) c.in_ok-version.ensures in
     let key = c.records_down.ensures.same_key ∙ first in
     let fits = starts_fit x whole c.in_ok-lock.lock c.in_ok-lock.ensures.ok c.start_fits.ensures in
     copied x (record { lock = c.in_ok-lock.lock; records = c.in_ok-records.records; values = c.in_ok-values.values }) whole c.in_ok-lock.ensures.ok c.in_ok-records.ensures.fall
