@@ -22,7 +22,7 @@ returns-then-are_past-clause-shows c =
     shown_past x c.args.start c.args.commit c.in_ok-lock.lock (dated x (whole_at (flat_content flat) flat.whole key))
     (λ q le. subst (λ (k : List ℕ). records k q ≡ None) same (c.are_past.ensures.start c.if-are_past.true q le))
     (λ q le. subst (λ (k : List ℕ). records k q ≡ None) same (c.are_past.ensures.commit c.if-are_past.true q le))
-    c.in_ok-lock.ensures.ok
+    c.in_ok-lock.ensures
 
 pub returns-clause-shows : goal.returns-clause-shows
 returns-clause-shows c =
