@@ -34,7 +34,7 @@ invariant_of-self-2 c =
     record {
       whole = whole_on (flat_content flat) (content_by new_locks new_writes values) key (after x made) flat.whole
           (committed locks new_locks writes values key c.in_ok-spelt.spelt c.in_ok-spelt.ensures new_writes c.in_ok-version.version c.args.commit c.args.overlapped_rollback c.in-Some.bytes.now c.in_ok-rec-in-Some.rec
-          c.in_ok-version.ensures c.in-Some.ensures.value c.in_ok-rec-in-Some.ensures.ok c.in_ok-insert.ensures.updates.0 c.remove.ensures.updates.0)
+          c.in_ok-version.ensures c.in-Some.ensures.value c.in_ok-rec-in-Some.ensures c.in_ok-insert.ensures.updates.0 c.remove.ensures.updates.0)
           (λ w. whole_after x made w c.requires fits);
     }
 
@@ -43,4 +43,4 @@ returns-clause-content c =
     let flat = c.args.self.now in
     committed (tree.get (slice_cmp nat_cmp) flat.locks) (tree.get (slice_cmp nat_cmp) c.remove.new.self) (tree.get version_cmp flat.writes) (tree.get version_cmp flat.values) c.args.key.now
     c.in_ok-spelt.spelt c.in_ok-spelt.ensures (tree.get version_cmp c.insert.new.self) c.in_ok-version.version c.args.commit c.args.overlapped_rollback c.in-Some.bytes.now c.in_ok-rec-in-Some.rec
-    c.in_ok-version.ensures c.in-Some.ensures.value c.in_ok-rec-in-Some.ensures.ok c.in_ok-insert.ensures.updates.0 c.remove.ensures.updates.0
+    c.in_ok-version.ensures c.in-Some.ensures.value c.in_ok-rec-in-Some.ensures c.in_ok-insert.ensures.updates.0 c.remove.ensures.updates.0
