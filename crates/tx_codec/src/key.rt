@@ -3,7 +3,7 @@ ghost use Rattle.std.specs.Prelude.{◌≡◌, ◌≢◌, ◌++◌, ◌^◌, ◌
 ghost use Rattle.tx_codec.specs.Keys.{IsKey, encoded_key, encoded_version, last_group};
 
 use byteorder::{BigEndian, ByteOrder};
-use std::alloc::Global;
+use std::alloc::{AllocError, Global};
 use tx_types::limits::{MAX_KEY_BYTES, MIN_KEY_BYTES};
 use tx_types::{Fault, Key, Ts};
 
@@ -32,9 +32,8 @@ fn encoded_len(key: &[u8]) -> usize
 }
 
 /// Adds the encoded key at the end.
-fn append_key(out: &mut Vec<u8>, key: &[u8]) -> Result<(), Fault>
-    ensures ok { OnOk result (out.new.items ≡ out.old.items ++ encoded_key key.now) }
-    ensures err { IfErr result (λ e. e ≡ Fault.OutOfMemory) }
+fn append_key(out: &mut Vec<u8>, key: &[u8]) -> Result<(), AllocError>
+    ensures { OnOk result (out.new.items ≡ out.old.items ++ encoded_key key.now) }
 {
     let mut rest = key;
     while rest.len() >= GROUP {
@@ -50,10 +49,9 @@ fn append_key(out: &mut Vec<u8>, key: &[u8]) -> Result<(), Fault>
     Ok(())
 }
 
-/// The encoded key. `OutOfMemory` where there is no room for it.
-pub fn encode_key(alloc: Global, key: &Key) -> Result<Vec<u8>, Fault>
-    ensures ok { IfOk result (λ bytes. bytes.items ≡ encoded_key key.now) }
-    ensures err { IfErr result (λ e. e ≡ Fault.OutOfMemory) }
+/// The encoded key. An error where there is no room for it.
+pub fn encode_key(alloc: Global, key: &Key) -> Result<Vec<u8>, AllocError>
+    ensures { IfOk result (λ bytes. bytes.items ≡ encoded_key key.now) }
 {
     let key = key.as_bytes();
     let mut out = Vec::with_capacity(alloc, encoded_len(key))?;
@@ -61,10 +59,9 @@ pub fn encode_key(alloc: Global, key: &Key) -> Result<Vec<u8>, Fault>
     Ok(out)
 }
 
-/// The encoded key and the timestamp's complement. `OutOfMemory` where there is no room for it.
-pub fn encode_version(alloc: Global, key: &Key, ts: Ts) -> Result<Vec<u8>, Fault>
-    ensures ok { IfOk result (λ bytes. bytes.items ≡ encoded_version key.now ts) }
-    ensures err { IfErr result (λ e. e ≡ Fault.OutOfMemory) }
+/// The encoded key and the timestamp's complement. An error where there is no room for it.
+pub fn encode_version(alloc: Global, key: &Key, ts: Ts) -> Result<Vec<u8>, AllocError>
+    ensures { IfOk result (λ bytes. bytes.items ≡ encoded_version key.now ts) }
 {
     let key = key.as_bytes();
     let mut out = Vec::with_capacity(alloc, encoded_len(key) + TIMESTAMP)?;

@@ -11,13 +11,12 @@ use crate::reading::{
     take_u32, take_u64,
 };
 use crate::writing::{append_key, append_keys, append_value, keys_len, kind_byte, value_len};
-use std::alloc::Global;
+use std::alloc::{AllocError, Global};
 use tx_types::{CommitRec, Fault, LockMode, LockRec, Ts, WriteRec};
 
-/// The bytes of a lock record. `OutOfMemory` where there is no room for them.
-pub fn encode_lock(alloc: Global, lock: &LockRec) -> Result<Vec<u8>, Fault>
-    ensures ok { IfOk result (λ bytes. bytes.items ≡ lock_bytes lock.now) }
-    ensures err { IfErr result (λ e. e ≡ Fault.OutOfMemory) }
+/// The bytes of a lock record. An error where there is no room for them.
+pub fn encode_lock(alloc: Global, lock: &LockRec) -> Result<Vec<u8>, AllocError>
+    ensures { IfOk result (λ bytes. bytes.items ≡ lock_bytes lock.now) }
 {
     let (mode, len) = match &lock.mode {
         LockMode::TwoPhase => (TWO_PHASE, 0),
@@ -79,10 +78,9 @@ pub fn decode_lock(alloc: Global, bytes: &[u8]) -> Result<Option<LockRec>, Fault
     }
 }
 
-/// The bytes of a write record. `OutOfMemory` where there is no room for them.
-pub fn encode_write(alloc: Global, rec: &WriteRec) -> Result<Vec<u8>, Fault>
-    ensures ok { IfOk result (λ bytes. bytes.items ≡ write_bytes rec.now) }
-    ensures err { IfErr result (λ e. e ≡ Fault.OutOfMemory) }
+/// The bytes of a write record. An error where there is no room for them.
+pub fn encode_write(alloc: Global, rec: &WriteRec) -> Result<Vec<u8>, AllocError>
+    ensures { IfOk result (λ bytes. bytes.items ≡ write_bytes rec.now) }
 {
     match rec {
         WriteRec::Commit(rec) => {

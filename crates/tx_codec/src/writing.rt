@@ -1,10 +1,11 @@
 //! The parts of lock records and write records, written as bytes: each function adds one at the end.
-ghost use Rattle.std.specs.Prelude.{◌≡◌, ◌++◌, ◌-◌, ◌<◌, ◌^◌, length, min, IfErr, OnOk};
+ghost use Rattle.std.specs.Prelude.{◌≡◌, ◌++◌, ◌-◌, ◌<◌, ◌^◌, length, min, OnOk};
 ghost use Rattle.tx_types.specs.Kinds.{stored_kind};
 ghost use Rattle.tx_codec.specs.Records.{kind_byte, key_bytes, keys_bytes, value_bytes};
 
 use crate::marks::{DELETE, ELSEWHERE, INLINE, LOCK, PUT};
-use tx_types::{Fault, Key, Secondaries, StoredMutation, StoredValue};
+use std::alloc::AllocError;
+use tx_types::{Key, Secondaries, StoredMutation, StoredValue};
 
 /// The byte of the mutation's kind.
 pub(crate) fn kind_byte(mutation: &StoredMutation) -> u8
@@ -30,9 +31,8 @@ pub fn value_len(mutation: &StoredMutation) -> usize
 }
 
 /// Adds what a put keeps of its value at the end.
-pub(crate) fn append_value(out: &mut Vec<u8>, mutation: &StoredMutation) -> Result<(), Fault>
-    ensures ok { OnOk result (out.new.items ≡ out.old.items ++ value_bytes mutation.now) }
-    ensures err { IfErr result (λ e. e ≡ Fault.OutOfMemory) }
+pub(crate) fn append_value(out: &mut Vec<u8>, mutation: &StoredMutation) -> Result<(), AllocError>
+    ensures { OnOk result (out.new.items ≡ out.old.items ++ value_bytes mutation.now) }
 {
     match mutation {
         StoredMutation::Put(StoredValue::Inline(value)) => {
@@ -48,9 +48,8 @@ pub(crate) fn append_value(out: &mut Vec<u8>, mutation: &StoredMutation) -> Resu
 }
 
 /// Adds the length of a key and the key at the end.
-pub(crate) fn append_key(out: &mut Vec<u8>, key: &Key) -> Result<(), Fault>
-    ensures ok { OnOk result (out.new.items ≡ out.old.items ++ key_bytes key.now) }
-    ensures err { IfErr result (λ e. e ≡ Fault.OutOfMemory) }
+pub(crate) fn append_key(out: &mut Vec<u8>, key: &Key) -> Result<(), AllocError>
+    ensures { OnOk result (out.new.items ≡ out.old.items ++ key_bytes key.now) }
 {
     let key = key.as_bytes();
     out.extend_from_slice(&(key.len() as u16).to_be_bytes())?;
@@ -70,9 +69,8 @@ pub(crate) fn keys_len(keys: &Secondaries) -> usize
 }
 
 /// Adds the number of the keys, and they, at the end.
-pub(crate) fn append_keys(out: &mut Vec<u8>, keys: &Secondaries) -> Result<(), Fault>
-    ensures ok { OnOk result (out.new.items ≡ out.old.items ++ keys_bytes keys.now) }
-    ensures err { IfErr result (λ e. e ≡ Fault.OutOfMemory) }
+pub(crate) fn append_keys(out: &mut Vec<u8>, keys: &Secondaries) -> Result<(), AllocError>
+    ensures { OnOk result (out.new.items ≡ out.old.items ++ keys_bytes keys.now) }
 {
     let keys = keys.as_slice();
     out.extend_from_slice(&(keys.len() as u64).to_be_bytes()[6..])?;

@@ -1,5 +1,5 @@
 //! What is spelt how, two digits a byte, and which bytes spell nothing.
-use std::alloc::Global;
+use std::alloc::{AllocError, Global};
 use std::test::Fail;
 use tx_codec::*;
 use tx_types::*;
@@ -19,7 +19,7 @@ fn bytes_of(alloc: Global, text: &str) -> Option<Vec<u8>> {
 }
 
 // Whether bytes were made, and are these digits.
-fn is_spelt(alloc: Global, made: Result<Vec<u8>, Fault>, want: &str) -> bool {
+fn is_spelt(alloc: Global, made: Result<Vec<u8>, AllocError>, want: &str) -> bool {
     let Ok(made) = made else {
         return false;
     };

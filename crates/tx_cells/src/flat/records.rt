@@ -4,7 +4,7 @@ ghost use Rattle.tx_types.specs.declared.write.WriteRec.TheVariants as stored;
 ghost use Rattle.tx_cells.specs.Afterwards.{with_ttl, with_min, commit_of, marked};
 
 use crate::records::{LockBytes, WriteBytes};
-use std::alloc::Global;
+use std::alloc::{AllocError, Global};
 use tx_types::{CommitRec, Fault, LockRec, Ts, WriteRec};
 
 /// The lock with another time to live.
@@ -33,9 +33,8 @@ pub(super) fn commit_record(
     alloc: Global,
     lock: &LockBytes,
     overlapped_rollback: bool,
-) -> Result<WriteBytes, Fault>
-    ensures ok { IfOk result (λ rec. rec ≡ stored.Commit (commit_of lock.now overlapped_rollback)) }
-    ensures err { IfErr result (λ e. e ≡ Fault.OutOfMemory) }
+) -> Result<WriteBytes, AllocError>
+    ensures { IfOk result (λ rec. rec ≡ stored.Commit (commit_of lock.now overlapped_rollback)) }
 {
     lock.commit_record(alloc, overlapped_rollback)
 }

@@ -1,5 +1,5 @@
 //! Look-ups in what is held under keys and versions. The versions of a key are from the newest to the oldest.
-ghost use Rattle.std.specs.Prelude.{◌≡◌, ◌≤◌, ℕ, None, Some, IfSome, IfNone, IsSome, IfOk, IfErr, option_map};
+ghost use Rattle.std.specs.Prelude.{◌≡◌, ◌≤◌, ℕ, None, Some, IfSome, IfNone, IsSome, IfOk, option_map};
 ghost use Rattle.std.specs.BTreeMap as tree;
 ghost use Rattle.std.specs.Ordering.{nat_cmp};
 ghost use Rattle.std.specs.Cmp.Lexicographic.{slice_cmp};
@@ -10,10 +10,10 @@ ghost use Rattle.tx_cells.specs.Histories.{IsSeen};
 use crate::history::{History, Seen};
 use crate::records::{LockBytes, WriteBytes};
 use crate::spelling::{KeyBytes, VersionBytes};
-use std::alloc::Global;
+use std::alloc::{AllocError, Global};
 use std::collections::BTreeMap;
 use tx_plan::{LockHead, RecordHead, RecordKind};
-use tx_types::{Fault, Key, LockKind, Ts};
+use tx_types::{Key, LockKind, Ts};
 
 /// What is asked of a write record.
 pub(super) fn head_of(bytes: &WriteBytes) -> RecordHead
@@ -77,9 +77,8 @@ pub(super) fn head_on(
     locks: &BTreeMap<KeyBytes, LockBytes>,
     alloc: Global,
     key: &Key,
-) -> Result<Option<LockHead>, Fault>
-    ensures ok { IfOk result (λ head. head ≡ option_map lock_head (tree.get (slice_cmp nat_cmp) locks.now key.now)) }
-    ensures err { IfErr result (λ e. e ≡ Fault.OutOfMemory) }
+) -> Result<Option<LockHead>, AllocError>
+    ensures { IfOk result (λ head. head ≡ option_map lock_head (tree.get (slice_cmp nat_cmp) locks.now key.now)) }
 {
     if locks.is_empty() {
         return Ok(None);

@@ -6,6 +6,6 @@ pub loop-rest-preserved : goal.loop-rest-preserved
 loop-rest-preserved c =
     rw (c.in_ok-push.ensures.items, c.in_ok-extend_from_slice.ensures.items, c.split_at.ensures.front, c.split_at.ensures.back) (group_written c.loop-rest.out.items c.loop-rest.rest.now _ (omega arith) c.loop-rest.invariant)
 
-pub returns-clause-ok : goal.returns-clause-ok
-returns-clause-ok c =
+pub returns : goal.returns
+returns c =
     rw (c.in_ok-push-2.ensures.items, c.in_ok-extend_from_slice-3.ensures.items, c.in_ok-extend_from_slice-2.ensures.items) (last_written c.loop-rest.out.items c.loop-rest.rest.now _ (omega arith) c.loop-rest.invariant)

@@ -33,8 +33,8 @@ invariant_of-self-2 c =
     let fits : c.args.commit < 2 ^ 64 = omega (arith, c.get-ticks.ensures, c.get-ticks.type_inv) in
     record {
       whole = whole_on (flat_content flat) (content_by new_locks new_writes values) key (after x made) flat.whole
-          (committed locks new_locks writes values key c.in_ok-spelt.spelt c.in_ok-spelt.ensures.ok new_writes c.in_ok-version.version c.args.commit c.args.overlapped_rollback c.in-Some.bytes.now c.in_ok-rec-in-Some.rec
-          c.in_ok-version.ensures.ok c.in-Some.ensures.value c.in_ok-rec-in-Some.ensures.ok c.in_ok-insert.ensures.updates.0 c.remove.ensures.updates.0)
+          (committed locks new_locks writes values key c.in_ok-spelt.spelt c.in_ok-spelt.ensures new_writes c.in_ok-version.version c.args.commit c.args.overlapped_rollback c.in-Some.bytes.now c.in_ok-rec-in-Some.rec
+          c.in_ok-version.ensures c.in-Some.ensures.value c.in_ok-rec-in-Some.ensures c.in_ok-insert.ensures.updates.0 c.remove.ensures.updates.0)
           (λ w. whole_after x made w c.requires fits);
     }
 
@@ -42,5 +42,5 @@ pub returns-clause-content : goal.returns-clause-content
 returns-clause-content c =
     let flat = c.args.self.now in
     committed (tree.get (slice_cmp nat_cmp) flat.locks) (tree.get (slice_cmp nat_cmp) c.remove.new.self) (tree.get version_cmp flat.writes) (tree.get version_cmp flat.values) c.args.key.now
-    c.in_ok-spelt.spelt c.in_ok-spelt.ensures.ok (tree.get version_cmp c.insert.new.self) c.in_ok-version.version c.args.commit c.args.overlapped_rollback c.in-Some.bytes.now c.in_ok-rec-in-Some.rec
-    c.in_ok-version.ensures.ok c.in-Some.ensures.value c.in_ok-rec-in-Some.ensures.ok c.in_ok-insert.ensures.updates.0 c.remove.ensures.updates.0
+    c.in_ok-spelt.spelt c.in_ok-spelt.ensures (tree.get version_cmp c.insert.new.self) c.in_ok-version.version c.args.commit c.args.overlapped_rollback c.in-Some.bytes.now c.in_ok-rec-in-Some.rec
+    c.in_ok-version.ensures c.in-Some.ensures.value c.in_ok-rec-in-Some.ensures c.in_ok-insert.ensures.updates.0 c.remove.ensures.updates.0

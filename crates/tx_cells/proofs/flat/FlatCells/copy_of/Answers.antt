@@ -19,10 +19,10 @@ returns-clause-copies c =
     let whole = whole_at (flat_content flat) flat.whole c.args.key.now in
     let writes = tree.get version_cmp flat.writes in
     let values = tree.get version_cmp flat.values in
-    let first = ap (λ (v : List ℕ × ℕ). v.0) c.in_ok-version.ensures.ok in
+    let first = ap (λ (v : List ℕ × ℕ). v.0) c.in_ok-version.ensures in
     let key = c.records_down.ensures.same_key ∙ first in
-    let fits = starts_fit x whole c.in_ok-lock.lock c.in_ok-lock.ensures.ok c.start_fits.ensures in
-    copied x (record { lock = c.in_ok-lock.lock; records = c.in_ok-records.records; values = c.in_ok-values.values }) whole c.in_ok-lock.ensures.ok c.in_ok-records.ensures.fall
+    let fits = starts_fit x whole c.in_ok-lock.lock c.in_ok-lock.ensures c.start_fits.ensures in
+    copied x (record { lock = c.in_ok-lock.lock; records = c.in_ok-records.records; values = c.in_ok-values.values }) whole c.in_ok-lock.ensures c.in_ok-records.ensures.fall
     (λ at head. subst (λ (k : List ℕ). Contains c.in_ok-records.records (record { at = at; head = head }) ↔ (option_map write_head (writes (k, at)) ≡ Some head)) first (c.in_ok-records.ensures.all at head))
     c.in_ok-values.ensures.fall
     (λ t. (

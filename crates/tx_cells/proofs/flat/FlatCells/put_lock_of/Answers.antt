@@ -28,7 +28,7 @@ invariant_of-self c =
     record {
       whole = either c.insert.result _ _ (AllWhole (content_by new_locks writes values))
           (λ put. whole_on (flat_content flat) (content_by new_locks writes values) b.key (put_on x b c.args.new) flat.whole
-          (lock_only locks new_locks writes values b.key c.in_ok-spelt.spelt c.in_ok-spelt.ensures.ok values b c.args.new c.in_ok-rec.rec c.in_ok-rec.ensures.ok put.0 (nothing_put (λ t. values (b.key, t)) b.start b.mutation apart) (λ k other q. refl))
+          (lock_only locks new_locks writes values b.key c.in_ok-spelt.spelt c.in_ok-spelt.ensures values b c.args.new c.in_ok-rec.rec c.in_ok-rec.ensures.ok put.0 (nothing_put (λ t. values (b.key, t)) b.start b.mutation apart) (λ k other q. refl))
           (λ w. whole_put x b c.args.new w c.requires))
           (λ same. subst (λ (l : Locks). AllWhole (content_by l writes values)) (sym (same_keys flat.locks c.insert.new.self same)) flat.whole)
           c.insert.ensures.updates c.insert.ensures.err;
@@ -41,7 +41,7 @@ returns-in_default-clause-content c =
     let locks = tree.get (slice_cmp nat_cmp) flat.locks in
     let values = tree.get version_cmp flat.values in
     let apart = sym c.in_ok-value.ensures.ok ∙ c.in_default.is in
-    lock_only locks (tree.get (slice_cmp nat_cmp) c.insert.new.self) (tree.get version_cmp flat.writes) values b.key c.in_ok-spelt.spelt c.in_ok-spelt.ensures.ok
+    lock_only locks (tree.get (slice_cmp nat_cmp) c.insert.new.self) (tree.get version_cmp flat.writes) values b.key c.in_ok-spelt.spelt c.in_ok-spelt.ensures
     values b c.args.new c.in_ok-rec.rec c.in_ok-rec.ensures.ok c.in_ok-insert.ensures.updates.0 (nothing_put (λ t. values (b.key, t)) b.start b.mutation apart) (λ k other q. refl)
 
 pub invariant_of-self-in-Break-branch-9 : goal.invariant_of-self-in-Break-branch-9
@@ -62,9 +62,9 @@ invariant_of-self-in-Ok c =
     let apart = sym c.in_ok-value.ensures.ok ∙ c.in-Some.is in
     record {
       whole = whole_on (flat_content flat) (content_by new_locks writes new_values) b.key (put_on x b c.args.new) flat.whole
-          (lock_only locks new_locks writes values b.key c.in_ok-spelt.spelt c.in_ok-spelt.ensures.ok new_values b c.args.new c.in_ok-rec.rec c.in_ok-rec.ensures.ok c.in-Ok.ensures.updates.0
-          (value_here values new_values c.in_ok-version.version b.key b.start c.in_ok-version.ensures.ok b.mutation c.in-Some.value apart c.in_ok-insert-2.ensures.updates.0)
-          (value_there values new_values c.in_ok-version.version b.key b.start c.in_ok-version.ensures.ok c.in-Some.value c.in_ok-insert-2.ensures.updates.0))
+          (lock_only locks new_locks writes values b.key c.in_ok-spelt.spelt c.in_ok-spelt.ensures new_values b c.args.new c.in_ok-rec.rec c.in_ok-rec.ensures.ok c.in-Ok.ensures.updates.0
+          (value_here values new_values c.in_ok-version.version b.key b.start c.in_ok-version.ensures b.mutation c.in-Some.value apart c.in_ok-insert-2.ensures.updates.0)
+          (value_there values new_values c.in_ok-version.version b.key b.start c.in_ok-version.ensures c.in-Some.value c.in_ok-insert-2.ensures.updates.0))
           (λ w. whole_put x b c.args.new w c.requires);
     }
 
@@ -76,10 +76,10 @@ returns-in-Ok-clause-content c =
     let values = tree.get version_cmp flat.values in
     let new_values = tree.get version_cmp c.insert-2.new.self in
     let apart = sym c.in_ok-value.ensures.ok ∙ c.in-Some.is in
-    lock_only locks (tree.get (slice_cmp nat_cmp) c.insert-3.new.self) (tree.get version_cmp flat.writes) values b.key c.in_ok-spelt.spelt c.in_ok-spelt.ensures.ok
+    lock_only locks (tree.get (slice_cmp nat_cmp) c.insert-3.new.self) (tree.get version_cmp flat.writes) values b.key c.in_ok-spelt.spelt c.in_ok-spelt.ensures
     new_values b c.args.new c.in_ok-rec.rec c.in_ok-rec.ensures.ok c.in-Ok.ensures.updates.0
-    (value_here values new_values c.in_ok-version.version b.key b.start c.in_ok-version.ensures.ok b.mutation c.in-Some.value apart c.in_ok-insert-2.ensures.updates.0)
-    (value_there values new_values c.in_ok-version.version b.key b.start c.in_ok-version.ensures.ok c.in-Some.value c.in_ok-insert-2.ensures.updates.0)
+    (value_here values new_values c.in_ok-version.version b.key b.start c.in_ok-version.ensures b.mutation c.in-Some.value apart c.in_ok-insert-2.ensures.updates.0)
+    (value_there values new_values c.in_ok-version.version b.key b.start c.in_ok-version.ensures c.in-Some.value c.in_ok-insert-2.ensures.updates.0)
 
 pub returns-in-Ok-clause-cells : goal.returns-in-Ok-clause-cells
 returns-in-Ok-clause-cells c = ap cells_of (returns-in-Ok-clause-content c).here ∙ cells_put (flat_content c.args.self.now c.args.body.now.key) c.args.body.now c.args.new c.requires
@@ -95,8 +95,8 @@ invariant_of-self-in-Err c =
     record {
       whole = subst AllWhole (sym (same_content locks (tree.get (slice_cmp nat_cmp) c.insert-3.new.self) writes writes values (tree.get version_cmp c.remove.new.self)
           (same_keys flat.locks c.insert-3.new.self c.in-Err.ensures.err) refl
-          (value_back values (tree.get version_cmp c.insert-2.new.self) c.in_ok-version.version b.key b.start c.in_ok-version.ensures.ok (tree.get version_cmp c.remove.new.self) c.in_ok-same_version.same_version c.in-Some.value
-          c.in_ok-same_version.ensures.ok none c.in_ok-insert-2.ensures.updates.0 c.remove.ensures.updates.0))) flat.whole;
+          (value_back values (tree.get version_cmp c.insert-2.new.self) c.in_ok-version.version b.key b.start c.in_ok-version.ensures (tree.get version_cmp c.remove.new.self) c.in_ok-same_version.same_version c.in-Some.value
+          c.in_ok-same_version.ensures none c.in_ok-insert-2.ensures.updates.0 c.remove.ensures.updates.0))) flat.whole;
     }
 
 pub returns-clause-same : goal.returns-clause-same
@@ -107,5 +107,5 @@ returns-clause-same c =
     let none = none_apart (flat_content flat b.key) b c.args.new (whole_at (flat_content flat) flat.whole b.key) c.requires in
     same_content (tree.get (slice_cmp nat_cmp) flat.locks) _ (tree.get version_cmp flat.writes) _ values _
     (same_keys flat.locks c.insert-3.new.self c.in-Err.ensures.err) refl
-    (value_back values (tree.get version_cmp c.insert-2.new.self) c.in_ok-version.version b.key b.start c.in_ok-version.ensures.ok (tree.get version_cmp c.remove.new.self) c.in_ok-same_version.same_version c.in-Some.value
-    c.in_ok-same_version.ensures.ok none c.in_ok-insert-2.ensures.updates.0 c.remove.ensures.updates.0)
+    (value_back values (tree.get version_cmp c.insert-2.new.self) c.in_ok-version.version b.key b.start c.in_ok-version.ensures (tree.get version_cmp c.remove.new.self) c.in_ok-same_version.same_version c.in-Some.value
+    c.in_ok-same_version.ensures none c.in_ok-insert-2.ensures.updates.0 c.remove.ensures.updates.0)

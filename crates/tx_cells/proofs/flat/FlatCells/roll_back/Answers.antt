@@ -58,7 +58,7 @@ invariant_of-self-2 c =
     record {
       whole = whole_on (flat_content flat) (content_by new_locks new_writes new_values) key (after x made) flat.whole
           (subst (λ (b : Bool). OnlyOn key (after x (change.RollBack c.args.start b c.args.left)) (flat_content flat) (content_by new_locks new_writes new_values)) (sym goes)
-          (rolled_back locks new_locks writes values key c.in_ok-spelt.spelt c.in_ok-spelt.ensures.ok new_writes new_values c.in_ok-version.version c.args.start c.args.left c.in_ok-version.ensures.ok
+          (rolled_back locks new_locks writes values key c.in_ok-spelt.spelt c.in_ok-spelt.ensures new_writes new_values c.in_ok-version.version c.args.start c.args.left c.in_ok-version.ensures
           c.in_ok-leave.ensures.ok c.leave-2.ensures.others c.remove.ensures.updates.0 c.remove-2.ensures.updates.0))
           (λ w. whole_after x made w c.requires fits);
     }
@@ -72,6 +72,6 @@ returns-clause-content c =
     let new_writes = tree.get version_cmp c.leave-2.new.writes in
     let new_values = tree.get version_cmp c.remove-2.new.self in
     subst (λ (b : Bool). OnlyOn key (after (flat_content flat key) (change.RollBack c.args.start b c.args.left)) (flat_content flat) (content_by new_locks new_writes new_values)) (sym goes)
-    (rolled_back (tree.get (slice_cmp nat_cmp) flat.locks) new_locks (tree.get version_cmp flat.writes) (tree.get version_cmp flat.values) key c.in_ok-spelt.spelt c.in_ok-spelt.ensures.ok
-    new_writes new_values c.in_ok-version.version c.args.start c.args.left c.in_ok-version.ensures.ok
+    (rolled_back (tree.get (slice_cmp nat_cmp) flat.locks) new_locks (tree.get version_cmp flat.writes) (tree.get version_cmp flat.values) key c.in_ok-spelt.spelt c.in_ok-spelt.ensures
+    new_writes new_values c.in_ok-version.version c.args.start c.args.left c.in_ok-version.ensures
     c.in_ok-leave.ensures.ok c.leave-2.ensures.others c.remove.ensures.updates.0 c.remove-2.ensures.updates.0)

@@ -26,7 +26,7 @@ invariant_of-self c =
     record {
       whole = either c.insert.result _ _ (AllWhole (content_by new_locks writes values))
           (λ put. whole_on (flat_content flat) (content_by new_locks writes values) key (after x (change.Ttl c.args.ttl)) flat.whole
-          (relocked locks new_locks writes values key c.in_ok-spelt.spelt c.in_ok-spelt.ensures.ok c.in-Some.bytes.now c.in_ok-rec-in-Some.rec (λ (r : LockRec). with_ttl r c.args.ttl) c.in-Some.ensures.value c.in_ok-rec-in-Some.ensures.ok put.0)
+          (relocked locks new_locks writes values key c.in_ok-spelt.spelt c.in_ok-spelt.ensures c.in-Some.bytes.now c.in_ok-rec-in-Some.rec (λ (r : LockRec). with_ttl r c.args.ttl) c.in-Some.ensures.value c.in_ok-rec-in-Some.ensures.ok put.0)
           (λ w. whole_after x (change.Ttl c.args.ttl) w c.requires tt))
           (λ same. subst (λ (l : Locks). AllWhole (content_by l writes values)) (sym (same_keys flat.locks c.insert.new.self same)) flat.whole)
           c.insert.ensures.updates c.insert.ensures.err;
@@ -36,4 +36,4 @@ pub returns-clause-content : goal.returns-clause-content
 returns-clause-content c =
     let flat = c.args.self.now in
     relocked (tree.get (slice_cmp nat_cmp) flat.locks) (tree.get (slice_cmp nat_cmp) c.insert.new.self) (tree.get version_cmp flat.writes) (tree.get version_cmp flat.values) c.args.key.now
-    c.in_ok-spelt.spelt c.in_ok-spelt.ensures.ok c.in-Some.bytes.now c.in_ok-rec-in-Some.rec (λ (r : LockRec). with_ttl r c.args.ttl) c.in-Some.ensures.value c.in_ok-rec-in-Some.ensures.ok c.in_ok-insert.ensures.updates.0
+    c.in_ok-spelt.spelt c.in_ok-spelt.ensures c.in-Some.bytes.now c.in_ok-rec-in-Some.rec (λ (r : LockRec). with_ttl r c.args.ttl) c.in-Some.ensures.value c.in_ok-rec-in-Some.ensures.ok c.in_ok-insert.ensures.updates.0

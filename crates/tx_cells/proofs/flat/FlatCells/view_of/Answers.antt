@@ -18,13 +18,13 @@ returns-then-are_past-clause-shows c =
     let key = c.args.key.now in
     let x = flat_content flat key in
     let records : List ℕ → Records = λ k q. tree.get version_cmp flat.writes (k, q) in
-    let same = ap (λ (v : List ℕ × ℕ). v.0) c.in_ok-version.ensures.ok in
+    let same = ap (λ (v : List ℕ × ℕ). v.0) c.in_ok-version.ensures in
     shown_past x c.args.start c.args.commit c.in_ok-lock.lock (dated x (whole_at (flat_content flat) flat.whole key))
     (λ q le. subst (λ (k : List ℕ). records k q ≡ None) same (c.are_past.ensures.start c.if-are_past.true q le))
     (λ q le. subst (λ (k : List ℕ). records k q ≡ None) same (c.are_past.ensures.commit c.if-are_past.true q le))
-    c.in_ok-lock.ensures.ok
+    c.in_ok-lock.ensures
 
 pub returns-clause-shows : goal.returns-clause-shows
 returns-clause-shows c =
     subst (λ (k : List ℕ). Shows (cells_of (flat_content c.args.self.now k)) c.args.start c.args.commit c.view_by.result)
-    (c.are_past.ensures.same_key ∙ ap (λ (v : List ℕ × ℕ). v.0) c.in_ok-version.ensures.ok) c.view_by.ensures
+    (c.are_past.ensures.same_key ∙ ap (λ (v : List ℕ × ℕ). v.0) c.in_ok-version.ensures) c.view_by.ensures

@@ -6,6 +6,13 @@ use Rattle.tx_cells.proofs.records.LockBytes.commit_record.Goals as goal
 
 pub invariant_of-result : goal.invariant_of-result
 invariant_of-result c =
-    let lock = c.self.inside.rec in
-    ((stored.Commit (commit_of lock.0 c.args.overlapped_rollback), (record { start = lock.1.0.start; mutation = lock.1.0.mutation },
-        rw (c.in_ok-extend_from_slice-2.ensures.items, c.in_ok-extend_from_slice.ensures.items, c.in_ok-push-2.ensures.items, c.in_ok-push.ensures.items, c.in_ok-bytes.ensures.items, c.as_slice-lock.ensures.value) (commit_spelt c.self.inside.bytes.items lock.0 c.self.inside.value c.args.overlapped_rollback c.from.result lock.1 (c.self.inside.place lock.0 lock.1) (search rules)))), tt)
+    let lock = c.self.inside.rec in (
+      (
+        stored.Commit (commit_of lock.0 c.args.overlapped_rollback),
+        (
+          record { start = lock.1.0.start; mutation = lock.1.0.mutation },
+          rw (c.in_ok-extend_from_slice-2.ensures.items, c.in_ok-extend_from_slice.ensures.items, c.in_ok-push-2.ensures.items, c.in_ok-push.ensures.items, c.in_ok-bytes.ensures.items, c.as_slice-lock.ensures.value) (commit_spelt c.self.inside.bytes.items lock.0 c.self.inside.value c.args.overlapped_rollback c.from.result lock.1 (c.self.inside.place lock.0 lock.1) (search rules)),
+        ),
+      ),
+      tt,
+    )
