@@ -10,30 +10,29 @@ ghost use Rattle.std.proofs.Common.{rules};
 use crate::fault::Fault;
 use crate::fields::escape;
 use crate::limits::{MAX_KEY_BYTES, MIN_KEY_BYTES};
-use bytes::Bytes;
 use std::alloc::Global;
 use std::cmp::Ordering;
 use std::fmt;
 use std::hash::{Hash, Hasher};
 use std::marker::Model;
+use std::sync::ArcSlice;
 
 /// A key of 1 to 512 bytes, ordered as its bytes are. A copy shares them. Contracts see the bytes.
 #[derive(Clone, Debug, Drop)]
 pub struct Key {
-    bytes: Bytes,
+    bytes: ArcSlice<u8>,
 }
 
 impl Model for Key {
     ghost use Rattle.std.specs.Prelude.{List, ℕ, ◌≤◌, length};
+    ghost use Rattle.std.specs.Arc.{arc_slice_items};
     ghost use Rattle.tx_types.specs.declared.limits.TheConstants.{MAX_KEY_BYTES, MIN_KEY_BYTES};
 
     ghost Value = { List ℕ };
 
-    ghost view = { λ k. k.bytes };
+    ghost view = { λ k. arc_slice_items k.bytes };
 
-    ghost invariant = { λ k. (MIN_KEY_BYTES ≤ length k.bytes) × (length k.bytes ≤ MAX_KEY_BYTES) };
-
-    ghost inverse = { λ bs. record { bytes = bs } };
+    ghost invariant = { λ k. (MIN_KEY_BYTES ≤ length (arc_slice_items k.bytes)) × (length (arc_slice_items k.bytes) ≤ MAX_KEY_BYTES) };
 }
 
 impl Key {
@@ -47,7 +46,7 @@ impl Key {
         if bytes.len() < MIN_KEY_BYTES || bytes.len() > MAX_KEY_BYTES {
             return Err(Fault::KeyLength);
         }
-        let bytes = Bytes::copy_from_slice(alloc, bytes)?;
+        let bytes = ArcSlice::from_slice(alloc, bytes)?;
         Ok(Key { bytes })
     }
 

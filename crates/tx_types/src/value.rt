@@ -1,30 +1,31 @@
 //! Values.
-ghost use Rattle.std.specs.Prelude.{◌≡◌, ◌⊎◌, ◌<◌, ◌≤◌, ◌↔◌, length, IfOk, IfErr, IsErrOf};
+ghost use Rattle.std.specs.Prelude.{◌≡◌, ◌⊎◌, ◌<◌, ◌≤◌, ◌↔◌, length, nat_eq, IfOk, IfErr, IsErrOf};
+ghost use Rattle.std.specs.Cmp.Lexicographic.{pointwise, nat_list_eq_equiv};
+ghost use Rattle.std.specs.Cmp.{partial_equiv_from_equiv};
 ghost use Rattle.tx_types.specs.Stored.{stored_value};
 
 use crate::fault::Fault;
 use crate::limits::{MAX_INLINE_BYTES, MAX_VALUE_BYTES};
-use bytes::Bytes;
 use std::alloc::Global;
 use std::marker::Model;
+use std::sync::ArcSlice;
 
 /// A value of at most 65,536 bytes. A copy shares them. Contracts see the bytes.
-#[derive(Clone, Debug, Drop, PartialEq, Eq)]
+#[derive(Clone, Debug, Drop)]
 pub struct Value {
-    bytes: Bytes,
+    bytes: ArcSlice<u8>,
 }
 
 impl Model for Value {
     ghost use Rattle.std.specs.Prelude.{List, ℕ, ◌≤◌, length};
+    ghost use Rattle.std.specs.Arc.{arc_slice_items};
     ghost use Rattle.tx_types.specs.declared.limits.TheConstants.{MAX_VALUE_BYTES};
 
     ghost Value = { List ℕ };
 
-    ghost view = { λ v. v.bytes };
+    ghost view = { λ v. arc_slice_items v.bytes };
 
-    ghost invariant = { λ v. length v.bytes ≤ MAX_VALUE_BYTES };
-
-    ghost inverse = { λ bs. record { bytes = bs } };
+    ghost invariant = { λ v. length (arc_slice_items v.bytes) ≤ MAX_VALUE_BYTES };
 }
 
 impl Value {
@@ -38,7 +39,7 @@ impl Value {
         if bytes.len() > MAX_VALUE_BYTES {
             return Err(Fault::ValueLength);
         }
-        let bytes = Bytes::copy_from_slice(alloc, bytes)?;
+        let bytes = ArcSlice::from_slice(alloc, bytes)?;
         Ok(Value { bytes })
     }
 
@@ -69,6 +70,20 @@ impl Value {
         let value = self.clone()?;
         Ok(StoredValue::Inline(InlineValue { value }))
     }
+}
+
+impl PartialEq for Value {
+    ghost eq = { pointwise nat_eq };
+
+    ghost laws = { partial_equiv_from_equiv nat_list_eq_equiv };
+
+    fn eq(&self, other: &Value) -> bool {
+        self.bytes == other.bytes
+    }
+}
+
+impl Eq for Value {
+    ghost laws = { nat_list_eq_equiv };
 }
 
 /// A value of at most 255 bytes, short enough to stand inline in a record. Contracts see the bytes.
