@@ -1,4 +1,10 @@
-use Rattle.std.proofs.Common.{inl, inr, refl, sym, ap, ◌∙◌}
+use Rattle.std.proofs.Common.{◌≡◌, ◌<◌, ℕ, Option, Some, None, inl, inr, refl, sym, ap, ◌∙◌}
+use Rattle.std.specs.Prelude.{IfSome}
+use Rattle.tx_plan.specs.Cells.{Cells}
+use Rattle.tx_plan.specs.Changes.{CanPut, new_lock}
+use Rattle.tx_plan.specs.Own.{OwnCommit, OwnRollback}
+use Rattle.tx_plan.specs.declared.body.Prewrite.{Prewrite}
+use Rattle.tx_plan.specs.declared.key_change.NewLock.{NewLock}
 use Rattle.tx_plan.specs.declared.answer.Answer.TheVariants.{Prewritten}
 use Rattle.tx_plan.specs.Views.{named_in, info_on}
 use Rattle.tx_plan.proofs.Orders.{not_below, not_true}
@@ -79,3 +85,15 @@ returns-clause-answers c cells commit shows =
         ),
       ),
     )
+
+can_put : (cells : Cells) (b : Prewrite) (new : Option NewLock) → cells.lock ≡ None → ((c : ℕ) → OwnCommit cells.write b.start c → ⊥) → (OwnRollback cells.write b.start → ⊥)
+    → IfSome new (λ n. b.start < n.min) → IfSome new (λ n. CanPut cells b n)
+can_put cells b None free uncommitted unrolled above = tt
+can_put cells b (Some n) free uncommitted unrolled above = record { free = free; uncommitted = uncommitted; not_rolled_back = unrolled; above = above }
+
+pub returns-clause-applies : goal.returns-clause-applies
+returns-clause-applies c cells commit shows =
+    let b = c.args.body.now in
+    let view = c.args.view.now in
+    can_put cells b (new_lock c.lock_key.result.change) (no_lock cells b.start commit view shows (sym c.is_some.ensures ∙ c.if-is_some.false)) (no_commit cells b.start commit view shows c.in_default-own_commit.is)
+    (λ own. not_true c.is_rolled_back.result c.if-is_rolled_back.false ((c.is_rolled_back.ensures cells commit shows).1 own)) c.lock_key.ensures.minimum
