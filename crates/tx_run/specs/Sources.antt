@@ -16,6 +16,7 @@ abbrev pub pair_of : Asked → Option (Key × Key)
 pair_of (transfer name what) = Some (what.from, what.to)
 pair_of _ = None
 
+-- the same, of what a line says
 abbrev pub pair_in : Result Data Cause → Option (Key × Key)
 pair_in (Ok d) = option_and_then pair_of (step_in Run d)
 pair_in (Err c) = None
@@ -28,7 +29,7 @@ pair_said number line = pair_in (data_said number line)
 abbrev pub HasLine : Option (List ℕ) → ℕ → List ℕ → Type 0
 HasLine source number line = IfSome source (λ text. slice_get (lines_of text) (number - 1) ≡ Some line)
 
--- of the line of this number, where the text has it
+-- what the line of this number says of that, where the text has such a line
 abbrev pub pair_at : List ℕ → ℕ → Option (Option (Key × Key))
 pair_at text number = option_map (pair_said number) (slice_get (lines_of text) (number - 1))
 
@@ -36,6 +37,7 @@ pair_at text number = option_map (pair_said number) (slice_get (lines_of text) (
 abbrev pub HasPair : Option (List ℕ) → ℕ → Option (Key × Key) → Type 0
 HasPair source number keys = IfSome source (λ text. pair_at text number ≡ Some keys)
 
+-- an outcome of this line is told with the keys of the transfer that the line says, or with none
 abbrev pub SaysPair : Option (List ℕ) → ℕ → Reply → Type 0
 SaysPair text number (Ended start o keys) = HasPair text number keys
 SaysPair text number (Said said) = Unit {0}
