@@ -49,14 +49,22 @@ fn append_key(out: &mut Vec<u8>, key: &[u8]) -> Result<(), AllocError>
     Ok(())
 }
 
+/// What is left of a key, encoded: at most `MAX_KEY_BYTES`, or nothing behind whole groups. An error where there is no room
+/// for it.
+pub fn encode_rest(alloc: Global, rest: &[u8]) -> Result<Vec<u8>, AllocError>
+    requires { length rest.now ≤ MAX_KEY_BYTES }
+    ensures { IfOk result (λ bytes. bytes.items ≡ encoded_key rest.now) }
+{
+    let mut out = Vec::with_capacity(alloc, encoded_len(rest))?;
+    append_key(&mut out, rest)?;
+    Ok(out)
+}
+
 /// The encoded key. An error where there is no room for it.
 pub fn encode_key(alloc: Global, key: &Key) -> Result<Vec<u8>, AllocError>
     ensures { IfOk result (λ bytes. bytes.items ≡ encoded_key key.now) }
 {
-    let key = key.as_bytes();
-    let mut out = Vec::with_capacity(alloc, encoded_len(key))?;
-    append_key(&mut out, key)?;
-    Ok(out)
+    encode_rest(alloc, key.as_bytes())
 }
 
 /// The encoded key and the timestamp's complement. An error where there is no room for it.

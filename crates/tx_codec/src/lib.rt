@@ -10,7 +10,7 @@ mod reading;
 mod records;
 mod writing;
 
-pub use key::{decode_key, decode_version, encode_key, encode_version};
+pub use key::{decode_key, decode_version, encode_key, encode_rest, encode_version};
 pub use order::{key_order, version_order};
 pub use records::{decode_lock, decode_write, encode_lock, encode_write};
 pub use writing::value_len;
