@@ -13,7 +13,7 @@ use Rattle.tx_codec.proofs.Words.{AreBytes, below_8}
 use Rattle.tx_codec.proofs.Numerals.{takes_8}
 use Rattle.tx_codec.proofs.Numbers.{words_order}
 
-abbrev compare : List ℕ → List ℕ → Ordering
+abbrev pub compare : List ℕ → List ℕ → Ordering
 compare = slice_cmp nat_cmp
 
 then_assoc : (a b c : Ordering) → ordering_then a (ordering_then b c) ≡ ordering_then (ordering_then a b) c
@@ -22,7 +22,7 @@ then_assoc Equal b c = refl
 then_assoc Greater b c = refl
 
 -- fronts of one length decide first
-fronts_first : (p q s t : List ℕ) → length p ≡ length q → compare (p ++ s) (q ++ t) ≡ ordering_then (compare p q) (compare s t)
+pub fronts_first : (p q s t : List ℕ) → length p ≡ length q → compare (p ++ s) (q ++ t) ≡ ordering_then (compare p q) (compare s t)
 fronts_first [] [] s t e = refl
 fronts_first [] (y ∷ ys) s t e = absurd (omega (arith, e))
 fronts_first (x ∷ xs) [] s t e = absurd (omega (arith, e))
@@ -39,12 +39,12 @@ words_first x y hx hy lx ly =
     ∙ fronts_first (word m) (word n) (drop 8 x) (drop 8 y) refl
     ∙ ap (λ (o : Ordering). ordering_then o (compare (drop 8 x) (drop 8 y))) (words_order m n (below_8 x hx) (below_8 y hy))
 
-tied : (o : Ordering) (p : Ordering) → o ≢ Equal → ordering_then o p ≡ o
+pub tied : (o : Ordering) (p : Ordering) → o ≢ Equal → ordering_then o p ≡ o
 tied Less p ne = refl
 tied Equal p ne = absurd (ne refl)
 tied Greater p ne = refl
 
-equals : (n : ℕ) → nat_cmp n n ≡ Equal
+pub equals : (n : ℕ) → nat_cmp n n ≡ Equal
 equals n = sym (nat_cmp_is n n Equal refl)
 
 -- equal words decide nothing

@@ -1,27 +1,31 @@
 //! The key of a version, spelt into a buffer that is there.
-ghost use Rattle.std.specs.Prelude.{◌≡◌, ◌≤◌, ℕ, List, [], take, bytes_eq};
+ghost use Rattle.std.specs.Prelude.{◌≡◌, ◌^◌, ◌<◌, ◌≤◌, ℕ, List, [], take, cond, bytes_eq};
 ghost use Rattle.tx_codec.specs.Keys.{encoded_key};
-ghost use Rattle.tx_cells.specs.declared.front.TheConstants.{MAX_ENCODED_KEY};
+ghost use Rattle.tx_cells.specs.Spelt.{spelt};
+ghost use Rattle.tx_cells.specs.declared.front.TheConstants.{MAX_ENCODED_REST};
 
 use crate::spelling::VersionBytes;
 use std::marker::Model;
 
-/// The most bytes of an encoded key: 9 for each 8 bytes of the longest key, and 9 more.
-pub(crate) const MAX_ENCODED_KEY: usize = 585;
+/// The most bytes of an encoded key behind its first group: 9 for each 8 bytes of the longest key.
+pub(crate) const MAX_ENCODED_REST: usize = 576;
 
 /// The bytes of an encoded key, or none.
 #[derive(Drop)]
 pub(crate) struct Front {
-    bytes: [u8; MAX_ENCODED_KEY],
+    is_there: bool,
+    first: u64,
+    marker: u8,
+    rest: [u8; MAX_ENCODED_REST],
     len: usize,
 }
 
 impl Model for Front {
     ghost Value = { List ℕ };
 
-    ghost view = { λ f. take f.len f.bytes };
+    ghost view = { λ f. cond f.is_there (spelt f.first f.marker (take f.len f.rest)) [] };
 
-    ghost invariant = { λ f. f.len ≤ MAX_ENCODED_KEY };
+    ghost invariant = { λ f. (f.first < 2 ^ 64) × (f.len ≤ MAX_ENCODED_REST) };
 }
 
 impl Front {
@@ -30,7 +34,10 @@ impl Front {
         ensures { result ≡ [] }
     {
         Front {
-            bytes: [0; MAX_ENCODED_KEY],
+            is_there: false,
+            first: 0,
+            marker: 0,
+            rest: [0; MAX_ENCODED_REST],
             len: 0,
         }
     }
@@ -39,16 +46,22 @@ impl Front {
     pub fn is_of(&self, version: &VersionBytes) -> bool
         ensures { result ≡ bytes_eq self.now (encoded_key version.now.0) }
     {
-        let front = version.front();
-        self.bytes[..self.len] == front[..]
+        let (first, marker, rest) = version.spelt().parts();
+        self.is_there
+            && self.first == first
+            && self.marker == marker
+            && self.rest[..self.len] == rest[..]
     }
 
     /// Takes those of this version's key.
     pub fn set(&mut self, version: &VersionBytes)
         ensures { self.new ≡ encoded_key version.now.0 }
     {
-        let front = version.front();
-        self.len = front.len();
-        self.bytes[..front.len()].copy_from_slice(front);
+        let (first, marker, rest) = version.spelt().parts();
+        self.is_there = true;
+        self.first = first;
+        self.marker = marker;
+        self.len = rest.len();
+        self.rest[..rest.len()].copy_from_slice(rest);
     }
 }

@@ -1,0 +1,67 @@
+-- Keys that are spelt by their first group, its marker, and the groups behind it.
+use Rattle.std.proofs.Common.{◌≡◌, ◌≢◌, ℕ, ◌+◌, ◌-◌, ◌^◌, ◌<◌, ◌≤◌, List, [], ◌∷◌, ◌++◌, length, take, drop, replicate, ◌↔◌, IsTrue, true, refl, sym, ap, ◌∙◌, arith}
+use Rattle.std.specs.Int.{w64, to_be_bytes}
+use Rattle.std.specs.Ordering.{nat_cmp, ordering_then, is_eq, eq_by_cmp}
+use Rattle.std.specs.declared.cmp.Ordering.{Ordering}
+use Rattle.std.specs.declared.cmp.Ordering.TheVariants.{Less, Equal, Greater}
+use Rattle.std.specs.Cmp.Lexicographic.{slice_cmp}
+use Rattle.std.proofs.lemmas.Cmp.{tied_itself, nat_list_cmp_total}
+use Rattle.std.proofs.lemmas.List.{length-append}
+use Rattle.std.proofs.lemmas.Map.Lookups.{exact_unsigned, exact_bytes}
+use Rattle.tx_codec.specs.Keys.{IsKey, encoded_key, KeysKeepOrder}
+use Rattle.tx_codec.proofs.Groups.{encoded_key-last, encoded_key-split, encoded_key-length}
+use Rattle.tx_codec.proofs.Numbers.{words_order}
+use Rattle.tx_cells.specs.Spelt.{spelt, SpellsKey}
+use Rattle.tx_cells.proofs.ByteOrder.{compare, fronts_first, tied, equals}
+
+-- the parts decide one after the other
+parts_order : (m n a b : ℕ) (s t : List ℕ) → m < 2 ^ 64 → n < 2 ^ 64 → compare (spelt m a s) (spelt n b t) ≡ ordering_then (nat_cmp m n) (ordering_then (nat_cmp a b) (compare s t))
+parts_order m n a b s t hm hn =
+    fronts_first (to_be_bytes w64 m) (to_be_bytes w64 n) (a ∷ s) (b ∷ t) refl
+    ∙ ap (λ (o : Ordering). ordering_then o (ordering_then (nat_cmp a b) (compare s t))) (words_order m n hm hn)
+
+-- spelt keys order as what spells them
+keys_by : KeysKeepOrder → (x y j k : List ℕ) → x ≡ encoded_key j → y ≡ encoded_key k → compare x y ≡ compare j k
+keys_by law x y j k p q = ap (λ (w : List ℕ). compare w y) p ∙ ap (compare (encoded_key j)) q ∙ law j k
+
+module _ (law : KeysKeepOrder) (m n a b : ℕ) (s t j k : List ℕ) (p : SpellsKey m a s j) (q : SpellsKey n b t k) where
+  parts : compare j k ≡ ordering_then (nat_cmp m n) (ordering_then (nat_cmp a b) (compare s t))
+  parts = sym (keys_by law (spelt m a s) (spelt n b t) j k p.2 q.2) ∙ parts_order m n a b s t p.0 q.0
+
+  pub first_decides : m ≢ n → compare j k ≡ nat_cmp m n
+  first_decides ne = parts ∙ tied (nat_cmp m n) (ordering_then (nat_cmp a b) (compare s t)) (λ e. ne (exact_unsigned m n e))
+
+  after_first : m ≡ n → compare j k ≡ ordering_then (nat_cmp a b) (compare s t)
+  after_first same = parts ∙ ap (λ (o : Ordering). ordering_then o (ordering_then (nat_cmp a b) (compare s t))) (ap (nat_cmp m) (sym same) ∙ equals m)
+
+  pub marker_decides : m ≡ n → a ≢ b → compare j k ≡ nat_cmp a b
+  marker_decides same ne = after_first same ∙ tied (nat_cmp a b) (compare s t) (λ e. ne (exact_unsigned a b e))
+
+  pub rest_decides : m ≡ n → a ≡ b → compare j k ≡ compare s t
+  rest_decides same alike = after_first same ∙ ap (λ (o : Ordering). ordering_then o (compare s t)) (ap (nat_cmp a) (sym alike) ∙ equals a)
+
+-- a key that is shorter than a group
+pub short_spells : (key : List ℕ) (first : ℕ) → first < 2 ^ 64 → IsKey key → length key < 8 → to_be_bytes w64 first ≡ key ++ replicate (8 - length key) 0 → SpellsKey first (255 - (8 - length key)) [] key
+short_spells key first fits is lt e = (fits, is, ap (λ (w : List ℕ). w ++ (255 - (8 - length key)) ∷ []) e ∙ sym (encoded_key-last key lt))
+
+-- a key that has a whole group
+pub long_spells : (key rest : List ℕ) (first : ℕ) → first < 2 ^ 64 → IsKey key → 8 ≤ length key → to_be_bytes w64 first ≡ take 8 key → rest ≡ encoded_key (drop 8 key) → SpellsKey first 255 rest key
+long_spells key rest first fits is le e encoded =
+    (fits, is, ap (λ (w : List ℕ). w ++ 255 ∷ rest) e ∙ ap (λ (w : List ℕ). take 8 key ++ 255 ∷ w) encoded ∙ sym (encoded_key-split key le))
+
+-- the groups behind the first are few
+pub rest_short : (first marker : ℕ) (rest key : List ℕ) → SpellsKey first marker rest key → length rest ≤ 576
+rest_short first marker rest key s =
+    omega (arith, ap length s.2, length-append (to_be_bytes w64 first) (marker ∷ rest), encoded_key-length key, s.1.1)
+
+-- keys that are told to be the same are
+equal_of : (o : Ordering) → is_eq o ≡ true → o ≡ Equal
+equal_of Less e = cc e
+equal_of Equal e = refl
+equal_of Greater e = cc e
+
+pub tells_same : (j k : List ℕ) → IsTrue (eq_by_cmp (slice_cmp nat_cmp) j k) ↔ (j ≡ k)
+tells_same j k = (
+  λ e. exact_bytes j k (equal_of (slice_cmp nat_cmp j k) e),
+  λ e. ap (λ (w : List ℕ). is_eq (slice_cmp nat_cmp w k)) e ∙ ap is_eq (tied_itself nat_list_cmp_total k),
+)
