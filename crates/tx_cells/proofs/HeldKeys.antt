@@ -1,12 +1,10 @@
 -- The keys of which flat maps hold something, in order, and the rows of a walk over them.
 use Rattle.std.proofs.Common.{◌≡◌, ◌≢◌, ◌⊎◌, inl, inr, ℕ, Bool, true, false, cond, List, [], ◌∷◌, ◌++◌, Option, Some, None, bytes_eq, refl, sym, ap, subst, ◌∙◌}
-use Rattle.std.specs.Prelude.{IsTrue, MatchOption, option_map}
+use Rattle.std.specs.Prelude.{IsTrue, option_map}
 use Rattle.std.specs.List.{filter}
 use Rattle.std.specs.Map.{keys_of, lookup}
 use Rattle.std.specs.BTreeMap as tree
-use Rattle.std.specs.Ordering.{nat_cmp, is_eq, ordering_then}
-use Rattle.std.specs.declared.cmp.Ordering.{Ordering}
-use Rattle.std.specs.declared.cmp.Ordering.TheVariants.{Less, Equal, Greater}
+use Rattle.std.specs.Ordering.{nat_cmp, is_eq}
 use Rattle.std.specs.Cmp.Lexicographic.{slice_cmp}
 use Rattle.std.proofs.lemmas.Bool.{cases_Bool}
 use Rattle.std.proofs.lemmas.Cmp.{tied_itself, nat_list_cmp_total}
@@ -15,11 +13,11 @@ use Rattle.tx_types.specs.declared.key.Key.{Key}
 use Rattle.tx_types.specs.declared.lock.LockRec.{LockRec}
 use Rattle.tx_types.specs.declared.write.WriteRec.{WriteRec}
 use Rattle.tx_types.specs.Keys.{key_lt, key_le}
-use Rattle.tx_plan.specs.Cells.{Cells, no_cells}
-use Rattle.tx_plan.specs.Walks.{KeyRow, AreInOrder, KeysPass, cells_by, IsWalk}
-use Rattle.tx_plan.proofs.KeyOrder.{same_key, key_same, other_key, ordered, lt_trans, lt_itself, lt_le, lt_other, le_itself, le_cases, le_lt, lt_back, not_lt}
+use Rattle.tx_plan.specs.Cells.{no_cells}
+use Rattle.tx_plan.specs.Walks.{AreInOrder, KeysPass, cells_by, IsWalk}
+use Rattle.tx_plan.proofs.KeyOrder.{same_key, key_same, lt_trans, lt_itself, lt_le, le_itself, le_cases, le_lt, lt_back, not_lt}
 use Rattle.tx_cells.specs.declared.flat.FlatCells.{FlatCells}
-use Rattle.tx_cells.specs.Contents.{OnKey, Content, cells_of, cells_in, lock_of, write_of}
+use Rattle.tx_cells.specs.Contents.{OnKey, cells_in, lock_of, write_of}
 use Rattle.tx_cells.specs.Flats.{flat_content, put_key, in_order, fronts_of, held_keys, rows_on, rows_from}
 use Rattle.tx_cells.specs.NextKeys.{IsHeld, FirstOf}
 use Rattle.tx_cells.specs.Spelt.{version_cmp, exact_versions}

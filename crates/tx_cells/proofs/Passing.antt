@@ -1,11 +1,8 @@
 -- What a walk over flat maps sees of the key that it passes, and where it stands then.
-use Rattle.std.proofs.Common.{◌≡◌, inl, inr, ℕ, ◌≤◌, Bool, true, false, cond, List, [], ◌∷◌, Option, Some, None, refl, sym, ap, subst, ◌∙◌}
+use Rattle.std.proofs.Common.{◌≡◌, inl, inr, ℕ, ◌≤◌, true, false, cond, List, [], ◌∷◌, Option, Some, None, refl, sym, ap, subst, ◌∙◌}
 use Rattle.std.specs.Prelude.{IsTrue, IsSome, option_map}
 use Rattle.std.specs.Map.{keys_of}
-use Rattle.std.specs.BTreeMap as tree
-use Rattle.std.specs.Ordering.{nat_cmp, is_eq, is_lt, ordering_reverse}
-use Rattle.std.specs.declared.cmp.Ordering.{Ordering}
-use Rattle.std.specs.declared.cmp.Ordering.TheVariants.{Less, Equal, Greater}
+use Rattle.std.specs.Ordering.{nat_cmp, is_eq}
 use Rattle.std.specs.Cmp.Lexicographic.{slice_cmp}
 use Rattle.std.proofs.lemmas.Bool.{cases_Bool}
 use Rattle.std.proofs.lemmas.Cmp.{tied_itself, nat_list_cmp_total}
@@ -19,7 +16,7 @@ use Rattle.tx_plan.specs.declared.view.LockHead.{LockHead}
 use Rattle.tx_plan.specs.Views.{lock_head_of}
 use Rattle.tx_plan.proofs.KeyOrder.{ordered, lt_back, lt_itself, le_cases}
 use Rattle.tx_cells.specs.declared.flat.FlatCells.{FlatCells}
-use Rattle.tx_cells.specs.Contents.{cells_of, lock_of}
+use Rattle.tx_cells.specs.Contents.{cells_of}
 use Rattle.tx_cells.specs.Heads.{lock_head}
 use Rattle.tx_cells.specs.Flats.{flat_content, fronts_of}
 use Rattle.tx_cells.specs.NextKeys.{IsHeld, FirstOf, lesser_of}
@@ -28,7 +25,7 @@ use Rattle.tx_cells.proofs.HeldKeys.{In}
 use Rattle.tx_cells.proofs.Reading.{none_found}
 use Rattle.tx_cells.proofs.Retaining.{tied}
 use Rattle.tx_cells.proofs.Showing.{lock_heads}
-use Rattle.tx_cells.proofs.Places.{IsUpward, lt_upward, keys_climb, fronts_climb, first_passing, keys_part, StartsAbove, beyond, locks_above, place, first_held, lock_here, no_lock_here, no_write_here, write_here, newest_here}
+use Rattle.tx_cells.proofs.Places.{lt_upward, keys_climb, fronts_climb, first_passing, keys_part, StartsAbove, beyond, locks_above, place, first_held, lock_here, no_lock_here, no_write_here, write_here, newest_here}
 
 -- ---- which key is next
 

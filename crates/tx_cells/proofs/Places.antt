@@ -1,6 +1,6 @@
 -- What is known where a walk over flat maps keeps its place, and what of their entries is behind a key.
-use Rattle.std.proofs.Common.{◌≡◌, ◌≢◌, ◌⊎◌, inl, inr, ℕ, ◌-◌, ◌<◌, ◌≤◌, ◌^◌, ◌&&◌, not, Bool, true, false, cond, List, [], ◌∷◌, Option, Some, None, map, refl, sym, ap, subst, ◌∙◌, arith}
-use Rattle.std.specs.Prelude.{IsTrue, IsSome, is_some, MatchOption}
+use Rattle.std.proofs.Common.{◌≡◌, ◌⊎◌, inl, inr, ℕ, ◌-◌, ◌<◌, ◌≤◌, ◌^◌, ◌&&◌, Bool, true, false, cond, List, [], ◌∷◌, Option, Some, None, map, refl, sym, ap, subst, ◌∙◌, arith}
+use Rattle.std.specs.Prelude.{IsTrue, IsSome, is_some}
 use Rattle.std.specs.List.{filter, AllByRecursion}
 use Rattle.std.specs.List.Sorted.{IsStrictlySortedBy}
 use Rattle.std.specs.Map.{keys_of, lookup}
@@ -9,7 +9,7 @@ use Rattle.std.specs.BTreeMap as tree
 use Rattle.std.specs.BTreeMap.Range.{entries_between}
 use Rattle.std.specs.declared.ops.Bound.TheVariants.{Included, Excluded, Unbounded}
 use Rattle.std.proofs.Math.Bool.{and-true}
-use Rattle.std.specs.Ordering.{nat_cmp, is_eq, is_lt, is_le, is_gt, ordering_then}
+use Rattle.std.specs.Ordering.{nat_cmp, is_eq, is_lt, is_le, ordering_then}
 use Rattle.std.specs.declared.cmp.Ordering.{Ordering}
 use Rattle.std.specs.declared.cmp.Ordering.TheVariants.{Less, Equal, Greater}
 use Rattle.std.specs.Cmp.Lexicographic.{slice_cmp}
@@ -17,17 +17,17 @@ use Rattle.std.proofs.lemmas.Bool.{cases_Bool, cases_lt}
 use Rattle.std.proofs.lemmas.Cmp.{ranked, tied_itself, nat_list_cmp_total}
 use Rattle.std.proofs.lemmas.Map.Lookups.{exact_bytes}
 use Rattle.std.proofs.lemmas.Map.Entries.{lookup-filter-keys, lookup_head, lookup_tail}
-use Rattle.std.proofs.lemmas.Map.Keys.{sorted_head, sorted_tail}
+use Rattle.std.proofs.lemmas.Map.Keys.{sorted_head}
 use Rattle.std.proofs.lemmas.List.Kept.{IsStrictlySortedBy-filter}
 use denote.Ref.{Bor}
 use Rattle.tx_types.specs.declared.key.Key.{Key}
 use Rattle.tx_types.specs.declared.lock.LockRec.{LockRec}
 use Rattle.tx_types.specs.declared.write.WriteRec.{WriteRec}
 use Rattle.tx_types.specs.Keys.{key_lt, key_le}
-use Rattle.tx_plan.proofs.KeyOrder.{lt_itself, lt_le, le_itself, le_cases, le_lt, lt_then_le, not_lt}
+use Rattle.tx_plan.proofs.KeyOrder.{lt_itself, lt_le, le_itself, le_cases, lt_then_le, not_lt}
 use Rattle.tx_cells.specs.declared.flat.FlatCells.{FlatCells}
 use Rattle.tx_cells.specs.Flats.{flat_content, fronts_of}
-use Rattle.tx_cells.specs.NextKeys.{IsHeld, IsFirst, FirstOf, lesser_of}
+use Rattle.tx_cells.specs.NextKeys.{IsHeld, FirstOf, lesser_of}
 use Rattle.tx_cells.specs.Places.{Locks, Writes, coming, locks_where, writes_where, first_of, next_key, is_to_come, IsPlace}
 use Rattle.tx_cells.specs.Spelt.{version_cmp, exact_versions}
 use Rattle.tx_cells.proofs.HeldKeys.{In, lock_in, in_lock, write_in, in_write}

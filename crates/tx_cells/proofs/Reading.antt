@@ -1,5 +1,5 @@
 -- What a read finds by the newest put or delete among the write records.
-use Rattle.std.proofs.Common.{◌≡◌, ℕ, ◌<◌, ◌≤◌, ◌⊎◌, inl, inr, true, false, Option, Some, None, refl, sym, ap, subst, ◌∙◌, arith}
+use Rattle.std.proofs.Common.{◌≡◌, ℕ, ◌⊎◌, inl, inr, true, false, Option, Some, None, sym, ap, subst, ◌∙◌, arith}
 use Rattle.std.proofs.lemmas.Bool.{cases_lt}
 use Rattle.tx_types.specs.Kinds.{stored_kind}
 use Rattle.tx_types.specs.declared.value.Value.{Value}
@@ -11,7 +11,6 @@ use Rattle.tx_types.specs.declared.mutation.Mutation.TheVariants as mutation
 use Rattle.tx_types.specs.declared.mutation.StoredMutation.{StoredMutation}
 use Rattle.tx_types.specs.declared.mutation.StoredMutation.TheVariants as stored
 use Rattle.tx_types.specs.declared.write.CommitRec.{CommitRec}
-use Rattle.tx_types.specs.declared.write.WriteRec.{WriteRec}
 use Rattle.tx_types.specs.declared.write.WriteRec.TheVariants.{Commit}
 use Rattle.tx_types.specs.Keys.{IsVisible}
 use Rattle.tx_plan.specs.Cells.{CommitRecord, CommitOf}

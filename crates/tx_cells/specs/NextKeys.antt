@@ -1,5 +1,5 @@
 -- The keys of which something is held, one after the other.
-use Rattle.std.specs.Prelude.{◌≡◌, ◌≢◌, ◌⊎◌, ℕ, Bool, cond, Option, Some, None, IsTrue}
+use Rattle.std.specs.Prelude.{◌≢◌, ◌⊎◌, ℕ, Bool, cond, Option, Some, None, IsTrue}
 use Rattle.tx_types.specs.declared.key.Key.{Key}
 use Rattle.tx_types.specs.Keys.{key_lt, key_le}
 use Rattle.tx_cells.specs.Contents.{OnKey}

@@ -1,13 +1,11 @@
-use Rattle.std.proofs.Common.{◌≡◌, ◌-◌, ◌^◌, ◌<◌, ℕ, List, Option, Some, ap, sym, ◌∙◌}
+use Rattle.std.proofs.Common.{◌≡◌, ℕ, List, ap, ◌∙◌}
 use Rattle.std.specs.BTreeMap.Range.{entries_between}
 use Rattle.std.specs.declared.ops.Bound.TheVariants.{Included, Unbounded}
 use Rattle.std.specs.Ordering.{nat_cmp}
 use Rattle.std.specs.Cmp.Lexicographic.{slice_cmp}
-use Rattle.tx_types.specs.declared.key.Key.{Key}
-use Rattle.tx_types.specs.declared.write.WriteRec.{WriteRec}
 use Rattle.tx_types.specs.Keys.{key_le}
 use Rattle.tx_cells.specs.Flats.{flat_content}
-use Rattle.tx_cells.specs.Places.{Locks, Writes, coming, locks_where, writes_where, next_key}
+use Rattle.tx_cells.specs.Places.{coming, locks_where, writes_where, next_key}
 use Rattle.tx_cells.specs.Spelt.{version_cmp}
 use Rattle.tx_cells.proofs.Facts.{fitting, whole_at}
 use Rattle.tx_cells.proofs.HeldKeys.{walk_from}

@@ -1,4 +1,4 @@
-use Rattle.std.proofs.Common.{◌≡◌, Option, None, List, subst, ◌∙◌}
+use Rattle.std.proofs.Common.{List, subst}
 use Rattle.std.proofs.Common.{ℕ}
 use Rattle.tx_cells.specs.Flats.{flat_content}
 use Rattle.tx_cells.specs.Histories.{NoneSeen}

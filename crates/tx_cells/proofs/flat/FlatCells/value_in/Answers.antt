@@ -1,7 +1,6 @@
-use Rattle.std.proofs.Common.{◌≡◌, Some, None, Option, ℕ, List, refl, ap, sym, ◌∙◌}
+use Rattle.std.proofs.Common.{◌≡◌, Some, None, Option, refl, ap, sym, ◌∙◌}
 use Rattle.std.specs.BTreeMap as tree
 use Rattle.tx_types.specs.declared.value.Value.{Value}
-use Rattle.tx_types.specs.declared.write.WriteRec.{WriteRec}
 use Rattle.tx_types.specs.declared.write.WriteRec.TheVariants.{Commit}
 use Rattle.tx_plan.specs.Reads.{Reads}
 use Rattle.tx_cells.specs.Contents.{cells_of}

@@ -1,8 +1,7 @@
-use Rattle.std.proofs.Common.{◌≡◌, ◌∷◌, [], true, false, Option, Some, None, refl, ap, sym, subst, ◌∙◌}
+use Rattle.std.proofs.Common.{◌≡◌, ◌∷◌, [], true, false, Some, ap, sym, subst, ◌∙◌}
 use Rattle.std.specs.Prelude.{option_map}
 use Rattle.std.specs.Map.Iter.{deref_pair}
 use Rattle.tx_types.specs.declared.key.Key.{Key}
-use Rattle.tx_plan.specs.Walks.{KeyRow}
 use Rattle.tx_cells.specs.declared.flat.FlatCells.{FlatCells}
 use Rattle.tx_cells.specs.Contents.{cells_in}
 use Rattle.tx_cells.specs.Flats.{flat_content, fronts_of, rows_from}
