@@ -1,12 +1,10 @@
 -- The keys of which flat maps hold something, in order, and the rows of a walk over them.
 use Rattle.std.proofs.Common.{◌≡◌, ◌≢◌, ◌⊎◌, inl, inr, ℕ, Bool, true, false, cond, List, [], ◌∷◌, ◌++◌, Option, Some, None, bytes_eq, refl, sym, ap, subst, ◌∙◌}
-use Rattle.std.specs.Prelude.{IsTrue, MatchOption, option_map}
+use Rattle.std.specs.Prelude.{IsTrue, option_map}
 use Rattle.std.specs.List.{filter}
 use Rattle.std.specs.Map.{keys_of, lookup}
 use Rattle.std.specs.BTreeMap as tree
-use Rattle.std.specs.Ordering.{nat_cmp, is_eq, ordering_then}
-use Rattle.std.specs.declared.cmp.Ordering.{Ordering}
-use Rattle.std.specs.declared.cmp.Ordering.TheVariants.{Less, Equal, Greater}
+use Rattle.std.specs.Ordering.{nat_cmp, is_eq}
 use Rattle.std.specs.Cmp.Lexicographic.{slice_cmp}
 use Rattle.std.proofs.lemmas.Bool.{cases_Bool}
 use Rattle.std.proofs.lemmas.Cmp.{tied_itself, nat_list_cmp_total}
@@ -15,13 +13,13 @@ use Rattle.tx_types.specs.declared.key.Key.{Key}
 use Rattle.tx_types.specs.declared.lock.LockRec.{LockRec}
 use Rattle.tx_types.specs.declared.write.WriteRec.{WriteRec}
 use Rattle.tx_types.specs.Keys.{key_lt, key_le}
-use Rattle.tx_plan.specs.Cells.{Cells, no_cells}
-use Rattle.tx_plan.specs.Walks.{KeyRow, AreInOrder, KeysPass, cells_by, IsWalk}
-use Rattle.tx_plan.proofs.KeyOrder.{same_key, key_same, other_key, ordered, lt_trans, lt_itself, lt_le, lt_other, le_itself, le_cases, lt_back, not_lt, lt_then_le}
+use Rattle.tx_plan.specs.Cells.{no_cells}
+use Rattle.tx_plan.specs.Walks.{AreInOrder, KeysPass, cells_by, IsWalk}
+use Rattle.tx_plan.proofs.KeyOrder.{same_key, key_same, lt_trans, lt_itself, lt_le, le_itself, le_cases, le_lt, lt_back, not_lt}
 use Rattle.tx_cells.specs.declared.flat.FlatCells.{FlatCells}
-use Rattle.tx_cells.specs.Contents.{OnKey, Content, cells_of, cells_in, lock_of, write_of}
+use Rattle.tx_cells.specs.Contents.{OnKey, cells_in, lock_of, write_of}
 use Rattle.tx_cells.specs.Flats.{flat_content, put_key, in_order, fronts_of, held_keys, rows_on, rows_from}
-use Rattle.tx_cells.specs.NextKeys.{IsHeld, IsNextKey, IsNextLock, IsNextFront, lesser_of}
+use Rattle.tx_cells.specs.NextKeys.{IsHeld, FirstOf}
 use Rattle.tx_cells.specs.Spelt.{version_cmp, exact_versions}
 use Rattle.tx_cells.proofs.CellsAfter.{cells_same}
 use Rattle.tx_cells.proofs.Retaining.{tied}
@@ -165,26 +163,26 @@ none_above k ks none = filter_none (key_lt k) ks (λ j i. elim (cases_Bool (key_
 
 -- ---- held keys
 
-abbrev Locks : Type 0
+abbrev pub Locks : Type 0
 Locks = List (Key × LockRec)
 
-abbrev Writes : Type 0
+abbrev pub Writes : Type 0
 Writes = List ((List ℕ × ℕ) × WriteRec)
 
-abbrev lock_at : Key → Locks → Option LockRec
+abbrev pub lock_at : Key → Locks → Option LockRec
 lock_at k es = lookup (tree.is_at (slice_cmp nat_cmp k)) es
 
-abbrev write_at : List ℕ × ℕ → Writes → Option WriteRec
+abbrev pub write_at : List ℕ × ℕ → Writes → Option WriteRec
 write_at v es = lookup (tree.is_at (version_cmp v)) es
 
-lock_in : (k : Key) (es : Locks) → lock_at k es ≢ None → In k (keys_of es)
+pub lock_in : (k : Key) (es : Locks) → lock_at k es ≢ None → In k (keys_of es)
 lock_in k [] n = absurd (n refl)
 lock_in k (e ∷ es) n = elim (cases_Bool (is_eq (slice_cmp nat_cmp k e.0))) [
   | inl here ↦ inl (sym (exact_bytes k e.0 (tied (slice_cmp nat_cmp k e.0) here)))
   | inr other ↦ inr (lock_in k es (λ none. n (ap (λ b. cond b (Some e.1) (lock_at k es)) other ∙ none)))
 ]
 
-in_lock : (k : Key) (es : Locks) → In k (keys_of es) → lock_at k es ≢ None
+pub in_lock : (k : Key) (es : Locks) → In k (keys_of es) → lock_at k es ≢ None
 in_lock k [] i none = absurd i
 in_lock k (e ∷ es) i none = elim (cases_Bool (is_eq (slice_cmp nat_cmp k e.0))) [
   | inl here ↦ (let some = ap (λ b. cond b (Some e.1) (lock_at k es)) here in cc (some, none))
@@ -194,14 +192,14 @@ in_lock k (e ∷ es) i none = elim (cases_Bool (is_eq (slice_cmp nat_cmp k e.0))
   ]
 ]
 
-write_in : (k : Key) (q : ℕ) (es : Writes) → write_at (k, q) es ≢ None → In k (fronts_of es)
+pub write_in : (k : Key) (q : ℕ) (es : Writes) → write_at (k, q) es ≢ None → In k (fronts_of es)
 write_in k q [] n = absurd (n refl)
 write_in k q (e ∷ es) n = elim (cases_Bool (is_eq (version_cmp (k, q) e.0))) [
   | inl here ↦ inl (sym (ap (λ (v : List ℕ × ℕ). v.0) (exact_versions (k, q) e.0 (tied (version_cmp (k, q) e.0) here))))
   | inr other ↦ inr (write_in k q es (λ none. n (ap (λ b. cond b (Some e.1) (write_at (k, q) es)) other ∙ none)))
 ]
 
-in_write : (k : Key) (es : Writes) → In k (fronts_of es) → (q : ℕ) × (write_at (k, q) es ≢ None)
+pub in_write : (k : Key) (es : Writes) → In k (fronts_of es) → (q : ℕ) × (write_at (k, q) es ≢ None)
 in_write k [] i = absurd i
 in_write k (e ∷ es) (inl same) = (e.0.1, λ none. (let some = find_first (k, e.0.1) e es (ap (λ (j : List ℕ). (j, e.0.1)) (sym same)) in cc (some, none)))
 in_write k (e ∷ es) (inr there) = (let rest = in_write k es there in (
@@ -227,11 +225,17 @@ module _ (flat : FlatCells) where
   rises = order_rises (keys_of flat.locks.entries ++ fronts_of flat.writes.entries)
 
   -- the rows of a walk after one step
-  pub rows_next : (key next : Key) → IsNextKey (flat_content flat) key next → rows_from flat (Some key) ≡ (record { key = key; cells = cells_in (flat_content flat) key }) ∷ rows_from flat (Some next)
-  rows_next key next is = ap (λ (ks : List Key). rows_on (flat_content flat) (key ∷ ks)) (next_above key next (held_keys flat) rises (held_in next is.held) is.later (λ j i up. is.least j up (in_held j i)))
+  rows_next : (key next : Key) → IsTrue (key_lt key next) → IsHeld (flat_content flat next) → ((j : Key) → IsTrue (key_lt key j) → IsHeld (flat_content flat j) → IsTrue (key_le next j))
+      → rows_from flat (Some key) ≡ (record { key = key; cells = cells_in (flat_content flat) key }) ∷ rows_from flat (Some next)
+  rows_next key next later held least = ap (λ (ks : List Key). rows_on (flat_content flat) (key ∷ ks)) (next_above key next (held_keys flat) rises (held_in next held) later (λ j i up. least j up (in_held j i)))
 
-  pub rows_last : (key : Key) → ((j : Key) → IsTrue (key_lt key j) → IsHeld (flat_content flat j) → ⊥) → rows_from flat (Some key) ≡ (record { key = key; cells = cells_in (flat_content flat) key }) ∷ rows_from flat None
+  rows_last : (key : Key) → ((j : Key) → IsTrue (key_lt key j) → IsHeld (flat_content flat j) → ⊥) → rows_from flat (Some key) ≡ (record { key = key; cells = cells_in (flat_content flat) key }) ∷ rows_from flat None
   rows_last key none = ap (λ (ks : List Key). rows_on (flat_content flat) (key ∷ ks)) (none_above key (held_keys flat) (λ j i up. none j up (in_held j i)))
+
+  -- whether another key follows or not
+  pub rows_step : (key : Key) (next : Option Key) → FirstOf (key_lt key) (λ j. IsHeld (flat_content flat j)) next → rows_from flat (Some key) ≡ (record { key = key; cells = cells_in (flat_content flat) key }) ∷ rows_from flat next
+  rows_step key None none = rows_last key none
+  rows_step key (Some next) is = rows_next key next is.passed is.among is.least
 
   -- ---- the walk from a key on
 
@@ -252,6 +256,11 @@ module _ (flat : FlatCells) where
     | inl yes_p ↦ subst (AreAbove j) (sym (ap (λ b. cond b (x ∷ filter p xs) (filter p xs)) yes_p)) (a.0, above_filter j p xs a.1)
     | inr no_p ↦ subst (AreAbove j) (sym (ap (λ b. cond b (x ∷ filter p xs) (filter p xs)) no_p)) (above_filter j p xs a.1)
   ]
+
+  -- what is above a key is above those before it
+  above_from : (j k : Key) (ks : List Key) → IsTrue (key_le j k) → AreAbove k ks → AreAbove j ks
+  above_from j k [] le a = tt
+  above_from j k (x ∷ xs) le a = (le_lt j k x le a.0, above_from j k xs le a.1)
 
   filter_rises : (p : Key → Bool) (ks : List Key) → Rise ks → Rise (filter p ks)
   filter_rises p [] r = tt
@@ -298,53 +307,14 @@ module _ (flat : FlatCells) where
     | inr not_here ↦ subst (In j) (sym (ap (λ b. cond b (x ∷ filter p xs) (filter p xs)) not_here)) (in_filter p j xs yes_p i)
   ]
 
-  pub walk_from : (from : Key) → IsWalk (cells_in (flat_content flat)) (key_le from) (rows_from flat (Some from))
-  walk_from from = record {
-    rising = rows_rise from (filter (key_lt from) (held_keys flat)) (filter_above from (held_keys flat)) (filter_rises (key_lt from) (held_keys flat) rises);
-    inside = (le_itself from, rows_pass from (filter (key_lt from) (held_keys flat)) (filter_above from (held_keys flat)));
-    all = λ k within. rows_cells k (from ∷ filter (key_lt from) (held_keys flat)) (λ n. nothing_on k (λ held. elim (le_cases from k within) [
-      | inl up ↦ n (inr (in_filter (key_lt from) k (held_keys flat) up (held_in k held)))
+  -- the first key that is held from one on, and those above it
+  pub walk_from : (from : Key) (first : Option Key) → FirstOf (key_le from) (λ j. IsHeld (flat_content flat j)) first → IsWalk (cells_in (flat_content flat)) (key_le from) (rows_from flat first)
+  walk_from from None none = record { rising = tt; inside = tt; all = λ k within. nothing_on k (none k within) }
+  walk_from from (Some k) is = record {
+    rising = rows_rise k (filter (key_lt k) (held_keys flat)) (filter_above k (held_keys flat)) (filter_rises (key_lt k) (held_keys flat) rises);
+    inside = (is.passed, rows_pass from (filter (key_lt k) (held_keys flat)) (above_from from k (filter (key_lt k) (held_keys flat)) is.passed (filter_above k (held_keys flat))));
+    all = λ j within. rows_cells j (k ∷ filter (key_lt k) (held_keys flat)) (λ n. nothing_on j (λ held. elim (le_cases k j (is.least j within held)) [
+      | inl up ↦ n (inr (in_filter (key_lt k) j (held_keys flat) up (held_in j held)))
       | inr same ↦ n (inl same)
     ]));
   }
-
-  -- the rows after a step, whether another key follows or not
-  pub rows_step : (key : Key) (next : Option Key) → MatchOption next ((j : Key) → IsTrue (key_lt key j) → IsHeld (flat_content flat j) → ⊥) (λ k. IsNextKey (flat_content flat) key k) → rows_from flat (Some key) ≡ (record { key = key; cells = cells_in (flat_content flat) key }) ∷ rows_from flat next
-  rows_step key None none = rows_last key none
-  rows_step key (Some next) is = rows_next key next is
-
-  -- the lesser of the next key with a lock and the next with a write record
-  pub lesser_next : (key : Key) (a b : Option Key) → MatchOption a ((j : Key) → IsTrue (key_lt key j) → tree.get (slice_cmp nat_cmp) flat.locks j ≡ None) (λ k. IsNextLock (tree.get (slice_cmp nat_cmp) flat.locks) key k)
-      → MatchOption b ((j : Key) (q : ℕ) → IsTrue (key_lt key j) → tree.get version_cmp flat.writes (j, q) ≡ None) (λ k. IsNextFront (λ j q. tree.get version_cmp flat.writes (j, q)) key k)
-      → MatchOption (lesser_of a b) ((j : Key) → IsTrue (key_lt key j) → IsHeld (flat_content flat j) → ⊥) (λ k. IsNextKey (flat_content flat) key k)
-  lesser_next key None None l f = λ j up held. elim held [ inl lock ↦ lock (l j up) | inr write ↦ write.1 (f j write.0 up) ]
-  lesser_next key None (Some b) l f = record { later = f.later; held = inr (f.at, f.held); least = λ j up held. elim held [ inl lock ↦ absurd (lock (l j up)) | inr write ↦ f.least j write.0 up write.1 ] }
-  lesser_next key (Some a) None l f = record { later = l.later; held = inl l.held; least = λ j up held. elim held [ inl lock ↦ l.least j up lock | inr write ↦ absurd (write.1 (f j write.0 up)) ] }
-  lesser_next key (Some a) (Some b) l f = go (key_lt b a) refl
-    where
-      first_lock : key_lt b a ≡ false → IsNextKey (flat_content flat) key a
-      first_lock e = record {
-        later = l.later;
-        held = inl l.held;
-        least = λ j up held. elim held [
-          | inl lock ↦ l.least j up lock
-          | inr write ↦ elim (le_cases a b (not_lt b a e)) [
-            | inl lt ↦ lt_le a j (lt_then_le a b j lt (f.least j write.0 up write.1))
-            | inr same ↦ subst (λ (y : Key). IsTrue (key_le y j)) (sym same) (f.least j write.0 up write.1)
-          ]
-        ];
-      }
-
-      first_front : key_lt b a ≡ true → IsNextKey (flat_content flat) key b
-      first_front e = record {
-        later = f.later;
-        held = inr (f.at, f.held);
-        least = λ j up held. elim held [
-          | inl lock ↦ lt_le b j (lt_then_le b a j e (l.least j up lock))
-          | inr write ↦ f.least j write.0 up write.1
-        ];
-      }
-
-      go : (c : Bool) → key_lt b a ≡ c → MatchOption (cond c (Some b) (Some a)) ((j : Key) → IsTrue (key_lt key j) → IsHeld (flat_content flat j) → ⊥) (λ k. IsNextKey (flat_content flat) key k)
-      go true e = first_front e
-      go false e = first_lock e

@@ -1,5 +1,5 @@
 -- What a read finds by the newest put or delete among the write records.
-use Rattle.std.proofs.Common.{◌≡◌, ℕ, ◌<◌, ◌≤◌, ◌⊎◌, inl, inr, Option, Some, None, refl, sym, ap, subst, ◌∙◌, arith}
+use Rattle.std.proofs.Common.{◌≡◌, ℕ, ◌⊎◌, inl, inr, true, false, Option, Some, None, sym, ap, subst, ◌∙◌, arith}
 use Rattle.std.proofs.lemmas.Bool.{cases_lt}
 use Rattle.tx_types.specs.Kinds.{stored_kind}
 use Rattle.tx_types.specs.declared.value.Value.{Value}
@@ -11,11 +11,11 @@ use Rattle.tx_types.specs.declared.mutation.Mutation.TheVariants as mutation
 use Rattle.tx_types.specs.declared.mutation.StoredMutation.{StoredMutation}
 use Rattle.tx_types.specs.declared.mutation.StoredMutation.TheVariants as stored
 use Rattle.tx_types.specs.declared.write.CommitRec.{CommitRec}
-use Rattle.tx_types.specs.declared.write.WriteRec.{WriteRec}
 use Rattle.tx_types.specs.declared.write.WriteRec.TheVariants.{Commit}
 use Rattle.tx_types.specs.Keys.{IsVisible}
 use Rattle.tx_plan.specs.Cells.{CommitRecord, CommitOf}
 use Rattle.tx_plan.specs.Reads.{NoneWritten, Finds, Reads}
+use Rattle.tx_cells.specs.Heads.{keeps_apart, inline_of}
 use Rattle.tx_cells.specs.Contents.{OnKey, cells_of, whole, put_whole, IsKept}
 use Rattle.tx_cells.specs.Histories.{IsSeenKind, NoneSeenAbove, NoneSeen, IsSeen, value_kept}
 use Rattle.tx_cells.proofs.Showing.{kept_commit, stands_commit}
@@ -105,3 +105,17 @@ module _ (x : OnKey) (r : ℕ) where
         apart None e h = h
         apart (Some w) e h = cc e
     value_found InDefault m kept (Some v) is = finds v (ap (whole (x.value of.start)) m ∙ ap put_whole (sym is))
+
+    -- where the value that it puts stands inline
+    pub inline_found : (m : StoredMutation) → of.mutation ≡ m → keeps_apart m ≡ false → IsKept (x.value of.start) of.mutation → (found : Option Value) → found ≡ inline_of m → Reads (cells_of x).write r found
+    inline_found (stored.Put (Inline v)) is apart kept found f = value_found (Inline v) is kept found f
+    inline_found (stored.Put InDefault) is apart kept found f = absurd (cc apart)
+    inline_found stored.Delete is apart kept found f = subst (Reads (cells_of x).write r) (sym f) (no_put (inl is))
+    inline_found stored.Lock is apart kept found f = subst (Reads (cells_of x).write r) (sym f) (no_put (inr is))
+
+    -- where it stands apart
+    pub apart_found : (m : StoredMutation) → of.mutation ≡ m → keeps_apart m ≡ true → IsKept (x.value of.start) of.mutation → (found : Option Value) → found ≡ x.value of.start → Reads (cells_of x).write r found
+    apart_found (stored.Put (Inline v)) is apart kept found f = absurd (cc apart)
+    apart_found (stored.Put InDefault) is apart kept found f = value_found InDefault is kept found f
+    apart_found stored.Delete is apart kept found f = absurd (cc apart)
+    apart_found stored.Lock is apart kept found f = absurd (cc apart)

@@ -1,7 +1,8 @@
 -- What is asked of lock records and write records.
-use Rattle.std.specs.Prelude.{ℕ, Bool, true, false}
+use Rattle.std.specs.Prelude.{ℕ, Bool, true, false, Option, Some, None}
 use Rattle.tx_types.specs.Kinds.{stored_kind}
 use Rattle.tx_types.specs.Locks.{mode_of}
+use Rattle.tx_types.specs.declared.value.Value.{Value}
 use Rattle.tx_types.specs.declared.value.StoredValue.{StoredValue}
 use Rattle.tx_types.specs.declared.value.StoredValue.TheVariants.{Inline, InDefault}
 use Rattle.tx_types.specs.declared.mutation.StoredMutation.{StoredMutation}
@@ -51,6 +52,18 @@ keeps_apart Lock = false
 abbrev pub write_keeps_apart : WriteRec → Bool
 write_keeps_apart (stored.Commit rec) = keeps_apart rec.mutation
 write_keeps_apart (stored.Rollback start) = false
+
+-- the value that a mutation puts and its record keeps inline
+abbrev pub inline_of : StoredMutation → Option Value
+inline_of (Put (Inline v)) = Some v
+inline_of (Put InDefault) = None
+inline_of Delete = None
+inline_of Lock = None
+
+-- the same of a write record
+abbrev pub write_inline : WriteRec → Option Value
+write_inline (stored.Commit rec) = inline_of rec.mutation
+write_inline (stored.Rollback start) = None
 
 -- what collection asks of a mutation, and of a write record
 abbrev pub mutation_kind : StoredMutation → RecordKind

@@ -1,33 +1,23 @@
 -- The keys of which something is held, one after the other.
-use Rattle.std.specs.Prelude.{◌≡◌, ◌≢◌, ◌⊎◌, ℕ, cond, Option, Some, None, IsTrue}
+use Rattle.std.specs.Prelude.{◌≢◌, ◌⊎◌, ℕ, Bool, cond, Option, Some, None, IsTrue}
 use Rattle.tx_types.specs.declared.key.Key.{Key}
-use Rattle.tx_types.specs.declared.lock.LockRec.{LockRec}
-use Rattle.tx_types.specs.declared.write.WriteRec.{WriteRec}
 use Rattle.tx_types.specs.Keys.{key_lt, key_le}
-use Rattle.tx_cells.specs.Contents.{OnKey, Content}
+use Rattle.tx_cells.specs.Contents.{OnKey}
 
 -- a lock or a write record is held
 abbrev pub IsHeld : OnKey → Type 0
 IsHeld x = (x.lock ≢ None) ⊎ ((q : ℕ) × (x.write q ≢ None))
 
--- k is the first key after this one of which one is held
-pub record IsNextKey (content : Content) (key k : Key) : Type 0 where
-  pub later : IsTrue (key_lt key k)
-  pub held : IsHeld (content k)
-  pub least : (j : Key) → IsTrue (key_lt key j) → IsHeld (content j) → IsTrue (key_le k j)
+-- k is the first key that passes the test and is among these
+pub record IsFirst (passes : Key → Bool) (IsAmong : Key → Type 0) (k : Key) : Type 0 where
+  pub passed : IsTrue (passes k)
+  pub among : IsAmong k
+  pub least : (j : Key) → IsTrue (passes j) → IsAmong j → IsTrue (key_le k j)
 
--- the first that has a lock
-pub record IsNextLock (locks : Key → Option LockRec) (key k : Key) : Type 0 where
-  pub later : IsTrue (key_lt key k)
-  pub held : locks k ≢ None
-  pub least : (j : Key) → IsTrue (key_lt key j) → locks j ≢ None → IsTrue (key_le k j)
-
--- the first that has a write record
-pub record IsNextFront (writes : Key → ℕ → Option WriteRec) (key k : Key) : Type 0 where
-  pub later : IsTrue (key_lt key k)
-  pub at : ℕ
-  pub held : writes k at ≢ None
-  pub least : (j : Key) (q : ℕ) → IsTrue (key_lt key j) → writes j q ≢ None → IsTrue (key_le k j)
+-- the first of them, where one passes
+abbrev pub FirstOf : (Key → Bool) → (Key → Type 0) → Option Key → Type 0
+FirstOf passes IsAmong None = (j : Key) → IsTrue (passes j) → IsAmong j → ⊥
+FirstOf passes IsAmong (Some k) = IsFirst passes IsAmong k
 
 -- the lesser of two keys, or the one that is there
 abbrev pub lesser_of : Option Key → Option Key → Option Key

@@ -1,91 +1,46 @@
-//! The keys of which something is held, one after the other.
-ghost use Rattle.std.specs.Prelude.{◌≡◌, ◌≢◌, ℕ, None, IsTrue, Option, IfOk, IfErr, MatchOption};
-ghost use Rattle.std.specs.BTreeMap as tree;
-ghost use Rattle.std.specs.Ordering.{nat_cmp};
-ghost use Rattle.std.specs.Cmp.Lexicographic.{slice_cmp};
-ghost use Rattle.tx_types.specs.declared.key.Key.{Key};
-ghost use Rattle.tx_types.specs.Keys.{key_lt};
+//! The first write record of the next key.
+ghost use Rattle.std.specs.Prelude.{◌≡◌, ◌∷◌, IfOk, IfErr};
+ghost use Rattle.std.specs.List.Sorted.{IsStrictlySortedBy};
+ghost use Rattle.std.specs.Map.{keys_of};
+ghost use Rattle.std.specs.Map.Iter.{deref_pair};
+ghost use Rattle.tx_types.specs.Keys.{key_lt, key_le};
 ghost use Rattle.tx_cells.specs.Spelt.{version_cmp};
-ghost use Rattle.tx_cells.specs.NextKeys.{IsHeld, IsNextKey, IsNextLock, IsNextFront, lesser_of};
+ghost use Rattle.tx_cells.specs.Places.{coming, writes_where};
 
-use super::FlatCells;
-use crate::records::{LockBytes, WriteBytes};
-use crate::spelling::{KeyBytes, VersionBytes};
-use std::alloc::Global;
+use crate::records::WriteBytes;
+use crate::spelling::VersionBytes;
+use std::alloc::{AllocError, Global};
 use std::collections::BTreeMap;
+use std::collections::btree_map::Range;
 use std::ops::Bound;
-use tx_types::{Fault, Key, Ts};
+use tx_types::{Key, Ts};
 
-/// The next key that has a lock.
-fn next_lock(
-    locks: &BTreeMap<KeyBytes, LockBytes>,
+/// A version and its write record, in the maps.
+pub(super) type Record<'a> = (&'a VersionBytes, &'a WriteBytes);
+
+/// The first record behind those of a key, by its newest. What lies in `rest` behind that is mostly of another key. Else one
+/// search finds what lies behind the last version that a key may have.
+pub(super) fn next_front<'a>(
+    writes: &'a BTreeMap<VersionBytes, WriteBytes>,
+    rest: &mut Range<'a, VersionBytes, WriteBytes>,
     alloc: Global,
     key: &Key,
-) -> Result<Option<Key>, Fault>
-    ensures next { IfOk result (λ found. MatchOption found ((j : Key) → IsTrue (key_lt key.now j) → tree.get (slice_cmp nat_cmp) locks.now j ≡ None) (λ k. IsNextLock (tree.get (slice_cmp nat_cmp) locks.now) key.now k)) }
-    ensures err { IfErr result (λ e. e ≡ Fault.OutOfMemory) }
+    newest: Record<'a>,
+) -> Result<Option<Record<'a>>, AllocError>
+    requires of { newest.0.now.0 ≡ key.now }
+    requires order { IsStrictlySortedBy version_cmp (keys_of writes.now.entries) }
+    requires left { deref_pair newest ∷ rest.old ≡ writes_where (key_le key.now) writes.now.entries }
+    ensures { IfOk result (λ next. coming next rest.new ≡ writes_where (key_lt key.now) writes.now.entries) }
 {
-    if locks.is_empty() {
-        return Ok(None);
-    }
-    let spelt = KeyBytes::new(alloc, key)?;
-    let mut rest = locks.range((Bound::Excluded(&spelt), Bound::Unbounded));
-    let Some((next, _)) = rest.next() else {
-        return Ok(None);
-    };
-    Ok(Some(next.read(alloc)?))
-}
-
-/// The next key that has write records, by a version of the last key. What lies behind the last version that a key may have is
-/// of another.
-fn next_front(
-    writes: &BTreeMap<VersionBytes, WriteBytes>,
-    alloc: Global,
-    mut last: VersionBytes,
-) -> Result<Option<Key>, Fault>
-    ensures next { IfOk result (λ found. MatchOption found ((j : Key) (q : ℕ) → IsTrue (key_lt last.0 j) → tree.get version_cmp writes.now (j, q) ≡ None) (λ k. IsNextFront (λ j q. tree.get version_cmp writes.now (j, q)) last.0 k)) }
-    ensures err { IfErr result (λ e. e ≡ Fault.OutOfMemory) }
-{
-    last.set_at(Ts::ZERO);
-    let mut rest = writes.range((Bound::Excluded(&last), Bound::Unbounded));
-    let Some((next, _)) = rest.next() else {
+    let (version, bytes) = newest;
+    let _ = bytes;
+    let Some(next) = rest.next() else {
         return Ok(None);
     };
-    Ok(Some(next.key(alloc)?))
-}
-
-/// The lesser of two keys, of which one or both may be missing.
-fn lesser(a: Option<Key>, b: Option<Key>) -> Option<Key>
-    ensures { result ≡ lesser_of a b }
-{
-    let Some(a) = a else {
-        return b;
-    };
-    let Some(b) = b else {
-        return Some(a);
-    };
-    if b < a {
-        return Some(b);
+    if !next.0.is_beside(version) {
+        return Ok(Some(next));
     }
-    Some(a)
-}
-
-impl FlatCells {
-    ghost use Rattle.tx_cells.specs.Flats.{flat_content};
-
-    /// The next key of which a lock or a write record is held. `version` is one of this key.
-    pub(super) fn next_key(
-        &self,
-        alloc: Global,
-        key: &Key,
-        version: VersionBytes,
-    ) -> Result<Option<Key>, Fault>
-        requires { version.0 ≡ key.now }
-        ensures next { IfOk result (λ found. MatchOption found ((j : Key) → IsTrue (key_lt key.now j) → IsHeld (flat_content self.now j) → ⊥) (λ k. IsNextKey (flat_content self.now) key.now k)) }
-        ensures err { IfErr result (λ e. e ≡ Fault.OutOfMemory) }
-    {
-        let lock = next_lock(&self.locks, alloc, key)?;
-        let front = next_front(&self.writes, alloc, version)?;
-        Ok(lesser(lock, front))
-    }
+    let last = VersionBytes::new(alloc, key, Ts::ZERO)?;
+    *rest = writes.range((Bound::Excluded(&last), Bound::Unbounded));
+    Ok(rest.next())
 }

@@ -18,7 +18,7 @@ impl FlatCells {
         ensures answers { IfOk result (λ a. MeetsLock (cells_in (flat_content self.now)) body.now a ⊎ GivesRows (cells_in (flat_content self.now)) body.now a) }
         ensures err { IfErr result (λ e. e ≡ Fault.OutOfMemory) }
     {
-        let walk = self.reads_from(&body.from)?;
+        let walk = self.reads_from(alloc, &body.from)?;
         scan_walk(alloc, walk, body)
     }
 

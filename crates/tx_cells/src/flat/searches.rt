@@ -1,11 +1,12 @@
 //! Look-ups in what is held under keys and versions. The versions of a key are from the newest to the oldest.
-ghost use Rattle.std.specs.Prelude.{◌≡◌, ◌≤◌, ℕ, None, Some, IfSome, IfNone, IsSome, IfOk, option_map};
+ghost use Rattle.std.specs.Prelude.{◌≡◌, ◌≤◌, ℕ, Bool, None, Some, IfSome, IfNone, IsSome, IfOk, option_map};
 ghost use Rattle.std.specs.BTreeMap as tree;
 ghost use Rattle.std.specs.Ordering.{nat_cmp};
 ghost use Rattle.std.specs.Cmp.Lexicographic.{slice_cmp};
 ghost use Rattle.tx_cells.specs.Spelt.{version_cmp};
 ghost use Rattle.tx_cells.specs.Heads.{write_head, lock_head, record_kind};
-ghost use Rattle.tx_cells.specs.Histories.{IsSeen};
+ghost use Rattle.tx_cells.specs.Histories.{IsSeen, IsSeenKind};
+ghost use Rattle.tx_plan.specs.declared.view.RecordHead.TheVariants as head;
 
 use crate::history::{History, Seen};
 use crate::records::{LockBytes, WriteBytes};
@@ -134,6 +135,24 @@ fn head_upto(
     Some((at, head_of(bytes)))
 }
 
+/// The record at a timestamp as reads see it, where it is a put or a delete.
+pub(super) fn seen_in(commit: Ts, bytes: &WriteBytes) -> Option<Seen>
+    ensures commit { IfSome result (λ seen. seen.commit ≡ commit) }
+    ensures kind { IfSome result (λ seen. IsSeenKind seen.kind × ((mark : Bool) × (write_head bytes.now ≡ head.Commit seen.kind seen.start mark))) }
+{
+    let RecordHead::Commit { kind, start, .. } = head_of(bytes) else {
+        return None;
+    };
+    if kind == LockKind::Lock {
+        return None;
+    }
+    Some(Seen {
+        commit,
+        start,
+        kind,
+    })
+}
+
 /// The record nearest to a version of its key, at its timestamp or below, where it is a put or a delete.
 pub(super) fn newest_seen<'a>(
     writes: &'a BTreeMap<VersionBytes, WriteBytes>,
@@ -145,16 +164,8 @@ pub(super) fn newest_seen<'a>(
     let Some((commit, bytes)) = record_upto(writes, bound) else {
         return None;
     };
-    let RecordHead::Commit { kind, start, .. } = head_of(bytes) else {
+    let Some(seen) = seen_in(commit, bytes) else {
         return None;
-    };
-    if kind == LockKind::Lock {
-        return None;
-    }
-    let seen = Seen {
-        commit,
-        start,
-        kind,
     };
     Some((seen, bytes))
 }

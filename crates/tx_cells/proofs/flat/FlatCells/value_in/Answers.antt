@@ -1,33 +1,50 @@
-use Rattle.std.proofs.Common.{◌≡◌, Some, Option, ℕ, List, refl, ap, sym, ◌∙◌}
+use Rattle.std.proofs.Common.{◌≡◌, Some, None, Option, refl, ap, sym, ◌∙◌}
 use Rattle.std.specs.BTreeMap as tree
 use Rattle.tx_types.specs.declared.value.Value.{Value}
-use Rattle.tx_types.specs.declared.write.WriteRec.{WriteRec}
 use Rattle.tx_types.specs.declared.write.WriteRec.TheVariants.{Commit}
 use Rattle.tx_plan.specs.Reads.{Reads}
 use Rattle.tx_cells.specs.Contents.{cells_of}
 use Rattle.tx_cells.specs.Spelt.{version_cmp}
 use Rattle.tx_cells.specs.Flats.{flat_content}
-use Rattle.tx_cells.specs.Histories.{value_kept}
+use Rattle.tx_cells.specs.Heads.{write_inline, write_keeps_apart}
 use Rattle.tx_cells.proofs.Facts.{write_kept, whole_at, if_ok}
-use Rattle.tx_cells.proofs.Reading.{value_found, no_put}
+use Rattle.tx_cells.proofs.Reading.{inline_found, apart_found}
 use Rattle.tx_cells.proofs.flat.FlatCells.value_in.Goals as goal
 
-pub returns-in-Put-clause-value : goal.returns-in-Put-clause-value
-returns-in-Put-clause-value c =
+pub returns-then-not-keeps_value_apart-clause-value : goal.returns-then-not-keeps_value_apart-clause-value
+returns-then-not-keeps_value_apart-clause-value c =
     let flat = c.args.self.now in
-    let x = flat_content flat c.args.version.now.0 in
+    let x = flat_content flat c.args.key.now in
     let seen = c.args.seen in
-    let rec = c.in-Commit.rec in
-    let e : x.write seen.commit ≡ Some (Commit rec) = c.requires.stands ∙ ap (λ (r : WriteRec). Some r) (sym c.in_ok-rec.ensures.ok ∙ c.in-Commit.is) in
-    if_ok c.stored_value.result (λ (found : Option Value). found ≡ value_kept (tree.get version_cmp flat.values c.set_at.new.self) c.in-Put.value) (Reads (cells_of x).write c.args.at)
-    (λ found is. value_found x c.args.at seen.commit seen.start seen.kind c.requires.seen rec e c.in-Put.value c.in-Put.is (write_kept x (whole_at (flat_content flat) flat.whole c.args.version.now.0) seen.commit rec e) found
-    (is ∙ ap (λ (v : List ℕ × ℕ). value_kept (tree.get version_cmp flat.values v) c.in-Put.value) c.set_at.ensures))
-    c.stored_value.ensures.value
+    let rec = c.requires.seen.rec in
+    let e = c.requires.seen.stands in
+    let same : c.args.bytes.now ≡ Commit rec = cc (e, c.requires.stands) in
+    let apart = sym (ap write_keeps_apart same) ∙ sym c.keeps_value_apart.ensures ∙ c.if-not-keeps_value_apart.true in
+    if_ok c.inline_value.result (λ (found : Option Value). found ≡ write_inline c.args.bytes.now) (Reads (cells_of x).write c.args.at)
+    (λ found is. inline_found x c.args.at seen.commit seen.start seen.kind c.requires.seen rec e rec.mutation refl apart (write_kept x (whole_at (flat_content flat) flat.whole c.args.key.now) seen.commit rec e) found (is ∙ ap write_inline same))
+    c.inline_value.ensures.ok
 
-pub returns-in-Delete : goal.returns-in-Delete
-returns-in-Delete c =
-    let x = flat_content c.args.self.now c.args.version.now.0 in
+pub returns-in-Some-clause-value : goal.returns-in-Some-clause-value
+returns-in-Some-clause-value c =
+    let flat = c.args.self.now in
+    let x = flat_content flat c.args.key.now in
     let seen = c.args.seen in
-    let rec = c.in-Commit.rec in
-    let e : x.write seen.commit ≡ Some (Commit rec) = c.requires.stands ∙ ap (λ (r : WriteRec). Some r) (sym c.in_ok-rec.ensures.ok ∙ c.in-Commit.is) in
-    record { value = no_put x c.args.at seen.commit seen.start seen.kind c.requires.seen rec e c.in-Delete.is; same_key = refl; err = tt }
+    let rec = c.requires.seen.rec in
+    let e = c.requires.seen.stands in
+    let same : c.args.bytes.now ≡ Commit rec = cc (e, c.requires.stands) in
+    let apart = sym (ap write_keeps_apart same) ∙ sym c.keeps_value_apart.ensures ∙ c.if-not-keeps_value_apart.false in
+    let found : Some c.in_ok-clone-in-Some.field-0 ≡ x.value rec.start =
+    ap (λ (v : Value). Some v) c.in_ok-clone-in-Some.ensures.ok ∙ c.in-Some.ensures.value ∙ ap (tree.get version_cmp flat.values) c.in_ok-version.ensures ∙ ap x.value (sym c.requires.seen.of) in
+    apart_found x c.args.at seen.commit seen.start seen.kind c.requires.seen rec e rec.mutation refl apart (write_kept x (whole_at (flat_content flat) flat.whole c.args.key.now) seen.commit rec e) (Some c.in_ok-clone-in-Some.field-0) found
+
+pub returns-clause-value : goal.returns-clause-value
+returns-clause-value c =
+    let flat = c.args.self.now in
+    let x = flat_content flat c.args.key.now in
+    let seen = c.args.seen in
+    let rec = c.requires.seen.rec in
+    let e = c.requires.seen.stands in
+    let same : c.args.bytes.now ≡ Commit rec = cc (e, c.requires.stands) in
+    let apart = sym (ap write_keeps_apart same) ∙ sym c.keeps_value_apart.ensures ∙ c.if-not-keeps_value_apart.false in
+    let found : None ≡ x.value rec.start = c.in-None.ensures.value ∙ ap (tree.get version_cmp flat.values) c.in_ok-version.ensures ∙ ap x.value (sym c.requires.seen.of) in
+    apart_found x c.args.at seen.commit seen.start seen.kind c.requires.seen rec e rec.mutation refl apart (write_kept x (whole_at (flat_content flat) flat.whole c.args.key.now) seen.commit rec e) None found
