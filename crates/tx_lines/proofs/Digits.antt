@@ -1,17 +1,17 @@
--- A whole number among the lexemes of a line.
-use Rattle.std.proofs.Common.{◌≡◌, ◌≢◌, ℕ, zero, suc, ◌+◌, ◌-◌, ◌≤◌, ◌<◌, ◌==◌, true, false, cond, List, ◌∷◌, length, take, drop, get_or, length-drop, Some, None, refl, sym, ap, subst, ◌∙◌, ◌⊎◌, inl, inr, ne_eqb, arith}
+-- A whole number, or null, among the lexemes of a line.
+use Rattle.std.proofs.Common.{◌≡◌, ◌≢◌, ℕ, zero, suc, ◌+◌, ◌-◌, ◌≤◌, ◌<◌, ◌==◌, true, false, cond, List, ◌∷◌, length, take, drop, get_or, length-drop, Some, None, refl, sym, ap, subst, ◌∙◌, inl, inr, ne_eqb, arith}
 use Rattle.std.specs.Prelude.{slice_range, ◌^◌}
 use Rattle.std.specs.List.{prefix_len}
 use Rattle.std.specs.Char.{is_ascii_digit}
 use Rattle.std.proofs.lemmas.Bool.{lt-ltb}
 use Rattle.std.proofs.lemmas.List.{drop_more, drop-drop, get_or-take, get_or-drop}
 use Rattle.fast_float.specs.Text.{Parts, scan, IsInteger, digits_of}
-use Rattle.json.specs.Token.{number}
+use Rattle.json.specs.Token.{number, null}
 use Rattle.json.specs.Lex.{token, between, in_word, lex}
 use Rattle.json.specs.Word.{word, after_number, after_digits, after_fraction, after_exponent, number_before}
 use Rattle.serde_json.specs.Data.{unsigned}
 use Rattle.serde_json.specs.Read.{number_of, is_integer}
-use Rattle.tx_lines.specs.Scan.{Same, Begins}
+use Rattle.tx_lines.specs.Scan.{Same, Begins, EndsWord}
 use Rattle.std.specs.Prelude.{option_and_then}
 
 -- what holds of the ten digits
@@ -43,21 +43,18 @@ unfolding lex
 word_begins x low high = of_digit (λ y. (xs : List ℕ) → lex between (y ∷ xs) ≡ token (word (y ∷ xs)) ∷ lex in_word xs)
     (λ xs. refl) (λ xs. refl) (λ xs. refl) (λ xs. refl) (λ xs. refl) (λ xs. refl) (λ xs. refl) (λ xs. refl) (λ xs. refl) (λ xs. refl) x low high
 
--- what may follow a number here
-abbrev pub EndsNumber : ℕ → Type 0
-EndsNumber y = (y ≡ 44) ⊎ ((y ≡ 93) ⊎ (y ≡ 32))
-
-at_end : (P : ℕ → Type 0) → P 44 → P 93 → P 32 → (y : ℕ) → EndsNumber y → P y
+-- what may follow a number or null here
+at_end : (P : ℕ → Type 0) → P 44 → P 93 → P 32 → (y : ℕ) → EndsWord y → P y
 at_end P a b c y (inl e) = subst P (sym e) a
 at_end P a b c y (inr (inl e)) = subst P (sym e) b
 at_end P a b c y (inr (inr e)) = subst P (sym e) c
 
-leaves_word : (y : ℕ) → EndsNumber y → (ys : List ℕ) → lex in_word (y ∷ ys) ≡ lex between (y ∷ ys)
+leaves_word : (y : ℕ) → EndsWord y → (ys : List ℕ) → lex in_word (y ∷ ys) ≡ lex between (y ∷ ys)
 unfolding lex
 leaves_word y ends = at_end (λ z. (ys : List ℕ) → lex in_word (z ∷ ys) ≡ lex between (z ∷ ys)) (λ ys. refl) (λ ys. refl) (λ ys. refl) y ends
 
 -- a number that ends so
-whole_ends : (t : List ℕ) (y : ℕ) → EndsNumber y → (ys : List ℕ) → number_before t (option_and_then after_exponent (option_and_then after_fraction (Some (y ∷ ys)))) ≡ number (take (length t - length (y ∷ ys)) t)
+whole_ends : (t : List ℕ) (y : ℕ) → EndsWord y → (ys : List ℕ) → number_before t (option_and_then after_exponent (option_and_then after_fraction (Some (y ∷ ys)))) ≡ number (take (length t - length (y ∷ ys)) t)
 whole_ends t y ends = at_end (λ z. (ys : List ℕ) → number_before t (option_and_then after_exponent (option_and_then after_fraction (Some (z ∷ ys)))) ≡ number (take (length t - length (z ∷ ys)) t)) (λ ys. refl) (λ ys. refl) (λ ys. refl) y ends
 
 after_digits_is : (t : List ℕ) (n : ℕ) → prefix_len is_ascii_digit t ≡ n → 0 < n → after_digits t ≡ Some (drop n t)
@@ -70,7 +67,7 @@ unfolding word after_number
 word_is x low high = of_digit (λ y. y ≢ 48 → (xs : List ℕ) → word (y ∷ xs) ≡ number_before (y ∷ xs) (option_and_then after_exponent (option_and_then after_fraction (after_digits (y ∷ xs)))))
     (λ other xs. absurd (other refl)) (λ _ xs. refl) (λ _ xs. refl) (λ _ xs. refl) (λ _ xs. refl) (λ _ xs. refl) (λ _ xs. refl) (λ _ xs. refl) (λ _ xs. refl) (λ _ xs. refl) x low high
 
-digits_word : (x : ℕ) → 49 ≤ x → x ≤ 57 → (xs : List ℕ) (n y : ℕ) (ys : List ℕ) → prefix_len is_ascii_digit (x ∷ xs) ≡ n → 0 < n → n < length (x ∷ xs) → EndsNumber y → drop n (x ∷ xs) ≡ y ∷ ys
+digits_word : (x : ℕ) → 49 ≤ x → x ≤ 57 → (xs : List ℕ) (n y : ℕ) (ys : List ℕ) → prefix_len is_ascii_digit (x ∷ xs) ≡ n → 0 < n → n < length (x ∷ xs) → EndsWord y → drop n (x ∷ xs) ≡ y ∷ ys
     → word (x ∷ xs) ≡ number (take n (x ∷ xs))
 digits_word x low high xs n y ys digits some within ends is =
     let t = x ∷ xs in
@@ -80,7 +77,7 @@ digits_word x low high xs n y ys digits some within ends is =
     ∙ whole_ends t y ends ys ∙ ap (λ m. number (take m t)) long
 
 digits_begin : (x : ℕ) → 49 ≤ x → x ≤ 57 → (xs : List ℕ) (n y : ℕ) (ys : List ℕ) → prefix_len is_ascii_digit (x ∷ xs) ≡ n → 0 < n → n < length (x ∷ xs)
-    → lex in_word (x ∷ xs) ≡ lex in_word (y ∷ ys) → EndsNumber y → drop n (x ∷ xs) ≡ y ∷ ys → Begins (x ∷ xs) (token (number (take n (x ∷ xs)))) (y ∷ ys)
+    → lex in_word (x ∷ xs) ≡ lex in_word (y ∷ ys) → EndsWord y → drop n (x ∷ xs) ≡ y ∷ ys → Begins (x ∷ xs) (token (number (take n (x ∷ xs)))) (y ∷ ys)
 digits_begin x low high xs n y ys digits some within lexed ends is =
     word_begins x (omega arith) high xs ∙ ap (λ w. token w ∷ lex in_word xs) (digits_word x low high xs n y ys digits some within ends is)
     ∙ ap (λ ls. token (number (take n (x ∷ xs))) ∷ ls) (sym (word_passes x (omega arith) high xs) ∙ lexed ∙ leaves_word y ends ys)
@@ -106,7 +103,7 @@ digits_over bytes from at h is before =
     omega (arith, before, none)
 
 pub number_begins : (from bytes : List ℕ) (s e : ℕ) → s < e → e < length bytes → Same from (drop s bytes) → prefix_len is_ascii_digit (drop s bytes) ≡ e - s
-    → lex in_word (drop s bytes) ≡ lex in_word (drop e bytes) → 49 ≤ get_or bytes s 0 → get_or bytes s 0 ≤ 57 → EndsNumber (get_or bytes e 0)
+    → lex in_word (drop s bytes) ≡ lex in_word (drop e bytes) → 49 ≤ get_or bytes s 0 → get_or bytes s 0 ≤ 57 → EndsWord (get_or bytes e 0)
     → Begins from (token (number (slice_range bytes s e))) (drop e bytes)
 number_begins from bytes s e lt within same digits lexed low high ends =
     let x = get_or bytes s 0 in
@@ -135,3 +132,26 @@ pub number_reads : (s : List ℕ) (n : ℕ) → get_or s 0 0 ≢ 45 → IsIntege
 unfolding number_of
 number_reads s n sign integer small is =
     rw (ne_eqb (get_or s 0 0) 45 sign, integer_is (scan s) integer, lt-ltb (digits_of (scan s)) (2 ^ 64) small) (ap (λ m. Some (unsigned m)) is)
+
+-- ---- null
+
+null_word : (y : ℕ) → EndsWord y → (ys : List ℕ) → lex between (110 ∷ 117 ∷ 108 ∷ 108 ∷ y ∷ ys) ≡ token null ∷ lex between (y ∷ ys)
+unfolding lex word
+null_word y ends = at_end (λ z. (ys : List ℕ) → lex between (110 ∷ 117 ∷ 108 ∷ 108 ∷ z ∷ ys) ≡ token null ∷ lex between (z ∷ ys)) (λ ys. refl) (λ ys. refl) (λ ys. refl) y ends
+
+next_is : (bytes : List ℕ) (at after x : ℕ) → after ≡ at + 1 → at < length bytes → get_or bytes at 0 ≡ x → drop at bytes ≡ x ∷ drop after bytes
+next_is bytes at after x step within is = drop_more bytes at 0 within ∙ ap (λ y. y ∷ drop (at + 1) bytes) is ∙ ap (λ n. x ∷ drop n bytes) (sym step)
+
+pub null_begins : (from bytes : List ℕ) (s : ℕ) → s + 4 < length bytes → Same from (drop s bytes)
+    → get_or bytes s 0 ≡ 110 → get_or bytes (s + 1) 0 ≡ 117 → get_or bytes (s + 2) 0 ≡ 108 → get_or bytes (s + 3) 0 ≡ 108 → EndsWord (get_or bytes (s + 4) 0)
+    → Begins from (token null) (drop (s + 4) bytes)
+null_begins from bytes s within same n u l k ends =
+    let y = get_or bytes (s + 4) 0 in
+    let ys = drop (s + 5) bytes in
+    let last : drop (s + 4) bytes ≡ y ∷ ys = next_is bytes (s + 4) (s + 5) y (omega arith) within refl in
+    let word_there : drop s bytes ≡ 110 ∷ 117 ∷ 108 ∷ 108 ∷ y ∷ ys =
+    next_is bytes s (s + 1) 110 (omega arith) (omega arith) n ∙ ap (λ t. 110 ∷ t) (
+    next_is bytes (s + 1) (s + 2) 117 (omega arith) (omega arith) u ∙ ap (λ t. 117 ∷ t) (
+    next_is bytes (s + 2) (s + 3) 108 (omega arith) (omega arith) l ∙ ap (λ t. 108 ∷ t) (
+    next_is bytes (s + 3) (s + 4) 108 (omega arith) (omega arith) k ∙ ap (λ t. 108 ∷ t) last))) in
+    same ∙ ap (lex between) word_there ∙ null_word y ends ys ∙ ap (λ t. token null ∷ lex between t) (sym last)

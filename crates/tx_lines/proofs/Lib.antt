@@ -2,10 +2,12 @@
 pub mod TextLines
 -- The lexemes of a line, one by one.
 pub mod Lexemes
--- A whole number among them.
+-- A whole number, or null, among them.
 pub mod Digits
--- The value of an array of strings and numbers, by its lexemes.
+-- The value of an array of strings, numbers and nulls, by its lexemes.
 pub mod Leaves
+-- The same, with a list of rows at its end.
+pub mod ListedRows
 -- The text of a line, part by part.
 pub mod Texts
 -- Lists, entry by entry.

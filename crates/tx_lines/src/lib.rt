@@ -1,8 +1,8 @@
 //! Text line by line. A line is read from what is at hand, taken apart into the members of its JSON array, and bytes are
 //! written so that it is known what a failure leaves.
 //!
-//! A line that is an array of plain strings and whole numbers is scanned straight from its bytes; of any other `serde_json`
-//! is the judge. Nothing is allocated for a plain line.
+//! A line that is an array of plain strings, whole numbers and nulls is scanned straight from its bytes, and one with a list of
+//! rows at its end; of any other `serde_json` is the judge. Nothing is allocated for a line without rows.
 #![tactic(auto)]
 
 mod answer;
@@ -10,11 +10,14 @@ mod end;
 mod fault;
 mod lines;
 mod list;
+mod listed;
 mod output;
 mod part;
 mod reply;
 mod rows;
 mod scan;
+#[cfg(test)]
+mod scan_tests;
 mod status;
 mod step;
 #[cfg(test)]
@@ -26,6 +29,7 @@ mod versions;
 pub use end::{Broken, End};
 pub use fault::put_fault;
 pub use lines::{Found, read_line};
+pub use listed::{Row, Scanned, scanned_with_rows};
 pub use output::{finish, send};
 pub use part::{MAX_PARTS, Part, Parts, parts_of};
 pub use reply::{REFUSAL_BYTES, Reply, put_reply};

@@ -11,11 +11,12 @@ use serde_json::Value;
 /// The most members that a step has.
 pub const MAX_PARTS: usize = 7;
 
-/// A member: a string, a whole number from 0 to 2^64 - 1, or what else a value may be.
+/// A member: a string, a whole number from 0 to 2^64 - 1, null, or what else a value may be.
 #[derive(Clone, Copy, Debug, Drop)]
 pub enum Part<'a> {
     Text(&'a str),
     Number(u64),
+    Null,
     Other(&'a Value),
 }
 
@@ -48,7 +49,7 @@ impl<'a> Part<'a> {
     {
         match *self {
             Part::Text(text) => Some(text),
-            Part::Number(_) => None,
+            Part::Number(_) | Part::Null => None,
             Part::Other(value) => value.as_str(),
         }
     }
@@ -58,7 +59,7 @@ impl<'a> Part<'a> {
         ensures { result ≡ option_and_then u64_in (number_in (part_data self.now)) }
     {
         match *self {
-            Part::Text(_) => None,
+            Part::Text(_) | Part::Null => None,
             Part::Number(number) => Some(number),
             Part::Other(value) => value.as_u64(),
         }
@@ -69,7 +70,7 @@ impl<'a> Part<'a> {
         ensures { option_map (λ items. items_view items.now) result ≡ array_in (part_data self.now) }
     {
         match *self {
-            Part::Text(_) | Part::Number(_) => None,
+            Part::Text(_) | Part::Number(_) | Part::Null => None,
             Part::Other(value) => Some(value.as_array()?.as_slice()),
         }
     }
@@ -80,6 +81,7 @@ impl<'a> Part<'a> {
     {
         match *self {
             Part::Text(_) | Part::Number(_) => false,
+            Part::Null => true,
             Part::Other(value) => value.is_null(),
         }
     }

@@ -1,13 +1,14 @@
-//! A line that is an array of strings and numbers, by a scan of its bytes. A line with an escape, or of another shape, is left
-//! to others.
+//! A line that is an array of strings, numbers and nulls, by a scan of its bytes. A line with an escape, or of another shape, is
+//! left to others.
 ghost use Rattle.std.specs.Prelude.{◌≡◌, ◌≢◌, ◌<◌, ◌≤◌, ◌-◌, ◌∷◌, [], length, drop, slice_range, Some, IsTrue, IfSome, MatchOption};
-ghost use Rattle.json.specs.Token.{string as string_token, end_array};
+ghost use Rattle.json.specs.Token.{string as string_token, null as null_token, end_array};
 ghost use Rattle.json.specs.Lex.{token, in_word, lex};
 ghost use Rattle.std.specs.List.{prefix_len};
 ghost use Rattle.std.specs.Char.{is_ascii_digit};
 ghost use Rattle.serde_json.specs.Data.{array};
+ghost use Rattle.serde_json.specs.Read.{read};
 ghost use Rattle.tx_lines.specs.Parts.{json_of, parts_items};
-ghost use Rattle.tx_lines.specs.Scan.{Runs, Same, Begins, BeginsNumber, BeginsPart};
+ghost use Rattle.tx_lines.specs.Scan.{Runs, Same, Begins, BeginsNumber, BeginsPart, EndsWord, ReadParts};
 
 use crate::part::{MAX_PARTS, Part, Parts};
 use fast_float::Numeral;
@@ -45,7 +46,7 @@ fn past_spaces(bytes: &[u8], from: usize) -> usize
 }
 
 // Passes this byte, and spaces before it.
-fn pass(bytes: &[u8], from: usize, byte: u8) -> Option<usize>
+pub(crate) fn pass(bytes: &[u8], from: usize, byte: u8) -> Option<usize>
     requires { from ≤ length bytes.now }
     ensures range { IfSome result (λ at. at ≤ length bytes.now) }
     ensures same { IfSome result (λ at. Same (drop from bytes.now) (byte ∷ drop at bytes.now)) }
@@ -59,7 +60,7 @@ fn pass(bytes: &[u8], from: usize, byte: u8) -> Option<usize>
 }
 
 // The string from here on, with what comes after it.
-fn string(bytes: &[u8], from: usize) -> Option<(&str, usize)>
+pub(crate) fn string(bytes: &[u8], from: usize) -> Option<(&str, usize)>
     requires { from ≤ length bytes.now }
     ensures range { IfSome result (λ found. found.1 ≤ length bytes.now) }
     ensures begins { IfSome result (λ found. Begins (drop from bytes.now) (token (string_token found.0.now)) (drop found.1 bytes.now)) }
@@ -91,6 +92,13 @@ fn digits_end(bytes: &[u8], from: usize) -> usize
     at
 }
 
+// Whether a number or a word may end before this byte.
+fn ends_word(byte: u8) -> bool
+    ensures { IsTrue result → EndsWord byte }
+{
+    byte == b',' || byte == b']' || byte == b' '
+}
+
 // The whole number from here on, with what comes after it. Of `0` it says nothing.
 fn number(bytes: &[u8], from: usize) -> Option<(u64, usize)>
     requires { from ≤ length bytes.now }
@@ -102,16 +110,34 @@ fn number(bytes: &[u8], from: usize) -> Option<(u64, usize)>
     if end == start || end == bytes.len() || bytes[start] < b'1' || bytes[start] > b'9' {
         return None;
     }
-    let after = bytes[end];
-    if after != b',' && after != b']' && after != b' ' {
+    if !ends_word(bytes[end]) {
         return None;
     }
     let n = Numeral::scan(&bytes[start..end]).to_u64()?;
     Some((n, end))
 }
 
+// What comes after the word `null`, where it stands from here on.
+fn null(bytes: &[u8], from: usize) -> Option<usize>
+    requires { from ≤ length bytes.now }
+    ensures range { IfSome result (λ at. at ≤ length bytes.now) }
+    ensures begins { IfSome result (λ at. Begins (drop from bytes.now) (token null_token) (drop at bytes.now)) }
+{
+    let start = past_spaces(bytes, from);
+    if bytes.len() - start < 5 {
+        return None;
+    }
+    if bytes[start] != b'n' || bytes[start + 1] != b'u' || bytes[start + 2] != b'l' {
+        return None;
+    }
+    if bytes[start + 3] != b'l' || !ends_word(bytes[start + 4]) {
+        return None;
+    }
+    Some(start + 4)
+}
+
 // Whether the array ends here, and the line with it.
-fn is_over(bytes: &[u8], from: usize) -> bool
+pub(crate) fn is_over(bytes: &[u8], from: usize) -> bool
     requires { from ≤ length bytes.now }
     ensures { IsTrue result → Begins (drop from bytes.now) (token end_array) [] }
 {
@@ -130,27 +156,45 @@ fn member(bytes: &[u8], from: usize) -> Option<(Part<'_>, usize)>
     if let Some((text, after)) = string(bytes, from) {
         return Some((Part::Text(text), after));
     }
-    let (n, after) = number(bytes, from)?;
-    Some((Part::Number(n), after))
+    if let Some((n, after)) = number(bytes, from) {
+        return Some((Part::Number(n), after));
+    }
+    let after = null(bytes, from)?;
+    Some((Part::Null, after))
 }
 
-/// The members of a line that is an array of one to `MAX_PARTS` strings with no escape and whole numbers that do not begin
-/// with 0, with spaces between them at most. Of any other line it says nothing: it may be the same array in another spelling.
+/// The plain members of a line's array, up to its end, or up to the place of the first that is none.
+pub(crate) fn leading(line: &[u8]) -> Option<(Parts<'_>, Option<usize>)>
+    ensures { IfSome result (λ found. MatchOption found.1
+        (read line.now ≡ Some (array (parts_items found.0.items)))
+        (λ at. (at ≤ length line.now) × ReadParts line.now found.0.items (drop at line.now))) }
+{
+    let mut at = pass(line, 0, b'[')?;
+    let mut parts = Parts::new();
+    'parts: while parts.len() < MAX_PARTS {
+        let Some((part, after)) = member(line, at) else {
+            return Some((parts, Some(at)));
+        };
+        parts.push(part);
+        if is_over(line, after) {
+            return Some((parts, None));
+        }
+        at = pass(line, after, b',')?;
+    }
+    None
+}
+
+/// The members of a line that is an array of one to `MAX_PARTS` strings with no escape, whole numbers that do not begin
+/// with 0, and nulls, with spaces between them at most. Of any other line it says nothing: it may be the same array in another
+/// spelling.
 pub fn scanned(line: &[u8]) -> Option<Parts<'_>>
     ensures { IfSome result (λ parts. json_of line.now ≡ Some (array (parts_items parts.items))) }
 {
     if str::from_utf8(line).is_err() {
         return None;
     }
-    let mut at = pass(line, 0, b'[')?;
-    let mut parts = Parts::new();
-    'parts: while parts.len() < MAX_PARTS {
-        let (part, after) = member(line, at)?;
-        parts.push(part);
-        if is_over(line, after) {
-            return Some(parts);
-        }
-        at = pass(line, after, b',')?;
+    match leading(line)? {
+        (parts, None) => Some(parts),
+        (_, Some(_)) => None,
     }
-    None
 }

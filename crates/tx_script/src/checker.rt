@@ -9,12 +9,16 @@ ghost use Rattle.tx_script.specs.Check.{step_of_form, step_in, IsVerdict, Ends, 
 ghost use Rattle.tx_script.specs.Turns.{Turns};
 ghost use Rattle.tx_lines.specs.Lines.{lines_of};
 
+use crate::listed_step::listed_step;
 use crate::machine_step::{Unread, machine_step};
 use crate::words::{Verdict, verdict_line};
 use serde_json::Value;
 use std::alloc::Global;
 use std::io::{BufRead, Write};
-use tx_lines::{Broken, End, Found, Part, finish, parts_of, read_line, scanned, send, value_of};
+use tx_lines::{
+    Broken, End, Found, Part, Scanned, finish, parts_of, read_line, scanned_with_rows, send,
+    value_of,
+};
 use tx_machine::{Machine, Refused, Step};
 use tx_types::Cause;
 use tx_types::limits::{MAX_LINE_BYTES, MAX_LINES};
@@ -129,8 +133,8 @@ fn value_step(alloc: Global, value: &Value) -> Result<Result<Step, Cause>, Broke
     }
 }
 
-/// The step that the line of this number says, or why it says none: a plain line is read straight from its bytes, any other
-/// by its JSON value.
+/// The step that the line of this number says, or why it says none: a plain line, also one with a list of rows, is read straight
+/// from its bytes, any other by its JSON value.
 pub(crate) fn line_step(
     alloc: Global,
     number: u64,
@@ -143,8 +147,14 @@ pub(crate) fn line_step(
     if number > MAX_LINES {
         return Ok(Err(Cause::Lines));
     }
-    if let Some(parts) = scanned(line) {
-        return members_step(alloc, parts.as_slice());
+    match scanned_with_rows(alloc, line) {
+        Some(Scanned::Plain(parts)) => return members_step(alloc, parts.as_slice()),
+        Some(Scanned::Listed(parts, rows)) => {
+            if let Ok(step) = listed_step(alloc, parts.as_slice(), rows.as_slice()) {
+                return Ok(Ok(step));
+            }
+        }
+        None => {}
     }
     match value_of(alloc, line)? {
         Ok(value) => value_step(alloc, &value),

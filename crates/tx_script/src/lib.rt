@@ -4,13 +4,14 @@
 //! machine's steps that are read off that run, and that they are a run of the machine.
 //!
 //! A line is one JSON array, which `tx_lines` reads and writes; `tx_steps` has the steps of scripts, and `tx_play` the engine.
-//! The words of verdicts stand in `words`, the steps of the machine in `machine_step`.
+//! The words of verdicts stand in `words`, the steps of the machine in `machine_step` and `listed_step`.
 #![tactic(auto)]
 
 mod call;
 mod checked;
 mod checker;
 mod line;
+mod listed_step;
 mod machine_step;
 mod opening;
 mod script;

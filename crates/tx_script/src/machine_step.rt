@@ -151,7 +151,7 @@ fn list<'a>(value: &Part<'a>) -> Result<&'a [Json], Unread>
     }
 }
 
-fn text<'a>(value: &Part<'a>) -> Result<&'a str, Unread>
+pub(crate) fn text<'a>(value: &Part<'a>) -> Result<&'a str, Unread>
     ensures { MatchResult result (λ text. as_str (part_data value.now) ≡ Some text.now) (λ _. as_str (part_data value.now) ≡ None) }
 {
     match value.as_str() {
@@ -160,7 +160,7 @@ fn text<'a>(value: &Part<'a>) -> Result<&'a str, Unread>
     }
 }
 
-fn timestamp(value: &Part<'_>) -> Result<Ts, Unread>
+pub(crate) fn timestamp(value: &Part<'_>) -> Result<Ts, Unread>
     ensures { MatchResult result (λ t. number_of (part_data value.now) ≡ Some t) (λ _. number_of (part_data value.now) ≡ None) }
 {
     match value.as_u64() {
@@ -169,7 +169,7 @@ fn timestamp(value: &Part<'_>) -> Result<Ts, Unread>
     }
 }
 
-fn row_limit(value: &Part<'_>) -> Result<u32, Unread>
+pub(crate) fn row_limit(value: &Part<'_>) -> Result<u32, Unread>
     ensures { MatchResult result (λ n. limit_of (part_data value.now) ≡ Some n) (λ _. limit_of (part_data value.now) ≡ None) }
 {
     match value.as_u64() {
@@ -178,7 +178,7 @@ fn row_limit(value: &Part<'_>) -> Result<u32, Unread>
     }
 }
 
-fn key(alloc: Global, value: &Part<'_>) -> Result<Key, Unread>
+pub(crate) fn key(alloc: Global, value: &Part<'_>) -> Result<Key, Unread>
     ensures { MatchResult result (λ key. key_of (part_data value.now) ≡ Some key) (λ e. e ≡ Unread.Form → key_of (part_data value.now) ≡ None) }
 {
     let text = text(value)?;
@@ -189,7 +189,7 @@ fn key(alloc: Global, value: &Part<'_>) -> Result<Key, Unread>
     }
 }
 
-fn plain_value(alloc: Global, value: &Part<'_>) -> Result<Value, Unread>
+pub(crate) fn plain_value(alloc: Global, value: &Part<'_>) -> Result<Value, Unread>
     ensures { MatchResult result (λ v. value_of (part_data value.now) ≡ Some v) (λ e. e ≡ Unread.Form → value_of (part_data value.now) ≡ None) }
 {
     let text = text(value)?;
@@ -253,7 +253,7 @@ fn change(alloc: Global, value: &Json) -> Result<Change, Unread>
     Ok(Change { key, mutation })
 }
 
-fn plain(word: &Part<'_>) -> Result<Mutation, Unread>
+pub(crate) fn plain(word: &Part<'_>) -> Result<Mutation, Unread>
     ensures { MatchResult result (λ m. plain_of (part_data word.now) ≡ Some m) (λ _. plain_of (part_data word.now) ≡ None) }
 {
     let word = text(word)?;
@@ -266,7 +266,7 @@ fn plain(word: &Part<'_>) -> Result<Mutation, Unread>
     }
 }
 
-fn put(alloc: Global, word: &Part<'_>, value: &Part<'_>) -> Result<Mutation, Unread>
+pub(crate) fn put(alloc: Global, word: &Part<'_>, value: &Part<'_>) -> Result<Mutation, Unread>
     ensures { MatchResult result (λ m. put_of (part_data word.now) (part_data value.now) ≡ Some m)
         (λ e. e ≡ Unread.Form → put_of (part_data word.now) (part_data value.now) ≡ None) }
 {

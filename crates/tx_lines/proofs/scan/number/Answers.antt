@@ -1,8 +1,7 @@
-use Rattle.std.proofs.Common.{arith, drop, get_or, sym, subst, inl, inr, ap, ◌∙◌}
+use Rattle.std.proofs.Common.{arith, drop, sym, subst, ap, ◌∙◌}
 use Rattle.std.specs.Prelude.{slice_range, ◌<◌, ◌^◌}
 use Rattle.fast_float.specs.Text.{scan, IsInteger, digits_of}
-use Rattle.tx_lines.proofs.Digits.{EndsNumber, number_begins, number_reads, no_sign}
-use Rattle.tx_lines.proofs.scan.number.Goals.{else-after-ne44-via-then-after-ne44+then-after-ne93+else-after-ne32, else-after-ne44-via-then-after-ne44+else-after-ne93, else-after-ne44-via-else-after-ne44}
+use Rattle.tx_lines.proofs.Digits.{number_begins, number_reads, no_sign}
 use Rattle.tx_lines.proofs.scan.number.Goals as goal
 
 pub returns-clause-begins : goal.returns-clause-begins
@@ -10,11 +9,7 @@ returns-clause-begins c =
     let bytes = c.args.bytes.now in
     let s = c.past_spaces-start.result in
     let e = c.digits_end-end.result in
-    let ends : EndsNumber (get_or bytes e 0) = elim c.else-after-ne44.branch [
-      | else-after-ne44-via-then-after-ne44+then-after-ne93+else-after-ne32 w ↦ inr (inr w.if-after-ne32.false)
-      | else-after-ne44-via-then-after-ne44+else-after-ne93 w ↦ inr (inl w.if-after-ne93.false)
-      | else-after-ne44-via-else-after-ne44 w ↦ inl w.if-after-ne44.false
-    ] in
+    let ends = c.ends_word.ensures c.if-not-ends_word.false in
     let parts = c.scan.ensures.parts in
     let found = c.in_ok-n.ensures in
     let integer : IsInteger (scan (slice_range bytes s e)) = subst IsInteger parts found.0.0 in

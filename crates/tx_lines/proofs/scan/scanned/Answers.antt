@@ -1,22 +1,10 @@
-use Rattle.std.proofs.Common.{rules, drop, subst, sym}
+use Rattle.std.proofs.Common.{rules}
 use Rattle.std.specs.Prelude.{IsUtf8}
-use Rattle.tx_lines.proofs.Leaves.{ReadParts, read_none, read_more, read_all}
+use Rattle.std.proofs.lemmas.Option.{MatchOption-at_none}
+use Rattle.tx_lines.proofs.Leaves.{json_is}
 use Rattle.tx_lines.proofs.scan.scanned.Goals as goal
 
-pub parts-init : goal.parts-init
-parts-init c =
-    let left = drop c.in_ok-at.at c.args.line.now in
-    (c.in_ok-at.ensures.range, subst (λ parts. ReadParts c.args.line.now parts left) (sym c.new-parts.ensures) (read_none c.args.line.now left c.in_ok-at.ensures.same))
-
-pub returns-then-is_over : goal.returns-then-is_over
-returns-then-is_over c =
+pub returns-in_default-None : goal.returns-in_default-None
+returns-in_default-None c =
     let text : IsUtf8 c.args.line.now = search rules in
-    rw c.push.ensures.items (read_all c.args.line.now text c.parts.parts.items c.in_ok-part.part _ _ c.parts.invariant.1 c.in_ok-part.ensures.begins (c.is_over.ensures c.if-is_over.true))
-
-pub parts-preserved : goal.parts-preserved
-parts-preserved c =
-    let left = drop c.in_ok-at-2.at c.args.line.now in (
-      c.in_ok-at-2.ensures.range,
-      subst (λ parts. ReadParts c.args.line.now parts left) (sym c.push.ensures.items)
-          (read_more c.args.line.now c.parts.parts.items c.in_ok-part.part _ _ left c.parts.invariant.1 c.in_ok-part.ensures.begins c.in_ok-at-2.ensures.same),
-    )
+    json_is c.args.line.now _ text (MatchOption-at_none _ _ c.in_default-None.is-1 c.in_ok-parts.ensures)

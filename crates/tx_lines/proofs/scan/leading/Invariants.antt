@@ -1,7 +1,7 @@
 use Rattle.std.proofs.Common.{◌≤◌, ◌-◌, length, drop}
 use Rattle.arrayvec.specs.ArrayVec.{array_vec_len}
-use Rattle.tx_lines.proofs.Leaves.{ReadParts}
-use Rattle.tx_lines.proofs.scan.scanned.Given as goal
+use Rattle.tx_lines.specs.Scan.{ReadParts}
+use Rattle.tx_lines.proofs.scan.leading.Given as goal
 
 abbrev pub invariant-parts : goal.invariant-parts
 invariant-parts l = (l.at ≤ length l.line) × ReadParts l.line l.parts.items (drop l.at l.line)

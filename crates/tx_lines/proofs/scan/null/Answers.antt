@@ -1,0 +1,10 @@
+use Rattle.std.proofs.Common.{arith, drop}
+use Rattle.tx_lines.proofs.Digits.{null_begins}
+use Rattle.tx_lines.proofs.scan.null.Goals as goal
+
+pub returns-clause-begins : goal.returns-clause-begins
+returns-clause-begins c =
+    let bytes = c.args.bytes.now in
+    let start = c.past_spaces-start.result in
+    null_begins (drop c.args.from bytes) bytes start (omega arith) c.past_spaces-start.ensures.same c.if-bytes-start-ne110.false c.if-bytes-start-ne117.false c.if-bytes-start-ne108.false c.if-bytes-start-ne108-2.false
+    (c.ends_word.ensures c.if-not-ends_word.false)
