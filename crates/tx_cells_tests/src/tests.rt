@@ -4,7 +4,7 @@ mod finds;
 mod scenarios;
 mod steps;
 
-use scenarios::{LONG_VALUE, MARKS, SCANS, SURVIVORS};
+use scenarios::{LONG_VALUE, MARKS, PASSED, SCANS, SURVIVORS};
 use std::alloc::Global;
 use steps::{Step, goes, steps_that_go};
 use tx_cells::{Families, FlatCells, NestedCells};
@@ -12,10 +12,11 @@ use tx_cells::{Families, FlatCells, NestedCells};
 /// A name, and the steps.
 type Scenario = (&'static str, &'static [Step]);
 
-const SCENARIOS: [Scenario; 4] = [
+const SCENARIOS: [Scenario; 5] = [
     ("long values", &LONG_VALUE),
     ("marks", &MARKS),
     ("scans", &SCANS),
+    ("keys passed", &PASSED),
     ("survivors", &SURVIVORS),
 ];
 

@@ -173,6 +173,31 @@ pub fn rows<F: Families>(
     Ok(right)
 }
 
+// The key of the last row, and how many bytes its value has.
+fn last_in(answer: &Answer) -> Option<(u8, usize)> {
+    let Answer::Rows(rows) = answer else {
+        return None;
+    };
+    let last = rows.as_slice().last()?;
+    Some((
+        last.key.as_bytes().first().copied()?,
+        last.value.as_bytes().len(),
+    ))
+}
+
+/// Whether the last row of a scan is of this key, with a value of so many bytes.
+pub fn ends<F: Families>(
+    alloc: Global,
+    families: &F,
+    range: Range,
+    found: (u8, usize),
+) -> Result<bool, Fault> {
+    let answer = scanned(alloc, families, range)?;
+    let right = last_in(&answer) == Some(found);
+    drop(answer);
+    Ok(right)
+}
+
 fn key_in(answer: &Answer) -> Option<u8> {
     let Answer::KeyIsLocked(info) = answer else {
         return None;

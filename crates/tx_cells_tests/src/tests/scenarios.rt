@@ -103,6 +103,73 @@ pub const SCANS: [Step; 27] = [
     Remain(7, b'd', 2),
 ];
 
+/// Scans that pass keys of all kinds: with versions above the timestamp, several below it, a rollback or a lock record as the
+/// newest, a lock alone, and a lock beside a version.
+pub const PASSED: [Step; 52] = [
+    // two versions, of which the newer is above some of the reads
+    Put((b'a', 1), 10),
+    Commit((b'a', 1), 2),
+    Put((b'a', 5), 20),
+    Commit((b'a', 5), 6),
+    // a lock and no record
+    Put((b'b', 7), 10),
+    // a rollback as the newest record
+    Put((b'c', 1), 30),
+    Commit((b'c', 1), 3),
+    RollBack((b'c', 4)),
+    // a lock record as the newest
+    Put((b'd', 1), 40),
+    Commit((b'd', 1), 3),
+    Lock((b'd', 4)),
+    Commit((b'd', 4), 5),
+    // four versions, and more keys behind them
+    Put((b'e', 1), 50),
+    Commit((b'e', 1), 2),
+    Put((b'e', 3), 51),
+    Commit((b'e', 3), 4),
+    Put((b'e', 5), 52),
+    Commit((b'e', 5), 6),
+    Put((b'e', 7), 53),
+    Commit((b'e', 7), 8),
+    // a version and a lock
+    Put((b'f', 1), 60),
+    Commit((b'f', 1), 2),
+    Put((b'f', 9), 61),
+    // a rollback alone
+    RollBack((b'g', 3)),
+    // a short value and then a long one
+    Put((b'h', 1), 70),
+    Commit((b'h', 1), 2),
+    Put((b'h', 3), 300),
+    Commit((b'h', 3), 4),
+    // all versions are above
+    Rows((b'a', b'z', 1, 10), 0, 0),
+    Rows((b'a', b'z', 2, 10), 4, b'h'),
+    Rows((b'a', b'z', 5, 10), 6, b'h'),
+    Rows((b'a', b'z', 5, 4), 4, b'e'),
+    Ends((b'a', b'b', 5, 10), b'a', 10),
+    Ends((b'a', b'b', 6, 10), b'a', 20),
+    Rows((b'b', b'c', 5, 10), 0, 0),
+    Ends((b'b', b'd', 5, 10), b'c', 30),
+    Ends((b'b', b'e', 5, 10), b'd', 40),
+    Ends((b'a', b'f', 2, 10), b'e', 50),
+    Ends((b'a', b'f', 5, 10), b'e', 51),
+    Ends((b'c', b'f', 7, 10), b'e', 52),
+    Ends((b'c', b'f', 8, 10), b'e', 53),
+    Ends((b'c', b'g', 8, 10), b'f', 60),
+    Rows((b'g', b'h', 8, 10), 0, 0),
+    Ends((b'a', b'z', 3, 10), b'h', 70),
+    Ends((b'a', b'z', 4, 10), b'h', 300),
+    Rows((b'i', b'z', 9, 10), 0, 0),
+    // a lock is in the way from its minimum on
+    Rows((b'a', b'z', 7, 10), 6, b'h'),
+    Blocked((b'a', b'z', 8, 10), b'b'),
+    Rows((b'a', b'z', 8, 1), 1, b'a'),
+    Rows((b'c', b'z', 9, 10), 5, b'h'),
+    Blocked((b'c', b'z', 10, 10), b'f'),
+    Rows((b'c', b'z', 10, 3), 3, b'e'),
+];
+
 /// What collection keeps: the put that a read at the safe point sees, what is above, and locks with their values.
 pub const SURVIVORS: [Step; 23] = [
     Put((b'k', 1), 300),

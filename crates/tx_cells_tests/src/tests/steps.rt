@@ -1,7 +1,7 @@
 //! The steps of a scenario: what is asked of the families, and what the rules say to it. A key is one byte, and a value is known by
 //! its length.
 use crate::tests::asks::{collect, commit, prewrite, put, roll_back};
-use crate::tests::finds::{blocked, met, read, remain, rows, stands, told};
+use crate::tests::finds::{blocked, ends, met, read, remain, rows, stands, told};
 use std::alloc::Global;
 use tx_cells::Families;
 use tx_types::{Fault, Mutation};
@@ -51,6 +51,8 @@ pub enum Step {
     Remain(u64, u8, usize),
     /// A scan gives so many rows, up to this key.
     Rows(Range, usize, u8),
+    /// The last row of a scan is of this key, with a value of so many bytes.
+    Ends(Range, u8, usize),
     /// A scan meets the lock on this key.
     Blocked(Range, u8),
 }
@@ -65,6 +67,7 @@ fn finds<F: Families>(alloc: Global, families: &F, step: Step) -> Result<bool, F
         Step::Told(lock, min) => told(alloc, families, lock, min),
         Step::Remain(safe, first, count) => remain(alloc, families, safe, (first, count)),
         Step::Rows(range, count, last) => rows(alloc, families, range, (count, last)),
+        Step::Ends(range, key, bytes) => ends(alloc, families, range, (key, bytes)),
         Step::Blocked(range, key) => blocked(alloc, families, range, key),
         _ => Ok(false),
     }
