@@ -183,10 +183,6 @@ module _ {E : Type 0} (key : E → Key) where
         ∙ sym (ap (λ b. cond b (e ∷ part (key_lt k) es) (part (key_lt k) es)) low)
         ∙ above_left (e ∷ es) is
 
-    -- what comes behind an entry of the key is of it or above it
-    pub next_from : (e f : E) (es : List E) → key e ≡ k → e ∷ f ∷ es ≡ part (key_le k) all → (key f ≡ k → ⊥) → StartsAbove k (f ∷ es)
-    next_from e f es same is other = elim (le_cases k (key f) (subst (λ (y : Key). IsTrue (key_le y (key f))) same (left_climb (e ∷ f ∷ es) is).0.0)) [ inl lt ↦ lt | inr one ↦ absurd (other (sym one)) ]
-
 -- ---- the maps' entries rise
 
 lt_from : (k : Key) (ks : List Key) → AllByRecursion (λ j. slice_cmp nat_cmp k j ≡ Less) ks → AreFrom k ks
@@ -209,6 +205,39 @@ pub fronts_climb : {X : Type 0} (es : List ((List ℕ × ℕ) × X)) → IsStric
 unfolding IsStrictlySortedBy
 fronts_climb [] s = tt
 fronts_climb (e ∷ es) s = (versions_from e.0 es s.0, fronts_climb es s.1)
+
+-- entries behind one of a key's: more of the key, and all that are above it
+pub record AreBehind (k : Key) (all es : Writes) : Type 0 where
+  pub from : AreFrom k (fronts_of es)
+  pub rise : Climb (fronts_of es)
+  pub above : writes_where (key_lt k) es ≡ writes_where (key_lt k) all
+
+abbrev front : (List ℕ × ℕ) × WriteRec → Key
+front e = e.0.0
+
+not_above : (k : Key) (e : (List ℕ × ℕ) × WriteRec) (es : Writes) → e.0.0 ≡ k → writes_where (key_lt k) (e ∷ es) ≡ writes_where (key_lt k) es
+not_above k e es same = elim (cases_Bool (key_lt k e.0.0)) [
+  | inl lt ↦ absurd (lt_itself k (subst (λ (y : Key). IsTrue (key_lt k y)) same lt))
+  | inr low ↦ ap (λ b. cond b (e ∷ writes_where (key_lt k) es) (writes_where (key_lt k) es)) low
+]
+
+pub behind_newest : (k : Key) (all : Writes) (e : (List ℕ × ℕ) × WriteRec) (es : Writes) → IsStrictlySortedBy version_cmp (keys_of all) → e.0.0 ≡ k → e ∷ es ≡ writes_where (key_le k) all → AreBehind k all es
+behind_newest k all e es s same is =
+    let climb = left_climb front k all (fronts_climb all s) (e ∷ es) is in record {
+      from = subst (λ (j : Key). AreFrom j (fronts_of es)) same climb.0;
+      rise = climb.1;
+      above = sym (not_above k e es same) ∙ above_left front k all (fronts_climb all s) (e ∷ es) is;
+    }
+
+pub behind_next : (k : Key) (all : Writes) (e : (List ℕ × ℕ) × WriteRec) (es : Writes) → e.0.0 ≡ k → AreBehind k all (e ∷ es) → AreBehind k all es
+behind_next k all e es same are = record { from = are.from.1; rise = are.rise.1; above = sym (not_above k e es same) ∙ are.above }
+
+-- the first of another key, and those behind it, are all above the key
+pub behind_other : (k : Key) (all : Writes) (e : (List ℕ × ℕ) × WriteRec) (es : Writes) → (e.0.0 ≡ k → ⊥) → AreBehind k all (e ∷ es) → e ∷ es ≡ writes_where (key_lt k) all
+behind_other k all e es other are = elim (le_cases k e.0.0 are.from.0) [
+  | inl lt ↦ sym (part_all front (key_lt k) (e ∷ es) (all_above front k (e ∷ es) are.rise lt)) ∙ are.above
+  | inr one ↦ absurd (other (sym one))
+]
 
 -- of a key there is one lock
 pub locks_above : (k : Key) (e : Key × LockRec) (es all : Locks) → IsStrictlySortedBy (slice_cmp nat_cmp) (keys_of all) → e.0 ≡ k → e ∷ es ≡ locks_where (key_le k) all → es ≡ locks_where (key_lt k) all

@@ -15,11 +15,14 @@ use std::collections::btree_map::Range;
 use std::ops::Bound;
 use tx_types::{Key, Ts};
 
+/// How many entries are passed one by one before a search.
+const STEPS: usize = 4;
+
 /// A version and its write record, in the maps.
 pub(super) type Record<'a> = (&'a VersionBytes, &'a WriteBytes);
 
-/// The first record behind those of a key, by its newest. What lies in `rest` behind that is mostly of another key. Else one
-/// search finds what lies behind the last version that a key may have.
+/// The first record behind those of a key, by its newest. What lies in `rest` behind that is mostly of another key, or is soon.
+/// Else one search finds what lies behind the last version that a key may have.
 pub(super) fn next_front<'a>(
     writes: &'a BTreeMap<VersionBytes, WriteBytes>,
     rest: &mut Range<'a, VersionBytes, WriteBytes>,
@@ -32,13 +35,14 @@ pub(super) fn next_front<'a>(
     requires left { deref_pair newest ∷ rest.old ≡ writes_where (key_le key.now) writes.now.entries }
     ensures { IfOk result (λ next. coming next rest.new ≡ writes_where (key_lt key.now) writes.now.entries) }
 {
-    let (version, bytes) = newest;
-    let _ = bytes;
-    let Some(next) = rest.next() else {
-        return Ok(None);
-    };
-    if !next.0.is_beside(version) {
-        return Ok(Some(next));
+    let version = newest.0;
+    'steps: for _ in 0..STEPS {
+        let Some(next) = rest.next() else {
+            return Ok(None);
+        };
+        if !next.0.is_beside(version) {
+            return Ok(Some(next));
+        }
     }
     let last = VersionBytes::new(alloc, key, Ts::ZERO)?;
     *rest = writes.range((Bound::Excluded(&last), Bound::Unbounded));

@@ -104,11 +104,14 @@ fn high_key(bounds: &[Key], n: usize, to: &Key) -> Result<Key, Fault>
     to.clone()
 }
 
-// The rows, with what was found after them.
+// The rows, with what was found after them. Where there are none so far, that is what was found as it is.
 fn append(mut rows: KeyValues, found: KeyValues) -> Result<KeyValues, Fault>
     ensures ok { IfOk result (λ all. all ≡ rows ++ found) }
     ensures err { IfErr result (λ e. e ≡ fault.OutOfMemory) }
 {
+    if rows.as_slice().is_empty() {
+        return Ok(found);
+    }
     for row in found.as_slice() {
         rows.push(row.clone()?)?;
     }

@@ -1,34 +1,32 @@
-use Rattle.std.proofs.Common.{◌≡◌, ℕ, List, [], ◌∷◌, ap, sym, subst, ◌∙◌}
+use Rattle.std.proofs.Common.{ℕ, List, refl, ap, sym, subst, ◌∙◌}
 use Rattle.std.specs.Map.Iter.{deref_pair}
 use Rattle.std.specs.BTreeMap.Range.{entries_between}
 use Rattle.std.specs.declared.ops.Bound.TheVariants.{Excluded, Unbounded}
-use Rattle.tx_types.specs.declared.write.WriteRec.{WriteRec}
-use Rattle.tx_types.specs.Keys.{key_le}
 use Rattle.tx_cells.specs.Spelt.{version_cmp}
-use Rattle.tx_cells.specs.Places.{Writes, writes_where}
-use Rattle.tx_cells.proofs.Places.{fronts_climb, behind, next_from, coming_is, searched}
+use Rattle.tx_cells.proofs.Places.{AreBehind, behind_newest, behind_next, behind_other, coming_is, searched}
 use Rattle.tx_cells.proofs.flat.next_key.next_front.Goals as goal
 
-abbrev front : (List ℕ × ℕ) × WriteRec → List ℕ
-front e = e.0.0
+pub steps-init : goal.steps-init
+steps-init c = behind_newest c.args.key.now c.args.writes.now.entries (deref_pair c.args.newest) c.args.rest.now c.requires.order c.requires.of c.requires.left
+
+pub steps-preserved : goal.steps-preserved
+steps-preserved c =
+    let all = c.args.writes.now.entries in
+    let key = c.args.key.now in
+    behind_next key all (deref_pair c.in-Some.next) c.next.new.self (c.if-not-is_beside.ensures.0 refl ∙ c.requires.of) (subst (AreBehind key all) c.in-Some.ensures.steps c.steps.invariant)
 
 pub returns-in_default : goal.returns-in_default
 returns-in_default c =
     let all = c.args.writes.now.entries in
     let key = c.args.key.now in
-    let left = subst (λ (es : Writes). deref_pair c.args.newest ∷ es ≡ writes_where (key_le key) all) c.in_default.ensures.steps.0 c.requires.left in
-    behind front key all (fronts_climb all c.requires.order) (deref_pair c.args.newest) [] c.requires.of left tt
+    let left = subst (AreBehind key all) c.in_default.ensures.steps.0 c.steps.invariant in
+    left.above
 
 pub returns-then-not-is_beside : goal.returns-then-not-is_beside
 returns-then-not-is_beside c =
     let all = c.args.writes.now.entries in
     let key = c.args.key.now in
-    let next = deref_pair c.in-Some.next in
-    let rest = c.next.new.self in
-    let climb = fronts_climb all c.requires.order in
-    let left = subst (λ (es : Writes). deref_pair c.args.newest ∷ es ≡ writes_where (key_le key) all) c.in-Some.ensures.steps c.requires.left in
-    behind front key all climb (deref_pair c.args.newest) (next ∷ rest) c.requires.of left
-    (next_from front key all climb (deref_pair c.args.newest) next rest c.requires.of left (λ same. cc (c.if-not-is_beside.ensures.1 (same ∙ sym c.requires.of))))
+    behind_other key all (deref_pair c.in-Some.next) c.next.new.self (λ same. cc (c.if-not-is_beside.ensures.1 (same ∙ sym c.requires.of))) (subst (AreBehind key all) c.in-Some.ensures.steps c.steps.invariant)
 
 pub returns : goal.returns
 returns c =
