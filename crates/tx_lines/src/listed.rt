@@ -25,44 +25,44 @@ pub enum Scanned<'a> {
 }
 
 // The row from here on, with what comes after it.
-fn row_at(bytes: &[u8], from: usize) -> Option<(Row<'_>, usize)>
-    requires { from ≤ length bytes.now }
-    ensures range { IfSome result (λ found. found.1 ≤ length bytes.now) }
-    ensures begins { IfSome result (λ found. BeginsRow (drop from bytes.now) found.0 (drop found.1 bytes.now)) }
+fn row_at(line: &str, from: usize) -> Option<(Row<'_>, usize)>
+    requires { from ≤ length line.now }
+    ensures range { IfSome result (λ found. found.1 ≤ length line.now) }
+    ensures begins { IfSome result (λ found. BeginsRow (drop from line.now) found.0 (drop found.1 line.now)) }
 {
-    let open = pass(bytes, from, b'[')?;
-    let (first, after_first) = string(bytes, open)?;
-    let next = pass(bytes, after_first, b',')?;
-    let (second, after_second) = string(bytes, next)?;
-    if let Some(end) = pass(bytes, after_second, b']') {
+    let open = pass(line, from, b'[')?;
+    let (first, after_first) = string(line, open)?;
+    let next = pass(line, after_first, b',')?;
+    let (second, after_second) = string(line, next)?;
+    if let Some(end) = pass(line, after_second, b']') {
         return Some((Row::Pair(first, second), end));
     }
-    let last = pass(bytes, after_second, b',')?;
-    let (third, after_third) = string(bytes, last)?;
-    let end = pass(bytes, after_third, b']')?;
+    let last = pass(line, after_second, b',')?;
+    let (third, after_third) = string(line, last)?;
+    let end = pass(line, after_third, b']')?;
     Some((Row::Triple(first, second, third), end))
 }
 
 // The list of rows from here on, with what comes after it. Where there is no room for them it says nothing.
-fn rows_at(alloc: Global, bytes: &[u8], from: usize) -> Option<(Vec<Row<'_>>, usize)>
-    requires { from ≤ length bytes.now }
-    ensures range { IfSome result (λ found. found.1 ≤ length bytes.now) }
-    ensures begins { IfSome result (λ found. BeginsRows (drop from bytes.now) found.0.items (drop found.1 bytes.now)) }
+fn rows_at(alloc: Global, line: &str, from: usize) -> Option<(Vec<Row<'_>>, usize)>
+    requires { from ≤ length line.now }
+    ensures range { IfSome result (λ found. found.1 ≤ length line.now) }
+    ensures begins { IfSome result (λ found. BeginsRows (drop from line.now) found.0.items (drop found.1 line.now)) }
 {
-    let mut at = pass(bytes, from, b'[')?;
+    let mut at = pass(line, from, b'[')?;
     let mut rows = Vec::new(alloc);
-    if let Some(end) = pass(bytes, at, b']') {
+    if let Some(end) = pass(line, at, b']') {
         return Some((rows, end));
     }
-    'rows: for _ in 0..bytes.len() {
-        let (row, after) = row_at(bytes, at)?;
+    'rows: for _ in 0..line.len() {
+        let (row, after) = row_at(line, at)?;
         if rows.push(row).is_err() {
             return None;
         }
-        if let Some(end) = pass(bytes, after, b']') {
+        if let Some(end) = pass(line, after, b']') {
             return Some((rows, end));
         }
-        at = pass(bytes, after, b',')?;
+        at = pass(line, after, b',')?;
     }
     None
 }
@@ -73,15 +73,15 @@ fn rows_at(alloc: Global, bytes: &[u8], from: usize) -> Option<(Vec<Row<'_>>, us
 pub fn scanned_with_rows(alloc: Global, line: &[u8]) -> Option<Scanned<'_>>
     ensures { IfSome result (λ found. json_of line.now ≡ Some (array (scanned_items found))) }
 {
-    if str::from_utf8(line).is_err() {
+    let Ok(text) = str::from_utf8(line) else {
         return None;
-    }
-    let (parts, place) = leading(line)?;
+    };
+    let (parts, place) = leading(text)?;
     let Some(at) = place else {
         return Some(Scanned::Plain(parts));
     };
-    let (rows, end) = rows_at(alloc, line, at)?;
-    if is_over(line, end) {
+    let (rows, end) = rows_at(alloc, text, at)?;
+    if is_over(text, end) {
         Some(Scanned::Listed(parts, rows))
     } else {
         None

@@ -46,11 +46,12 @@ fn past_spaces(bytes: &[u8], from: usize) -> usize
 }
 
 // Passes this byte, and spaces before it.
-pub(crate) fn pass(bytes: &[u8], from: usize, byte: u8) -> Option<usize>
-    requires { from ≤ length bytes.now }
-    ensures range { IfSome result (λ at. at ≤ length bytes.now) }
-    ensures same { IfSome result (λ at. Same (drop from bytes.now) (byte ∷ drop at bytes.now)) }
+pub(crate) fn pass(line: &str, from: usize, byte: u8) -> Option<usize>
+    requires { from ≤ length line.now }
+    ensures range { IfSome result (λ at. at ≤ length line.now) }
+    ensures same { IfSome result (λ at. Same (drop from line.now) (byte ∷ drop at line.now)) }
 {
+    let bytes = line.as_bytes();
     let at = past_spaces(bytes, from);
     if at < bytes.len() && bytes[at] == byte {
         Some(at + 1)
@@ -60,16 +61,19 @@ pub(crate) fn pass(bytes: &[u8], from: usize, byte: u8) -> Option<usize>
 }
 
 // The string from here on, with what comes after it.
-pub(crate) fn string(bytes: &[u8], from: usize) -> Option<(&str, usize)>
-    requires { from ≤ length bytes.now }
-    ensures range { IfSome result (λ found. found.1 ≤ length bytes.now) }
-    ensures begins { IfSome result (λ found. Begins (drop from bytes.now) (token (string_token found.0.now)) (drop found.1 bytes.now)) }
+pub(crate) fn string(line: &str, from: usize) -> Option<(&str, usize)>
+    requires { from ≤ length line.now }
+    ensures range { IfSome result (λ found. found.1 ≤ length line.now) }
+    ensures begins { IfSome result (λ found. Begins (drop from line.now) (token (string_token found.0.now)) (drop found.1 line.now)) }
 {
-    let start = pass(bytes, from, b'"')?;
+    let start = pass(line, from, b'"')?;
+    let bytes = line.as_bytes();
     let stop = plain_end(bytes, start);
-    if stop < bytes.len() && bytes[stop] == b'"' {
-        let text = str::from_utf8(&bytes[start..stop]).ok()?;
-        Some((text, stop + 1))
+    if stop == bytes.len() || bytes[stop] != b'"' {
+        return None;
+    }
+    if line.is_char_boundary(start) && line.is_char_boundary(stop) {
+        Some((&line[start..stop], stop + 1))
     } else {
         None
     }
@@ -100,11 +104,12 @@ fn ends_word(byte: u8) -> bool
 }
 
 // The whole number from here on, with what comes after it. Of `0` it says nothing.
-fn number(bytes: &[u8], from: usize) -> Option<(u64, usize)>
-    requires { from ≤ length bytes.now }
-    ensures range { IfSome result (λ found. found.1 ≤ length bytes.now) }
-    ensures begins { IfSome result (λ found. BeginsNumber (drop from bytes.now) found.0 (drop found.1 bytes.now)) }
+fn number(line: &str, from: usize) -> Option<(u64, usize)>
+    requires { from ≤ length line.now }
+    ensures range { IfSome result (λ found. found.1 ≤ length line.now) }
+    ensures begins { IfSome result (λ found. BeginsNumber (drop from line.now) found.0 (drop found.1 line.now)) }
 {
+    let bytes = line.as_bytes();
     let start = past_spaces(bytes, from);
     let end = digits_end(bytes, start);
     if end == start || end == bytes.len() || bytes[start] < b'1' || bytes[start] > b'9' {
@@ -118,11 +123,12 @@ fn number(bytes: &[u8], from: usize) -> Option<(u64, usize)>
 }
 
 // What comes after the word `null`, where it stands from here on.
-fn null(bytes: &[u8], from: usize) -> Option<usize>
-    requires { from ≤ length bytes.now }
-    ensures range { IfSome result (λ at. at ≤ length bytes.now) }
-    ensures begins { IfSome result (λ at. Begins (drop from bytes.now) (token null_token) (drop at bytes.now)) }
+fn null(line: &str, from: usize) -> Option<usize>
+    requires { from ≤ length line.now }
+    ensures range { IfSome result (λ at. at ≤ length line.now) }
+    ensures begins { IfSome result (λ at. Begins (drop from line.now) (token null_token) (drop at line.now)) }
 {
+    let bytes = line.as_bytes();
     let start = past_spaces(bytes, from);
     if bytes.len() - start < 5 {
         return None;
@@ -137,34 +143,35 @@ fn null(bytes: &[u8], from: usize) -> Option<usize>
 }
 
 // Whether the array ends here, and the line with it.
-pub(crate) fn is_over(bytes: &[u8], from: usize) -> bool
-    requires { from ≤ length bytes.now }
-    ensures { IsTrue result → Begins (drop from bytes.now) (token end_array) [] }
+pub(crate) fn is_over(line: &str, from: usize) -> bool
+    requires { from ≤ length line.now }
+    ensures { IsTrue result → Begins (drop from line.now) (token end_array) [] }
 {
-    match pass(bytes, from, b']') {
+    let bytes = line.as_bytes();
+    match pass(line, from, b']') {
         Some(at) => past_spaces(bytes, at) == bytes.len(),
         None => false,
     }
 }
 
 // The member from here on, with what comes after it.
-fn member(bytes: &[u8], from: usize) -> Option<(Part<'_>, usize)>
-    requires { from ≤ length bytes.now }
-    ensures range { IfSome result (λ found. found.1 ≤ length bytes.now) }
-    ensures begins { IfSome result (λ found. BeginsPart (drop from bytes.now) found.0 (drop found.1 bytes.now)) }
+fn member(line: &str, from: usize) -> Option<(Part<'_>, usize)>
+    requires { from ≤ length line.now }
+    ensures range { IfSome result (λ found. found.1 ≤ length line.now) }
+    ensures begins { IfSome result (λ found. BeginsPart (drop from line.now) found.0 (drop found.1 line.now)) }
 {
-    if let Some((text, after)) = string(bytes, from) {
+    if let Some((text, after)) = string(line, from) {
         return Some((Part::Text(text), after));
     }
-    if let Some((n, after)) = number(bytes, from) {
+    if let Some((n, after)) = number(line, from) {
         return Some((Part::Number(n), after));
     }
-    let after = null(bytes, from)?;
+    let after = null(line, from)?;
     Some((Part::Null, after))
 }
 
 /// The plain members of a line's array, up to its end, or up to the place of the first that is none.
-pub(crate) fn leading(line: &[u8]) -> Option<(Parts<'_>, Option<usize>)>
+pub(crate) fn leading(line: &str) -> Option<(Parts<'_>, Option<usize>)>
     ensures { IfSome result (λ found. MatchOption found.1
         (read line.now ≡ Some (array (parts_items found.0.items)))
         (λ at. (at ≤ length line.now) × ReadParts line.now found.0.items (drop at line.now))) }
@@ -190,10 +197,10 @@ pub(crate) fn leading(line: &[u8]) -> Option<(Parts<'_>, Option<usize>)>
 pub fn scanned(line: &[u8]) -> Option<Parts<'_>>
     ensures { IfSome result (λ parts. json_of line.now ≡ Some (array (parts_items parts.items))) }
 {
-    if str::from_utf8(line).is_err() {
+    let Ok(text) = str::from_utf8(line) else {
         return None;
-    }
-    match leading(line)? {
+    };
+    match leading(text)? {
         (parts, None) => Some(parts),
         (_, Some(_)) => None,
     }

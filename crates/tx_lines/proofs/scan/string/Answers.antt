@@ -1,17 +1,19 @@
-use Rattle.std.proofs.Common.{arith, rules, drop, ◌+◌, ◌≡◌, subst}
+use Rattle.std.proofs.Common.{arith, drop, ◌+◌, ◌∷◌, subst, sym}
 use Rattle.std.specs.Prelude.{slice_range}
 use Rattle.json.specs.Token.{string}
 use Rattle.json.specs.Lex.{token}
-use Rattle.tx_lines.specs.Scan.{Begins}
+use Rattle.tx_lines.specs.Scan.{Runs, Begins}
 use Rattle.tx_lines.proofs.Lexemes.{quoted_begins, runs_next}
 use Rattle.tx_lines.proofs.scan.string.Goals as goal
 
-pub returns-in_ok-text-clause-begins : goal.returns-in_ok-text-clause-begins
-returns-in_ok-text-clause-begins c =
-    let bytes = c.args.bytes.now in
+pub returns-then-is_char_boundary-2-clause-begins : goal.returns-then-is_char_boundary-2-clause-begins
+returns-then-is_char_boundary-2-clause-begins c =
+    let line = c.args.line.now in
+    let bytes = c.as_bytes-bytes.result.now in
     let start = c.in_ok-start.start in
     let stop = c.plain_end-stop.result in
     let inside = slice_range bytes start stop in
-    let is : inside ≡ c.in_ok-text.text.now = search rules in
-    let runs = runs_next (drop start bytes) inside bytes stop 34 (omega arith) c.if-bytes-stop-eq34.true c.plain_end-stop.ensures.runs in
-    subst (λ s. Begins (drop c.args.from bytes) (token (string s)) (drop (stop + 1) bytes)) is (quoted_begins (drop c.args.from bytes) (drop start bytes) inside (drop (stop + 1) bytes) c.in_ok-start.ensures.same runs)
+    let runs = runs_next (drop start bytes) inside bytes stop 34 (omega arith) c.if-bytes-stop-ne34.false c.plain_end-stop.ensures.runs in
+    let same = subst (λ b. Runs (drop start b) (slice_range b start stop) (34 ∷ drop (stop + 1) b)) c.as_bytes-bytes.ensures.value runs in
+    subst (λ s. Begins (drop c.args.from line) (token (string s)) (drop (stop + 1) line)) (sym c.range.ensures.value)
+    (quoted_begins (drop c.args.from line) (drop start line) (slice_range line start stop) (drop (stop + 1) line) c.in_ok-start.ensures.same same)
