@@ -105,7 +105,7 @@ pub const SCANS: [Step; 27] = [
 
 /// Scans that pass keys of all kinds: with versions above the timestamp, several below it, a rollback or a lock record as the
 /// newest, a lock alone, and a lock beside a version.
-pub const PASSED: [Step; 52] = [
+pub const PASSED: [Step; 57] = [
     // two versions, of which the newer is above some of the reads
     Put((b'a', 1), 10),
     Commit((b'a', 1), 2),
@@ -122,7 +122,7 @@ pub const PASSED: [Step; 52] = [
     Commit((b'd', 1), 3),
     Lock((b'd', 4)),
     Commit((b'd', 4), 5),
-    // four versions, and more keys behind them
+    // six versions, and more keys behind them
     Put((b'e', 1), 50),
     Commit((b'e', 1), 2),
     Put((b'e', 3), 51),
@@ -131,6 +131,10 @@ pub const PASSED: [Step; 52] = [
     Commit((b'e', 5), 6),
     Put((b'e', 7), 53),
     Commit((b'e', 7), 8),
+    Put((b'e', 9), 54),
+    Commit((b'e', 9), 10),
+    Put((b'e', 11), 55),
+    Commit((b'e', 11), 12),
     // a version and a lock
     Put((b'f', 1), 60),
     Commit((b'f', 1), 2),
@@ -168,6 +172,7 @@ pub const PASSED: [Step; 52] = [
     Rows((b'c', b'z', 9, 10), 5, b'h'),
     Blocked((b'c', b'z', 10, 10), b'f'),
     Rows((b'c', b'z', 10, 3), 3, b'e'),
+    Ends((b'c', b'f', 10, 10), b'e', 54),
 ];
 
 /// What collection keeps: the put that a read at the safe point sees, what is above, and locks with their values.
