@@ -48,7 +48,7 @@ pub(crate) enum Entry<L: Source> {
     /// A transfer, of a session whose name is one.
     Transfer(Order<L>),
     /// Any other, which is read again when it is played.
-    Line(Said<L>),
+    Line(Box<Said<L>>),
 }
 
 impl<L: Source> Entry<L> {
@@ -136,7 +136,8 @@ fn entry_of<L: Source>(
             }
         }
     }
-    Ok(Entry::Line(said_of(alloc, number, text, step)?))
+    let said = said_of(alloc, number, text, step)?;
+    Ok(Entry::Line(Box::new(alloc, said)?))
 }
 
 impl<L: Source> Reading<L> {

@@ -298,8 +298,9 @@ impl<J: Naming, L: Source> Moving<J, L> {
     // What comes of a commit.
     fn committed(&mut self, may_abort: bool, answered: Result<Option<Answer>, Miss>) -> After {
         match answered {
-            Ok(Some(Answer::Committed(_))) => After::Goes,
-            Ok(Some(Answer::BelowSafePoint { .. })) | Ok(None) | Err(_) => After::Ends,
+            Ok(Some(Answer::Committed(_))) if self.session.has_commit() => After::Goes,
+            Ok(Some(Answer::Committed(_) | Answer::BelowSafePoint { .. })) | Ok(None) | Err(_) =>
+                After::Ends,
             Ok(Some(_)) => {
                 self.late = self.late.saturating_add(1);
                 if self.late > TRIES && may_abort {
