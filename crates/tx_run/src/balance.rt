@@ -6,6 +6,7 @@ ghost use Rattle.std.specs.Str.Parse.{digits_value};
 ghost use Rattle.tx_types.specs.declared.fault.Fault.TheVariants as fault;
 ghost use Rattle.tx_run.specs.Balances.{is_balance, balance_of, after_transfer};
 
+use itoa::Buffer;
 use std::alloc::Global;
 use tx_types::{Fault, Value};
 
@@ -77,8 +78,8 @@ pub(crate) fn value_of(alloc: Global, balance: u64) -> Result<Value, Fault>
     ensures says { IfOk result (λ value. balance_of value ≡ balance) }
     ensures err { IfErr result (λ e. e ≡ fault.OutOfMemory) }
 {
-    let text = format!(in alloc; "{balance}")?;
-    match Value::new(alloc, text.as_bytes()) {
+    let mut text = Buffer::new();
+    match Value::new(alloc, text.format(balance).as_bytes()) {
         Ok(value) => Ok(value),
         Err(_) => Err(Fault::OutOfMemory),
     }

@@ -1,4 +1,4 @@
-//! A session of a run, as a job of the workers: each line is a step, and each request of a transfer.
+//! A session of a run, as a job of the workers: each line is a step. A transfer is mostly two: its reads, and then its writes.
 ghost use Rattle.std.specs.Prelude.{◌≡◌, ◌<◌, Some, None, IfOk};
 ghost use Rattle.tx_steps.specs.Steps.{asked};
 ghost use Rattle.tx_run.specs.Logs.{StaysSame};
@@ -7,10 +7,12 @@ ghost use Rattle.tx_run.specs.Sources.{HasPair, pair_of};
 use crate::access::Access;
 use crate::acts::{act, refused, send};
 use crate::log::Log;
+use crate::order::Order;
+use crate::out::Out;
 use crate::place::Place;
-use crate::script::{Asks, Said};
+use crate::script::{Asks, Entry, Said, is_name};
 use crate::source::Source;
-use crate::transfer::{After, Moving, Order, slots_of};
+use crate::transfer::{After, Moving, slots_of};
 use crate::words::Words;
 use std::alloc::Global;
 use std::marker::Model;
@@ -24,25 +26,7 @@ use tx_latch::{Slot, slot_of};
 use tx_lines::Reply;
 use tx_sched::{Job, Turn};
 use tx_steps::{Action, Line, Program, Step, Transfer};
-use tx_types::limits::MAX_NAME_BYTES;
 use tx_types::{Cause, Fault, Key};
-
-/// What came of a session's lines. Contracts see its number and its log.
-#[derive(Drop)]
-pub(crate) struct Out<J: Naming, L: Source> {
-    pub number: u32,
-    pub log: Log<J, L>,
-    /// Whether a fault of the script ended it.
-    pub faulted: bool,
-}
-
-impl<J: Naming, L: Source> Model for Out<J, L> {
-    ghost use Rattle.tx_run.specs.Logs.{Working};
-
-    ghost Value = { Working };
-
-    ghost view = { λ o. record { number = o.number; log = o.log } };
-}
 
 /// A session, the lines that are left of it, and what was answered. Contracts see its number and its log.
 #[derive(Drop)]
@@ -52,7 +36,7 @@ pub(crate) struct ScriptJob<J: Naming, L: Source, F: Families + Drop, R: Wait + 
     place: Place<Seat<J>, Session<J>, Moving<J, L>>,
     log: Log<J, L>,
     /// The last line first.
-    lines: Vec<Said<L>>,
+    lines: Vec<Entry<L>>,
     /// The slots of the keys in the buffer.
     touched: Vec<Slot>,
     /// The slots of the lock that last stood in its way.
@@ -68,17 +52,13 @@ impl<J: Naming, L: Source, F: Families + Drop, R: Wait + Drop> Model for ScriptJ
     ghost view = { λ j. record { number = j.number; log = j.log } };
 }
 
-fn is_name(name: &str) -> bool {
-    !name.is_empty() && name.len() <= MAX_NAME_BYTES
-}
-
 impl<J: Naming, L: Source, F: Families + Drop, R: Wait + Drop> ScriptJob<J, L, F, R> {
     /// A job of these lines, which come in the order of the script.
     pub fn new(
         number: u32,
         access: Access<J, F, R>,
         seat: Seat<J>,
-        mut lines: Vec<Said<L>>,
+        mut lines: Vec<Entry<L>>,
     ) -> Result<ScriptJob<J, L, F, R>, Fault>
         ensures { IfOk result (λ job. (job.number ≡ number) × (job.log.seat ≡ seat.seat)) }
     {
@@ -174,23 +154,43 @@ impl<J: Naming, L: Source, F: Families + Drop, R: Wait + Drop> ScriptJob<J, L, F
     }
 
     // A transfer begins: nothing is told before it ends.
-    fn moves(&mut self, number: u64, seat: Seat<J>, transfer: Transfer<'_>)
+    fn moves(&mut self, seat: Seat<J>, order: Order<L>)
+        ensures { StaysSame self.old self.new }
+    {
+        let number = order.number;
+        match Session::begin(self.access.alloc, seat) {
+            Ok(session) => self.stand(Place::Moving(Moving::new(session, order))),
+            Err(seat) => {
+                self.stand(Place::Free(seat));
+                self.tell(number, Words::new(Reply::OracleSpent));
+            }
+        }
+    }
+
+    // A transfer begins whose keys were refused as it was read.
+    fn orders(&mut self, number: u64, seat: Seat<J>, transfer: Transfer<'_>)
         requires { HasPair L.text number (Some (transfer.from.now, transfer.to.now)) }
         ensures { StaysSame self.old self.new }
     {
-        let alloc = self.access.alloc;
-        match Order::new(alloc, number, &transfer) {
+        match Order::new(self.access.alloc, number, &transfer) {
             Err(fault) => {
                 self.stand(Place::Free(seat));
                 self.tell(number, refused(fault));
             }
-            Ok(order) => match Session::begin(alloc, seat) {
-                Ok(session) => self.stand(Place::Moving(Moving::new(session, order))),
-                Err(seat) => {
-                    self.stand(Place::Free(seat));
-                    self.tell(number, Words::new(Reply::OracleSpent));
-                }
-            },
+            Ok(order) => self.moves(seat, order),
+        }
+    }
+
+    // A transfer begins, where no transaction is open.
+    fn follows(&mut self, order: Order<L>)
+        ensures { StaysSame self.old self.new }
+    {
+        match replace(&mut self.place, Place::Gone) {
+            Place::Free(seat) => self.moves(seat, order),
+            other => {
+                self.stand(other);
+                self.fails(order.number, Cause::Order);
+            }
         }
     }
 
@@ -234,7 +234,7 @@ impl<J: Naming, L: Source, F: Families + Drop, R: Wait + Drop> ScriptJob<J, L, F
             Place::Free(seat) => match step {
                 Step::Begin(name) if is_name(name) => self.begins(number, seat),
                 Step::Transfer(name, transfer) if is_name(name) => {
-                    self.moves(number, seat, transfer);
+                    self.orders(number, seat, transfer);
                 }
                 _ => {
                     self.stand(Place::Free(seat));
@@ -266,6 +266,16 @@ impl<J: Naming, L: Source, F: Families + Drop, R: Wait + Drop> ScriptJob<J, L, F
         }
     }
 
+    // Makes the step that a line of the session says.
+    fn enter(&mut self, entry: Entry<L>)
+        ensures { StaysSame self.old self.new }
+    {
+        match entry {
+            Entry::Transfer(order) => self.follows(order),
+            Entry::Line(said) => self.play(&said),
+        }
+    }
+
     // A transfer is over.
     fn moved(&mut self, moving: Moving<J, L>)
         ensures { StaysSame self.old self.new }
@@ -289,15 +299,28 @@ impl<J: Naming, L: Source, F: Families + Drop, R: Wait + Drop> ScriptJob<J, L, F
         self.stops(number, session, words);
     }
 
-    // Makes the next step of a transfer.
-    fn goes_on(&mut self, mut moving: Moving<J, L>)
+    // Makes the next step of a transfer, if one is on its way.
+    fn goes_on(&mut self) -> After
         ensures { StaysSame self.old self.new }
     {
-        match moving.step(&mut self.access) {
-            After::Goes => self.stand(Place::Moving(moving)),
-            After::Ends => self.moved(moving),
-            After::Spent => self.gives_up(moving, Words::new(Reply::OracleSpent)),
-            After::NoMemory => self.gives_up(moving, Words::new(Reply::OutOfMemory)),
+        match &mut self.place {
+            Place::Moving(moving) => moving.step(&mut self.access),
+            _ => After::Goes,
+        }
+    }
+
+    // A transfer that goes on no more.
+    fn ends(&mut self, after: After)
+        ensures { StaysSame self.old self.new }
+    {
+        match replace(&mut self.place, Place::Gone) {
+            Place::Moving(moving) => match after {
+                After::Goes => self.stand(Place::Moving(moving)),
+                After::Ends => self.moved(moving),
+                After::Spent => self.gives_up(moving, Words::new(Reply::OracleSpent)),
+                After::NoMemory => self.gives_up(moving, Words::new(Reply::OutOfMemory)),
+            },
+            other => self.stand(other),
         }
     }
 
@@ -313,23 +336,29 @@ impl<J: Naming, L: Source, F: Families + Drop, R: Wait + Drop> ScriptJob<J, L, F
         }
     }
 
+    // Makes a line, unless a transfer is on its way, and the next requests of a transfer: where it has just begun, these ask for no
+    // latch.
     fn advance(&mut self)
         ensures { StaysSame self.old self.new }
     {
-        match replace(&mut self.place, Place::Gone) {
-            Place::Moving(moving) => self.goes_on(moving),
-            other => {
-                self.stand(other);
-                if let Some(said) = self.lines.pop() {
-                    self.play(&said);
-                }
+        if !self.is_moving() {
+            if let Some(entry) = self.lines.pop() {
+                self.enter(entry);
             }
         }
+        let after = self.goes_on();
+        if after != After::Goes {
+            self.ends(after);
+        }
+    }
+
+    fn is_moving(&self) -> bool {
+        matches!(&self.place, Place::Moving(..))
     }
 
     // Whether it has nothing left to do.
     fn is_done(&self) -> bool {
-        self.lines.is_empty() && !matches!(&self.place, Place::Moving(..))
+        self.lines.is_empty() && !self.is_moving()
     }
 }
 
@@ -354,7 +383,7 @@ impl<J: Naming, L: Source, F: Families + Drop, R: Wait + Drop> Job for ScriptJob
             return moving.slots(alloc);
         }
         let mut slots = Vec::new(alloc);
-        match self.lines.last().map(|said| said.asks) {
+        match self.lines.last().map(|entry| entry.asks()) {
             None | Some(Asks::Nothing) => {}
             Some(Asks::Buffer) => slots.extend_from_slice(self.touched.as_slice())?,
             Some(Asks::Met) => slots.extend_from_slice(self.met.as_slice())?,

@@ -9,6 +9,8 @@ mod balance;
 mod families;
 mod job;
 mod log;
+mod order;
+mod out;
 mod place;
 mod play;
 mod reply;

@@ -83,13 +83,13 @@ impl<J: Naming, L: Source> Log<J, L> {
     }
 
     // Keeps an outcome.
-    fn end(&mut self, number: u64, start: Ts, outcome: Outcome, keys: Option<(Key, Key)>)
-        requires answered { IsAnswered self.old.told self.old.seat start outcome keys }
+    fn end(&mut self, number: u64, start: Ts, outcome: &Outcome, keys: Option<(Key, Key)>)
+        requires answered { IsAnswered self.old.told self.old.seat start outcome.now keys }
         requires fresh { TellsNone start self.old.replies }
         requires pair { HasPair L.text number keys }
         ensures { self.new.seat ≡ self.old.seat }
     {
-        let reply = Reply::Ended(start, outcome, keys);
+        let reply = Reply::Ended(start, *outcome, keys);
         let kept = add(&mut self.replies, Spoken { number, reply });
         self.lost |= !kept;
     }
@@ -108,7 +108,7 @@ impl<J: Naming, L: Source> Log<J, L> {
         ensures { self.new.seat ≡ self.old.seat }
     {
         self.learn(seat);
-        self.end(number, start, outcome, keys);
+        self.end(number, start, &outcome, keys);
     }
 
     /// Ends a transaction, and keeps its outcome: its seat is then free. Where it has no outcome, the session comes back. `keys` are

@@ -7,9 +7,10 @@ ghost use Rattle.tx_run.specs.Sources.{TellsPair};
 
 use crate::access::Access;
 use crate::families::{Makes, families};
-use crate::job::{Out, ScriptJob};
+use crate::job::ScriptJob;
+use crate::out::Out;
 use crate::reply::{Reply, Spoken};
-use crate::script::{Said, Script};
+use crate::script::{Entry, Said, Script};
 use crate::seeds::{Total, play_seeds, read_total};
 use crate::source::Source;
 use crate::words::Words;
@@ -60,7 +61,7 @@ fn jobs<J: Naming, L: Source, F: Families + Drop, R: Wait + Clone + Drop>(
     alloc: Global,
     store: &Arc<Store<J, F>>,
     mut seats: Vec<Seat<J>>,
-    sessions: Vec<Vec<Said<L>>>,
+    sessions: Vec<Vec<Entry<L>>>,
 ) -> Result<Vec<ScriptJob<J, L, F, R>>, Fault>
     requires seats { AreFrom (length J.bounds + 1) seats.items }
     requires few { vec_len sessions ≤ 256 }
@@ -134,7 +135,7 @@ fn memory(_fault: Fault) -> Broken {
 struct Lines<L: Source> {
     regions: usize,
     seeds: Vec<Said<L>>,
-    sessions: Vec<Vec<Said<L>>>,
+    sessions: Vec<Vec<Entry<L>>>,
 }
 
 /// What came of a script that was played. Each outcome among the answers was answered in what was seen, of a transaction of its
@@ -180,7 +181,7 @@ fn work<J, L, F, G, R>(
     gate: &G,
     store: &Arc<Store<J, F>>,
     seats: Vec<Seat<J>>,
-    sessions: Vec<Vec<Said<L>>>,
+    sessions: Vec<Vec<Entry<L>>>,
 ) -> Result<Vec<Out<J, L>>, Fault>
 where
     J: Naming + Send + Sync,
@@ -209,6 +210,15 @@ fn tell_regions(replies: &mut Vec<Spoken>, regions: usize) -> Result<(), Broken>
         })?;
     }
     Ok(())
+}
+
+// How many lines there are.
+fn count<L: Source>(seeds: &[Said<L>], sessions: &[Vec<Entry<L>>]) -> usize {
+    let mut count = seeds.len();
+    for lines in sessions {
+        count = count.saturating_add(lines.len());
+    }
+    count
 }
 
 // Plays the seeds and then the sessions, and sums up.
@@ -244,7 +254,8 @@ where
     ) else {
         return Err(Broken::Memory);
     };
-    let mut replies = Vec::new(alloc);
+    let lines = count(seeds.as_slice(), sessions.as_slice());
+    let mut replies = Vec::with_capacity(alloc, lines.saturating_add(1))?;
     tell_regions(&mut replies, regions)?;
     let mut seat = play_seeds(seat, &access, seeds.as_slice(), &mut replies)?;
     let outs = work(rt, alloc, workers, gate, &store, seats, sessions).map_err(memory)?;

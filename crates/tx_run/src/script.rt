@@ -1,18 +1,25 @@
 //! A script of a run, read whole: its regions, its seeds, and the lines of each session.
 ghost use Rattle.std.specs.Prelude.{◌≡◌, IfOk, OnOk, vec_len};
 ghost use Rattle.tx_run.specs.Scripts.{IsWithin};
-ghost use Rattle.tx_run.specs.Sources.{HasLine};
+ghost use Rattle.tx_steps.specs.Steps.{asked};
+ghost use Rattle.tx_run.specs.Sources.{HasLine, HasPair, pair_of};
 ghost use Rattle.std.proofs.Props.{props};
 
+use crate::order::Order;
 use crate::source::Source;
-use std::alloc::Global;
+use std::alloc::{AllocError, Global};
 use std::collections::BTreeMap;
 use std::io::BufRead;
 use std::marker::PhantomData;
 use tx_lines::{Broken, Found, read_line};
 use tx_steps::{Action, Line, Program, Request, Step};
-use tx_types::limits::MAX_LIVE_SESSIONS;
+use tx_types::limits::{MAX_LIVE_SESSIONS, MAX_NAME_BYTES};
 use tx_types::{Cause, Key};
+
+/// Whether a text may name a session.
+pub(crate) fn is_name(name: &str) -> bool {
+    !name.is_empty() && name.len() <= MAX_NAME_BYTES
+}
 
 /// Which latches a line asks for.
 #[derive(Clone, Copy, Debug, PartialEq, Eq)]
@@ -35,6 +42,25 @@ pub(crate) struct Said<L: Source> {
     ghost line: { HasLine L.text number text.items } by { Prim.hlevel props },
 }
 
+/// A line of a session.
+#[derive(Drop)]
+pub(crate) enum Entry<L: Source> {
+    /// A transfer, of a session whose name is one.
+    Transfer(Order<L>),
+    /// Any other, which is read again when it is played.
+    Line(Box<Said<L>>),
+}
+
+impl<L: Source> Entry<L> {
+    /// Which latches its step asks for. Those of a transfer's requests come later.
+    pub fn asks(&self) -> Asks {
+        match self {
+            Entry::Transfer(_) => Asks::Nothing,
+            Entry::Line(said) => said.asks,
+        }
+    }
+}
+
 /// A script.
 #[derive(Drop)]
 pub(crate) struct Script<L: Source> {
@@ -42,7 +68,7 @@ pub(crate) struct Script<L: Source> {
     pub bounds: Vec<Key>,
     pub seeds: Vec<Said<L>>,
     /// The lines of each session, in the order of their first lines.
-    pub sessions: Vec<Vec<Said<L>>>,
+    pub sessions: Vec<Vec<Entry<L>>>,
 }
 
 // Which session has this name.
@@ -73,6 +99,45 @@ fn asks_of(step: Step<'_>) -> Asks {
         Step::Act(_, Action::Resolve(_)) => Asks::Met,
         _ => Asks::Nothing,
     }
+}
+
+// The line of this number, which says a step.
+fn said_of<L: Source>(
+    alloc: Global,
+    number: u64,
+    text: &[u8],
+    step: Step<'_>,
+) -> Result<Said<L>, AllocError>
+    requires { HasLine L.text number text.now }
+{
+    let asks = asks_of(step);
+    Ok(Said {
+        number,
+        asks,
+        text: Vec::from_slice(alloc, text)?,
+        of: PhantomData,
+    })
+}
+
+// The same, of a session. A transfer that is refused a key or memory is read again when it is played.
+fn entry_of<L: Source>(
+    alloc: Global,
+    number: u64,
+    text: &[u8],
+    step: Step<'_>,
+) -> Result<Entry<L>, AllocError>
+    requires line { HasLine L.text number text.now }
+    requires pair { HasPair L.text number (pair_of (asked step)) }
+{
+    if let Step::Transfer(name, transfer) = step {
+        if is_name(name) {
+            if let Ok(order) = Order::new(alloc, number, &transfer) {
+                return Ok(Entry::Transfer(order));
+            }
+        }
+    }
+    let said = said_of(alloc, number, text, step)?;
+    Ok(Entry::Line(Box::new(alloc, said)?))
 }
 
 impl<L: Source> Reading<L> {
@@ -109,19 +174,15 @@ impl<L: Source> Reading<L> {
         Ok(Ok(place))
     }
 
-    // Enters a line of a session, or a seed.
-    fn enter(&mut self, said: Said<L>, name: Option<&str>) -> Result<Result<(), Cause>, Broken>
+    // Enters a line of the session of this name.
+    fn enter(&mut self, entry: Entry<L>, name: &str) -> Result<Result<(), Cause>, Broken>
         requires { IsWithin self.old.script.bounds.items (vec_len self.old.script.sessions) }
         ensures { OnOk result (IsWithin self.new.script.bounds.items (vec_len self.new.script.sessions)) }
     {
-        let Some(name) = name else {
-            self.script.seeds.push(said)?;
-            return Ok(Ok(()));
-        };
         match self.place(name)? {
             Ok(place) => {
                 if let Some(lines) = self.script.sessions.get_mut(place) {
-                    lines.push(said)?;
+                    lines.push(entry)?;
                 }
                 Ok(Ok(()))
             }
@@ -147,6 +208,26 @@ impl<L: Source> Reading<L> {
         }
     }
 
+    // Takes the step that a line says.
+    fn put(&mut self, number: u64, text: &[u8], step: Step<'_>) -> Result<Result<(), Cause>, Broken>
+        requires within { IsWithin self.old.script.bounds.items (vec_len self.old.script.sessions) }
+        requires line { HasLine L.text number text.now }
+        requires pair { HasPair L.text number (pair_of (asked step)) }
+        ensures { OnOk result (IsWithin self.new.script.bounds.items (vec_len self.new.script.sessions)) }
+    {
+        match name_of(step) {
+            Some(name) => {
+                let entry = entry_of(self.alloc, number, text, step)?;
+                self.enter(entry, name)
+            }
+            None => {
+                let said = said_of(self.alloc, number, text, step)?;
+                self.script.seeds.push(said)?;
+                Ok(Ok(()))
+            }
+        }
+    }
+
     // Takes a line.
     fn take(&mut self, number: u64, text: &[u8]) -> Result<Result<(), Cause>, Broken>
         requires within { IsWithin self.old.script.bounds.items (vec_len self.old.script.sessions) }
@@ -161,15 +242,7 @@ impl<L: Source> Reading<L> {
             return Ok(Ok(()));
         }
         match line.step(Program::Run) {
-            Some(step) => {
-                let said = Said {
-                    number,
-                    asks: asks_of(step),
-                    text: Vec::from_slice(self.alloc, text)?,
-                    of: PhantomData,
-                };
-                self.enter(said, name_of(step))
-            }
+            Some(step) => self.put(number, text, step),
             None => Ok(Err(Cause::Form)),
         }
     }

@@ -48,7 +48,7 @@ fn writes<R: Threads + Wait + Sync + Send + Clone + Drop>(
     Ok(same)
 }
 
-static ALONE: [(&str, &str); 12] = [
+static ALONE: [(&str, &str); 14] = [
     ("", "[\"outcomes\",0,0,0,0]\n[\"total\",0]\n"),
     ("[\"begin\",\"A\"]\n[", "[2,\"E16\",\"json\"]\n"),
     ("[\"tick\",1]\n", "[1,\"E16\",\"form\"]\n"),
@@ -79,6 +79,14 @@ static ALONE: [(&str, &str); 12] = [
     (
         "[\"begin\",\"A\"]\n[\"transfer\",\"A\",\"a\",\"b\",1,\"async\"]\n[\"stop\",\"A\"]\n",
         "[1,\"start\",1]\n[2,\"E16\",\"order\"]\n[\"outcomes\",0,0,0,0]\n[\"total\",0]\n",
+    ),
+    (
+        "[\"begin\",\"A\"]\n[\"transfer\",\"A\",\"\",\"b\",1,\"async\"]\n",
+        "[1,\"start\",1]\n[2,\"E16\",\"order\"]\n[\"outcomes\",0,0,0,0]\n[\"total\",0]\n",
+    ),
+    (
+        "[\"transfer\",\"A\",\"\",\"b\",1,\"async\"]\n[\"transfer\",\"A\",\"b\",\"\",1,\"async\"]\n[\"transfer\",\"A\",\"a\",\"b\",1,\"two-phase\"]\n[\"transfer\",\"\",\"a\",\"b\",1,\"async\"]\n",
+        "[1,\"E13\"]\n[2,\"E13\"]\n[3,\"outcome\",\"read-only\"]\n[4,\"E16\",\"name\"]\n[\"outcomes\",0,0,0,1]\n[\"total\",0]\n",
     ),
     (
         "[\"begin\",\"A\"]\n[\"put\",\"A\",\"a\",\"5\"]\n[\"declare\",\"A\",\"two-phase\",10]\n[\"prewrite\",\"A\"]\n[\"draw\",\"A\"]\n[\"commit\",\"A\"]\n[\"finish\",\"A\"]\n[\"begin\",\"A\"]\n[\"scan\",\"A\",\"a\",\"z\",10]\n[\"stop\",\"A\"]\n",

@@ -1,29 +1,32 @@
-//! A transfer: a transaction that reads the balances of two keys and moves an amount from the first to the second. Each of its
-//! requests is one step.
+//! A transfer: a transaction that reads the balances of two keys and moves an amount from the first to the second. Its reads are
+//! one step, which asks for no latch, and its writes another, which asks for those of both keys. A lock in its way is resolved in
+//! a step of its own.
 ghost use Rattle.std.specs.Prelude.{◌≡◌, ◌≢◌, ◌<◌, false, Some, IfOk, IfErr, OnOk, OnErr};
 ghost use Rattle.tx_types.specs.declared.fault.Fault.TheVariants as fault;
 ghost use Rattle.tx_client.specs.Sessions.{begun, is_declared};
-ghost use Rattle.std.proofs.Props.{props};
 ghost use Rattle.tx_run.specs.Sources.{HasPair};
 ghost use Rattle.tx_run.specs.Transfers.{HasEntered, Moves};
 ghost use Rattle.tx_run.specs.declared.balance.TheConstants.{BALANCES};
 
 use crate::access::Access;
 use crate::balance::{after_transfer, balance_of, value_of};
+use crate::order::Order;
 use crate::source::Source;
 use std::alloc::Global;
-use std::marker::{Model, PhantomData};
+use std::marker::Model;
 use std::sync::Wait;
 use tx_cells::Families;
 use tx_client::{Miss, Session, Terms};
 use tx_core::Answer;
 use tx_journal::Naming;
 use tx_latch::{Slot, slot_of};
-use tx_steps::Transfer;
-use tx_types::{Fault, Key, LockInfo, Mode};
+use tx_types::{Fault, Key, LockInfo};
 
 /// How often one transfer resolves a lock, and how often it draws again.
 const TRIES: u32 = 16;
+
+/// How many requests a step makes at most.
+const REQUESTS: u32 = 16;
 
 /// How long its locks live, in ticks.
 pub(crate) const TTL: u32 = 64;
@@ -38,7 +41,15 @@ enum Stage {
     Abort,
 }
 
-/// What comes of a step.
+// Which latches a request asks for: none, those of the two keys, or those of the lock that stands in the way.
+#[derive(Clone, Copy, Debug, PartialEq, Eq)]
+enum Asks {
+    Nothing,
+    Keys,
+    Met,
+}
+
+/// What comes of a request, and of a step.
 #[derive(Clone, Copy, Debug, PartialEq, Eq)]
 pub(crate) enum After {
     /// It goes on.
@@ -49,38 +60,6 @@ pub(crate) enum After {
     Spent,
     /// Memory was refused to the session.
     NoMemory,
-}
-
-/// What a line orders a transfer to move between two keys, and how its transaction commits.
-#[derive(Drop)]
-pub(crate) struct Order<L: Source> {
-    number: u64,
-    from: Key,
-    to: Key,
-    amount: u64,
-    mode: Mode,
-    of: PhantomData<L>,
-    ghost apart: { from ≢ to },
-    ghost pair: { HasPair L.text number (Some (from, to)) } by { Prim.hlevel props },
-}
-
-impl<L: Source> Order<L> {
-    /// What the line of this number orders.
-    pub fn new(alloc: Global, number: u64, line: &Transfer<'_>) -> Result<Order<L>, Fault>
-        requires { HasPair L.text number (Some (line.now.from.now, line.now.to.now)) }
-        ensures { IfOk result (λ order. (order.from ≡ line.now.from.now) × (order.to ≡ line.now.to.now)) }
-    {
-        let from = Key::new(alloc, line.from.as_bytes())?;
-        let to = Key::new(alloc, line.to.as_bytes())?;
-        Ok(Order {
-            number,
-            from,
-            to,
-            amount: line.amount,
-            mode: line.mode,
-            of: PhantomData,
-        })
-    }
 }
 
 /// A transfer on its way: a session that writes its two keys. Contracts see the session.
@@ -141,15 +120,8 @@ impl<J: Naming, L: Source> Moving<J, L> {
             late: _,
             resolving: _,
         } = self;
-        let Order {
-            number,
-            from,
-            to,
-            amount: _,
-            mode: _,
-            of: _,
-        } = order;
-        (session, number, (from, to))
+        let (number, keys) = order.into_pair();
+        (session, number, keys)
     }
 
     /// The slots of its next step.
@@ -161,13 +133,21 @@ impl<J: Naming, L: Source> Moving<J, L> {
             slots.extend_from_slice(met.as_slice())?;
             return Ok(slots);
         }
+        if self.asks() == Asks::Keys {
+            slots.push(slot_of(&self.order.from))?;
+            slots.push(slot_of(&self.order.to))?;
+        }
+        Ok(slots)
+    }
+
+    // Which latches its next request asks for.
+    fn asks(&self) -> Asks {
+        if self.resolving.is_some() {
+            return Asks::Met;
+        }
         match self.stage {
-            Stage::ReadFrom | Stage::ReadTo => Ok(slots),
-            Stage::Prewrite | Stage::Commit | Stage::Abort => {
-                slots.push(slot_of(&self.order.from))?;
-                slots.push(slot_of(&self.order.to))?;
-                Ok(slots)
-            }
+            Stage::ReadFrom | Stage::ReadTo => Asks::Nothing,
+            Stage::Prewrite | Stage::Commit | Stage::Abort => Asks::Keys,
         }
     }
 
@@ -318,8 +298,9 @@ impl<J: Naming, L: Source> Moving<J, L> {
     // What comes of a commit.
     fn committed(&mut self, may_abort: bool, answered: Result<Option<Answer>, Miss>) -> After {
         match answered {
-            Ok(Some(Answer::Committed(_))) => After::Goes,
-            Ok(Some(Answer::BelowSafePoint { .. })) | Ok(None) | Err(_) => After::Ends,
+            Ok(Some(Answer::Committed(_))) if self.session.has_commit() => After::Goes,
+            Ok(Some(Answer::Committed(_) | Answer::BelowSafePoint { .. })) | Ok(None) | Err(_) =>
+                After::Ends,
             Ok(Some(_)) => {
                 self.late = self.late.saturating_add(1);
                 if self.late > TRIES && may_abort {
@@ -363,8 +344,8 @@ impl<J: Naming, L: Source> Moving<J, L> {
         }
     }
 
-    /// Makes the next step.
-    pub fn step<F: Families + Drop, R: Wait + Drop>(
+    // Makes the next request.
+    fn request<F: Families + Drop, R: Wait + Drop>(
         &mut self,
         access: &mut Access<J, F, R>,
     ) -> After {
@@ -381,5 +362,20 @@ impl<J: Naming, L: Source> Moving<J, L> {
             Stage::Commit => self.commits(access),
             Stage::Abort => self.takes_back(access),
         }
+    }
+
+    /// Makes the next step: the requests that ask for the same latches.
+    pub fn step<F: Families + Drop, R: Wait + Drop>(
+        &mut self,
+        access: &mut Access<J, F, R>,
+    ) -> After {
+        let asks = self.asks();
+        for _ in 0..REQUESTS {
+            let after = self.request(access);
+            if after != After::Goes || self.asks() != asks {
+                return after;
+            }
+        }
+        After::Goes
     }
 }

@@ -1,0 +1,22 @@
+//! What comes of a session of a run.
+use crate::log::Log;
+use crate::source::Source;
+use std::marker::Model;
+use tx_journal::Naming;
+
+/// What came of a session's lines. Contracts see its number and its log.
+#[derive(Drop)]
+pub(crate) struct Out<J: Naming, L: Source> {
+    pub number: u32,
+    pub log: Log<J, L>,
+    /// Whether a fault of the script ended it.
+    pub faulted: bool,
+}
+
+impl<J: Naming, L: Source> Model for Out<J, L> {
+    ghost use Rattle.tx_run.specs.Logs.{Working};
+
+    ghost Value = { Working };
+
+    ghost view = { λ o. record { number = o.number; log = o.log } };
+}
