@@ -45,10 +45,10 @@ pub(crate) struct Said<L: Source> {
 /// A line of a session.
 #[derive(Drop)]
 pub(crate) enum Entry<L: Source> {
-    /// A transfer, of a session whose name is one.
-    Transfer(Order<L>),
+    /// A transfer, of a session whose name is one. It lies apart, since it is larger than a line.
+    Transfer(Box<Order<L>>),
     /// Any other, which is read again when it is played.
-    Line(Box<Said<L>>),
+    Line(Said<L>),
 }
 
 impl<L: Source> Entry<L> {
@@ -132,12 +132,11 @@ fn entry_of<L: Source>(
     if let Step::Transfer(name, transfer) = step {
         if is_name(name) {
             if let Ok(order) = Order::new(alloc, number, &transfer) {
-                return Ok(Entry::Transfer(order));
+                return Ok(Entry::Transfer(Box::new(alloc, order)?));
             }
         }
     }
-    let said = said_of(alloc, number, text, step)?;
-    Ok(Entry::Line(Box::new(alloc, said)?))
+    Ok(Entry::Line(said_of(alloc, number, text, step)?))
 }
 
 impl<L: Source> Reading<L> {
