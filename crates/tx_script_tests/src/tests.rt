@@ -45,6 +45,49 @@ fn every_step_is_read(rt: HostRuntime) -> Result<(), Fail> {
     says(&rt, trace.as_bytes(), End::Well, "[\"check\",\"yes\"]\n")
 }
 
+// Spaces and tabs between members, within a list of rows too, change no verdict.
+#[test]
+fn spacing_changes_no_verdict(rt: HostRuntime) -> Result<(), Fail> {
+    let declared =
+        "[\"draw\",3]\n[\"begin\",3]\n [ \"declare\" , 3 , [ [ \"a\" , \"put\" , \"x\" ] , [ \"b\" , \"lock\" ] ] ] \n[\"commit\",3,4]\n[\"draw\",4]\n[\"read\", 4, \"b\" , null ]\n";
+    for (last, end, text) in [
+        (
+            "[ \"scan\" , 4 , \"a\" , \"c\" , 9 , [ [ \"a\" , \"x\" ] ] ]",
+            End::Well,
+            "[\"check\",\"yes\"]\n",
+        ),
+        (
+            "[\"scan\",4,\"a\",\"c\",9,[[\t\"a\",\"x\"]\t]]",
+            End::Well,
+            "[\"check\",\"yes\"]\n",
+        ),
+        (
+            "[\"scan\",4,\"a\",\"c\",9,[ ]]",
+            End::No,
+            "[\"check\",\"no\",7]\n",
+        ),
+        (
+            "[\"scan\",4,\"a\",\"c\",9,[[\"a\"]]]",
+            End::Faulted,
+            "[7,\"E16\",\"form\"]\n",
+        ),
+        (
+            "[\"declare\",4,[[\"a\",\"put\"]]]",
+            End::Faulted,
+            "[7,\"E16\",\"form\"]\n",
+        ),
+        (
+            "[\"scan\",4,\"a\",\"c\",9,[[\"a\",\"x\"]]",
+            End::Faulted,
+            "[7,\"E16\",\"json\"]\n",
+        ),
+    ] {
+        let trace = format!(in rt.alloc(); "{declared}{last}")?;
+        says(&rt, trace.as_bytes(), end, text)?;
+    }
+    Ok(())
+}
+
 #[test]
 fn broken_json_is_named(rt: HostRuntime) -> Result<(), Fail> {
     let fault = "[2,\"E16\",\"json\"]\n";
