@@ -31,6 +31,3 @@ pub use request::Request;
 pub use seat::Seat;
 pub use told::{Told, Unnamed};
 pub use view::Naming;
-
-#[cfg(test)]
-mod tests;

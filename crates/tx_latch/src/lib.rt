@@ -6,8 +6,6 @@ mod cid;
 mod latches;
 mod queues;
 mod slot;
-#[cfg(test)]
-mod tests;
 
 pub use cid::Cid;
 pub use latches::Latches;

@@ -16,12 +16,8 @@ mod part;
 mod reply;
 mod rows;
 mod scan;
-#[cfg(test)]
-mod scan_tests;
 mod status;
 mod step;
-#[cfg(test)]
-mod tests;
 mod text;
 mod value;
 mod versions;

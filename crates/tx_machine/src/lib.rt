@@ -9,8 +9,6 @@ mod scan;
 mod sets;
 mod span;
 pub mod step;
-#[cfg(test)]
-mod tests;
 mod trace;
 mod versions;
 

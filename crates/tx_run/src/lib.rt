@@ -19,8 +19,6 @@ mod script;
 mod seeds;
 mod sends;
 mod source;
-#[cfg(test)]
-mod tests;
 mod transfer;
 mod words;
 mod write;

@@ -12,8 +12,6 @@ mod job;
 mod pool;
 mod results;
 mod task;
-#[cfg(test)]
-mod tests;
 mod turn;
 
 pub use gate::{Gate, Open};

@@ -15,8 +15,6 @@ mod program;
 mod request;
 mod runs;
 mod step;
-#[cfg(test)]
-mod tests;
 mod transfer;
 mod word;
 

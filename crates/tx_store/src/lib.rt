@@ -4,8 +4,6 @@
 
 mod seats;
 mod store;
-#[cfg(test)]
-mod tests;
 mod wire;
 
 pub use store::Store;

@@ -3,8 +3,6 @@
 
 mod log;
 mod pending;
-#[cfg(test)]
-mod tests;
 mod trace;
 
 pub use trace::Trace;

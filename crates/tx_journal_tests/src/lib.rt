@@ -1,0 +1,5 @@
+//! Journals that threads share.
+#![tactic(auto)]
+
+#[cfg(test)]
+mod tests;

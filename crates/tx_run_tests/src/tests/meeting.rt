@@ -1,0 +1,169 @@
+//! Families of which the first look-ups in two regions wait for each other.
+
+use std::alloc::Global;
+use std::sync::atomic::{AtomicU64, Ordering};
+use std::sync::{Arc, Wait};
+use std::test::Fail;
+use std::thread::{Threads, yield_now};
+use tx_cells::{Families, KeyCopy, NestedCells};
+use tx_lines::Broken;
+use tx_plan::{Answer, Dropped, Infos, KeyChange, NewLock, Prewrite, ReadView, Scan, TxnView};
+use tx_run::{Makes, run_script};
+use tx_sched::Open;
+use tx_types::{Fault, Key, LockInfo, Ts};
+
+/// Where two look-ups meet.
+#[derive(Drop)]
+struct Place {
+    /// How many came, how many are there, and 1 once two were there at once.
+    came: AtomicU64,
+    inside: AtomicU64,
+    met: AtomicU64,
+    /// How often one looks for the other.
+    turns: u64,
+}
+
+impl Place {
+    fn new(turns: u64) -> Place {
+        Place {
+            came: AtomicU64::new(0),
+            inside: AtomicU64::new(0),
+            met: AtomicU64::new(0),
+            turns,
+        }
+    }
+
+    fn came(&self) -> u64 {
+        self.came.load(Ordering::SeqCst)
+    }
+
+    fn has_met(&self) -> bool {
+        self.met.load(Ordering::SeqCst) == 1
+    }
+
+    // Comes, stays until the other is there or all turns are over, and goes.
+    fn visit(&self) {
+        self.came.fetch_add(1, Ordering::SeqCst);
+        if self.inside.fetch_add(1, Ordering::SeqCst) == 1 {
+            self.met.store(1, Ordering::SeqCst);
+        }
+        for _ in 0..self.turns {
+            if self.has_met() {
+                break;
+            }
+            yield_now();
+        }
+        self.inside.fetch_sub(1, Ordering::SeqCst);
+    }
+}
+
+/// Families whose first look-up for a write visits the place.
+#[derive(Drop)]
+struct Meeting {
+    cells: NestedCells,
+    place: Arc<Place>,
+    looked: AtomicU64,
+}
+
+impl Makes<Meeting> for Arc<Place> {
+    fn make(&self, alloc: Global) -> Result<Meeting, Fault> {
+        let place = self.clone()?;
+        Ok(Meeting {
+            cells: NestedCells::new(alloc),
+            place,
+            looked: AtomicU64::new(0),
+        })
+    }
+}
+
+impl Families for Meeting {
+    ghost use Rattle.tx_cells.specs.Nested.{nested_content};
+
+    ghost content = { λ m. nested_content m.cells };
+
+    fn view(&self, alloc: Global, key: &Key, start: Ts, commit: Ts) -> Result<TxnView, Fault> {
+        if self.looked.fetch_add(1, Ordering::SeqCst) == 0 {
+            self.place.visit();
+        }
+        self.cells.view(alloc, key, start, commit)
+    }
+
+    fn read(&self, alloc: Global, key: &Key, at: Ts) -> Result<ReadView, Fault> {
+        self.cells.read(alloc, key, at)
+    }
+
+    fn lock_info(&self, alloc: Global, key: &Key) -> Result<Option<LockInfo>, Fault> {
+        self.cells.lock_info(alloc, key)
+    }
+
+    fn scan(&self, alloc: Global, body: &Scan) -> Result<Answer, Fault> {
+        self.cells.scan(alloc, body)
+    }
+
+    fn locks_below(&self, alloc: Global, safe: Ts) -> Result<Infos, Fault> {
+        self.cells.locks_below(alloc, safe)
+    }
+
+    fn first_below(&self, alloc: Global, safe: Ts) -> Result<Option<LockInfo>, Fault> {
+        self.cells.first_below(alloc, safe)
+    }
+
+    fn count_below(&self, alloc: Global, safe: Ts) -> Result<Dropped, Fault> {
+        self.cells.count_below(alloc, safe)
+    }
+
+    fn cells(&self, alloc: Global, key: &Key) -> Result<KeyCopy, Fault> {
+        self.cells.cells(alloc, key)
+    }
+
+    fn put_lock(&mut self, alloc: Global, body: &Prewrite, new: NewLock) -> Result<(), Fault> {
+        self.cells.put_lock(alloc, body, new)
+    }
+
+    fn apply(&mut self, alloc: Global, key: &Key, change: KeyChange) -> Result<(), Fault> {
+        self.cells.apply(alloc, key, change)
+    }
+
+    fn drop_below(&mut self, safe: Ts) {
+        self.cells.drop_below(safe);
+    }
+}
+
+/// A session locks a key of the first region, and another one of the second.
+static TWO_REGIONS: &str = "[\"regions\",[\"b\"]]
+[\"begin\",\"A\"]\n[\"put\",\"A\",\"a\",\"1\"]\n[\"declare\",\"A\",\"two-phase\",9]\n[\"prewrite\",\"A\"]
+[\"begin\",\"B\"]\n[\"put\",\"B\",\"b\",\"2\"]\n[\"declare\",\"B\",\"two-phase\",9]\n[\"prewrite\",\"B\"]\n";
+
+// Plays it by two workers: how many lines were answered.
+fn answers<R: Threads + Wait + Sync + Send + Clone + Drop>(
+    rt: &R,
+    alloc: Global,
+    place: &Arc<Place>,
+) -> Result<Option<usize>, Broken> {
+    let mut reader = TWO_REGIONS.as_bytes();
+    let mut text = Vec::new(alloc);
+    let played = run_script::<Meeting, _, _, _, _, _>(
+        rt,
+        alloc,
+        2,
+        place,
+        &Open,
+        &mut reader,
+        &mut text,
+    );
+    drop(text);
+    let (_, played) = played?;
+    let count = played.as_ref().map(|played| played.replies.len());
+    drop(played);
+    Ok(count)
+}
+
+#[test]
+fn two_regions_are_written_at_once(rt: HostRuntime) -> Result<(), Fail> {
+    let alloc: Global = rt.alloc();
+    let place = Arc::new(alloc, Place::new(2_000_000))?;
+    let count = answers(&rt, alloc, &place)?;
+    assert_eq!(rt; count, Some(9));
+    assert!(rt; place.came() == 2 && place.has_met());
+    Ok(())
+}

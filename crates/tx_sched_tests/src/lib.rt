@@ -1,0 +1,5 @@
+//! Jobs side by side.
+#![tactic(auto)]
+
+#[cfg(test)]
+mod tests;

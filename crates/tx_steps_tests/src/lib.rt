@@ -1,0 +1,5 @@
+//! What lines say, and what is left to say of them.
+#![tactic(auto)]
+
+#[cfg(test)]
+mod tests;

@@ -1,0 +1,212 @@
+//! What one thread has committed, another reads that begins after it was told.
+ghost use Rattle.std.specs.Prelude.{◌≡◌, length};
+
+use crate::tests::opening::{one_bound, open};
+use std::alloc::Global;
+use std::marker::Brand;
+use std::sync::Wait;
+use std::test::Fail;
+use std::thread::{Threads, join};
+use tx_cells::{Families, NestedCells};
+use tx_client::{Session, Terms};
+use tx_core::Answer;
+use tx_journal::{Naming, Opened, Seat, Told};
+use tx_store::{Store, Wire};
+use tx_types::{Key, Mode, Ts, Value};
+
+const TERMS: Terms = Terms {
+    mode: Mode::TwoPhase,
+    ttl: 10,
+    max_commit: None,
+};
+
+// Enters a put of this value into the buffer, and fixes the write set: whether that went well.
+fn enter<J: Naming>(session: &mut Session<J>, alloc: Global, key: &[u8], value: &[u8]) -> bool {
+    if session.is_declared() {
+        return false;
+    }
+    let (Ok(key), Ok(value)) = (Key::new(alloc, key), Value::new(alloc, value)) else {
+        return false;
+    };
+    session.put(key, value).is_ok()
+}
+
+fn declare<J: Naming>(session: &mut Session<J>, alloc: Global) -> bool {
+    !session.is_declared() && session.declare(alloc, TERMS).is_ok()
+}
+
+// Sends the prewrites of two keys.
+fn prewrite<J: Naming, F: Families + Drop, R: Wait>(
+    session: &mut Session<J>,
+    alloc: Global,
+    wire: &mut Wire<J, F, R>,
+) -> bool {
+    for _ in 0..2_u32 {
+        if !session.is_declared() {
+            return false;
+        }
+        let answered = session.prewrite_next(alloc, wire).is_ok();
+        if !answered {
+            return false;
+        }
+    }
+    true
+}
+
+// Draws a commit timestamp, and sends the commits of two keys there.
+fn commit<J: Naming, F: Families + Drop, R: Wait>(
+    session: &mut Session<J>,
+    wire: &mut Wire<J, F, R>,
+) -> Option<Ts> {
+    if !session.can_draw() {
+        return None;
+    }
+    let commit = session.draw_commit().ok()?;
+    for _ in 0..2_u32 {
+        if !session.can_commit() {
+            return None;
+        }
+        let answered = session.commit_next(wire).is_ok();
+        if !answered {
+            return None;
+        }
+    }
+    Some(commit)
+}
+
+// Puts `x` on `a` and `y` on `z`, which lie in different regions: when it committed, and what tells of it.
+fn put_both<J: Naming, F: Families + Drop, R: Wait>(
+    rt: &R,
+    store: &Store<J, F>,
+    alloc: Global,
+    seat: Seat<J>,
+) -> Option<(Ts, Told<J>)> {
+    let mut session = Session::begin(alloc, seat).ok()?;
+    let mut wire = Wire::new(rt, store);
+    let ready = enter(&mut session, alloc, b"a", b"x")
+        && enter(&mut session, alloc, b"z", b"y")
+        && declare(&mut session, alloc)
+        && prewrite(&mut session, alloc, &mut wire);
+    if !ready {
+        return None;
+    }
+    let commit = commit(&mut session, &mut wire)?;
+    let told = session.tell();
+    drop(session);
+    Some((commit, told))
+}
+
+// Whether this is the value of that one byte.
+fn is_byte(answer: &Answer, byte: u8) -> bool {
+    match answer {
+        Answer::Found(value) => value.as_bytes() == [byte].as_slice(),
+        _ => false,
+    }
+}
+
+// Whether a key has this value at the session's start.
+fn reads<J: Naming, F: Families + Drop, R: Wait>(
+    session: &mut Session<J>,
+    alloc: Global,
+    wire: &mut Wire<J, F, R>,
+    key: &[u8],
+    byte: u8,
+) -> bool {
+    let Ok(key) = Key::new(alloc, key) else {
+        return false;
+    };
+    match session.get(&key, wire) {
+        Ok(answer) => {
+            let is = is_byte(&answer, byte);
+            drop(answer);
+            is
+        }
+        Err(_) => false,
+    }
+}
+
+// Begins above the commit, and reads both values.
+fn read_both<J: Naming, F: Families + Drop, R: Wait>(
+    rt: &R,
+    store: &Store<J, F>,
+    alloc: Global,
+    seat: Seat<J>,
+    commit: Ts,
+) -> bool {
+    let Ok(mut session) = Session::begin(alloc, seat) else {
+        return false;
+    };
+    let mut wire = Wire::new(rt, store);
+    let seen = session.start() > commit
+        && reads(&mut session, alloc, &mut wire, b"a", b'x')
+        && reads(&mut session, alloc, &mut wire, b"z", b'y');
+    drop(session);
+    seen
+}
+
+// Learns what was told, and reads.
+fn read_after<J: Naming, F: Families + Drop, R: Wait>(
+    rt: &R,
+    store: &Store<J, F>,
+    alloc: Global,
+    mut seat: Seat<J>,
+    (commit, told): (Ts, Told<J>),
+) -> bool {
+    seat.learn(told);
+    read_both(rt, store, alloc, seat, commit)
+}
+
+// One thread commits, and hands what it has seen to another.
+fn tell_across<J, F, R>(
+    rt: &R,
+    store: &Store<J, F>,
+    alloc: Global,
+    one: Seat<J>,
+    two: Seat<J>,
+) -> bool
+where
+    J: Naming + Send + Sync,
+    F: Families + Drop + Send,
+    R: Threads + Wait + Sync,
+{
+    let (put, ()) = join(rt, || put_both(rt, store, alloc, one), || ());
+    match put {
+        Some(told) => {
+            let ((), seen) = join(rt, || (), || read_after(rt, store, alloc, two, told));
+            seen
+        }
+        None => false,
+    }
+}
+
+fn tells_across<J: Naming + Send + Sync, R: Threads + Wait + Sync>(
+    rt: &R,
+    alloc: Global,
+    opened: Opened,
+) -> bool
+    requires name { (opened.table ≡ J.table) × (opened.bounds ≡ J.bounds) × (opened.seats ≡ J.seats) }
+    requires counts { (length J.bounds ≡ 1) × (J.seats ≡ 4) }
+{
+    let Some((store, mut seats)) = open::<J, NestedCells>(
+        alloc,
+        opened,
+        NestedCells::new(alloc),
+        NestedCells::new(alloc),
+    ) else {
+        return false;
+    };
+    let told = match (seats.pop(), seats.pop()) {
+        (Some(two), Some(one)) => tell_across(rt, &store, alloc, one, two),
+        _ => false,
+    };
+    drop(store);
+    told
+}
+
+#[test]
+fn told_by_another_thread(rt: HostRuntime) -> Result<(), Fail> {
+    let bounds = one_bound(rt.alloc()).ok_or("a key")?;
+    let opened = Opened::new(rt.alloc(), bounds, 2)?;
+    assert!(rt; tells_across::<Brand, _>(&rt, rt.alloc(), opened));
+    Ok(())
+}
