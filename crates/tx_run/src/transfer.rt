@@ -170,9 +170,9 @@ impl<J: Naming, L: Source> Moving<J, L> {
 /// The slots of a lock, its primary and the keys that it lists.
 pub(crate) fn slots_of(alloc: Global, info: &LockInfo) -> Result<Vec<Slot>, Fault> {
     let mut slots = Vec::new(alloc);
-    slots.push(slot_of(&info.key))?;
-    slots.push(slot_of(&info.primary))?;
-    for key in info.secondaries.as_slice() {
+    slots.push(slot_of(&info.facts().key))?;
+    slots.push(slot_of(&info.facts().primary))?;
+    for key in info.facts().secondaries.as_slice() {
         slots.push(slot_of(key))?;
     }
     Ok(slots)
