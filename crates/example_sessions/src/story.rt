@@ -61,7 +61,7 @@ impl<'a, J: Naming, R: Print + Wait> Side<'a, J, R> {
             ttl: 100,
             max_commit: None,
         };
-        session.declare(self.alloc, terms)?;
+        session.declare(terms)?;
         line(self.rt, self.who, call, "ok")
     }
 

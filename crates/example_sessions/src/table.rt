@@ -58,7 +58,11 @@ impl fmt::Display for Words<'_> {
             Answer::Prewritten(minimum) => write!(f, "locked, commits at {minimum} or above"),
             Answer::Committed(commit) => write!(f, "committed at {commit}"),
             Answer::RolledBack => write!(f, "rolled back"),
-            Answer::KeyIsLocked(info) => write!(f, "locked by the transaction of {}", info.start),
+            Answer::KeyIsLocked(info) => write!(
+                f,
+                "locked by the transaction of {}",
+                info.facts().start
+            ),
             _ => write!(f, "refused"),
         }
     }

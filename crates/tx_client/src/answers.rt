@@ -57,9 +57,9 @@ pub(crate) fn sent(phase: Phase, progress: Progress) -> Progress
 fn minimum(info: &LockInfo) -> Ts
     ensures { result ≡ minimum_in info.now }
 {
-    match info.mode {
+    match info.facts().mode {
         Mode::TwoPhase => Ts::ZERO,
-        Mode::Async => info.min,
+        Mode::Async => info.facts().min,
     }
 }
 

@@ -1,13 +1,12 @@
 //! Sessions: one transaction each, run over a way to the regions.
 ghost use Rattle.std.specs.Prelude.{◌≡◌, ◌<◌, ◌⊎◌, is_some, length, true, false, Some, IfOk, IfErr, IfSome, OnOk, OnErr};
 ghost use Rattle.tx_types.specs.declared.fault.Fault.TheVariants as fault;
-ghost use Rattle.tx_core.specs.declared.event.Event.TheVariants.{Declared};
+ghost use Rattle.tx_core.specs.declared.event.Event.TheVariants.{Began, Declared};
 ghost use Rattle.tx_core.specs.Allowed.{Allowed};
 ghost use Rattle.tx_core.specs.Recording.{MayRecord};
-ghost use Rattle.tx_journal.specs.Known.{DrawsNothing};
 ghost use Rattle.tx_client.specs.declared.state.Phase.TheVariants as phase;
 ghost use Rattle.tx_client.specs.Buffers.{touched, locked, buffered, is_full, is_known};
-ghost use Rattle.tx_client.specs.Sessions.{begun, is_declared, has_primary, declaration, exceeds, due_prewrite, due_commit, due_abort, can_draw, can_commit, can_abort};
+ghost use Rattle.tx_client.specs.Sessions.{begun, is_declared, has_primary, declaration, declaration_of, exceeds, due_prewrite, due_commit, due_abort, can_draw, can_commit, can_abort};
 ghost use Rattle.tx_client.specs.Senders.{IsHeld, IsWay};
 ghost use Rattle.tx_client.specs.Walks.{Sends, due_walk, heartbeat_walk};
 ghost use Rattle.tx_client.specs.Facts.{CameSo, IsFor};
@@ -21,9 +20,9 @@ use crate::sender::Sender;
 use crate::state::{Came, Due, Miss, Phase, Terms};
 use crate::transaction::Transaction;
 use std::alloc::Global;
-use std::marker::Model;
-use tx_core::{Answer, Body, Declaration, Event};
-use tx_journal::{Naming, Reply, Request, Seat, Told};
+use std::marker::{Brand, Model};
+use tx_core::{Answer, Body, Declaration};
+use tx_journal::{Naming, Reply, Request, Said, Seat, Told};
 use tx_types::{Fault, Key, Mutation, Ts, Value};
 
 /// A session: one transaction, and the seat that it was begun with. Contracts see its state and what its seat knows. What it
@@ -45,22 +44,46 @@ impl<J: Naming> Model for Session<J> {
     ghost invariant = { λ s. IsSeated J.bounds s.seat s.transaction };
 }
 
-// Records the event, and lets it go.
-fn add<J: Naming>(seat: &mut Seat<J>, event: Event)
-    requires quiet { DrawsNothing event }
-    requires right { MayRecord J.bounds seat.old.seat seat.old.events event }
-    ensures { Records J.bounds seat.old event seat.new }
+// Records the event that the call picks: a transaction began.
+fn record_start<J: Naming, E: Said>(seat: &mut Seat<J>, start: Ts)
+    requires is { E.event ≡ Began start }
+    requires right { MayRecord J.bounds seat.old.seat seat.old.events E.event }
+    ensures { Records J.bounds seat.old E.event seat.new }
 {
-    seat.record(&event);
+    let _ = start;
+    seat.record_as::<E>();
 }
 
-// Records what was declared, if anything was.
-fn record_declared<J: Naming>(seat: &mut Seat<J>, declaration: Option<Declaration>)
-    requires { IfSome declaration (λ d. MayRecord J.bounds seat.old.seat seat.old.events (Declared d)) }
-    ensures { RecordsDeclared J.bounds seat.old declaration seat.new }
+// Records the event that the call picks: a transaction declares its buffer under these terms.
+fn record_declaration<J: Naming, E: Said>(
+    seat: &mut Seat<J>,
+    transaction: &Transaction,
+    terms: &Terms,
+)
+    requires is { E.event ≡ Declared (declaration_of transaction.now.start transaction.now.buffer terms.now) }
+    requires right { MayRecord J.bounds seat.old.seat seat.old.events E.event }
+    ensures { Records J.bounds seat.old E.event seat.new }
 {
-    if let Some(declaration) = declaration {
-        add(seat, Event::Declared(declaration));
+    let _ = transaction;
+    let _ = terms;
+    seat.record_as::<E>();
+}
+
+// Records that a transaction began.
+fn record_began<J: Naming>(seat: &mut Seat<J>, start: Ts)
+    requires { MayRecord J.bounds seat.old.seat seat.old.events (Began start) }
+    ensures { Records J.bounds seat.old (Began start) seat.new }
+{
+    record_start::<J, Brand>(seat, start);
+}
+
+// Records what a transaction declares under these terms, if anything.
+fn record_declared<J: Naming>(seat: &mut Seat<J>, transaction: &Transaction, terms: &Terms)
+    requires { IfSome (declaration transaction.now.start transaction.now.buffer terms.now) (λ d. MayRecord J.bounds seat.old.seat seat.old.events (Declared d)) }
+    ensures { RecordsDeclared J.bounds seat.old (declaration transaction.now.start transaction.now.buffer terms.now) seat.new }
+{
+    if transaction.has_keys() {
+        record_declaration::<J, Brand>(seat, transaction, terms);
     }
 }
 
@@ -73,7 +96,7 @@ impl<J: Naming> Session<J> {
         let Ok(start) = seat.draw(1) else {
             return Err(seat);
         };
-        add(&mut seat, Event::Began(start));
+        record_began(&mut seat, start);
         Ok(Session {
             seat,
             transaction: Transaction::begin(alloc, start),
@@ -209,18 +232,17 @@ impl<J: Naming> Session<J> {
     }
 
     /// Fixes the write set, and records it where it is not empty. `TooManyKeys` where it is to commit asynchronously and has
-    /// more than 256 keys. A refusal leaves the session as it was.
-    pub fn declare(&mut self, alloc: Global, terms: Terms) -> Result<(), Fault>
+    /// more than 256 keys: the session is then as it was. It takes no memory.
+    pub fn declare(&mut self, terms: Terms) -> Result<(), Fault>
         requires { is_declared self.old.state ≡ false }
         ensures ok { OnOk result ((exceeds self.old.state.buffer terms ≡ false) × (self.new.state ≡ record self.old.state { declared = Some terms }) × RecordsDeclared J.bounds self.old.seat (declaration self.old.state.start self.old.state.buffer terms) self.new.seat) }
         ensures same { OnErr result (self.new ≡ self.old) }
-        ensures err { IfErr result (λ e. (e ≡ fault.OutOfMemory) ⊎ ((e ≡ fault.TooManyKeys) × (exceeds self.old.state.buffer terms ≡ true))) }
+        ensures err { IfErr result (λ e. (e ≡ fault.TooManyKeys) × (exceeds self.old.state.buffer terms ≡ true)) }
     {
         if self.transaction.exceeds(&terms) {
             return Err(Fault::TooManyKeys);
         }
-        let declaration = self.transaction.declaration(alloc, &terms)?;
-        record_declared(&mut self.seat, declaration);
+        record_declared(&mut self.seat, &self.transaction, &terms);
         self.transaction.declare(terms);
         Ok(())
     }

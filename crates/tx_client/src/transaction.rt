@@ -1,6 +1,6 @@
 //! One transaction, as its client knows it: the rules of a session, without its seat.
 ghost use Rattle.std.specs.Prelude.{◌≡◌, ◌⊎◌, true, false, Ok, Err, IfOk, IfErr, OnOk, OnErr};
-ghost use Rattle.tx_client.specs.Buffers.{touched, locked, buffered, is_full, is_known};
+ghost use Rattle.tx_client.specs.Buffers.{touched, locked, buffered, is_full, is_known, not_empty};
 ghost use Rattle.tx_client.specs.Sessions.{begun, is_declared, has_primary, declaration, exceeds};
 ghost use Rattle.tx_client.specs.declared.state.Miss.TheVariants.{NoMemory};
 ghost use Rattle.tx_client.specs.Walks.{IsBuffered};
@@ -129,6 +129,13 @@ impl Transaction {
             return Ok(());
         }
         self.touch(key, Mutation::Lock)
+    }
+
+    /// Whether its buffer has a key.
+    pub(crate) fn has_keys(&self) -> bool
+        ensures { result ≡ not_empty self.now.buffer }
+    {
+        has_keys(&self.buffer)
     }
 
     /// What the buffer declares under these terms, which is nothing where it is empty.

@@ -30,4 +30,4 @@ pub use reply::Reply;
 pub use request::Request;
 pub use seat::Seat;
 pub use told::{Told, Unnamed};
-pub use view::Naming;
+pub use view::{Naming, Said};

@@ -42,15 +42,25 @@ impl<J: Naming> Model for Seat<J> {
 }
 
 // Adds the event that the call picks.
-fn add<E: Said>(words: &Words, token: &mut Token, event: &Event)
+fn add<E: Said>(words: &Words, token: &mut Token)
     requires table { (token.old.table_id ≡ words.now.table_id) × (words.now.table_id.words ≡ 2) }
     requires owns { Owns token.old.me.0 token.old.me.0.from }
-    requires is { event.now ≡ E.event }
     requires right { DrawsNothing E.event × MayRecord words.now.key.bounds.items token.old.me.0.from token.old.me.0.seen E.event }
     ensures { (token.new.table_id ≡ token.old.table_id) × ((n : ℕ) × Adds E.event (step words.now.table_id.slots 1 1 0 none) token.old.me n token.new.me) }
 {
-    let _ = event;
     words.fetch_add::<Add<E>>(token, 1, 1);
+}
+
+// Records this event, which the call picks.
+fn record_this<J: Naming, E: Said>(seat: &mut Seat<J>, event: &Event)
+    requires is { event.now ≡ E.event }
+    requires quiet { DrawsNothing E.event }
+    requires right { MayRecord J.bounds seat.old.seat seat.old.events E.event }
+    ensures same { (seat.new.seat ≡ seat.old.seat) × (seat.new.ticks ≡ seat.old.ticks) }
+    ensures added { HasRecorded J.bounds seat.old.seat seat.old.events E.event seat.new.events }
+{
+    let _ = event;
+    seat.record_as::<E>();
 }
 
 impl<J: Naming> Seat<J> {
@@ -108,6 +118,17 @@ impl<J: Naming> Seat<J> {
         Ts::new(self.words.shared.load::<Look>(&mut self.token, 0))
     }
 
+    /// Records the event that the call picks, of which no value is made: one of this seat that is right after whatever other seats
+    /// may have done since, by one atomic add.
+    pub fn record_as<E: Said>(&mut self)
+        requires quiet { DrawsNothing E.event }
+        requires right { MayRecord J.bounds self.old.seat self.old.events E.event }
+        ensures same { (self.new.seat ≡ self.old.seat) × (self.new.ticks ≡ self.old.ticks) }
+        ensures added { HasRecorded J.bounds self.old.seat self.old.events E.event self.new.events }
+    {
+        add::<E>(&self.words.shared, &mut self.token);
+    }
+
     /// Records an event of this seat that is right after whatever other seats may have done since, by one atomic add.
     pub fn record(&mut self, event: &Event)
         requires quiet { DrawsNothing event.now }
@@ -115,7 +136,7 @@ impl<J: Naming> Seat<J> {
         ensures same { (self.new.seat ≡ self.old.seat) × (self.new.ticks ≡ self.old.ticks) }
         ensures added { HasRecorded J.bounds self.old.seat self.old.events event.now self.new.events }
     {
-        add::<Brand>(&self.words.shared, &mut self.token, event);
+        record_this::<J, Brand>(self, event);
     }
 
     // The words of its journal.

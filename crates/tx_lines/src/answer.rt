@@ -26,11 +26,12 @@ pub(crate) fn put_mode(out: &mut Vec<u8>, mode: Mode) -> Result<(), AllocError>
 fn put_lock(out: &mut Vec<u8>, info: &LockInfo) -> Result<(), AllocError>
     ensures { OnOk result (out.new.items ≡ out.old.items ++ members_text (lock_fields info.now)) }
 {
-    put_text(out, info.key.as_bytes())?;
-    put_number(out, info.start.get())?;
-    put_text(out, info.primary.as_bytes())?;
-    put_number(out, info.min.get())?;
-    put_mode(out, info.mode)
+    let facts = info.facts();
+    put_text(out, facts.key.as_bytes())?;
+    put_number(out, facts.start.get())?;
+    put_text(out, facts.primary.as_bytes())?;
+    put_number(out, facts.min.get())?;
+    put_mode(out, facts.mode)
 }
 
 // A word, as it is written, and a lock.
@@ -45,9 +46,9 @@ fn put_locked(out: &mut Vec<u8>, word: &[u8], info: &LockInfo) -> Result<(), All
 fn told_minimum(info: &LockInfo) -> Ts
     ensures { result ≡ told_minimum info.now }
 {
-    match info.mode {
+    match info.facts().mode {
         Mode::TwoPhase => Ts::ZERO,
-        Mode::Async => info.min,
+        Mode::Async => info.facts().min,
     }
 }
 

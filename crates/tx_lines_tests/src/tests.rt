@@ -6,8 +6,8 @@ use tx_lines::{Reply, put_reply, put_step};
 use tx_machine::{ScanRead, Step};
 use tx_plan::{LockHead, RecordHead};
 use tx_types::{
-    Change, Changes, Fate, Fault, Items, Key, KeyValue, KeyValues, LockInfo, LockKind, Mode,
-    Mutation, Secondaries, Ts, Value,
+    Change, Changes, Fate, Fault, Items, Key, KeyValue, KeyValues, LockFacts, LockInfo, LockKind,
+    Mode, Mutation, Secondaries, Ts, Value,
 };
 
 // Whether this is the line of a reply.
@@ -68,7 +68,7 @@ fn statuses(rt: HostRuntime) {
 
 // The lock of the transaction that started at 1, whose minimum is 3.
 fn lock_on(rt: &HostRuntime, mode: Mode) -> Result<LockInfo, Fault> {
-    Ok(LockInfo {
+    let facts = LockFacts {
         key: Key::new(rt.alloc(), b"b")?,
         start: Ts::new(1),
         primary: Key::new(rt.alloc(), b"a")?,
@@ -77,7 +77,8 @@ fn lock_on(rt: &HostRuntime, mode: Mode) -> Result<LockInfo, Fault> {
         kind: LockKind::Put,
         mode,
         secondaries: Secondaries::new(rt.alloc()),
-    })
+    };
+    LockInfo::new(rt.alloc(), facts)
 }
 
 fn says_locked(rt: &HostRuntime, mode: Mode, line: &str) -> bool {

@@ -42,7 +42,7 @@ impl PlannedAnswer {
             },
             PlannedAnswer::Locked { min } => match info {
                 Some(mut info) => {
-                    info.min = min;
+                    info.set_min(min);
                     Answer::Locked(info)
                 }
                 None => Answer::TxnLockNotFound,

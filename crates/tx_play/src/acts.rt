@@ -81,7 +81,7 @@ pub(crate) fn declare_at<J: Naming, F: Families>(
 {
     session.hear_of(post.newest());
     let copy = declaration_of(alloc, session, post, &terms);
-    match session.declare(alloc, terms) {
+    match session.declare(terms) {
         Ok(()) => {
             post.set_newest(session.tell());
             note_declared(post, copy);

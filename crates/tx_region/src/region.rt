@@ -1,11 +1,8 @@
 //! A region: a seat and records, which are what the seat's own events left.
 ghost use Rattle.std.specs.Prelude.{◌≡◌, ◌≤◌, ◌↔◌, ℕ, [], length, IsTrue, IfOk, IfErr, IfSome, IfNone, IsSome};
 ghost use Rattle.tx_types.specs.declared.key.Key.{Key};
-ghost use Rattle.tx_plan.specs.declared.body.Body.{Body};
-ghost use Rattle.tx_plan.specs.declared.answer.Answer.{Answer};
 ghost use Rattle.tx_cells.specs.Contents.{nothing_held};
 ghost use Rattle.tx_cells.specs.Copies.{Copies};
-ghost use Rattle.tx_core.specs.declared.event.Taken.{Taken as TakenOf};
 ghost use Rattle.tx_core.specs.declared.event.Event.TheVariants as events;
 ghost use Rattle.tx_core.specs.Histories.{last, left, Begins};
 ghost use Rattle.tx_core.specs.Recording.{MayRecord, part};
@@ -17,10 +14,10 @@ ghost use Rattle.tx_region.specs.Taking.{Answered};
 use crate::records::Records;
 use crate::routing::holds;
 use std::alloc::Global;
-use std::marker::Model;
+use std::marker::{Brand, Model};
 use tx_cells::{Families, KeyCopy};
-use tx_core::{Answer, Body, Event, RegionNo, SeatNo, Taken};
-use tx_journal::{Journal, Naming, Reply, Request, Seat, Told};
+use tx_core::{Answer, Body, SeatNo};
+use tx_journal::{Journal, Naming, Reply, Request, Said, Seat, Told};
 use tx_types::{Fault, Key, Ts};
 
 /// A region of the journal `J`. Contracts see its seat: its number, its ticks and the events that it knows.
@@ -43,39 +40,26 @@ impl<J: Naming, F: Families> Model for Region<J, F> {
     ghost invariant = { λ r. (region_of F.content r.records ≡ left r.seat.events r.seat.seat) × (r.seat.seat ≤ length J.bounds) };
 }
 
-// The request and the answer of an event that a region took.
-fn parts_of(event: Event) -> (Body, Answer)
-    requires { (x : TakenOf) × (event ≡ events.Took x) }
-    ensures { (x : TakenOf) → event ≡ events.Took x → (result.0 ≡ x.body) × (result.1 ≡ x.answer) }
+// Records the event that the call picks: the region of this seat, which loaded `loaded`, answered a request so.
+fn record_event<J: Naming, E: Said>(seat: &mut Seat<J>, loaded: Ts, body: &Body, answer: &Answer)
+    requires is { E.event ≡ events.Took record { region = seat.old.seat; body = body.now; loaded = loaded; answer = answer.now } }
+    requires right { MayRecord J.bounds seat.old.seat seat.old.events E.event }
+    ensures same { (seat.new.seat ≡ seat.old.seat) × (seat.new.ticks ≡ seat.old.ticks) }
+    ensures added { HasRecorded J.bounds seat.old.seat seat.old.events E.event seat.new.events }
 {
-    match event {
-        Event::Took(taken) => (taken.body, taken.answer),
-        _ => unreachable!(),
-    }
+    let _ = loaded;
+    let _ = body;
+    let _ = answer;
+    seat.record_as::<E>();
 }
 
-// Records that the region of this seat, which loaded `loaded`, answered a request so, and hands back what was asked and
-// answered.
-fn record_taken<J: Naming>(
-    seat: &mut Seat<J>,
-    loaded: Ts,
-    body: Body,
-    answer: Answer,
-) -> (Body, Answer)
-    requires { MayRecord J.bounds seat.old.seat seat.old.events (events.Took record { region = seat.old.seat; body = body; loaded = loaded; answer = answer }) }
-    ensures parts { (result.0 ≡ body) × (result.1 ≡ answer) }
+// Records that the region of this seat, which loaded `loaded`, answered a request so.
+fn record_taken<J: Naming>(seat: &mut Seat<J>, loaded: Ts, body: &Body, answer: &Answer)
+    requires { MayRecord J.bounds seat.old.seat seat.old.events (events.Took record { region = seat.old.seat; body = body.now; loaded = loaded; answer = answer.now }) }
     ensures same { (seat.new.seat ≡ seat.old.seat) × (seat.new.ticks ≡ seat.old.ticks) }
-    ensures added { HasRecorded J.bounds seat.old.seat seat.old.events (events.Took record { region = seat.old.seat; body = body; loaded = loaded; answer = answer }) seat.new.events }
+    ensures added { HasRecorded J.bounds seat.old.seat seat.old.events (events.Took record { region = seat.old.seat; body = body.now; loaded = loaded; answer = answer.now }) seat.new.events }
 {
-    let region = RegionNo::new(seat.number().get());
-    let event = Event::Took(Taken {
-        region,
-        body,
-        loaded,
-        answer,
-    });
-    seat.record(&event);
-    parts_of(event)
+    record_event::<J, Brand>(seat, loaded, body, answer);
 }
 
 impl<J: Naming, F: Families> Region<J, F> {
@@ -181,7 +165,7 @@ impl<J: Naming, F: Families> Region<J, F> {
                 Reply::new(Request::new(by, body), None, told)
             }
             Ok(answer) => {
-                let (body, answer) = record_taken(&mut self.seat, loaded, body, answer);
+                record_taken(&mut self.seat, loaded, &body, &answer);
                 let told = self.seat.tell();
                 Reply::new(Request::new(by, body), Some(answer), told)
             }

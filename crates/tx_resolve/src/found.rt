@@ -42,7 +42,7 @@ impl For {
     {
         match self {
             For::Reader { at: _, now } => {
-                now.get().saturating_sub(info.start.get()) > u64::from(info.ttl)
+                now.get().saturating_sub(info.facts().start.get()) > u64::from(info.facts().ttl)
             }
             For::Collector => true,
         }
@@ -107,11 +107,11 @@ fn waiting_by(came: &Came) -> WaitCause
 fn rests_by(who: &For, info: &LockInfo) -> Option<Status>
     ensures { result ≡ rests_by who.now info.now }
 {
-    let minimum = info.min;
+    let minimum = info.facts().min;
     if who.lets_pass(minimum) {
         return Some(Status::Pushed(minimum));
     }
-    match info.mode {
+    match info.facts().mode {
         Mode::Async if who.is_over(info) => None,
         _ => Some(Status::Waiting(WaitCause::Live)),
     }
@@ -153,9 +153,9 @@ pub(crate) fn other_by(came: &Came) -> Other
     ensures { result ≡ other_by came.now }
 {
     match came {
-        Came::Said(Answer::Locked(info)) => match info.mode {
+        Came::Said(Answer::Locked(info)) => match info.facts().mode {
             Mode::TwoPhase => Other::Ends(Others::FellBack),
-            Mode::Async => Other::Async(info.min),
+            Mode::Async => Other::Async(info.facts().min),
         },
         Came::Said(Answer::Committed(commit)) => {
             Other::Ends(Others::Decided(Fate::Committed(*commit)))

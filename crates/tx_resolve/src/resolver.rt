@@ -23,8 +23,8 @@ fn check_of(met: &LockInfo, who: &For, forced: bool) -> Result<Body, Fault>
     ensures err { IfErr result (λ e. e ≡ fault.OutOfMemory) }
 {
     Ok(Body::CheckTxnStatus(CheckTxnStatus {
-        key: met.primary.clone()?,
-        start: met.start,
+        key: met.facts().primary.clone()?,
+        start: met.facts().start,
         caller: who.caller(),
         current: who.time(),
         rollback_if_not_exist: who.is_over(met),
@@ -47,8 +47,8 @@ fn settle_of(met: &LockInfo, fate: &Fate) -> Result<Body, Fault>
     ensures err { IfErr result (λ e. e ≡ fault.OutOfMemory) }
 {
     Ok(Body::ResolveLock(ResolveLock {
-        key: met.key.clone()?,
-        start: met.start,
+        key: met.facts().key.clone()?,
+        start: met.facts().start,
         fate: *fate,
     }))
 }
@@ -88,7 +88,7 @@ fn ask_other<J: Naming, S: Sender<Request<J>, Reply<J>>>(
     ensures knows { Knows J.bounds seat.new.events met.now }
     ensures found { IsOther seat.new.events met.now.start key.now result }
 {
-    let Ok(body) = other_of(met.start, key) else {
+    let Ok(body) = other_of(met.facts().start, key) else {
         return Other::Ends(Others::Rests(WaitCause::OutOfMemory));
     };
     other_by(&ask(seat, body, sender))
@@ -115,8 +115,8 @@ fn ask_others<J: Naming, S: Sender<Request<J>, Reply<J>>>(
     ensures knows { Knows J.bounds seat.new.events met.now }
     ensures found { IsOthers seat.new.events met.now.start result }
 {
-    let mut most = primary.min;
-    for key in primary.secondaries.as_slice() {
+    let mut most = primary.facts().min;
+    for key in primary.facts().secondaries.as_slice() {
         match ask_other(seat, met, key, sender) {
             Other::Async(minimum) => most = greater(most, minimum),
             Other::Ends(found) => return found,
@@ -278,5 +278,5 @@ pub fn resolve<J: Naming, S: Sender<Request<J>, Reply<J>>>(
     let _ = seat.number();
     let status = resolve_for(seat, met, &For::Reader { at: reader, now }, sender);
     let told = seat.tell();
-    Resolved::new(met.start, status, told)
+    Resolved::new(met.facts().start, status, told)
 }

@@ -101,7 +101,7 @@ fn edits<J: Naming, F: Families + Drop, R: Wait + Drop>(
                 ttl,
                 max_commit: max.map(Ts::new),
             };
-            Ok(done(session.declare(access.alloc, terms)))
+            Ok(done(session.declare(terms)))
         }
         _ => Err(Cause::Order),
     }

@@ -29,17 +29,12 @@ const TERMS: Terms = Terms {
 };
 
 // Puts the value on the key.
-fn put<J: Naming, F: Families + Drop, R: Wait + Drop>(
-    session: &mut Session<J>,
-    access: &Access<J, F, R>,
-    key: Key,
-    value: Value,
-) -> Result<(), Fault>
+fn put<J: Naming>(session: &mut Session<J>, key: Key, value: Value) -> Result<(), Fault>
     requires { is_declared session.old.state ≡ false }
     ensures { OnOk result (is_declared session.new.state ≡ true) }
 {
     session.put(key, value)?;
-    session.declare(access.alloc, TERMS)
+    session.declare(TERMS)
 }
 
 // Locks it, and commits it.
@@ -70,7 +65,7 @@ fn write<J: Naming, F: Families + Drop, R: Wait + Drop>(
 ) -> Result<(), Fault>
     requires { is_declared session.old.state ≡ false }
 {
-    put(session, access, key, value)?;
+    put(session, key, value)?;
     commit(session, access)
 }
 

@@ -170,9 +170,9 @@ impl<J: Naming, L: Source> Moving<J, L> {
 /// The slots of a lock, its primary and the keys that it lists.
 pub(crate) fn slots_of(alloc: Global, info: &LockInfo) -> Result<Vec<Slot>, Fault> {
     let mut slots = Vec::new(alloc);
-    slots.push(slot_of(&info.key))?;
-    slots.push(slot_of(&info.primary))?;
-    for key in info.secondaries.as_slice() {
+    slots.push(slot_of(&info.facts().key))?;
+    slots.push(slot_of(&info.facts().primary))?;
+    for key in info.facts().secondaries.as_slice() {
         slots.push(slot_of(key))?;
     }
     Ok(slots)
@@ -209,14 +209,11 @@ fn declare<J: Naming, L: Source>(
     let (from, to) = left;
     enter(session, alloc, &order.from, from)?;
     enter(session, alloc, &order.to, to)?;
-    session.declare(
-        alloc,
-        Terms {
-            mode: order.mode,
-            ttl: TTL,
-            max_commit: None,
-        },
-    )
+    session.declare(Terms {
+        mode: order.mode,
+        ttl: TTL,
+        max_commit: None,
+    })
 }
 
 impl<J: Naming, L: Source> Moving<J, L> {

@@ -44,8 +44,8 @@ pub fn by_answer(answer: &Answer) -> Said {
         Answer::RolledBack => ("rolled-back", 0),
         Answer::Ttl(ttl) => ("ttl", u64::from(*ttl)),
         Answer::Missing => ("missing", 0),
-        Answer::Locked(info) => ("locked", info.min.get()),
-        Answer::KeyIsLocked(info) => ("E1", digit(info.key.as_bytes())),
+        Answer::Locked(info) => ("locked", info.facts().min.get()),
+        Answer::KeyIsLocked(info) => ("E1", digit(info.facts().key.as_bytes())),
         Answer::WriteConflict { start: _, commit } => ("E2", commit.get()),
         Answer::AlreadyRolledBack => ("E3", 0),
         Answer::AlreadyCommitted { commit } => ("E4", commit.get()),
@@ -110,7 +110,7 @@ pub fn by_fault(fault: Fault) -> Said {
         Fault::OracleSpent => ("E11", 0),
         Fault::BelowSafePoint { safe } => ("E7", safe.get()),
         Fault::FutureTimestamp { last } => ("E8", last.get()),
-        Fault::LocksRemain(info) => ("E9", digit(info.key.as_bytes())),
+        Fault::LocksRemain(info) => ("E9", digit(info.facts().key.as_bytes())),
         _ => ("other", 0),
     }
 }

@@ -19,7 +19,7 @@ mod write;
 pub use fault::{Cause, Fault};
 pub use key::Key;
 pub use lists::{Changes, Items, KeyValues, Secondaries};
-pub use lock::{LockInfo, LockMode, LockRec};
+pub use lock::{LockFacts, LockInfo, LockMode, LockRec};
 pub use mutation::{Change, Fate, KeyValue, LockKind, Mode, Mutation, StoredMutation};
 pub use region_no::RegionNo;
 pub use seat_no::SeatNo;

@@ -9,6 +9,7 @@ use crate::mutation::{LockKind, Mode, StoredMutation};
 use crate::ts::Ts;
 use std::alloc::Global;
 use std::fmt;
+use std::marker::Model;
 
 /// How a lock's transaction commits. The async lock of the primary lists the transaction's other keys.
 #[derive(Clone, Debug, Drop)]
@@ -57,16 +58,19 @@ impl LockRec {
             LockMode::TwoPhase => Secondaries::new(alloc),
             LockMode::Async(others) => others.clone()?,
         };
-        Ok(LockInfo {
-            key,
-            start: self.start,
-            primary,
-            min: self.min,
-            ttl: self.ttl,
-            kind: self.mutation.kind(),
-            mode: self.mode.mode(),
-            secondaries,
-        })
+        LockInfo::new(
+            alloc,
+            LockFacts {
+                key,
+                start: self.start,
+                primary,
+                min: self.min,
+                ttl: self.ttl,
+                kind: self.mutation.kind(),
+                mode: self.mode.mode(),
+                secondaries,
+            },
+        )
     }
 
     /// The same.
@@ -78,9 +82,9 @@ impl LockRec {
     }
 }
 
-/// What is told of a lock to those whom it stops.
+/// What a lock says to those whom it stops.
 #[derive(Clone, Debug, Drop)]
-pub struct LockInfo {
+pub struct LockFacts {
     pub key: Key,
     pub start: Ts,
     pub primary: Key,
@@ -92,7 +96,45 @@ pub struct LockInfo {
     pub secondaries: Secondaries,
 }
 
+/// What is told of a lock. It lies in memory of its own, so that an answer or a refusal that may tell of a lock is small. Contracts see
+/// what the lock says.
+#[derive(Clone, Debug, Drop)]
+pub struct LockInfo {
+    facts: Box<LockFacts>,
+}
+
+impl Model for LockInfo {
+    ghost use Rattle.tx_types.specs.declared.lock.LockFacts.{LockFacts};
+
+    ghost Value = { LockFacts };
+
+    ghost view = { λ i. i.facts.value };
+}
+
 impl LockInfo {
+    /// What this lock says is told.
+    pub fn new(alloc: Global, facts: LockFacts) -> Result<LockInfo, Fault>
+        ensures ok { IfOk result (λ info. info ≡ facts) }
+        ensures err { IfErr result (λ e. e ≡ Fault.OutOfMemory) }
+    {
+        let facts = Box::new(alloc, facts)?;
+        Ok(LockInfo { facts })
+    }
+
+    /// What the lock says.
+    pub fn facts(&self) -> &LockFacts
+        ensures { result.now ≡ self.now }
+    {
+        &self.facts
+    }
+
+    /// It says another minimum commit timestamp.
+    pub fn set_min(&mut self, min: Ts)
+        ensures { self.new ≡ record self.old { min = min } }
+    {
+        self.facts.min = min;
+    }
+
     /// The same.
     pub fn clone(&self) -> Result<LockInfo, Fault>
         ensures ok { IfOk result (λ copy. copy ≡ self.now) }
@@ -107,7 +149,7 @@ impl fmt::Display for LockInfo {
         write!(
             f,
             "key {} is locked by the transaction that started at {} with the primary {}",
-            self.key, self.start, self.primary
+            self.facts.key, self.facts.start, self.facts.primary
         )
     }
 }

@@ -79,7 +79,7 @@ pub fn met<F: Families>(
 }
 
 fn is_info(info: LockInfo, start: u64, min: u64) -> bool {
-    let right = info.start == Ts::new(start) && info.min == Ts::new(min);
+    let right = info.facts().start == Ts::new(start) && info.facts().min == Ts::new(min);
     drop(info);
     right
 }
@@ -95,11 +95,11 @@ pub fn told<F: Families>(alloc: Global, families: &F, lock: At, min: u64) -> Res
 
 fn first_key(infos: &Infos) -> Option<u8> {
     let info = infos.as_slice().first()?;
-    info.key.as_bytes().first().copied()
+    info.facts().key.as_bytes().first().copied()
 }
 
 fn key_of(info: LockInfo) -> Option<u8> {
-    let key = info.key.as_bytes().first().copied();
+    let key = info.facts().key.as_bytes().first().copied();
     drop(info);
     key
 }
@@ -202,7 +202,7 @@ fn key_in(answer: &Answer) -> Option<u8> {
     let Answer::KeyIsLocked(info) = answer else {
         return None;
     };
-    info.key.as_bytes().first().copied()
+    info.facts().key.as_bytes().first().copied()
 }
 
 /// Whether a scan meets the lock on this key.

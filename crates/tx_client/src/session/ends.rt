@@ -10,18 +10,47 @@ ghost use Rattle.tx_client.specs.Statuses.{lies_above};
 ghost use Rattle.tx_client.specs.Calls.{HasHeard, Records, IsDecidedSo};
 ghost use Rattle.tx_client.specs.Facts.{standing};
 
-use super::{Session, add};
+use super::Session;
 use crate::resolved::{Decision, Met, Resolved};
-use tx_core::{Event, Outcome};
-use tx_journal::{Naming, Seat};
+use std::marker::Brand;
+use tx_core::Outcome;
+use tx_journal::{Naming, Said, Seat};
 use tx_types::{Fault, Ts};
+
+// Records the event that the call picks: a session answered this outcome.
+fn record_outcome<J: Naming, E: Said>(seat: &mut Seat<J>, start: Ts, outcome: &Outcome)
+    requires is { E.event ≡ Answered start outcome.now }
+    requires right { MayRecord J.bounds seat.old.seat seat.old.events E.event }
+    ensures { Records J.bounds seat.old E.event seat.new }
+{
+    let _ = start;
+    let _ = outcome;
+    seat.record_as::<E>();
+}
+
+// Records the event that the call picks: the session of this seat stopped.
+fn record_end<J: Naming, E: Said>(seat: &mut Seat<J>)
+    requires is { E.event ≡ Stopped seat.old.seat }
+    requires right { MayRecord J.bounds seat.old.seat seat.old.events E.event }
+    ensures { Records J.bounds seat.old E.event seat.new }
+{
+    seat.record_as::<E>();
+}
 
 // Records what was answered.
 fn record_answered<J: Naming>(seat: &mut Seat<J>, start: Ts, outcome: &Outcome)
     requires { MayRecord J.bounds seat.old.seat seat.old.events (Answered start outcome.now) }
     ensures { Records J.bounds seat.old (Answered start outcome.now) seat.new }
 {
-    add(seat, Event::Answered(start, *outcome));
+    record_outcome::<J, Brand>(seat, start, outcome);
+}
+
+// Records that a session stopped.
+fn record_stopped<J: Naming>(seat: &mut Seat<J>)
+    requires { MayRecord J.bounds seat.old.seat seat.old.events (Stopped seat.old.seat) }
+    ensures { Records J.bounds seat.old (Stopped seat.old.seat) seat.new }
+{
+    record_end::<J, Brand>(seat);
 }
 
 impl<J: Naming> Session<J> {
@@ -117,8 +146,7 @@ impl<J: Naming> Session<J> {
         ensures { Records J.bounds self.seat (Stopped self.seat.seat) result }
     {
         let mut seat = self.into_seat();
-        let number = seat.number();
-        add(&mut seat, Event::Stopped(number));
+        record_stopped(&mut seat);
         seat
     }
 }

@@ -36,7 +36,7 @@ fn fill<J: Naming>(alloc: Global, session: &mut Session<J>, count: u16) -> Said 
 }
 
 // Declares the buffer in this mode.
-fn declare<J: Naming>(alloc: Global, session: &mut Session<J>, mode: Mode) -> Said {
+fn declare<J: Naming>(session: &mut Session<J>, mode: Mode) -> Said {
     if session.is_declared() {
         return ("order", 0);
     }
@@ -45,7 +45,7 @@ fn declare<J: Naming>(alloc: Global, session: &mut Session<J>, mode: Mode) -> Sa
         ttl: 10,
         max_commit: None,
     };
-    by_change(session.declare(alloc, terms))
+    by_change(session.declare(terms))
 }
 
 // So many keys are put, the first one once more, and declared in this mode: what comes of the last put of a new key, of that one,
@@ -56,8 +56,8 @@ fn tries<J: Naming>(alloc: Global, seat: Seat<J>, count: u16, mode: Mode) -> [&'
     };
     let filled = fill(alloc, &mut session, count);
     let again = put(alloc, &mut session, 0);
-    let declared = declare(alloc, &mut session, mode);
-    let then = declare(alloc, &mut session, Mode::TwoPhase);
+    let declared = declare(&mut session, mode);
+    let then = declare(&mut session, Mode::TwoPhase);
     drop(session);
     [filled.0, again.0, declared.0, then.0]
 }

@@ -39,10 +39,13 @@ fn told(rt: &HostRuntime, lock: &LockRec) -> Result<LockInfo, Fault> {
 }
 
 fn is_told(info: &LockInfo, min: u64) -> bool {
-    let keys = info.key.as_bytes() == b"k".as_slice() && info.primary.as_bytes() == b"p".as_slice();
-    let kinds = info.kind == LockKind::Delete && info.mode == Mode::Async;
-    let times = info.start.get() == 5 && info.min.get() == min && info.ttl == 10;
-    let others = match info.secondaries.as_slice() {
+    let keys = info.facts().key.as_bytes() == b"k".as_slice()
+        && info.facts().primary.as_bytes() == b"p".as_slice();
+    let kinds = info.facts().kind == LockKind::Delete && info.facts().mode == Mode::Async;
+    let times = info.facts().start.get() == 5
+        && info.facts().min.get() == min
+        && info.facts().ttl == 10;
+    let others = match info.facts().secondaries.as_slice() {
         [other] => other.as_bytes() == b"b".as_slice(),
         _ => false,
     };

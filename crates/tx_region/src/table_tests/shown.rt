@@ -72,7 +72,7 @@ pub fn is(given: Short, wanted: Short) -> bool {
 }
 
 fn lock(word: Word, info: &LockInfo) -> Short {
-    (word, info.start.get(), info.min.get())
+    (word, info.facts().start.get(), info.facts().min.get())
 }
 
 fn rows(rows: &KeyValues) -> Short {
@@ -90,7 +90,7 @@ fn rows(rows: &KeyValues) -> Short {
 fn locks(infos: &Infos) -> Short {
     let infos = infos.as_slice();
     let last = match infos.last() {
-        Some(info) => info.start.get(),
+        Some(info) => info.facts().start.get(),
         None => 0,
     };
     (Word::Locks, infos.len() as u64, last)

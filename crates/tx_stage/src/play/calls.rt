@@ -49,12 +49,7 @@ fn lock<J: Naming>(alloc: Global, session: &mut Session<J>, digit: u8) -> Said {
     }
 }
 
-fn declare<J: Naming>(
-    alloc: Global,
-    session: &mut Session<J>,
-    mode: Mode,
-    most: Option<u64>,
-) -> Said {
+fn declare<J: Naming>(session: &mut Session<J>, mode: Mode, most: Option<u64>) -> Said {
     if session.is_declared() {
         return ORDER;
     }
@@ -67,7 +62,7 @@ fn declare<J: Naming>(
         ttl: 10,
         max_commit,
     };
-    by_change(session.declare(alloc, terms))
+    by_change(session.declare(terms))
 }
 
 // Requests of a phase.
@@ -156,7 +151,7 @@ pub fn acts<J: Naming>(
         Act::Put(key, value) => put(alloc, session, key, value),
         Act::Delete(key) => delete(alloc, session, key),
         Act::Lock(key) => lock(alloc, session, key),
-        Act::Declare(mode, most) => declare(alloc, session, mode, most),
+        Act::Declare(mode, most) => declare(session, mode, most),
         Act::Prewrite => prewrite(alloc, session, post),
         Act::Draw => draw(session),
         Act::Commit => commit(session, post),

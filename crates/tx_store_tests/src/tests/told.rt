@@ -31,8 +31,8 @@ fn enter<J: Naming>(session: &mut Session<J>, alloc: Global, key: &[u8], value: 
     session.put(key, value).is_ok()
 }
 
-fn declare<J: Naming>(session: &mut Session<J>, alloc: Global) -> bool {
-    !session.is_declared() && session.declare(alloc, TERMS).is_ok()
+fn declare<J: Naming>(session: &mut Session<J>) -> bool {
+    !session.is_declared() && session.declare(TERMS).is_ok()
 }
 
 // Sends the prewrites of two keys.
@@ -85,7 +85,7 @@ fn put_both<J: Naming, F: Families + Drop, R: Wait>(
     let mut wire = Wire::new(rt, store);
     let ready = enter(&mut session, alloc, b"a", b"x")
         && enter(&mut session, alloc, b"z", b"y")
-        && declare(&mut session, alloc)
+        && declare(&mut session)
         && prewrite(&mut session, alloc, &mut wire);
     if !ready {
         return None;

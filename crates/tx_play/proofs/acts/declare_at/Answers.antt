@@ -1,4 +1,4 @@
-use Rattle.std.proofs.Common.{◌≡◌, true, false, Option, Some, sym, ap, subst, ◌∙◌}
+use Rattle.std.proofs.Common.{◌≡◌, inr, true, false, Option, Some, sym, ap, subst, ◌∙◌}
 use Rattle.std.specs.Prelude.{◌⊎◌}
 use Rattle.tx_types.specs.declared.fault.Fault.TheVariants as fault
 use Rattle.tx_core.specs.Histories.{History}
@@ -51,7 +51,7 @@ returns-in-Err-clause-err g c =
     let e = c.in-Err.fault in
     let same = c.in-Err.ensures.same in
     let heard : HasHeard bounds old.seat from.newest l = subst (λ (h : History). HasHeard bounds old.seat h l) c.newest.ensures.told c.hear_of.ensures.heard in (
-      subst (λ (s : State). (e ≡ fault.OutOfMemory) ⊎ ((e ≡ fault.TooManyKeys) × (exceeds s.buffer terms ≡ true))) c.hear_of.ensures.state c.in-Err.ensures.err,
+      subst (λ (s : State). (e ≡ fault.OutOfMemory) ⊎ ((e ≡ fault.TooManyKeys) × (exceeds s.buffer terms ≡ true))) c.hear_of.ensures.state (inr c.in-Err.ensures.err),
       ap (λ (z : Seated). z.state) (c.tell-in-Err.ensures.same ∙ same) ∙ c.hear_of.ensures.state,
       subst (λ (z : Seated). Acts old.seat z.seat from to (stage_of to ≡ stage_of from)) (sym c.tell-in-Err.ensures.same)
           (heard_acts bounds from to old.seat l m.seat heard

@@ -1,4 +1,5 @@
-use Rattle.std.proofs.Common.{sym, subst}
+use Rattle.std.proofs.Common.{◌≡◌, ◌∙◌, sym, ap, subst}
+use Rattle.tx_types.specs.declared.lock.LockInfo.{LockInfo}
 use Rattle.tx_plan.specs.declared.body.Body.{Body}
 use Rattle.tx_core.specs.Allowed.{Allowed}
 use Rattle.tx_client.specs.Senders.{IsHeld}
@@ -14,7 +15,9 @@ pub ask-requires-clause-held : goal.ask-requires-clause-held
 ask-requires-clause-held g c = subst (λ (b : Body). IsHeld g.J.Naming.bounds b) (sym c.in-Ok.ensures.ok) (held_at g.J.Naming.bounds _)
 
 pub ask-requires-clause-allowed : goal.ask-requires-clause-allowed
-ask-requires-clause-allowed g c = subst (λ (b : Body). Allowed c.args.seat.now.events b) (sym c.in-Ok.ensures.ok) c.requires.allowed
+ask-requires-clause-allowed g c =
+    let asks : c.in-Ok.body ≡ other_of c.args.met.now.start c.args.key.now = c.in-Ok.ensures.ok ∙ ap (λ (x : LockInfo). other_of x.start c.args.key.now) c.facts.ensures in
+    subst (λ (b : Body). Allowed c.args.seat.now.events b) (sym asks) c.requires.allowed
 
 pub returns-clause-knows : goal.returns-clause-knows
 returns-clause-knows g c =
@@ -24,5 +27,6 @@ returns-clause-knows g c =
 pub returns-clause-found : goal.returns-clause-found
 returns-clause-found g c =
     let more = asked_more g.S.Sender.sends g.J.Naming.bounds c.args.seat.now c.ask.new.seat c.args.sender.now c.ask.new.sender c.in-Ok.body c.ask.result c.requires.knows.run c.ask.ensures.asked in
-    let came : CameSo c.ask.new.seat.events (other_of c.args.met.now.start c.args.key.now) c.ask.result = subst (λ (b : Body). CameSo c.ask.new.seat.events b c.ask.result) c.in-Ok.ensures.ok c.ask.ensures.told in
+    let asks : c.in-Ok.body ≡ other_of c.args.met.now.start c.args.key.now = c.in-Ok.ensures.ok ∙ ap (λ (x : LockInfo). other_of x.start c.args.key.now) c.facts.ensures in
+    let came : CameSo c.ask.new.seat.events (other_of c.args.met.now.start c.args.key.now) c.ask.result = subst (λ (b : Body). CameSo c.ask.new.seat.events b c.ask.result) asks c.ask.ensures.told in
     subst (IsOther c.ask.new.seat.events c.args.met.now.start c.args.key.now) (sym c.other_by.ensures) (other_ok g.J.Naming.bounds c.ask.new.seat.events more.0 c.args.met.now.start c.args.key.now c.ask.result came)

@@ -1,5 +1,6 @@
 use Rattle.std.proofs.Common.{◌≡◌, ◌∙◌, ◌<◌, ◌+◌, List, length, get_or, take, drop, refl, sym, ap, subst}
 use Rattle.tx_types.specs.declared.key.Key.{Key}
+use Rattle.tx_types.specs.declared.lock.LockInfo.{LockInfo}
 use Rattle.tx_client.specs.Walks.{Sends, Continues}
 use Rattle.tx_resolve.specs.declared.found.Other.TheVariants as other
 use Rattle.tx_resolve.specs.Resolving.{other_walk, others_walk}
@@ -12,7 +13,7 @@ use Rattle.tx_resolve.proofs.resolver.ask_others.Goals as goal
 
 pub ask_other-requires-clause-allowed : goal.ask_other-requires-clause-allowed
 ask_other-requires-clause-allowed g c =
-    let items = c.as_slice-key-items.ensures in
+    let items : c.as_slice-key-items.result.now ≡ c.args.primary.now.secondaries = c.as_slice-key-items.ensures ∙ ap (λ (x : LockInfo). x.secondaries) c.facts-2.ensures in
     let i = c.loop-key.key-index in
     let key = c.key-item.result in
     other_allowed c.loop-key.seat.events c.args.met.now.start c.args.primary.now i key c.loop-key.invariant.primary
@@ -21,7 +22,7 @@ ask_other-requires-clause-allowed g c =
 
 pub returns-in-Ends-clause-sends : goal.returns-in-Ends-clause-sends
 returns-in-Ends-clause-sends g c =
-    let items = c.as_slice-key-items.ensures in
+    let items : c.as_slice-key-items.result.now ≡ c.args.primary.now.secondaries = c.as_slice-key-items.ensures ∙ ap (λ (x : LockInfo). x.secondaries) c.facts-2.ensures in
     let keys : List Key = c.as_slice-key-items.result.now in
     let i = c.loop-key.key-index in
     let t = c.args.met.now.start in
@@ -55,6 +56,6 @@ pub returns-clause-found : goal.returns-clause-found
 returns-clause-found g c =
     let keys : List Key = c.as_slice-key-items.result.now in
     let t = c.args.met.now.start in
-    let all : take c.loop-key.key-index keys ≡ c.args.primary.now.secondaries = all_keys keys c.loop-key.key-index c.loop-key-test.false ∙ c.as_slice-key-items.ensures in
+    let all : take c.loop-key.key-index keys ≡ c.args.primary.now.secondaries = all_keys keys c.loop-key.key-index c.loop-key-test.false ∙ (c.as_slice-key-items.ensures ∙ ap (λ (x : LockInfo). x.secondaries) c.facts-2.ensures) in
     let locks = subst (λ (ks : List Key). HadLocks c.loop-key.seat.events t ks c.args.primary.now.min c.loop-key.most) all c.loop-key.invariant.locks in
     decided_greatest g.J.Naming.bounds c.loop-key.seat.events c.loop-key.invariant.knows.run t c.args.primary.now c.loop-key.most c.loop-key.invariant.primary locks

@@ -7,11 +7,11 @@ use Rattle.tx_client.specs.Facts.{IsSeated}
 use Rattle.tx_client.proofs.Calling.{began_seated}
 use Rattle.tx_client.proofs.session.Session.begin.Goals as goal
 
-pub add-requires-clause-right : goal.add-requires-clause-right
-add-requires-clause-right g c =
+pub record_began-requires : goal.record_began-requires
+record_began-requires g c =
     let bounds = g.J.Naming.bounds in
     subst (λ n. MayRecord bounds n c.draw.new.self.events (Began c.in-Ok.start)) (sym c.draw.ensures.seat) (may_begin_there bounds c.args.seat.seat c.args.seat.events c.draw.new.self.events 1 c.in-Ok.start c.in-Ok.ensures.drawn)
 
 pub invariant_of-result : goal.invariant_of-result
 invariant_of-result g c =
-    subst (λ (z : State). IsSeated g.J.Naming.bounds c.add.new.seat z) (sym c.begin.ensures) (began_seated g.J.Naming.bounds c.args.seat c.draw.new.self c.add.new.seat c.in-Ok.start c.draw.ensures.seat c.in-Ok.ensures.drawn c.add.ensures)
+    subst (λ (z : State). IsSeated g.J.Naming.bounds c.record_began.new.seat z) (sym c.begin.ensures) (began_seated g.J.Naming.bounds c.args.seat c.draw.new.self c.record_began.new.seat c.in-Ok.start c.draw.ensures.seat c.in-Ok.ensures.drawn c.record_began.ensures)

@@ -1,5 +1,5 @@
-use Rattle.std.proofs.Common.{◌≡◌, false, sym, subst}
-use Rattle.tx_client.specs.Sessions.{State, is_declared}
+use Rattle.std.proofs.Common.{◌≡◌, false, refl, sym, subst}
+use Rattle.tx_client.specs.Sessions.{State, is_declared, declaration}
 use Rattle.tx_client.specs.Facts.{IsSeated}
 use Rattle.tx_client.specs.Calls.{Seated}
 use Rattle.tx_client.proofs.Calling.{may_declare_some, declared_seated}
@@ -7,10 +7,13 @@ use Rattle.tx_client.proofs.session.Session.declare.Goals as goal
 
 pub record_declared-requires : goal.record_declared-requires
 record_declared-requires g c =
-    let not_yet : is_declared c.self.inside.transaction ≡ false = subst (λ (z : Seated). is_declared z.state ≡ false) (sym c.self.view_is) c.requires in
-    may_declare_some g.J.Naming.bounds c.self.inside.seat c.self.inside.transaction c.args.terms c.in_ok-declaration.declaration c.self.invariant not_yet c.in_ok-declaration.ensures.ok
+    let s = c.self.inside.transaction in
+    let not_yet : is_declared s ≡ false = subst (λ (z : Seated). is_declared z.state ≡ false) (sym c.self.view_is) c.requires in
+    may_declare_some g.J.Naming.bounds c.self.inside.seat s c.args.terms (declaration s.start s.buffer c.args.terms) c.self.invariant not_yet refl
 
 pub invariant_of-self : goal.invariant_of-self
 invariant_of-self g c =
-    let not_yet : is_declared c.self.inside.transaction ≡ false = subst (λ (z : Seated). is_declared z.state ≡ false) (sym c.self.view_is) c.requires in
-    subst (λ (z : State). IsSeated g.J.Naming.bounds c.record_declared.new.seat z) (sym c.declare.ensures) (declared_seated g.J.Naming.bounds c.self.inside.seat c.record_declared.new.seat c.self.inside.transaction c.args.terms c.in_ok-declaration.declaration c.self.invariant not_yet c.in_ok-declaration.ensures.ok c.record_declared.ensures)
+    let s = c.self.inside.transaction in
+    let not_yet : is_declared s ≡ false = subst (λ (z : Seated). is_declared z.state ≡ false) (sym c.self.view_is) c.requires in
+    subst (λ (z : State). IsSeated g.J.Naming.bounds c.record_declared.new.seat z) (sym c.declare.ensures)
+    (declared_seated g.J.Naming.bounds c.self.inside.seat c.record_declared.new.seat s c.args.terms (declaration s.start s.buffer c.args.terms) c.self.invariant not_yet refl c.record_declared.ensures)

@@ -1,5 +1,7 @@
-use Rattle.std.proofs.Common.{inl, inr, refl, sym, ap, ◌∙◌}
+use Rattle.std.proofs.Common.{◌<◌, ℕ, Option, Some, None, IfSome, inl, inr, refl, sym, ap, ◌∙◌}
 use Rattle.tx_plan.specs.declared.answer.Answer.TheVariants.{Prewritten}
+use Rattle.tx_plan.specs.declared.key_change.NewLock.{NewLock}
+use Rattle.tx_plan.specs.Changes.{new_lock, CanPut}
 use Rattle.tx_plan.specs.Views.{named_in, info_on}
 use Rattle.tx_plan.proofs.Orders.{not_below, not_true}
 use Rattle.tx_plan.proofs.Seen.{own_commit, no_commit, newest, none_above, no_lock}
@@ -79,3 +81,18 @@ returns-clause-answers c cells commit shows =
         ),
       ),
     )
+
+pub returns-clause-applies : goal.returns-clause-applies
+returns-clause-applies c cells commit shows = by_lock (new_lock c.lock_key.result.change) c.lock_key.ensures.minimum
+  where
+    by_lock : (o : Option NewLock) → IfSome o (λ new. c.args.body.now.start < new.min) → IfSome o (λ new. CanPut cells c.args.body.now new)
+    by_lock None e = tt
+    by_lock (Some new) e =
+        (let b = c.args.body.now in
+        let view = c.args.view.now in
+        record {
+          free = no_lock cells b.start commit view shows (sym c.is_some.ensures ∙ c.if-is_some.false);
+          uncommitted = no_commit cells b.start commit view shows c.in_default-own_commit.is;
+          not_rolled_back = λ own. not_true c.is_rolled_back.result c.if-is_rolled_back.false ((c.is_rolled_back.ensures cells commit shows).1 own);
+          above = e;
+        })

@@ -25,8 +25,8 @@ answer-requires g c =
     let low = read_low bounds s.seat.seat c.self.invariant.1 old.events by s.seat.events here heard loaded is_last (region_of g.F.Families.content s.records) c.self.invariant.0 in
     record { room = (omega (arith, load.last.1), omega (arith, low, load.last.1)) }
 
-pub record_taken-body-requires : goal.record_taken-body-requires
-record_taken-body-requires g c =
+pub record_taken-requires : goal.record_taken-requires
+record_taken-requires g c =
     let bounds = g.J.Naming.bounds in
     let old = c.args.self.now in
     let s = c.self.inside in
@@ -65,11 +65,11 @@ invariant_of-self-in-Ok g c =
     let a = c.in-Ok.answer in
     let executes = c.in-Ok.ensures.ok in
     let least : AnswersLeast (left s.seat.events s.seat.seat) loaded body a = subst (λ r. AnswersLeast r loaded body a) c.self.invariant.0 executes.answers in
-    let recorded = c.record_taken-body.new.seat in
+    let recorded = c.record_taken.new.seat in
     let told = c.tell-told-in-Ok.ensures.same in
-    let now = left_now bounds s.seat.seat c.self.invariant.1 old.events by s.seat.events here heard loaded is_last body allowed holds a least recorded.events c.record_taken-body.ensures.added in (
-      executes.leaves ∙ (ap (λ r. leaves r body a) c.self.invariant.0 ∙ (sym now ∙ (ap (λ m. left recorded.events m) (sym c.record_taken-body.ensures.same.0) ∙ ap (λ (k : Known). left k.events k.seat) (sym told)))),
-      subst (λ m. m ≤ length bounds) (sym (ap (λ (k : Known). k.seat) told ∙ c.record_taken-body.ensures.same.0)) c.self.invariant.1,
+    let now = left_now bounds s.seat.seat c.self.invariant.1 old.events by s.seat.events here heard loaded is_last body allowed holds a least recorded.events c.record_taken.ensures.added in (
+      executes.leaves ∙ (ap (λ r. leaves r body a) c.self.invariant.0 ∙ (sym now ∙ (ap (λ m. left recorded.events m) (sym c.record_taken.ensures.same.0) ∙ ap (λ (k : Known). left k.events k.seat) (sym told)))),
+      subst (λ m. m ≤ length bounds) (sym (ap (λ (k : Known). k.seat) told ∙ c.record_taken.ensures.same.0)) c.self.invariant.1,
     )
 
 pub returns-clause-answered : goal.returns-clause-answered
@@ -91,9 +91,9 @@ returns-clause-answered g c =
     let a = c.in-Ok.answer in
     let executes = c.in-Ok.ensures.ok in
     let least : AnswersLeast (left s.seat.events s.seat.seat) loaded body a = subst (λ r. AnswersLeast r loaded body a) c.self.invariant.0 executes.answers in
-    let done = c.record_taken-body.ensures in
+    let done = c.record_taken.ensures in
     let given = c.new-in-Ok-2.result in
     let e = c.new-in-Ok-2.ensures in
     let asked = c.new-in-Ok.ensures in
-    let so : Answered bounds s.seat.seat old.events given a = answered bounds s.seat.seat c.self.invariant.1 old.events by s.seat.events here heard loaded is_last body allowed holds a least c.record_taken-body.new.seat.events done.added given (ap (λ q. q.by) e.0 ∙ (asked.0 ∙ load.told)) (ap (λ q. q.body) e.0 ∙ (asked.1 ∙ done.parts.0)) (e.2 ∙ c.tell-told-in-Ok.ensures.told) in
-    if_some_is given.answer a (Answered bounds old.seat old.events given) (e.1 ∙ ap Some done.parts.1) (subst (λ n. Answered bounds n old.events given a) number so)
+    let so : Answered bounds s.seat.seat old.events given a = answered bounds s.seat.seat c.self.invariant.1 old.events by s.seat.events here heard loaded is_last body allowed holds a least c.record_taken.new.seat.events done.added given (ap (λ q. q.by) e.0 ∙ (asked.0 ∙ load.told)) (ap (λ q. q.body) e.0 ∙ asked.1) (e.2 ∙ c.tell-told-in-Ok.ensures.told) in
+    if_some_is given.answer a (Answered bounds old.seat old.events given) e.1 (subst (λ n. Answered bounds n old.events given a) number so)
