@@ -3,7 +3,7 @@ use Rattle.std.proofs.Common.{zero, suc, ◌≡◌, ◌≢◌, ℕ, ◌+◌, ◌
 use Rattle.std.proofs.lemmas.List.{take_more, take-append-drop}
 use Rattle.std.specs.Cmp.Lexicographic.{slice_cmp}
 use Rattle.std.specs.Ordering.{nat_cmp, is_eq}
-use Rattle.std.specs.List.{Contains}
+use Rattle.std.specs.List.{Contains, list_any}
 use Rattle.std.proofs.lemmas.Map.Text.{is_eq-slice_cmp}
 use Rattle.tx_types.specs.declared.key.Key.{Key}
 use Rattle.tx_types.specs.declared.mutation.Change.{Change}
@@ -99,3 +99,11 @@ not_true b false e f = refl
 pub some_changes : (xs set : List Change) → xs ≡ set → (length xs == 0) ≡ false → set ≢ []
 some_changes [] set e h none = cc h
 some_changes (x ∷ xs) set e h none = cc (e ∙ none)
+
+-- a key that one of the changes is of
+pub any_key : (xs : List Change) (k : Key) → list_any (λ change. bytes_eq change.key k) xs ≡ is_some (mutation_at xs k)
+any_key [] k = refl
+any_key (x ∷ xs) k = elim (key_test x.key k) [
+  | inl t ↦ rw t.0 refl
+  | inr t ↦ rw t.0 (any_key xs k)
+]

@@ -128,11 +128,13 @@ impl Machine {
         ensures refused { IsErrOf result Refused.Step → Refuses self.old (Step.Begin t) }
         ensures same { OnErr result (Keeps self.old self.new) }
     {
-        match self.stages.get(&t) {
-            Some(Stage::Drawn) => {}
-            _ => return Err(Refused::Step),
+        match self.stages.get_mut(&t) {
+            Some(stage) => match stage {
+                Stage::Drawn => *stage = Stage::Begun,
+                _ => return Err(Refused::Step),
+            },
+            None => return Err(Refused::Step),
         }
-        self.stages.insert(t, Stage::Begun)?;
         Ok(())
     }
 
@@ -141,13 +143,19 @@ impl Machine {
         ensures refused { IsErrOf result Refused.Step → Refuses self.old (Step.Declare t set.now) }
         ensures same { OnErr result (Keeps self.old self.new) }
     {
-        if !is_open(&self.stages, &self.fates, t) || set.as_slice().is_empty() {
+        if self.fates.get(&t).is_some() || set.as_slice().is_empty() {
             return Err(Refused::Step);
         }
         if !has_distinct_keys(self.alloc, set.as_slice())? {
             return Err(Refused::Step);
         }
-        self.stages.insert(t, declared(set)?)?;
+        match self.stages.get_mut(&t) {
+            Some(stage) => match stage {
+                Stage::Begun => *stage = declared(set)?,
+                _ => return Err(Refused::Step),
+            },
+            None => return Err(Refused::Step),
+        }
         Ok(())
     }
 
@@ -237,16 +245,6 @@ fn has_begun(stages: &BTreeMap<Ts, Stage>, t: Ts) -> bool
         None | Some(Stage::Drawn) => false,
         Some(Stage::Begun) => true,
         Some(Stage::Declared(_)) => true,
-    }
-}
-
-// Whether the transaction has begun and neither declared nor ended.
-fn is_open(stages: &BTreeMap<Ts, Stage>, fates: &Fates, t: Ts) -> bool
-    ensures { IsTrue result ↔ ((tree.get nat_cmp stages.now t ≡ Some Stage.Begun) × (tree.get nat_cmp fates.now t ≡ None)) }
-{
-    match stages.get(&t) {
-        Some(Stage::Begun) => fates.get(&t).is_none(),
-        _ => false,
     }
 }
 

@@ -26,12 +26,36 @@ pub(crate) type Versions = BTreeMap<Ts, Version>;
 /// How transactions ended, by start timestamp.
 pub(crate) type Fates = BTreeMap<Ts, Fate>;
 
+// The last entry, where it lies at the bound or below.
+fn last_of<V>(map: &BTreeMap<Ts, V>, bound: Ts) -> Option<(Ts, &V)>
+    ensures found { IfSome result (λ x. (x.0 ≤ bound) × (tree.get nat_cmp map.now x.0 ≡ Some x.1.now)) }
+    ensures last { IfSome result (λ x. (q : ℕ) → IsSome (tree.get nat_cmp map.now q) → q ≤ x.0) }
+{
+    match map.last_key_value() {
+        Some((at, value)) if *at <= bound => Some((*at, value)),
+        _ => None,
+    }
+}
+
+// Whether an entry lies above the bound.
+fn goes_above<V>(map: &BTreeMap<Ts, V>, bound: Ts) -> bool
+    ensures { result ≡ false → (q : ℕ) → bound < q → tree.get nat_cmp map.now q ≡ None }
+{
+    match map.last_key_value() {
+        Some((last, _)) => bound < *last,
+        None => false,
+    }
+}
+
 /// The entry nearest to the bound, at it or below.
 pub(crate) fn last_upto<V>(map: &BTreeMap<Ts, V>, bound: Ts) -> Option<(Ts, &V)>
     ensures found { IfSome result (λ x. (x.0 ≤ bound) × (tree.get nat_cmp map.now x.0 ≡ Some x.1.now)) }
     ensures nearest { IfSome result (λ x. (q : ℕ) → q ≤ bound → IsSome (tree.get nat_cmp map.now q) → q ≤ x.0) }
     ensures none { IfNone result ((q : ℕ) → q ≤ bound → tree.get nat_cmp map.now q ≡ None) }
 {
+    if let Some(last) = last_of(map, bound) {
+        return Some(last);
+    }
     let (at, value) = map.range(..=bound).next_back()?;
     Some((*at, value))
 }
@@ -42,6 +66,9 @@ pub(crate) fn first_above<V>(map: &BTreeMap<Ts, V>, bound: Ts) -> Option<(Ts, &V
     ensures nearest { IfSome result (λ x. (q : ℕ) → bound < q → IsSome (tree.get nat_cmp map.now q) → x.0 ≤ q) }
     ensures none { IfNone result ((q : ℕ) → bound < q → tree.get nat_cmp map.now q ≡ None) }
 {
+    if !goes_above(map, bound) {
+        return None;
+    }
     let (at, value) = map
         .range((Bound::Excluded(bound), Bound::Unbounded))
         .next()?;

@@ -1,5 +1,5 @@
 -- What collection drops of a region, key after key.
-use Rattle.std.proofs.Common.{◌≡◌, ◌≢◌, ◌⊎◌, ◌↔◌, inl, inr, refl, sym, ap, ◌∙◌, subst, Bool, true, false, cond, not, List, [], ◌∷◌, ◌++◌, length, length-append, ℕ, suc, ◌+◌, ◌<◌, ◌≤◌, nat_eq, arith, Option, Some, None}
+use Rattle.std.proofs.Common.{◌≡◌, ◌≢◌, ◌⊎◌, ◌↔◌, inl, inr, refl, sym, ap, ◌∙◌, subst, Bool, true, false, cond, not, List, [], ◌∷◌, ◌++◌, length, length-append, ℕ, suc, ◌+◌, ◌<◌, nat_eq, arith, Option, Some, None}
 use Rattle.std.specs.Prelude.{IsTrue, ◌&&◌, nat_lt, Contains}
 use Rattle.std.proofs.lemmas.Bool.{cases_Bool, cases_lt, lt-ltb, le-ltb, eq-eqb, eqb-true}
 use Rattle.std.proofs.lemmas.List.Elements.{Contains-append_left, Contains-append_right, Contains-append_cases}

@@ -9,7 +9,7 @@ use Rattle.tx_plan.specs.Cells.{Lock, Cells, info_of}
 use Rattle.tx_plan.specs.Walks.{LockRow, LocksInOrder, lock_by, IsLockWalk}
 use Rattle.tx_plan.specs.cases.LocksBelow.{IsLockBelow, AreRising, AllBelow}
 use Rattle.tx_plan.specs.cases.Collect.{SomeLockBelow, IsFirstBelow}
-use Rattle.tx_plan.specs.Views.{LockComesNext, lock_head_of, info_on}
+use Rattle.tx_plan.specs.Views.{LockComesNext, info_on}
 use Rattle.tx_plan.specs.declared.view.LockHead.{LockHead}
 use Rattle.tx_plan.proofs.KeyOrder.{lt_trans, lt_other, lt_itself, key_same, same_key}
 

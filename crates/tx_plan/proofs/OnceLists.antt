@@ -1,8 +1,8 @@
 -- Lists in which nothing stands twice.
-use Rattle.std.proofs.Common.{◌≡◌, ◌≢◌, inl, inr, sym, ◌∙◌, subst, List, [], ◌∷◌, ◌++◌, length, ℕ, zero, suc, ◌+◌, ◌<◌, ◌≤◌, arith}
-use Rattle.std.specs.Prelude.{AllPairs, Contains, slice_index_or}
+use Rattle.std.proofs.Common.{◌≢◌, inl, inr, sym, ◌∙◌, subst, List, [], ◌∷◌, ◌++◌, zero, suc, arith}
+use Rattle.std.specs.Prelude.{AllPairs, Contains}
 use Rattle.std.proofs.lemmas.List.Elements.{Contains-append_cases}
-use Rattle.tx_plan.proofs.LockRows.{contains_first, contains_next, contains_cases, contains_none}
+use Rattle.tx_plan.proofs.LockRows.{contains_first, contains_next}
 use Rattle.tx_plan.proofs.Collects.{pairs_first}
 
 -- nothing stands twice

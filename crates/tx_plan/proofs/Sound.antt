@@ -7,8 +7,8 @@ use Rattle.tx_plan.specs.declared.key_change.KeyChange.TheVariants as change
 use Rattle.tx_plan.specs.declared.key_change.Left.{Left}
 use Rattle.tx_plan.specs.declared.key_change.Left.TheVariants as left
 use Rattle.tx_plan.specs.declared.key_change.NewLock.{NewLock}
-use Rattle.tx_plan.specs.Cells.{Lock, CommitRecord, Write, CommitOf, Rollback, Writes, Cells, no_cells, with_lock, with_write}
-use Rattle.tx_plan.specs.Own.{OwnCommit, OthersCommit}
+use Rattle.tx_plan.specs.Cells.{Lock, CommitRecord, Write, CommitOf, Rollback, Writes, Cells, no_cells, with_write}
+use Rattle.tx_plan.specs.Own.{OwnCommit}
 use Rattle.tx_plan.specs.Changes.{changed, Applies, IsLeft, CommitsAt, CanPut, after_left, after_put, mark, committed, put}
 use Rattle.tx_plan.specs.Sound.{IsSound}
 use Rattle.tx_plan.specs.cases.Collect.{keeps, kept}

@@ -6,7 +6,7 @@ use crate::lists::Starts;
 use tx_types::{Fate, Fault, Key, Mode, Mutation, RegionNo, Secondaries, Ts};
 
 /// Asks for the value of a key at a timestamp.
-#[derive(Clone, Debug, Drop)]
+#[derive(Debug, Drop)]
 pub struct Get {
     pub key: Key,
     pub at: Ts,
@@ -14,8 +14,22 @@ pub struct Get {
     pub bypass: Starts,
 }
 
+impl Get {
+    /// The same.
+    pub fn clone(&self) -> Result<Get, Fault>
+        ensures ok { IfOk result (λ copy. copy ≡ self.now) }
+        ensures err { IfErr result (λ e. e ≡ Fault.OutOfMemory) }
+    {
+        Ok(Get {
+            key: self.key.clone()?,
+            at: self.at,
+            bypass: self.bypass.clone()?,
+        })
+    }
+}
+
 /// Asks for the first `limit` keys with a value at a timestamp, from `from` up to but not including `to`.
-#[derive(Clone, Debug, Drop)]
+#[derive(Debug, Drop)]
 pub struct Scan {
     pub from: Key,
     pub to: Key,
@@ -25,8 +39,24 @@ pub struct Scan {
     pub bypass: Starts,
 }
 
+impl Scan {
+    /// The same.
+    pub fn clone(&self) -> Result<Scan, Fault>
+        ensures ok { IfOk result (λ copy. copy ≡ self.now) }
+        ensures err { IfErr result (λ e. e ≡ Fault.OutOfMemory) }
+    {
+        Ok(Scan {
+            from: self.from.clone()?,
+            to: self.to.clone()?,
+            at: self.at,
+            limit: self.limit,
+            bypass: self.bypass.clone()?,
+        })
+    }
+}
+
 /// Asks for a lock on a key, as the first phase of a commit.
-#[derive(Clone, Debug, Drop)]
+#[derive(Debug, Drop)]
 pub struct Prewrite {
     pub key: Key,
     pub mutation: Mutation,
@@ -42,23 +72,69 @@ pub struct Prewrite {
     pub others: Secondaries,
 }
 
+impl Prewrite {
+    /// The same.
+    pub fn clone(&self) -> Result<Prewrite, Fault>
+        ensures ok { IfOk result (λ copy. copy ≡ self.now) }
+        ensures err { IfErr result (λ e. e ≡ Fault.OutOfMemory) }
+    {
+        Ok(Prewrite {
+            key: self.key.clone()?,
+            mutation: self.mutation.clone()?,
+            start: self.start,
+            primary: self.primary.clone()?,
+            mode: self.mode,
+            max_commit: self.max_commit,
+            ttl: self.ttl,
+            others: self.others.clone()?,
+        })
+    }
+}
+
 /// Asks that a transaction's lock on a key become a commit record.
-#[derive(Clone, Debug, Drop)]
+#[derive(Debug, Drop)]
 pub struct Commit {
     pub key: Key,
     pub start: Ts,
     pub commit: Ts,
 }
 
+impl Commit {
+    /// The same.
+    pub fn clone(&self) -> Result<Commit, Fault>
+        ensures ok { IfOk result (λ copy. copy ≡ self.now) }
+        ensures err { IfErr result (λ e. e ≡ Fault.OutOfMemory) }
+    {
+        Ok(Commit {
+            key: self.key.clone()?,
+            start: self.start,
+            commit: self.commit,
+        })
+    }
+}
+
 /// Asks that a transaction be rolled back on a key.
-#[derive(Clone, Debug, Drop)]
+#[derive(Debug, Drop)]
 pub struct BatchRollback {
     pub key: Key,
     pub start: Ts,
 }
 
+impl BatchRollback {
+    /// The same.
+    pub fn clone(&self) -> Result<BatchRollback, Fault>
+        ensures ok { IfOk result (λ copy. copy ≡ self.now) }
+        ensures err { IfErr result (λ e. e ≡ Fault.OutOfMemory) }
+    {
+        Ok(BatchRollback {
+            key: self.key.clone()?,
+            start: self.start,
+        })
+    }
+}
+
 /// Asks that a transaction's lock on its primary live at least so long.
-#[derive(Clone, Debug, Drop)]
+#[derive(Debug, Drop)]
 pub struct TxnHeartBeat {
     pub key: Key,
     pub start: Ts,
@@ -66,8 +142,22 @@ pub struct TxnHeartBeat {
     pub ttl: u32,
 }
 
+impl TxnHeartBeat {
+    /// The same.
+    pub fn clone(&self) -> Result<TxnHeartBeat, Fault>
+        ensures ok { IfOk result (λ copy. copy ≡ self.now) }
+        ensures err { IfErr result (λ e. e ≡ Fault.OutOfMemory) }
+    {
+        Ok(TxnHeartBeat {
+            key: self.key.clone()?,
+            start: self.start,
+            ttl: self.ttl,
+        })
+    }
+}
+
 /// Asks the primary what has become of its transaction, and pushes or rolls back its lock where that is due.
-#[derive(Clone, Debug, Drop)]
+#[derive(Debug, Drop)]
 pub struct CheckTxnStatus {
     pub key: Key,
     pub start: Ts,
@@ -81,15 +171,45 @@ pub struct CheckTxnStatus {
     pub force_sync_commit: bool,
 }
 
+impl CheckTxnStatus {
+    /// The same.
+    pub fn clone(&self) -> Result<CheckTxnStatus, Fault>
+        ensures ok { IfOk result (λ copy. copy ≡ self.now) }
+        ensures err { IfErr result (λ e. e ≡ Fault.OutOfMemory) }
+    {
+        Ok(CheckTxnStatus {
+            key: self.key.clone()?,
+            start: self.start,
+            caller: self.caller,
+            current: self.current,
+            rollback_if_not_exist: self.rollback_if_not_exist,
+            force_sync_commit: self.force_sync_commit,
+        })
+    }
+}
+
 /// Asks what stands of an async transaction on a key, and leaves a rollback where nothing does.
-#[derive(Clone, Debug, Drop)]
+#[derive(Debug, Drop)]
 pub struct CheckSecondaryLocks {
     pub key: Key,
     pub start: Ts,
 }
 
+impl CheckSecondaryLocks {
+    /// The same.
+    pub fn clone(&self) -> Result<CheckSecondaryLocks, Fault>
+        ensures ok { IfOk result (λ copy. copy ≡ self.now) }
+        ensures err { IfErr result (λ e. e ≡ Fault.OutOfMemory) }
+    {
+        Ok(CheckSecondaryLocks {
+            key: self.key.clone()?,
+            start: self.start,
+        })
+    }
+}
+
 /// Asks that the lock of a transaction whose fate is known be committed or rolled back.
-#[derive(Clone, Debug, Drop)]
+#[derive(Debug, Drop)]
 pub struct ResolveLock {
     pub key: Key,
     pub start: Ts,
@@ -105,6 +225,18 @@ impl ResolveLock {
             Fate::Committed(commit) => commit,
             Fate::Aborted => Ts::ZERO,
         }
+    }
+
+    /// The same.
+    pub fn clone(&self) -> Result<ResolveLock, Fault>
+        ensures ok { IfOk result (λ copy. copy ≡ self.now) }
+        ensures err { IfErr result (λ e. e ≡ Fault.OutOfMemory) }
+    {
+        Ok(ResolveLock {
+            key: self.key.clone()?,
+            start: self.start,
+            fate: self.fate,
+        })
     }
 }
 

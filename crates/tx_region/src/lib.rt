@@ -5,11 +5,7 @@
 mod commands;
 mod records;
 mod region;
-#[cfg(test)]
-mod region_tests;
 mod routing;
-#[cfg(test)]
-mod table_tests;
 
 pub use records::Records;
 pub use region::Region;

@@ -45,6 +45,27 @@ impl<F: Families> Records<F> {
         }
     }
 
+    /// The greatest timestamp that was read.
+    pub fn max_read(&self) -> Ts
+        ensures { result ≡ (region_of F.content self.now).max_read }
+    {
+        self.max_read
+    }
+
+    /// The safe point.
+    pub fn safe(&self) -> Ts
+        ensures { result ≡ (region_of F.content self.now).safe }
+    {
+        self.safe
+    }
+
+    /// The safe point of the last collection.
+    pub fn collected(&self) -> Ts
+        ensures { result ≡ (region_of F.content self.now).collected }
+    {
+        self.collected
+    }
+
     /// What is shown of a key.
     pub fn cells_of(&self, key: &Key) -> Result<KeyCopy, Fault>
         ensures copies { IfOk result (λ copy. Copies ((region_of F.content self.now).cells key.now) copy) }

@@ -9,13 +9,14 @@ use Rattle.tx_core.specs.Histories.{History, Begins, drawer}
 use Rattle.tx_core.specs.declared.event.Event.TheVariants.{Answered}
 use Rattle.tx_core.specs.Worlds.{IsWorldRun}
 use Rattle.tx_core.proofs.seats.Staying.{drawer_on, among_on}
-use Rattle.tx_run.specs.declared.reply.Reply.{Reply}
-use Rattle.tx_run.specs.declared.reply.Reply.TheVariants.{Said, Ended}
-use Rattle.tx_run.specs.declared.reply.Spoken.{Spoken}
-use Rattle.tx_run.specs.Outcomes.{IsTold, start_of, AreApart, TellsOutcomes}
-use Rattle.tx_run.specs.Sources.{TellsPair}
-use Rattle.tx_run.proofs.Transferring.{between_on}
-use Rattle.tx_run.specs.Logs.{StandsBy, TellsBy, IsAbove, Working, AreFalling}
+use Rattle.tx_ledger.specs.declared.reply.Reply.{Reply}
+use Rattle.tx_ledger.specs.declared.reply.Reply.TheVariants.{Said, Ended}
+use Rattle.tx_ledger.specs.declared.reply.Spoken.{Spoken}
+use Rattle.tx_ledger.specs.Outcomes.{IsTold, start_of, AreApart, TellsOutcomes}
+use Rattle.tx_ledger.specs.Sources.{TellsPair}
+use Rattle.tx_ledger.proofs.Transferring.{between_on}
+use Rattle.tx_ledger.specs.Logs.{StandsBy, TellsBy}
+use Rattle.tx_run.specs.Jobs.{IsAbove, Working, AreFalling}
 
 pairs_append : {X : Type 0} (R : X → X → Type 0) (xs ys : List X) → AllPairs R xs → AllPairs R ys → ((i j : ℕ) (d : X) → i < length xs → j < length ys → R (get_or xs i d) (get_or ys j d)) → AllPairs R (xs ++ ys)
 pairs_append R xs ys a b cross i j d lt bound =

@@ -5,7 +5,7 @@ use Rattle.std.proofs.lemmas.Bool.{cases_lt}
 use Rattle.std.proofs.lemmas.List.{get_or_append_left, get_or_push, get_or-drop}
 use Rattle.std.proofs.lemmas.Option.{slice_get_within, get_or_from_slice_get, slice_get_read, slice_get-get_or}
 use Rattle.tx_journal.specs.Known.{Known}
-use Rattle.tx_run.specs.Logs.{Working, HaveOwnSeats, AreFalling, AreFrom}
+use Rattle.tx_run.specs.Jobs.{Working, HaveOwnSeats, AreFalling, AreFrom}
 
 -- one more job, of a seat two below the last
 pub own_push : (last : ℕ) (jobs : List Working) (job : Working) → HaveOwnSeats last jobs → job.number ≡ length jobs → job.log.seat + 2 * length jobs ≡ last → HaveOwnSeats last (jobs ++ job ∷ [])

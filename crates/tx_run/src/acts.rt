@@ -3,12 +3,12 @@ ghost use Rattle.std.specs.Prelude.{◌≡◌, false, true};
 ghost use Rattle.tx_client.specs.Sessions.{is_declared};
 
 use crate::access::Access;
-use crate::words::Words;
 use std::sync::Wait;
 use tx_cells::Families;
 use tx_client::{Miss, Session, Terms};
 use tx_core::Answer;
 use tx_journal::Naming;
+use tx_ledger::Words;
 use tx_lines::Reply;
 use tx_steps::{Action, Request};
 use tx_types::{Cause, Fault, Key, Ts, Value};

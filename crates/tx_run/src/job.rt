@@ -1,19 +1,14 @@
 //! A session of a run, as a job of the workers: each line is a step. A transfer is mostly two: its reads, and then its writes.
 ghost use Rattle.std.specs.Prelude.{◌≡◌, ◌<◌, Some, None, IfOk};
 ghost use Rattle.tx_steps.specs.Steps.{asked};
-ghost use Rattle.tx_run.specs.Logs.{StaysSame};
-ghost use Rattle.tx_run.specs.Sources.{HasPair, pair_of};
+ghost use Rattle.tx_run.specs.Jobs.{StaysSame};
+ghost use Rattle.tx_ledger.specs.Sources.{HasPair, pair_of};
 
 use crate::access::Access;
 use crate::acts::{act, refused, send};
-use crate::log::Log;
-use crate::order::Order;
 use crate::out::Out;
 use crate::place::Place;
-use crate::script::{Asks, Entry, Said, is_name};
-use crate::source::Source;
 use crate::transfer::{After, Moving, slots_of};
-use crate::words::Words;
 use std::alloc::Global;
 use std::marker::Model;
 use std::mem::replace;
@@ -23,6 +18,7 @@ use tx_client::Session;
 use tx_core::Answer;
 use tx_journal::{Naming, Seat};
 use tx_latch::{Slot, slot_of};
+use tx_ledger::{Asks, Entry, Log, Order, Said, Source, Words, is_name};
 use tx_lines::Reply;
 use tx_sched::{Job, Turn};
 use tx_steps::{Action, Line, Program, Step, Transfer};
@@ -45,7 +41,7 @@ pub(crate) struct ScriptJob<J: Naming, L: Source, F: Families + Drop, R: Wait + 
 }
 
 impl<J: Naming, L: Source, F: Families + Drop, R: Wait + Drop> Model for ScriptJob<J, L, F, R> {
-    ghost use Rattle.tx_run.specs.Logs.{Working};
+    ghost use Rattle.tx_run.specs.Jobs.{Working};
 
     ghost Value = { Working };
 

@@ -5,27 +5,19 @@
 
 mod access;
 mod acts;
-mod balance;
 mod families;
 mod job;
-mod log;
-mod order;
 mod out;
 mod place;
 mod play;
-mod reply;
 mod run;
-mod script;
 mod seeds;
 mod sends;
-mod source;
 mod transfer;
-mod words;
 mod write;
 
 pub use families::{Makes, Plain};
 pub use play::Played;
-pub use reply::{Reply, Spoken};
 pub use run::run_script;
 pub use seeds::Total;
-pub use words::Words;
+pub use tx_ledger::{Reply, Spoken, Words};

@@ -1,8 +1,7 @@
 //! What comes of a session of a run.
-use crate::log::Log;
-use crate::source::Source;
 use std::marker::Model;
 use tx_journal::Naming;
+use tx_ledger::{Log, Source};
 
 /// What came of a session's lines. Contracts see its number and its log.
 #[derive(Drop)]
@@ -14,7 +13,7 @@ pub(crate) struct Out<J: Naming, L: Source> {
 }
 
 impl<J: Naming, L: Source> Model for Out<J, L> {
-    ghost use Rattle.tx_run.specs.Logs.{Working};
+    ghost use Rattle.tx_run.specs.Jobs.{Working};
 
     ghost Value = { Working };
 

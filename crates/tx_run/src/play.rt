@@ -1,25 +1,22 @@
 //! Playing a script: its seeds, and then its sessions side by side, by workers.
 ghost use Rattle.std.specs.Prelude.{◌≡◌, ◌+◌, ◌*◌, ◌≤◌, ℕ, All, IfOk, IfSome, OnOk, None, length, vec_len};
-ghost use Rattle.tx_run.specs.Outcomes.{TellsOutcomes, start_of};
-ghost use Rattle.tx_run.specs.Logs.{IsAbove, AreFalling, AreFrom, HaveOwnSeats};
-ghost use Rattle.tx_run.specs.Scripts.{IsWithin};
-ghost use Rattle.tx_run.specs.Sources.{TellsPair};
+ghost use Rattle.tx_ledger.specs.Outcomes.{TellsOutcomes, start_of};
+ghost use Rattle.tx_run.specs.Jobs.{IsAbove, AreFalling, AreFrom, HaveOwnSeats};
+ghost use Rattle.tx_ledger.specs.Scripts.{IsWithin};
+ghost use Rattle.tx_ledger.specs.Sources.{TellsPair};
 
 use crate::access::Access;
 use crate::families::{Makes, families};
 use crate::job::ScriptJob;
 use crate::out::Out;
-use crate::reply::{Reply, Spoken};
-use crate::script::{Entry, Said, Script};
 use crate::seeds::{Total, play_seeds, read_total};
-use crate::source::Source;
-use crate::words::Words;
 use std::alloc::Global;
 use std::marker::Brand;
 use std::sync::{Arc, Wait};
 use std::thread::Threads;
 use tx_cells::Families;
 use tx_journal::{Naming, Opened, Seat, Unnamed};
+use tx_ledger::{Entry, Reply, Said, Script, Source, Spoken, Words};
 use tx_lines::Broken;
 use tx_sched::{Gate, run_sessions};
 use tx_store::Store;

@@ -1,12 +1,10 @@
 //! A run, from the first byte of its script to the last of its answers.
 ghost use Rattle.std.specs.Prelude.{◌≡◌, All, IfOk, IfSome};
-ghost use Rattle.tx_run.specs.Outcomes.{TellsOutcomes};
-ghost use Rattle.tx_run.specs.Sources.{TellsPair};
+ghost use Rattle.tx_ledger.specs.Outcomes.{TellsOutcomes};
+ghost use Rattle.tx_ledger.specs.Sources.{TellsPair};
 
 use crate::families::Makes;
 use crate::play::{Played, play_script};
-use crate::script::read_script;
-use crate::source::Source;
 use crate::write::{tell_fault, write_all};
 use std::alloc::Global;
 use std::io::{BufRead, Write};
@@ -14,6 +12,7 @@ use std::marker::Brand;
 use std::sync::Wait;
 use std::thread::Threads;
 use tx_cells::Families;
+use tx_ledger::{Source, read_script};
 use tx_lines::{Broken, End};
 use tx_sched::Gate;
 

@@ -1,22 +1,18 @@
 //! The seeds of a run, each a transaction of its own, and what all keys have at its end.
 ghost use Rattle.std.specs.Prelude.{◌≡◌, All, None, true, false, IfOk, OnOk};
 ghost use Rattle.tx_client.specs.Sessions.{is_declared};
-ghost use Rattle.tx_run.specs.Outcomes.{start_of};
+ghost use Rattle.tx_ledger.specs.Outcomes.{start_of};
 
 use crate::access::Access;
 use crate::acts::done;
-use crate::balance::{BALANCES, balance_of};
-use crate::reply::{Reply, Spoken};
-use crate::script::Said;
-use crate::source::Source;
 use crate::transfer::TTL;
-use crate::words::Words;
 use std::alloc::Global;
 use std::sync::Wait;
 use tx_cells::Families;
 use tx_client::{Session, Terms};
 use tx_core::Answer;
 use tx_journal::{Naming, Seat};
+use tx_ledger::{BALANCES, Reply, Said, Source, Spoken, Words, balance_of};
 use tx_lines::Broken;
 use tx_steps::{Line, Program, Step};
 use tx_types::limits::MAX_SCAN_ROWS;

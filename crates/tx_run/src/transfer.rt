@@ -4,14 +4,11 @@
 ghost use Rattle.std.specs.Prelude.{◌≡◌, ◌≢◌, ◌<◌, false, Some, IfOk, IfErr, OnOk, OnErr};
 ghost use Rattle.tx_types.specs.declared.fault.Fault.TheVariants as fault;
 ghost use Rattle.tx_client.specs.Sessions.{begun, is_declared};
-ghost use Rattle.tx_run.specs.Sources.{HasPair};
-ghost use Rattle.tx_run.specs.Transfers.{HasEntered, Moves};
-ghost use Rattle.tx_run.specs.declared.balance.TheConstants.{BALANCES};
+ghost use Rattle.tx_ledger.specs.Sources.{HasPair};
+ghost use Rattle.tx_ledger.specs.Transfers.{HasEntered, Moves};
+ghost use Rattle.tx_ledger.specs.declared.balance.TheConstants.{BALANCES};
 
 use crate::access::Access;
-use crate::balance::{after_transfer, balance_of, value_of};
-use crate::order::Order;
-use crate::source::Source;
 use std::alloc::Global;
 use std::marker::Model;
 use std::sync::Wait;
@@ -20,6 +17,7 @@ use tx_client::{Miss, Session, Terms};
 use tx_core::Answer;
 use tx_journal::Naming;
 use tx_latch::{Slot, slot_of};
+use tx_ledger::{Order, Source, after_transfer, balance_of, value_of};
 use tx_types::{Fault, Key, LockInfo};
 
 /// How often one transfer resolves a lock, and how often it draws again.
@@ -81,7 +79,7 @@ pub(crate) struct Moving<J: Naming, L: Source> {
 
 impl<J: Naming, L: Source> Model for Moving<J, L> {
     ghost use Rattle.tx_client.specs.Calls.{Seated};
-    ghost use Rattle.tx_run.specs.Transfers.{Moves};
+    ghost use Rattle.tx_ledger.specs.Transfers.{Moves};
 
     ghost Value = { Seated };
 

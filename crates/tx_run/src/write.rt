@@ -1,10 +1,10 @@
 //! Writing what was played.
 use crate::play::Played;
-use crate::reply::{Reply, Spoken, put_line};
 use crate::seeds::Total;
 use std::alloc::{AllocError, Global};
 use std::io::Write;
 use tx_core::Outcome;
+use tx_ledger::{Reply, Spoken, put_line};
 use tx_lines::{Broken, finish, put_fault, put_number, send};
 use tx_types::Cause;
 

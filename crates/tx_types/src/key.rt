@@ -10,17 +10,17 @@ ghost use Rattle.std.proofs.Common.{rules};
 use crate::fault::Fault;
 use crate::fields::escape;
 use crate::limits::{MAX_KEY_BYTES, MIN_KEY_BYTES};
-use bytes::Bytes;
+use crate::text::Text;
 use std::alloc::Global;
 use std::cmp::Ordering;
 use std::fmt;
 use std::hash::{Hash, Hasher};
 use std::marker::Model;
 
-/// A key of 1 to 512 bytes, ordered as its bytes are. A copy shares them. Contracts see the bytes.
+/// A key of 1 to 512 bytes, ordered as its bytes are. A copy of a long one shares them. Contracts see the bytes.
 #[derive(Clone, Debug, Drop)]
 pub struct Key {
-    bytes: Bytes,
+    text: Text,
 }
 
 impl Model for Key {
@@ -29,11 +29,11 @@ impl Model for Key {
 
     ghost Value = { List ℕ };
 
-    ghost view = { λ k. k.bytes };
+    ghost view = { λ k. k.text };
 
-    ghost invariant = { λ k. (MIN_KEY_BYTES ≤ length k.bytes) × (length k.bytes ≤ MAX_KEY_BYTES) };
+    ghost invariant = { λ k. (MIN_KEY_BYTES ≤ length k.text) × (length k.text ≤ MAX_KEY_BYTES) };
 
-    ghost inverse = { λ bs. record { bytes = bs } };
+    ghost inverse = { λ bs. record { text = bs } };
 }
 
 impl Key {
@@ -47,8 +47,8 @@ impl Key {
         if bytes.len() < MIN_KEY_BYTES || bytes.len() > MAX_KEY_BYTES {
             return Err(Fault::KeyLength);
         }
-        let bytes = Bytes::copy_from_slice(alloc, bytes)?;
-        Ok(Key { bytes })
+        let text = Text::new(alloc, bytes)?;
+        Ok(Key { text })
     }
 
     /// Its bytes.
@@ -56,10 +56,10 @@ impl Key {
         ensures value { result.now ≡ self.now }
         ensures within { (MIN_KEY_BYTES ≤ length result.now) × (length result.now ≤ MAX_KEY_BYTES) }
     {
-        self.bytes.as_slice()
+        self.text.as_slice()
     }
 
-    /// The same key, which shares its bytes.
+    /// The same key, which shares its bytes where they are many.
     pub fn clone(&self) -> Result<Key, Fault>
         ensures ok { IfOk result (λ copy. copy ≡ self.now) }
         ensures err { IfErr result (λ e. e ≡ Fault.OutOfMemory) }
@@ -80,7 +80,7 @@ impl PartialEq for Key {
     ghost laws = { partial_equiv_from_equiv nat_list_eq_equiv };
 
     fn eq(&self, other: &Key) -> bool {
-        self.bytes == other.bytes
+        self.text == other.text
     }
 }
 
@@ -108,7 +108,7 @@ impl Ord for Key {
     ghost matches_eq = { texts_ties };
 
     fn cmp(&self, other: &Key) -> Ordering {
-        self.bytes.cmp(&other.bytes)
+        self.as_bytes().cmp(other.as_bytes())
     }
 }
 
@@ -118,6 +118,6 @@ impl Hash for Key {
     ghost respects_eq = { Prim.search (hashing, rules) };
 
     fn hash<H: Hasher>(&self, state: &mut H) {
-        self.bytes.hash(state);
+        self.as_bytes().hash(state);
     }
 }

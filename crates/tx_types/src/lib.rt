@@ -10,8 +10,7 @@ mod lock;
 mod mutation;
 mod region_no;
 mod seat_no;
-#[cfg(test)]
-mod tests;
+mod text;
 mod ts;
 mod value;
 mod write;

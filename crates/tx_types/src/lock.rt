@@ -83,7 +83,7 @@ impl LockRec {
 }
 
 /// What a lock says to those whom it stops.
-#[derive(Clone, Debug, Drop)]
+#[derive(Debug, Drop)]
 pub struct LockFacts {
     pub key: Key,
     pub start: Ts,
@@ -96,9 +96,28 @@ pub struct LockFacts {
     pub secondaries: Secondaries,
 }
 
+impl LockFacts {
+    /// The same.
+    pub fn clone(&self) -> Result<LockFacts, Fault>
+        ensures ok { IfOk result (λ copy. copy ≡ self.now) }
+        ensures err { IfErr result (λ e. e ≡ Fault.OutOfMemory) }
+    {
+        Ok(LockFacts {
+            key: self.key.clone()?,
+            start: self.start,
+            primary: self.primary.clone()?,
+            min: self.min,
+            ttl: self.ttl,
+            kind: self.kind,
+            mode: self.mode,
+            secondaries: self.secondaries.clone()?,
+        })
+    }
+}
+
 /// What is told of a lock. It lies in memory of its own, so that an answer or a refusal that may tell of a lock is small. Contracts see
 /// what the lock says.
-#[derive(Clone, Debug, Drop)]
+#[derive(Debug, Drop)]
 pub struct LockInfo {
     facts: Box<LockFacts>,
 }
@@ -140,7 +159,8 @@ impl LockInfo {
         ensures ok { IfOk result (λ copy. copy ≡ self.now) }
         ensures err { IfErr result (λ e. e ≡ Fault.OutOfMemory) }
     {
-        Ok(Clone::clone(self)?)
+        let facts = LockFacts::clone(&self.facts)?;
+        LockInfo::new(*Box::allocator(&self.facts), facts)
     }
 }
 

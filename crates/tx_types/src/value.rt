@@ -4,14 +4,14 @@ ghost use Rattle.tx_types.specs.Stored.{stored_value};
 
 use crate::fault::Fault;
 use crate::limits::{MAX_INLINE_BYTES, MAX_VALUE_BYTES};
-use bytes::Bytes;
+use crate::text::Text;
 use std::alloc::Global;
 use std::marker::Model;
 
-/// A value of at most 65,536 bytes. A copy shares them. Contracts see the bytes.
+/// A value of at most 65,536 bytes. A copy of a long one shares them. Contracts see the bytes.
 #[derive(Clone, Debug, Drop, PartialEq, Eq)]
 pub struct Value {
-    bytes: Bytes,
+    text: Text,
 }
 
 impl Model for Value {
@@ -20,11 +20,11 @@ impl Model for Value {
 
     ghost Value = { List ℕ };
 
-    ghost view = { λ v. v.bytes };
+    ghost view = { λ v. v.text };
 
-    ghost invariant = { λ v. length v.bytes ≤ MAX_VALUE_BYTES };
+    ghost invariant = { λ v. length v.text ≤ MAX_VALUE_BYTES };
 
-    ghost inverse = { λ bs. record { bytes = bs } };
+    ghost inverse = { λ bs. record { text = bs } };
 }
 
 impl Value {
@@ -38,8 +38,8 @@ impl Value {
         if bytes.len() > MAX_VALUE_BYTES {
             return Err(Fault::ValueLength);
         }
-        let bytes = Bytes::copy_from_slice(alloc, bytes)?;
-        Ok(Value { bytes })
+        let text = Text::new(alloc, bytes)?;
+        Ok(Value { text })
     }
 
     /// Its bytes.
@@ -47,10 +47,10 @@ impl Value {
         ensures value { result.now ≡ self.now }
         ensures within { length result.now ≤ MAX_VALUE_BYTES }
     {
-        self.bytes.as_slice()
+        self.text.as_slice()
     }
 
-    /// The same value, which shares its bytes.
+    /// The same value, which shares its bytes where they are many.
     pub fn clone(&self) -> Result<Value, Fault>
         ensures ok { IfOk result (λ copy. copy ≡ self.now) }
         ensures err { IfErr result (λ e. e ≡ Fault.OutOfMemory) }
@@ -63,7 +63,7 @@ impl Value {
         ensures ok { IfOk result (λ stored. stored ≡ stored_value self.now) }
         ensures err { IfErr result (λ e. e ≡ Fault.OutOfMemory) }
     {
-        if self.bytes.len() > MAX_INLINE_BYTES {
+        if self.as_bytes().len() > MAX_INLINE_BYTES {
             return Ok(StoredValue::InDefault);
         }
         let value = self.clone()?;

@@ -1,9 +1,7 @@
-use Rattle.std.proofs.Common.{arith, refl, sym, ◌∙◌, ◌≡◌, ◌<◌, ◌≤◌, ◌+◌, subst, cond, ℕ, Bool}
-use Rattle.std.specs.Prelude.{◌||◌, Option, Some}
+use Rattle.std.proofs.Common.{arith, sym, ◌∙◌, ◌+◌, subst}
 use Rattle.std.proofs.lemmas.Map.Keys.{ge_from_not_lt}
-use Rattle.tx_plan.specs.Collecting.{past}
 use Rattle.tx_plan.proofs.Orders.{is_below}
-use Rattle.tx_plan.proofs.Collects.{CollectedTo, drops, dropped_on, collect_ends, step_fits, step_values, step_keeps, step_drops, step_passes, step_ends, all_ended, gone_long, gone_short, after_true, after_other}
+use Rattle.tx_plan.proofs.Collects.{CollectedTo, drops, dropped_on, step_fits, step_values, step_keeps, step_drops, step_passes, step_ends, all_ended, gone_long, gone_short, after_true, after_other}
 use Rattle.tx_plan.proofs.key_records.collect_key.Goals as goal
 use Rattle.tx_plan.proofs.key_records.collect_key.Goals.{then-lt+then-kind+then-not-followed, then-lt+else-kind+else-prove+then-kind-2, then-lt+else-kind+else-prove+else-kind-2, else-lt, then-followed, else-followed, in-Some+in_default-newest_upto, in_default}
 

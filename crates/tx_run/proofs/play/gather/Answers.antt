@@ -1,7 +1,7 @@
 use Rattle.std.proofs.Common.{sym, subst}
-use Rattle.tx_run.specs.Logs.{AreFalling}
+use Rattle.tx_run.specs.Jobs.{AreFalling}
 use Rattle.tx_run.proofs.Gathering.{AreLeft, none_told, none_above, first_above, left_next}
-use Rattle.tx_run.proofs.Sourcing.{none_pairs}
+use Rattle.tx_ledger.proofs.Sourcing.{none_pairs}
 use Rattle.tx_run.proofs.play.gather.Goals as goal
 
 pub loop-out-init : goal.loop-out-init

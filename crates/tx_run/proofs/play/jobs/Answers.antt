@@ -1,5 +1,5 @@
 use Rattle.std.proofs.Common.{◌+◌, length, vec_len, sym, ap, subst, arith}
-use Rattle.tx_run.specs.Logs.{HaveOwnSeats}
+use Rattle.tx_run.specs.Jobs.{HaveOwnSeats}
 use Rattle.tx_run.proofs.Seating.{own_push}
 use Rattle.tx_run.proofs.play.jobs.Goals as goal
 

@@ -1,5 +1,5 @@
 use Rattle.std.proofs.Common.{◌≡◌, ◌+◌, ◌*◌, ◌≤◌, length, vec_len}
-use Rattle.tx_run.specs.Logs.{AreFrom, HaveOwnSeats}
+use Rattle.tx_run.specs.Jobs.{AreFrom, HaveOwnSeats}
 use Rattle.tx_run.proofs.play.jobs.Given as goal
 
 abbrev pub invariant-loop-lines : goal.invariant-loop-lines

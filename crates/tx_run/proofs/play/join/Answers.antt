@@ -1,12 +1,13 @@
 use Rattle.std.proofs.Common.{◌+◌, ◌++◌, sym, ap, subst, ◌∙◌, All, List, ℕ}
 use Rattle.tx_core.proofs.seats.Beginnings.{extends_begins}
-use Rattle.tx_run.specs.declared.reply.Spoken.{Spoken}
+use Rattle.tx_ledger.specs.declared.reply.Spoken.{Spoken}
 use Rattle.tx_core.specs.Histories.{History, Begins}
 use Rattle.std.proofs.lemmas.List.Elements.{All-append}
-use Rattle.tx_run.specs.Outcomes.{TellsOutcomes}
-use Rattle.tx_run.specs.Sources.{TellsPair}
-use Rattle.tx_run.specs.Logs.{IsAbove, TellsBy, Working}
-use Rattle.tx_run.proofs.Answering.{tells_on}
+use Rattle.tx_ledger.specs.Outcomes.{TellsOutcomes}
+use Rattle.tx_ledger.specs.Sources.{TellsPair}
+use Rattle.tx_ledger.specs.Logs.{TellsBy}
+use Rattle.tx_run.specs.Jobs.{IsAbove, Working}
+use Rattle.tx_ledger.proofs.Answering.{tells_on}
 use Rattle.tx_run.proofs.Gathering.{joined, joined_above, outcomes_on, all_above_on}
 use Rattle.tx_run.proofs.play.join.Goals as goal
 

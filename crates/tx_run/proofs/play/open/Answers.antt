@@ -1,6 +1,6 @@
 use Rattle.std.proofs.Common.{subst, arith, ℕ}
 use Rattle.tx_store.proofs.Making.{are_dealt}
-use Rattle.tx_run.specs.Logs.{AreFrom}
+use Rattle.tx_run.specs.Jobs.{AreFrom}
 use Rattle.tx_run.proofs.Seating.{from_drop}
 use Rattle.tx_run.proofs.play.open.Goals as goal
 

@@ -1,5 +1,5 @@
 use Rattle.std.proofs.Common.{◌≡◌, All, None}
-use Rattle.tx_run.specs.Outcomes.{start_of}
+use Rattle.tx_ledger.specs.Outcomes.{start_of}
 use Rattle.tx_run.proofs.seeds.play_seeds.Given as goal
 
 abbrev pub invariant-loop-said : goal.invariant-loop-said

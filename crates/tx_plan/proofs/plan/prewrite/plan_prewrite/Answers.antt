@@ -1,4 +1,4 @@
-use Rattle.std.proofs.Common.{◌<◌, ℕ, Option, Some, None, IfSome, inl, inr, refl, sym, ap, ◌∙◌}
+use Rattle.std.proofs.Common.{◌<◌, Option, Some, None, IfSome, inl, inr, refl, sym, ap, ◌∙◌}
 use Rattle.tx_plan.specs.declared.answer.Answer.TheVariants.{Prewritten}
 use Rattle.tx_plan.specs.declared.key_change.NewLock.{NewLock}
 use Rattle.tx_plan.specs.Changes.{new_lock, CanPut}

@@ -1,4 +1,4 @@
-use Rattle.std.proofs.Common.{◌≡◌, ℕ, inl, inr, ap, subst}
+use Rattle.std.proofs.Common.{inl, inr, ap, subst}
 use Rattle.tx_plan.specs.declared.answer.Answer.TheVariants.{Resolved}
 use Rattle.tx_plan.specs.Committing.{commit_in}
 use Rattle.tx_plan.specs.Views.{Shows}

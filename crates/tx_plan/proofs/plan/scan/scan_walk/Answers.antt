@@ -47,22 +47,6 @@ keys-preserved-in-Continue-branch-4 g c =
     let free : IsBlocked next.cells.lock b.at b.bypass → ⊥ = λ is. not_true c.is_blocked.result c.if-is_blocked.false (blocks.1 is) in
     record { same = same; found = subst (Scanned cells b rest) (sym c.in_ok-push.ensures.ok) (step_gives cells b left rest k view rows so next c.in-Some-value.value c.in-Some-value.is free short more) }
 
-pub keys-preserved-in_default-value : goal.keys-preserved-in_default-value
-keys-preserved-in_default-value g c =
-    let b = c.args.body.now in
-    let cells = g.W.ReadWalk.cells c.args.walk in
-    let left = g.W.ReadWalk.rest c.keys.walk in
-    let rest = g.W.ReadWalk.rest c.next.new.self in
-    let k = c.in-Some.key in
-    let view = c.in-Some.view in
-    let rows = c.keys.rows in
-    let so = c.keys.invariant.found in
-    let same : g.W.ReadWalk.cells c.next.new.self ≡ cells = c.in_ok-key.ensures.same ∙ c.keys.invariant.same in
-    let next = next_key left rest b.at c.in_ok-key.field-0 k view c.in_ok-key.ensures.next c.in-Some.is in
-    let blocks = c.is_blocked.ensures next.cells.lock next.shows.lock in
-    let free : IsBlocked next.cells.lock b.at b.bypass → ⊥ = λ is. not_true c.is_blocked.result c.if-is_blocked.false (blocks.1 is) in
-    record { same = same; found = step_skips cells b left rest k view rows so next c.in_default-value.is free }
-
 pub keys-preserved : goal.keys-preserved
 keys-preserved g c =
     let b = c.args.body.now in

@@ -1,4 +1,4 @@
-use Rattle.tx_run.proofs.Answering.{told_after}
+use Rattle.tx_ledger.proofs.Answering.{told_after}
 use Rattle.tx_run.proofs.access.Access.resolve_lock.Goals as goal
 
 pub resolve-requires-clause-told : goal.resolve-requires-clause-told

@@ -1,7 +1,7 @@
 use Rattle.std.proofs.Common.{List, ℕ, sym, subst}
 use Rattle.tx_steps.specs.Lines.{data_of}
-use Rattle.tx_run.specs.Sources.{HasLine}
-use Rattle.tx_run.proofs.Sourcing.{pair_made}
+use Rattle.tx_ledger.specs.Sources.{HasLine}
+use Rattle.tx_ledger.proofs.Sourcing.{pair_made}
 use Rattle.tx_run.proofs.job.ScriptJob.play.Goals as goal
 
 pub make-requires : goal.make-requires

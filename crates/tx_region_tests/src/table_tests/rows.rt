@@ -1,0 +1,79 @@
+//! How a row is tried.
+use crate::table_tests::asked::{Ask, body, key};
+use crate::table_tests::shown::{Short, Stand, Word, answered, is, stands};
+use std::alloc::Global;
+use tx_cells::{Families, FlatCells, Fresh, NestedCells};
+use tx_region::Records;
+use tx_types::Ts;
+
+/// What was asked before, what is asked, what is answered, and what then stands on the key `k`.
+pub type Row = (&'static [Ask], Ask, Short, Stand);
+
+/// What was asked before, what is asked, what is answered, and what the numbers of the region then are: the greatest timestamp
+/// read, the safe point, and the safe point of the last collection.
+pub type RegionRow = (&'static [Ask], Ask, Short, [u64; 3]);
+
+// What the region answers where it has loaded 20.
+fn ask<F: Families>(records: &mut Records<F>, alloc: Global, asked: Ask) -> Short {
+    if records.max_read().get() == u64::MAX {
+        return (Word::Refused, 0, 0);
+    }
+    match body(alloc, asked) {
+        Ok(body) => answered(records.answer(Ts::new(20), &body)),
+        Err(_) => (Word::Refused, 0, 0),
+    }
+}
+
+fn ask_all<F: Families>(records: &mut Records<F>, alloc: Global, asked: &[Ask]) {
+    for one in asked {
+        ask(records, alloc, *one);
+    }
+}
+
+fn stands_on_k<F: Families>(records: &Records<F>, alloc: Global) -> Option<Stand> {
+    let key = key(alloc, b'k').ok()?;
+    stands(records.cells_of(&key))
+}
+
+fn holds<F: Fresh>(alloc: Global, row: &Row) -> bool {
+    let mut records = Records::new(alloc, F::fresh(alloc));
+    ask_all(&mut records, alloc, row.0);
+    let given = ask(&mut records, alloc, row.1);
+    let left = stands_on_k(&records, alloc);
+    drop(records);
+    is(given, row.2) && left == Some(row.3)
+}
+
+fn holds_in_region<F: Fresh>(alloc: Global, row: &RegionRow) -> bool {
+    let mut records = Records::new(alloc, F::fresh(alloc));
+    ask_all(&mut records, alloc, row.0);
+    let given = ask(&mut records, alloc, row.1);
+    let left = [
+        records.max_read().get(),
+        records.safe().get(),
+        records.collected().get(),
+    ];
+    drop(records);
+    is(given, row.2) && left == row.3
+}
+
+fn first_wrong_over<F: Fresh>(alloc: Global, rows: &[Row]) -> Option<usize> {
+    rows.iter().position(|row| !holds::<F>(alloc, row))
+}
+
+fn first_wrong_in_region_over<F: Fresh>(alloc: Global, rows: &[RegionRow]) -> Option<usize> {
+    rows.iter()
+        .position(|row| !holds_in_region::<F>(alloc, row))
+}
+
+/// The place of the first row that does not hold, over each kind of families.
+pub fn first_wrong(alloc: Global, rows: &[Row]) -> Option<usize> {
+    first_wrong_over::<NestedCells>(alloc, rows).or(first_wrong_over::<FlatCells>(alloc, rows))
+}
+
+/// The place of the first row that does not hold, over each kind of families.
+pub fn first_wrong_in_region(alloc: Global, rows: &[RegionRow]) -> Option<usize> {
+    first_wrong_in_region_over::<NestedCells>(alloc, rows).or(first_wrong_in_region_over::<
+        FlatCells,
+    >(alloc, rows))
+}

@@ -1,0 +1,119 @@
+//! Bytes that stand in the value itself where they are few, and else in memory that its copies share.
+ghost use Rattle.std.specs.Prelude.{◌≡◌, ◌≤◌, length, take, nat_eq, IfOk};
+ghost use Rattle.std.specs.Cmp.Lexicographic.{pointwise, nat_list_eq_equiv};
+ghost use Rattle.std.specs.Cmp.{partial_equiv_from_equiv};
+ghost use Rattle.tx_types.specs.declared.text.TheConstants.{MAX_SHORT_BYTES};
+
+use bytes::Bytes;
+use std::alloc::{AllocError, Global};
+use std::fmt;
+use std::marker::Model;
+
+/// The most bytes that stand in the value itself.
+const MAX_SHORT_BYTES: usize = 30;
+
+// Few bytes: the first of an array.
+#[derive(Clone, Copy)]
+struct Short {
+    len: u8,
+    bytes: [u8; MAX_SHORT_BYTES],
+}
+
+// The first bytes of an array that are these.
+fn short_of(bytes: &[u8]) -> Short
+    requires { length bytes.now ≤ MAX_SHORT_BYTES }
+    ensures len { result.len ≡ length bytes.now }
+    ensures bytes { take (length bytes.now) result.bytes ≡ bytes.now }
+{
+    let mut kept = [0; MAX_SHORT_BYTES];
+    kept[..bytes.len()].copy_from_slice(bytes);
+    Short {
+        len: bytes.len() as u8,
+        bytes: kept,
+    }
+}
+
+// Bytes, by how many they are.
+#[derive(Drop)]
+enum Kept {
+    Short(Short),
+    Shared(Bytes),
+}
+
+/// Bytes. A copy of many shares them. Contracts see the bytes.
+pub(crate) struct Text {
+    kept: Kept,
+}
+
+impl Model for Text {
+    ghost use Rattle.std.specs.Prelude.{List, ℕ};
+    ghost use Rattle.tx_types.specs.Texts.{bytes_of, IsWithin};
+
+    ghost Value = { List ℕ };
+
+    ghost view = { λ t. bytes_of t.kept };
+
+    ghost invariant = { λ t. IsWithin t.kept };
+}
+
+impl Drop for Text {
+    fn drop(self) {
+        let Self { kept: _ } = self;
+    }
+}
+
+impl Text {
+    /// These bytes.
+    pub fn new(alloc: Global, bytes: &[u8]) -> Result<Text, AllocError>
+        ensures ok { IfOk result (λ text. text ≡ bytes.now) }
+    {
+        let kept = if bytes.len() <= MAX_SHORT_BYTES {
+            Kept::Short(short_of(bytes))
+        } else {
+            Kept::Shared(Bytes::copy_from_slice(alloc, bytes)?)
+        };
+        Ok(Text { kept })
+    }
+
+    /// Its bytes.
+    pub fn as_slice(&self) -> &[u8]
+        ensures { result.now ≡ self.now }
+    {
+        match &self.kept {
+            Kept::Short(short) => &short.bytes[..short.len as usize],
+            Kept::Shared(bytes) => bytes.as_slice(),
+        }
+    }
+}
+
+impl Clone for Text {
+    ghost is_clone = { λ text copy. copy ≡ text };
+
+    fn clone(&self) -> Result<Text, AllocError> {
+        let kept = match &self.kept {
+            Kept::Short(short) => Kept::Short(*short),
+            Kept::Shared(bytes) => Kept::Shared(bytes.clone()?),
+        };
+        Ok(Text { kept })
+    }
+}
+
+impl PartialEq for Text {
+    ghost eq = { pointwise nat_eq };
+
+    ghost laws = { partial_equiv_from_equiv nat_list_eq_equiv };
+
+    fn eq(&self, other: &Text) -> bool {
+        self.as_slice() == other.as_slice()
+    }
+}
+
+impl Eq for Text {
+    ghost laws = { nat_list_eq_equiv };
+}
+
+impl fmt::Debug for Text {
+    fn fmt<W: fmt::Write>(&self, f: &mut fmt::Formatter<W>) -> fmt::Result {
+        fmt::Debug::fmt(self.as_slice(), f)
+    }
+}

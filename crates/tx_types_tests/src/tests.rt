@@ -1,0 +1,134 @@
+use std::test::Fail;
+use tx_types::*;
+
+fn is_key(rt: &HostRuntime, bytes: &[u8]) -> bool {
+    match Key::new(rt.alloc(), bytes) {
+        Ok(key) => key.as_bytes() == bytes,
+        Err(_) => false,
+    }
+}
+
+#[test]
+fn keys_have_1_to_512_bytes(rt: HostRuntime) {
+    let long = [7u8; 513];
+    for (len, wanted) in [(0, false), (1, true), (512, true), (513, false)] {
+        assert_eq!(rt; is_key(&rt, &long[..len]), wanted, "{len} bytes");
+    }
+}
+
+// Whether a record keeps a value of so many bytes inline; none where there is no such value.
+fn is_kept_inline(rt: &HostRuntime, len: usize) -> Option<bool> {
+    let bytes = vec![in rt.alloc(); 7u8; len].ok()?;
+    let value = Value::new(rt.alloc(), bytes.as_slice()).ok()?;
+    match value.stored().ok()? {
+        StoredValue::Inline(_) => Some(true),
+        StoredValue::InDefault => Some(false),
+    }
+}
+
+#[test]
+fn values_of_at_most_255_bytes_stand_inline(rt: HostRuntime) {
+    for (len, wanted) in [
+        (0, Some(true)),
+        (255, Some(true)),
+        (256, Some(false)),
+        (65_536, Some(false)),
+        (65_537, None),
+    ] {
+        assert_eq!(rt; is_kept_inline(&rt, len), wanted, "{len} bytes");
+    }
+}
+
+// The async lock of the primary `a`, with another key.
+fn lock_on(rt: &HostRuntime, other: &[u8]) -> Result<LockRec, Fault> {
+    let mut secondaries = Secondaries::with_capacity(rt.alloc(), 1)?;
+    secondaries.push(Key::new(rt.alloc(), other)?)?;
+    Ok(LockRec {
+        mutation: StoredMutation::Put(Value::new(rt.alloc(), b"x")?.stored()?),
+        mode: LockMode::Async(secondaries),
+        start: Ts::new(1),
+        min: Ts::new(2),
+        ttl: 10,
+        primary: Key::new(rt.alloc(), b"a")?,
+    })
+}
+
+fn is_copied(lock: &LockRec) -> bool {
+    lock.clone().is_ok()
+}
+
+fn lock_is_copied(rt: &HostRuntime) -> bool {
+    match lock_on(rt, b"b") {
+        Ok(lock) => is_copied(&lock),
+        Err(_) => false,
+    }
+}
+
+#[test]
+fn locks_are_copied(rt: HostRuntime) {
+    assert!(rt; lock_is_copied(&rt));
+}
+
+fn changes_copied(rt: &HostRuntime, name: &[u8]) -> Result<usize, Fault> {
+    let mut changes = Changes::new(rt.alloc());
+    changes.push(Change {
+        key: Key::new(rt.alloc(), name)?,
+        mutation: Mutation::Delete,
+    })?;
+    Ok(changes.clone()?.as_slice().len())
+}
+
+#[test]
+fn lists_copy(rt: HostRuntime) {
+    assert!(rt; matches!(changes_copied(&rt, b"a"), Ok(1)));
+}
+
+fn text_of(rt: &HostRuntime, fault: Fault) -> String {
+    match format!(in rt.alloc(); "{fault}") {
+        Ok(text) => text,
+        Err(_) => String::new(rt.alloc()),
+    }
+}
+
+fn conflict_text(rt: &HostRuntime, start: u64, commit: u64) -> String {
+    let start = Ts::new(start);
+    let commit = Ts::new(commit);
+    text_of(rt, Fault::WriteConflict { start, commit })
+}
+
+// What a request is refused with that meets this lock on this key.
+fn lock_text(rt: &HostRuntime, lock: &LockRec, key: &[u8]) -> Result<String, Fault> {
+    let key = Key::new(rt.alloc(), key)?;
+    let info = lock.info(rt.alloc(), &key)?;
+    Ok(text_of(rt, Fault::KeyIsLocked(info)))
+}
+
+fn met_text(rt: &HostRuntime, key: &[u8]) -> Result<String, Fault> {
+    let lock = lock_on(rt, b"b")?;
+    lock_text(rt, &lock, key)
+}
+
+#[test]
+fn refusals_say_what_to_do(rt: HostRuntime) -> Result<(), Fail> {
+    assert_eq!(rt;
+        conflict_text(&rt, 2, 3).as_str(),
+        "the transaction that started at 2 committed at 3, after this one started: begin again"
+    );
+    let text = met_text(&rt, b"b\"\n")?;
+    assert_eq!(rt;
+        text.as_str(),
+        "key \"b\\\"\\x0a\" is locked by the transaction that started at 1 with the primary \"a\": resolve the lock, or try again when it is gone"
+    );
+    Ok(())
+}
+
+fn seat_text(rt: &HostRuntime) -> Result<String, Fault> {
+    Ok(format!(in rt.alloc(); "{} in {}", SeatNo::new(3), RegionNo::new(1))?)
+}
+
+#[test]
+fn seats_and_regions_are_shown_by_number(rt: HostRuntime) -> Result<(), Fail> {
+    let text = seat_text(&rt)?;
+    assert_eq!(rt; text.as_str(), "3 in 1");
+    Ok(())
+}
