@@ -11,7 +11,14 @@ fn is_key(rt: &HostRuntime, bytes: &[u8]) -> bool {
 #[test]
 fn keys_have_1_to_512_bytes(rt: HostRuntime) {
     let long = [7u8; 513];
-    for (len, wanted) in [(0, false), (1, true), (512, true), (513, false)] {
+    for (len, wanted) in [
+        (0, false),
+        (1, true),
+        (30, true),
+        (31, true),
+        (512, true),
+        (513, false),
+    ] {
         assert_eq!(rt; is_key(&rt, &long[..len]), wanted, "{len} bytes");
     }
 }
