@@ -15,9 +15,10 @@ use std::rt::Files;
 use std::sync::Wait;
 use std::thread::Threads;
 use tx_cells::{FlatCells, NestedCells};
+use tx_check::check;
 use tx_run::{Plain, run_script};
 use tx_sched::Open;
-use tx_script::{check, simulate, simulate_checked, simulate_checked_with, simulate_with};
+use tx_script::{simulate, simulate_checked, simulate_checked_with, simulate_with};
 
 const SCRIPTS: [&str; 16] = [
     "abandoned_async.script",

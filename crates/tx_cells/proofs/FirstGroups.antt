@@ -1,15 +1,19 @@
 -- Keys that are spelt by their first group, its marker, and the groups behind it.
-use Rattle.std.proofs.Common.{◌≡◌, ◌≢◌, ℕ, ◌+◌, ◌-◌, ◌^◌, ◌<◌, ◌≤◌, List, [], ◌∷◌, ◌++◌, length, take, drop, replicate, ◌↔◌, IsTrue, true, refl, sym, ap, ◌∙◌, arith}
+use Rattle.std.proofs.Common.{◌≡◌, ◌≢◌, ℕ, ◌+◌, ◌-◌, ◌^◌, ◌<◌, ◌≤◌, List, [], ◌∷◌, ◌++◌, length, take, drop, get_or, replicate, ◌↔◌, IsTrue, true, refl, sym, ap, ◌∙◌, append-nil, subst, arith, inl, inr}
 use Rattle.std.specs.Int.{w64, to_be_bytes}
 use Rattle.std.specs.Ordering.{nat_cmp, ordering_then, is_eq, eq_by_cmp}
 use Rattle.std.specs.declared.cmp.Ordering.{Ordering}
 use Rattle.std.specs.declared.cmp.Ordering.TheVariants.{Less, Equal, Greater}
 use Rattle.std.specs.Cmp.Lexicographic.{slice_cmp}
 use Rattle.std.proofs.lemmas.Cmp.{tied_itself, nat_list_cmp_total}
-use Rattle.std.proofs.lemmas.List.{length-append}
+use Rattle.std.proofs.lemmas.Bool.{cases_lt}
+use Rattle.std.proofs.lemmas.List.{length-append, length-take, length-drop}
 use Rattle.std.proofs.lemmas.Map.Lookups.{exact_unsigned, exact_bytes}
+use borrow.Rule.Slice.PartMut.{put_mid, post_of}
+use Rattle.std.proofs.Math.Seq.{take-append_seam, take-length, take-suc}
+use Rattle.std.proofs.Math.ListN.{drop_of_length-le}
 use Rattle.tx_codec.specs.Keys.{IsKey, encoded_key, KeysKeepOrder}
-use Rattle.tx_codec.proofs.Groups.{encoded_key-last, encoded_key-split, encoded_key-length}
+use Rattle.tx_codec.proofs.Groups.{encoded_key-last, encoded_key-split, encoded_key-length, encoded_key-long, encoded_key-whole, last_group-parts}
 use Rattle.tx_codec.proofs.Numbers.{words_order}
 use Rattle.tx_cells.specs.Spelt.{spelt, SpellsKey}
 use Rattle.tx_cells.proofs.ByteOrder.{compare, fronts_first, tied, equals}
@@ -48,6 +52,45 @@ short_spells key first fits is lt e = (fits, is, ap (λ (w : List ℕ). w ++ (25
 pub long_spells : (key rest : List ℕ) (first : ℕ) → first < 2 ^ 64 → IsKey key → 8 ≤ length key → to_be_bytes w64 first ≡ take 8 key → rest ≡ encoded_key (drop 8 key) → SpellsKey first 255 rest key
 long_spells key rest first fits is le e encoded =
     (fits, is, ap (λ (w : List ℕ). w ++ 255 ∷ rest) e ∙ ap (λ (w : List ℕ). take 8 key ++ 255 ∷ w) encoded ∙ sym (encoded_key-split key le))
+
+-- two groups, written one behind the other
+pub two_groups : (first zeros second : List ℕ) → length first ≡ 8 → length zeros ≡ 8 → put_mid 8 8 (first ++ zeros) second ≡ first ++ second
+two_groups first zeros second l m =
+    let front : take 8 (first ++ zeros) ≡ first = ap (λ n. take n (first ++ zeros)) (sym l) ∙ take-append_seam first zeros in
+    let back : post_of 8 8 (first ++ zeros) ≡ [] = drop_of_length-le (drop 8 (first ++ zeros)) {i = 8} (omega (arith, l, m, length-append first zeros, length-drop 8 (first ++ zeros))) in
+    ap (λ (w : List ℕ). w ++ (second ++ post_of 8 8 (first ++ zeros))) front ∙ ap (λ (w : List ℕ). first ++ (second ++ w)) back ∙ ap (λ (w : List ℕ). first ++ w) (append-nil second)
+
+-- a key of which all is in the first group
+pub short_read : (first marker : ℕ) (key : List ℕ) → SpellsKey first marker [] key → key ≡ take (marker - 247) (to_be_bytes w64 first)
+short_read first marker key s =
+    let word : List ℕ = to_be_bytes w64 first in
+    let size = length-append word (marker ∷ []) in
+    elim (cases_lt (length key) 8) [
+      | inl lt ↦ (last_group-parts key word marker lt (s.2 ∙ encoded_key-last key lt)).front
+      | inr ge ↦ absurd (omega (arith, ap length s.2, size, ap length (encoded_key-split key ge), length-append (take 8 key) (255 ∷ encoded_key (drop 8 key)), length-take 8 key, encoded_key-long (drop 8 key)))
+    ]
+
+-- a key of which the rest is in one group more
+pub next_read : (first : ℕ) (last key : List ℕ) (marker : ℕ) → length last ≡ 8 → SpellsKey first 255 (last ++ marker ∷ []) key → key ≡ to_be_bytes w64 first ++ take (marker - 247) last
+next_read first last key marker l s =
+    let word : List ℕ = to_be_bytes w64 first in
+    let whole = encoded_key-whole key word (last ++ marker ∷ []) refl (sym s.2) in
+    let more = whole.0 in
+    whole.1 ∙ ap (λ (w : List ℕ). word ++ w) (elim (cases_lt (length more) 8) [
+      | inl lt ↦ (last_group-parts more last marker lt (whole.2 ∙ encoded_key-last more lt)).front
+      | inr ge ↦ absurd (omega (arith, l, length-append last (marker ∷ []), ap length whole.2, ap length (encoded_key-split more ge), length-append (take 8 more) (255 ∷ encoded_key (drop 8 more)), length-take 8 more, encoded_key-long (drop 8 more)))
+    ])
+
+-- the same, by how long the rest is
+pub short_at : (first marker : ℕ) (rest key : List ℕ) → length rest ≡ 0 → SpellsKey first marker rest key → key ≡ take (marker - 247) (to_be_bytes w64 first)
+short_at first marker [] key e s = short_read first marker key s
+short_at first marker (x ∷ xs) key e s = absurd (omega (arith, e))
+
+pub next_at : (first marker : ℕ) (rest key : List ℕ) → marker ≡ 255 → length rest ≡ 9 → SpellsKey first marker rest key → key ≡ to_be_bytes w64 first ++ take (get_or rest 8 0 - 247) (take 8 rest)
+next_at first marker rest key whole l s =
+    let ends : rest ≡ take 8 rest ++ get_or rest 8 0 ∷ [] = sym (take-length rest) ∙ ap (λ n. take n rest) l ∙ take-suc rest 8 0 (omega (arith, l)) in
+    next_read first (take 8 rest) key (get_or rest 8 0) (omega (arith, l, length-take 8 rest))
+    (subst (λ (w : List ℕ). SpellsKey first 255 w key) ends (subst (λ (m : ℕ). SpellsKey first m rest key) whole s))
 
 -- the groups behind the first are few
 pub rest_short : (first marker : ℕ) (rest key : List ℕ) → SpellsKey first marker rest key → length rest ≤ 576

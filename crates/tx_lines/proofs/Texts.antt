@@ -1,9 +1,9 @@
 -- The text of a reply line, part by part.
-use Rattle.std.proofs.Common.{◌≡◌, ◌≢◌, ℕ, ◌+◌, ◌≤◌, ◌<◌, List, [], ◌∷◌, ◌++◌, length, take, get_or, refl, sym, ap, ◌∙◌, ne_eqb, append_assoc, append-nil, add-one, codes, false, Result, Ok, Err, OnOk, arith, inl, inr, Bool, true}
+use Rattle.std.proofs.Common.{◌≡◌, ◌≢◌, ℕ, ◌+◌, ◌≤◌, ◌<◌, List, [], ◌∷◌, ◌++◌, length, take, get_or, refl, sym, ap, ◌∙◌, ne_eqb, append_assoc, append-nil, add-one, codes, false, Result, Ok, Err, OnOk, arith, inl, inr, Bool, true, subst}
 use Rattle.std.specs.Prelude.{if◌then◌else◌}
 use Rattle.std.proofs.Math.Seq.{take-suc}
 use Rattle.std.specs.Prelude.{decimal, IsUtf8}
-use Rattle.std.proofs.lemmas.Bool.{le-ltb, cases_Bool}
+use Rattle.std.proofs.lemmas.Bool.{le-ltb, cases_Bool, cases_lt}
 use Rattle.std.proofs.lemmas.Grind.{flat_map-append}
 use Rattle.std.proofs.lemmas.Str.{is_utf8-from_IsUtf8, IsUtf8-from_is_utf8}
 use Rattle.std.specs.Str.{is_utf8}
@@ -51,6 +51,10 @@ plain_more bytes at h low q b same =
     ∙ ap (λ t. take at bytes ++ (t ++ [])) (plain_byte (get_or bytes at 0) low q b)
     ∙ sym more
 
+-- one more byte of ASCII
+pub below_more : (bytes : List ℕ) (at : ℕ) → ((i : ℕ) → i < at → get_or bytes i 0 < 128) → get_or bytes at 0 < 128 → (i : ℕ) → i < at + 1 → get_or bytes i 0 < 128
+below_more bytes at all last i h = elim (cases_lt i at) [ inl l ↦ all i l | inr g ↦ subst (λ k. get_or bytes k 0 < 128) (omega (arith, g)) last ]
+
 pub text_is : (old bytes : List ℕ) → IsUtf8 bytes → ((old ++ 34 ∷ []) ++ escape bytes) ++ 34 ∷ [] ≡ old ++ compact_text (text_of bytes)
 text_is old bytes text =
     append_assoc (old ++ 34 ∷ []) (escape bytes) (34 ∷ []) ∙ append_assoc old (34 ∷ []) (escape bytes ++ 34 ∷ [])
@@ -58,6 +62,10 @@ text_is old bytes text =
   where
     chosen : (b : Bool) → b ≡ true → (if b then string bytes else null) ≡ string bytes
     chosen b e = rw e refl
+
+-- the same, where the bytes stand for themselves
+pub plain_is : (old bytes : List ℕ) → IsUtf8 bytes → escape bytes ≡ bytes → ((old ++ 34 ∷ []) ++ bytes) ++ 34 ∷ [] ≡ old ++ compact_text (text_of bytes)
+plain_is old bytes text same = ap (λ t. ((old ++ 34 ∷ []) ++ t) ++ 34 ∷ []) (sym same) ∙ text_is old bytes text
 
 pub null_is : (old bytes : List ℕ) → (IsUtf8 bytes → ⊥) → old ++ 110 ∷ 117 ∷ 108 ∷ 108 ∷ [] ≡ old ++ compact_text (text_of bytes)
 null_is old bytes none = elim (cases_Bool (is_utf8 bytes)) [ inl e ↦ absurd (none (IsUtf8-from_is_utf8 bytes e)) | inr e ↦ ap (λ t. old ++ compact_text t) (sym (chosen (is_utf8 bytes) e)) ]

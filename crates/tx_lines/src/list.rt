@@ -24,7 +24,7 @@ fn put_more<T: Entry>(out: &mut Vec<u8>, list: &[T]) -> Result<(), AllocError>
     ensures { OnOk result (out.new.items ≡ out.old.items ++ members_text (items_of (map T.value list.now))) }
 {
     for entry in list {
-        out.extend_from_slice(b",")?;
+        out.push(b',')?;
         entry.put(out)?;
     }
     Ok(())

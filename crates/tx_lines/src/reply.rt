@@ -116,7 +116,7 @@ pub const REFUSAL_BYTES: usize = 32;
 pub fn put_reply(out: &mut Vec<u8>, number: u64, reply: &Reply) -> Result<(), AllocError>
     ensures { OnOk result (out.new.items ≡ out.old.items ++ reply_text (number, reply_words reply.now)) }
 {
-    out.extend_from_slice(b"[")?;
+    out.push(b'[')?;
     put_digits(out, number)?;
     put_words(out, reply)?;
     out.extend_from_slice(b"]\n")

@@ -12,9 +12,10 @@ impl Entry for KeyValue {
     ghost value = { row_data };
 
     fn put(&self, out: &mut Vec<u8>) -> Result<(), AllocError> {
-        out.extend_from_slice(b"[")?;
+        out.push(b'[')?;
         put_string(out, self.key.as_bytes())?;
         put_text(out, self.value.as_bytes())?;
-        out.extend_from_slice(b"]")
+        out.push(b']')?;
+        Ok(())
     }
 }

@@ -1,5 +1,5 @@
 //! The text of a line's parts, appended to bytes that are kept from line to line: a kept buffer allocates only where it grows.
-ghost use Rattle.std.specs.Prelude.{◌≡◌, ℕ, [], ◌∷◌, ◌++◌, ◌<◌, decimal, length, take, OnOk, IsTrue};
+ghost use Rattle.std.specs.Prelude.{◌≡◌, ℕ, [], ◌∷◌, ◌++◌, ◌<◌, decimal, length, take, OnOk, IsTrue, IsAscii};
 ghost use Rattle.serde_json.specs.Written.{compact_text};
 ghost use Rattle.json.specs.Print.{escape, escape_letter, escape_byte};
 ghost use Rattle.std.specs.Char.{digit_char};
@@ -24,6 +24,22 @@ fn is_plain(bytes: &[u8]) -> bool
     'bytes: while at < bytes.len() {
         let byte = bytes[at];
         if byte < 32 || byte == b'"' || byte == b'\\' {
+            return false;
+        }
+        at += 1;
+    }
+    true
+}
+
+// Whether the bytes are ASCII that stands for itself in a string.
+fn is_simple(bytes: &[u8]) -> bool
+    ensures same { IsTrue result → escape bytes.now ≡ bytes.now }
+    ensures ascii { IsTrue result → IsAscii bytes.now }
+{
+    let mut at = 0;
+    'bytes: while at < bytes.len() {
+        let byte = bytes[at];
+        if byte < 32 || byte == b'"' || byte == b'\\' || byte >= 128 {
             return false;
         }
         at += 1;
@@ -82,10 +98,23 @@ fn put_escaped(out: &mut Vec<u8>, bytes: &[u8]) -> Result<(), AllocError>
     Ok(())
 }
 
+// Appends bytes between quotes.
+fn put_quoted(out: &mut Vec<u8>, bytes: &[u8]) -> Result<(), AllocError>
+    ensures { OnOk result (out.new.items ≡ ((out.old.items ++ 34 ∷ []) ++ bytes.now) ++ 34 ∷ []) }
+{
+    out.push(b'"')?;
+    out.extend_from_slice(bytes)?;
+    out.push(b'"')?;
+    Ok(())
+}
+
 /// Appends bytes as a JSON string, `null` where they are no UTF-8.
 pub(crate) fn put_string(out: &mut Vec<u8>, bytes: &[u8]) -> Result<(), AllocError>
     ensures { OnOk result (out.new.items ≡ out.old.items ++ compact_text (text_of bytes.now)) }
 {
+    if is_simple(bytes) {
+        return put_quoted(out, bytes);
+    }
     if str::from_utf8(bytes).is_err() {
         return out.extend_from_slice(b"null");
     }
@@ -98,7 +127,7 @@ pub(crate) fn put_string(out: &mut Vec<u8>, bytes: &[u8]) -> Result<(), AllocErr
 pub fn put_number(out: &mut Vec<u8>, n: u64) -> Result<(), AllocError>
     ensures { OnOk result (out.new.items ≡ out.old.items ++ 44 ∷ decimal n) }
 {
-    out.extend_from_slice(b",")?;
+    out.push(b',')?;
     put_digits(out, n)
 }
 
@@ -106,7 +135,7 @@ pub fn put_number(out: &mut Vec<u8>, n: u64) -> Result<(), AllocError>
 pub fn put_text(out: &mut Vec<u8>, bytes: &[u8]) -> Result<(), AllocError>
     ensures { OnOk result (out.new.items ≡ out.old.items ++ 44 ∷ compact_text (text_of bytes.now)) }
 {
-    out.extend_from_slice(b",")?;
+    out.push(b',')?;
     put_string(out, bytes)
 }
 

@@ -1,13 +1,3 @@
--- Lists of members, read one by one.
-pub mod Members
--- Values with too few or too many members.
-pub mod Arity
--- The step that a line says, and the causes for which it says none.
-pub mod LineSteps
--- Lines have one verdict.
-pub mod Verdicts
--- The lines of a trace that were read, and the machine that made their steps.
-pub mod Traces
 -- Lines of a script have one play where its events are a world run.
 pub mod OnePlay
 -- What a line of a script leads to, by what it says.

@@ -13,8 +13,8 @@ use Rattle.tx_lines.specs.declared.end.End.TheVariants as ended
 use Rattle.tx_lines.specs.Lines.{lines_of}
 use Rattle.tx_lines.specs.Steps.{step_text}
 use Rattle.tx_lines.specs.Texts.{line_text}
-use Rattle.tx_script.specs.declared.words.Verdict.TheVariants.{Yes}
-use Rattle.tx_script.specs.Words.{words}
+use Rattle.tx_check.specs.declared.words.Verdict.TheVariants.{Yes}
+use Rattle.tx_check.specs.Words.{words}
 use Rattle.tx_script.specs.Play.{Played, render, IsPlay, BreaksLines, bounds_of}
 
 -- the lines that follow the replies of a run: the machine's steps that are read off it, oldest first, and that they are a run

@@ -7,13 +7,13 @@ ghost use Rattle.tx_core.specs.Shadow.{shadow};
 ghost use Rattle.tx_machine.specs.Machine.{IsRun};
 ghost use Rattle.tx_lines.specs.Steps.{step_text};
 ghost use Rattle.tx_lines.specs.Texts.{line_text};
-ghost use Rattle.tx_script.specs.Words.{words};
+ghost use Rattle.tx_check.specs.Words.{words};
 ghost use Rattle.tx_script.specs.Checked.{step_lines, steps_told};
 ghost use Rattle.tx_script.specs.Loops.{AppendsBegun, AreOf};
 
-use crate::words::{Verdict, verdict_line};
 use std::alloc::Global;
 use std::io::Write;
+use tx_check::{Verdict, verdict_line};
 use tx_lines::{Broken, End, finish, put_step, send};
 use tx_machine::{Refused, Step, check_steps};
 use tx_trace::Trace;

@@ -1,22 +1,15 @@
-//! Text in, text out. `check` reads the lines of a trace, checks each, and writes the verdict. `simulate` reads the steps of
-//! a script, plays them in one thread over regions in which nobody else acts, and writes a reply for each: what it has written
-//! is what the script means, which is its only play, whose events are a run of the protocol. `simulate_checked` also writes the
-//! machine's steps that are read off that run, and that they are a run of the machine.
+//! Text in, text out. `simulate` reads the steps of a script, plays them in one thread over regions in which nobody else acts, and
+//! writes a reply for each: what it has written is what the script means, which is its only play, whose events are a run of the
+//! protocol. `simulate_checked` also writes the machine's steps that are read off that run, and that they are a run of the machine.
 //!
 //! A line is one JSON array, which `tx_lines` reads and writes; `tx_steps` has the steps of scripts, and `tx_play` the engine.
-//! The words of verdicts stand in `words`, the steps of the machine in `machine_step` and `listed_step`.
 #![tactic(auto)]
 
 mod call;
 mod checked;
-mod checker;
 mod line;
-mod listed_step;
-mod machine_step;
 mod opening;
 mod script;
-mod words;
 
-pub use checker::check;
 pub use opening::{simulate, simulate_checked, simulate_checked_with, simulate_with};
 pub use tx_lines::{Broken, End};

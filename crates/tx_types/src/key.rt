@@ -10,6 +10,7 @@ ghost use Rattle.std.proofs.Common.{rules};
 use crate::fault::Fault;
 use crate::fields::escape;
 use crate::limits::{MAX_KEY_BYTES, MIN_KEY_BYTES};
+use crate::order::order;
 use crate::text::Text;
 use std::alloc::Global;
 use std::cmp::Ordering;
@@ -108,7 +109,7 @@ impl Ord for Key {
     ghost matches_eq = { texts_ties };
 
     fn cmp(&self, other: &Key) -> Ordering {
-        self.as_bytes().cmp(other.as_bytes())
+        order(self.as_bytes(), other.as_bytes())
     }
 }
 

@@ -8,6 +8,7 @@ pub mod limits;
 mod lists;
 mod lock;
 mod mutation;
+mod order;
 mod region_no;
 mod seat_no;
 mod text;

@@ -16,9 +16,10 @@ use std::process::ExitCode;
 use std::sync::Wait;
 use std::thread::Threads;
 use tx_cells::FlatCells;
+use tx_check::check;
 use tx_run::{Plain, run_script};
 use tx_sched::Open;
-use tx_script::{Broken, End, check, simulate, simulate_checked};
+use tx_script::{Broken, End, simulate, simulate_checked};
 
 // Both streams are buffered; each job flushes what it writes.
 fn run<R>(rt: &R, job: Job) -> Result<End, Broken>

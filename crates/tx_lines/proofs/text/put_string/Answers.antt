@@ -1,8 +1,15 @@
-use Rattle.std.proofs.Common.{rules, ◌≡◌, ◌++◌, ◌∷◌, [], ap, ◌∙◌}
+use Rattle.std.proofs.Common.{rules, refl, ◌≡◌, ◌++◌, ◌∷◌, [], ap, ◌∙◌}
 use Rattle.std.specs.Prelude.{IsUtf8}
 use Rattle.json.specs.Print.{escape}
-use Rattle.tx_lines.proofs.Texts.{text_is, null_is, if_ok}
+use Rattle.std.proofs.lemmas.Str.{IsUtf8-from_ascii}
+use Rattle.tx_lines.proofs.Texts.{text_is, plain_is, null_is, if_ok, on_ok}
 use Rattle.tx_lines.proofs.text.put_string.Goals as goal
+
+pub returns-then-is_simple : goal.returns-then-is_simple
+returns-then-is_simple c =
+    let bytes = c.args.bytes.now in
+    let is = c.if-is_simple.ensures in
+    on_ok c.put_quoted.result c.put_quoted.ensures (λ e. e ∙ plain_is c.args.out.now.items bytes (IsUtf8-from_ascii bytes (is.ascii refl)) (is.same refl))
 
 pub returns-then-is_err : goal.returns-then-is_err
 returns-then-is_err c =

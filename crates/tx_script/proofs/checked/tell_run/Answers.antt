@@ -1,8 +1,8 @@
 use Rattle.std.proofs.Common.{◌∷◌, [], map}
 use Rattle.tx_lines.specs.Steps.{step_text}
 use Rattle.tx_lines.specs.Texts.{line_text}
-use Rattle.tx_script.specs.declared.words.Verdict.TheVariants.{Yes}
-use Rattle.tx_script.specs.Words.{words}
+use Rattle.tx_check.specs.declared.words.Verdict.TheVariants.{Yes}
+use Rattle.tx_check.specs.Words.{words}
 use Rattle.tx_script.proofs.Scripts.{if_err_is}
 use Rattle.tx_script.proofs.Ending.{then_ok, then_err}
 use Rattle.tx_script.proofs.Begun.{appends_more, appends_after, appends_last}

@@ -1,0 +1,10 @@
+-- Lists of members, read one by one.
+pub mod Members
+-- Values with too few or too many members.
+pub mod Arity
+-- The step that a line says, and the causes for which it says none.
+pub mod LineSteps
+-- Lines have one verdict.
+pub mod Verdicts
+-- The lines of a trace that were read, and the machine that made their steps.
+pub mod Traces

@@ -1,0 +1,4 @@
+pub mod Words
+pub mod MachineSteps
+pub mod Check
+pub mod Turns

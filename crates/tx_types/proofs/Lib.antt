@@ -1,0 +1,2 @@
+-- The order of bytes of which one has ended.
+pub mod ByteOrder
