@@ -1,4 +1,4 @@
-use Rattle.std.proofs.Common.{◌≡◌, ◌≤◌, ◌-◌, length, drop}
+use Rattle.std.proofs.Common.{◌≡◌, ◌≤◌, ◌-◌, drop}
 use Rattle.std.specs.Ordering.{nat_cmp}
 use Rattle.std.specs.Cmp.Lexicographic.{slice_cmp}
 use Rattle.tx_types.proofs.order.order.Given as goal
