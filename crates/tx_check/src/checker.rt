@@ -16,7 +16,7 @@ use serde_json::Value;
 use std::alloc::Global;
 use std::io::{BufRead, Write};
 use tx_lines::{
-    Broken, End, Found, Part, Scanned, finish, parts_of, read_line, scanned_with_rows, send,
+    Broken, End, Found, Part, Parts, Scanned, finish, parts_of, read_line, scanned_with_rows, send,
     value_of,
 };
 use tx_machine::{Machine, Refused, Step};
@@ -147,9 +147,10 @@ pub(crate) fn line_step(
     if number > MAX_LINES {
         return Ok(Err(Cause::Lines));
     }
-    match scanned_with_rows(alloc, line) {
-        Some(Scanned::Plain(parts)) => return members_step(alloc, parts.as_slice()),
-        Some(Scanned::Listed(parts, rows)) => {
+    let mut parts = Parts::new();
+    match scanned_with_rows(alloc, line, &mut parts) {
+        Some(Scanned::Plain) => return members_step(alloc, parts.as_slice()),
+        Some(Scanned::Listed(rows)) => {
             if let Ok(step) = listed_step(alloc, parts.as_slice(), rows.as_slice()) {
                 return Ok(Ok(step));
             }

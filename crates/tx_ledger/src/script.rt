@@ -11,7 +11,7 @@ use std::alloc::{AllocError, Global};
 use std::collections::BTreeMap;
 use std::io::BufRead;
 use std::marker::PhantomData;
-use tx_lines::{Broken, Found, read_line};
+use tx_lines::{Broken, Found, Parts, read_line};
 use tx_steps::{Action, Line, Program, Request, Step};
 use tx_types::limits::{MAX_LIVE_SESSIONS, MAX_NAME_BYTES};
 use tx_types::{Cause, Key};
@@ -190,7 +190,7 @@ impl<L: Source> Reading<L> {
     }
 
     // Takes the keys between the regions from line 1, where it says some.
-    fn opens(&mut self, number: u64, line: &Line<'_>) -> Result<bool, Broken>
+    fn opens(&mut self, number: u64, line: &Line<'_, '_>) -> Result<bool, Broken>
         requires { IsWithin self.old.script.bounds.items (vec_len self.old.script.sessions) }
         ensures { OnOk result (IsWithin self.new.script.bounds.items (vec_len self.new.script.sessions)) }
     {
@@ -233,7 +233,8 @@ impl<L: Source> Reading<L> {
         requires line { HasLine L.text number text.now }
         ensures { OnOk result (IsWithin self.new.script.bounds.items (vec_len self.new.script.sessions)) }
     {
-        let line = match Line::read(self.alloc, number, text)? {
+        let mut parts = Parts::new();
+        let line = match Line::read(self.alloc, number, text, &mut parts)? {
             Ok(line) => line,
             Err(cause) => return Ok(Err(cause)),
         };

@@ -35,10 +35,10 @@ row_data (Triple a b c) = array (item (string a.now) (item (string b.now) (item 
 abbrev pub listed_items : List Part → List Row → Items
 listed_items parts rows = items_of (map part_data parts ++ array (items_of (map row_data rows)) ∷ [])
 
--- what was scanned of a line
-abbrev pub scanned_items : Scanned → Items
-scanned_items (Plain parts) = parts_items parts.items
-scanned_items (Listed parts rows) = listed_items parts.items rows.items
+-- plain members, and what comes after them
+abbrev pub scanned_items : List Part → Scanned → Items
+scanned_items parts Plain = parts_items parts
+scanned_items parts (Listed rows) = listed_items parts rows.items
 
 -- how many members an array has
 abbrev pub count : Items → ℕ

@@ -1,5 +1,5 @@
 //! A line that is an array whose last member is a list of rows, as the machine's steps have it, by a scan of its bytes.
-ghost use Rattle.std.specs.Prelude.{◌≡◌, ◌≤◌, length, drop, Some, IfSome};
+ghost use Rattle.std.specs.Prelude.{◌≡◌, ◌≤◌, [], length, drop, Some, IfSome};
 ghost use Rattle.serde_json.specs.Data.{array};
 ghost use Rattle.tx_lines.specs.Parts.{json_of, scanned_items};
 ghost use Rattle.tx_lines.specs.Scan.{BeginsRow, BeginsRows};
@@ -15,13 +15,13 @@ pub enum Row<'a> {
     Triple(&'a str, &'a str, &'a str),
 }
 
-/// The members of a line.
+/// What comes after the plain members of a line.
 #[derive(Debug, Drop)]
 pub enum Scanned<'a> {
-    /// These are all.
-    Plain(Parts<'a>),
-    /// After these comes one more, the list of these rows.
-    Listed(Parts<'a>, Vec<Row<'a>>),
+    /// Nothing: they are all.
+    Plain,
+    /// One more member, the list of these rows.
+    Listed(Vec<Row<'a>>),
 }
 
 // The row from here on, with what comes after it.
@@ -68,21 +68,26 @@ fn rows_at(alloc: Global, line: &str, from: usize) -> Option<(Vec<Row<'_>>, usiz
 }
 
 /// The members of a line that is an array of at most `MAX_PARTS` strings with no escape, whole numbers that do not begin with
-/// 0, and nulls, and then of a list of rows where there is one. Of any other line it says nothing, nor where a growth was
-/// refused.
-pub fn scanned_with_rows(alloc: Global, line: &[u8]) -> Option<Scanned<'_>>
-    ensures { IfSome result (λ found. json_of line.now ≡ Some (array (scanned_items found))) }
+/// 0, and nulls, which it puts into `parts`, and then of a list of rows where there is one. Of any other line it says nothing, nor
+/// where a growth was refused. `parts` is empty before.
+pub fn scanned_with_rows<'a>(
+    alloc: Global,
+    line: &'a [u8],
+    parts: &mut Parts<'a>,
+) -> Option<Scanned<'a>>
+    requires { parts.old.items ≡ [] }
+    ensures { IfSome result (λ found. json_of line.now ≡ Some (array (scanned_items parts.new.items found))) }
 {
     let Ok(text) = str::from_utf8(line) else {
         return None;
     };
-    let (parts, place) = leading(text)?;
+    let place = leading(text, parts)?;
     let Some(at) = place else {
-        return Some(Scanned::Plain(parts));
+        return Some(Scanned::Plain);
     };
     let (rows, end) = rows_at(alloc, text, at)?;
     if is_over(text, end) {
-        Some(Scanned::Listed(parts, rows))
+        Some(Scanned::Listed(rows))
     } else {
         None
     }

@@ -9,7 +9,7 @@ use crate::status::put_status;
 use crate::text::{put_digits, put_number, put_stamped};
 use crate::versions::put_copy;
 use std::alloc::AllocError;
-use tx_cells::KeyCopy;
+use tx_cells::Shown;
 use tx_client::Status;
 use tx_core::{Answer, Outcome, UnknownCause};
 use tx_types::Ts;
@@ -34,7 +34,7 @@ pub enum Reply {
     /// What became of the transaction of a lock that was met.
     Status(Status),
     /// What is shown of a key.
-    Versions(KeyCopy),
+    Versions(Shown),
     /// How many write records, and how many values of the `default` family, a collection of all regions dropped.
     Collected { records: u64, values: u64 },
     /// The seat's ticks are spent.
@@ -96,9 +96,9 @@ fn put_words(out: &mut Vec<u8>, reply: &Reply) -> Result<(), AllocError>
             out.extend_from_slice(b",\"status\"")?;
             put_status(out, *status)
         }
-        Reply::Versions(copy) => {
+        Reply::Versions(shown) => {
             out.extend_from_slice(b",\"versions\"")?;
-            put_copy(out, copy)
+            put_copy(out, shown.copy())
         }
         Reply::Collected { records, values } => put_collected(out, *records, *values),
         Reply::OracleSpent => out.extend_from_slice(b",\"E11\""),

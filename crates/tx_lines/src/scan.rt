@@ -170,38 +170,39 @@ fn member(line: &str, from: usize) -> Option<(Part<'_>, usize)>
     Some((Part::Null, after))
 }
 
-/// The plain members of a line's array, up to its end, or up to the place of the first that is none.
-pub(crate) fn leading(line: &str) -> Option<(Parts<'_>, Option<usize>)>
-    ensures { IfSome result (λ found. MatchOption found.1
-        (read line.now ≡ Some (array (parts_items found.0.items)))
-        (λ at. (at ≤ length line.now) × ReadParts line.now found.0.items (drop at line.now))) }
+/// Puts the plain members of a line's array into `parts`, up to its end, or up to the place of the first that is none.
+pub(crate) fn leading<'a>(line: &'a str, parts: &mut Parts<'a>) -> Option<Option<usize>>
+    requires { parts.old.items ≡ [] }
+    ensures { IfSome result (λ place. MatchOption place
+        (read line.now ≡ Some (array (parts_items parts.new.items)))
+        (λ at. (at ≤ length line.now) × ReadParts line.now parts.new.items (drop at line.now))) }
 {
     let mut at = pass(line, 0, b'[')?;
-    let mut parts = Parts::new();
     'parts: while parts.len() < MAX_PARTS {
         let Some((part, after)) = member(line, at) else {
-            return Some((parts, Some(at)));
+            return Some(Some(at));
         };
         parts.push(part);
         if is_over(line, after) {
-            return Some((parts, None));
+            return Some(None);
         }
         at = pass(line, after, b',')?;
     }
     None
 }
 
-/// The members of a line that is an array of one to `MAX_PARTS` strings with no escape, whole numbers that do not begin
-/// with 0, and nulls, with spaces between them at most. Of any other line it says nothing: it may be the same array in another
-/// spelling.
-pub fn scanned(line: &[u8]) -> Option<Parts<'_>>
-    ensures { IfSome result (λ parts. json_of line.now ≡ Some (array (parts_items parts.items))) }
+/// Puts the members of a line into `parts`, which is empty, where it is an array of one to `MAX_PARTS` strings with no escape,
+/// whole numbers that do not begin with 0, and nulls, with spaces between them at most. Of any other line it says nothing: it may
+/// be the same array in another spelling.
+pub fn scanned<'a>(line: &'a [u8], parts: &mut Parts<'a>) -> bool
+    requires { parts.old.items ≡ [] }
+    ensures { IsTrue result → json_of line.now ≡ Some (array (parts_items parts.new.items)) }
 {
     let Ok(text) = str::from_utf8(line) else {
-        return None;
+        return false;
     };
-    match leading(text)? {
-        (parts, None) => Some(parts),
-        (_, Some(_)) => None,
+    match leading(text, parts) {
+        Some(None) => true,
+        Some(Some(_)) | None => false,
     }
 }

@@ -1,10 +1,11 @@
-use tx_lines::{Scanned, scanned_with_rows};
+use tx_lines::{Parts, Scanned, scanned_with_rows};
 
 // How many plain members were scanned, and how many rows of a list after them.
 fn counts(rt: &HostRuntime, line: &str) -> Option<(usize, Option<usize>)> {
-    match scanned_with_rows(rt.alloc(), line.as_bytes())? {
-        Scanned::Plain(parts) => Some((parts.len(), None)),
-        Scanned::Listed(parts, rows) => Some((parts.len(), Some(rows.len()))),
+    let mut parts = Parts::new();
+    match scanned_with_rows(rt.alloc(), line.as_bytes(), &mut parts)? {
+        Scanned::Plain => Some((parts.len(), None)),
+        Scanned::Listed(rows) => Some((parts.len(), Some(rows.len()))),
     }
 }
 

@@ -1,5 +1,5 @@
 use std::alloc::Global;
-use tx_cells::{KeyCopy, RecordAt};
+use tx_cells::{KeyCopy, RecordAt, Shown};
 use tx_client::{Status, WaitCause};
 use tx_core::Answer;
 use tx_lines::{Reply, put_reply, put_step};
@@ -148,7 +148,7 @@ fn copy_of(
     kind: Option<LockKind>,
     records: &[RecordAt],
     values: &[Ts],
-) -> Result<KeyCopy, Fault> {
+) -> Result<Shown, Fault> {
     let lock = kind.map(|kind| LockHead {
         start: Ts::new(1),
         min: Ts::new(2),
@@ -156,11 +156,12 @@ fn copy_of(
         kind,
         mode: Mode::Async,
     });
-    Ok(KeyCopy {
+    let copy = KeyCopy {
         lock,
         records: list(rt.alloc(), records)?,
         values: list(rt.alloc(), values)?,
-    })
+    };
+    Shown::new(rt.alloc(), copy)
 }
 
 fn says_versions(

@@ -9,7 +9,7 @@ ghost use Rattle.tx_journal.specs.Known.{Known, AreRising};
 ghost use Rattle.tx_journal.specs.Replies.{Asked, Given};
 ghost use Rattle.tx_client.specs.Senders.{IsHeld};
 ghost use Rattle.tx_play.specs.declared.post.Way.TheVariants as ways;
-ghost use Rattle.tx_play.specs.Posts.{AreNumbered, AllFit, region_for, by_name, IsHold, IsSet, request_at, Taken, Hands, Twice, IsUntaken, HeldUnder, IsDone, stage_of};
+ghost use Rattle.tx_play.specs.Posts.{AreNumbered, AllFit, region_for, by_name, IsHold, IsSet, request_at, Hands, Twice, IsUntaken, HeldUnder, IsDone, stage_of};
 ghost use Rattle.tx_play.specs.Scenes.{may_go, is_crowded, is_name as name_test};
 
 mod showing;
@@ -78,22 +78,6 @@ impl<J: Naming, F: Families + Drop> Drop for Post<J, F> {
             trace: _,
         } = self;
     }
-}
-
-// A region takes a request, having learnt what is newest; what it then knows is the newest.
-fn take_at<J: Naming, F: Families>(
-    region: &mut Region<J, F>,
-    newest: &mut Told<J>,
-    request: Request<J>,
-) -> Reply<J>
-    requires { Holds J.bounds region.old.seat request.body }
-    ensures { Taken region.old newest.old request result region.new newest.new }
-{
-    let told = region.copy(newest);
-    region.learn(told);
-    let reply = region.take(request);
-    *newest = region.tell();
-    reply
 }
 
 fn is_name(name: &str) -> bool
@@ -189,13 +173,18 @@ impl<J: Naming, F: Families> Post<J, F> {
         }
     }
 
-    /// The region that holds a request takes it.
+    /// The region that holds a request takes it, having learnt what is newest; what it then knows is the newest. What it answered is
+    /// noted.
     pub(crate) fn take(&mut self, request: Request<J>) -> Reply<J>
         requires { IsHeld J.bounds request.body }
         ensures { Hands (region_for J.bounds request.body) self.old self.new request result }
     {
         let place = self.place_of(request.body());
-        let reply = take_at(&mut self.regions[place], &mut self.newest, request);
+        let region = &mut self.regions[place];
+        let told = region.copy(&mut self.newest);
+        region.learn(told);
+        let reply = region.take(request);
+        self.newest = region.tell();
         note_reply(&mut self.trace, &reply);
         reply
     }

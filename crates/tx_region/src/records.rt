@@ -15,7 +15,7 @@ ghost use Rattle.tx_region.specs.Regions.{region_of};
 ghost use Rattle.tx_region.specs.Calls.{CarriesOut};
 
 use std::alloc::Global;
-use tx_cells::{Families, KeyCopy};
+use tx_cells::{Families, Shown};
 use tx_plan::{Answer, Planned, PlannedAnswer};
 use tx_types::{Fault, Key, Ts};
 
@@ -67,11 +67,12 @@ impl<F: Families> Records<F> {
     }
 
     /// What is shown of a key.
-    pub fn cells_of(&self, key: &Key) -> Result<KeyCopy, Fault>
+    pub fn cells_of(&self, key: &Key) -> Result<Shown, Fault>
         ensures copies { IfOk result (λ copy. Copies ((region_of F.content self.now).cells key.now) copy) }
         ensures err { IfErr result (λ e. e ≡ Fault.OutOfMemory) }
     {
-        self.families.cells(self.alloc, key)
+        let copy = self.families.cells(self.alloc, key)?;
+        Shown::new(self.alloc, copy)
     }
 
     /// The answer of a plan for this key, with what is told of the lock on it where the answer names that.

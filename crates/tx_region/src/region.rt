@@ -15,7 +15,7 @@ use crate::records::Records;
 use crate::routing::holds;
 use std::alloc::Global;
 use std::marker::{Brand, Model};
-use tx_cells::{Families, KeyCopy};
+use tx_cells::{Families, Shown};
 use tx_core::{Answer, Body, SeatNo};
 use tx_journal::{Journal, Naming, Reply, Request, Said, Seat, Told};
 use tx_types::{Fault, Key, Ts};
@@ -91,7 +91,7 @@ impl<J: Naming, F: Families> Region<J, F> {
     }
 
     /// What is shown of a key.
-    pub fn cells_of(&self, key: &Key) -> Result<KeyCopy, Fault>
+    pub fn cells_of(&self, key: &Key) -> Result<Shown, Fault>
         ensures copies { IfOk result (λ copy. Copies ((left self.now.events self.now.seat).cells key.now) copy) }
         ensures err { IfErr result (λ e. e ≡ Fault.OutOfMemory) }
     {
@@ -133,22 +133,22 @@ impl<J: Naming, F: Families> Region<J, F> {
         self.seat.learn(told);
     }
 
-    // Knows what was told, and then the last number that was drawn.
-    fn load(&mut self, told: &mut Told<J>) -> Ts
-        ensures told { told.new ≡ told.old }
+    // Knows what a request's sender had seen, and then the last number that was drawn.
+    fn load(&mut self, request: &mut Request<J>) -> Ts
+        ensures request { request.new ≡ request.old }
         ensures same { (self.new.seat ≡ self.old.seat) × (self.new.ticks ≡ self.old.ticks) }
         ensures seen { HasSeen J.bounds self.old.seat self.old.events self.new.events }
-        ensures heard { Begins told.old self.new.events }
+        ensures heard { Begins request.new.by self.new.events }
         ensures last { (result ≡ last self.new.events) × (result ≤ greatest_ts) }
     {
-        let told = self.seat.copy(told);
-        self.seat.learn(told);
+        let heard = request.tell(&self.seat);
+        self.seat.learn(heard);
         self.seat.last()
     }
 
     /// Answers a request that it holds, and records that it did, by one event; where memory is refused it does neither.
     /// RaiseSafe takes none.
-    pub fn take(&mut self, request: Request<J>) -> Reply<J>
+    pub fn take(&mut self, mut request: Request<J>) -> Reply<J>
         requires holds { Holds J.bounds self.old.seat request.body }
         ensures request { result.request ≡ request }
         ensures same { (self.new.seat ≡ self.old.seat) × (self.new.ticks ≡ self.old.ticks) }
@@ -157,17 +157,17 @@ impl<J: Naming, F: Families> Region<J, F> {
         ensures always { TakesNoMemory request.body → IsSome result.answer }
         ensures refused { IfNone result.answer (HasSeen J.bounds self.old.seat self.old.events self.new.events) }
     {
-        let (mut by, body) = request.into_parts();
-        let loaded = self.load(&mut by);
-        match self.records.answer(loaded, &body) {
+        let loaded = self.load(&mut request);
+        let asked = request.body();
+        match self.records.answer(loaded, asked) {
             Err(_) => {
                 let told = self.seat.tell();
-                Reply::new(Request::new(by, body), None, told)
+                Reply::new(request, None, told)
             }
             Ok(answer) => {
-                record_taken(&mut self.seat, loaded, &body, &answer);
+                record_taken(&mut self.seat, loaded, asked, &answer);
                 let told = self.seat.tell();
-                Reply::new(Request::new(by, body), Some(answer), told)
+                Reply::new(request, Some(answer), told)
             }
         }
     }

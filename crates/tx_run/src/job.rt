@@ -19,7 +19,7 @@ use tx_core::Answer;
 use tx_journal::{Naming, Seat};
 use tx_latch::{Slot, slot_of};
 use tx_ledger::{Asks, Entry, Log, Order, Said, Source, Words, is_name};
-use tx_lines::Reply;
+use tx_lines::{Parts, Reply};
 use tx_sched::{Job, Turn};
 use tx_steps::{Action, Line, Program, Step, Transfer};
 use tx_types::{Cause, Fault, Key};
@@ -252,7 +252,13 @@ impl<J: Naming, L: Source, F: Families + Drop, R: Wait + Drop> ScriptJob<J, L, F
     fn play(&mut self, said: &Said<L>)
         ensures { StaysSame self.old self.new }
     {
-        match Line::read(self.access.alloc, said.number, said.text.as_slice()) {
+        let mut parts = Parts::new();
+        match Line::read(
+            self.access.alloc,
+            said.number,
+            said.text.as_slice(),
+            &mut parts,
+        ) {
             Ok(Ok(line)) => match line.step(Program::Run) {
                 Some(step) => self.make(said.number, step),
                 None => self.fails(said.number, Cause::Form),

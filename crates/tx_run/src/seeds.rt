@@ -13,7 +13,7 @@ use tx_client::{Session, Terms};
 use tx_core::Answer;
 use tx_journal::{Naming, Seat};
 use tx_ledger::{BALANCES, Reply, Said, Source, Spoken, Words, balance_of};
-use tx_lines::Broken;
+use tx_lines::{Broken, Parts};
 use tx_steps::{Line, Program, Step};
 use tx_types::limits::MAX_SCAN_ROWS;
 use tx_types::{Fault, Key, KeyValues, Mode, Ts, Value};
@@ -105,7 +105,9 @@ fn play<J: Naming, L: Source, F: Families + Drop, R: Wait + Drop>(
     access: &Access<J, F, R>,
     said: &Said<L>,
 ) -> (Seat<J>, Words) {
-    if let Ok(Ok(line)) = Line::read(access.alloc, said.number, said.text.as_slice()) {
+    let mut parts = Parts::new();
+    let read = Line::read(access.alloc, said.number, said.text.as_slice(), &mut parts);
+    if let Ok(Ok(line)) = read {
         if let Some(Step::Seed(key, value)) = line.step(Program::Run) {
             let (seat, result) = seed(seat, access, key, value);
             return (seat, done(result));

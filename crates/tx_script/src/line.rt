@@ -17,7 +17,7 @@ use std::alloc::Global;
 use std::io::Write;
 use tx_cells::Families;
 use tx_journal::Naming;
-use tx_lines::{Broken, Found, Reply, put_fault, put_reply, send};
+use tx_lines::{Broken, Found, Parts, Reply, put_fault, put_reply, send};
 use tx_play::Engine;
 use tx_steps::{Line, Program, Step};
 use tx_types::Cause;
@@ -48,7 +48,7 @@ fn play_step<J: Naming, F: Families>(
 }
 
 // Whether a line says the keys between the regions.
-fn says_regions(alloc: Global, said: &Line<'_>) -> Result<bool, Broken>
+fn says_regions(alloc: Global, said: &Line<'_, '_>) -> Result<bool, Broken>
     ensures { IfOk result (λ says. says ≡ is_some (bounds_in (data_of said.now))) }
 {
     match said.bounds(alloc) {
@@ -62,7 +62,7 @@ fn play_said<J: Naming, F: Families>(
     alloc: Global,
     engine: &mut Engine<J, F>,
     number: u64,
-    said: &Line<'_>,
+    said: &Line<'_, '_>,
 ) -> Result<Result<Reply, Cause>, Broken>
     requires ready { AllSeated J.bounds 1 engine.old }
     ensures goes { IfOk result (λ turned. Goes J.bounds engine.old engine.new (TurnedBy J.bounds (λ refused. value_turn J.bounds refused number (data_of said.now)) turned engine.old engine.new)) }
@@ -86,7 +86,8 @@ fn play_line<J: Naming, F: Families>(
     ensures early { IfOk result (λ turned. OnOk turned (number ≤ limits.MAX_LINES)) }
     ensures same { OnErr result (engine.new ≡ engine.old) }
 {
-    match Line::read(alloc, number, line)? {
+    let mut parts = Parts::new();
+    match Line::read(alloc, number, line, &mut parts)? {
         Err(cause) => Ok(Err(cause)),
         Ok(said) => play_said(alloc, engine, number, &said),
     }

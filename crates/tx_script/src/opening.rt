@@ -14,7 +14,7 @@ use std::io::{BufRead, Write};
 use std::marker::Brand;
 use tx_cells::{Families, FlatCells, Fresh};
 use tx_journal::{Naming, Opened};
-use tx_lines::{Broken, End, Found, read_line};
+use tx_lines::{Broken, End, Found, Parts, read_line};
 use tx_play::engine_of;
 use tx_steps::Line;
 use tx_types::Key;
@@ -29,7 +29,8 @@ fn bounds_at(alloc: Global, first: Found, line: &[u8]) -> Result<Vec<Key>, Broke
     if first != Found::Line {
         return Ok(Vec::new(alloc));
     }
-    match Line::read(alloc, 1, line)? {
+    let mut parts = Parts::new();
+    match Line::read(alloc, 1, line, &mut parts)? {
         Err(_) => Ok(Vec::new(alloc)),
         Ok(said) => match said.bounds(alloc) {
             Err(_) => Err(Broken::Memory),

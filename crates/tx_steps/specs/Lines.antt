@@ -16,7 +16,7 @@ use Rattle.tx_steps.specs.Bounds.{bounds_said}
 
 -- the value that was read
 abbrev pub data_of : Line → Data
-data_of (Plain parts) = array (parts_items parts.items)
+data_of (Plain parts) = array (parts_items parts.now)
 data_of (Other v) = view v
 
 -- the value of a line: it is not too long, there are not too many before it, and it is JSON

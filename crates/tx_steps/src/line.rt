@@ -1,5 +1,5 @@
 //! A line of a script, as it was read: what it says is a step, or there is a cause why it says none.
-ghost use Rattle.std.specs.Prelude.{◌≡◌, option_map, Ok, Err, IfOk, IfErr, MatchResult};
+ghost use Rattle.std.specs.Prelude.{◌≡◌, [], option_map, Ok, Err, IfOk, IfErr, MatchResult};
 ghost use Rattle.tx_types.specs.declared.fault.Fault.TheVariants as fault;
 ghost use Rattle.tx_steps.specs.Steps.{asked};
 ghost use Rattle.tx_steps.specs.Lines.{data_of, data_said, step_in, bounds_in};
@@ -9,26 +9,29 @@ use crate::program::Program;
 use crate::step::{Step, step_of};
 use serde_json::Value;
 use std::alloc::Global;
-use tx_lines::{Broken, Parts, parts_of, scanned, value_of};
+use tx_lines::{Broken, Part, Parts, parts_of, scanned, value_of};
 use tx_types::limits::{MAX_LINE_BYTES, MAX_LINES};
 use tx_types::{Cause, Fault, Key};
 
 /// A line that is JSON: the members of a plain one, or its value.
 #[derive(Drop)]
-pub enum Line<'a> {
-    Plain(Parts<'a>),
+pub enum Line<'p, 'a> {
+    Plain(&'p [Part<'a>]),
     Other(Value),
 }
 
-impl<'a> Line<'a> {
-    /// Reads the line of this number. Causes are looked for in the order `Long`, `Lines`, `Json`.
+impl<'p, 'a> Line<'p, 'a> {
+    /// Reads the line of this number. Causes are looked for in the order `Long`, `Lines`, `Json`. The members of a plain line are
+    /// put into `parts`, which is empty.
     ///
     /// `Memory` where a growth was refused.
     pub fn read(
         alloc: Global,
         number: u64,
         line: &'a [u8],
-    ) -> Result<Result<Line<'a>, Cause>, Broken>
+        parts: &'p mut Parts<'a>,
+    ) -> Result<Result<Line<'p, 'a>, Cause>, Broken>
+        requires { parts.old.items ≡ [] }
         ensures { IfOk result (λ found. MatchResult found (λ l. data_said number line.now ≡ Ok (data_of l)) (λ cause. data_said number line.now ≡ Err cause)) }
     {
         if line.len() > MAX_LINE_BYTES {
@@ -37,8 +40,8 @@ impl<'a> Line<'a> {
         if number > MAX_LINES {
             return Ok(Err(Cause::Lines));
         }
-        if let Some(parts) = scanned(line) {
-            return Ok(Ok(Line::Plain(parts)));
+        if scanned(line, parts) {
+            return Ok(Ok(Line::Plain(parts.as_slice())));
         }
         match value_of(alloc, line)? {
             Ok(value) => Ok(Ok(Line::Other(value))),
@@ -52,7 +55,7 @@ impl<'a> Line<'a> {
         ensures { option_map asked result ≡ step_in program (data_of self.now) }
     {
         match self {
-            Line::Plain(parts) => step_of(program, parts.as_slice()),
+            Line::Plain(parts) => step_of(program, parts),
             Line::Other(value) => step_of(program, parts_of(value)?.as_slice()),
         }
     }
@@ -63,7 +66,7 @@ impl<'a> Line<'a> {
         ensures err { IfErr result (λ e. e ≡ fault.OutOfMemory) }
     {
         match self {
-            Line::Plain(parts) => bounds_of(alloc, parts.as_slice()),
+            Line::Plain(parts) => bounds_of(alloc, parts),
             Line::Other(value) => match parts_of(value) {
                 None => Ok(None),
                 Some(parts) => bounds_of(alloc, parts.as_slice()),

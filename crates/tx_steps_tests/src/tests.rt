@@ -1,7 +1,7 @@
 //! The forms of steps, as worked scripts have them, and the causes why a line says none.
 use std::alloc::Global;
 use std::test::Fail;
-use tx_lines::Broken;
+use tx_lines::{Broken, Parts};
 use tx_steps::{Line, Program};
 use tx_types::{Cause, Key};
 
@@ -156,7 +156,8 @@ static NO_LINES: [(&[u8], u64, Cause); 6] = [
 
 // Whether a line is JSON, and says a step of this program.
 fn says(alloc: Global, program: Program, line: &str) -> Result<bool, Broken> {
-    match Line::read(alloc, 1, line.as_bytes())? {
+    let mut parts = Parts::new();
+    match Line::read(alloc, 1, line.as_bytes(), &mut parts)? {
         Ok(line) => {
             let says = line.step(program).is_some();
             drop(line);
@@ -204,7 +205,8 @@ fn runs_have_no_others(rt: HostRuntime) -> Result<(), Fail> {
 
 // How many keys between regions a line says.
 fn count_bounds(alloc: Global, line: &str) -> Result<Option<usize>, Fail> {
-    match Line::read(alloc, 1, line.as_bytes())? {
+    let mut parts = Parts::new();
+    match Line::read(alloc, 1, line.as_bytes(), &mut parts)? {
         Ok(line) => Ok(count_of(line.bounds(alloc)?)),
         Err(_) => Ok(None),
     }
@@ -224,7 +226,8 @@ fn bounds_are_read(rt: HostRuntime) -> Result<(), Fail> {
 
 // The cause why a line says no value, if it says none.
 fn cause_of(alloc: Global, number: u64, line: &[u8]) -> Result<Option<Cause>, Broken> {
-    match Line::read(alloc, number, line)? {
+    let mut parts = Parts::new();
+    match Line::read(alloc, number, line, &mut parts)? {
         Ok(line) => {
             drop(line);
             Ok(None)

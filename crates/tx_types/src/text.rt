@@ -8,9 +8,10 @@ use bytes::Bytes;
 use std::alloc::{AllocError, Global};
 use std::fmt;
 use std::marker::Model;
+use std::sync::Arc;
 
 /// The most bytes that stand in the value itself.
-const MAX_SHORT_BYTES: usize = 30;
+const MAX_SHORT_BYTES: usize = 22;
 
 // Few bytes: the first of an array.
 #[derive(Clone, Copy)]
@@ -33,11 +34,11 @@ fn short_of(bytes: &[u8]) -> Short
     }
 }
 
-// Bytes, by how many they are.
+// Bytes, by how many they are. Many lie behind one pointer, so that a text is three words large.
 #[derive(Drop)]
 enum Kept {
     Short(Short),
-    Shared(Bytes),
+    Shared(Arc<Bytes>),
 }
 
 /// Bytes. A copy of many shares them. Contracts see the bytes.
@@ -70,7 +71,8 @@ impl Text {
         let kept = if bytes.len() <= MAX_SHORT_BYTES {
             Kept::Short(short_of(bytes))
         } else {
-            Kept::Shared(Bytes::copy_from_slice(alloc, bytes)?)
+            let bytes = Bytes::copy_from_slice(alloc, bytes)?;
+            Kept::Shared(Arc::new(alloc, bytes)?)
         };
         Ok(Text { kept })
     }
@@ -92,7 +94,7 @@ impl Clone for Text {
     fn clone(&self) -> Result<Text, AllocError> {
         let kept = match &self.kept {
             Kept::Short(short) => Kept::Short(*short),
-            Kept::Shared(bytes) => Kept::Shared(bytes.clone()?),
+            Kept::Shared(bytes) => Kept::Shared(Arc::try_clone(bytes)?),
         };
         Ok(Text { kept })
     }

@@ -14,8 +14,8 @@ fn keys_have_1_to_512_bytes(rt: HostRuntime) {
     for (len, wanted) in [
         (0, false),
         (1, true),
-        (30, true),
-        (31, true),
+        (22, true),
+        (23, true),
         (512, true),
         (513, false),
     ] {

@@ -98,9 +98,9 @@ impl FlatCells {
         ensures copies { IfOk result (λ copy. Copies (cells_of (flat_content self.now key.now)) copy) }
         ensures err { IfErr result (λ e. e ≡ Fault.OutOfMemory) }
     {
-        let lock = head_on(&self.locks, alloc, key)?;
-        start_fits(&lock);
         let version = VersionBytes::new(alloc, key, Ts::ZERO)?;
+        let lock = head_on(&self.locks, version.spelt());
+        start_fits(&lock);
         let mut history = FlatHistory {
             writes: &self.writes,
             version,

@@ -69,16 +69,31 @@ impl FlatCells {
         }
     }
 
-    // The value that a read at this timestamp sees of the key. Mostly the newest record is a put or a delete.
+    // The value that a read at this version's timestamp sees of its key. Mostly the newest record is a put or a delete.
+    fn value_seen(
+        &self,
+        alloc: Global,
+        key: &Key,
+        version: VersionBytes,
+        at: Ts,
+    ) -> Result<Option<Value>, Fault>
+        requires { version ≡ (key.now, at) }
+        ensures value { IfOk result (λ value. Reads (cells_of (flat_content self.now key.now)).write at value) }
+        ensures err { IfErr result (λ e. e ≡ Fault.OutOfMemory) }
+    {
+        match newest_seen(&self.writes, &version) {
+            Some((seen, bytes)) => self.value_in(alloc, key, bytes, at, seen),
+            None => self.value_below(alloc, key, version, at),
+        }
+    }
+
+    // The value that a read at this timestamp sees of the key.
     fn value_at(&self, alloc: Global, key: &Key, at: Ts) -> Result<Option<Value>, Fault>
         ensures value { IfOk result (λ value. Reads (cells_of (flat_content self.now key.now)).write at value) }
         ensures err { IfErr result (λ e. e ≡ Fault.OutOfMemory) }
     {
         let version = VersionBytes::new(alloc, key, at)?;
-        match newest_seen(&self.writes, &version) {
-            Some((seen, bytes)) => self.value_in(alloc, key, bytes, at, seen),
-            None => self.value_below(alloc, key, version, at),
-        }
+        self.value_seen(alloc, key, version, at)
     }
 
     /// The same, by the newest record of the key. Mostly that is a put or a delete at the timestamp or below, which takes no
@@ -111,8 +126,9 @@ impl FlatCells {
         ensures shows { IfOk result (λ view. ShowsRead (cells_of (flat_content self.now key.now)) at view) }
         ensures err { IfErr result (λ e. e ≡ Fault.OutOfMemory) }
     {
-        let lock = head_on(&self.locks, alloc, key)?;
-        let value = self.value_at(alloc, key, at)?;
+        let version = VersionBytes::new(alloc, key, at)?;
+        let lock = head_on(&self.locks, version.spelt());
+        let value = self.value_seen(alloc, key, version, at)?;
         Ok(ReadView { lock, value })
     }
 }

@@ -1,20 +1,19 @@
 //! Look-ups in what is held under keys and versions. The versions of a key are from the newest to the oldest.
-ghost use Rattle.std.specs.Prelude.{◌≡◌, ◌≤◌, ℕ, Bool, None, Some, IfSome, IfNone, IsSome, IfOk, option_map};
+ghost use Rattle.std.specs.Prelude.{◌≡◌, ◌≤◌, ℕ, Bool, None, Some, IfSome, IfNone, IsSome, IsTrue, option_map};
 ghost use Rattle.std.specs.BTreeMap as tree;
 ghost use Rattle.std.specs.Ordering.{nat_cmp};
 ghost use Rattle.std.specs.Cmp.Lexicographic.{slice_cmp};
 ghost use Rattle.tx_cells.specs.Spelt.{version_cmp};
 ghost use Rattle.tx_cells.specs.Heads.{write_head, lock_head, record_kind};
-ghost use Rattle.tx_cells.specs.Histories.{IsSeen, IsSeenKind};
+ghost use Rattle.tx_cells.specs.Histories.{IsSeen, IsSeenKind, AreFitting};
 ghost use Rattle.tx_plan.specs.declared.view.RecordHead.TheVariants as head;
 
 use crate::history::{History, Seen};
 use crate::records::{LockBytes, WriteBytes};
 use crate::spelling::{KeyBytes, VersionBytes};
-use std::alloc::{AllocError, Global};
 use std::collections::BTreeMap;
 use tx_plan::{LockHead, RecordHead, RecordKind};
-use tx_types::{Key, LockKind, Ts};
+use tx_types::{LockKind, Ts};
 
 /// What is asked of a write record.
 pub(super) fn head_of(bytes: &WriteBytes) -> RecordHead
@@ -74,20 +73,12 @@ pub(super) fn lock_head_of(bytes: &LockBytes) -> LockHead
 }
 
 /// What is asked of the lock on this key.
-pub(super) fn head_on(
-    locks: &BTreeMap<KeyBytes, LockBytes>,
-    alloc: Global,
-    key: &Key,
-) -> Result<Option<LockHead>, AllocError>
-    ensures { IfOk result (λ head. head ≡ option_map lock_head (tree.get (slice_cmp nat_cmp) locks.now key.now)) }
+pub(super) fn head_on(locks: &BTreeMap<KeyBytes, LockBytes>, key: &KeyBytes) -> Option<LockHead>
+    ensures { result ≡ option_map lock_head (tree.get (slice_cmp nat_cmp) locks.now key.now) }
 {
-    if locks.is_empty() {
-        return Ok(None);
-    }
-    let key = KeyBytes::new(alloc, key)?;
-    match locks.get(&key) {
-        Some(bytes) => Ok(Some(lock_head_of(bytes))),
-        None => Ok(None),
+    match locks.get(key) {
+        Some(bytes) => Some(lock_head_of(bytes)),
+        None => None,
     }
 }
 
@@ -118,6 +109,25 @@ pub(super) fn record_upto<'a>(
         return None;
     }
     Some((version.at(), bytes))
+}
+
+/// Whether each record of a key is older than a start and a commit, by the greatest version that the key may have. None of the
+/// records is read.
+pub(super) fn are_past(
+    writes: &BTreeMap<VersionBytes, WriteBytes>,
+    greatest: &VersionBytes,
+    start: Ts,
+    commit: Ts,
+) -> bool
+    requires greatest { greatest.now.1 ≡ u64.MAX }
+    requires fitting { AreFitting (λ q. tree.get version_cmp writes.now (greatest.now.0, q)) }
+    ensures start { IsTrue result → (q : ℕ) → start ≤ q → tree.get version_cmp writes.now (greatest.now.0, q) ≡ None }
+    ensures commit { IsTrue result → (q : ℕ) → commit ≤ q → tree.get version_cmp writes.now (greatest.now.0, q) ≡ None }
+{
+    match record_upto(writes, greatest) {
+        Some((at, _)) => at < start && at < commit,
+        None => true,
+    }
 }
 
 /// What is asked of the record nearest to a version of its key, at its timestamp or below.

@@ -5,8 +5,8 @@ ghost use Rattle.tx_cells.specs.Contents.{cells_of};
 ghost use Rattle.tx_cells.specs.Heads.{lock_head};
 
 use super::FlatCells;
-use super::searches::{FlatHistory, head_at, head_on};
-use crate::history::{Above, are_past, commits_above};
+use super::searches::{FlatHistory, are_past, head_at, head_on};
+use crate::history::{Above, commits_above};
 use crate::spelling::VersionBytes;
 use std::alloc::Global;
 use tx_plan::{LockHead, TxnView};
@@ -56,13 +56,9 @@ impl FlatCells {
         ensures shows { IfOk result (λ view. Shows (cells_of (flat_content self.now key.now)) start commit view) }
         ensures err { IfErr result (λ e. e ≡ Fault.OutOfMemory) }
     {
-        let lock = head_on(&self.locks, alloc, key)?;
-        let version = VersionBytes::new(alloc, key, start)?;
-        let mut history = FlatHistory {
-            writes: &self.writes,
-            version,
-        };
-        if are_past(&mut history, start, commit) {
+        let version = VersionBytes::new(alloc, key, Ts::new(u64::MAX))?;
+        let lock = head_on(&self.locks, version.spelt());
+        if are_past(&self.writes, &version, start, commit) {
             return Ok(TxnView {
                 lock,
                 at_start: None,
@@ -71,6 +67,6 @@ impl FlatCells {
                 newest_above: None,
             });
         }
-        Ok(self.view_by(history.version, lock, start, commit))
+        Ok(self.view_by(version, lock, start, commit))
     }
 }

@@ -3,7 +3,7 @@ ghost use Rattle.tx_core.specs.Worlds.{route};
 ghost use Rattle.tx_play.specs.Posts.{Showed, Displays};
 
 use super::Post;
-use tx_cells::{Families, KeyCopy};
+use tx_cells::{Families, Shown};
 use tx_journal::{Naming, Told};
 use tx_region::Region;
 use tx_types::{Fault, Key};
@@ -13,7 +13,7 @@ fn show_at<J: Naming, F: Families>(
     region: &mut Region<J, F>,
     newest: &mut Told<J>,
     key: &Key,
-) -> Result<KeyCopy, Fault>
+) -> Result<Shown, Fault>
     ensures { Showed region.old newest.old key.now result region.new newest.new }
 {
     let told = region.copy(newest);
@@ -24,7 +24,7 @@ fn show_at<J: Naming, F: Families>(
 
 impl<J: Naming, F: Families> Post<J, F> {
     /// What the region of a key keeps of it. Memory for that may be refused.
-    pub(crate) fn show_key(&mut self, key: &Key) -> Result<KeyCopy, Fault>
+    pub(crate) fn show_key(&mut self, key: &Key) -> Result<Shown, Fault>
         ensures { Displays (route J.bounds key.now) self.old self.new key.now result }
     {
         let place = self.place(key);

@@ -1,5 +1,5 @@
 //! What a region answers, and what it then holds, in words and numbers.
-use tx_cells::{KeyCopy, RecordAt};
+use tx_cells::{KeyCopy, RecordAt, Shown};
 use tx_plan::{Answer, Infos, RecordHead};
 use tx_types::{Fault, KeyValues, LockInfo};
 
@@ -184,9 +184,9 @@ fn stand(copy: &KeyCopy) -> Stand {
 }
 
 /// What is shown to stand there.
-pub fn stands(copied: Result<KeyCopy, Fault>) -> Option<Stand> {
-    let copy = copied.ok()?;
-    let shown = stand(&copy);
-    drop(copy);
-    Some(shown)
+pub fn stands(shown: Result<Shown, Fault>) -> Option<Stand> {
+    let shown = shown.ok()?;
+    let found = stand(shown.copy());
+    drop(shown);
+    Some(found)
 }

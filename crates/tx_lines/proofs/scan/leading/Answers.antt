@@ -6,7 +6,7 @@ use Rattle.tx_lines.proofs.scan.leading.Goals as goal
 pub parts-init : goal.parts-init
 parts-init c =
     let left = drop c.in_ok-at.at c.args.line.now in
-    (c.in_ok-at.ensures.range, subst (λ parts. ReadParts c.args.line.now parts left) (sym c.new-parts.ensures) (read_none c.args.line.now left c.in_ok-at.ensures.same))
+    (c.in_ok-at.ensures.range, subst (λ parts. ReadParts c.args.line.now parts left) (sym c.requires) (read_none c.args.line.now left c.in_ok-at.ensures.same))
 
 pub returns-then-is_over : goal.returns-then-is_over
 returns-then-is_over c =

@@ -1,7 +1,9 @@
 use Rattle.std.proofs.Common.{◌≡◌, ◌↔◌, ℕ, List, Some, ap, sym, subst, ◌∙◌}
 use Rattle.std.specs.Prelude.{Contains, IsSome, option_map}
 use Rattle.std.specs.BTreeMap as tree
-use Rattle.tx_cells.specs.Heads.{write_head}
+use Rattle.std.specs.Ordering.{nat_cmp}
+use Rattle.std.specs.Cmp.Lexicographic.{slice_cmp}
+use Rattle.tx_cells.specs.Heads.{write_head, lock_head}
 use Rattle.tx_cells.specs.Spelt.{version_cmp}
 use Rattle.tx_cells.specs.Flats.{flat_content}
 use Rattle.tx_cells.proofs.Copied.{copied}
@@ -21,8 +23,10 @@ returns-clause-copies c =
     let values = tree.get version_cmp flat.values in
     let first = ap (λ (v : List ℕ × ℕ). v.0) c.in_ok-version.ensures in
     let key = c.records_down.ensures.same_key ∙ first in
-    let fits = starts_fit x whole c.in_ok-lock.lock c.in_ok-lock.ensures c.start_fits.ensures in
-    copied x (record { lock = c.in_ok-lock.lock; records = c.in_ok-records.records; values = c.in_ok-values.values }) whole c.in_ok-lock.ensures c.in_ok-records.ensures.fall
+    let lock = c.head_on-lock.result in
+    let lock_is = subst (λ (k : List ℕ). lock ≡ option_map lock_head (tree.get (slice_cmp nat_cmp) flat.locks k)) (c.spelt.ensures ∙ first) c.head_on-lock.ensures in
+    let fits = starts_fit x whole lock lock_is c.start_fits.ensures in
+    copied x (record { lock = lock; records = c.in_ok-records.records; values = c.in_ok-values.values }) whole lock_is c.in_ok-records.ensures.fall
     (λ at head. subst (λ (k : List ℕ). Contains c.in_ok-records.records (record { at = at; head = head }) ↔ (option_map write_head (writes (k, at)) ≡ Some head)) first (c.in_ok-records.ensures.all at head))
     c.in_ok-values.ensures.fall
     (λ t. (

@@ -3,6 +3,7 @@ use Rattle.tx_core.specs.Histories.{left, Begins}
 use Rattle.tx_core.proofs.seats.Answering.{left_on}
 use Rattle.tx_core.proofs.seats.Beginnings.{begins_more, extends_begins}
 use Rattle.tx_journal.specs.Known.{Known, HasSeen}
+use Rattle.tx_journal.specs.Replies.{Asked}
 use Rattle.tx_journal.proofs.Calls.{seen_more}
 use Rattle.tx_region.proofs.region.Region.load.Goals as goal
 
@@ -28,5 +29,5 @@ pub returns-clause-heard : goal.returns-clause-heard
 returns-clause-heard g c =
     let learnt = c.learn.new.self.events in
     let point = c.last.new.self.events in
-    let sender = subst (λ h. Begins h learnt) c.copy-told.ensures.copy c.learn.ensures.told in
-    begins_more c.args.told.now learnt point sender (extends_begins c.learn.new.self.seat learnt point c.last.ensures.seen.extends)
+    let heard = subst (λ h. Begins h learnt) (c.tell-heard.ensures.told ∙ ap (λ (r : Asked). r.by) (sym c.tell-heard.ensures.same)) c.learn.ensures.told in
+    begins_more c.tell-heard.new.self.by learnt point heard (extends_begins c.learn.new.self.seat learnt point c.last.ensures.seen.extends)
