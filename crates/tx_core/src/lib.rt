@@ -13,7 +13,8 @@ pub use event::{Declaration, Event, Outcome, Taken, UnknownCause};
 pub use headline::every_run;
 pub use laws::{allowed_stays, decided_async, parts_make_the_whole, prewritten_lock, told_lock};
 pub use tx_plan::{
-    Answer, BatchRollback, Body, CheckSecondaryLocks, CheckTxnStatus, Collect, Commit, Get, Infos,
-    LocksBelow, Prewrite, RaiseSafe, RegionNo, ResolveLock, Scan, Starts, TxnHeartBeat,
+    Answer, BatchRollback, Body, BoxedPrewrite, BoxedScan, CheckSecondaryLocks, CheckTxnStatus,
+    Collect, Commit, Get, Infos, LocksBelow, Prewrite, RaiseSafe, RegionNo, ResolveLock, Scan,
+    Starts, TxnHeartBeat,
 };
 pub use tx_types::SeatNo;

@@ -68,16 +68,16 @@ fn rows_at(alloc: Global, line: &str, from: usize) -> Option<(Vec<Row<'_>>, usiz
 }
 
 /// The members of a line that is an array of at most `MAX_PARTS` strings with no escape, whole numbers that do not begin with
-/// 0, and nulls, which it puts into `parts`, and then of a list of rows where there is one. Of any other line it says nothing, nor
-/// where a growth was refused. `parts` is empty before.
+/// 0, and nulls, which it puts into `parts` in place of what was there, and then of a list of rows where there is one. Of any other
+/// line it says nothing, nor where a growth was refused.
 pub fn scanned_with_rows<'a>(
     alloc: Global,
     line: &'a [u8],
     parts: &mut Parts<'a>,
 ) -> Option<Scanned<'a>>
-    requires { parts.old.items ≡ [] }
     ensures { IfSome result (λ found. json_of line.now ≡ Some (array (scanned_items parts.new.items found))) }
 {
+    parts.clear();
     let Ok(text) = str::from_utf8(line) else {
         return None;
     };

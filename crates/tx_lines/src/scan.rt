@@ -191,13 +191,13 @@ pub(crate) fn leading<'a>(line: &'a str, parts: &mut Parts<'a>) -> Option<Option
     None
 }
 
-/// Puts the members of a line into `parts`, which is empty, where it is an array of one to `MAX_PARTS` strings with no escape,
+/// Puts the members of a line into `parts`, in place of what was there, where it is an array of one to `MAX_PARTS` strings with no escape,
 /// whole numbers that do not begin with 0, and nulls, with spaces between them at most. Of any other line it says nothing: it may
 /// be the same array in another spelling.
 pub fn scanned<'a>(line: &'a [u8], parts: &mut Parts<'a>) -> bool
-    requires { parts.old.items ≡ [] }
     ensures { IsTrue result → json_of line.now ≡ Some (array (parts_items parts.new.items)) }
 {
+    parts.clear();
     let Ok(text) = str::from_utf8(line) else {
         return false;
     };

@@ -12,6 +12,7 @@ use tx_types::Cause;
 /// The value of a line; the cause `Json` where it is no JSON value or not UTF-8.
 ///
 /// `Memory` where a growth was refused.
+#[inline(never)]
 pub fn value_of(alloc: Global, line: &[u8]) -> Result<Result<Value, Cause>, Broken>
     ensures { IfOk result (λ found. MatchResult found (λ value. json_of line.now ≡ Some (view value))
         (λ cause. (cause ≡ Cause.Json) × (json_of line.now ≡ None))) }

@@ -15,8 +15,8 @@ mod walk;
 
 pub use answer::Answer;
 pub use body::{
-    BatchRollback, Body, CheckSecondaryLocks, CheckTxnStatus, Collect, Commit, Get, LocksBelow,
-    Prewrite, RaiseSafe, ResolveLock, Scan, TxnHeartBeat,
+    BatchRollback, Body, BoxedPrewrite, BoxedScan, CheckSecondaryLocks, CheckTxnStatus, Collect,
+    Commit, Get, LocksBelow, Prewrite, RaiseSafe, ResolveLock, Scan, TxnHeartBeat,
 };
 pub use key_change::{KeyChange, Left, NewLock};
 pub use key_records::{KeyCollection, KeyRecords, RecordKind, collect_key};

@@ -126,6 +126,7 @@ impl<J: Naming, F: Families> Engine<J, F> {
     }
 
     // Begins a session at a free place.
+    #[inline(never)]
     fn begin(&mut self, name: &str) -> Result<Reply, Cause>
         requires ready { AllSeated J.bounds 1 self.old }
         ensures goes { Goes J.bounds self.old self.new (Turned J.bounds (begin name.now) result self.old self.new) }
@@ -151,6 +152,7 @@ impl<J: Naming, F: Families> Engine<J, F> {
     }
 
     // The live session of a name acts.
+    #[inline(never)]
     fn act(&mut self, name: &str, deed: &Act<'_>) -> Result<Reply, Cause>
         requires ready { AllSeated J.bounds 1 self.old }
         ensures goes { Goes J.bounds self.old self.new (Turned J.bounds (acts name.now (deed_of deed.now)) result self.old self.new) }
@@ -165,6 +167,7 @@ impl<J: Naming, F: Families> Engine<J, F> {
     }
 
     // The live session of a name answers its outcome, and is gone.
+    #[inline(never)]
     fn finish(&mut self, name: &str) -> Result<Reply, Cause>
         requires ready { AllSeated J.bounds 1 self.old }
         ensures goes { Goes J.bounds self.old self.new (Turned J.bounds (finish name.now) result self.old self.new) }
@@ -195,6 +198,7 @@ impl<J: Naming, F: Families> Engine<J, F> {
     }
 
     // The live session of a name stops, and is gone.
+    #[inline(never)]
     fn stop(&mut self, name: &str) -> Result<Reply, Cause>
         requires ready { AllSeated J.bounds 1 self.old }
         ensures goes { Goes J.bounds self.old self.new (Turned J.bounds (stop name.now) result self.old self.new) }
@@ -220,6 +224,7 @@ impl<J: Naming, F: Families> Engine<J, F> {
     }
 
     // The lock that stood last in the way of the live session of a name is resolved.
+    #[inline(never)]
     fn resolve(&mut self, name: &str, now: Ts) -> Result<Reply, Cause>
         requires ready { AllSeated J.bounds 1 self.old }
         ensures goes { Goes J.bounds self.old self.new (Turned J.bounds (resolve name.now now) result self.old self.new) }
@@ -244,6 +249,7 @@ impl<J: Naming, F: Families> Engine<J, F> {
     }
 
     // A held request is delivered.
+    #[inline(never)]
     fn deliver(&mut self, name: &str) -> Result<Reply, Cause>
         ensures goes { Goes J.bounds self.old self.new (Turned J.bounds (to_deliver name.now) result self.old self.new) }
     {
@@ -251,6 +257,7 @@ impl<J: Naming, F: Families> Engine<J, F> {
     }
 
     // A key is read at a timestamp.
+    #[inline(never)]
     fn read(&mut self, key: &str, at: Ts) -> Result<Reply, Cause>
         ensures goes { Goes J.bounds self.old self.new (Turned J.bounds (read key.now at) result self.old self.new) }
     {
@@ -265,6 +272,7 @@ impl<J: Naming, F: Families> Engine<J, F> {
     }
 
     // What is kept of a key is shown.
+    #[inline(never)]
     fn versions(&mut self, key: &str) -> Result<Reply, Cause>
         ensures goes { Goes J.bounds self.old self.new (Turned J.bounds (to_show key.now) result self.old self.new) }
     {
@@ -272,6 +280,7 @@ impl<J: Naming, F: Families> Engine<J, F> {
     }
 
     // So many ticks are drawn.
+    #[inline(never)]
     fn tick(&mut self, ticks: u32) -> Result<Reply, Cause>
         requires ready { AllSeated J.bounds 1 self.old }
         ensures goes { Goes J.bounds self.old self.new (Turned J.bounds (tick ticks) result self.old self.new) }
@@ -286,6 +295,7 @@ impl<J: Naming, F: Families> Engine<J, F> {
     }
 
     // Old versions are collected at a safe point.
+    #[inline(never)]
     fn gc(&mut self, safe: Ts) -> Result<Reply, Cause>
         requires ready { AllSeated J.bounds 1 self.old }
         ensures goes { Goes J.bounds self.old self.new (Turned J.bounds (gc safe) result self.old self.new) }

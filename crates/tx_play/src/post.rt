@@ -159,8 +159,8 @@ impl<J: Naming, F: Families> Post<J, F> {
     {
         match body {
             Body::Get(body) => self.place(&body.key),
-            Body::Scan(body) => self.place(&body.from),
-            Body::Prewrite(body) => self.place(&body.key),
+            Body::Scan(body) => self.place(&body.asked().from),
+            Body::Prewrite(body) => self.place(&body.asked().key),
             Body::Commit(body) => self.place(&body.key),
             Body::BatchRollback(body) => self.place(&body.key),
             Body::TxnHeartBeat(body) => self.place(&body.key),
@@ -190,6 +190,8 @@ impl<J: Naming, F: Families> Post<J, F> {
     }
 
     // No region takes a request, since memory was refused.
+    #[cold]
+    #[inline(never)]
     fn refuse(&mut self, request: Request<J>) -> Reply<J>
         ensures { IsUntaken self.old self.new request result }
     {
@@ -198,6 +200,8 @@ impl<J: Naming, F: Families> Post<J, F> {
     }
 
     // The region takes a request twice, where there is memory for a copy of it.
+    #[cold]
+    #[inline(never)]
     fn take_twice(&mut self, mut request: Request<J>) -> Reply<J>
         requires { IsHeld J.bounds request.body }
         ensures { IsUntaken self.old self.new request result ⊎ Twice (region_for J.bounds request.body) self.old self.new request result }
@@ -210,6 +214,8 @@ impl<J: Naming, F: Families> Post<J, F> {
     }
 
     // A request is held under a name, where there is memory for that.
+    #[cold]
+    #[inline(never)]
     fn hold(&mut self, name: String, request: Request<J>) -> Result<Reply<J>, Lost>
         requires { IsHeld J.bounds request.body }
         ensures { HeldUnder (string_bytes name) self.old request result self.new }
@@ -367,6 +373,28 @@ impl<J: Naming, F: Families> Sender<Request<J>, Reply<J>> for Post<J, F> {
     ghost keys_between = { λ a. J.bounds };
 
     fn send(&mut self, request: Request<J>) -> Result<Reply<J>, Lost> {
+        if let Some(Way::Plain) = &self.way {
+            return Ok(self.take(request));
+        }
+        self.send_by_way(request)
+    }
+
+    fn bounds(&self) -> &[Key] {
+        self.journal.bounds()
+    }
+}
+
+impl<J: Naming, F: Families> Post<J, F> {
+    ghost use Rattle.tx_client.specs.Senders.{IsHeld};
+    ghost use Rattle.tx_play.specs.Posts.{Passes};
+
+    // Sends a request by the way that is set. Few go otherwise than plainly, so it stands apart.
+    #[cold]
+    #[inline(never)]
+    fn send_by_way(&mut self, request: Request<J>) -> Result<Reply<J>, Lost>
+        requires { IsHeld J.bounds request.body }
+        ensures { Passes J.bounds self.old.way self.old request result self.new }
+    {
         match &self.way {
             None => Ok(self.refuse(request)),
             Some(Way::Plain) => Ok(self.take(request)),
@@ -384,9 +412,5 @@ impl<J: Naming, F: Families> Sender<Request<J>, Reply<J>> for Post<J, F> {
                 Err(_) => Ok(self.refuse(request)),
             },
         }
-    }
-
-    fn bounds(&self) -> &[Key] {
-        self.journal.bounds()
     }
 }

@@ -41,12 +41,12 @@ pub(crate) fn holds(bounds: &[Key], number: u32, body: &Body) -> bool
     ensures { IsTrue result ↔ Holds bounds.now number body.now }
 {
     let key = match body {
-        Body::Scan(body) => return is_within(bounds, number as usize, body),
+        Body::Scan(body) => return is_within(bounds, number as usize, body.asked()),
         Body::RaiseSafe(body) => return body.region.get() == number,
         Body::LocksBelow(body) => return body.region.get() == number,
         Body::Collect(body) => return body.region.get() == number,
         Body::Get(body) => &body.key,
-        Body::Prewrite(body) => &body.key,
+        Body::Prewrite(body) => &body.asked().key,
         Body::Commit(body) => &body.key,
         Body::BatchRollback(body) => &body.key,
         Body::TxnHeartBeat(body) => &body.key,

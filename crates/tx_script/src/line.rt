@@ -48,6 +48,8 @@ fn play_step<J: Naming, F: Families>(
 }
 
 // Whether a line says the keys between the regions.
+#[cold]
+#[inline(never)]
 fn says_regions(alloc: Global, said: &Line<'_, '_>) -> Result<bool, Broken>
     ensures { IfOk result (λ says. says ≡ is_some (bounds_in (data_of said.now))) }
 {
@@ -133,6 +135,8 @@ pub(crate) fn tell<W: Write>(
 }
 
 /// Writes the line of a fault, or the first few bytes of it before a failure.
+#[cold]
+#[inline(never)]
 pub(crate) fn tell_fault<W: Write>(
     writer: &mut W,
     text: &mut Vec<u8>,

@@ -60,6 +60,7 @@ fn max_commit(mode: Mode, members: &[Part<'_>]) -> Option<Option<u64>>
     }
 }
 
+#[inline(never)]
 fn declare<'a>(members: &[Part<'a>]) -> Option<Action<'a>>
     ensures { option_map acted result ≡ declare_said (parts_items members.now) }
 {

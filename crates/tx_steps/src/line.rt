@@ -22,7 +22,7 @@ pub enum Line<'p, 'a> {
 
 impl<'p, 'a> Line<'p, 'a> {
     /// Reads the line of this number. Causes are looked for in the order `Long`, `Lines`, `Json`. The members of a plain line are
-    /// put into `parts`, which is empty.
+    /// put into `parts`, in place of what was there.
     ///
     /// `Memory` where a growth was refused.
     pub fn read(
@@ -31,7 +31,6 @@ impl<'p, 'a> Line<'p, 'a> {
         line: &'a [u8],
         parts: &'p mut Parts<'a>,
     ) -> Result<Result<Line<'p, 'a>, Cause>, Broken>
-        requires { parts.old.items ≡ [] }
         ensures { IfOk result (λ found. MatchResult found (λ l. data_said number line.now ≡ Ok (data_of l)) (λ cause. data_said number line.now ≡ Err cause)) }
     {
         if line.len() > MAX_LINE_BYTES {

@@ -29,6 +29,7 @@ pub(crate) fn sends<'a>(what: Request<'a>, members: &[Part<'a>]) -> Option<Step<
     Some(Step::Send(name, what, delivery_of(rest)?))
 }
 
+#[inline(never)]
 pub(crate) fn get<'a>(members: &[Part<'a>]) -> Option<Step<'a>>
     ensures { option_map asked result ≡ get_said (parts_items members.now) }
 {
@@ -47,6 +48,7 @@ fn range<'m, 'a>(members: &'m [Part<'a>]) -> Option<(Request<'a>, &'m [Part<'a>]
     Some((Request::Scan(from, to, limit), rest))
 }
 
+#[inline(never)]
 pub(crate) fn scan<'a>(members: &[Part<'a>]) -> Option<Step<'a>>
     ensures { option_map asked result ≡ scan_said (parts_items members.now) }
 {
@@ -55,6 +57,7 @@ pub(crate) fn scan<'a>(members: &[Part<'a>]) -> Option<Step<'a>>
     Some(Step::Send(name, scan, delivery_of(rest)?))
 }
 
+#[inline(never)]
 pub(crate) fn heartbeat<'a>(members: &[Part<'a>]) -> Option<Step<'a>>
     ensures { option_map asked result ≡ heartbeat_said (parts_items members.now) }
 {

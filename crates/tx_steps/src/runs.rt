@@ -29,6 +29,7 @@ fn moved<'a>(members: &[Part<'a>]) -> Option<Transfer<'a>>
     }
 }
 
+#[inline(never)]
 pub(crate) fn transfers<'a>(members: &[Part<'a>]) -> Option<Step<'a>>
     ensures { option_map asked result ≡ transfer_said (parts_items members.now) }
 {
@@ -36,6 +37,7 @@ pub(crate) fn transfers<'a>(members: &[Part<'a>]) -> Option<Step<'a>>
     Some(Step::Transfer(name, moved(rest)?))
 }
 
+#[inline(never)]
 pub(crate) fn seed<'a>(members: &[Part<'a>]) -> Option<Step<'a>>
     ensures { option_map asked result ≡ seed_said (parts_items members.now) }
 {

@@ -61,6 +61,7 @@ impl<'a> Step<'a> {
     }
 }
 
+#[inline(never)]
 fn read<'a>(members: &[Part<'a>]) -> Option<Step<'a>>
     ensures { option_map asked result ≡ read_said (parts_items members.now) }
 {
@@ -68,6 +69,7 @@ fn read<'a>(members: &[Part<'a>]) -> Option<Step<'a>>
     Some(Step::Read(key, last_number(rest)?))
 }
 
+#[inline(never)]
 fn tick<'a>(members: &[Part<'a>]) -> Option<Step<'a>>
     ensures { option_map asked result ≡ tick_said (parts_items members.now) }
 {

@@ -114,8 +114,8 @@ impl<J: Naming, F: Families + Drop> Store<J, F> {
     {
         match body {
             Body::Get(body) => self.place(&body.key),
-            Body::Scan(body) => self.place(&body.from),
-            Body::Prewrite(body) => self.place(&body.key),
+            Body::Scan(body) => self.place(&body.asked().from),
+            Body::Prewrite(body) => self.place(&body.asked().key),
             Body::Commit(body) => self.place(&body.key),
             Body::BatchRollback(body) => self.place(&body.key),
             Body::TxnHeartBeat(body) => self.place(&body.key),
@@ -137,7 +137,7 @@ impl<J: Naming, F: Families + Drop> Store<J, F> {
         let place = self.place_of(request.body());
         for _ in rt.forever() {
             let mut region = self.regions[place].region.lock(rt);
-            if region.holds(request.body()) {
+            if region.number().get() as usize == place {
                 return region.take(request);
             }
         }

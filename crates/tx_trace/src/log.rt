@@ -188,8 +188,8 @@ impl Log {
     {
         match body {
             Body::Get(body) => self.read(body, answer),
-            Body::Scan(body) => self.scan(body, answer),
-            Body::Prewrite(body) => self.prewrite(body, answer),
+            Body::Scan(body) => self.scan(body.asked(), answer),
+            Body::Prewrite(body) => self.prewrite(body.asked(), answer),
             Body::Commit(body) => self.tell(body.start, answer),
             Body::BatchRollback(body) => self.tell(body.start, answer),
             Body::TxnHeartBeat(body) => self.tell(body.start, answer),

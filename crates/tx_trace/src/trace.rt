@@ -45,6 +45,7 @@ impl Trace {
     }
 
     /// Goes on with a request that a region took, and its answer.
+    #[inline(never)]
     pub fn took(&mut self, body: &Body, answer: &Answer) -> Result<(), Fault>
         ensures ok { OnOk result ((x : Taken) → x.body ≡ body.now → x.answer ≡ answer.now → Adds self.old (event.Took x) self.new) }
         ensures same { OnErr result (Stays self.old self.new) }
@@ -54,6 +55,7 @@ impl Trace {
     }
 
     /// Goes on with a number that a seat drew.
+    #[inline(never)]
     pub fn drew(&mut self, ts: Ts) -> Result<(), Fault>
         ensures ok { OnOk result ((seat : ℕ) → Adds self.old (event.Drawn seat ts) self.new) }
         ensures same { OnErr result (Stays self.old self.new) }
@@ -63,6 +65,7 @@ impl Trace {
     }
 
     /// Goes on with a transaction that began.
+    #[inline(never)]
     pub fn began(&mut self, start: Ts) -> Result<(), Fault>
         ensures ok { OnOk result (Adds self.old (event.Began start) self.new) }
         ensures same { OnErr result (Stays self.old self.new) }
@@ -72,6 +75,7 @@ impl Trace {
     }
 
     /// Goes on with what a transaction declared.
+    #[inline(never)]
     pub fn declared(&mut self, of: &Declaration) -> Result<(), Fault>
         ensures ok { OnOk result (Adds self.old (event.Declared of.now) self.new) }
         ensures same { OnErr result (Stays self.old self.new) }
@@ -81,6 +85,7 @@ impl Trace {
     }
 
     /// Goes on with what a session answered of its transaction.
+    #[inline(never)]
     pub fn answered(&mut self, start: Ts, outcome: Outcome) -> Result<(), Fault>
         ensures ok { OnOk result (Adds self.old (event.Answered start outcome) self.new) }
         ensures same { OnErr result (Stays self.old self.new) }

@@ -1,8 +1,8 @@
 //! Worked runs, event by event, with the steps that they have.
 use std::test::Fail;
 use tx_core::{
-    Answer, BatchRollback, Body, CheckSecondaryLocks, Commit, Declaration, Event, Get, Outcome,
-    Prewrite, RegionNo, SeatNo, Starts, Taken, UnknownCause,
+    Answer, BatchRollback, Body, BoxedPrewrite, CheckSecondaryLocks, Commit, Declaration, Event,
+    Get, Outcome, Prewrite, RegionNo, SeatNo, Starts, Taken, UnknownCause,
 };
 use tx_machine::{Step, check_trace};
 use tx_trace::Trace;
@@ -77,7 +77,8 @@ fn locked(rt: &HostRuntime, start: u64, name: &[u8], min: u64) -> Result<Event, 
         ttl: 10,
         others: Secondaries::new(rt.alloc()),
     };
-    Ok(took(Body::Prewrite(body), Answer::Prewritten(Ts::new(min))))
+    let body = Body::Prewrite(BoxedPrewrite::new(rt.alloc(), body)?);
+    Ok(took(body, Answer::Prewritten(Ts::new(min))))
 }
 
 fn read(rt: &HostRuntime, at: u64, name: &[u8], found: bool) -> Result<Event, Fault> {

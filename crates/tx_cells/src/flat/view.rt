@@ -16,6 +16,7 @@ impl FlatCells {
     ghost use Rattle.tx_cells.specs.Flats.{flat_content};
 
     // What a request sees of this version's key, whose lock has this head.
+    #[inline(never)]
     fn view_by(
         &self,
         mut version: VersionBytes,

@@ -156,6 +156,7 @@ impl<J: Naming> Session<J> {
     // The read of the part of a range that lies in the region n, where it is not empty.
     fn part_of(
         &self,
+        alloc: Global,
         bounds: &[Key],
         n: usize,
         from: &Key,
@@ -170,7 +171,7 @@ impl<J: Naming> Session<J> {
         let low = low_key(bounds, n, from)?;
         let high = high_key(bounds, n, to)?;
         if low < high {
-            Ok(Some(self.transaction.scan(low, high, limit)?))
+            Ok(Some(self.transaction.scan(alloc, low, high, limit)?))
         } else {
             Ok(None)
         }
@@ -196,6 +197,7 @@ impl<J: Naming> Session<J> {
     // Reads the part of a range that lies in the region n.
     fn read_part<S: Sender<Request<J>, Reply<J>>>(
         &mut self,
+        alloc: Global,
         n: usize,
         from: &Key,
         to: &Key,
@@ -209,7 +211,7 @@ impl<J: Naming> Session<J> {
         ensures { Sends S.sends J.bounds self.old.seat sender.old (part_walk self.old.state (greater from.now (low_of from.now J.bounds n)) (high_of to.now J.bounds n) limit rows) (self.new.state, result) sender.new self.new.seat }
     {
         let left = left(limit, &rows);
-        match self.part_of(sender.bounds(), n, from, to, left) {
+        match self.part_of(alloc, sender.bounds(), n, from, to, left) {
             Err(_) => Part::Done(Err(Miss::NoMemory)),
             Ok(None) => Part::More(rows),
             Ok(Some(body)) => self.look_part(body, limit, rows, sender),
@@ -232,7 +234,7 @@ impl<J: Naming> Session<J> {
     {
         let mut rows = KeyValues::new(alloc);
         for n in 0..sender.bounds().len() + 1 {
-            match self.read_part(n, from, to, limit, rows, sender) {
+            match self.read_part(alloc, n, from, to, limit, rows, sender) {
                 Part::More(more) => rows = more,
                 Part::Done(result) => return result,
             }

@@ -9,7 +9,8 @@ use crate::buffer::{has_keys, key_of, mutation_of, other_keys, place_of};
 use crate::state::{Due, Phase, Terms};
 use std::alloc::Global;
 use tx_core::{
-    BatchRollback, Body, CheckSecondaryLocks, Commit, Get, Prewrite, Scan, TxnHeartBeat,
+    BatchRollback, Body, BoxedPrewrite, BoxedScan, CheckSecondaryLocks, Commit, Get, Prewrite,
+    Scan, TxnHeartBeat,
 };
 use tx_types::{Fate, Fault, Key, Mode, Secondaries, Ts};
 
@@ -62,7 +63,8 @@ impl Transaction {
         let Some(place) = place_of(&self.buffer, Phase::Prewrite) else {
             return Ok(None);
         };
-        let body = Body::Prewrite(self.prewrite_at(alloc, terms, place)?);
+        let body = self.prewrite_at(alloc, terms, place)?;
+        let body = Body::Prewrite(BoxedPrewrite::new(alloc, body)?);
         Ok(Some(Due { place, body }))
     }
 
@@ -248,17 +250,18 @@ impl Transaction {
     }
 
     /// The read of a range.
-    pub(crate) fn scan(&self, from: Key, to: Key, limit: u32) -> Result<Body, Fault>
+    pub(crate) fn scan(&self, alloc: Global, from: Key, to: Key, limit: u32) -> Result<Body, Fault>
         ensures ok { IfOk result (λ body. body ≡ scan_of self.now from to limit) }
         ensures err { IfErr result (λ e. e ≡ Fault.OutOfMemory) }
     {
         let bypass = self.bypass.clone()?;
-        Ok(Body::Scan(Scan {
+        let body = Scan {
             from,
             to,
             at: self.start,
             limit,
             bypass,
-        }))
+        };
+        Ok(Body::Scan(BoxedScan::new(alloc, body)?))
     }
 }

@@ -72,6 +72,7 @@ fn reply_to(entered: Result<(), Fault>) -> Reply
 }
 
 /// A session enters a put into its buffer. `Order` after it declared.
+#[inline(never)]
 pub(crate) fn put<J: Naming>(
     alloc: Global,
     session: &mut Session<J>,
@@ -94,6 +95,7 @@ pub(crate) fn put<J: Naming>(
 }
 
 /// It enters a delete. `Order` after it declared.
+#[inline(never)]
 pub(crate) fn delete<J: Naming>(
     alloc: Global,
     session: &mut Session<J>,
@@ -112,6 +114,7 @@ pub(crate) fn delete<J: Naming>(
 }
 
 /// It enters a lock, where the key is not in its buffer. `Order` after it declared.
+#[inline(never)]
 pub(crate) fn lock<J: Naming>(
     alloc: Global,
     session: &mut Session<J>,
@@ -130,6 +133,7 @@ pub(crate) fn lock<J: Naming>(
 }
 
 /// A session declares its buffer, once.
+#[inline(never)]
 pub(crate) fn declare<J: Naming, F: Families>(
     alloc: Global,
     session: &mut Session<J>,

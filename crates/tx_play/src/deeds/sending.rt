@@ -49,6 +49,7 @@ fn read(came: Result<Answer, Miss>) -> Reply
 }
 
 /// A session draws its commit timestamp, where its state allows it.
+#[inline(never)]
 pub(crate) fn draw<J: Naming, F: Families>(
     session: &mut Session<J>,
     post: &mut Post<J, F>,
@@ -76,6 +77,7 @@ fn get_key<J: Naming, F: Families>(
 }
 
 /// A session reads a key.
+#[inline(never)]
 pub(crate) fn get<J: Naming, F: Families>(
     alloc: Global,
     session: &mut Session<J>,
@@ -128,6 +130,7 @@ fn range(alloc: Global, from: &str, to: &str) -> Result<(Key, Key), Fault>
 }
 
 /// A session reads a range, of so many rows at most.
+#[inline(never)]
 pub(crate) fn scan<J: Naming, F: Families>(
     alloc: Global,
     session: &mut Session<J>,
@@ -149,6 +152,7 @@ pub(crate) fn scan<J: Naming, F: Families>(
 }
 
 /// A session sends the prewrite that is due. `Order` before it declared.
+#[inline(never)]
 pub(crate) fn prewrite<J: Naming, F: Families>(
     alloc: Global,
     session: &mut Session<J>,
@@ -165,6 +169,7 @@ pub(crate) fn prewrite<J: Naming, F: Families>(
 }
 
 /// A session sends the commit that is due, where its state allows one.
+#[inline(never)]
 pub(crate) fn commit<J: Naming, F: Families>(
     session: &mut Session<J>,
     post: &mut Post<J, F>,
@@ -180,6 +185,7 @@ pub(crate) fn commit<J: Naming, F: Families>(
 }
 
 /// A session sends what is due of an abort, where its state allows one.
+#[inline(never)]
 pub(crate) fn abort<J: Naming, F: Families>(
     session: &mut Session<J>,
     post: &mut Post<J, F>,
@@ -195,6 +201,7 @@ pub(crate) fn abort<J: Naming, F: Families>(
 }
 
 /// A session asks that its primary's lock live so long, in ticks. `Order` where it has no primary.
+#[inline(never)]
 pub(crate) fn heartbeat<J: Naming, F: Families>(
     session: &mut Session<J>,
     post: &mut Post<J, F>,

@@ -20,8 +20,8 @@ impl<F: Families> Records<F> {
     {
         match body {
             Body::Get(body) => self.get(loaded, body),
-            Body::Scan(body) => self.scan(loaded, body),
-            Body::Prewrite(body) => self.prewrite(loaded, body),
+            Body::Scan(body) => self.scan(loaded, body.asked()),
+            Body::Prewrite(body) => self.prewrite(loaded, body.asked()),
             Body::Commit(body) => self.commit(body),
             Body::BatchRollback(body) => self.batch_rollback(body),
             Body::TxnHeartBeat(body) => self.txn_heart_beat(body),

@@ -11,6 +11,7 @@ use tx_types::{Fault, Ts};
 
 impl<F: Families> Records<F> {
     /// Answers a CheckTxnStatus, by a seat that loaded `loaded`. `OutOfMemory` leaves the region as it was.
+    #[inline(never)]
     pub fn check_txn_status(&mut self, loaded: Ts, body: &CheckTxnStatus) -> Result<Answer, Fault>
         requires { loaded < u64.MAX }
         ensures ok { IfOk result (λ a. Executes (region_of F.content self.old) loaded (request.CheckTxnStatus body.now) a (region_of F.content self.new)) }

@@ -11,6 +11,7 @@ use tx_types::Fault;
 
 impl<F: Families> Records<F> {
     /// Answers a Collect. `OutOfMemory` leaves the region as it was: what is dropped is counted before the first drop.
+    #[inline(never)]
     pub fn collect(&mut self, body: &Collect) -> Result<Answer, Fault>
         ensures ok { (loaded : ℕ) → IfOk result (λ a. Executes (region_of F.content self.old) loaded (request.Collect body.now) a (region_of F.content self.new)) }
         ensures same { OnErr result (region_of F.content self.new ≡ region_of F.content self.old) }

@@ -11,6 +11,7 @@ use tx_types::Fault;
 
 impl<F: Families> Records<F> {
     /// Answers a LocksBelow. Nothing changes.
+    #[inline(never)]
     pub fn locks_below(&self, body: &LocksBelow) -> Result<Answer, Fault>
         ensures ok { (loaded : ℕ) → IfOk result (λ a. Executes (region_of F.content self.now) loaded (request.LocksBelow body.now) a (region_of F.content self.now)) }
         ensures err { IfErr result (λ e. e ≡ Fault.OutOfMemory) }

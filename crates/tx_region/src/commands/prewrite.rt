@@ -13,6 +13,7 @@ use tx_types::{Fault, Ts};
 
 impl<F: Families> Records<F> {
     /// Answers a Prewrite, by a seat that loaded `loaded`. `OutOfMemory` leaves the region as it was.
+    #[inline(never)]
     pub fn prewrite(&mut self, loaded: Ts, body: &Prewrite) -> Result<Answer, Fault>
         requires room { (loaded < u64.MAX) × (self.old.max_read < u64.MAX) }
         ensures ok { IfOk result (λ a. Executes (region_of F.content self.old) loaded (request.Prewrite body.now) a (region_of F.content self.new)) }

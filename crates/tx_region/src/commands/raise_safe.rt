@@ -10,6 +10,7 @@ use tx_types::Ts;
 
 impl<F: Families> Records<F> {
     /// Answers a RaiseSafe, by a seat that loaded `loaded`. It takes no memory.
+    #[inline(never)]
     pub fn raise_safe(&mut self, loaded: Ts, body: &RaiseSafe) -> Answer
         ensures { Executes (region_of F.content self.old) loaded (request.RaiseSafe body.now) result (region_of F.content self.new) }
     {

@@ -12,6 +12,7 @@ use tx_types::{Fate, Fault, Ts};
 
 impl<F: Families> Records<F> {
     /// Answers a ResolveLock. `OutOfMemory` leaves the region as it was.
+    #[inline(never)]
     pub fn resolve_lock(&mut self, body: &ResolveLock) -> Result<Answer, Fault>
         ensures ok { (loaded : ℕ) → IfOk result (λ a. Executes (region_of F.content self.old) loaded (request.ResolveLock body.now) a (region_of F.content self.new)) }
         ensures same { OnErr result (region_of F.content self.new ≡ region_of F.content self.old) }

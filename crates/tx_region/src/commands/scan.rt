@@ -12,6 +12,7 @@ use tx_types::{Fault, Ts};
 impl<F: Families> Records<F> {
     /// Answers a Scan, by a seat that loaded `loaded`. It raises the greatest timestamp read. `OutOfMemory` leaves the
     /// region as it was.
+    #[inline(never)]
     pub fn scan(&mut self, loaded: Ts, body: &Scan) -> Result<Answer, Fault>
         ensures ok { IfOk result (λ a. Executes (region_of F.content self.old) loaded (request.Scan body.now) a (region_of F.content self.new)) }
         ensures same { OnErr result (region_of F.content self.new ≡ region_of F.content self.old) }

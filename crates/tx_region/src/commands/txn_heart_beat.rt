@@ -11,6 +11,7 @@ use tx_types::Fault;
 
 impl<F: Families> Records<F> {
     /// Answers a TxnHeartBeat. `OutOfMemory` leaves the region as it was.
+    #[inline(never)]
     pub fn txn_heart_beat(&mut self, body: &TxnHeartBeat) -> Result<Answer, Fault>
         ensures ok { (loaded : ℕ) → IfOk result (λ a. Executes (region_of F.content self.old) loaded (request.TxnHeartBeat body.now) a (region_of F.content self.new)) }
         ensures same { OnErr result (region_of F.content self.new ≡ region_of F.content self.old) }

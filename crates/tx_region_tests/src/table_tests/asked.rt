@@ -4,8 +4,8 @@ ghost use Rattle.tx_core.specs.Histories.{History};
 
 use std::alloc::Global;
 use tx_plan::{
-    BatchRollback, Body, CheckSecondaryLocks, CheckTxnStatus, Collect, Commit, Get, LocksBelow,
-    Prewrite, RaiseSafe, ResolveLock, Scan, Starts, TxnHeartBeat,
+    BatchRollback, Body, BoxedPrewrite, BoxedScan, CheckSecondaryLocks, CheckTxnStatus, Collect,
+    Commit, Get, LocksBelow, Prewrite, RaiseSafe, ResolveLock, Scan, Starts, TxnHeartBeat,
 };
 use tx_types::{Fate, Fault, Key, Mode, Mutation, RegionNo, Secondaries, Ts, Value};
 
@@ -78,13 +78,14 @@ fn scan(alloc: Global, from: u8, to: u8, at: u64, limit: u32, bypass: u64) -> Re
     let from = key(alloc, from)?;
     let to = key(alloc, to)?;
     let bypass = starts(alloc, bypass)?;
-    Ok(Body::Scan(Scan {
+    let body = Scan {
         from,
         to,
         at: Ts::new(at),
         limit,
         bypass,
-    }))
+    };
+    Ok(Body::Scan(BoxedScan::new(alloc, body)?))
 }
 
 fn mutation(alloc: Global, what: What) -> Result<Mutation, Fault> {
@@ -116,7 +117,7 @@ fn prewrite(
     let key = key(alloc, byte)?;
     let primary = key.clone()?;
     let mutation = mutation(alloc, what)?;
-    Ok(Body::Prewrite(Prewrite {
+    let body = Prewrite {
         key,
         mutation,
         start: Ts::new(start),
@@ -125,7 +126,8 @@ fn prewrite(
         max_commit: bound(max_commit),
         ttl: 10,
         others: Secondaries::new(alloc),
-    }))
+    };
+    Ok(Body::Prewrite(BoxedPrewrite::new(alloc, body)?))
 }
 
 fn fate(commit: u64) -> Fate {

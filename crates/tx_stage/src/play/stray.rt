@@ -9,7 +9,7 @@ use crate::post::Post;
 use crate::words::{Said, by_came};
 use std::alloc::Global;
 use tx_client::ask;
-use tx_core::{Body, Declaration, Event, Prewrite};
+use tx_core::{Body, BoxedPrewrite, Declaration, Event, Prewrite};
 use tx_journal::{Naming, Seat};
 use tx_types::{Change, Changes, Key, Mode, Mutation, Secondaries, Ts};
 
@@ -42,7 +42,7 @@ fn both_of(alloc: Global, start: Ts, first: &Key, second: &Key) -> Option<Declar
 fn second_of(alloc: Global, start: Ts, first: &Key, second: &Key) -> Option<Body>
     ensures { IfSome result (λ body. body ≡ second_of start first.now second.now) }
 {
-    Some(Body::Prewrite(Prewrite {
+    let body = Prewrite {
         key: second.clone().ok()?,
         mutation: Mutation::Delete,
         start,
@@ -51,7 +51,8 @@ fn second_of(alloc: Global, start: Ts, first: &Key, second: &Key) -> Option<Body
         max_commit: None,
         ttl: 10,
         others: Secondaries::new(alloc),
-    }))
+    };
+    Some(Body::Prewrite(BoxedPrewrite::new(alloc, body).ok()?))
 }
 
 // Records the event, and lets it go.

@@ -1,4 +1,5 @@
-use Rattle.std.proofs.Common.{inl, inr, refl, ◌∙◌}
+use Rattle.std.proofs.Common.{inl, inr, refl, subst, ◌∙◌}
+use Rattle.std.specs.Prelude.{OnOk}
 use Rattle.tx_plan.specs.declared.body.Body.TheVariants as body
 use Rattle.tx_core.specs.Decisions.{fate_in}
 use Rattle.tx_core.specs.Shadow.{reading}
@@ -10,10 +11,10 @@ pub returns-in-Get-clause-ok : goal.returns-in-Get-clause-ok
 returns-in-Get-clause-ok c = on_ok c.read.result (Writes (reading (body.Get c.in-Get.body) c.args.answer.now) c.args.self.now c.read.new.self) (Follow c.args.self.now c.args.body.now c.args.answer.now c.read.new.self) (λ w x e f. get_adds c.args.self.now c.read.new.self c.in-Get.body c.args.answer.now w x (e ∙ c.in-Get.is) f) c.read.ensures.ok
 
 pub returns-in-Scan-clause-ok : goal.returns-in-Scan-clause-ok
-returns-in-Scan-clause-ok c = on_ok c.scan.result (Writes (reading (body.Scan c.in-Scan.body) c.args.answer.now) c.args.self.now c.scan.new.self) (Follow c.args.self.now c.args.body.now c.args.answer.now c.scan.new.self) (λ w x e f. scan_adds c.args.self.now c.scan.new.self c.in-Scan.body c.args.answer.now w x (e ∙ c.in-Scan.is) f) c.scan.ensures.ok
+returns-in-Scan-clause-ok c = on_ok c.scan.result (Writes (reading (body.Scan c.in-Scan.body) c.args.answer.now) c.args.self.now c.scan.new.self) (Follow c.args.self.now c.args.body.now c.args.answer.now c.scan.new.self) (λ w x e f. scan_adds c.args.self.now c.scan.new.self c.in-Scan.body c.args.answer.now w x (e ∙ c.in-Scan.is) f) (subst (λ b. OnOk c.scan.result (Writes (reading (body.Scan b) c.args.answer.now) c.args.self.now c.scan.new.self)) c.asked.ensures c.scan.ensures.ok)
 
 pub returns-in-Prewrite-clause-ok : goal.returns-in-Prewrite-clause-ok
-returns-in-Prewrite-clause-ok c = on_ok c.prewrite.result (Prewrites c.in-Prewrite.body c.args.answer.now c.args.self.now c.prewrite.new.self) (Follow c.args.self.now c.args.body.now c.args.answer.now c.prewrite.new.self) (λ w x e f. prewrite_adds c.args.self.now c.prewrite.new.self c.in-Prewrite.body c.args.answer.now w x (e ∙ c.in-Prewrite.is) f) c.prewrite.ensures.ok
+returns-in-Prewrite-clause-ok c = on_ok c.prewrite.result (Prewrites c.in-Prewrite.body c.args.answer.now c.args.self.now c.prewrite.new.self) (Follow c.args.self.now c.args.body.now c.args.answer.now c.prewrite.new.self) (λ w x e f. prewrite_adds c.args.self.now c.prewrite.new.self c.in-Prewrite.body c.args.answer.now w x (e ∙ c.in-Prewrite.is) f) (subst (λ b. OnOk c.prewrite.result (Prewrites b c.args.answer.now c.args.self.now c.prewrite.new.self)) c.asked-in-Prewrite.ensures c.prewrite.ensures.ok)
 
 pub returns-in-Commit-clause-ok : goal.returns-in-Commit-clause-ok
 returns-in-Commit-clause-ok c = on_ok c.tell.result (Tells c.in-Commit.body.start (fate_in c.args.answer.now) c.args.self.now c.tell.new.self) (Follow c.args.self.now c.args.body.now c.args.answer.now c.tell.new.self) (λ w x e f. commit_adds c.args.self.now c.tell.new.self c.in-Commit.body c.args.answer.now w x (e ∙ c.in-Commit.is) f) c.tell.ensures.ok
