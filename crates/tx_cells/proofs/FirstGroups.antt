@@ -35,14 +35,8 @@ module _ (law : KeysKeepOrder) (m n a b : ℕ) (s t j k : List ℕ) (p : SpellsK
   pub first_decides : m ≢ n → compare j k ≡ nat_cmp m n
   first_decides ne = parts ∙ tied (nat_cmp m n) (ordering_then (nat_cmp a b) (compare s t)) (λ e. ne (exact_unsigned m n e))
 
-  after_first : m ≡ n → compare j k ≡ ordering_then (nat_cmp a b) (compare s t)
-  after_first same = parts ∙ ap (λ (o : Ordering). ordering_then o (ordering_then (nat_cmp a b) (compare s t))) (ap (nat_cmp m) (sym same) ∙ equals m)
-
-  pub marker_decides : m ≡ n → a ≢ b → compare j k ≡ nat_cmp a b
-  marker_decides same ne = after_first same ∙ tied (nat_cmp a b) (compare s t) (λ e. ne (exact_unsigned a b e))
-
-  pub rest_decides : m ≡ n → a ≡ b → compare j k ≡ compare s t
-  rest_decides same alike = after_first same ∙ ap (λ (o : Ordering). ordering_then o (compare s t)) (ap (nat_cmp a) (sym alike) ∙ equals a)
+  pub behind_decides : m ≡ n → compare j k ≡ ordering_then (nat_cmp a b) (compare s t)
+  behind_decides same = parts ∙ ap (λ (o : Ordering). ordering_then o (ordering_then (nat_cmp a b) (compare s t))) (ap (nat_cmp m) (sym same) ∙ equals m)
 
 -- a key that is shorter than a group
 pub short_spells : (key : List ℕ) (first : ℕ) → first < 2 ^ 64 → IsKey key → length key < 8 → to_be_bytes w64 first ≡ key ++ replicate (8 - length key) 0 → SpellsKey first (255 - (8 - length key)) [] key
@@ -52,6 +46,13 @@ short_spells key first fits is lt e = (fits, is, ap (λ (w : List ℕ). w ++ (25
 pub long_spells : (key rest : List ℕ) (first : ℕ) → first < 2 ^ 64 → IsKey key → 8 ≤ length key → to_be_bytes w64 first ≡ take 8 key → rest ≡ encoded_key (drop 8 key) → SpellsKey first 255 rest key
 long_spells key rest first fits is le e encoded =
     (fits, is, ap (λ (w : List ℕ). w ++ 255 ∷ rest) e ∙ ap (λ (w : List ℕ). take 8 key ++ 255 ∷ w) encoded ∙ sym (encoded_key-split key le))
+
+-- a key that has a whole group and a part of one more
+pub middling_spells : (key : List ℕ) (first last : ℕ) → first < 2 ^ 64 → IsKey key → 8 ≤ length key → length key < 16 → to_be_bytes w64 first ≡ take 8 key
+    → to_be_bytes w64 last ≡ drop 8 key ++ replicate (8 - length (drop 8 key)) 0 → SpellsKey first 255 (to_be_bytes w64 last ++ (255 - (8 - length (drop 8 key))) ∷ []) key
+middling_spells key first last fits is le lt e behind =
+    long_spells key (to_be_bytes w64 last ++ (255 - (8 - length (drop 8 key))) ∷ []) first fits is le e
+    (ap (λ (w : List ℕ). w ++ (255 - (8 - length (drop 8 key))) ∷ []) behind ∙ sym (encoded_key-last (drop 8 key) (omega (arith, lt, length-drop 8 key))))
 
 -- two groups, written one behind the other
 pub two_groups : (first zeros second : List ℕ) → length first ≡ 8 → length zeros ≡ 8 → put_mid 8 8 (first ++ zeros) second ≡ first ++ second

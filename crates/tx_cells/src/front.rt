@@ -4,7 +4,7 @@ ghost use Rattle.tx_codec.specs.Keys.{encoded_key};
 ghost use Rattle.tx_cells.specs.Spelt.{spelt};
 ghost use Rattle.tx_cells.specs.declared.front.TheConstants.{MAX_ENCODED_REST};
 
-use crate::spelling::VersionBytes;
+use crate::spelling::{ROOM, VersionBytes};
 use std::marker::Model;
 
 /// The most bytes of an encoded key behind its first group: 9 for each 8 bytes of the longest key.
@@ -46,7 +46,8 @@ impl Front {
     pub fn is_of(&self, version: &VersionBytes) -> bool
         ensures { result ≡ bytes_eq self.now (encoded_key version.now.0) }
     {
-        let (first, marker, rest) = version.spelt().parts();
+        let mut room = [0; ROOM];
+        let (first, marker, rest) = version.spelt().parts(&mut room);
         self.is_there
             && self.first == first
             && self.marker == marker
@@ -57,7 +58,8 @@ impl Front {
     pub fn set(&mut self, version: &VersionBytes)
         ensures { self.new ≡ encoded_key version.now.0 }
     {
-        let (first, marker, rest) = version.spelt().parts();
+        let mut room = [0; ROOM];
+        let (first, marker, rest) = version.spelt().parts(&mut room);
         self.is_there = true;
         self.first = first;
         self.marker = marker;

@@ -1,2 +1,3 @@
--- The order of bytes of which one has ended.
+-- What the proofs of this crate share.
 pub mod ByteOrder
+pub mod Parts

@@ -23,6 +23,7 @@ pub use lock::{LockFacts, LockInfo, LockMode, LockRec};
 pub use mutation::{Change, Fate, KeyValue, LockKind, Mode, Mutation, StoredMutation};
 pub use region_no::RegionNo;
 pub use seat_no::SeatNo;
+pub use text::Text;
 pub use ts::Ts;
 pub use value::{InlineValue, StoredValue, Value};
 pub use write::{CommitRec, WriteRec};

@@ -1,5 +1,5 @@
 //! Bytes that stand in the value itself where they are few, and else in memory that its copies share.
-ghost use Rattle.std.specs.Prelude.{◌≡◌, ◌≤◌, length, take, nat_eq, IfOk};
+ghost use Rattle.std.specs.Prelude.{◌≡◌, ◌≤◌, ◌+◌, ◌++◌, length, take, nat_eq, IfOk};
 ghost use Rattle.std.specs.Cmp.Lexicographic.{pointwise, nat_list_eq_equiv};
 ghost use Rattle.std.specs.Cmp.{partial_equiv_from_equiv};
 ghost use Rattle.tx_types.specs.declared.text.TheConstants.{MAX_SHORT_BYTES};
@@ -34,6 +34,22 @@ fn short_of(bytes: &[u8]) -> Short
     }
 }
 
+// The same of two parts, one behind the other.
+fn short_of_two(front: &[u8], back: &[u8]) -> Short
+    requires { length front.now + length back.now ≤ MAX_SHORT_BYTES }
+    ensures len { result.len ≡ length front.now + length back.now }
+    ensures bytes { take (length front.now + length back.now) result.bytes ≡ front.now ++ back.now }
+{
+    let mut kept = [0; MAX_SHORT_BYTES];
+    let len = front.len() + back.len();
+    kept[..front.len()].copy_from_slice(front);
+    kept[front.len()..len].copy_from_slice(back);
+    Short {
+        len: len as u8,
+        bytes: kept,
+    }
+}
+
 // Bytes, by how many they are. Many lie behind one pointer, so that a text is three words large.
 #[derive(Drop)]
 enum Kept {
@@ -41,8 +57,8 @@ enum Kept {
     Shared(Arc<Bytes>),
 }
 
-/// Bytes. A copy of many shares them. Contracts see the bytes.
-pub(crate) struct Text {
+/// Bytes. Up to 22 stand in the value itself, which is three words large; a copy of more shares them. Contracts see the bytes.
+pub struct Text {
     kept: Kept,
 }
 
@@ -75,6 +91,20 @@ impl Text {
             Kept::Shared(Arc::new(alloc, bytes)?)
         };
         Ok(Text { kept })
+    }
+
+    /// The bytes of two parts, one behind the other.
+    pub fn of_two(alloc: Global, front: &[u8], back: &[u8]) -> Result<Text, AllocError>
+        ensures ok { IfOk result (λ text. text ≡ front.now ++ back.now) }
+    {
+        if front.len() <= MAX_SHORT_BYTES && back.len() <= MAX_SHORT_BYTES - front.len() {
+            let kept = Kept::Short(short_of_two(front, back));
+            return Ok(Text { kept });
+        }
+        let mut bytes = Vec::with_capacity(alloc, front.len().saturating_add(back.len()))?;
+        bytes.extend_from_slice(front)?;
+        bytes.extend_from_slice(back)?;
+        Text::new(alloc, bytes.as_slice())
     }
 
     /// Its bytes.

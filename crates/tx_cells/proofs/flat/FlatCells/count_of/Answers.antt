@@ -1,17 +1,14 @@
-use Rattle.std.proofs.Common.{◌≡◌, ℕ, ◌+◌, Bool, true, false, List, ◌∷◌, Option, Some, None, refl, sym, ap, subst, ◌∙◌}
+use Rattle.std.proofs.Common.{◌≡◌, ℕ, ◌+◌, true, false, List, Some, None, refl, sym, subst, ◌∙◌}
 use Rattle.std.specs.BTreeMap as tree
 use Rattle.std.specs.Prelude.{option_map}
 use Rattle.std.specs.Ordering.{nat_cmp}
 use Rattle.std.specs.Cmp.Lexicographic.{slice_cmp}
 use Rattle.tx_cells.specs.Contents.{lock_of}
-use Rattle.tx_plan.specs.Cells.{is_long}
-use Rattle.tx_plan.specs.cases.Collect.{commit_is}
 use Rattle.tx_cells.specs.Flats.{flat_content}
-use Rattle.tx_cells.specs.Sieves.{writes_of}
 use Rattle.tx_cells.specs.Spelt.{version_cmp}
 use Rattle.tx_cells.proofs.Facts.{whole_at}
 use Rattle.tx_cells.proofs.RecordKinds.{kind_is, apart_is}
-use Rattle.tx_cells.proofs.Sieving.{Version, Place, AreLeft, Knows, Goes, keeps_at, says, knows_on, left_rest, left_all, knows_none, first_is, on}
+use Rattle.tx_cells.proofs.Sieving.{AreLeft, Goes, keeps_at, says, knows_on, left_rest, left_all, knows_none, first_is}
 use Rattle.tx_cells.proofs.SieveCounts.{Counted, count_starts, count_stays, count_long, count_short, count_ends}
 use Rattle.tx_cells.proofs.flat.FlatCells.count_of.Goals as goal
 

@@ -1,17 +1,15 @@
-use Rattle.std.proofs.Common.{◌≡◌, ◌<◌, ◌^◌, ℕ, List, Bool, true, false, Some, None, ap, sym, subst, ◌∙◌, refl, arith}
+use Rattle.std.proofs.Common.{sym, subst}
 use Rattle.std.specs.BTreeMap as tree
 use Rattle.std.specs.Ordering.{nat_cmp}
 use Rattle.std.specs.Cmp.Lexicographic.{slice_cmp}
 use Rattle.tx_types.specs.declared.lock.LockRec.{LockRec}
-use Rattle.tx_types.specs.declared.write.WriteRec.TheVariants.{Commit}
 use Rattle.tx_plan.specs.declared.key_change.KeyChange.TheVariants as change
-use Rattle.tx_cells.specs.Contents.{OnKey}
-use Rattle.tx_cells.specs.Afterwards.{OnlyOn, after, with_ttl, with_min}
+use Rattle.tx_cells.specs.Afterwards.{after, with_min}
 use Rattle.tx_cells.specs.Spelt.{version_cmp}
 use Rattle.tx_cells.specs.Flats.{flat_content}
 use Rattle.tx_cells.proofs.WholeAfter.{whole_after}
-use Rattle.tx_cells.proofs.FlatMaps.{Locks, Writes, Values, AllWhole, content_by, same_keys, same_versions, whole_on, off_version}
-use Rattle.tx_cells.proofs.FlatChanges.{either, VersionChanged, relocked, committed, rolled_back, left_only}
+use Rattle.tx_cells.proofs.FlatMaps.{Locks, AllWhole, content_by, same_keys, whole_on}
+use Rattle.tx_cells.proofs.FlatChanges.{either, relocked}
 use Rattle.tx_cells.proofs.flat.FlatCells.set_minimum.Goals as goal
 
 pub invariant_of-self : goal.invariant_of-self

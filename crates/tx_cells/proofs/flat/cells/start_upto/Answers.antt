@@ -1,4 +1,4 @@
-use Rattle.std.proofs.Common.{◌≡◌, refl, ap, sym}
+use Rattle.std.proofs.Common.{refl, ap}
 use Rattle.std.specs.Prelude.{is_some}
 use Rattle.tx_cells.proofs.Nearest.{from_none, from_found, from_nearest, from_other}
 use Rattle.tx_cells.proofs.flat.cells.start_upto.Goals as goal

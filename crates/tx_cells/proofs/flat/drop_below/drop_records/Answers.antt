@@ -1,11 +1,9 @@
-use Rattle.std.proofs.Common.{◌≡◌, ℕ, Bool, true, false, not, cond, List, ◌∷◌, ◌&&◌, Option, Some, None, refl, sym, ap, subst, ◌∙◌, inl, inr}
+use Rattle.std.proofs.Common.{◌≡◌, ℕ, false, not, cond, List, ◌&&◌, Some, None, refl, sym, ap, ◌∙◌, inl, inr}
 use Rattle.std.specs.Prelude.{◌||◌, nat_lt}
 use Rattle.std.proofs.lemmas.Bool.{cases_Bool}
 use Rattle.tx_codec.specs.Keys.{encoded_key}
 use Rattle.tx_cells.specs.Heads.{record_kind}
 use Rattle.tx_cells.specs.Sieves.{is_followed, is_kept}
-use Rattle.tx_types.specs.declared.value.Value.{Value}
-use Rattle.tx_types.specs.declared.write.WriteRec.{WriteRec}
 use Rattle.std.specs.BTreeMap as tree
 use Rattle.tx_cells.specs.Spelt.{version_cmp}
 use Rattle.tx_cells.proofs.Retaining.{Sifted, sifts}

@@ -1,9 +1,8 @@
-use Rattle.std.proofs.Common.{◌≡◌, inl, inr, ◌<◌, ◌≤◌, ◌==◌, ◌&&◌, not, ℕ, List, true, false, Some, None, ap, sym, subst, refl, ◌∙◌, arith}
+use Rattle.std.proofs.Common.{◌≡◌, inl, inr, ◌==◌, ◌&&◌, not, ℕ, List, true, false, ap, sym, subst, refl, ◌∙◌}
 use Rattle.std.specs.BTreeMap as tree
 use Rattle.std.proofs.lemmas.Bool.{cases_lt}
-use Rattle.tx_types.specs.declared.write.WriteRec.{WriteRec}
 use Rattle.tx_plan.specs.declared.key_records.RecordKind.{RecordKind}
-use Rattle.tx_cells.specs.Heads.{record_kind, is_rollback, start_in}
+use Rattle.tx_cells.specs.Heads.{is_rollback, start_in}
 use Rattle.tx_cells.specs.Spelt.{version_cmp}
 use Rattle.tx_cells.proofs.Outdating.{climb_ends, climb_passes, climb_found, climb_commit, climb_other}
 use Rattle.tx_cells.proofs.flat.drop_below.is_outdated.Goals as goal

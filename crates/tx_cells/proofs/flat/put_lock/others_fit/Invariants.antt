@@ -1,6 +1,5 @@
-use Rattle.std.proofs.Common.{◌≡◌, ◌≤◌, length, take}
+use Rattle.std.proofs.Common.{take}
 use Rattle.std.specs.List.{AllByRecursion}
-use Rattle.tx_types.specs.declared.limits.TheConstants.{MAX_SECONDARIES}
 use Rattle.tx_codec.specs.Keys.{IsKey}
 use Rattle.tx_cells.proofs.flat.put_lock.others_fit.Given as goal
 

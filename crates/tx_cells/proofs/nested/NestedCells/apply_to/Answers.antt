@@ -5,8 +5,8 @@ use Rattle.std.specs.BTreeMap as tree
 use Rattle.tx_plan.specs.Changes.{Applies, changed}
 use Rattle.tx_cells.specs.declared.nested.key.KeyFamilies.{KeyFamilies}
 use Rattle.tx_cells.specs.Contents.{OnKey, cells_of}
-use Rattle.tx_cells.specs.Afterwards.{OnlyOn, after}
-use Rattle.tx_cells.specs.Nested.{held, held_on, nested_content}
+use Rattle.tx_cells.specs.Afterwards.{after}
+use Rattle.tx_cells.specs.Nested.{held, held_on}
 use Rattle.tx_cells.proofs.Facts.{on_ok, on_err}
 use Rattle.tx_cells.proofs.NestedMaps.{placed, unplaced, first_placed, at_key}
 use Rattle.tx_cells.proofs.nested.NestedCells.apply_to.Goals as goal

@@ -1,5 +1,5 @@
-use Rattle.std.proofs.Common.{◌≡◌, ℕ, ◌+◌, List, ◌∷◌, length, sym, ap, subst, ◌∙◌}
-use Rattle.tx_plan.specs.Walks.{KeyRow, IsWalk, every_key}
+use Rattle.std.proofs.Common.{◌+◌, ◌∷◌, length, sym, ap, subst, ◌∙◌}
+use Rattle.tx_plan.specs.Walks.{KeyRow}
 use Rattle.tx_plan.proofs.Counting.{DroppedTo, drop_starts, drop_more}
 use Rattle.tx_cells.specs.Contents.{cells_in, cells_of}
 use Rattle.tx_cells.specs.Nested.{held, nested_content, key_rows}

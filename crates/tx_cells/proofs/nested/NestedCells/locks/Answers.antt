@@ -1,5 +1,4 @@
 use Rattle.std.proofs.Common.{sym, subst}
-use Rattle.std.specs.List.{filter}
 use Rattle.tx_plan.specs.Walks.{IsLockWalk}
 use Rattle.tx_cells.specs.Contents.{cells_in}
 use Rattle.tx_cells.specs.Nested.{nested_content, lock_rows}

@@ -2,11 +2,10 @@ use Rattle.std.proofs.Common.{◌≡◌, Some, None, Option, sym, ap, ◌∙◌,
 use Rattle.std.specs.Cmp.Lexicographic.{slice_cmp}
 use Rattle.std.specs.Ordering.{nat_cmp}
 use Rattle.std.specs.BTreeMap as tree
-use Rattle.tx_types.specs.declared.key.Key.{Key}
 use Rattle.tx_cells.specs.declared.nested.key.KeyFamilies.{KeyFamilies}
 use Rattle.tx_cells.specs.Contents.{OnKey, cells_of}
-use Rattle.tx_cells.specs.Afterwards.{OnlyOn, put_on}
-use Rattle.tx_cells.specs.Nested.{held, held_on, nested_content}
+use Rattle.tx_cells.specs.Afterwards.{put_on}
+use Rattle.tx_cells.specs.Nested.{held_on, nested_content}
 use Rattle.tx_cells.proofs.Facts.{on_ok, on_err}
 use Rattle.tx_cells.proofs.CellsAfter.{cells_put}
 use Rattle.tx_cells.proofs.NestedMaps.{placed, unplaced, first_placed}

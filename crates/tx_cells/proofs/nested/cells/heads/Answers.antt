@@ -1,8 +1,8 @@
-use Rattle.std.proofs.Common.{◌≡◌, ◌++◌, ◌∷◌, [], List, ℕ, ap, sym, ◌∙◌}
+use Rattle.std.proofs.Common.{◌++◌, ◌∷◌, [], List, ℕ, ap, sym, ◌∙◌}
 use Rattle.tx_types.specs.declared.write.WriteRec.{WriteRec}
 use Rattle.tx_cells.specs.declared.copies.RecordAt.{RecordAt}
 use Rattle.tx_plan.specs.declared.view.RecordHead.{RecordHead}
-use Rattle.tx_cells.specs.Copies.{records_down, record_at}
+use Rattle.tx_cells.specs.Copies.{records_down}
 use Rattle.tx_cells.proofs.Copying.{records_step}
 use Rattle.tx_cells.proofs.nested.cells.heads.Goals as goal
 

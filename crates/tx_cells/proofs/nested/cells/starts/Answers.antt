@@ -1,4 +1,4 @@
-use Rattle.std.proofs.Common.{◌≡◌, ◌++◌, ◌∷◌, [], List, ℕ, ap, sym, ◌∙◌}
+use Rattle.std.proofs.Common.{◌++◌, List, ℕ, ap, sym, ◌∙◌}
 use Rattle.tx_types.specs.declared.value.Value.{Value}
 use Rattle.tx_cells.specs.Copies.{starts_down}
 use Rattle.tx_cells.proofs.Copying.{starts_step}

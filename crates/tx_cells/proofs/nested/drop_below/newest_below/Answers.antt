@@ -1,4 +1,3 @@
-use Rattle.std.specs.BTreeMap as tree
 use Rattle.tx_cells.proofs.Maps.{lt_none, less_of}
 use Rattle.tx_cells.proofs.nested.drop_below.newest_below.Goals as goal
 

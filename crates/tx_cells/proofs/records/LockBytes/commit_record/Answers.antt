@@ -1,4 +1,4 @@
-use Rattle.std.proofs.Common.{rules}
+use Rattle.std.proofs.Common.{rules, append-nil}
 use Rattle.tx_types.specs.declared.write.WriteRec.TheVariants as stored
 use Rattle.tx_cells.specs.Afterwards.{commit_of}
 use Rattle.tx_cells.proofs.LockEnds.{commit_spelt}
@@ -11,7 +11,7 @@ invariant_of-result c =
         stored.Commit (commit_of lock.0 c.args.overlapped_rollback),
         (
           record { start = lock.1.0.start; mutation = lock.1.0.mutation },
-          rw (c.in_ok-extend_from_slice-2.ensures.items, c.in_ok-extend_from_slice.ensures.items, c.in_ok-push-2.ensures.items, c.in_ok-push.ensures.items, c.in_ok-bytes.ensures.items, c.as_slice-lock.ensures.value) (commit_spelt c.self.inside.bytes.items lock.0 c.self.inside.value c.args.overlapped_rollback c.from.result lock.1 (c.self.inside.place lock.0 lock.1) (search rules)),
+          rw (c.in_ok-bytes.ensures.ok, append-nil c.copy_from_slice.new.self, c.copy_from_slice.ensures.after, c.as_slice-lock.ensures.value) (commit_spelt c.self.inside.bytes.items lock.0 c.self.inside.value c.args.overlapped_rollback c.from.result lock.1 (c.self.inside.place lock.0 lock.1) (search rules)),
         ),
       ),
       tt,

@@ -1,19 +1,17 @@
-use Rattle.std.proofs.Common.{◌≡◌, ◌<◌, ◌^◌, true, false, Bool, Some, None, ap, sym, subst, ◌∙◌, ℕ, Option, arith}
+use Rattle.std.proofs.Common.{◌≡◌, ◌<◌, ◌^◌, None, ap, sym, subst, ◌∙◌, ℕ, Option, arith}
 use Rattle.std.specs.BTreeMap as tree
 use Rattle.std.specs.Ordering.{nat_cmp}
-use Rattle.tx_types.specs.declared.value.Value.{Value}
 use Rattle.tx_types.specs.declared.lock.LockRec.{LockRec}
 use Rattle.tx_types.specs.declared.write.WriteRec.{WriteRec}
 use Rattle.tx_types.specs.declared.write.WriteRec.TheVariants.{Commit}
 use Rattle.tx_plan.specs.declared.key_change.KeyChange.TheVariants as change
-use Rattle.tx_cells.specs.Contents.{OnKey, IsWhole, cells_of}
-use Rattle.tx_cells.specs.Afterwards.{after, after_left, with_lock, with_ttl, with_min, with_record, without_value, commit_of}
+use Rattle.tx_cells.specs.Contents.{IsWhole}
+use Rattle.tx_cells.specs.Afterwards.{after, with_record, commit_of}
 use Rattle.tx_cells.specs.Nested.{held}
-use Rattle.tx_cells.proofs.Facts.{stays_whole, lock_alone, on_ok}
-use Rattle.tx_cells.proofs.Maps.{same_maps, with_at, without_at}
+use Rattle.tx_cells.proofs.Facts.{stays_whole}
+use Rattle.tx_cells.proofs.Maps.{same_maps, with_at}
 use Rattle.tx_cells.proofs.NestedMaps.{on_key, same_gets}
 use Rattle.tx_cells.proofs.WholeAfter.{whole_after, on_same}
-use Rattle.tx_cells.proofs.CellsAfter.{cells_after}
 use Rattle.tx_cells.proofs.nested.key.KeyFamilies.commit.Goals as goal
 
 pub invariant_of-self : goal.invariant_of-self

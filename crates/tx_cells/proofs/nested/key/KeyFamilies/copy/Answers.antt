@@ -1,4 +1,4 @@
-use Rattle.std.proofs.Common.{◌≡◌, List, ℕ, sym, subst}
+use Rattle.std.proofs.Common.{List, ℕ, sym, subst}
 use Rattle.std.specs.Prelude.{Contains}
 use Rattle.tx_cells.specs.declared.copies.RecordAt.{RecordAt}
 use Rattle.tx_cells.specs.Nested.{held}

@@ -1,8 +1,7 @@
-use Rattle.std.proofs.Common.{◌≡◌, Option, ℕ, sym, ap, subst, ◌∙◌}
+use Rattle.std.proofs.Common.{Option, ℕ, sym, ap, subst, ◌∙◌}
 use Rattle.std.specs.BTreeMap as tree
 use Rattle.std.specs.Ordering.{nat_cmp}
 use Rattle.tx_types.specs.declared.write.WriteRec.{WriteRec}
-use Rattle.tx_plan.specs.cases.Collect.{kept}
 use Rattle.tx_cells.specs.Contents.{OnKey, cells_of}
 use Rattle.tx_cells.specs.Afterwards.{Collected}
 use Rattle.tx_cells.specs.Drops.{goes_below}

@@ -1,4 +1,4 @@
-use Rattle.std.proofs.Common.{◌≡◌, ap, sym, subst, ◌∙◌, ℕ, Option}
+use Rattle.std.proofs.Common.{sym, subst, ◌∙◌, ℕ, Option}
 use Rattle.std.specs.BTreeMap as tree
 use Rattle.std.specs.Ordering.{nat_cmp}
 use Rattle.tx_types.specs.declared.value.Value.{Value}
