@@ -10,6 +10,8 @@ pub mod Leaves
 pub mod ListedRows
 -- The text of a line, part by part.
 pub mod Texts
+-- Bytes that stand for themselves in a string, a block at a time.
+pub mod Plains
 -- Lists, entry by entry.
 pub mod Lists
 pub mod StepLines

@@ -13,6 +13,7 @@ mod list;
 mod listed;
 mod output;
 mod part;
+mod plain;
 mod reply;
 mod rows;
 mod scan;

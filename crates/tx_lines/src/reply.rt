@@ -6,7 +6,7 @@ ghost use Rattle.tx_lines.specs.Texts.{members_text};
 
 use crate::answer::put_answer;
 use crate::status::put_status;
-use crate::text::{put_digits, put_number, put_stamped};
+use crate::text::{put_digits, put_end, put_number, put_stamped};
 use crate::versions::put_copy;
 use std::alloc::AllocError;
 use tx_cells::Shown;
@@ -119,5 +119,5 @@ pub fn put_reply(out: &mut Vec<u8>, number: u64, reply: &Reply) -> Result<(), Al
     out.push(b'[')?;
     put_digits(out, number)?;
     put_words(out, reply)?;
-    out.extend_from_slice(b"]\n")
+    put_end(out)
 }

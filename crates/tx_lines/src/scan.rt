@@ -1,6 +1,7 @@
 //! A line that is an array of strings, numbers and nulls, by a scan of its bytes. A line with an escape, or of another shape, is
 //! left to others.
-ghost use Rattle.std.specs.Prelude.{◌≡◌, ◌≢◌, ◌<◌, ◌≤◌, ◌-◌, ◌∷◌, [], length, drop, slice_range, Some, IsTrue, IfSome, MatchOption};
+ghost use Rattle.std.specs.Prelude.{◌≡◌, ◌≢◌, ◌<◌, ◌≤◌, ◌-◌, ◌∷◌, ℕ, [], length, get_or, drop, slice_range, false, Some, IsTrue, IfSome, MatchOption};
+ghost use Rattle.tx_lines.specs.Plain.{is_stop};
 ghost use Rattle.json.specs.Token.{string as string_token, null as null_token, end_array};
 ghost use Rattle.json.specs.Lex.{token, in_word, lex};
 ghost use Rattle.std.specs.List.{prefix_len};
@@ -11,6 +12,7 @@ ghost use Rattle.tx_lines.specs.Parts.{json_of, parts_items};
 ghost use Rattle.tx_lines.specs.Scan.{Runs, Same, Begins, BeginsNumber, BeginsPart, EndsWord, ReadParts};
 
 use crate::part::{MAX_PARTS, Part, Parts};
+use crate::plain::{BLOCK, plain_in};
 use fast_float::Numeral;
 
 // Whether the byte stands for itself in a string.
@@ -20,6 +22,19 @@ fn is_plain(byte: u8) -> bool
     byte >= 32 && byte != b'"' && byte != b'\\'
 }
 
+// The end of the plain bytes from here on, one by one.
+fn plain_end_from(bytes: &[u8], from: usize) -> usize
+    requires { from ≤ length bytes.now }
+    ensures range { (from ≤ result) × (result ≤ length bytes.now) }
+    ensures plain { (k : ℕ) → from ≤ k → k < result → is_stop (get_or bytes.now k 0) ≡ false }
+{
+    let mut at = from;
+    'bytes: while at < bytes.len() && is_plain(bytes[at]) {
+        at += 1;
+    }
+    at
+}
+
 // The end of the plain bytes from here on.
 fn plain_end(bytes: &[u8], from: usize) -> usize
     requires { from ≤ length bytes.now }
@@ -27,10 +42,14 @@ fn plain_end(bytes: &[u8], from: usize) -> usize
     ensures runs { Runs (drop from bytes.now) (slice_range bytes.now from result) (drop result bytes.now) }
 {
     let mut at = from;
-    'bytes: while at < bytes.len() && is_plain(bytes[at]) {
-        at += 1;
+    'lanes: while bytes.len() - at >= BLOCK {
+        let plain = plain_in(bytes, at);
+        at += plain;
+        if plain < BLOCK {
+            return at;
+        }
     }
-    at
+    plain_end_from(bytes, at)
 }
 
 fn past_spaces(bytes: &[u8], from: usize) -> usize

@@ -1,10 +1,12 @@
 //! The text of a line's parts, appended to bytes that are kept from line to line: a kept buffer allocates only where it grows.
-ghost use Rattle.std.specs.Prelude.{◌≡◌, ℕ, [], ◌∷◌, ◌++◌, ◌<◌, decimal, length, take, OnOk, IsTrue, IsAscii};
+ghost use Rattle.std.specs.Prelude.{◌≡◌, ℕ, [], ◌∷◌, ◌++◌, ◌<◌, ◌≤◌, decimal, length, get_or, take, false, OnOk, IsTrue, IsAscii};
+ghost use Rattle.tx_lines.specs.Plain.{is_foreign};
 ghost use Rattle.serde_json.specs.Written.{compact_text};
 ghost use Rattle.json.specs.Print.{escape, escape_letter, escape_byte};
 ghost use Rattle.std.specs.Char.{digit_char};
 ghost use Rattle.tx_lines.specs.Texts.{text_of};
 
+use crate::plain::{BLOCK, is_simple_block};
 use itoa::Buffer;
 use std::alloc::AllocError;
 
@@ -31,12 +33,12 @@ fn is_plain(bytes: &[u8]) -> bool
     true
 }
 
-// Whether the bytes are ASCII that stands for itself in a string.
-fn is_simple(bytes: &[u8]) -> bool
-    ensures same { IsTrue result → escape bytes.now ≡ bytes.now }
-    ensures ascii { IsTrue result → IsAscii bytes.now }
+// Whether the bytes from here on are ASCII that stands for itself in a string, one by one.
+fn is_simple_from(bytes: &[u8], from: usize) -> bool
+    requires { from ≤ length bytes.now }
+    ensures { IsTrue result → (k : ℕ) → from ≤ k → k < length bytes.now → is_foreign (get_or bytes.now k 0) ≡ false }
 {
-    let mut at = 0;
+    let mut at = from;
     'bytes: while at < bytes.len() {
         let byte = bytes[at];
         if byte < 32 || byte == b'"' || byte == b'\\' || byte >= 128 {
@@ -45,6 +47,21 @@ fn is_simple(bytes: &[u8]) -> bool
         at += 1;
     }
     true
+}
+
+// Whether the bytes are ASCII that stands for itself in a string.
+fn is_simple(bytes: &[u8]) -> bool
+    ensures same { IsTrue result → escape bytes.now ≡ bytes.now }
+    ensures ascii { IsTrue result → IsAscii bytes.now }
+{
+    let mut at = 0;
+    'lanes: while bytes.len() - at >= BLOCK {
+        if !is_simple_block(bytes, at) {
+            return false;
+        }
+        at += BLOCK;
+    }
+    is_simple_from(bytes, at)
 }
 
 fn letter(byte: u8) -> u8
@@ -137,6 +154,16 @@ pub fn put_text(out: &mut Vec<u8>, bytes: &[u8]) -> Result<(), AllocError>
 {
     out.push(b',')?;
     put_string(out, bytes)
+}
+
+/// Appends the end of a line: a bracket and a newline.
+#[inline(always)]
+pub(crate) fn put_end(out: &mut Vec<u8>) -> Result<(), AllocError>
+    ensures { OnOk result (out.new.items ≡ out.old.items ++ 93 ∷ 10 ∷ []) }
+{
+    out.push(b']')?;
+    out.push(b'\n')?;
+    Ok(())
 }
 
 /// Appends a word, as it is written, a comma and a number.

@@ -1,5 +1,5 @@
 //! The words that steps begin with.
-ghost use Rattle.std.specs.Prelude.{◌≡◌};
+ghost use Rattle.std.specs.Prelude.{◌≡◌, bytes_eq};
 ghost use Rattle.tx_steps.specs.Steps.{life_word as life_in, session_word as session_in, world_word as world_in, run_word as run_in, word_said};
 
 /// What a step asks for.
@@ -29,25 +29,33 @@ pub(crate) enum Word {
     Transfer,
 }
 
+// Whether a text is this word. Mostly the lengths tell.
+#[inline(always)]
+fn is(text: &str, word: &str) -> bool
+    ensures { result ≡ bytes_eq text.now word.now }
+{
+    text.len() == word.len() && text == word
+}
+
 // The words that most scripts are made of.
 fn life_word(text: &str) -> Option<Word>
     ensures { result ≡ life_in text.now }
 {
-    if text == "begin" {
+    if is(text, "begin") {
         Some(Word::Begin)
-    } else if text == "put" {
+    } else if is(text, "put") {
         Some(Word::Put)
-    } else if text == "get" {
+    } else if is(text, "get") {
         Some(Word::Get)
-    } else if text == "declare" {
+    } else if is(text, "declare") {
         Some(Word::Declare)
-    } else if text == "prewrite" {
+    } else if is(text, "prewrite") {
         Some(Word::Prewrite)
-    } else if text == "draw" {
+    } else if is(text, "draw") {
         Some(Word::Draw)
-    } else if text == "commit" {
+    } else if is(text, "commit") {
         Some(Word::Commit)
-    } else if text == "finish" {
+    } else if is(text, "finish") {
         Some(Word::Finish)
     } else {
         None
@@ -58,19 +66,19 @@ fn life_word(text: &str) -> Option<Word>
 fn session_word(text: &str) -> Option<Word>
     ensures { result ≡ session_in text.now }
 {
-    if text == "delete" {
+    if is(text, "delete") {
         Some(Word::Delete)
-    } else if text == "lock" {
+    } else if is(text, "lock") {
         Some(Word::Lock)
-    } else if text == "scan" {
+    } else if is(text, "scan") {
         Some(Word::Scan)
-    } else if text == "abort" {
+    } else if is(text, "abort") {
         Some(Word::Abort)
-    } else if text == "heartbeat" {
+    } else if is(text, "heartbeat") {
         Some(Word::Heartbeat)
-    } else if text == "stop" {
+    } else if is(text, "stop") {
         Some(Word::Stop)
-    } else if text == "resolve" {
+    } else if is(text, "resolve") {
         Some(Word::Resolve)
     } else {
         None
@@ -81,15 +89,15 @@ fn session_word(text: &str) -> Option<Word>
 fn world_word(text: &str) -> Option<Word>
     ensures { result ≡ world_in text.now }
 {
-    if text == "deliver" {
+    if is(text, "deliver") {
         Some(Word::Deliver)
-    } else if text == "read" {
+    } else if is(text, "read") {
         Some(Word::Read)
-    } else if text == "versions" {
+    } else if is(text, "versions") {
         Some(Word::Versions)
-    } else if text == "tick" {
+    } else if is(text, "tick") {
         Some(Word::Tick)
-    } else if text == "gc" {
+    } else if is(text, "gc") {
         Some(Word::Gc)
     } else {
         None
@@ -100,9 +108,9 @@ fn world_word(text: &str) -> Option<Word>
 fn run_word(text: &str) -> Option<Word>
     ensures { result ≡ run_in text.now }
 {
-    if text == "transfer" {
+    if is(text, "transfer") {
         Some(Word::Transfer)
-    } else if text == "seed" {
+    } else if is(text, "seed") {
         Some(Word::Seed)
     } else {
         None

@@ -23,6 +23,24 @@ fn keys_have_1_to_512_bytes(rt: HostRuntime) {
     }
 }
 
+fn is_joined(rt: &HostRuntime, front: &[u8], back: &[u8], whole: &[u8]) -> bool {
+    match Text::of_two(rt.alloc(), front, back) {
+        Ok(text) => text.as_slice() == whole,
+        Err(_) => false,
+    }
+}
+
+#[test]
+fn texts_of_two_parts_have_both(rt: HostRuntime) {
+    let bytes = b"0123456789abcdefghijklmnopqrstuvwxyz";
+    for (at, len) in [(0, 0), (10, 22), (10, 23), (30, 36)] {
+        assert!(rt;
+            is_joined(&rt, &bytes[..at], &bytes[at..len], &bytes[..len]),
+            "{at} of {len} bytes"
+        );
+    }
+}
+
 // Whether a record keeps a value of so many bytes inline; none where there is no such value.
 fn is_kept_inline(rt: &HostRuntime, len: usize) -> Option<bool> {
     let bytes = vec![in rt.alloc(); 7u8; len].ok()?;

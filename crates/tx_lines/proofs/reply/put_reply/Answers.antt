@@ -2,7 +2,7 @@ use Rattle.std.proofs.Common.{rules, ◌≡◌, ◌++◌, ◌∷◌, [], ap, ◌
 use Rattle.std.specs.Fmt.{decimal}
 use Rattle.tx_lines.specs.Replies.{reply_words}
 use Rattle.tx_lines.specs.Texts.{members_text}
-use Rattle.tx_lines.proofs.Texts.{line_is, if_ok}
+use Rattle.tx_lines.proofs.Texts.{line_is, on_ok}
 use Rattle.tx_lines.proofs.reply.put_reply.Goals as goal
 
 pub returns : goal.returns
@@ -11,4 +11,4 @@ returns c =
     let ds = reply_words c.args.reply.now in
     let n = c.args.number in
     let all : c.put_words.new.out.items ≡ ((old ++ 91 ∷ []) ++ decimal n) ++ members_text ds = search rules in
-    if_ok c.extend_from_slice.result _ _ _ c.extend_from_slice.ensures.items (λ e. e ∙ ap (λ t. t ++ 93 ∷ 10 ∷ []) all ∙ line_is old n ds)
+    on_ok c.put_end.result c.put_end.ensures (λ e. e ∙ ap (λ t. t ++ 93 ∷ 10 ∷ []) all ∙ line_is old n ds)

@@ -3,8 +3,8 @@ use Rattle.std.specs.Prelude.{slice_range}
 use Rattle.tx_lines.specs.Scan.{Runs}
 use Rattle.tx_lines.proofs.scan.plain_end.Given as goal
 
-abbrev pub invariant-bytes : goal.invariant-bytes
-invariant-bytes l = (l.from ≤ l.at) × (l.at ≤ length l.bytes) × Runs (drop l.from l.bytes) (slice_range l.bytes l.from l.at) (drop l.at l.bytes)
+abbrev pub invariant-lanes : goal.invariant-lanes
+invariant-lanes l = (l.from ≤ l.at) × (l.at ≤ length l.bytes) × Runs (drop l.from l.bytes) (slice_range l.bytes l.from l.at) (drop l.at l.bytes)
 
-abbrev pub decreases-bytes : goal.decreases-bytes
-decreases-bytes l = length l.bytes - l.at
+abbrev pub decreases-lanes : goal.decreases-lanes
+decreases-lanes l = length l.bytes - l.at

@@ -1,10 +1,5 @@
-use Rattle.std.proofs.Common.{arith}
-use Rattle.tx_lines.proofs.Texts.{plain_more, below_more}
+use Rattle.tx_lines.proofs.Plains.{all_same}
 use Rattle.tx_lines.proofs.text.is_simple.Goals as goal
 
-pub bytes-preserved : goal.bytes-preserved
-bytes-preserved c = (
-  omega arith,
-  plain_more c.args.bytes.now c.bytes.at (omega arith) c.if-byte-lt32.false c.if-byte-eq34.false c.if-byte-eq92.false c.bytes.invariant.1,
-  below_more c.args.bytes.now c.bytes.at c.bytes.invariant.2 (omega arith),
-)
+pub returns-clause-same : goal.returns-clause-same
+returns-clause-same c = λ is. all_same c.args.bytes.now c.lanes.at c.lanes.invariant.1 (c.is_simple_from.ensures is)

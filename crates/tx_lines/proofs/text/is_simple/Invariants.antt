@@ -1,9 +1,9 @@
-use Rattle.std.proofs.Common.{◌≤◌, ◌<◌, ◌-◌, ◌≡◌, length, take, get_or, ℕ}
-use Rattle.json.specs.Print.{escape}
+use Rattle.std.proofs.Common.{◌≤◌, ◌<◌, ◌-◌, ◌≡◌, ℕ, length, get_or, false}
+use Rattle.tx_lines.specs.Plain.{is_foreign}
 use Rattle.tx_lines.proofs.text.is_simple.Given as goal
 
-abbrev pub invariant-bytes : goal.invariant-bytes
-invariant-bytes l = (l.at ≤ length l.bytes) × (escape (take l.at l.bytes) ≡ take l.at l.bytes) × ((i : ℕ) → i < l.at → get_or l.bytes i 0 < 128)
+abbrev pub invariant-lanes : goal.invariant-lanes
+invariant-lanes l = (l.at ≤ length l.bytes) × ((k : ℕ) → k < l.at → is_foreign (get_or l.bytes k 0) ≡ false)
 
-abbrev pub decreases-bytes : goal.decreases-bytes
-decreases-bytes l = length l.bytes - l.at
+abbrev pub decreases-lanes : goal.decreases-lanes
+decreases-lanes l = length l.bytes - l.at
