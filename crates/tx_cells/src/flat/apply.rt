@@ -105,6 +105,7 @@ impl FlatCells {
             None => return Ok(()),
         };
         let version = VersionBytes::new(alloc, key, commit)?;
+        self.ceilings.raise(key, commit);
         self.writes.insert(version, rec)?;
         self.locks.remove(&spelt);
         Ok(())
@@ -125,6 +126,7 @@ impl FlatCells {
         ensures err { IfErr result (λ e. e ≡ Fault.OutOfMemory) }
     {
         let _ticks = start.get();
+        self.ceilings.raise(key, start);
         if !removes_lock {
             return leave(&mut self.writes, alloc, key, start, left);
         }

@@ -1,5 +1,5 @@
 //! What a request sees of its key.
-ghost use Rattle.std.specs.Prelude.{◌≡◌, IfOk, IfErr, option_map};
+ghost use Rattle.std.specs.Prelude.{◌≡◌, ◌<◌, ◌≤◌, ℕ, None, IsTrue, IfOk, IfErr, option_map};
 ghost use Rattle.tx_plan.specs.Views.{Shows};
 ghost use Rattle.tx_cells.specs.Contents.{cells_of};
 ghost use Rattle.tx_cells.specs.Heads.{lock_head};
@@ -11,6 +11,14 @@ use crate::spelling::VersionBytes;
 use std::alloc::Global;
 use tx_plan::{LockHead, TxnView};
 use tx_types::{Fault, Key, Ts};
+
+// Whether a ceiling is below a start and a commit.
+fn is_older(ceiling: Ts, start: Ts, commit: Ts) -> bool
+    ensures start { IsTrue result → ceiling < start }
+    ensures commit { IsTrue result → ceiling < commit }
+{
+    ceiling < start && ceiling < commit
+}
 
 impl FlatCells {
     ghost use Rattle.tx_cells.specs.Flats.{flat_content};
@@ -45,8 +53,21 @@ impl FlatCells {
         }
     }
 
+    // Whether each record of a key is older than a start and a commit, by the greatest version that it may have. Mostly its
+    // ceiling tells, and else one search.
+    fn is_past(&self, key: &Key, greatest: &VersionBytes, start: Ts, commit: Ts) -> bool
+        requires { greatest.now ≡ (key.now, u64.MAX) }
+        ensures start { IsTrue result → (q : ℕ) → start ≤ q → (flat_content self.now key.now).write q ≡ None }
+        ensures commit { IsTrue result → (q : ℕ) → commit ≤ q → (flat_content self.now key.now).write q ≡ None }
+    {
+        if is_older(self.ceilings.of(key), start, commit) {
+            return true;
+        }
+        are_past(&self.writes, greatest, start, commit)
+    }
+
     /// What a request of the transaction that started then sees of its key, and of the record at `commit`. Mostly all records
-    /// are older, which one search tells.
+    /// are older.
     pub(crate) fn view_of(
         &self,
         alloc: Global,
@@ -59,7 +80,7 @@ impl FlatCells {
     {
         let version = VersionBytes::new(alloc, key, Ts::new(u64::MAX))?;
         let lock = head_on(&self.locks, version.spelt());
-        if are_past(&self.writes, &version, start, commit) {
+        if self.is_past(key, &version, start, commit) {
             return Ok(TxnView {
                 lock,
                 at_start: None,

@@ -32,6 +32,7 @@ invariant_of-self c =
           (λ w. whole_put x b c.args.new w c.requires))
           (λ same. subst (λ (l : Locks). AllWhole (content_by l writes values)) (sym (same_keys flat.locks c.insert.new.self same)) flat.whole)
           c.insert.ensures.updates c.insert.ensures.err;
+      bounded = flat.bounded;
     }
 
 pub returns-in_default-clause-content : goal.returns-in_default-clause-content
@@ -47,7 +48,7 @@ returns-in_default-clause-content c =
 pub invariant_of-self-in-Break-branch-9 : goal.invariant_of-self-in-Break-branch-9
 invariant_of-self-in-Break-branch-9 c =
     let flat = c.args.self.now in
-    record { whole = subst (λ (f : Values). AllWhole (content_by (tree.get (slice_cmp nat_cmp) flat.locks) (tree.get version_cmp flat.writes) f)) (sym (same_versions flat.values c.insert-2.new.self c.in_err-insert-2.ensures.err)) flat.whole }
+    record { whole = subst (λ (f : Values). AllWhole (content_by (tree.get (slice_cmp nat_cmp) flat.locks) (tree.get version_cmp flat.writes) f)) (sym (same_versions flat.values c.insert-2.new.self c.in_err-insert-2.ensures.err)) flat.whole; bounded = flat.bounded }
 
 pub invariant_of-self-in-Ok : goal.invariant_of-self-in-Ok
 invariant_of-self-in-Ok c =
@@ -66,6 +67,7 @@ invariant_of-self-in-Ok c =
           (value_here values new_values c.in_ok-version.version b.key b.start c.in_ok-version.ensures b.mutation c.in-Some.value apart c.in_ok-insert-2.ensures.updates.0)
           (value_there values new_values c.in_ok-version.version b.key b.start c.in_ok-version.ensures c.in-Some.value c.in_ok-insert-2.ensures.updates.0))
           (λ w. whole_put x b c.args.new w c.requires);
+      bounded = flat.bounded;
     }
 
 pub returns-in-Ok-clause-content : goal.returns-in-Ok-clause-content
@@ -97,6 +99,7 @@ invariant_of-self-in-Err c =
           (same_keys flat.locks c.insert-3.new.self c.in-Err.ensures.err) refl
           (value_back values (tree.get version_cmp c.insert-2.new.self) c.in_ok-version.version b.key b.start c.in_ok-version.ensures (tree.get version_cmp c.remove.new.self) c.in_ok-same_version.same_version c.in-Some.value
           c.in_ok-same_version.ensures none c.in_ok-insert-2.ensures.updates.0 c.remove.ensures.updates.0))) flat.whole;
+      bounded = flat.bounded;
     }
 
 pub returns-clause-same : goal.returns-clause-same

@@ -4,11 +4,13 @@ use Rattle.std.specs.Ordering.{nat_cmp}
 use Rattle.std.specs.Cmp.Lexicographic.{slice_cmp}
 use Rattle.tx_plan.specs.declared.key_change.KeyChange.TheVariants as change
 use Rattle.tx_cells.specs.Afterwards.{OnlyOn, after}
+use Rattle.tx_cells.specs.Ceilings.{ceiling_of}
 use Rattle.tx_cells.specs.Spelt.{version_cmp}
 use Rattle.tx_cells.specs.Flats.{flat_content}
 use Rattle.tx_cells.proofs.WholeAfter.{whole_after}
 use Rattle.tx_cells.proofs.FlatMaps.{Writes, AllWhole, content_by, same_versions, whole_on}
 use Rattle.tx_cells.proofs.FlatChanges.{either, rolled_back, left_only}
+use Rattle.tx_cells.proofs.FlatBounds.{AllBelow, below_same, below_left}
 use Rattle.tx_cells.proofs.flat.FlatCells.roll_back.Goals as goal
 
 pub invariant_of-self : goal.invariant_of-self
@@ -31,12 +33,30 @@ invariant_of-self c =
           (λ w. whole_after x made w c.requires fits))
           (λ same. subst (λ (w : Writes). AllWhole (content_by locks w values)) (sym (same_versions flat.writes c.leave.new.writes same)) flat.whole)
           c.leave.ensures.ok c.leave.ensures.same;
+      bounded = either c.leave.result _ _ (AllBelow (ceiling_of c.raise.new.self) new_writes)
+          (λ ok. below_left writes new_writes key (ceiling_of flat.ceilings) (ceiling_of c.raise.new.self) c.raise.ensures.kept c.args.start c.args.left c.raise.ensures.above ok c.leave.ensures.others flat.bounded)
+          (λ same. subst (AllBelow (ceiling_of c.raise.new.self)) (sym (same_versions flat.writes c.leave.new.writes same)) (below_same writes (ceiling_of flat.ceilings) (ceiling_of c.raise.new.self) c.raise.ensures.kept flat.bounded))
+          c.leave.ensures.ok c.leave.ensures.same;
     }
+
+pub invariant_of-self-in-Break-1 : goal.invariant_of-self-in-Break-1
+invariant_of-self-in-Break-1 c =
+    let flat = c.args.self.now in
+    record { whole = flat.whole; bounded = below_same (tree.get version_cmp flat.writes) (ceiling_of flat.ceilings) (ceiling_of c.raise.new.self) c.raise.ensures.kept flat.bounded }
+
+pub invariant_of-self-in-Break-branch-2 : goal.invariant_of-self-in-Break-branch-2
+invariant_of-self-in-Break-branch-2 c =
+    let flat = c.args.self.now in
+    record { whole = flat.whole; bounded = below_same (tree.get version_cmp flat.writes) (ceiling_of flat.ceilings) (ceiling_of c.raise.new.self) c.raise.ensures.kept flat.bounded }
 
 pub invariant_of-self-in-Break-branch-3 : goal.invariant_of-self-in-Break-branch-3
 invariant_of-self-in-Break-branch-3 c =
     let flat = c.args.self.now in
-    record { whole = subst (λ (w : Writes). AllWhole (content_by (tree.get (slice_cmp nat_cmp) flat.locks) w (tree.get version_cmp flat.values))) (sym (same_versions flat.writes c.leave-2.new.writes c.in_err-leave.ensures.same)) flat.whole }
+    let same = same_versions flat.writes c.leave-2.new.writes c.in_err-leave.ensures.same in
+    record {
+      whole = subst (λ (w : Writes). AllWhole (content_by (tree.get (slice_cmp nat_cmp) flat.locks) w (tree.get version_cmp flat.values))) (sym same) flat.whole;
+      bounded = subst (AllBelow (ceiling_of c.raise.new.self)) (sym same) (below_same (tree.get version_cmp flat.writes) (ceiling_of flat.ceilings) (ceiling_of c.raise.new.self) c.raise.ensures.kept flat.bounded);
+    }
 
 pub invariant_of-self-2 : goal.invariant_of-self-2
 invariant_of-self-2 c =
@@ -58,6 +78,7 @@ invariant_of-self-2 c =
           (rolled_back locks new_locks writes values key c.in_ok-spelt.spelt c.in_ok-spelt.ensures new_writes new_values c.in_ok-version.version c.args.start c.args.left c.in_ok-version.ensures
           c.in_ok-leave.ensures.ok c.leave-2.ensures.others c.remove.ensures.updates.0 c.remove-2.ensures.updates.0))
           (λ w. whole_after x made w c.requires fits);
+      bounded = below_left writes new_writes key (ceiling_of flat.ceilings) (ceiling_of c.raise.new.self) c.raise.ensures.kept c.args.start c.args.left c.raise.ensures.above c.in_ok-leave.ensures.ok c.leave-2.ensures.others flat.bounded;
     }
 
 pub returns-clause-content : goal.returns-clause-content

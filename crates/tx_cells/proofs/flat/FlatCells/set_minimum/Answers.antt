@@ -28,6 +28,7 @@ invariant_of-self c =
           (λ w. whole_after x (change.Minimum c.args.min) w c.requires tt))
           (λ same. subst (λ (l : Locks). AllWhole (content_by l writes values)) (sym (same_keys flat.locks c.insert.new.self same)) flat.whole)
           c.insert.ensures.updates c.insert.ensures.err;
+      bounded = flat.bounded;
     }
 
 pub returns-clause-content : goal.returns-clause-content
