@@ -1,5 +1,5 @@
 -- Keys that are spelt by their first group, its marker, and the groups behind it.
-use Rattle.std.proofs.Common.{◌≡◌, ◌≢◌, ℕ, ◌+◌, ◌-◌, ◌^◌, ◌<◌, ◌≤◌, List, [], ◌∷◌, ◌++◌, length, take, drop, get_or, replicate, ◌↔◌, IsTrue, true, refl, sym, ap, ◌∙◌, append-nil, subst, arith, inl, inr}
+use Rattle.std.proofs.Common.{◌≡◌, ◌≢◌, ℕ, ◌+◌, ◌-◌, ◌^◌, ◌<◌, ◌≤◌, List, [], ◌∷◌, ◌++◌, length, take, drop, replicate, ◌↔◌, IsTrue, true, refl, sym, ap, ◌∙◌, append-nil, subst, arith, inl, inr}
 use Rattle.std.specs.Int.{w64, to_be_bytes}
 use Rattle.std.specs.Ordering.{nat_cmp, ordering_then, is_eq, eq_by_cmp}
 use Rattle.std.specs.declared.cmp.Ordering.{Ordering}
@@ -10,7 +10,7 @@ use Rattle.std.proofs.lemmas.Bool.{cases_lt}
 use Rattle.std.proofs.lemmas.List.{length-append, length-take, length-drop}
 use Rattle.std.proofs.lemmas.Map.Lookups.{exact_unsigned, exact_bytes}
 use borrow.Rule.Slice.PartMut.{put_mid, post_of}
-use Rattle.std.proofs.Math.Seq.{take-append_seam, take-length, take-suc}
+use Rattle.std.proofs.Math.Seq.{take-append_seam}
 use Rattle.std.proofs.Math.ListN.{drop_of_length-le}
 use Rattle.tx_codec.specs.Keys.{IsKey, encoded_key, KeysKeepOrder}
 use Rattle.tx_codec.proofs.Groups.{encoded_key-last, encoded_key-split, encoded_key-length, encoded_key-long, encoded_key-whole, last_group-parts}
@@ -81,17 +81,6 @@ next_read first last key marker l s =
       | inl lt ↦ (last_group-parts more last marker lt (whole.2 ∙ encoded_key-last more lt)).front
       | inr ge ↦ absurd (omega (arith, l, length-append last (marker ∷ []), ap length whole.2, ap length (encoded_key-split more ge), length-append (take 8 more) (255 ∷ encoded_key (drop 8 more)), length-take 8 more, encoded_key-long (drop 8 more)))
     ])
-
--- the same, by how long the rest is
-pub short_at : (first marker : ℕ) (rest key : List ℕ) → length rest ≡ 0 → SpellsKey first marker rest key → key ≡ take (marker - 247) (to_be_bytes w64 first)
-short_at first marker [] key e s = short_read first marker key s
-short_at first marker (x ∷ xs) key e s = absurd (omega (arith, e))
-
-pub next_at : (first marker : ℕ) (rest key : List ℕ) → marker ≡ 255 → length rest ≡ 9 → SpellsKey first marker rest key → key ≡ to_be_bytes w64 first ++ take (get_or rest 8 0 - 247) (take 8 rest)
-next_at first marker rest key whole l s =
-    let ends : rest ≡ take 8 rest ++ get_or rest 8 0 ∷ [] = sym (take-length rest) ∙ ap (λ n. take n rest) l ∙ take-suc rest 8 0 (omega (arith, l)) in
-    next_read first (take 8 rest) key (get_or rest 8 0) (omega (arith, l, length-take 8 rest))
-    (subst (λ (w : List ℕ). SpellsKey first 255 w key) ends (subst (λ (m : ℕ). SpellsKey first m rest key) whole s))
 
 -- the groups behind the first are few
 pub rest_short : (first marker : ℕ) (rest key : List ℕ) → SpellsKey first marker rest key → length rest ≤ 576
