@@ -1,5 +1,6 @@
 //! The text of a line's parts, appended to bytes that are kept from line to line: a kept buffer allocates only where it grows.
 ghost use Rattle.std.specs.Prelude.{◌≡◌, ℕ, [], ◌∷◌, ◌++◌, ◌<◌, ◌≤◌, decimal, length, get_or, take, false, OnOk, IsTrue, IsAscii};
+ghost use Rattle.tx_lines.specs.declared.plain.TheConstants.{BLOCK};
 ghost use Rattle.tx_lines.specs.Plain.{is_foreign};
 ghost use Rattle.serde_json.specs.Written.{compact_text};
 ghost use Rattle.json.specs.Print.{escape, escape_letter, escape_byte};
@@ -7,15 +8,55 @@ ghost use Rattle.std.specs.Char.{digit_char};
 ghost use Rattle.tx_lines.specs.Texts.{text_of};
 
 use crate::plain::{BLOCK, is_simple_block};
-use itoa::Buffer;
+use itoa::{Buffer, write_digits};
 use std::alloc::AllocError;
 
-/// Appends a number in decimal digits.
-pub(crate) fn put_digits(out: &mut Vec<u8>, n: u64) -> Result<(), AllocError>
+// How many digits a number of at most eight has.
+fn digits_of(n: u64) -> usize
+    requires { n < 100000000 }
+    ensures len { result ≡ length (decimal n) }
+    ensures few { result ≤ BLOCK }
+{
+    if n < 10_000 {
+        if n < 100 {
+            if n < 10 { 1 } else { 2 }
+        } else if n < 1_000 {
+            3
+        } else {
+            4
+        }
+    } else if n < 1_000_000 {
+        if n < 100_000 { 5 } else { 6 }
+    } else if n < 10_000_000 {
+        7
+    } else {
+        8
+    }
+}
+
+// Appends a number of more digits than eight.
+#[inline(never)]
+fn put_long(out: &mut Vec<u8>, n: u64) -> Result<(), AllocError>
     ensures { OnOk result (out.new.items ≡ out.old.items ++ decimal n) }
 {
     let mut buffer = Buffer::new();
     out.extend_from_slice(buffer.format(n).as_bytes())
+}
+
+/// Appends a number in decimal digits. Up to eight of them are copied as a block, of which the line then keeps as many as there are.
+pub(crate) fn put_digits(out: &mut Vec<u8>, n: u64) -> Result<(), AllocError>
+    ensures { OnOk result (out.new.items ≡ out.old.items ++ decimal n) }
+{
+    if n >= 100_000_000 {
+        return put_long(out, n);
+    }
+    let end = digits_of(n);
+    let mut block = [0; BLOCK];
+    write_digits(n, &mut block, end);
+    let from = out.len();
+    out.extend_from_slice(&block)?;
+    out.truncate(from + end);
+    Ok(())
 }
 
 // Whether each byte stands for itself in a string.
