@@ -145,7 +145,7 @@ where
             let Some(bench) = self.benches.get(usize::from(bench_of(*slot))) else {
                 continue;
             };
-            let freed = bench.lock(rt).release(cid);
+            let freed = bench.lock(rt).release(cid, *slot);
             for cid in freed {
                 self.wake(rt, bench, cid);
             }
