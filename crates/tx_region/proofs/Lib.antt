@@ -6,3 +6,5 @@ mod Carrying
 mod Taking
 -- How many of the keys between the regions lie at a key or below it.
 pub mod Routes
+-- The first eight bytes of keys, as numbers, order keys as the keys are ordered.
+pub mod KeyFronts

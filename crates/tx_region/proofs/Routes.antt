@@ -23,10 +23,10 @@ and_both false q h = absurd (cc (h))
 pub above_lt : (j k : Key) → key_le j k ≡ false → IsTrue (key_lt k j)
 above_lt j k e = elim (ordered j k) [ inl x ↦ absurd (cc (lt_le j k x, e)) | inr y ↦ elim y [ inl same ↦ absurd (cc (subst (λ i. IsTrue (key_le j i)) same (le_itself j), e)) | inr x ↦ x ] ]
 
-not_le : (j k : Key) → key_le j k ≡ false → IsTrue (key_le k j)
+pub not_le : (j k : Key) → key_le j k ≡ false → IsTrue (key_le k j)
 not_le j k e = lt_le k j (above_lt j k e)
 
-le_trans : (i j k : Key) → IsTrue (key_le i j) → IsTrue (key_le j k) → IsTrue (key_le i k)
+pub le_trans : (i j k : Key) → IsTrue (key_le i j) → IsTrue (key_le j k) → IsTrue (key_le i k)
 le_trans i j k p q =
     elim (le_cases i j p) [
       | inl x ↦ elim (le_cases j k q) [ inl y ↦ lt_le i k (lt_trans i j k x y) | inr e ↦ subst (λ z. IsTrue (key_le i z)) e p ]
@@ -46,7 +46,7 @@ first_least j [] r (suc n) d in_range = absurd (omega arith)
 first_least j (k ∷ ks) r (suc n) d in_range = le_trans j k _ (lt_le j k r.0) (first_least k ks r.1 n d (omega arith))
 
 -- each is at most those after it
-rise : (ks : List Key) → AreRising ks → (m n : ℕ) (d : Key) → m ≤ n → n < length ks → IsTrue (key_le (get_or ks m d) (get_or ks n d))
+pub rise : (ks : List Key) → AreRising ks → (m n : ℕ) (d : Key) → m ≤ n → n < length ks → IsTrue (key_le (get_or ks m d) (get_or ks n d))
 rise [] r m n d upto in_range = absurd (omega arith)
 rise (j ∷ ks) r zero n d upto in_range = first_least j ks r n d in_range
 rise (j ∷ ks) r (suc m) zero d upto in_range = absurd (omega arith)

@@ -1,3 +1,4 @@
 pub mod Regions
 pub mod Calls
 pub mod Taking
+pub mod KeyFronts

@@ -9,4 +9,4 @@ mod routing;
 
 pub use records::Records;
 pub use region::Region;
-pub use routing::route;
+pub use routing::{fronts, route, route_by};

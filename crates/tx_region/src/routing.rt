@@ -1,11 +1,14 @@
 //! Which region a key lies in.
-ghost use Rattle.std.specs.Prelude.{◌≡◌, ◌↔◌, IsTrue};
+ghost use Rattle.std.specs.Prelude.{◌≡◌, ◌↔◌, ℕ, ◌+◌, ◌-◌, ◌*◌, ◌<◌, ◌≤◌, length, IsTrue, IfOk, IfErr, slice_index_or};
+ghost use Rattle.tx_types.specs.declared.fault.Fault.TheVariants.{OutOfMemory};
 ghost use Rattle.tx_plan.specs.declared.body.Body.TheVariants as request;
 ghost use Rattle.tx_core.specs.Worlds.{Holds, route};
 ghost use Rattle.tx_journal.specs.Known.{AreRising};
+ghost use Rattle.tx_region.specs.KeyFronts.{AreBytes, AreFronts, front};
 
+use std::alloc::Global;
 use tx_plan::{Body, Scan};
-use tx_types::Key;
+use tx_types::{Fault, Key};
 
 /// The number of the region of a key, where these are the keys between the regions: so many of them lie at the key or below
 /// it. A binary search.
@@ -14,6 +17,78 @@ pub fn route(bounds: &[Key], key: &Key) -> usize
     ensures { result ≡ route bounds.now key.now }
 {
     bounds.partition_point(|bound| *bound <= *key)
+}
+
+// The byte in a place, or 0 where there is none, behind the bytes that a number spells.
+fn with_byte(front: u64, bytes: &[u8], place: usize) -> u64
+    requires { front < 72057594037927936 }
+    ensures value { result ≡ front * 256 + slice_index_or bytes.now place 0 }
+    ensures below { result < front * 256 + 256 }
+{
+    match bytes.get(place) {
+        Some(byte) => front * 256 + u64::from(*byte),
+        None => front * 256,
+    }
+}
+
+// The number that the first eight of these bytes spell, where zeros stand behind them.
+fn front_of(bytes: &[u8]) -> u64
+    ensures value { result ≡ front bytes.now }
+    ensures bytes { AreBytes bytes.now }
+{
+    let one = with_byte(0, bytes, 0);
+    let two = with_byte(one, bytes, 1);
+    let three = with_byte(two, bytes, 2);
+    let four = with_byte(three, bytes, 3);
+    let five = with_byte(four, bytes, 4);
+    let six = with_byte(five, bytes, 5);
+    let seven = with_byte(six, bytes, 6);
+    with_byte(seven, bytes, 7)
+}
+
+/// The fronts of the keys between the regions, by which `route_by` finds the region of a key.
+pub fn fronts(alloc: Global, bounds: &[Key]) -> Result<Vec<u64>, Fault>
+    ensures ok { IfOk result (λ fronts. AreFronts bounds.now fronts.items) }
+    ensures err { IfErr result (λ e. e ≡ OutOfMemory) }
+{
+    let mut fronts = Vec::with_capacity(alloc, bounds.len())?;
+    for place in 0..bounds.len() {
+        fronts.push_reserved(front_of(bounds[place].as_bytes()));
+    }
+    Ok(fronts)
+}
+
+// Whether a number in a place is greater than this front, or there is none.
+fn is_past(fronts: &[u64], place: usize, front: u64) -> bool
+    ensures { IsTrue result → place < length fronts.now → front < slice_index_or fronts.now place 0 }
+{
+    match fronts.get(place) {
+        Some(next) => front < *next,
+        None => true,
+    }
+}
+
+// Whether the number before a place is smaller than this front, or there is none.
+fn is_reached(fronts: &[u64], place: usize, front: u64) -> bool
+    requires { place ≤ length fronts.now }
+    ensures { IsTrue result → 0 < place → slice_index_or fronts.now (place - 1) 0 < front }
+{
+    place == 0 || fronts[place - 1] < front
+}
+
+/// As `route`, with the fronts of the keys between the regions: mostly they alone tell.
+pub fn route_by(fronts: &[u64], bounds: &[Key], key: &Key) -> usize
+    requires rising { AreRising bounds.now }
+    requires fronts { AreFronts bounds.now fronts.now }
+    ensures { result ≡ route bounds.now key.now }
+{
+    let front = front_of(key.as_bytes());
+    let place = fronts.partition_point(|other| *other < front);
+    if is_past(fronts, place, front) && is_reached(fronts, place, front) {
+        place
+    } else {
+        route(bounds, key)
+    }
 }
 
 // Whether the whole range of a scan lies in the region of this number: so does its first key, and no region begins inside the
