@@ -5,16 +5,22 @@ ghost use Rattle.tx_types.specs.declared.fault.Fault.TheVariants.{OutOfMemory};
 ghost use Rattle.tx_cells.specs.Contents.{nothing_held};
 ghost use Rattle.tx_core.specs.Worlds.{Holds, route};
 ghost use Rattle.tx_journal.specs.Known.{Known, AreRising};
+ghost use Rattle.tx_region.specs.KeyFronts.{AreFronts};
 ghost use Rattle.tx_client.specs.Senders.{IsHeld};
 
 use crate::seats::split_seats;
 use std::alloc::Global;
-use std::sync::{Mutex, Wait};
+use std::hint::spin_loop;
+use std::sync::{Mutex, MutexGuard, Wait};
 use tx_cells::Families;
 use tx_core::{Body, RegionNo};
 use tx_journal::{Journal, Naming, Opened, Reply, Request, Seat};
-use tx_region::{Region, route};
+use tx_region::{Region, fronts, route_by};
 use tx_types::{Fault, Key};
+
+/// How often a call looks whether the lock of a region is free before it sleeps. A region has its lock for about a microsecond at a time, and
+/// a thread that sleeps wakes far later.
+const LOOKS: u32 = 256;
 
 /// A region behind its lock. Two locks lie in different lines of memory, so that threads in two regions do not write the same
 /// line.
@@ -28,8 +34,11 @@ struct Locked<J: Naming, F: Families> {
 #[derive(Drop)]
 pub struct Store<J: Naming, F: Families> {
     journal: Journal<J>,
+    /// The fronts of the keys between the regions, by which the region of a key is mostly found with no look at these keys.
+    fronts: Vec<u64>,
     regions: Vec<Locked<J, F>>,
     ghost few: { length J.bounds < 1024 },
+    ghost tell: { AreFronts J.bounds fronts.items },
     ghost each: { vec_len regions ≡ length J.bounds + 1 },
 }
 
@@ -48,6 +57,7 @@ impl<J: Naming, F: Families + Drop> Store<J, F> {
         requires empty { All (λ f. F.content f ≡ (λ k. nothing_held)) families.items }
         ensures err { IfErr result (λ e. e ≡ OutOfMemory) }
     {
+        let fronts = fronts(alloc, journal.bounds())?;
         let mut regions = Vec::with_capacity(alloc, seats.len())?;
         for seat in seats {
             let Some(empty) = families.pop() else {
@@ -61,6 +71,7 @@ impl<J: Naming, F: Families + Drop> Store<J, F> {
         }
         Ok(Store {
             journal: journal.clone()?,
+            fronts,
             regions,
         })
     }
@@ -97,14 +108,14 @@ impl<J: Naming, F: Families + Drop> Store<J, F> {
     pub fn route(&self, key: &Key) -> RegionNo
         ensures { result ≡ route J.bounds key.now }
     {
-        RegionNo::new(route(self.journal.bounds(), key) as u32)
+        RegionNo::new(self.place(key) as u32)
     }
 
     // The place of the region of a key.
     fn place(&self, key: &Key) -> usize
         ensures { (result ≡ route J.bounds key.now) × (result ≤ length J.bounds) }
     {
-        route(self.journal.bounds(), key)
+        route_by(self.fronts.as_slice(), self.journal.bounds(), key)
     }
 
     // The place of the region that holds what a request speaks of.
@@ -128,6 +139,31 @@ impl<J: Naming, F: Families + Drop> Store<J, F> {
         }
     }
 
+    // A region, once no other call has it.
+    fn locked<R: Wait>(&self, rt: &R, place: usize) -> MutexGuard<'_, Region<J, F>>
+        requires { place ≤ length J.bounds }
+    {
+        match self.regions[place].region.try_lock() {
+            Some(region) => region,
+            None => self.locked_late(rt, place),
+        }
+    }
+
+    // A region that another call has.
+    #[inline(never)]
+    fn locked_late<R: Wait>(&self, rt: &R, place: usize) -> MutexGuard<'_, Region<J, F>>
+        requires { place ≤ length J.bounds }
+    {
+        let region = &self.regions[place].region;
+        for _ in 0..LOOKS {
+            spin_loop();
+            if let Some(region) = region.try_lock() {
+                return region;
+            }
+        }
+        region.lock(rt)
+    }
+
     /// Hands a request to the region that holds what it speaks of, once no other call has that region. The reply tells who
     /// answered, and after what.
     pub fn run<R: Wait>(&self, rt: &R, request: Request<J>) -> Reply<J>
@@ -136,7 +172,7 @@ impl<J: Naming, F: Families + Drop> Store<J, F> {
     {
         let place = self.place_of(request.body());
         for _ in rt.forever() {
-            let mut region = self.regions[place].region.lock(rt);
+            let mut region = self.locked(rt, place);
             if region.number().get() as usize == place {
                 return region.take(request);
             }

@@ -1,5 +1,6 @@
 use Rattle.std.proofs.Common.{sym, ap, subst, length, arith}
 use Rattle.std.specs.Prelude.{All}
+use Rattle.tx_region.specs.KeyFronts.{AreFronts}
 use Rattle.tx_store.proofs.Making.{IsRegionSeat, HoldNothing, first_of, rest_of, last_of, front_of, region_seats}
 use Rattle.tx_store.proofs.store.Store.new.Goals as goal
 
@@ -31,3 +32,6 @@ loop-seat-preserved g c =
       seats = rest_of (IsRegionSeat (length g.J.Naming.bounds)) _ _ _ c.in-Some.ensures.steps.0 c.loop-seat.invariant.seats;
       empty = front_of (HoldNothing g.F.Families.content) _ _ _ c.in-Some-pop.ensures.items c.loop-seat.invariant.empty;
     }
+
+pub invariant_of-result-clause-tell : goal.invariant_of-result-clause-tell
+invariant_of-result-clause-tell g c = subst (λ bounds. AreFronts bounds c.in_ok-fronts.fronts.items) c.bounds.ensures.value c.in_ok-fronts.ensures.ok
