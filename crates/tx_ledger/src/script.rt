@@ -45,8 +45,8 @@ pub struct Said<L: Source> {
 /// A line of a session.
 #[derive(Drop)]
 pub enum Entry<L: Source> {
-    /// A transfer, of a session whose name is one. It lies apart, since it is larger than a line.
-    Transfer(Box<Order<L>>),
+    /// A transfer, of a session whose name is one.
+    Transfer(Order<L>),
     /// Any other, which is read again when it is played.
     Line(Said<L>),
 }
@@ -132,7 +132,7 @@ fn entry_of<L: Source>(
     if let Step::Transfer(name, transfer) = step {
         if is_name(name) {
             if let Ok(order) = Order::new(alloc, number, &transfer) {
-                return Ok(Entry::Transfer(Box::new(alloc, order)?));
+                return Ok(Entry::Transfer(order));
             }
         }
     }

@@ -273,7 +273,7 @@ impl<J: Naming, L: Source, F: Families + Drop, R: Wait + Drop> ScriptJob<J, L, F
         ensures { StaysSame self.old self.new }
     {
         match entry {
-            Entry::Transfer(order) => self.follows(Box::into_inner(order)),
+            Entry::Transfer(order) => self.follows(order),
             Entry::Line(said) => self.play(&said),
         }
     }

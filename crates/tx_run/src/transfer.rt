@@ -126,15 +126,15 @@ impl<J: Naming, L: Source> Moving<J, L> {
     pub fn slots(&self, alloc: Global) -> Result<Vec<Slot>, Fault>
         ensures { IfErr result (λ e. e ≡ fault.OutOfMemory) }
     {
-        let mut slots = Vec::new(alloc);
         if let Some(met) = &self.resolving {
-            slots.extend_from_slice(met.as_slice())?;
-            return Ok(slots);
+            return Ok(Vec::from_slice(alloc, met.as_slice())?);
         }
-        if self.asks() == Asks::Keys {
-            slots.push(slot_of(&self.order.from))?;
-            slots.push(slot_of(&self.order.to))?;
+        if self.asks() == Asks::Nothing {
+            return Ok(Vec::new(alloc));
         }
+        let mut slots = Vec::with_capacity(alloc, 2)?;
+        slots.push_reserved(slot_of(&self.order.from));
+        slots.push_reserved(slot_of(&self.order.to));
         Ok(slots)
     }
 
