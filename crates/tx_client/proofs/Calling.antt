@@ -1,5 +1,5 @@
 -- What the calls of a session ask of its state and of its seat, and keep.
-use Rattle.std.proofs.Common.{◌≡◌, ◌≤◌, ℕ, ◌+◌, inl, inr, Bool, true, false, List, ◌∷◌, length, Option, Some, None, Result, Ok, Err, OnOk, OnErr, IfSome, refl, sym, ap, subst, ◌∙◌, arith}
+use Rattle.std.proofs.Common.{◌≡◌, ◌≤◌, ℕ, ◌+◌, inl, inr, Bool, true, false, List, ◌∷◌, length, Option, Some, None, Result, Ok, Err, OnOk, OnErr, IfOk, IfSome, refl, sym, ap, subst, ◌∙◌, arith}
 use borrow.Author.Tests.{ltb-true}
 use Rattle.std.proofs.lemmas.List.Sums.{count_by-le-length}
 use Rattle.tx_types.specs.declared.key.Key.{Key}
@@ -32,7 +32,7 @@ use Rattle.tx_client.specs.declared.state.Phase.{Phase}
 use Rattle.tx_client.specs.declared.state.Phase.TheVariants as phase
 use Rattle.tx_client.specs.declared.state.Due.{Due}
 use Rattle.tx_client.specs.Sessions.{State, begun, is_declared, has_primary, can_draw, declaration, with_passed, unknown_by, undecided, finish_by, finish_of}
-use Rattle.tx_client.specs.Senders.{IsHeld, Reached, came_by, Learns}
+use Rattle.tx_client.specs.Senders.{IsHeld, Reached, came_by, came_of, Learns}
 use Rattle.tx_client.specs.Facts.{CameSo, IsFor, IsSession, IsSeated}
 use Rattle.tx_client.specs.Calls.{Records, RecordsDeclared, Asks, IsDecidedSo}
 use Rattle.tx_client.proofs.Kept.{others_act}
@@ -60,6 +60,11 @@ came_told bounds g body new given same b = go g.answer given.told
     go (Some a) told =
         let y : Taken = record { region = told.region; body = g.request.body; loaded = last told.tells.point; answer = a } in
         record { by = y; among = among_on g.events new b (Took y) (subst (λ h. Among h (Took y)) (sym told.tells.ends) (inl refl)); asked = same; told = refl }
+
+-- so does what comes of a send, to whom learns it
+pub came_reached : (bounds : List Key) (r : Reached) (body : Body) (old new : Known) → Learns bounds old r new → IfOk r (IsGiven bounds) → ((g : Given) → r ≡ Ok g → g.request.body ≡ body) → CameSo new.events body (came_of r)
+came_reached bounds (Err l) body old new learns given same = tt
+came_reached bounds (Ok g) body old new learns given same = came_told bounds g body new.events given (same g refl) learns.3
 
 -- ---- what the type keeps
 

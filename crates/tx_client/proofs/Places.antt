@@ -38,6 +38,12 @@ noted [] i v p e = refl
 noted (x ∷ es) zero v p e = let same : v ≡ x.1 = cc (e) in ap (λ (w : Entry). (x.0, record { mutation = w.mutation; progress = p }) ∷ es) same
 noted (x ∷ es) (suc i) v p e = ap (λ (l : Entries). x ∷ l) (noted es i v p e)
 
+-- the progress of a place is that of its value
+pub progress_there : (es : Entries) (i : ℕ) (v : Entry) → Some v ≡ slice_get (values_of es) i → v.progress ≡ progress_at es i
+progress_there [] i v e = absurd (cc (e))
+progress_there (x ∷ es) zero v e = let same : v ≡ x.1 = cc (e) in ap (λ (w : Entry). w.progress) same
+progress_there (x ∷ es) (suc i) v e = progress_there es i v e
+
 -- no key of the buffer comes twice
 pub distinct_changes : (es : Entries) → IsDistinct (pointwise nat_eq) (keys_of es) → Keys.IsDistinct (changes_of es)
 unfolding IsDistinct

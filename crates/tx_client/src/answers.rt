@@ -1,7 +1,7 @@
 //! What an answer does to a session's state.
 ghost use Rattle.std.specs.Prelude.{◌≡◌};
 ghost use Rattle.tx_core.specs.Decisions.{fate_in};
-ghost use Rattle.tx_client.specs.Sessions.{first_settled, committed_by, cause_of, drawn_after, sent_by, marked_by, minimum_in};
+ghost use Rattle.tx_client.specs.Sessions.{committed_by, cause_of, drawn_after, sent_by, marked_by, minimum_in};
 
 use crate::state::{Phase, Progress};
 use tx_core::{Answer, UnknownCause};
@@ -40,16 +40,12 @@ pub(crate) fn drawn(answer: &Answer, drawn: Option<Ts>) -> Option<Ts>
     }
 }
 
-/// What is known of a key once a request went out.
-pub(crate) fn sent(phase: Phase, progress: Progress) -> Progress
-    ensures { result ≡ sent_by phase progress }
+/// Marks what is known of a key once a request went out.
+pub(crate) fn mark_sent(phase: Phase, progress: &mut Progress)
+    ensures { progress.new ≡ sent_by phase progress.old }
 {
-    match phase {
-        Phase::Prewrite => Progress {
-            sent: true,
-            ..progress
-        },
-        Phase::Commit | Phase::Abort => progress,
+    if phase == Phase::Prewrite {
+        progress.sent = true;
     }
 }
 
@@ -63,38 +59,17 @@ fn minimum(info: &LockInfo) -> Ts
     }
 }
 
-/// What an answer says of its key.
-pub(crate) fn marked(phase: Phase, answer: &Answer, progress: Progress) -> Progress
-    ensures { result ≡ marked_by phase answer.now progress }
+/// Marks what an answer says of its key, for which a request went out.
+pub(crate) fn mark(phase: Phase, answer: &Answer, progress: &mut Progress)
+    ensures { progress.new ≡ marked_by phase answer.now (sent_by phase progress.old) }
 {
+    mark_sent(phase, progress);
     match (phase, answer) {
-        (Phase::Prewrite, Answer::Prewritten(minimum)) => Progress {
-            accepted: Some(*minimum),
-            ..progress
-        },
-        (Phase::Commit, Answer::Committed(_)) => Progress {
-            committed: true,
-            ..progress
-        },
-        (Phase::Abort, Answer::RolledBack | Answer::Missing) => Progress {
-            rolled: true,
-            ..progress
-        },
-        (Phase::Abort, Answer::Locked(info)) => Progress {
-            accepted: Some(minimum(info)),
-            ..progress
-        },
-        _ => progress,
-    }
-}
-
-/// What was known first stands.
-pub(crate) fn first(known: Option<Fate>, new: Option<Fate>) -> Option<Fate>
-    ensures { result ≡ first_settled known new }
-{
-    match known {
-        Some(fate) => Some(fate),
-        None => new,
+        (Phase::Prewrite, Answer::Prewritten(minimum)) => progress.accepted = Some(*minimum),
+        (Phase::Commit, Answer::Committed(_)) => progress.committed = true,
+        (Phase::Abort, Answer::RolledBack | Answer::Missing) => progress.rolled = true,
+        (Phase::Abort, Answer::Locked(info)) => progress.accepted = Some(minimum(info)),
+        _ => {}
     }
 }
 

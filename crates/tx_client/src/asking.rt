@@ -1,24 +1,15 @@
 //! One request, by a seat.
-ghost use Rattle.std.specs.Prelude.{◌≡◌};
+ghost use Rattle.std.specs.Prelude.{◌≡◌, IfOk};
 ghost use Rattle.tx_core.specs.Allowed.{Allowed};
 ghost use Rattle.tx_journal.specs.Replies.{IsGiven};
-ghost use Rattle.tx_client.specs.Senders.{IsHeld, IsWay, came_by};
+ghost use Rattle.tx_client.specs.Senders.{IsHeld, IsWay, Learns, came_by, came_of};
 ghost use Rattle.tx_client.specs.Facts.{CameSo};
 ghost use Rattle.tx_client.specs.Calls.{Asks};
 
-use crate::sender::Sender;
+use crate::sender::{Lost, Sender};
 use crate::state::Came;
 use tx_core::{Answer, Body};
-use tx_journal::{Naming, Reply, Request, Seat, Told};
-
-// The answer of a reply, and its history.
-fn parts_of<J: Naming>(reply: Reply<J>) -> (Option<Answer>, Told<J>)
-    ensures parts { (result.0 ≡ reply.answer) × (result.1 ≡ reply.events) }
-    ensures given { IsGiven J.bounds reply }
-{
-    let (_, answer, told) = reply.into_parts();
-    (answer, told)
-}
+use tx_journal::{Naming, Reply, Request, Seat};
 
 // What a reply comes to.
 fn came_by(answer: Option<Answer>) -> Came
@@ -27,6 +18,23 @@ fn came_by(answer: Option<Answer>) -> Came
     match answer {
         Some(answer) => Came::Said(answer),
         None => Came::Unsaid,
+    }
+}
+
+// A seat learns what a reply tells, if one came.
+#[inline(never)]
+fn hear<J: Naming>(seat: &mut Seat<J>, reached: Result<Reply<J>, Lost>) -> Came
+    ensures came { result ≡ came_of reached }
+    ensures learns { Learns J.bounds seat.old reached seat.new }
+    ensures given { IfOk reached (λ r. IsGiven J.bounds r) }
+{
+    match reached {
+        Err(_) => Came::Lost,
+        Ok(reply) => {
+            let (_, answer, told) = reply.into_parts();
+            seat.learn(told);
+            came_by(answer)
+        }
     }
 }
 
@@ -43,12 +51,5 @@ pub fn ask<J: Naming, S: Sender<Request<J>, Reply<J>>>(
     ensures told { CameSo seat.new.events body result }
 {
     let told = seat.tell();
-    match sender.send(Request::new(told, body)) {
-        Err(_) => Came::Lost,
-        Ok(reply) => {
-            let (answer, told) = parts_of(reply);
-            seat.learn(told);
-            came_by(answer)
-        }
-    }
+    hear(seat, sender.send(Request::new(told, body)))
 }

@@ -3,11 +3,13 @@ ghost use Rattle.std.specs.Prelude.{◌≡◌, ◌<◌, ◌≤◌, length, IfOk,
 ghost use Rattle.tx_machine.specs.Keys.{IsDistinct};
 ghost use Rattle.tx_types.specs.declared.mutation.Mode.TheVariants.{Async};
 ghost use Rattle.tx_client.specs.Buffers.{Entries, key_at, mutation_in, progress_at, with_progress, first_place, wants, is_full, is_change, is_known, not_empty, changes_of, touched, buffered, has_two_phase_lock, async_minimum, promised, is_zero};
-ghost use Rattle.tx_client.specs.Sessions.{others_at};
+ghost use Rattle.tx_client.specs.Sessions.{others_at, sent_by, marked_by};
 
+use crate::answers::{mark, mark_sent};
 use crate::state::{Entry, Phase, Progress};
 use indexmap::IndexMap;
 use std::alloc::Global;
+use tx_core::Answer;
 use tx_types::limits::MAX_KEYS;
 use tx_types::{Change, Changes, Fault, Key, Mutation, Secondaries, Ts};
 
@@ -17,7 +19,7 @@ pub(crate) type Buffer = IndexMap<Key, Entry>;
 pub(crate) fn is_full(buffer: &Buffer, key: &Key) -> bool
     ensures { result ≡ is_full buffer.now.entries key.now }
 {
-    !(find(buffer, key).is_some() || buffer.len() < MAX_KEYS)
+    buffer.len() >= MAX_KEYS && find(buffer, key).is_none()
 }
 
 /// Sets what is done to a key, of which then nothing was answered yet.
@@ -147,13 +149,23 @@ pub(crate) fn progress_of(buffer: &Buffer, i: usize) -> Progress
     }
 }
 
-/// Notes what was answered for the key at a place.
-pub(crate) fn note(buffer: &mut Buffer, i: usize, progress: Progress)
+/// Notes what was sent and answered for the key at a place.
+pub(crate) fn note(buffer: &mut Buffer, i: usize, phase: Phase, answer: &Answer)
     requires { i < length buffer.old.entries }
-    ensures { buffer.new.entries ≡ with_progress buffer.old.entries i progress }
+    ensures { buffer.new.entries ≡ with_progress buffer.old.entries i (marked_by phase answer.now (sent_by phase (progress_at buffer.old.entries i))) }
 {
     if let Some(entry) = buffer.get_index_mut(i) {
-        entry.progress = progress;
+        mark(phase, answer, &mut entry.progress);
+    }
+}
+
+/// Notes that a request was sent for the key at a place.
+pub(crate) fn note_sent(buffer: &mut Buffer, i: usize, phase: Phase)
+    requires { i < length buffer.old.entries }
+    ensures { buffer.new.entries ≡ with_progress buffer.old.entries i (sent_by phase (progress_at buffer.old.entries i)) }
+{
+    if let Some(entry) = buffer.get_index_mut(i) {
+        mark_sent(phase, &mut entry.progress);
     }
 }
 

@@ -1,57 +1,75 @@
 //! What comes of a transaction's requests.
-ghost use Rattle.std.specs.Prelude.{◌≡◌, ◌<◌, length};
-ghost use Rattle.tx_client.specs.Sessions.{met_by, missed, heard, after_came, after_read};
+ghost use Rattle.std.specs.Prelude.{◌≡◌, ◌<◌, Some, length};
+ghost use Rattle.tx_core.specs.Decisions.{fate_in};
+ghost use Rattle.tx_client.specs.Buffers.{promised};
+ghost use Rattle.tx_client.specs.Sessions.{first_settled, committed_by, missed, heard, met_by, after_came, after_read};
 ghost use Rattle.tx_client.specs.Walks.{IsHanded, Returns, ReadsAs};
 
 use super::Transaction;
-use crate::answers::{cause, committed, drawn, first, marked, sent, settled};
-use crate::buffer::{note, progress_of, promised};
+use crate::answers::{cause, committed, drawn, settled};
+use crate::buffer::{Buffer, note, note_sent, promised};
 use crate::state::{Came, Miss, Phase};
 use tx_core::{Answer, UnknownCause};
+use tx_types::{Fate, LockInfo};
+
+// What is decided once an answer was heard: what was known first stands, then the fate that the answer tells, then that each key
+// has an async lock.
+fn decided(known: Option<Fate>, answer: &Answer, buffer: &Buffer) -> Option<Fate>
+    ensures { result ≡ first_settled (first_settled known (fate_in answer.now)) (committed_by (promised buffer.now.entries)) }
+{
+    if known.is_some() {
+        return known;
+    }
+    match settled(answer) {
+        Some(fate) => Some(fate),
+        None => committed(promised(buffer)),
+    }
+}
 
 impl Transaction {
+    // Keeps a lock that stood in the way, and hands a copy on. Few answers tell of one, so it stands apart.
+    #[inline(never)]
+    fn meet(&mut self, info: LockInfo) -> Result<Answer, Miss>
+        ensures state { self.new ≡ record self.old { met = Some info } }
+        ensures handed { IsHanded (Answer.KeyIsLocked info) result }
+    {
+        let copy = info.clone();
+        self.met = Some(info);
+        match copy {
+            Ok(copy) => Ok(Answer::KeyIsLocked(copy)),
+            Err(_) => Err(Miss::NoMemory),
+        }
+    }
+
+    // Hears the answer to a request of a phase, but for the lock that it names.
+    fn hear(&mut self, phase: Phase, place: usize, answer: &Answer)
+        requires { place < length self.old.buffer }
+        ensures { self.new ≡ record (heard self.old phase place answer.now) { met = self.old.met } }
+    {
+        note(&mut self.buffer, place, phase, answer);
+        self.drawn = drawn(answer, self.drawn);
+        self.cause = cause(answer);
+        self.decision = decided(self.decision, answer, &self.buffer);
+    }
+
     // Hands an answer on, and keeps the lock that it names.
-    fn meet(&mut self, answer: Answer) -> Result<Answer, Miss>
+    fn hand(&mut self, answer: Answer) -> Result<Answer, Miss>
         ensures state { self.new ≡ record self.old { met = met_by answer self.old.met } }
         ensures handed { IsHanded answer result }
     {
         match answer {
-            Answer::KeyIsLocked(info) => {
-                let copy = info.clone();
-                self.met = Some(info);
-                match copy {
-                    Ok(copy) => Ok(Answer::KeyIsLocked(copy)),
-                    Err(_) => Err(Miss::NoMemory),
-                }
-            }
+            Answer::KeyIsLocked(info) => self.meet(info),
             other => Ok(other),
         }
     }
 
-    // Hears the answer to a request of a phase.
-    fn hear(&mut self, phase: Phase, place: usize, answer: Answer) -> Result<Answer, Miss>
-        requires { place < length self.old.buffer }
-        ensures state { self.new ≡ heard self.old phase place answer }
-        ensures handed { IsHanded answer result }
-    {
-        let progress = sent(phase, progress_of(&self.buffer, place));
-        note(&mut self.buffer, place, marked(phase, &answer, progress));
-        self.drawn = drawn(&answer, self.drawn);
-        self.cause = cause(&answer);
-        self.decision = first(
-            first(self.decision, settled(&answer)),
-            committed(promised(&self.buffer)),
-        );
-        self.meet(answer)
-    }
-
     // No answer came to a request of a phase.
+    #[inline(never)]
     fn miss(&mut self, phase: Phase, place: usize, why: UnknownCause)
         requires { place < length self.old.buffer }
         ensures { self.new ≡ missed self.old phase place why }
     {
-        let progress = sent(phase, progress_of(&self.buffer, place));
-        note(&mut self.buffer, place, progress);
+        note_sent(&mut self.buffer, place, phase);
         self.cause = Some(why);
     }
 
@@ -75,10 +93,13 @@ impl Transaction {
                 self.miss(phase, place, UnknownCause::OutOfMemory);
                 Err(Miss::NoMemory)
             }
-            Came::Said(answer) => match self.hear(phase, place, answer) {
-                Ok(answer) => Ok(Some(answer)),
-                Err(miss) => Err(miss),
-            },
+            Came::Said(answer) => {
+                self.hear(phase, place, &answer);
+                match self.hand(answer) {
+                    Ok(answer) => Ok(Some(answer)),
+                    Err(miss) => Err(miss),
+                }
+            }
         }
     }
 
@@ -90,7 +111,7 @@ impl Transaction {
         match came {
             Came::Lost => Err(Miss::NoReply),
             Came::Unsaid => Err(Miss::NoMemory),
-            Came::Said(answer) => self.meet(answer),
+            Came::Said(answer) => self.hand(answer),
         }
     }
 }
