@@ -1,9 +1,8 @@
 -- What the calls of a session ask of its state and of its seat, and keep.
-use Rattle.std.proofs.Common.{◌≡◌, ◌≤◌, ℕ, ◌+◌, inl, inr, Bool, true, false, List, ◌∷◌, length, Option, Some, None, Result, Ok, Err, OnOk, OnErr, IfOk, IfSome, refl, sym, ap, subst, ◌∙◌, arith}
+use Rattle.std.proofs.Common.{◌≡◌, ◌≤◌, ℕ, inl, inr, Bool, true, false, List, length, Option, Some, None, Result, Ok, Err, OnOk, OnErr, IfOk, IfSome, refl, sym, subst, ◌∙◌, arith}
 use borrow.Author.Tests.{ltb-true}
 use Rattle.std.proofs.lemmas.List.Sums.{count_by-le-length}
 use Rattle.tx_types.specs.declared.key.Key.{Key}
-use Rattle.tx_types.specs.declared.mutation.Mutation.{Mutation}
 use Rattle.tx_plan.specs.declared.body.Body.{Body}
 use Rattle.tx_plan.specs.declared.answer.Answer.{Answer}
 use Rattle.tx_types.specs.Keys.{key_le}

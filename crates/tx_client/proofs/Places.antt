@@ -1,13 +1,7 @@
 -- The buffer by places.
-use Rattle.std.proofs.Common.{◌++◌, ◌||◌, ◌≤◌, max, inl, inr, take, nat_eq, bytes_eq, ◌≡◌, ℕ, ◌+◌, ◌<◌, zero, suc, Bool, true, false, cond, length, List, [], ◌∷◌, Option, Some, None, refl, sym, ap, ◌∙◌, arith}
-use Rattle.std.specs.Prelude.{slice_get}
-use Rattle.std.specs.Map.{values_of, keys_of}
-use Rattle.std.specs.List.{IsDistinct, AllByRecursion}
-use Rattle.std.specs.Cmp.Lexicographic.{pointwise}
-use Rattle.tx_machine.specs.Keys
+use Rattle.std.proofs.Common.{◌++◌, ◌||◌, ◌≤◌, max, take, ◌≡◌, ℕ, ◌+◌, ◌<◌, zero, suc, Bool, true, false, length, List, [], ◌∷◌, Some, None, refl, sym, ap, ◌∙◌, arith}
+use Rattle.std.specs.Prelude.{slice_index_or, slice_set}
 use Rattle.tx_types.specs.declared.mutation.Change.{Change}
-use Rattle.tx_core.proofs.Basics.{key_test, key_same}
-use Rattle.indexmap.specs.Layout.{set_value_at}
 use Rattle.tx_types.specs.declared.key.Key.{Key}
 use Rattle.tx_client.specs.declared.state.Phase.{Phase}
 use Rattle.tx_client.specs.declared.state.Progress.{Progress}
@@ -28,35 +22,17 @@ place_none n x (e ∷ es) below = rw (below 0 (omega arith)) (place_none (n + 1)
 pub first_found : (x : Phase) (es : Entries) (i : ℕ) → i < length es → ((k : ℕ) → k < i → wants x (progress_at es k) ≡ false) → wants x (progress_at es i) ≡ true → Some i ≡ place_from 0 x es
 first_found x es i lt below here = sym (place_found 0 x es i lt below here ∙ ap (λ m. Some m) (omega arith))
 
-pub pair_at : (es : Entries) (i : ℕ) (p : Key × Entry) → Some p ≡ slice_get es i → (key_at es i ≡ p.0) × (mutation_in es i ≡ p.1.mutation) × (progress_at es i ≡ p.1.progress)
-pair_at [] i p e = absurd (cc (e))
-pair_at (x ∷ es) zero p e = let same : p ≡ x = cc (e) in (ap (λ (q : Key × Entry). q.0) (sym same), ap (λ (q : Key × Entry). q.1.mutation) (sym same), ap (λ (q : Key × Entry). q.1.progress) (sym same))
-pair_at (x ∷ es) (suc i) p e = pair_at es i p e
+-- what stands at a place
+pub here : (es : Entries) (i : ℕ) (p : Key × Entry) → i < length es → p ≡ slice_index_or es i p → (key_at es i ≡ p.0) × (mutation_in es i ≡ p.1.mutation) × (progress_at es i ≡ p.1.progress)
+here [] i p lt e = absurd (omega (arith, lt))
+here (x ∷ es) zero p lt e = (ap (λ (q : Key × Entry). q.0) (sym e), ap (λ (q : Key × Entry). q.1.mutation) (sym e), ap (λ (q : Key × Entry). q.1.progress) (sym e))
+here (x ∷ es) (suc i) p lt e = here es i p (omega (arith, lt)) e
 
-pub noted : (es : Entries) (i : ℕ) (v : Entry) (p : Progress) → Some v ≡ slice_get (values_of es) i → set_value_at es i (record { mutation = v.mutation; progress = p }) ≡ with_progress es i p
-noted [] i v p e = refl
-noted (x ∷ es) zero v p e = let same : v ≡ x.1 = cc (e) in ap (λ (w : Entry). (x.0, record { mutation = w.mutation; progress = p }) ∷ es) same
-noted (x ∷ es) (suc i) v p e = ap (λ (l : Entries). x ∷ l) (noted es i v p e)
-
--- the progress of a place is that of its value
-pub progress_there : (es : Entries) (i : ℕ) (v : Entry) → Some v ≡ slice_get (values_of es) i → v.progress ≡ progress_at es i
-progress_there [] i v e = absurd (cc (e))
-progress_there (x ∷ es) zero v e = let same : v ≡ x.1 = cc (e) in ap (λ (w : Entry). w.progress) same
-progress_there (x ∷ es) (suc i) v e = progress_there es i v e
-
--- no key of the buffer comes twice
-pub distinct_changes : (es : Entries) → IsDistinct (pointwise nat_eq) (keys_of es) → Keys.IsDistinct (changes_of es)
-unfolding IsDistinct
-distinct_changes [] d = tt
-distinct_changes (e ∷ es) d = (none es d.0, distinct_changes es d.1)
-  where
-    none : (fs : Entries) → AllByRecursion (λ y. pointwise nat_eq e.0 y ≡ false) (keys_of fs) → Keys.mutation_at (changes_of fs) e.0 ≡ None
-    none [] a = refl
-    none (f ∷ fs) a =
-        elim (key_test f.0 e.0) [
-          | inl y ↦ absurd (cc (a.0, key_same e.0, ap (λ k. bytes_eq e.0 k) y.1))
-          | inr y ↦ rw y.0 (none fs a.1)
-        ]
+-- the progress of a place is written
+pub noted : (es : Entries) (i : ℕ) (p : Key × Entry) (q : Progress) → i < length es → p ≡ slice_index_or es i p → slice_set es i (p.0, record { mutation = p.1.mutation; progress = q }) ≡ with_progress es i q
+noted [] i p q lt e = absurd (omega (arith, lt))
+noted (x ∷ es) zero p q lt e = ap (λ (r : Key × Entry). (r.0, record { mutation = r.1.mutation; progress = q }) ∷ es) e
+noted (x ∷ es) (suc i) p q lt e = ap (λ (l : Entries). x ∷ l) (noted es i p q (omega (arith, lt)) e)
 
 -- the changes of the first n entries
 pub front_more : (n : ℕ) (es : Entries) → n < length es → changes_of (take (suc n) es) ≡ changes_of (take n es) ++ record { key = key_at es n; mutation = mutation_in es n } ∷ []

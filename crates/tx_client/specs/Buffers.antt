@@ -1,6 +1,6 @@
 -- A session's write buffer: its keys in the order in which they were first touched, each with what is done to it, and what was sent and
 -- answered for it.
-use Rattle.std.specs.Prelude.{ℕ, ◌+◌, zero, suc, max, nat_lt, ◌||◌, ◌&&◌, Bool, true, false, not, cond, List, [], ◌∷◌, length, Option, Some, None, is_some, bytes_eq}
+use Rattle.std.specs.Prelude.{ℕ, ◌≡◌, ◌<◌, ◌+◌, zero, suc, max, nat_lt, ◌||◌, ◌&&◌, Bool, true, false, not, cond, List, [], ◌∷◌, length, Option, Some, None, is_some, bytes_eq}
 use Rattle.indexmap.specs.IndexMap.{insert_entry}
 use Rattle.tx_types.specs.declared.limits.TheConstants.{MAX_KEYS}
 use Rattle.tx_types.specs.declared.key.Key.{Key}
@@ -14,6 +14,10 @@ use Rattle.tx_client.specs.declared.state.Entry.{Entry}
 
 abbrev pub Entries : Type 0
 Entries = List (Key × Entry)
+
+-- what contracts see of a buffer
+pub record WriteBuffer : Type 0 where
+  pub entries : Entries
 
 -- ---- keys and what is done to them
 
@@ -70,6 +74,16 @@ abbrev pub key_at : Entries → ℕ → Key
 key_at [] i = []
 key_at (e ∷ es) zero = e.0
 key_at (e ∷ es) (suc i) = key_at es i
+
+-- no place below n has the key
+abbrev pub IsBelow : Entries → Key → ℕ → Type 0
+IsBelow es k n = (j : ℕ) → j < n → bytes_eq (key_at es j) k ≡ false
+
+-- the first place that has the key
+pub record IsFirstOf (es : Entries) (k : Key) (i : ℕ) : Type 0 where
+  pub within : i < length es
+  pub here : bytes_eq (key_at es i) k ≡ true
+  pub below : IsBelow es k i
 
 abbrev pub mutation_in : Entries → ℕ → Mutation
 mutation_in [] i = mutation.Lock

@@ -1,19 +1,93 @@
 //! The write buffer: keys in the order in which they were first touched.
-ghost use Rattle.std.specs.Prelude.{◌≡◌, ◌<◌, ◌≤◌, length, IfOk, IfErr, IfSome, OnOk, OnErr, is_some, max, option_map, bytes_eq};
+ghost use Rattle.std.specs.Prelude.{◌≡◌, ◌<◌, ◌≤◌, length, [], IfOk, IfErr, IfSome, IfNone, OnOk, OnErr, is_some, max, option_map, bytes_eq};
 ghost use Rattle.tx_machine.specs.Keys.{IsDistinct};
 ghost use Rattle.tx_types.specs.declared.mutation.Mode.TheVariants.{Async};
-ghost use Rattle.tx_client.specs.Buffers.{Entries, key_at, mutation_in, progress_at, with_progress, first_place, wants, is_full, is_change, is_known, not_empty, changes_of, touched, buffered, has_two_phase_lock, async_minimum, promised, is_zero};
+ghost use Rattle.tx_client.specs.Buffers.{Entries, IsBelow, IsFirstOf, key_at, mutation_in, progress_at, with_progress, first_place, wants, is_full, is_change, is_known, not_empty, changes_of, touched, buffered, has_two_phase_lock, async_minimum, promised, is_zero};
 ghost use Rattle.tx_client.specs.Sessions.{others_at, sent_by, marked_by};
 
 use crate::answers::{mark, mark_sent};
 use crate::state::{Entry, Phase, Progress};
-use indexmap::IndexMap;
 use std::alloc::Global;
+use std::marker::Model;
 use tx_core::Answer;
 use tx_types::limits::MAX_KEYS;
 use tx_types::{Change, Changes, Fault, Key, Mutation, Secondaries, Ts};
 
-pub(crate) type Buffer = IndexMap<Key, Entry>;
+/// The write buffer: each key once, with what is done to it and how far it is. Few keys are touched by a transaction, so a key is
+/// found by looking at each. Contracts see the entries.
+#[derive(Debug, Drop)]
+pub(crate) struct Buffer {
+    entries: Vec<(Key, Entry)>,
+}
+
+impl Model for Buffer {
+    ghost use Rattle.tx_machine.specs.Keys.{IsDistinct};
+    ghost use Rattle.tx_client.specs.Buffers.{WriteBuffer, changes_of};
+
+    ghost Value = { WriteBuffer };
+
+    ghost view = { λ b. record { entries = b.entries.items } };
+
+    ghost invariant = { λ b. IsDistinct (changes_of b.entries.items) };
+}
+
+impl Buffer {
+    /// A buffer without a key. It takes no memory.
+    pub(crate) fn new(alloc: Global) -> Buffer
+        ensures { result.entries ≡ [] }
+    {
+        Buffer {
+            entries: Vec::new(alloc),
+        }
+    }
+
+    /// How many keys there are.
+    pub(crate) fn len(&self) -> usize
+        ensures len { result ≡ length self.now.entries }
+        ensures distinct { IsDistinct (changes_of self.now.entries) }
+    {
+        self.entries.len()
+    }
+
+    // The key at a place, and what is known of it.
+    fn entry_at(&self, i: usize) -> (&Key, &Entry)
+        requires { i < length self.now.entries }
+        ensures key { key_at self.now.entries i ≡ result.0.now }
+        ensures mutation { mutation_in self.now.entries i ≡ result.1.now.mutation }
+        ensures progress { progress_at self.now.entries i ≡ result.1.now.progress }
+    {
+        let (key, entry) = &self.entries[i];
+        (key, entry)
+    }
+}
+
+// Whether two keys are the same. Keys that are told apart mostly differ in their last bytes, so those are looked at first.
+fn is_same(a: &[u8], b: &[u8]) -> bool
+    ensures { result ≡ bytes_eq a.now b.now }
+{
+    a.len() == b.len() && a.last() == b.last() && a == b
+}
+
+// Whether the key at a place has these bytes.
+fn is_at(buffer: &Buffer, i: usize, key: &[u8]) -> bool
+    requires { i < length buffer.now.entries }
+    ensures { result ≡ bytes_eq (key_at buffer.now.entries i) key.now }
+{
+    is_same(buffer.entry_at(i).0.as_bytes(), key)
+}
+
+// The place of the key of these bytes.
+fn place_by(buffer: &Buffer, key: &[u8]) -> Option<usize>
+    ensures there { IfSome result (IsFirstOf buffer.now.entries key.now) }
+    ensures none { IfNone result (IsBelow buffer.now.entries key.now (length buffer.now.entries)) }
+{
+    for i in 0..buffer.len() {
+        if is_at(buffer, i, key) {
+            return Some(i);
+        }
+    }
+    None
+}
 
 /// Whether the key would be one too many.
 pub(crate) fn is_full(buffer: &Buffer, key: &Key) -> bool
@@ -34,7 +108,11 @@ pub(crate) fn touch(buffer: &mut Buffer, key: Key, mutation: Mutation) -> Result
         committed: false,
         rolled: false,
     };
-    buffer.insert(key, Entry { mutation, progress })?;
+    let entry = Entry { mutation, progress };
+    match place_by(buffer, key.as_bytes()) {
+        Some(i) => buffer.entries[i].1 = entry,
+        None => buffer.entries.push((key, entry))?,
+    }
     Ok(())
 }
 
@@ -42,20 +120,9 @@ pub(crate) fn touch(buffer: &mut Buffer, key: Key, mutation: Mutation) -> Result
 pub(crate) fn find<'a>(buffer: &'a Buffer, key: &Key) -> Option<&'a Mutation>
     ensures { option_map (λ m. m.now) result ≡ buffered buffer.now.entries key.now }
 {
-    match buffer.get(key) {
-        Some(entry) => Some(&entry.mutation),
+    match place_by(buffer, key.as_bytes()) {
+        Some(i) => Some(&buffer.entry_at(i).1.mutation),
         None => None,
-    }
-}
-
-// Whether the key at a place has these bytes.
-fn is_at(buffer: &Buffer, i: usize, key: &[u8]) -> bool
-    requires { i < length buffer.now.entries }
-    ensures { result ≡ bytes_eq (key_at buffer.now.entries i) key.now }
-{
-    match buffer.get_index(i) {
-        Some((k, _)) => k.as_bytes() == key,
-        None => unreachable!(),
     }
 }
 
@@ -74,22 +141,17 @@ fn is_changed(buffer: &Buffer, i: usize) -> bool
     requires { i < length buffer.now.entries }
     ensures { result ≡ is_change (mutation_in buffer.now.entries i) }
 {
-    match buffer.get_index(i) {
-        Some((_, entry)) => is_change(&entry.mutation),
-        None => unreachable!(),
-    }
+    is_change(&buffer.entry_at(i).1.mutation)
 }
 
 /// Whether a read of the key of these bytes is answered from the buffer.
 pub(crate) fn is_known(buffer: &Buffer, key: &[u8]) -> bool
     ensures { result ≡ is_known (buffered buffer.now.entries key.now) }
 {
-    for i in 0..buffer.len() {
-        if is_at(buffer, i, key) {
-            return is_changed(buffer, i);
-        }
+    match place_by(buffer, key) {
+        Some(i) => is_changed(buffer, i),
+        None => false,
     }
-    false
 }
 
 fn wants_more(phase: Phase, progress: Progress) -> bool
@@ -121,10 +183,7 @@ pub(crate) fn key_of(buffer: &Buffer, i: usize) -> Result<Key, Fault>
     ensures ok { IfOk result (λ k. k ≡ key_at buffer.now.entries i) }
     ensures err { IfErr result (λ e. e ≡ Fault.OutOfMemory) }
 {
-    match buffer.get_index(i) {
-        Some((key, _)) => key.clone(),
-        None => unreachable!(),
-    }
+    buffer.entry_at(i).0.clone()
 }
 
 /// A copy of the mutation at a place.
@@ -133,20 +192,14 @@ pub(crate) fn mutation_of(buffer: &Buffer, i: usize) -> Result<Mutation, Fault>
     ensures ok { IfOk result (λ m. m ≡ mutation_in buffer.now.entries i) }
     ensures err { IfErr result (λ e. e ≡ Fault.OutOfMemory) }
 {
-    match buffer.get_index(i) {
-        Some((_, entry)) => entry.mutation.clone(),
-        None => unreachable!(),
-    }
+    buffer.entry_at(i).1.mutation.clone()
 }
 
 pub(crate) fn progress_of(buffer: &Buffer, i: usize) -> Progress
     requires { i < length buffer.now.entries }
     ensures { result ≡ progress_at buffer.now.entries i }
 {
-    match buffer.get_index(i) {
-        Some((_, entry)) => entry.progress,
-        None => unreachable!(),
-    }
+    buffer.entry_at(i).1.progress
 }
 
 /// Notes what was sent and answered for the key at a place.
@@ -154,9 +207,7 @@ pub(crate) fn note(buffer: &mut Buffer, i: usize, phase: Phase, answer: &Answer)
     requires { i < length buffer.old.entries }
     ensures { buffer.new.entries ≡ with_progress buffer.old.entries i (marked_by phase answer.now (sent_by phase (progress_at buffer.old.entries i))) }
 {
-    if let Some(entry) = buffer.get_index_mut(i) {
-        mark(phase, answer, &mut entry.progress);
-    }
+    mark(phase, answer, &mut buffer.entries[i].1.progress);
 }
 
 /// Notes that a request was sent for the key at a place.
@@ -164,15 +215,13 @@ pub(crate) fn note_sent(buffer: &mut Buffer, i: usize, phase: Phase)
     requires { i < length buffer.old.entries }
     ensures { buffer.new.entries ≡ with_progress buffer.old.entries i (sent_by phase (progress_at buffer.old.entries i)) }
 {
-    if let Some(entry) = buffer.get_index_mut(i) {
-        mark_sent(phase, &mut entry.progress);
-    }
+    mark_sent(phase, &mut buffer.entries[i].1.progress);
 }
 
 pub(crate) fn has_keys(buffer: &Buffer) -> bool
     ensures { result ≡ not_empty buffer.now.entries }
 {
-    !buffer.is_empty()
+    !buffer.entries.is_empty()
 }
 
 /// The write set.

@@ -11,7 +11,6 @@ mod requests;
 
 use crate::buffer::{Buffer, changes_in, find, has_keys, is_full, is_known, touch};
 use crate::state::{Miss, Terms};
-use indexmap::IndexMap;
 use std::alloc::Global;
 use std::marker::Model;
 use tx_core::{Answer, Declaration, Starts, UnknownCause};
@@ -59,7 +58,7 @@ impl Transaction {
     {
         Transaction {
             start,
-            buffer: IndexMap::new(alloc),
+            buffer: Buffer::new(alloc),
             declared: None,
             bypass: Starts::new(alloc),
             met: None,

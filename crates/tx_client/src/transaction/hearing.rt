@@ -52,6 +52,20 @@ impl Transaction {
         self.decision = decided(self.decision, answer, &self.buffer);
     }
 
+    // Hands the answer to a request of a phase on, and keeps the lock that it names.
+    fn hand_on(&mut self, answer: Answer) -> Result<Option<Answer>, Miss>
+        ensures state { self.new ≡ record self.old { met = met_by answer self.old.met } }
+        ensures handed { Returns (Came.Said answer) result }
+    {
+        match answer {
+            Answer::KeyIsLocked(info) => match self.meet(info) {
+                Ok(answer) => Ok(Some(answer)),
+                Err(miss) => Err(miss),
+            },
+            other => Ok(Some(other)),
+        }
+    }
+
     // Hands an answer on, and keeps the lock that it names.
     fn hand(&mut self, answer: Answer) -> Result<Answer, Miss>
         ensures state { self.new ≡ record self.old { met = met_by answer self.old.met } }
@@ -95,10 +109,7 @@ impl Transaction {
             }
             Came::Said(answer) => {
                 self.hear(phase, place, &answer);
-                match self.hand(answer) {
-                    Ok(answer) => Ok(Some(answer)),
-                    Err(miss) => Err(miss),
-                }
+                self.hand_on(answer)
             }
         }
     }

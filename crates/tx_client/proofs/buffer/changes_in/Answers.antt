@@ -1,7 +1,7 @@
-use Rattle.std.proofs.Common.{◌≡◌, ◌∙◌, ◌<◌, ◌+◌, ◌++◌, suc, sym, ap, take, length, arith, List, [], ◌∷◌}
+use Rattle.std.proofs.Common.{◌≡◌, ◌∙◌, ◌<◌, ◌+◌, ◌++◌, suc, sym, ap, take, length, arith, [], ◌∷◌}
 use Rattle.tx_types.specs.declared.mutation.Change.{Change}
 use Rattle.tx_client.specs.Buffers.{changes_of}
-use Rattle.tx_client.proofs.Places.{distinct_changes, front_more}
+use Rattle.tx_client.proofs.Places.{front_more}
 use Rattle.tx_client.proofs.buffer.changes_in.Goals as goal
 
 pub loop-i-preserved : goal.loop-i-preserved
@@ -12,4 +12,4 @@ loop-i-preserved c =
     c.in_ok-push.ensures.ok ∙ (λ j. c.loop-i.invariant j ++ parts j ∷ []) ∙ sym (front_more c.loop-i.i c.args.buffer.now.entries lt) ∙ ap (λ n. changes_of (take n c.args.buffer.now.entries)) next
 
 pub returns-clause-distinct : goal.returns-clause-distinct
-returns-clause-distinct c = distinct_changes c.args.buffer.now.entries c.len-i-end.ensures.unique
+returns-clause-distinct c = c.len-i-end.ensures.distinct

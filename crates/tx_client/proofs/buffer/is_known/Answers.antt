@@ -1,12 +1,11 @@
-use Rattle.std.proofs.Common.{arith, sym, ◌∙◌, ◌<◌, ◌≡◌, length, true, bytes_eq}
-use Rattle.tx_client.specs.Buffers.{key_at}
+use Rattle.std.proofs.Common.{◌∙◌}
 use Rattle.tx_client.proofs.Finding.{known_at, unknown}
 use Rattle.tx_client.proofs.buffer.is_known.Goals as goal
 
-pub returns-then-is_at : goal.returns-then-is_at
-returns-then-is_at c =
-    let lt : c.loop-i.i < length c.args.buffer.now.entries = omega (arith, c.len-i-end.ensures.len) in
-    c.is_changed.ensures ∙ known_at c.args.buffer.now.entries c.args.key.now c.loop-i.i lt c.loop-i.invariant (sym c.if-is_at.ensures)
+pub returns-in-Some : goal.returns-in-Some
+returns-in-Some c =
+    let there = c.in-Some.ensures.there in
+    c.is_changed.ensures ∙ known_at c.args.buffer.now.entries c.args.key.now c.in-Some.i there.within there.below there.here
 
-pub returns : goal.returns
-returns c = unknown c.args.buffer.now.entries c.args.key.now (λ k lt. c.loop-i.invariant k (omega (arith, c.len-i-end.ensures.len)))
+pub returns-in-None : goal.returns-in-None
+returns-in-None c = unknown c.args.buffer.now.entries c.args.key.now c.in-None.ensures.none
