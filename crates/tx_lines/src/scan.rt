@@ -52,7 +52,10 @@ fn plain_end(bytes: &[u8], from: usize) -> usize
     plain_end_from(bytes, at)
 }
 
-fn past_spaces(bytes: &[u8], from: usize) -> usize
+// The first byte from here on that is no space, where there are some.
+#[cold]
+#[inline(never)]
+fn past_many(bytes: &[u8], from: usize) -> usize
     requires { from ≤ length bytes.now }
     ensures range { result ≤ length bytes.now }
     ensures same { Same (drop from bytes.now) (drop result bytes.now) }
@@ -64,13 +67,30 @@ fn past_spaces(bytes: &[u8], from: usize) -> usize
     at
 }
 
+// The first byte from here on that is no space. Mostly there is none.
+fn past_spaces(bytes: &[u8], from: usize) -> usize
+    requires { from ≤ length bytes.now }
+    ensures range { result ≤ length bytes.now }
+    ensures same { Same (drop from bytes.now) (drop result bytes.now) }
+{
+    if from < bytes.len() && bytes[from] == b' ' {
+        past_many(bytes, from)
+    } else {
+        from
+    }
+}
+
 // Passes this byte, and spaces before it.
 pub(crate) fn pass(line: &str, from: usize, byte: u8) -> Option<usize>
     requires { from ≤ length line.now }
     ensures range { IfSome result (λ at. at ≤ length line.now) }
     ensures same { IfSome result (λ at. Same (drop from line.now) (byte ∷ drop at line.now)) }
+    ensures after { IfSome result (λ at. (1 ≤ at) × (get_or line.now (at - 1) 0 ≡ byte)) }
 {
     let bytes = line.as_bytes();
+    if from < bytes.len() && bytes[from] == byte {
+        return Some(from + 1);
+    }
     let at = past_spaces(bytes, from);
     if at < bytes.len() && bytes[at] == byte {
         Some(at + 1)
@@ -91,11 +111,7 @@ pub(crate) fn string(line: &str, from: usize) -> Option<(&str, usize)>
     if stop == bytes.len() || bytes[stop] != b'"' {
         return None;
     }
-    if line.is_char_boundary(start) && line.is_char_boundary(stop) {
-        Some((&line[start..stop], stop + 1))
-    } else {
-        None
-    }
+    Some((&line[start..stop], stop + 1))
 }
 
 // The end of the digits from here on.
@@ -202,10 +218,14 @@ pub(crate) fn leading<'a>(line: &'a str, parts: &mut Parts<'a>) -> Option<Option
             return Some(Some(at));
         };
         parts.push(part);
-        if is_over(line, after) {
-            return Some(None);
-        }
-        at = pass(line, after, b',')?;
+        let Some(next) = pass(line, after, b',') else {
+            return if is_over(line, after) {
+                Some(None)
+            } else {
+                None
+            };
+        };
+        at = next;
     }
     None
 }

@@ -161,9 +161,7 @@ pub fn put_text(out: &mut Vec<u8>, bytes: &[u8]) -> Result<(), AllocError>
 pub(crate) fn put_end(out: &mut Vec<u8>) -> Result<(), AllocError>
     ensures { OnOk result (out.new.items ≡ out.old.items ++ 93 ∷ 10 ∷ []) }
 {
-    out.push(b']')?;
-    out.push(b'\n')?;
-    Ok(())
+    out.extend_from_slice(b"]\n")
 }
 
 /// Appends a word, as it is written, a comma and a number.

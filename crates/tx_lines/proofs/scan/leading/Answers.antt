@@ -14,8 +14,8 @@ returns-then-is_over c =
 
 pub parts-preserved : goal.parts-preserved
 parts-preserved c =
-    let left = drop c.in_ok-at-2.at c.args.line.now in (
-      c.in_ok-at-2.ensures.range,
+    let left = drop c.in-Some-pass.next c.args.line.now in (
+      c.in-Some-pass.ensures.range,
       subst (λ parts. ReadParts c.args.line.now parts left) (sym c.push.ensures.items)
-          (read_more c.args.line.now c.parts.parts.items c.in-Some.part _ _ left c.parts.invariant.1 c.in-Some.ensures.begins c.in_ok-at-2.ensures.same),
+          (read_more c.args.line.now c.parts.parts.items c.in-Some.part _ _ left c.parts.invariant.1 c.in-Some.ensures.begins c.in-Some-pass.ensures.same),
     )

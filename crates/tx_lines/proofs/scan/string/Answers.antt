@@ -1,13 +1,23 @@
-use Rattle.std.proofs.Common.{arith, drop, ◌+◌, ◌∷◌, subst, sym}
+use Rattle.std.proofs.Common.{◌≡◌, arith, drop, ◌+◌, ◌-◌, ◌∷◌, subst, sym}
+use Rattle.std.proofs.lemmas.Str.{IsCharBoundary-after_ascii}
 use Rattle.std.specs.Prelude.{slice_range}
+use Rattle.std.specs.Str.{IsCharBoundary}
 use Rattle.json.specs.Token.{string}
 use Rattle.json.specs.Lex.{token}
 use Rattle.tx_lines.specs.Scan.{Runs, Begins}
 use Rattle.tx_lines.proofs.Lexemes.{quoted_begins, runs_next}
 use Rattle.tx_lines.proofs.scan.string.Goals as goal
 
-pub returns-then-is_char_boundary-2-clause-begins : goal.returns-then-is_char_boundary-2-clause-begins
-returns-then-is_char_boundary-2-clause-begins c =
+pub range-requires-clause-start_boundary : goal.range-requires-clause-start_boundary
+range-requires-clause-start_boundary c =
+    let line = c.args.line.now in
+    let start = c.in_ok-start.start in
+    let quote = c.in_ok-start.ensures.after in
+    let same : start - 1 + 1 ≡ start = omega arith in
+    λ _. subst (IsCharBoundary line) same (IsCharBoundary-after_ascii line (start - 1) c.utf8.line (omega arith) (omega arith))
+
+pub returns-clause-begins : goal.returns-clause-begins
+returns-clause-begins c =
     let line = c.args.line.now in
     let bytes = c.as_bytes-bytes.result.now in
     let start = c.in_ok-start.start in

@@ -1,6 +1,6 @@
 use Rattle.std.proofs.Common.{◌≤◌, ◌-◌, length, drop}
 use Rattle.tx_lines.specs.Scan.{Same}
-use Rattle.tx_lines.proofs.scan.past_spaces.Given as goal
+use Rattle.tx_lines.proofs.scan.past_many.Given as goal
 
 abbrev pub invariant-bytes : goal.invariant-bytes
 invariant-bytes l = (l.at ≤ length l.bytes) × Same (drop l.from l.bytes) (drop l.at l.bytes)

@@ -1,6 +1,6 @@
 use Rattle.std.proofs.Common.{arith, drop}
 use Rattle.tx_lines.proofs.Lexemes.{space_more}
-use Rattle.tx_lines.proofs.scan.past_spaces.Goals as goal
+use Rattle.tx_lines.proofs.scan.past_many.Goals as goal
 
 pub bytes-preserved : goal.bytes-preserved
 bytes-preserved c =
