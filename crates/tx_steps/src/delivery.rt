@@ -45,8 +45,9 @@ fn delivery_word<'a>(word: &str) -> Option<Delivery<'a>>
     }
 }
 
-/// The delivery that the last members of a step say: none is `Taken`.
-pub(crate) fn delivery_of<'a>(members: &[Part<'a>]) -> Option<Delivery<'a>>
+// The delivery that a word says, where there is one.
+#[inline(never)]
+fn told<'a>(members: &[Part<'a>]) -> Option<Delivery<'a>>
     ensures { option_map way result ≡ way_said (parts_items members.now) }
 {
     if none_left(members) {
@@ -58,4 +59,16 @@ pub(crate) fn delivery_of<'a>(members: &[Part<'a>]) -> Option<Delivery<'a>>
     }
     let found = delivery_word(word)?;
     if none_left(rest) { Some(found) } else { None }
+}
+
+/// The delivery that the last members of a step say: none is `Taken`.
+#[inline(always)]
+pub(crate) fn delivery_of<'a>(members: &[Part<'a>]) -> Option<Delivery<'a>>
+    ensures { option_map way result ≡ way_said (parts_items members.now) }
+{
+    if none_left(members) {
+        Some(Delivery::Taken)
+    } else {
+        told(members)
+    }
 }

@@ -1,12 +1,13 @@
 //! A line of a script, as it was read: what it says is a step, or there is a cause why it says none.
-ghost use Rattle.std.specs.Prelude.{◌≡◌, [], option_map, Ok, Err, IfOk, IfErr, MatchResult};
+ghost use Rattle.std.specs.Prelude.{◌≡◌, [], option_map, Some, None, if◌then◌else◌, Ok, Err, IfOk, IfErr, MatchResult};
+ghost use Rattle.serde_json.specs.View.{view};
 ghost use Rattle.tx_types.specs.declared.fault.Fault.TheVariants as fault;
 ghost use Rattle.tx_steps.specs.Steps.{asked};
 ghost use Rattle.tx_steps.specs.Lines.{data_of, data_said, step_in, bounds_in};
 
 use crate::bounds::bounds_of;
 use crate::program::Program;
-use crate::step::{Step, step_of};
+use crate::step::{Step, put_step};
 use serde_json::Value;
 use std::alloc::Global;
 use tx_lines::{Broken, Part, Parts, parts_of, scanned, value_of};
@@ -18,6 +19,18 @@ use tx_types::{Cause, Fault, Key};
 pub enum Line<'p, 'a> {
     Plain(&'p [Part<'a>]),
     Other(Value),
+}
+
+// Puts the step that a value says in a program's scripts into `place`, and tells whether it says one.
+#[cold]
+#[inline(never)]
+fn put_step_of_value<'s>(program: Program, value: &'s Value, place: &mut Step<'s>) -> bool
+    ensures { (if result then Some (asked place.new) else None) ≡ step_in program (view value.now) }
+{
+    match parts_of(value) {
+        None => false,
+        Some(parts) => put_step(program, parts.as_slice(), place),
+    }
 }
 
 impl<'p, 'a> Line<'p, 'a> {
@@ -48,14 +61,27 @@ impl<'p, 'a> Line<'p, 'a> {
         }
     }
 
+    // Puts the step that it says in a program's scripts into `place`, and tells whether it says one.
+    fn put_step<'s>(&'s self, program: Program, place: &mut Step<'s>) -> bool
+        ensures { (if result then Some (asked place.new) else None) ≡ step_in program (data_of self.now) }
+    {
+        match self {
+            Line::Plain(parts) => put_step(program, parts, place),
+            Line::Other(value) => put_step_of_value(program, value, place),
+        }
+    }
+
     /// The step that it says in a program's scripts, where it says one. Where it says none, and no bounds either, the cause
     /// is `Form`.
+    #[inline(always)]
     pub fn step(&self, program: Program) -> Option<Step<'_>>
         ensures { option_map asked result ≡ step_in program (data_of self.now) }
     {
-        match self {
-            Line::Plain(parts) => step_of(program, parts),
-            Line::Other(value) => step_of(program, parts_of(value)?.as_slice()),
+        let mut step = Step::Tick(0);
+        if self.put_step(program, &mut step) {
+            Some(step)
+        } else {
+            None
         }
     }
 

@@ -22,20 +22,23 @@ pub enum Request<'a> {
     Heartbeat(u32),
 }
 
-pub(crate) fn sends<'a>(what: Request<'a>, members: &[Part<'a>]) -> Option<Step<'a>>
-    ensures { option_map asked result ≡ sends_said (sent what.entry) (parts_items members.now) }
+/// Puts the step of a request that nothing more is told of into `place`.
+pub(crate) fn sends<'a>(what: Request<'a>, members: &[Part<'a>], place: &mut Step<'a>) -> Option<()>
+    ensures { option_map (λ _. asked place.new) result ≡ sends_said (sent what.entry) (parts_items members.now) }
 {
     let (name, rest) = text(members)?;
-    Some(Step::Send(name, what, delivery_of(rest)?))
+    *place = Step::Send(name, what, delivery_of(rest)?);
+    Some(())
 }
 
-#[inline(never)]
-pub(crate) fn get<'a>(members: &[Part<'a>]) -> Option<Step<'a>>
-    ensures { option_map asked result ≡ get_said (parts_items members.now) }
+/// The same of `get`.
+pub(crate) fn get<'a>(members: &[Part<'a>], place: &mut Step<'a>) -> Option<()>
+    ensures { option_map (λ _. asked place.new) result ≡ get_said (parts_items members.now) }
 {
     let (name, rest) = text(members)?;
     let (key, rest) = text(rest)?;
-    Some(Step::Send(name, Request::Get(key), delivery_of(rest)?))
+    *place = Step::Send(name, Request::Get(key), delivery_of(rest)?);
+    Some(())
 }
 
 // The range of a scan, and what comes after it.
@@ -48,20 +51,24 @@ fn range<'m, 'a>(members: &'m [Part<'a>]) -> Option<(Request<'a>, &'m [Part<'a>]
     Some((Request::Scan(from, to, limit), rest))
 }
 
+/// The same of `scan`.
 #[inline(never)]
-pub(crate) fn scan<'a>(members: &[Part<'a>]) -> Option<Step<'a>>
-    ensures { option_map asked result ≡ scan_said (parts_items members.now) }
+pub(crate) fn scan<'a>(members: &[Part<'a>], place: &mut Step<'a>) -> Option<()>
+    ensures { option_map (λ _. asked place.new) result ≡ scan_said (parts_items members.now) }
 {
     let (name, rest) = text(members)?;
     let (scan, rest) = range(rest)?;
-    Some(Step::Send(name, scan, delivery_of(rest)?))
+    *place = Step::Send(name, scan, delivery_of(rest)?);
+    Some(())
 }
 
+/// The same of `heartbeat`.
 #[inline(never)]
-pub(crate) fn heartbeat<'a>(members: &[Part<'a>]) -> Option<Step<'a>>
-    ensures { option_map asked result ≡ heartbeat_said (parts_items members.now) }
+pub(crate) fn heartbeat<'a>(members: &[Part<'a>], place: &mut Step<'a>) -> Option<()>
+    ensures { option_map (λ _. asked place.new) result ≡ heartbeat_said (parts_items members.now) }
 {
     let (name, rest) = text(members)?;
     let (ttl, rest) = within(0, MAX_TTL, rest)?;
-    Some(Step::Send(name, Request::Heartbeat(ttl), delivery_of(rest)?))
+    *place = Step::Send(name, Request::Heartbeat(ttl), delivery_of(rest)?);
+    Some(())
 }

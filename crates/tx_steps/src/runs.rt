@@ -29,18 +29,22 @@ fn moved<'a>(members: &[Part<'a>]) -> Option<Transfer<'a>>
     }
 }
 
+/// Puts the step `transfer` into `place`.
 #[inline(never)]
-pub(crate) fn transfers<'a>(members: &[Part<'a>]) -> Option<Step<'a>>
-    ensures { option_map asked result ≡ transfer_said (parts_items members.now) }
+pub(crate) fn transfers<'a>(members: &[Part<'a>], place: &mut Step<'a>) -> Option<()>
+    ensures { option_map (λ _. asked place.new) result ≡ transfer_said (parts_items members.now) }
 {
     let (name, rest) = text(members)?;
-    Some(Step::Transfer(name, moved(rest)?))
+    *place = Step::Transfer(name, moved(rest)?);
+    Some(())
 }
 
+/// Puts the step `seed` into `place`.
 #[inline(never)]
-pub(crate) fn seed<'a>(members: &[Part<'a>]) -> Option<Step<'a>>
-    ensures { option_map asked result ≡ seed_said (parts_items members.now) }
+pub(crate) fn seed<'a>(members: &[Part<'a>], place: &mut Step<'a>) -> Option<()>
+    ensures { option_map (λ _. asked place.new) result ≡ seed_said (parts_items members.now) }
 {
     let (key, rest) = text(members)?;
-    Some(Step::Seed(key, last_text(rest)?))
+    *place = Step::Seed(key, last_text(rest)?);
+    Some(())
 }

@@ -1,6 +1,7 @@
 //! The steps of a script, read from the members of a line.
 ghost use Rattle.tx_steps.specs.Steps.{is_of};
-ghost use Rattle.std.specs.Prelude.{◌≡◌, option_map};
+ghost use Rattle.std.specs.Prelude.{◌≡◌, option_map, Some, None, if◌then◌else◌};
+ghost use Rattle.tx_steps.specs.declared.word.Word.TheVariants as word;
 ghost use Rattle.tx_lines.specs.Parts.{parts_items};
 ghost use Rattle.tx_steps.specs.Steps.{asked, any_said, step_said, said, acts_said, read_said, tick_said};
 
@@ -61,77 +62,134 @@ impl<'a> Step<'a> {
     }
 }
 
-#[inline(never)]
-fn read<'a>(members: &[Part<'a>]) -> Option<Step<'a>>
-    ensures { option_map asked result ≡ read_said (parts_items members.now) }
+// Puts the step `begin` into `place`. A step is large: a result that has it would be copied at each return.
+fn begin<'a>(members: &[Part<'a>], place: &mut Step<'a>) -> Option<()>
+    ensures { option_map (λ _. asked place.new) result ≡ said word.Begin (parts_items members.now) }
 {
-    let (key, rest) = text(members)?;
-    Some(Step::Read(key, last_number(rest)?))
+    *place = Step::Begin(last_text(members)?);
+    Some(())
 }
 
+// The same of `deliver`.
 #[inline(never)]
-fn tick<'a>(members: &[Part<'a>]) -> Option<Step<'a>>
-    ensures { option_map asked result ≡ tick_said (parts_items members.now) }
+fn deliver<'a>(members: &[Part<'a>], place: &mut Step<'a>) -> Option<()>
+    ensures { option_map (λ _. asked place.new) result ≡ said word.Deliver (parts_items members.now) }
+{
+    *place = Step::Deliver(last_text(members)?);
+    Some(())
+}
+
+// The same of `read`.
+#[inline(never)]
+fn read<'a>(members: &[Part<'a>], place: &mut Step<'a>) -> Option<()>
+    ensures { option_map (λ _. asked place.new) result ≡ read_said (parts_items members.now) }
+{
+    let (key, rest) = text(members)?;
+    *place = Step::Read(key, last_number(rest)?);
+    Some(())
+}
+
+// The same of `versions`.
+#[inline(never)]
+fn versions<'a>(members: &[Part<'a>], place: &mut Step<'a>) -> Option<()>
+    ensures { option_map (λ _. asked place.new) result ≡ said word.Versions (parts_items members.now) }
+{
+    *place = Step::Versions(last_text(members)?);
+    Some(())
+}
+
+// The same of `tick`.
+#[inline(never)]
+fn tick(members: &[Part<'_>], place: &mut Step<'_>) -> Option<()>
+    ensures { option_map (λ _. asked place.new) result ≡ tick_said (parts_items members.now) }
 {
     let (ticks, rest) = within(1, MAX_TICK, members)?;
     if none_left(rest) {
-        Some(Step::Tick(ticks))
+        *place = Step::Tick(ticks);
+        Some(())
     } else {
         None
     }
 }
 
-fn acts<'a>(word: Word, members: &[Part<'a>]) -> Option<Step<'a>>
-    ensures { option_map asked result ≡ acts_said word (parts_items members.now) }
+// The same of `gc`.
+#[inline(never)]
+fn gc(members: &[Part<'_>], place: &mut Step<'_>) -> Option<()>
+    ensures { option_map (λ _. asked place.new) result ≡ said word.Gc (parts_items members.now) }
 {
-    let (name, rest) = text(members)?;
-    Some(Step::Act(name, action_of(word, rest)?))
+    *place = Step::Gc(last_number(members)?);
+    Some(())
 }
 
-// The step of a word, by the members after it.
-fn said_by<'a>(word: Word, members: &[Part<'a>]) -> Option<Step<'a>>
-    ensures { option_map asked result ≡ said word (parts_items members.now) }
+// The same of what a session does by itself.
+fn acts<'a>(word: Word, members: &[Part<'a>], place: &mut Step<'a>) -> Option<()>
+    ensures { option_map (λ _. asked place.new) result ≡ acts_said word (parts_items members.now) }
+{
+    let (name, rest) = text(members)?;
+    *place = Step::Act(name, action_of(word, rest)?);
+    Some(())
+}
+
+// The same, of the words that few lines begin with.
+#[inline(never)]
+fn acts_seldom<'a>(word: Word, members: &[Part<'a>], place: &mut Step<'a>) -> Option<()>
+    ensures { option_map (λ _. asked place.new) result ≡ acts_said word (parts_items members.now) }
+{
+    acts(word, members, place)
+}
+
+// The same of any word, by the members after it.
+fn said_by<'a>(word: Word, members: &[Part<'a>], place: &mut Step<'a>) -> Option<()>
+    ensures { option_map (λ _. asked place.new) result ≡ said word (parts_items members.now) }
 {
     match word {
-        Word::Begin => Some(Step::Begin(last_text(members)?)),
-        Word::Get => get(members),
-        Word::Scan => scan(members),
-        Word::Prewrite => sends(Request::Prewrite, members),
-        Word::Commit => sends(Request::Commit, members),
-        Word::Abort => sends(Request::Abort, members),
-        Word::Heartbeat => heartbeat(members),
-        Word::Deliver => Some(Step::Deliver(last_text(members)?)),
-        Word::Read => read(members),
-        Word::Versions => Some(Step::Versions(last_text(members)?)),
-        Word::Tick => tick(members),
-        Word::Gc => Some(Step::Gc(last_number(members)?)),
-        Word::Seed => seed(members),
-        Word::Transfer => transfers(members),
-        Word::Put => acts(Word::Put, members),
-        Word::Delete => acts(Word::Delete, members),
-        Word::Lock => acts(Word::Lock, members),
-        Word::Declare => acts(Word::Declare, members),
-        Word::Draw => acts(Word::Draw, members),
-        Word::Finish => acts(Word::Finish, members),
-        Word::Stop => acts(Word::Stop, members),
-        Word::Resolve => acts(Word::Resolve, members),
+        Word::Begin => begin(members, place),
+        Word::Get => get(members, place),
+        Word::Scan => scan(members, place),
+        Word::Prewrite => sends(Request::Prewrite, members, place),
+        Word::Commit => sends(Request::Commit, members, place),
+        Word::Abort => sends(Request::Abort, members, place),
+        Word::Heartbeat => heartbeat(members, place),
+        Word::Deliver => deliver(members, place),
+        Word::Read => read(members, place),
+        Word::Versions => versions(members, place),
+        Word::Tick => tick(members, place),
+        Word::Gc => gc(members, place),
+        Word::Seed => seed(members, place),
+        Word::Transfer => transfers(members, place),
+        Word::Put => acts(Word::Put, members, place),
+        Word::Declare => acts(Word::Declare, members, place),
+        Word::Draw => acts(Word::Draw, members, place),
+        Word::Finish => acts(Word::Finish, members, place),
+        Word::Delete => acts_seldom(Word::Delete, members, place),
+        Word::Lock => acts_seldom(Word::Lock, members, place),
+        Word::Stop => acts_seldom(Word::Stop, members, place),
+        Word::Resolve => acts_seldom(Word::Resolve, members, place),
     }
 }
 
-// The step that the members say, of any program.
-fn any_step<'a>(members: &[Part<'a>]) -> Option<Step<'a>>
-    ensures { option_map asked result ≡ any_said (parts_items members.now) }
+// The same of the step that the members say, of any program.
+fn any_step<'a>(members: &[Part<'a>], place: &mut Step<'a>) -> Option<()>
+    ensures { option_map (λ _. asked place.new) result ≡ any_said (parts_items members.now) }
 {
     let (text, rest) = text(members)?;
-    said_by(word_of(text)?, rest)
+    said_by(word_of(text)?, rest, place)
+}
+
+/// Puts the step of a program's script that the members say into `place`, and tells whether they say one.
+#[inline(never)]
+pub(crate) fn put_step<'a>(program: Program, members: &[Part<'a>], place: &mut Step<'a>) -> bool
+    ensures { (if result then Some (asked place.new) else None) ≡ step_said program (parts_items members.now) }
+{
+    any_step(members, place).is_some() && place.is_of(program)
 }
 
 /// The step of a program's script that the members of a line say, where they say one. `regions` is none: `bounds_of` reads it.
 pub fn step_of<'a>(program: Program, members: &[Part<'a>]) -> Option<Step<'a>>
     ensures { option_map asked result ≡ step_said program (parts_items members.now) }
 {
-    let step = any_step(members)?;
-    if step.is_of(program) {
+    let mut step = Step::Tick(0);
+    if put_step(program, members, &mut step) {
         Some(step)
     } else {
         None
