@@ -12,7 +12,7 @@ ghost use Rattle.tx_script.specs.Calls.{played};
 ghost use Rattle.tx_script.specs.Play.{call_turn, value_turn, line_turn};
 ghost use Rattle.tx_script.specs.Loops.{TurnedBy, FoundTurned, FitsFound};
 
-use crate::call::call;
+use crate::call::put_call;
 use std::alloc::Global;
 use std::io::Write;
 use tx_cells::Families;
@@ -30,20 +30,19 @@ pub(crate) enum Turned {
     Stops(Cause),
 }
 
-// Plays a step, where there is one.
+// Plays the step that a line says.
 fn play_step<J: Naming, F: Families>(
     engine: &mut Engine<J, F>,
-    step: Option<Step<'_>>,
+    said: &Step<'_>,
 ) -> Result<Reply, Cause>
     requires ready { AllSeated J.bounds 1 engine.old }
-    ensures goes { Goes J.bounds engine.old engine.new (TurnedBy J.bounds (λ refused. call_turn J.bounds refused (option_and_then played (option_map asked step.entry))) result engine.old engine.new) }
+    ensures goes { Goes J.bounds engine.old engine.new (TurnedBy J.bounds (λ refused. call_turn J.bounds refused (played (asked said.now))) result engine.old engine.new) }
 {
-    let Some(said) = step else {
-        return Err(Cause::Form);
-    };
-    match call(said) {
-        None => Err(Cause::Form),
-        Some(step) => engine.play(&step),
+    let mut step = tx_play::Step::Tick(0);
+    if put_call(said, &mut step) {
+        engine.play(&step)
+    } else {
+        Err(Cause::Form)
     }
 }
 
@@ -73,7 +72,10 @@ fn play_said<J: Naming, F: Families>(
     if number == 1 && says_regions(alloc, said)? {
         return Ok(Ok(Reply::Regions(engine.regions())));
     }
-    Ok(play_step(engine, said.step(Program::Simulate)))
+    match &said.step(Program::Simulate) {
+        Some(step) => Ok(play_step(engine, step)),
+        None => Ok(Err(Cause::Form)),
+    }
 }
 
 // Plays the line of this number.
