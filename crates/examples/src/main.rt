@@ -16,7 +16,7 @@ use std::sync::Wait;
 use std::thread::Threads;
 use tx_cells::{FlatCells, NestedCells};
 use tx_check::check;
-use tx_run::{Plain, run_script};
+use tx_run::{Plain, Settings, run_script};
 use tx_sched::Open;
 use tx_script::{simulate, simulate_checked, simulate_checked_with, simulate_with};
 
@@ -106,7 +106,10 @@ where
     let ended = run_script::<FlatCells, _, _, _, _, _>(
         rt,
         rt.alloc(),
-        2,
+        Settings {
+            workers: 2,
+            life_time: None,
+        },
         &Plain,
         &Open,
         &mut script.as_slice(),

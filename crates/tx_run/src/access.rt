@@ -1,5 +1,5 @@
 //! How a session of a run reaches the regions, and resolves what stands in its way.
-ghost use Rattle.std.specs.Prelude.{◌≡◌, true, []};
+ghost use Rattle.std.specs.Prelude.{◌≡◌, ◌<◌, true, [], length};
 ghost use Rattle.tx_core.specs.Laws.{WasToldOf};
 ghost use Rattle.tx_client.specs.Sessions.{is_declared, can_commit, can_abort, has_primary};
 ghost use Rattle.tx_client.specs.Calls.{KeepsSet};
@@ -14,7 +14,7 @@ use tx_client::{Miss, Resolved, Session, Status};
 use tx_core::Answer;
 use tx_journal::{Naming, Seat, Told};
 use tx_ledger::{Log, Source, Spoken};
-use tx_resolve::resolve;
+use tx_resolve::{gc, resolve};
 use tx_store::{Store, Wire};
 use tx_types::{Fault, Key, LockInfo, Ts};
 
@@ -25,15 +25,13 @@ pub(crate) struct Access<J: Naming, F: Families + Drop, R: Wait + Drop> {
     rt: R,
     store: Arc<Store<J, F>>,
     resolver: Seat<J>,
+    ghost few: { length J.bounds < 1024 },
 }
 
 impl<J: Naming, F: Families + Drop, R: Wait + Drop> Access<J, F, R> {
-    pub fn new(
-        alloc: Global,
-        rt: R,
-        store: Arc<Store<J, F>>,
-        resolver: Seat<J>,
-    ) -> Access<J, F, R> {
+    pub fn new(alloc: Global, rt: R, store: Arc<Store<J, F>>, resolver: Seat<J>) -> Access<J, F, R>
+        requires few { length J.bounds < 1024 }
+    {
         Access {
             alloc,
             rt,
@@ -140,6 +138,22 @@ impl<J: Naming, F: Families + Drop, R: Wait + Drop> Access<J, F, R> {
         let status = resolved.status();
         session.learn(resolved)?;
         Ok(Some(status))
+    }
+
+    /// The last timestamp that was drawn.
+    pub fn last(&mut self) -> Ts {
+        self.resolver.last()
+    }
+
+    /// Collects at this safe point in each region, and says how many write records that dropped. None where it was refused: it may
+    /// be asked again.
+    pub fn collect(&mut self, safe: Ts) -> u64 {
+        let mut wire = Wire::new(&self.rt, &self.store);
+        wire.show();
+        match gc(&mut self.resolver, safe, &mut wire) {
+            Ok(counts) => counts.records,
+            Err(_) => 0,
+        }
     }
 
     /// Ends a transaction, and keeps its outcome in the log: its seat is then free. Where it has no outcome, the session comes

@@ -6,6 +6,7 @@ ghost use Rattle.tx_ledger.specs.Sources.{HasPair, pair_of};
 
 use crate::access::Access;
 use crate::acts::{act, refused, send};
+use crate::collector::Collector;
 use crate::out::Out;
 use crate::place::Place;
 use crate::transfer::{After, Moving, slots_of};
@@ -37,6 +38,7 @@ pub(crate) struct ScriptJob<J: Naming, L: Source, F: Families + Drop, R: Wait + 
     touched: Vec<Slot>,
     /// The slots of the lock that last stood in its way.
     met: Vec<Slot>,
+    collector: Collector,
     faulted: bool,
 }
 
@@ -55,6 +57,7 @@ impl<J: Naming, L: Source, F: Families + Drop, R: Wait + Drop> ScriptJob<J, L, F
         access: Access<J, F, R>,
         seat: Seat<J>,
         mut lines: Vec<Entry<L>>,
+        collector: Collector,
     ) -> Result<ScriptJob<J, L, F, R>, Fault>
         ensures { IfOk result (λ job. (job.number ≡ number) × (job.log.seat ≡ seat.seat)) }
     {
@@ -70,6 +73,7 @@ impl<J: Naming, L: Source, F: Families + Drop, R: Wait + Drop> ScriptJob<J, L, F
             lines,
             touched: Vec::new(alloc),
             met: Vec::new(alloc),
+            collector,
             faulted: false,
         })
     }
@@ -335,6 +339,7 @@ impl<J: Naming, L: Source, F: Families + Drop, R: Wait + Drop> ScriptJob<J, L, F
             number: self.number,
             log,
             faulted: self.faulted,
+            collected: self.collector.dropped(),
         }
     }
 
@@ -351,6 +356,15 @@ impl<J: Naming, L: Source, F: Families + Drop, R: Wait + Drop> ScriptJob<J, L, F
         let after = self.goes_on();
         if after != After::Goes {
             self.ends(after);
+        }
+    }
+
+    // Collects, if it is its turn to and no transaction of its own is open.
+    fn collects(&mut self)
+        ensures { StaysSame self.old self.new }
+    {
+        if matches!(&self.place, Place::Free(_)) {
+            self.collector.collect(&mut self.access);
         }
     }
 
@@ -394,6 +408,7 @@ impl<J: Naming, L: Source, F: Families + Drop, R: Wait + Drop> Job for ScriptJob
     }
 
     fn step(&mut self) -> Turn<Out<J, L>> {
+        self.collects();
         self.advance();
         if self.is_done() {
             Turn::Done(self.out())

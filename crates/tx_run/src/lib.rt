@@ -5,6 +5,7 @@
 
 mod access;
 mod acts;
+mod collector;
 mod families;
 mod job;
 mod out;
@@ -13,6 +14,7 @@ mod play;
 mod run;
 mod seeds;
 mod sends;
+mod settings;
 mod transfer;
 mod write;
 
@@ -20,4 +22,5 @@ pub use families::{Makes, Plain};
 pub use play::Played;
 pub use run::run_script;
 pub use seeds::Total;
+pub use settings::Settings;
 pub use tx_ledger::{Reply, Spoken, Words};

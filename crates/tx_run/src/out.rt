@@ -10,6 +10,8 @@ pub(crate) struct Out<J: Naming, L: Source> {
     pub log: Log<J, L>,
     /// Whether a fault of the script ended it.
     pub faulted: bool,
+    /// How many write records it collected.
+    pub collected: u64,
 }
 
 impl<J: Naming, L: Source> Model for Out<J, L> {

@@ -1,15 +1,17 @@
 //! Playing a script: its seeds, and then its sessions side by side, by workers.
-ghost use Rattle.std.specs.Prelude.{◌≡◌, ◌+◌, ◌*◌, ◌≤◌, ℕ, All, IfOk, IfSome, OnOk, None, length, vec_len};
+ghost use Rattle.std.specs.Prelude.{◌≡◌, ◌<◌, ◌+◌, ◌*◌, ◌≤◌, ℕ, All, IfOk, IfSome, OnOk, None, length, vec_len};
 ghost use Rattle.tx_ledger.specs.Outcomes.{TellsOutcomes, start_of};
 ghost use Rattle.tx_run.specs.Jobs.{IsAbove, AreFalling, AreFrom, HaveOwnSeats};
 ghost use Rattle.tx_ledger.specs.Scripts.{IsWithin};
 ghost use Rattle.tx_ledger.specs.Sources.{TellsPair};
 
 use crate::access::Access;
+use crate::collector::Collector;
 use crate::families::{Makes, families};
 use crate::job::ScriptJob;
 use crate::out::Out;
 use crate::seeds::{Total, play_seeds, read_total};
+use crate::settings::Settings;
 use std::alloc::Global;
 use std::marker::Brand;
 use std::sync::{Arc, Wait};
@@ -59,7 +61,9 @@ fn jobs<J: Naming, L: Source, F: Families + Drop, R: Wait + Clone + Drop>(
     store: &Arc<Store<J, F>>,
     mut seats: Vec<Seat<J>>,
     sessions: Vec<Vec<Entry<L>>>,
+    life_time: Option<u64>,
 ) -> Result<Vec<ScriptJob<J, L, F, R>>, Fault>
+    requires small { length J.bounds < 1024 }
     requires seats { AreFrom (length J.bounds + 1) seats.items }
     requires few { vec_len sessions ≤ 256 }
     ensures { IfOk result (λ jobs. HaveOwnSeats (length J.bounds + vec_len seats) jobs.items) }
@@ -71,7 +75,8 @@ fn jobs<J: Naming, L: Source, F: Families + Drop, R: Wait + Clone + Drop>(
             return Err(Fault::OutOfMemory);
         };
         let access = Access::new(alloc, rt.clone()?, store.clone()?, resolver);
-        jobs.push(ScriptJob::new(number, access, seat, lines)?)?;
+        let collector = Collector::of(number, life_time);
+        jobs.push(ScriptJob::new(number, access, seat, lines, collector)?)?;
         number += 1;
     }
     Ok(jobs)
@@ -94,6 +99,7 @@ fn join<J: Naming, L: Source>(
         number: _,
         log,
         faulted,
+        collected: _,
     } = out;
     let (told, mut more, lost) = log.into_parts();
     seat.learn(told);
@@ -143,6 +149,8 @@ pub struct Played {
     pub replies: Vec<Spoken>,
     /// Whether a fault of the script ended a session.
     pub faulted: bool,
+    /// How many write records were collected meanwhile.
+    pub collected: u64,
     /// The sum of all balances at the end.
     pub total: Total,
     /// What all sessions had seen.
@@ -174,7 +182,7 @@ fn set_out<J: Naming, F: Families + Drop, M: Makes<F>, R: Wait + Clone + Drop>(
 fn work<J, L, F, G, R>(
     rt: &R,
     alloc: Global,
-    workers: usize,
+    settings: Settings,
     gate: &G,
     store: &Arc<Store<J, F>>,
     seats: Vec<Seat<J>>,
@@ -186,12 +194,13 @@ where
     F: Families + Send + Drop,
     G: Gate + Sync,
     R: Threads + Wait + Sync + Send + Clone + Drop,
+    requires small { length J.bounds < 1024 }
     requires seats { AreFrom (length J.bounds + 1) seats.items }
     requires few { vec_len sessions ≤ 256 }
     ensures { IfOk result (λ outs. AreFalling outs.items) }
 {
-    let jobs = jobs(rt, alloc, store, seats, sessions)?;
-    let outs = run_sessions(rt, alloc, workers, jobs, gate)?;
+    let jobs = jobs(rt, alloc, store, seats, sessions, settings.life_time)?;
+    let outs = run_sessions(rt, alloc, settings.workers, jobs, gate)?;
     Ok(outs)
 }
 
@@ -209,6 +218,15 @@ fn tell_regions(replies: &mut Vec<Spoken>, regions: usize) -> Result<(), Broken>
     Ok(())
 }
 
+// How many write records were collected.
+fn count_collected<J: Naming, L: Source>(outs: &[Out<J, L>]) -> u64 {
+    let mut collected: u64 = 0;
+    for out in outs {
+        collected = collected.saturating_add(out.collected);
+    }
+    collected
+}
+
 // How many lines there are.
 fn count<L: Source>(seeds: &[Said<L>], sessions: &[Vec<Entry<L>>]) -> usize {
     let mut count = seeds.len();
@@ -222,7 +240,7 @@ fn count<L: Source>(seeds: &[Said<L>], sessions: &[Vec<Entry<L>>]) -> usize {
 fn play<J, L, F, M, G, R>(
     rt: &R,
     alloc: Global,
-    workers: usize,
+    settings: Settings,
     make: &M,
     gate: &G,
     opened: Opened,
@@ -255,19 +273,21 @@ where
     let mut replies = Vec::with_capacity(alloc, lines.saturating_add(1))?;
     tell_regions(&mut replies, regions)?;
     let mut seat = play_seeds(seat, &access, seeds.as_slice(), &mut replies)?;
-    let outs = work(rt, alloc, workers, gate, &store, seats, sessions).map_err(memory)?;
+    let outs = work(rt, alloc, settings, gate, &store, seats, sessions).map_err(memory)?;
+    let collected = count_collected(outs.as_slice());
     let faulted = gather(outs, &mut seat, &mut replies)?;
     let told = seat.tell();
     let (total, seat) = read_total(seat, &mut access)?;
     Ok(Played {
         replies,
         faulted,
+        collected,
         total,
         seen: told.unnamed(seat),
     })
 }
 
-/// Plays a script that was read, by so many workers: the seeds in the order of their lines, and then the lines of each session
+/// Plays a script that was read, as is set: the seeds in the order of their lines, and then the lines of each session
 /// in their order, the sessions side by side. Each outcome that a line is told was answered in what was seen, and no two are of
 /// one transaction.
 ///
@@ -275,7 +295,7 @@ where
 pub(crate) fn play_script<L, F, M, G, R>(
     rt: &R,
     alloc: Global,
-    workers: usize,
+    settings: Settings,
     make: &M,
     gate: &G,
     script: Script<L>,
@@ -301,7 +321,7 @@ where
     play::<Brand, L, F, M, G, R>(
         rt,
         alloc,
-        workers,
+        settings,
         make,
         gate,
         opened,

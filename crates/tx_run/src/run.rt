@@ -5,6 +5,7 @@ ghost use Rattle.tx_ledger.specs.Sources.{TellsPair};
 
 use crate::families::Makes;
 use crate::play::{Played, play_script};
+use crate::settings::Settings;
 use crate::write::{tell_fault, write_all};
 use std::alloc::Global;
 use std::io::{BufRead, Write};
@@ -20,7 +21,7 @@ use tx_sched::Gate;
 fn run<L, F, M, G, R, B, W>(
     rt: &R,
     alloc: Global,
-    workers: usize,
+    settings: Settings,
     make: &M,
     gate: &G,
     reader: &mut B,
@@ -45,7 +46,7 @@ where
             return Ok((End::Faulted, None));
         }
     };
-    let played = play_script::<L, F, M, G, R>(rt, alloc, workers, make, gate, script)?;
+    let played = play_script::<L, F, M, G, R>(rt, alloc, settings, make, gate, script)?;
     write_all(alloc, writer, &played)?;
     let end = if played.faulted {
         End::Faulted
@@ -55,7 +56,7 @@ where
     Ok((end, Some(played)))
 }
 
-/// Reads a script, and plays it by so many workers, 1 to 64: the seeds in the order of their lines, and then the lines of each
+/// Reads a script, and plays it as is set, by 1 to 64 workers: the seeds in the order of their lines, and then the lines of each
 /// session in their order, the sessions side by side. Then it writes the answer of each line in the order of the lines, the
 /// counts of the outcomes, and the sum of all balances. A fault of the form of a line, or a 257th session, is told alone. `make` gives
 /// each region its families.
@@ -66,7 +67,7 @@ where
 pub fn run_script<F, M, G, R, B, W>(
     rt: &R,
     alloc: Global,
-    workers: usize,
+    settings: Settings,
     make: &M,
     gate: &G,
     reader: &mut B,
@@ -82,5 +83,5 @@ where
     ensures told { IfOk result (λ r. IfSome r.1 (λ played. TellsOutcomes played.seen.events played.replies.items)) }
     ensures pairs { IfOk result (λ r. IfSome r.1 (λ played. All (TellsPair (B.remaining reader.old)) played.replies.items)) }
 {
-    run::<Brand, F, M, G, R, B, W>(rt, alloc, workers, make, gate, reader, writer)
+    run::<Brand, F, M, G, R, B, W>(rt, alloc, settings, make, gate, reader, writer)
 }

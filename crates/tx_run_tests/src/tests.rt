@@ -9,14 +9,22 @@ use std::thread::Threads;
 use tx_cells::{FlatCells, NestedCells};
 use tx_core::Outcome;
 use tx_lines::Broken;
-use tx_run::{Plain, Played, Reply, run_script};
+use tx_run::{Plain, Played, Reply, Settings, run_script};
 use tx_sched::Open;
+
+// By so many workers, and with nothing collected.
+fn by(workers: usize) -> Settings {
+    Settings {
+        workers,
+        life_time: None,
+    }
+}
 
 // Plays a script, and writes what it is answered.
 fn run<R: Threads + Wait + Sync + Send + Clone + Drop>(
     rt: &R,
     alloc: Global,
-    workers: usize,
+    settings: Settings,
     input: &[u8],
     output: &mut Vec<u8>,
 ) -> Result<Option<Played>, Broken> {
@@ -24,7 +32,7 @@ fn run<R: Threads + Wait + Sync + Send + Clone + Drop>(
     let (_, played) = run_script::<FlatCells, _, _, _, _, _>(
         rt,
         alloc,
-        workers,
+        settings,
         &Plain,
         &Open,
         &mut reader,
@@ -41,7 +49,7 @@ fn writes<R: Threads + Wait + Sync + Send + Clone + Drop>(
     wanted: &str,
 ) -> Result<bool, Broken> {
     let mut text = Vec::new(alloc);
-    let played = run(rt, alloc, 2, script.as_bytes(), &mut text);
+    let played = run(rt, alloc, by(2), script.as_bytes(), &mut text);
     let same = played.is_ok() && text.as_slice() == wanted.as_bytes();
     drop(played);
     drop(text);
@@ -142,6 +150,7 @@ struct Sums {
     unknown: u32,
     read_only: u32,
     total: u64,
+    collected: u64,
 }
 
 fn sums_of(played: &Played) -> Sums {
@@ -152,6 +161,7 @@ fn sums_of(played: &Played) -> Sums {
         unknown: 0,
         read_only: 0,
         total: played.total.low,
+        collected: played.collected,
     };
     for spoken in &played.replies {
         match &spoken.reply {
@@ -173,12 +183,12 @@ fn sums_of(played: &Played) -> Sums {
 fn sums_by<R: Threads + Wait + Sync + Send + Clone + Drop>(
     rt: &R,
     alloc: Global,
-    workers: usize,
+    settings: Settings,
     sessions: u32,
 ) -> Result<Option<Sums>, Broken> {
     let script = transfers(alloc, sessions, 100)?;
     let mut text = Vec::new(alloc);
-    let played = run(rt, alloc, workers, script.as_bytes(), &mut text);
+    let played = run(rt, alloc, settings, script.as_bytes(), &mut text);
     drop(text);
     drop(script);
     match played {
@@ -207,7 +217,7 @@ fn keeps(sums: Sums) -> bool {
 #[test]
 fn transfers_keep_the_total(rt: HostRuntime) -> Result<(), Fail> {
     for workers in [1, 2, 4, 8] {
-        let sums = sums_by(&rt, rt.alloc(), workers, 8)?;
+        let sums = sums_by(&rt, rt.alloc(), by(workers), 8)?;
         assert!(rt; sums.is_some_and(keeps), "{workers} workers: {sums:?}");
     }
     Ok(())
@@ -223,8 +233,27 @@ fn one_session_commits_each_transfer(rt: HostRuntime) -> Result<(), Fail> {
             unknown: 0,
             read_only: 0,
             total: 1000,
+            collected: 0,
         };
-        assert_eq!(rt; sums_by(&rt, rt.alloc(), workers, 1)?, Some(wanted));
+        assert_eq!(rt; sums_by(&rt, rt.alloc(), by(workers), 1)?, Some(wanted));
+    }
+    Ok(())
+}
+
+// Whether one session committed each of its transfers, and versions were collected beside it.
+fn collects(sums: Sums) -> bool {
+    sums.committed == 100 && sums.total == 1000 && sums.collected > 0
+}
+
+#[test]
+fn one_session_collects_meanwhile(rt: HostRuntime) -> Result<(), Fail> {
+    for workers in [1, 2] {
+        let settings = Settings {
+            workers,
+            life_time: Some(20),
+        };
+        let sums = sums_by(&rt, rt.alloc(), settings, 1)?;
+        assert!(rt; sums.is_some_and(collects), "{workers} workers: {sums:?}");
     }
     Ok(())
 }

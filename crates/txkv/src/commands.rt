@@ -4,7 +4,11 @@ use clap::{Arg, ArgAction, ArgMatches, Command, Error};
 use std::alloc::Global;
 use std::env::Env;
 use std::{env, io};
+use tx_run::Settings;
 use tx_types::limits::MAX_WORKERS;
+
+/// The longest that a version may be kept, in ticks: as long as all timestamps last.
+const MAX_LIFE_TIME: u64 = 4_398_046_511_104;
 
 static ABOUT: &str = "The transaction layer of a key-value store, in one process";
 
@@ -68,6 +72,8 @@ were told, and [\"total\",n] is the sum of all balances.
 
 Examples:
   txkv run --workers 4 < transfers.run                    Two accounts, and transfers between them and a third
+  txkv run --workers 4 --gc-life-time 50000 < transfers.run  Old versions are collected beside them; a transaction that is
+                                                          open for more than 50,000 ticks may be told E7
   echo '[\"seed\",\"a\",\"5\"]' | txkv run --workers 1          [1,\"ok\"], [\"outcomes\",0,0,0,0], [\"total\",5], status 0
   echo '[\"get\",\"A\",\"a\"]' | txkv run --workers 1           [1,\"E16\",\"name\"] and both sums, status 2";
 
@@ -93,8 +99,8 @@ Examples:
 #[derive(Clone, Copy, Debug, PartialEq, Eq)]
 pub enum Job {
     Simulate,
-    /// By so many workers.
-    Run(usize),
+    /// By workers, as is set.
+    Run(Settings),
     /// Simulate, and tell the machine's steps of the run.
     SimulateChecked,
     Check,
@@ -103,7 +109,10 @@ pub enum Job {
 /// The job of a command line that was read.
 pub fn job_of(matches: &ArgMatches<'_>) -> Job {
     if let Some(run) = matches.subcommand_matches("run") {
-        return Job::Run(run.get_one::<usize>("workers").unwrap_or(1));
+        return Job::Run(Settings {
+            workers: run.get_one::<usize>("workers").unwrap_or(1),
+            life_time: run.get_one::<u64>("gc-life-time"),
+        });
     }
     match matches.subcommand() {
         Some(("simulate", asked)) if asked.get_flag("check") => Job::SimulateChecked,
@@ -140,10 +149,18 @@ pub fn parse<'a>(alloc: Global, words: &'a [String]) -> Result<ArgMatches<'a>, E
         .help("How many threads make steps, 1 to 64")
         .required(true)
         .value_parser(ValueParser::Unsigned(1, MAX_WORKERS as u64));
+    let life_time = Arg::new(alloc, "gc-life-time")
+        .long("gc-life-time")
+        .value_name("TICKS")
+        .help(
+            "Collects meanwhile what is out of date for so many ticks; without it nothing is collected",
+        )
+        .value_parser(ValueParser::Unsigned(1, MAX_LIFE_TIME));
     let run = Command::new(alloc, "run")
         .about(RUN_ABOUT)
         .after_help(RUN_HELP)
-        .arg(workers)?;
+        .arg(workers)?
+        .arg(life_time)?;
     let command = Command::new(alloc, "txkv")
         .about(ABOUT)
         .version("0.1.0")

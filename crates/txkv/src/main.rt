@@ -34,12 +34,12 @@ where
     };
     match job {
         Job::Simulate => simulate(rt.alloc(), &mut reader, &mut writer),
-        Job::Run(workers) => {
+        Job::Run(settings) => {
             let alloc = rt.alloc();
             let (end, played) = run_script::<FlatCells, _, _, _, _, _>(
                 rt,
                 alloc,
-                workers,
+                settings,
                 &Plain,
                 &Open,
                 &mut reader,

@@ -9,7 +9,7 @@ use std::time::{Clock, Duration};
 use tx_cells::FlatCells;
 use tx_latch::Cid;
 use tx_lines::Broken;
-use tx_run::{Plain, run_script};
+use tx_run::{Plain, Settings, run_script};
 use tx_sched::Gate;
 
 /// Each session makes four steps, of which the last locks its key.
@@ -109,7 +109,10 @@ fn answers<R: Threads + Wait + Clock + Sync + Send + Clone + Drop>(
     let played = run_script::<FlatCells, _, _, _, _, _>(
         &watch.rt,
         alloc,
-        2,
+        Settings {
+            workers: 2,
+            life_time: None,
+        },
         &Plain,
         watch,
         &mut reader,

@@ -8,7 +8,7 @@ use std::thread::{Threads, yield_now};
 use tx_cells::{Families, KeyCopy, NestedCells};
 use tx_lines::Broken;
 use tx_plan::{Answer, Dropped, Infos, KeyChange, NewLock, Prewrite, ReadView, Scan, TxnView};
-use tx_run::{Makes, run_script};
+use tx_run::{Makes, Settings, run_script};
 use tx_sched::Open;
 use tx_types::{Fault, Key, LockInfo, Ts};
 
@@ -145,7 +145,10 @@ fn answers<R: Threads + Wait + Sync + Send + Clone + Drop>(
     let played = run_script::<Meeting, _, _, _, _, _>(
         rt,
         alloc,
-        2,
+        Settings {
+            workers: 2,
+            life_time: None,
+        },
         place,
         &Open,
         &mut reader,
