@@ -145,8 +145,8 @@ impl<J: Naming, F: Families + Drop, R: Wait + Drop> Access<J, F, R> {
         self.resolver.last()
     }
 
-    /// Collects at this safe point in each region, and says how many write records that dropped. None where it was refused: it may
-    /// be asked again.
+    /// Collects at this safe point in each region, and says how many write records that dropped: 0 where it was refused, though regions
+    /// before the refusal may have dropped some. It may be asked again.
     pub fn collect(&mut self, safe: Ts) -> u64 {
         let mut wire = Wire::new(&self.rt, &self.store);
         wire.show();

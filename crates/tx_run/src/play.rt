@@ -149,7 +149,7 @@ pub struct Played {
     pub replies: Vec<Spoken>,
     /// Whether a fault of the script ended a session.
     pub faulted: bool,
-    /// How many write records were collected meanwhile.
+    /// How many write records were collected meanwhile, by collections that were not refused.
     pub collected: u64,
     /// The sum of all balances at the end.
     pub total: Total,
