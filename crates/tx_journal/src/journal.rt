@@ -5,7 +5,7 @@ ghost use Rattle.tx_types.specs.declared.fault.Fault.TheVariants as fault;
 ghost use Rattle.tx_journal.specs.Known.{known, AreRising};
 
 use crate::seat::Seat;
-use crate::view::{Deal, Home, Law, Layout, Naming, Token, View};
+use crate::view::{Deal, Home, Law, Layout, Naming, Token, View, WORDS};
 use atomic_table::Table;
 use std::alloc::Global;
 use std::marker::{Model, PhantomData};
@@ -48,7 +48,7 @@ impl Opened {
         let layout = Layout { bounds, seats };
         let (table, token) = Table::<u8, View, Layout, Law, Global>::of_words(
             alloc,
-            &[0, 0],
+            &[0; WORDS],
             &layout,
         )?;
         let words = Arc::new(alloc, table)?;

@@ -1,5 +1,5 @@
-//! The journal: the one piece of memory that threads share without a lock. Behind its two words, the last timestamp drawn and a
-//! count of events, stands one history of events, which proofs alone know; each seat knows a prefix of it. A `Told` is such a prefix
+//! The journal: the one piece of memory that threads share without a lock. Behind its words, the last timestamp drawn and
+//! counts of events, stands one history of events, which proofs alone know; each seat knows a prefix of it. A `Told` is such a prefix
 //! to be handed on, a `Request` carries the prefix that allows it, and a `Reply` the prefix in which it was answered.
 //!
 //! ```

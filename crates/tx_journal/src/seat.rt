@@ -12,7 +12,7 @@ ghost use Rattle.tx_journal.specs.Known.{known, greatest_ts, DrawsNothing, HasSe
 ghost use Rattle.tx_journal.specs.Rules.{Belongs, Owns, Adds, IsSeatsToken};
 
 use crate::told::Told;
-use crate::view::{Add, Advance, Hear, Home, Learn, Look, Naming, Said, Tell, Token, Words};
+use crate::view::{APART, Add, Advance, COUNTS, Hear, Home, Learn, Look, Naming, Said, Tell, Token, WORDS, Words};
 use std::marker::{Brand, Model, PhantomData};
 use std::sync::Arc;
 use tx_core::{Event, SeatNo};
@@ -41,14 +41,22 @@ impl<J: Naming> Model for Seat<J> {
     ghost invariant = { λ s. Belongs J.table J.bounds (arc_value s.words).shared.table_id (arc_value s.words).shared.key s.token.table_id × IsSeatsToken J.bounds J.seats s.number s.left s.token.me };
 }
 
-// Adds the event that the call picks.
-fn add<E: Said>(words: &Words, token: &mut Token)
-    requires table { (token.old.table_id ≡ words.now.table_id) × (words.now.table_id.words ≡ 2) }
+// The word that counts the events of a seat.
+fn count_of(seat: SeatNo) -> usize
+    ensures { (0 < result) × (result < WORDS) }
+{
+    APART * (1 + seat.get() as usize % COUNTS)
+}
+
+// Adds the event that the call picks, by an add on this word.
+fn add<E: Said>(words: &Words, token: &mut Token, count: usize)
+    requires table { (token.old.table_id ≡ words.now.table_id) × (words.now.table_id.words ≡ WORDS) }
+    requires count { (0 < count) × (count < WORDS) }
     requires owns { Owns token.old.me.0 token.old.me.0.from }
     requires right { DrawsNothing E.event × MayRecord words.now.key.bounds.items token.old.me.0.from token.old.me.0.seen E.event }
-    ensures { (token.new.table_id ≡ token.old.table_id) × ((n : ℕ) × Adds E.event (step words.now.table_id.slots 1 1 0 none) token.old.me n token.new.me) }
+    ensures { (token.new.table_id ≡ token.old.table_id) × ((n : ℕ) × Adds E.event (step words.now.table_id.slots count 1 0 none) token.old.me n token.new.me) }
 {
-    words.fetch_add::<Add<E>>(token, 1, 1);
+    words.fetch_add::<Add<E>>(token, count, 1);
 }
 
 // Records this event, which the call picks.
@@ -126,7 +134,8 @@ impl<J: Naming> Seat<J> {
         ensures same { (self.new.seat ≡ self.old.seat) × (self.new.ticks ≡ self.old.ticks) }
         ensures added { HasRecorded J.bounds self.old.seat self.old.events E.event self.new.events }
     {
-        add::<E>(&self.words.shared, &mut self.token);
+        let count = count_of(self.number);
+        add::<E>(&self.words.shared, &mut self.token, count);
     }
 
     /// Records an event of this seat that is right after whatever other seats may have done since, by one atomic add.

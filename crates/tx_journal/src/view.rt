@@ -1,11 +1,21 @@
-//! The journal's table: what a token of it knows, the rule that every step keeps, and what each step tells. The table has two
-//! words, the last number drawn and a count of events; which events these were, proofs alone know.
+//! The journal's table: what a token of it knows, the rule that every step keeps, and what each step tells. The table's first word is
+//! the last number drawn. The seats are spread over further words, each of which counts the events of its seats; which events these were,
+//! proofs alone know.
 use atomic_table::{Join, Play, Seat as TableSeat, Shared, Split, Table, TableRule};
 use std::alloc::Global;
 use std::collections::LinkedList;
 use std::marker::{Brand, PhantomData};
 use tx_core::Event;
 use tx_types::Key;
+
+/// How far apart two words lie that threads write: in different lines of memory, also where a processor fetches lines by twos.
+pub const APART: usize = 16;
+
+/// How many words count events. So seats that work side by side mostly write different lines.
+pub const COUNTS: usize = 64;
+
+/// How many words the table has, of which those are used whose numbers are multiples of `APART`.
+pub const WORDS: usize = 1_040;
 
 /// What is fixed when a journal is opened: the keys between its regions, and how many seats it has.
 #[derive(Drop)]
@@ -85,7 +95,7 @@ impl Said for Brand {
     ghost event = { Stopped 0 };
 }
 
-/// An add on the second word: an event is recorded.
+/// An add on a word that counts events: an event is recorded.
 pub struct Add<E>(PhantomData<E>);
 
 impl<E: Said> Play<u8, View> for Add<E> {
