@@ -2,10 +2,10 @@
 use Rattle.std.proofs.Common.{◌≡◌, ℕ, ◌+◌, Bool, true, false, cond, not, ◌||◌, eqb, List, [], ◌∷◌, ◌++◌, refl, sym, ap, ◌∙◌, subst, append_assoc, arith}
 use Rattle.std.proofs.lemmas.List.{append-nil}
 use Rattle.std.proofs.lemmas.Bool.Decides.{nat_tests}
-use Rattle.tx_latch.specs.Asked.{Command, contains, meets, granted_behind, granted, cids, is_granted}
+use Rattle.tx_latch.specs.Asked.{Command, contains, meets, granted_behind, granted, cids, is_granted, blocked, Lacks, Distinct}
 use Rattle.tx_latch.specs.Queues.{minus, untaken, followers, ahead_of}
 use Rattle.tx_latch.proofs.Lists.{or_none, or_false, eqb_self, contains-append}
-use Rattle.tx_latch.proofs.Granted.{blocked, Lacks, Distinct, Lacks-granted, Lacks-filter, Distinct-around, granted_behind_is}
+use Rattle.tx_latch.proofs.Granted.{Lacks-granted, Lacks-filter, Distinct-around, granted_behind_is}
 use Rattle.tx_latch.proofs.Links.{minus_meets, followers-push, followers-skip}
 
 -- a number that is not in the list follows nobody

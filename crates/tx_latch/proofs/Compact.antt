@@ -2,11 +2,10 @@
 use Rattle.std.proofs.Common.{◌≡◌, ℕ, ◌+◌, ◌<◌, ◌≤◌, Bool, true, false, cond, ◌&&◌, eqb, zero, suc, List, [], ◌∷◌, ◌++◌, Option, None, Some, length, get_or, drop, refl, sym, ap, ◌∙◌, subst, arith, zero-add, add-zero}
 use Rattle.std.specs.Option.{is_some}
 use Rattle.std.specs.List.{filter}
-use Rattle.tx_latch.specs.Asked.{contains, cids}
+use Rattle.tx_latch.specs.Asked.{contains, cids, Lacks, Distinct}
 use Rattle.tx_latch.specs.Queues.{Link, link_of, links, commands, command_of, Chained, room_at, replaced, followers, untaken, ahead_of, last_in}
 use Rattle.tx_latch.specs.declared.queues.Entry.{Entry}
 use Rattle.tx_latch.proofs.Lists.{or_none, eqb_self, same_eqb}
-use Rattle.tx_latch.proofs.Granted.{Lacks, Distinct}
 use Rattle.tx_latch.proofs.Places.{some_same, Distinct-places}
 use Rattle.tx_latch.proofs.Read.{true_false}
 

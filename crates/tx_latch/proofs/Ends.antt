@@ -5,11 +5,10 @@ use Rattle.std.specs.Option.{option_map, is_some}
 use Rattle.std.specs.List.{list_any, All}
 use Rattle.std.proofs.lemmas.List.{map-append, map-set, length-append, length-map, get_or-set_same, get_or-set_other, get_or_past}
 use Rattle.std.proofs.lemmas.Bool.{eqb-true}
-use Rattle.tx_latch.specs.Asked.{Command, contains, is_granted, is_asked}
+use Rattle.tx_latch.specs.Asked.{Command, contains, is_granted, is_asked, Lacks, Distinct}
 use Rattle.tx_latch.specs.Queues.{Link, link_of, links, commands, Chained, joined, count_links, is_number, room_at, room_of, ahead_of, untaken, followers, last_in}
 use Rattle.tx_latch.specs.declared.queues.Entry.{Entry}
 use Rattle.tx_latch.proofs.Lists.{eqb_self, Each}
-use Rattle.tx_latch.proofs.Granted.{Lacks, Distinct}
 use Rattle.tx_latch.proofs.Ahead.{ahead_tells}
 use Rattle.tx_latch.proofs.Places.{some_same, Lacks-place, Distinct-places}
 use Rattle.tx_latch.proofs.Join.{get-end, drop-end, drop-new, joins, joined-command, Distinct-push}

@@ -3,10 +3,10 @@ use Rattle.std.proofs.Common.{◌≡◌, ℕ, Bool, true, false, cond, not, List
 use Rattle.std.specs.List.{filter}
 use Rattle.std.proofs.lemmas.List.{append-nil}
 use Rattle.std.proofs.lemmas.List.Elements.{filter-append}
-use Rattle.tx_latch.specs.Asked.{Command, meets, granted_behind, granted, cids, is_granted, newly_granted}
+use Rattle.tx_latch.specs.Asked.{Command, meets, granted_behind, granted, cids, is_granted, newly_granted, blocked, Distinct}
 use Rattle.tx_latch.specs.Queues.{minus, followers}
 use Rattle.tx_latch.proofs.Lists.{or_none, filter_swap, meets_mutual, or_false}
-use Rattle.tx_latch.proofs.Granted.{blocked, blocked-append, Distinct, Distinct-around, granted-cons, newly-around}
+use Rattle.tx_latch.proofs.Granted.{blocked-append, Distinct-around, granted-cons, newly-around}
 use Rattle.tx_latch.proofs.Links.{minus_meets}
 use Rattle.tx_latch.proofs.Ahead.{is_granted_at}
 

@@ -5,24 +5,11 @@ use Rattle.std.proofs.lemmas.List.{map-append}
 use Rattle.std.proofs.lemmas.Bool.{eqb-true}
 use Rattle.std.proofs.lemmas.List.Elements.{filter_agree, filter-append}
 use Rattle.std.proofs.lemmas.List.Folds.{list_any-append}
-use Rattle.tx_latch.specs.Asked.{Command, contains, meets, granted_behind, granted, cids, is_granted, newly_granted, without}
+use Rattle.tx_latch.specs.Asked.{Command, contains, meets, blocked, granted_behind, granted, cids, is_granted, newly_granted, without, Lacks, Distinct}
 use Rattle.tx_latch.proofs.Lists.{meets_mutual, filter_and, filter_agree_each, Each, Each_both, not_or, or_false, or_none, eqb_self, same_eqb, contains-append, filter_swap, not_not}
-
--- whether one of these commands shares a slot with c
-abbrev pub blocked : List Command → Command → Bool
-blocked earlier c = list_any (λ e. meets e.slots c.slots) earlier
 
 pub blocked-append : (xs ys : List Command) (c : Command) → blocked (xs ++ ys) c ≡ (blocked xs c || blocked ys c)
 blocked-append xs ys c = list_any-append (λ e. meets e.slots c.slots) xs ys
-
--- no command of this number
-abbrev pub Lacks : ℕ → List Command → Type 0
-Lacks x cs = contains x (cids cs) ≡ false
-
--- no two commands of one number
-abbrev pub Distinct : List Command → Type 0
-Distinct [] = Unit {0}
-Distinct (c ∷ cs) = Lacks c.cid cs × Distinct cs
 
 first_step : (c : Command) (b : Bool) (xs ys : List Command) → ys ≡ xs → cond b xs (c ∷ xs) ≡ cond (not b) (c ∷ ys) ys
 first_step c true xs ys e = sym e

@@ -3,10 +3,10 @@ use Rattle.std.proofs.Common.{◌≡◌, ℕ, ◌+◌, ◌<◌, ◌≤◌, Bool,
 use Rattle.std.specs.Option.{option_map}
 use Rattle.std.specs.List.{list_any}
 use Rattle.std.proofs.lemmas.List.{length-append, append-nil, length-map}
-use Rattle.tx_latch.specs.Asked.{Command, contains, meets, cids}
+use Rattle.tx_latch.specs.Asked.{Command, contains, meets, cids, Lacks, Distinct}
 use Rattle.tx_latch.specs.Queues.{Link, minus, untaken, followers, ahead_of, last_in, is_number, commands, command_of, Chained, joined, count_links}
 use Rattle.tx_latch.proofs.Lists.{or_none, same_eqb, meets_mutual, Each, Each_map}
-use Rattle.tx_latch.proofs.Granted.{Lacks, Distinct, Lacks-both}
+use Rattle.tx_latch.proofs.Granted.{Lacks-both}
 use Rattle.tx_latch.proofs.Links.{followers-push}
 use Rattle.tx_latch.proofs.Last.{last_in-push, last_in-at}
 use Rattle.tx_latch.proofs.Ahead.{directly, ahead-push, ahead_at}

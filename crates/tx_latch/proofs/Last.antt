@@ -1,9 +1,9 @@
 -- The last command in a slot, as commands join and leave.
 use Rattle.std.proofs.Common.{◌≡◌, ℕ, Bool, true, false, cond, not, ◌&&◌, eqb, List, [], ◌∷◌, ◌++◌, Option, None, Some, refl, sym, ap, ◌∙◌}
-use Rattle.tx_latch.specs.Asked.{Command, contains, meets, cids}
+use Rattle.tx_latch.specs.Asked.{Command, contains, meets, cids, blocked, Lacks, Distinct}
 use Rattle.tx_latch.specs.Queues.{minus, untaken, or_else, last_in, is_number}
 use Rattle.tx_latch.proofs.Lists.{or_none, eqb_self, meets_mutual}
-use Rattle.tx_latch.proofs.Granted.{blocked, Lacks, Distinct, Distinct-around}
+use Rattle.tx_latch.proofs.Granted.{Distinct-around}
 use Rattle.tx_latch.proofs.Links.{contains_minus, last_in-append, apart_at}
 
 -- the command that joins is the last in each of its slots

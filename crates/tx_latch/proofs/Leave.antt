@@ -3,10 +3,9 @@ use Rattle.std.proofs.Common.{◌≡◌, ℕ, ◌+◌, ◌-◌, ◌<◌, ◌≤�
 use Rattle.std.specs.Option.{option_map}
 use Rattle.std.proofs.lemmas.List.{length-set, length-map, get_or-set_other, get_or-take, get_or-drop, drop-set-lt, drop-set-add, drop-map}
 use Rattle.std.proofs.lemmas.Bool.{cases_eq, cases_lt, eqb-true}
-use Rattle.tx_latch.specs.Asked.{Command, contains, meets}
+use Rattle.tx_latch.specs.Asked.{Command, contains, meets, blocked, Distinct}
 use Rattle.tx_latch.specs.Queues.{Link, minus, untaken, followers, ahead_of, last_in, is_number, commands, command_of, Chained, lowered_in, tally}
 use Rattle.tx_latch.proofs.Lists.{or_none}
-use Rattle.tx_latch.proofs.Granted.{blocked, Distinct}
 use Rattle.tx_latch.proofs.Links.{followers-skip, minus_keeps, minus_apart}
 use Rattle.tx_latch.proofs.Last.{last_in-around}
 use Rattle.tx_latch.proofs.Ahead.{ahead-around, Lacks-followers}

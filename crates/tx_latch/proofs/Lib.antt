@@ -24,5 +24,7 @@ pub mod Read
 pub mod Ends
 -- A granted command taken out of the places.
 pub mod Taken
+-- Commands that need no queue.
+pub mod Lone
 -- The places once the empty ones are dropped.
 pub mod Compact

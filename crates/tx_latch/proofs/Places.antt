@@ -3,12 +3,11 @@ use Rattle.std.proofs.Common.{◌≡◌, ℕ, ◌<◌, false, cond, eqb, zero, s
 use Rattle.std.specs.Option.{option_map}
 use Rattle.std.proofs.lemmas.List.{map-set, get_or_read}
 use Rattle.std.proofs.lemmas.Bool.{eq-eqb}
-use Rattle.tx_latch.specs.Asked.{Command, contains, meets, cids}
+use Rattle.tx_latch.specs.Asked.{Command, contains, meets, cids, blocked, Lacks, Distinct}
 use Rattle.tx_latch.specs.Queues.{Link, link_of, links, commands, at_place, command_of, HasRoom, room_of}
 use Rattle.tx_latch.specs.declared.queues.Entry.{Entry}
 use Rattle.std.proofs.lemmas.Bool.Decides.{eqb_tells}
 use Rattle.tx_latch.proofs.Lists.{or_none}
-use Rattle.tx_latch.proofs.Granted.{blocked, Lacks, Distinct}
 
 -- what is read at a place of the links
 pub link-get : {X Y : Type 0} (f : X → Y) (xs : List (Option X)) (i : ℕ) → get_or (map (option_map f) xs) i None ≡ option_map f (get_or xs i None)

@@ -1,11 +1,11 @@
 -- What the places tell of the list that was asked.
 use Rattle.std.proofs.Common.{◌≡◌, ℕ, ◌+◌, ◌-◌, ◌<◌, Bool, true, false, cond, not, ◌||◌, eqb, zero, suc, List, [], ◌∷◌, ◌++◌, Option, None, Some, map, get_or, take, drop, refl, sym, ap, ◌∙◌, subst, arith}
 use Rattle.std.specs.Option.{option_map, is_some}
-use Rattle.tx_latch.specs.Asked.{Command, contains, cids, is_asked, is_granted}
+use Rattle.tx_latch.specs.Asked.{Command, contains, cids, is_asked, is_granted, blocked, Distinct}
 use Rattle.tx_latch.specs.Queues.{Link, commands, command_of, Chained, Placed, at_place, lowered, lowered_in, tally, has_none_before, ahead_of, links, room_at, last_in}
 use Rattle.tx_latch.specs.declared.queues.Entry.{Entry}
 use Rattle.tx_latch.proofs.Lists.{eqb_self, same_eqb}
-use Rattle.tx_latch.proofs.Granted.{blocked, Distinct, Lacks-granted}
+use Rattle.tx_latch.proofs.Granted.{Lacks-granted}
 use Rattle.tx_latch.proofs.Ahead.{ahead_tells, is_granted_at}
 use Rattle.tx_latch.proofs.Places.{split-at, Lacks-places, Distinct-places, none_apart, eqb_apart, at_place-map}
 use Rattle.std.proofs.lemmas.Bool.{eqb-true}
@@ -13,7 +13,7 @@ use Rattle.std.proofs.lemmas.Bool.{eqb-true}
 pub true_false : true ≡ false → ⊥
 true_false h = cc
 
-or_true : (a : Bool) → (a || true) ≡ true
+pub or_true : (a : Bool) → (a || true) ≡ true
 or_true true = refl
 or_true false = refl
 

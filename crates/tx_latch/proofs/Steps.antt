@@ -6,10 +6,10 @@ use mir.Val.{bool_byte}
 use Rattle.std.proofs.lemmas.List.{length_push}
 use Rattle.std.proofs.lemmas.List.Folds.{list_any-append}
 use Rattle.std.proofs.lemmas.Bool.{eqb-true, eq-eqb}
-use Rattle.tx_latch.specs.Asked.{contains, cids}
+use Rattle.tx_latch.specs.Asked.{contains, cids, Lacks, Distinct}
 use Rattle.tx_latch.specs.Queues.{Link, untaken, last_in, is_number, commands, command_of, Chained, joined, followed, adds, link_at, at_place, count_links, HasRoom, after_slot, adds_slot}
 use Rattle.tx_latch.proofs.Lists.{or_none, or_false, eqb_self, same_eqb}
-use Rattle.tx_latch.proofs.Granted.{Lacks, Distinct, Lacks-append}
+use Rattle.tx_latch.proofs.Granted.{Lacks-append}
 use Rattle.tx_latch.proofs.Last.{last_in-at}
 use Rattle.tx_latch.proofs.Ahead.{Lacks-followers}
 use Rattle.tx_latch.proofs.Places.{from_map, split-at, Lacks-place, Distinct-places, link-get, some_same, none_apart, eqb_apart, map-agree, at_place-map}

@@ -4,9 +4,9 @@ use Rattle.std.specs.Option.{option_map, is_some}
 use Rattle.std.specs.List.{filter}
 use Rattle.std.proofs.lemmas.List.{get_or-set_other}
 use Rattle.std.proofs.lemmas.Bool.{eqb-true, eq-eqb}
-use Rattle.tx_latch.specs.Asked.{Command, contains, is_granted, without, newly_granted}
+use Rattle.tx_latch.specs.Asked.{Command, contains, is_granted, without, newly_granted, blocked, Distinct}
 use Rattle.tx_latch.specs.Queues.{Link, commands, command_of, Chained, Placed, is_number, lowered_in, followers}
-use Rattle.tx_latch.proofs.Granted.{blocked, Distinct, without-around}
+use Rattle.tx_latch.proofs.Granted.{without-around}
 use Rattle.tx_latch.proofs.Ahead.{is_granted_at}
 use Rattle.tx_latch.proofs.Freed.{freed-around}
 use Rattle.tx_latch.proofs.Places.{link-get, some_same, none_apart, split-at, split-none, commands-map, Distinct-places}

@@ -1,5 +1,5 @@
 -- The commands that were asked, in asking order, and which of them are granted.
-use Rattle.std.specs.Prelude.{ℕ, Bool, cond, not, List, [], ◌∷◌, ◌++◌, map, nat_eq}
+use Rattle.std.specs.Prelude.{◌≡◌, ℕ, Bool, false, cond, not, List, [], ◌∷◌, ◌++◌, map, nat_eq}
 use Rattle.std.specs.List.{list_any, filter}
 
 -- a command that was asked: its number, and its slots, in which repeats count once
@@ -14,6 +14,10 @@ contains x xs = list_any (λ y. nat_eq x y) xs
 -- whether two sets of slots have one in common
 abbrev pub meets : List ℕ → List ℕ → Bool
 meets xs ys = list_any (λ s. contains s ys) xs
+
+-- whether one of these commands shares a slot with another
+abbrev pub blocked : List Command → Command → Bool
+blocked earlier c = list_any (λ e. meets e.slots c.slots) earlier
 
 -- the granted ones of the commands that stand behind the earlier ones: each that shares a slot with no earlier one
 abbrev pub granted_behind : List Command → List Command → List Command
@@ -46,3 +50,17 @@ newly_granted before after = cids (filter (λ c. not (is_granted before c.cid)) 
 -- the list without the command of this number
 abbrev pub without : ℕ → List Command → List Command
 without cid asked = filter (λ c. not (nat_eq cid c.cid)) asked
+
+-- no command of this number
+abbrev pub Lacks : ℕ → List Command → Type 0
+Lacks x cs = contains x (cids cs) ≡ false
+
+-- no two commands of one number
+abbrev pub Distinct : List Command → Type 0
+Distinct [] = Unit {0}
+Distinct (c ∷ cs) = Lacks c.cid cs × Distinct cs
+
+-- each of the later commands shares no slot with one before it
+abbrev pub AreFree : List Command → List Command → Type 0
+AreFree earlier [] = Unit {0}
+AreFree earlier (c ∷ later) = (blocked earlier c ≡ false) × AreFree (earlier ++ c ∷ []) later

@@ -1,3 +1,4 @@
 pub mod Slots
 pub mod Asked
 pub mod Queues
+pub mod Lone

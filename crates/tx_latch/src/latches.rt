@@ -2,8 +2,8 @@
 ghost use Rattle.std.specs.Prelude.{◌≡◌, ◌++◌, ◌∷◌, [], ◌↔◌, true, false, IsTrue, IsOk, IfOk, IfErr, OnErr};
 ghost use Rattle.tx_latch.specs.Asked.{is_asked, is_granted, newly_granted, without};
 
+use crate::asked::Asked;
 use crate::cid::Cid;
-use crate::queues::Queues;
 use crate::slot::Slot;
 use std::alloc::Global;
 use std::marker::Model;
@@ -13,19 +13,19 @@ use tx_types::Fault;
 /// slot with it. Contracts see the list of the commands.
 #[derive(Debug, Drop)]
 pub struct Latches {
-    queues: Queues,
+    asked: Asked,
 }
 
 impl Model for Latches {
     ghost use Rattle.std.specs.Prelude.{List};
     ghost use Rattle.tx_latch.specs.Asked.{Command};
-    ghost use Rattle.tx_latch.specs.Queues.{Kept, asked_of};
+    ghost use Rattle.tx_latch.specs.Lone.{KeptAll, all_asked};
 
     ghost Value = { List Command };
 
-    ghost view = { λ l. asked_of l.queues };
+    ghost view = { λ l. all_asked l.asked };
 
-    ghost invariant = { λ l. Kept l.queues };
+    ghost invariant = { λ l. KeptAll l.asked };
 }
 
 impl Latches {
@@ -34,7 +34,7 @@ impl Latches {
         ensures { result ≡ [] }
     {
         Latches {
-            queues: Queues::new(alloc),
+            asked: Asked::new(alloc),
         }
     }
 
@@ -42,14 +42,14 @@ impl Latches {
     pub fn is_asked(&self, cid: Cid) -> bool
         ensures { IsTrue result ↔ (is_asked self.now cid ≡ true) }
     {
-        self.queues.is_asked(cid)
+        self.asked.is_asked(cid)
     }
 
     /// Whether a command of this number is granted.
     pub fn is_granted(&self, cid: Cid) -> bool
         ensures { IsTrue result ↔ (is_granted self.now cid ≡ true) }
     {
-        self.queues.is_granted(cid)
+        self.asked.is_granted(cid)
     }
 
     /// Asks for a command, whose number must not stand in the list, at its end; `is_asked` tells. Repeated slots count
@@ -61,7 +61,7 @@ impl Latches {
         ensures same { OnErr result (self.new ≡ self.old) }
         ensures err { IfErr result (λ e. e ≡ Fault.OutOfMemory) }
     {
-        self.queues.add(cid, slots)
+        self.asked.add(cid, slots)
     }
 
     /// Takes a granted command out of the list; `is_granted` tells. Gives the numbers of those that become granted by it,
@@ -72,6 +72,6 @@ impl Latches {
         ensures freed { IfOk result (λ freed. freed.items ≡ newly_granted self.old self.new) }
         ensures succeeds { IsOk result }
     {
-        Ok(self.queues.remove(cid))
+        Ok(self.asked.remove(cid))
     }
 }

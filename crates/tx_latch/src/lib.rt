@@ -2,6 +2,7 @@
 //! the regions. A command asks for the slots of its keys and is granted once no earlier one shares a slot with it.
 #![tactic(auto)]
 
+mod asked;
 mod cid;
 mod latches;
 mod queues;

@@ -60,6 +60,18 @@ impl Queues {
         }
     }
 
+    /// What it takes memory of.
+    pub fn allocator(&self) -> Global {
+        *self.asked.allocator()
+    }
+
+    /// Whether no command stands in the list, as far as no place is kept of one that left.
+    pub fn is_empty(&self) -> bool
+        ensures { IsTrue result → asked_of self.now ≡ [] }
+    {
+        self.asked.is_empty()
+    }
+
     /// Whether a command of this number stands in the list.
     pub fn is_asked(&self, cid: Cid) -> bool
         requires { Kept self.now }
@@ -253,14 +265,14 @@ impl Queues {
         freed
     }
 
-    /// Drops the empty places where they are more than the others: as many commands have left since the last time, so
-    /// that each leaves for a constant cost.
+    /// Drops the empty places where they are more than the others, or nothing else is there: as many commands have left since the
+    /// last time, so that each leaves for a constant cost.
     fn compact_when_sparse(&mut self)
         requires { Kept self.old }
         ensures kept { Kept self.new }
         ensures same { asked_of self.new ≡ asked_of self.old }
     {
-        if self.asked.len() / 2 > self.places.len() {
+        if self.asked.len() / 2 > self.places.len() || self.places.is_empty() {
             self.compact();
         }
     }
