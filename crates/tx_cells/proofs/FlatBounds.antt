@@ -1,9 +1,10 @@
 -- No write record is above the ceiling of its key, whatever changes.
-use Rattle.std.proofs.Common.{◌≡◌, ◌≢◌, ◌<◌, ◌≤◌, ℕ, ◌==◌, inl, inr, Bool, true, false, cond, List, Option, Some, None, bytes_eq, refl, sym, ap, subst, arith, ◌∙◌}
+use Rattle.std.proofs.Common.{◌≡◌, ◌≢◌, ◌<◌, ◌≤◌, ℕ, ◌==◌, inl, inr, Bool, true, false, cond, List, Option, Some, None, IsSome, ltb, bytes_eq, refl, sym, ap, subst, arith, ◌∙◌}
 use Rattle.std.proofs.Math.Logic.{∥∥₁_map}
 use mathlib.Core.Logic.{∥∥₁_elim}
 use Rattle.std.proofs.lemmas.Slice.Eq.{bytes_eq-Decides}
 use Rattle.std.proofs.lemmas.Bool.{cases_Bool, eqb-true}
+use Rattle.std.proofs.lemmas.Bool.Decides.{nat_tests}
 use Rattle.tx_types.specs.declared.write.WriteRec.{WriteRec}
 use Rattle.tx_types.specs.declared.write.WriteRec.TheVariants.{Rollback}
 use Rattle.tx_plan.specs.declared.key_change.Left.{Left}
@@ -68,3 +69,10 @@ none_past writes ceilings key at past below q from = go (writes (key, q)) refl
     go : (o : Option WriteRec) → writes (key, q) ≡ o → o ≡ None
     go None e = refl
     go (Some rec) e = absurd (∥∥₁_elim below (λ p r. absurd p) (λ all. (let none = all key q (omega (arith, past, from)) in cc (e, none))))
+
+-- each record of a key lies at its ceiling or below
+pub at_most : (writes : Writes) (ceilings : List ℕ → ℕ) (key : List ℕ) (q : ℕ) → IsSome (writes (key, q)) → AllBelow ceilings writes → q ≤ ceilings key
+at_most writes ceilings key q there below = elim (cases_Bool (ltb (ceilings key) q)) [
+  | inl above ↦ (let past : ceilings key < q = grind (arith, nat_tests, above) in let none : writes (key, q) ≡ None = none_past writes ceilings key q past below q (omega arith) in cc (there, none))
+  | inr other ↦ grind (arith, nat_tests, other)
+]

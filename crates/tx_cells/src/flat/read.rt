@@ -69,8 +69,8 @@ impl FlatCells {
         }
     }
 
-    // The value that a read at this version's timestamp sees of its key. Mostly the newest record is a put or a delete.
-    fn value_seen(
+    // The value that a read at this version's timestamp sees of its key, by a search. Mostly the newest record is a put or a delete.
+    fn value_searched(
         &self,
         alloc: Global,
         key: &Key,
@@ -93,7 +93,7 @@ impl FlatCells {
         ensures err { IfErr result (λ e. e ≡ Fault.OutOfMemory) }
     {
         let version = VersionBytes::new(alloc, key, at)?;
-        self.value_seen(alloc, key, version, at)
+        self.value_searched(alloc, key, version, at)
     }
 
     /// The same, by the newest record of the key. Mostly that is a put or a delete at the timestamp or below, which takes no
@@ -119,6 +119,30 @@ impl FlatCells {
             Some(seen) => self.value_in(alloc, key, bytes, at, seen),
             None => self.value_at(alloc, key, at),
         }
+    }
+
+    // The value that a read at this version's timestamp sees of its key. Mostly the key's ceiling is the timestamp of its newest record,
+    // which is then found without a search of the records around it.
+    fn value_seen(
+        &self,
+        alloc: Global,
+        key: &Key,
+        mut version: VersionBytes,
+        at: Ts,
+    ) -> Result<Option<Value>, Fault>
+        requires { version ≡ (key.now, at) }
+        ensures value { IfOk result (λ value. Reads (cells_of (flat_content self.now key.now)).write at value) }
+        ensures err { IfErr result (λ e. e ≡ Fault.OutOfMemory) }
+    {
+        let ceiling = self.ceilings.of(key);
+        if ceiling <= at {
+            version.set_at(ceiling);
+            if let Some(bytes) = self.writes.get(&version) {
+                return self.value_by(alloc, key, &version, bytes, at);
+            }
+            version.set_at(at);
+        }
+        self.value_searched(alloc, key, version, at)
     }
 
     /// What a read at this timestamp sees of its key.
