@@ -8,3 +8,5 @@ mod Taking
 pub mod Routes
 -- The first eight bytes of keys, as numbers, order keys as the keys are ordered.
 pub mod KeyFronts
+-- The first eight bytes of a key spell its front.
+pub mod Groups

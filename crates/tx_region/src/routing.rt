@@ -19,31 +19,13 @@ pub fn route(bounds: &[Key], key: &Key) -> usize
     bounds.partition_point(|bound| *bound <= *key)
 }
 
-// The byte in a place, or 0 where there is none, behind the bytes that a number spells.
-fn with_byte(front: u64, bytes: &[u8], place: usize) -> u64
-    requires { front < 72057594037927936 }
-    ensures value { result ≡ front * 256 + slice_index_or bytes.now place 0 }
-    ensures below { result < front * 256 + 256 }
+// The number that the first eight bytes of a key spell, where zeros stand behind them.
+fn front_of(key: &Key) -> u64
+    ensures value { result ≡ front key.now }
+    ensures bytes { AreBytes key.now }
 {
-    match bytes.get(place) {
-        Some(byte) => front * 256 + u64::from(*byte),
-        None => front * 256,
-    }
-}
-
-// The number that the first eight of these bytes spell, where zeros stand behind them.
-fn front_of(bytes: &[u8]) -> u64
-    ensures value { result ≡ front bytes.now }
-    ensures bytes { AreBytes bytes.now }
-{
-    let one = with_byte(0, bytes, 0);
-    let two = with_byte(one, bytes, 1);
-    let three = with_byte(two, bytes, 2);
-    let four = with_byte(three, bytes, 3);
-    let five = with_byte(four, bytes, 4);
-    let six = with_byte(five, bytes, 5);
-    let seven = with_byte(six, bytes, 6);
-    with_byte(seven, bytes, 7)
+    let _bytes = key.as_bytes();
+    u64::from_be_bytes(key.first_eight())
 }
 
 /// The fronts of the keys between the regions, by which `route_by` finds the region of a key.
@@ -53,7 +35,7 @@ pub fn fronts(alloc: Global, bounds: &[Key]) -> Result<Vec<u64>, Fault>
 {
     let mut fronts = Vec::with_capacity(alloc, bounds.len())?;
     for place in 0..bounds.len() {
-        fronts.push_reserved(front_of(bounds[place].as_bytes()));
+        fronts.push_reserved(front_of(&bounds[place]));
     }
     Ok(fronts)
 }
@@ -82,7 +64,7 @@ pub fn route_by(fronts: &[u64], bounds: &[Key], key: &Key) -> usize
     requires fronts { AreFronts bounds.now fronts.now }
     ensures { result ≡ route bounds.now key.now }
 {
-    let front = front_of(key.as_bytes());
+    let front = front_of(key);
     let place = fronts.partition_point(|other| *other < front);
     if is_past(fronts, place, front) && is_reached(fronts, place, front) {
         place

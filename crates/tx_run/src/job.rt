@@ -10,7 +10,6 @@ use crate::collector::Collector;
 use crate::out::Out;
 use crate::place::Place;
 use crate::transfer::{After, Moving, slots_of};
-use std::alloc::Global;
 use std::marker::Model;
 use std::mem::replace;
 use std::sync::Wait;
@@ -393,18 +392,16 @@ impl<J: Naming, L: Source, F: Families + Drop, R: Wait + Drop> Job for ScriptJob
         self.number
     }
 
-    fn slots(&self) -> Result<Vec<Slot>, Fault> {
-        let alloc: Global = self.access.alloc;
+    fn slots(&self, slots: &mut Vec<Slot>) -> Result<(), Fault> {
         if let Place::Moving(moving) = &self.place {
-            return moving.slots(alloc);
+            return moving.slots(slots);
         }
-        let mut slots = Vec::new(alloc);
         match self.lines.last().map(|entry| entry.asks()) {
             None | Some(Asks::Nothing) => {}
             Some(Asks::Buffer) => slots.extend_from_slice(self.touched.as_slice())?,
             Some(Asks::Met) => slots.extend_from_slice(self.met.as_slice())?,
         }
-        Ok(slots)
+        Ok(())
     }
 
     fn step(&mut self) -> Turn<Out<J, L>> {

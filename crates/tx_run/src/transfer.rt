@@ -122,20 +122,19 @@ impl<J: Naming, L: Source> Moving<J, L> {
         (session, number, keys)
     }
 
-    /// The slots of its next step.
-    pub fn slots(&self, alloc: Global) -> Result<Vec<Slot>, Fault>
+    /// Puts the slots of its next step behind those that are there.
+    pub fn slots(&self, slots: &mut Vec<Slot>) -> Result<(), Fault>
         ensures { IfErr result (λ e. e ≡ fault.OutOfMemory) }
     {
-        let mut slots = Vec::new(alloc);
         if let Some(met) = &self.resolving {
             slots.extend_from_slice(met.as_slice())?;
-            return Ok(slots);
+            return Ok(());
         }
         if self.asks() == Asks::Keys {
             slots.push(slot_of(&self.order.from))?;
             slots.push(slot_of(&self.order.to))?;
         }
-        Ok(slots)
+        Ok(())
     }
 
     // Which latches its next request asks for.

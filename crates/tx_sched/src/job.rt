@@ -26,8 +26,9 @@ pub trait Job: Drop {
     fn number(&self) -> u32
         ensures { result ≡ numbered self.now };
 
-    /// The slots of the keys that its next step asks for. `OutOfMemory` is the only refusal.
-    fn slots(&self) -> Result<Vec<Slot>, Fault>
+    /// Puts the slots of the keys that its next step asks for behind those that are there, of which a worker hands in none.
+    /// `OutOfMemory` is the only refusal.
+    fn slots(&self, slots: &mut Vec<Slot>) -> Result<(), Fault>
         ensures err { IfErr result (λ e. e ≡ OutOfMemory) };
 
     /// Makes the next step.

@@ -95,21 +95,29 @@ where
 
     /// Takes jobs until the run is over.
     fn work<R: Wait, G: Gate>(&self, rt: &R, gate: &G) {
+        let mut slots = Vec::new(self.alloc);
         for _ in rt.forever() {
             match self.ready.recv(rt) {
-                Ok(Message::Ready(task)) => self.advance(rt, gate, task),
+                Ok(Message::Ready(task)) => self.advance(rt, gate, task, &mut slots),
                 Ok(Message::Stop) | Err(_) => break,
             }
         }
         let _ = self.queue.send(rt, Message::Stop);
     }
 
-    /// Makes steps of a job, until it waits for its latches, gives its result, or was given its share while others wait.
-    fn advance<R: Wait, G: Gate>(&self, rt: &R, gate: &G, task: Task<J, N>) {
+    /// Makes steps of a job, until it waits for its latches, gives its result, or was given its share while others wait. `slots` is
+    /// the room for those of a step, which one worker uses again and again.
+    fn advance<R: Wait, G: Gate>(
+        &self,
+        rt: &R,
+        gate: &G,
+        task: Task<J, N>,
+        slots: &mut Vec<Slot>,
+    ) {
         let mut task = task;
         for _ in rt.forever() {
             for _ in 0..SHARE {
-                match self.turn(rt, gate, task) {
+                match self.turn(rt, gate, task, slots) {
                     Some(next) => task = next,
                     None => return,
                 }
@@ -122,8 +130,14 @@ where
     }
 
     /// Makes the next step of a job, if its latches are granted. Gives the job back where it has more steps.
-    fn turn<R: Wait, G: Gate>(&self, rt: &R, gate: &G, task: Task<J, N>) -> Option<Task<J, N>> {
-        let (task, slots) = self.latched(rt, task)?;
+    fn turn<R: Wait, G: Gate>(
+        &self,
+        rt: &R,
+        gate: &G,
+        task: Task<J, N>,
+        slots: &mut Vec<Slot>,
+    ) -> Option<Task<J, N>> {
+        let task = self.latched(rt, task, slots)?;
         let cid = task.cid();
         let place = task.place();
         gate.before(cid);

@@ -12,7 +12,6 @@ use tx_types::Fault;
 // Counts down, and then gives its number and what it began with.
 #[derive(Drop)]
 struct Count {
-    alloc: Global,
     number: u32,
     slot: u8,
     from: u32,
@@ -40,11 +39,10 @@ impl Job for Count {
         self.number
     }
 
-    fn slots(&self) -> Result<Vec<Slot>, Fault> {
-        let mut slots = Vec::new(self.alloc);
+    fn slots(&self, slots: &mut Vec<Slot>) -> Result<(), Fault> {
         slots.push(Slot::new(self.slot))?;
         slots.push(Slot::new(self.slot.wrapping_mul(7)))?;
-        Ok(slots)
+        Ok(())
     }
 
     fn step(&mut self) -> Turn<Counted> {
@@ -68,7 +66,6 @@ fn jobs_of(alloc: Global, rows: &[(u8, u32)]) -> Result<Vec<Count>, Fail>
     let mut number = 0u32;
     for (slot, from) in rows {
         jobs.push(Count {
-            alloc,
             number,
             slot: *slot,
             from: *from,

@@ -1,5 +1,5 @@
 //! Keys.
-ghost use Rattle.std.specs.Prelude.{◌≡◌, ◌⊎◌, ◌<◌, ◌≤◌, ◌↔◌, length, Some, nat_eq, refl, IfOk, IfErr, IsErrOf};
+ghost use Rattle.std.specs.Prelude.{◌≡◌, ◌⊎◌, ◌<◌, ◌≤◌, ◌↔◌, ◌++◌, length, replicate, take, Some, nat_eq, refl, IfOk, IfErr, IsErrOf};
 ghost use Rattle.std.specs.Ordering.{nat_cmp};
 ghost use Rattle.std.specs.Hash as fed;
 ghost use Rattle.std.specs.Cmp.Lexicographic.{pointwise, slice_cmp, nat_list_eq_equiv, nat_list_cmp_total, texts_ties, texts_po};
@@ -58,6 +58,13 @@ impl Key {
         ensures within { (MIN_KEY_BYTES ≤ length result.now) × (length result.now ≤ MAX_KEY_BYTES) }
     {
         self.text.as_slice()
+    }
+
+    /// Its first eight bytes, with zeros behind them where it has fewer.
+    pub fn first_eight(&self) -> [u8; 8]
+        ensures { result ≡ take 8 (self.now ++ replicate 8 0) }
+    {
+        self.text.first_eight()
     }
 
     /// The same key, which shares its bytes where they are many.

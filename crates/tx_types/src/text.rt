@@ -1,5 +1,5 @@
 //! Bytes that stand in the value itself where they are few, and else in memory that its copies share.
-ghost use Rattle.std.specs.Prelude.{◌≡◌, ◌≤◌, ◌+◌, ◌++◌, length, take, nat_eq, IfOk};
+ghost use Rattle.std.specs.Prelude.{◌≡◌, ◌≤◌, ◌+◌, ◌-◌, ◌++◌, length, replicate, take, nat_eq, IfOk};
 ghost use Rattle.std.specs.Cmp.Lexicographic.{pointwise, nat_list_eq_equiv};
 ghost use Rattle.std.specs.Cmp.{partial_equiv_from_equiv};
 ghost use Rattle.tx_types.specs.declared.text.TheConstants.{MAX_SHORT_BYTES};
@@ -13,7 +13,7 @@ use std::sync::Arc;
 /// The most bytes that stand in the value itself.
 const MAX_SHORT_BYTES: usize = 22;
 
-// Few bytes: the first of an array.
+// Few bytes: the first of an array, behind which it has zeros.
 #[derive(Clone, Copy)]
 struct Short {
     len: u8,
@@ -24,7 +24,7 @@ struct Short {
 fn short_of(bytes: &[u8]) -> Short
     requires { length bytes.now ≤ MAX_SHORT_BYTES }
     ensures len { result.len ≡ length bytes.now }
-    ensures bytes { take (length bytes.now) result.bytes ≡ bytes.now }
+    ensures bytes { result.bytes ≡ bytes.now ++ replicate (MAX_SHORT_BYTES - length bytes.now) 0 }
 {
     let mut kept = [0; MAX_SHORT_BYTES];
     kept[..bytes.len()].copy_from_slice(bytes);
@@ -38,7 +38,7 @@ fn short_of(bytes: &[u8]) -> Short
 fn short_of_two(front: &[u8], back: &[u8]) -> Short
     requires { length front.now + length back.now ≤ MAX_SHORT_BYTES }
     ensures len { result.len ≡ length front.now + length back.now }
-    ensures bytes { take (length front.now + length back.now) result.bytes ≡ front.now ++ back.now }
+    ensures bytes { result.bytes ≡ (front.now ++ back.now) ++ replicate (MAX_SHORT_BYTES - (length front.now + length back.now)) 0 }
 {
     let mut kept = [0; MAX_SHORT_BYTES];
     let len = front.len() + back.len();
@@ -105,6 +105,18 @@ impl Text {
         bytes.extend_from_slice(front)?;
         bytes.extend_from_slice(back)?;
         Text::new(alloc, bytes.as_slice())
+    }
+
+    /// Its first eight bytes, with zeros behind them where it has fewer.
+    pub fn first_eight(&self) -> [u8; 8]
+        ensures { result ≡ take 8 (self.now ++ replicate 8 0) }
+    {
+        let mut first = [0; 8];
+        match &self.kept {
+            Kept::Short(short) => first.copy_from_slice(&short.bytes[..8]),
+            Kept::Shared(bytes) => first.copy_from_slice(&bytes.as_slice()[..8]),
+        }
+        first
     }
 
     /// Its bytes.

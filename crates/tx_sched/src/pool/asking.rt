@@ -18,16 +18,18 @@ impl<J: Job, N: Opening<J>> Pool<J, N>
 where
     J::Out: Drop,
 {
-    /// A job whose next step has its latches, and the slots, unless it is parked or memory was refused.
+    /// A job whose next step has its latches, those of `slots` then, unless it is parked or memory was refused.
     pub(super) fn latched<R: Wait>(
         &self,
         rt: &R,
         task: Task<J, N>,
-    ) -> Option<(Task<J, N>, Vec<Slot>)> {
-        let Ok(slots) = task.slots() else {
+        slots: &mut Vec<Slot>,
+    ) -> Option<Task<J, N>> {
+        slots.clear();
+        if task.slots(slots).is_err() {
             self.refuse(rt);
             return None;
-        };
+        }
         let asked = match slots.as_slice() {
             [] => Ok(Some(task)),
             [only] => self.ask_part(rt, bench_of(*only), slots.as_slice(), task),
@@ -35,7 +37,7 @@ where
             all => self.ask_each(rt, all, task),
         };
         match asked {
-            Ok(task) => Some((task?, slots)),
+            Ok(task) => task,
             Err(_) => {
                 self.refuse(rt);
                 None

@@ -1,7 +1,7 @@
 use Rattle.std.proofs.Common.{◌≡◌, ◌+◌, length, sym, subst, ◌∙◌, arith, rules}
 use Rattle.std.proofs.lemmas.List.{get_or_default}
 use Rattle.tx_types.specs.declared.key.Key.{Key}
-use Rattle.tx_region.specs.KeyFronts.{TellsUpto, Tells, AreBytes, front}
+use Rattle.tx_region.specs.KeyFronts.{TellsUpto, Tells}
 use Rattle.tx_region.proofs.KeyFronts.{front_tells, tells_next}
 use Rattle.tx_region.proofs.routing.fronts.Goals as goal
 
@@ -20,9 +20,7 @@ loop-place-preserved c =
     let items = c.loop-place.fronts.items in
     let f = c.front_of.result in
     let bound = c.index-bounds-place.result in
-    let is = subst (λ b. f ≡ front b) c.as_bytes.ensures.value c.front_of.ensures.value in
-    let bytes = subst AreBytes c.as_bytes.ensures.value c.front_of.ensures.bytes in
-    let next = λ (d : Key). subst (λ b. Tells b f) (c.index-bounds-place.is ∙ get_or_default bounds n bound d c.loop-place-test.true) (front_tells bound f is bytes) in
+    let next = λ (d : Key). subst (λ b. Tells b f) (c.index-bounds-place.is ∙ get_or_default bounds n bound d c.loop-place-test.true) (front_tells bound f c.front_of.ensures.value c.front_of.ensures.bytes) in
     record {
       made = omega (arith, kept.made, c.push_reserved.ensures.len);
       room = omega (arith, kept.room, c.push_reserved.ensures.capacity);
