@@ -19,12 +19,19 @@ pub fn route(bounds: &[Key], key: &Key) -> usize
     bounds.partition_point(|bound| *bound <= *key)
 }
 
+// That each number of a slice of bytes is a byte.
+fn know_bytes(bytes: &[u8])
+    ensures { AreBytes bytes.now }
+{
+    let _ = bytes;
+}
+
 // The number that the first eight bytes of a key spell, where zeros stand behind them.
 fn front_of(key: &Key) -> u64
     ensures value { result ≡ front key.now }
     ensures bytes { AreBytes key.now }
 {
-    let _bytes = key.as_bytes();
+    know_bytes(key.as_bytes());
     u64::from_be_bytes(key.first_eight())
 }
 

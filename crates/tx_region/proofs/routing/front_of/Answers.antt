@@ -1,9 +1,10 @@
-use Rattle.std.proofs.Common.{ℕ, ◌∙◌}
+use Rattle.std.proofs.Common.{subst, ◌∙◌}
+use Rattle.tx_region.specs.KeyFronts.{AreBytes}
 use Rattle.tx_region.proofs.Groups.{front_group}
 use Rattle.tx_region.proofs.routing.front_of.Goals as goal
 
 pub returns-clause-value : goal.returns-clause-value
-returns-clause-value c = let x : ℕ = c.from_be_bytes.ensures in ?
+returns-clause-value c = c.from_be_bytes.ensures ∙ front_group c.args.key.now c.first_eight.result c.first_eight.ensures
 
 pub returns-clause-bytes : goal.returns-clause-bytes
-returns-clause-bytes c = ?
+returns-clause-bytes c = subst AreBytes c.as_bytes.ensures.value c.know_bytes.ensures

@@ -1,5 +1,4 @@
-use Rattle.std.proofs.Common.{◌≡◌, ◌-◌, refl, sym, subst, arith}
-use Rattle.tx_region.specs.KeyFronts.{front, AreBytes}
+use Rattle.std.proofs.Common.{◌-◌, refl, sym, arith}
 use Rattle.tx_region.proofs.KeyFronts.{between}
 use Rattle.tx_region.proofs.routing.route_by.Goals as goal
 
@@ -10,8 +9,8 @@ returns-then-is_reached c =
     let n = c.partition_point-place.result in
     let count = c.requires.fronts.0 in
     let upto = c.partition_point-place.ensures.bound in
-    let is = subst (λ b. c.front_of-front.result ≡ front b) c.as_bytes.ensures.value c.front_of-front.ensures.value in
-    let bytes = subst AreBytes c.as_bytes.ensures.value c.front_of-front.ensures.bytes in
+    let is = c.front_of-front.ensures.value in
+    let bytes = c.front_of-front.ensures.bytes in
     sym (between bounds c.requires.rising k n (omega (arith, upto, count)) (
     λ d some. (c.requires.fronts.1 (n - 1) d (omega (arith, upto, count, some)) k bytes).1 (omega (arith, is, c.if-is_reached.ensures refl some))
     ) (λ d within. (c.requires.fronts.1 n d within k bytes).0 (omega (arith, is, c.if-is_past.ensures refl (omega (arith, within, count))))))
