@@ -2,6 +2,7 @@ pub mod Balances
 pub mod Lines
 pub mod Outcomes
 pub mod Logs
+pub mod Replies
 pub mod Scripts
 pub mod Words
 pub mod Sources

@@ -5,6 +5,7 @@
 mod balance;
 mod log;
 mod order;
+mod replies;
 mod reply;
 mod script;
 mod source;
@@ -13,6 +14,7 @@ mod words;
 pub use balance::{BALANCES, MAX_DIGITS, after_transfer, balance_of, value_of};
 pub use log::Log;
 pub use order::Order;
+pub use replies::Replies;
 pub use reply::{Reply, Spoken, put_line};
 pub use script::{Asks, Entry, Said, Script, is_name, read_script};
 pub use source::Source;

@@ -45,10 +45,10 @@ pub struct Said<L: Source> {
 /// A line of a session.
 #[derive(Drop)]
 pub enum Entry<L: Source> {
-    /// A transfer, of a session whose name is one. It lies apart, since it is larger than a line.
+    /// A transfer, of a session whose name is one.
     Transfer(Box<Order<L>>),
-    /// Any other, which is read again when it is played.
-    Line(Said<L>),
+    /// Any other, which is read again when it is played. It lies apart too, so that a list of transfers is small.
+    Line(Box<Said<L>>),
 }
 
 impl<L: Source> Entry<L> {
@@ -136,7 +136,8 @@ fn entry_of<L: Source>(
             }
         }
     }
-    Ok(Entry::Line(said_of(alloc, number, text, step)?))
+    let said = said_of(alloc, number, text, step)?;
+    Ok(Entry::Line(Box::new(alloc, said)?))
 }
 
 impl<L: Source> Reading<L> {

@@ -18,7 +18,7 @@ use std::sync::{Arc, Wait};
 use std::thread::Threads;
 use tx_cells::Families;
 use tx_journal::{Naming, Opened, Seat, Unnamed};
-use tx_ledger::{Entry, Reply, Said, Script, Source, Spoken, Words};
+use tx_ledger::{Entry, Replies, Reply, Said, Script, Source, Spoken, Words};
 use tx_lines::Broken;
 use tx_sched::{Gate, run_sessions};
 use tx_store::Store;
@@ -86,14 +86,14 @@ fn jobs<J: Naming, L: Source, F: Families + Drop, R: Wait + Clone + Drop>(
 fn join<J: Naming, L: Source>(
     out: Out<J, L>,
     seat: &mut Seat<J>,
-    replies: &mut Vec<Spoken>,
+    replies: &mut Replies,
 ) -> Result<bool, Broken>
-    requires told { TellsOutcomes seat.old.events replies.old.items }
-    requires above { All (λ s. IsAbove seat.old.events (out.log.seat + 1) s.reply) replies.old.items }
-    requires pairs { All (TellsPair L.text) replies.old.items }
-    ensures told { OnOk result (TellsOutcomes seat.new.events replies.new.items) }
-    ensures pairs { OnOk result (All (TellsPair L.text) replies.new.items) }
-    ensures above { OnOk result (All (λ s. IsAbove seat.new.events out.log.seat s.reply) replies.new.items) }
+    requires told { TellsOutcomes seat.old.events replies.old }
+    requires above { All (λ s. IsAbove seat.old.events (out.log.seat + 1) s.reply) replies.old }
+    requires pairs { All (TellsPair L.text) replies.old }
+    ensures told { OnOk result (TellsOutcomes seat.new.events replies.new) }
+    ensures pairs { OnOk result (All (TellsPair L.text) replies.new) }
+    ensures above { OnOk result (All (λ s. IsAbove seat.new.events out.log.seat s.reply) replies.new) }
 {
     let Out {
         number: _,
@@ -101,12 +101,12 @@ fn join<J: Naming, L: Source>(
         faulted,
         collected: _,
     } = out;
-    let (told, mut more, lost) = log.into_parts();
+    let (told, more, lost) = log.into_parts();
     seat.learn(told);
     if lost {
         return Err(Broken::Memory);
     }
-    replies.append(&mut more)?;
+    replies.add(more)?;
     Ok(faulted)
 }
 
@@ -114,12 +114,12 @@ fn join<J: Naming, L: Source>(
 fn gather<J: Naming, L: Source>(
     outs: Vec<Out<J, L>>,
     seat: &mut Seat<J>,
-    replies: &mut Vec<Spoken>,
+    replies: &mut Replies,
 ) -> Result<bool, Broken>
     requires falling { AreFalling outs.items }
-    requires none { All (λ s. start_of s.reply ≡ None) replies.old.items }
-    ensures told { OnOk result (TellsOutcomes seat.new.events replies.new.items) }
-    ensures pairs { OnOk result (All (TellsPair L.text) replies.new.items) }
+    requires none { All (λ s. start_of s.reply ≡ None) replies.old }
+    ensures told { OnOk result (TellsOutcomes seat.new.events replies.new) }
+    ensures pairs { OnOk result (All (TellsPair L.text) replies.new) }
 {
     let mut faulted = false;
     for out in outs {
@@ -146,7 +146,7 @@ struct Lines<L: Source> {
 #[derive(Drop)]
 pub struct Played {
     /// The answer of each line that was reached.
-    pub replies: Vec<Spoken>,
+    pub replies: Replies,
     /// Whether a fault of the script ended a session.
     pub faulted: bool,
     /// How many write records were collected meanwhile, by collections that were not refused.
@@ -227,15 +227,6 @@ fn count_collected<J: Naming, L: Source>(outs: &[Out<J, L>]) -> u64 {
     collected
 }
 
-// How many lines there are.
-fn count<L: Source>(seeds: &[Said<L>], sessions: &[Vec<Entry<L>>]) -> usize {
-    let mut count = seeds.len();
-    for lines in sessions {
-        count = count.saturating_add(lines.len());
-    }
-    count
-}
-
 // Plays the seeds and then the sessions, and sums up.
 fn play<J, L, F, M, G, R>(
     rt: &R,
@@ -256,8 +247,8 @@ where
     requires name { (opened.table ≡ J.table) × (opened.bounds ≡ J.bounds) × (opened.seats ≡ J.seats) }
     requires count { (script.regions ≡ length J.bounds + 1) × (script.regions ≤ 64) × (script.regions ≤ J.seats) }
     requires few { vec_len script.sessions ≤ 256 }
-    ensures told { IfOk result (λ played. TellsOutcomes played.seen.events played.replies.items) }
-    ensures pairs { IfOk result (λ played. All (TellsPair L.text) played.replies.items) }
+    ensures told { IfOk result (λ played. TellsOutcomes played.seen.events played.replies) }
+    ensures pairs { IfOk result (λ played. All (TellsPair L.text) played.replies) }
 {
     let Lines {
         regions,
@@ -269,10 +260,11 @@ where
     ) else {
         return Err(Broken::Memory);
     };
-    let lines = count(seeds.as_slice(), sessions.as_slice());
-    let mut replies = Vec::with_capacity(alloc, lines.saturating_add(1))?;
-    tell_regions(&mut replies, regions)?;
-    let mut seat = play_seeds(seat, &access, seeds.as_slice(), &mut replies)?;
+    let mut first = Vec::with_capacity(alloc, seeds.len().saturating_add(1))?;
+    tell_regions(&mut first, regions)?;
+    let mut seat = play_seeds(seat, &access, seeds.as_slice(), &mut first)?;
+    let mut replies = Replies::new(alloc);
+    replies.add(first)?;
     let outs = work(rt, alloc, settings, gate, &store, seats, sessions).map_err(memory)?;
     let collected = count_collected(outs.as_slice());
     let faulted = gather(outs, &mut seat, &mut replies)?;
@@ -307,8 +299,8 @@ where
     G: Gate + Sync,
     R: Threads + Wait + Sync + Send + Clone + Drop,
     requires { IsWithin script.bounds.items (vec_len script.sessions) }
-    ensures told { IfOk result (λ played. TellsOutcomes played.seen.events played.replies.items) }
-    ensures pairs { IfOk result (λ played. All (TellsPair L.text) played.replies.items) }
+    ensures told { IfOk result (λ played. TellsOutcomes played.seen.events played.replies) }
+    ensures pairs { IfOk result (λ played. All (TellsPair L.text) played.replies) }
 {
     let Script {
         bounds,

@@ -36,8 +36,8 @@ where
     B: BufRead,
     W: Write,
     requires { L.text ≡ B.remaining reader.old }
-    ensures told { IfOk result (λ r. IfSome r.1 (λ played. TellsOutcomes played.seen.events played.replies.items)) }
-    ensures pairs { IfOk result (λ r. IfSome r.1 (λ played. All (TellsPair L.text) played.replies.items)) }
+    ensures told { IfOk result (λ r. IfSome r.1 (λ played. TellsOutcomes played.seen.events played.replies)) }
+    ensures pairs { IfOk result (λ r. IfSome r.1 (λ played. All (TellsPair L.text) played.replies)) }
 {
     let script = match read_script::<L, B>(alloc, reader)? {
         Ok(script) => script,
@@ -80,8 +80,8 @@ where
     R: Threads + Wait + Sync + Send + Clone + Drop,
     B: BufRead,
     W: Write,
-    ensures told { IfOk result (λ r. IfSome r.1 (λ played. TellsOutcomes played.seen.events played.replies.items)) }
-    ensures pairs { IfOk result (λ r. IfSome r.1 (λ played. All (TellsPair (B.remaining reader.old)) played.replies.items)) }
+    ensures told { IfOk result (λ r. IfSome r.1 (λ played. TellsOutcomes played.seen.events played.replies)) }
+    ensures pairs { IfOk result (λ r. IfSome r.1 (λ played. All (TellsPair (B.remaining reader.old)) played.replies)) }
 {
     run::<Brand, F, M, G, R, B, W>(rt, alloc, settings, make, gate, reader, writer)
 }

@@ -8,9 +8,8 @@ use tx_ledger::{Reply, Spoken, put_line};
 use tx_lines::{Broken, finish, put_fault, put_number, send};
 use tx_types::Cause;
 
-// The counts of outcomes: committed, aborted, unknown, read-only.
-fn count(replies: &[Spoken]) -> [u64; 4] {
-    let mut counts = [0_u64; 4];
+// Adds the outcomes among these answers: committed, aborted, unknown, read-only.
+fn count(counts: &mut [u64; 4], replies: &[Spoken]) {
     for spoken in replies {
         let place = match &spoken.reply {
             Reply::Ended(_, Outcome::Committed(_), _) => 0,
@@ -20,6 +19,14 @@ fn count(replies: &[Spoken]) -> [u64; 4] {
             _ => continue,
         };
         counts[place] = counts[place].saturating_add(1);
+    }
+}
+
+// The counts of all outcomes.
+fn counts(parts: &[Vec<Spoken>]) -> [u64; 4] {
+    let mut counts = [0; 4];
+    for part in parts {
+        count(&mut counts, part.as_slice());
     }
     counts
 }
@@ -47,14 +54,25 @@ fn put_total(alloc: Global, out: &mut Vec<u8>, total: Total) -> Result<(), Broke
     Ok(())
 }
 
-// The places of the answers, in the order of their lines.
-fn in_order(alloc: Global, replies: &[Spoken]) -> Result<Vec<(u64, usize)>, Broken> {
-    let mut places = Vec::with_capacity(alloc, replies.len())?;
-    for (place, spoken) in replies.iter().enumerate() {
-        places.push((spoken.number, place))?;
+// Adds these answers, each with the number of its line.
+fn enter<'a>(
+    lines: &mut Vec<(u64, &'a Spoken)>,
+    replies: &'a [Spoken],
+) -> Result<(), AllocError> {
+    for spoken in replies {
+        lines.push((spoken.number, spoken))?;
     }
-    places.sort()?;
-    Ok(places)
+    Ok(())
+}
+
+// The answers in the order of their lines.
+fn in_order(alloc: Global, parts: &[Vec<Spoken>]) -> Result<Vec<(u64, &Spoken)>, AllocError> {
+    let mut lines = Vec::new(alloc);
+    for part in parts {
+        enter(&mut lines, part.as_slice())?;
+    }
+    lines.sort_by_key(|line| line.0)?;
+    Ok(lines)
 }
 
 /// Writes the answers in the order of their lines, then the counts of the outcomes, and the sum of all balances.
@@ -63,18 +81,16 @@ pub(crate) fn write_all<W: Write>(
     writer: &mut W,
     played: &Played,
 ) -> Result<(), Broken> {
-    let counts = count(played.replies.as_slice());
-    let places = in_order(alloc, played.replies.as_slice())?;
+    let parts = played.replies.parts();
+    let lines = in_order(alloc, parts)?;
     let mut text = Vec::new(alloc);
-    for (_, place) in &places {
-        if let Some(spoken) = played.replies.get(*place) {
-            text.clear();
-            put_line(&mut text, spoken)?;
-            send(writer, text.as_slice())?;
-        }
+    for (_, spoken) in &lines {
+        text.clear();
+        put_line(&mut text, *spoken)?;
+        send(writer, text.as_slice())?;
     }
     text.clear();
-    put_sum(&mut text, "outcomes", &counts)?;
+    put_sum(&mut text, "outcomes", &counts(parts))?;
     put_total(alloc, &mut text, played.total)?;
     send(writer, text.as_slice())?;
     finish(writer)

@@ -9,7 +9,7 @@ use std::thread::Threads;
 use tx_cells::{FlatCells, NestedCells};
 use tx_core::Outcome;
 use tx_lines::Broken;
-use tx_run::{Plain, Played, Reply, Settings, run_script};
+use tx_run::{Plain, Played, Reply, Settings, Spoken, run_script};
 use tx_sched::Open;
 
 // By so many workers, and with nothing collected.
@@ -153,17 +153,10 @@ struct Sums {
     collected: u64,
 }
 
-fn sums_of(played: &Played) -> Sums {
-    let mut sums = Sums {
-        answers: played.replies.len(),
-        committed: 0,
-        aborted: 0,
-        unknown: 0,
-        read_only: 0,
-        total: played.total.low,
-        collected: played.collected,
-    };
-    for spoken in &played.replies {
+// Adds the answers of a part.
+fn add_part(sums: &mut Sums, replies: &[Spoken]) {
+    sums.answers = sums.answers.wrapping_add(replies.len());
+    for spoken in replies {
         match &spoken.reply {
             Reply::Said(_) => {}
             Reply::Ended(_, Outcome::Committed(_), _) => sums.committed = sums
@@ -176,7 +169,27 @@ fn sums_of(played: &Played) -> Sums {
                 .wrapping_add(1),
         }
     }
+}
+
+fn sums_of(played: &Played) -> Sums {
+    let mut sums = Sums {
+        answers: 0,
+        committed: 0,
+        aborted: 0,
+        unknown: 0,
+        read_only: 0,
+        total: played.total.low,
+        collected: played.collected,
+    };
+    for part in played.replies.parts() {
+        add_part(&mut sums, part.as_slice());
+    }
     sums
+}
+
+// How many answers there are.
+fn answers_of(played: &Played) -> usize {
+    sums_of(played).answers
 }
 
 // What comes of a hundred rounds of transfers by so many sessions.

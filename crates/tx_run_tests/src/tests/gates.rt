@@ -1,4 +1,5 @@
 //! Two workers are between the two calls of the gate at once in steps of two slots, and never in steps of one.
+use super::answers_of;
 use std::alloc::Global;
 use std::sync::Wait;
 use std::sync::atomic::{AtomicU64, Ordering};
@@ -120,7 +121,7 @@ fn answers<R: Threads + Wait + Clock + Sync + Send + Clone + Drop>(
     );
     drop(text);
     let (_, played) = played?;
-    let count = played.as_ref().map(|played| played.replies.len());
+    let count = played.as_ref().map(|played| answers_of(played));
     drop(played);
     Ok(count)
 }

@@ -1,5 +1,6 @@
 //! Families of which the first look-ups in two regions wait for each other.
 
+use super::answers_of;
 use std::alloc::Global;
 use std::sync::atomic::{AtomicU64, Ordering};
 use std::sync::{Arc, Wait};
@@ -156,7 +157,7 @@ fn answers<R: Threads + Wait + Sync + Send + Clone + Drop>(
     );
     drop(text);
     let (_, played) = played?;
-    let count = played.as_ref().map(|played| played.replies.len());
+    let count = played.as_ref().map(|played| answers_of(played));
     drop(played);
     Ok(count)
 }

@@ -20,11 +20,11 @@ returns-clause-told g c =
     let more = extends_begins c.args.seat.now.seat old now c.learn.ensures.seen.extends in
     let log = c.out.inside.log in
     let seat = c.args.out.log.seat in
-    let xs = c.args.replies.now.items in
+    let xs = c.args.replies.now in
     let same = ap (λ (o : Working). o.log.seat) c.out.view_is in
     let knows = subst (λ (h : History). Begins h now) c.into_parts-told.ensures.parts.0 c.learn.ensures.told in
     let tells = subst (λ (s : ℕ). TellsBy now s log.replies) same (tells_on bounds log.told now run knows log.seat log.replies c.into_parts-told.ensures.tells) in
-    let all = c.in_ok-append.ensures.items ∙ ap (λ (l : List Spoken). xs ++ l) c.into_parts-told.ensures.parts.1 in
+    let all = c.in_ok-add.ensures ∙ ap (λ (l : List Spoken). xs ++ l) c.into_parts-told.ensures.parts.1 in
     subst (λ (l : List Spoken). TellsOutcomes now l) (sym all)
     (joined now seat xs log.replies (outcomes_on bounds old now run more xs c.requires.told) (all_above_on bounds old now run more (seat + 1) xs c.requires.above) tells)
 
@@ -37,18 +37,18 @@ returns-clause-above g c =
     let more = extends_begins c.args.seat.now.seat old now c.learn.ensures.seen.extends in
     let log = c.out.inside.log in
     let seat = c.args.out.log.seat in
-    let xs = c.args.replies.now.items in
+    let xs = c.args.replies.now in
     let same = ap (λ (o : Working). o.log.seat) c.out.view_is in
     let knows = subst (λ (h : History). Begins h now) c.into_parts-told.ensures.parts.0 c.learn.ensures.told in
     let tells = subst (λ (s : ℕ). TellsBy now s log.replies) same (tells_on bounds log.told now run knows log.seat log.replies c.into_parts-told.ensures.tells) in
-    let all = c.in_ok-append.ensures.items ∙ ap (λ (l : List Spoken). xs ++ l) c.into_parts-told.ensures.parts.1 in
+    let all = c.in_ok-add.ensures ∙ ap (λ (l : List Spoken). xs ++ l) c.into_parts-told.ensures.parts.1 in
     subst (λ (l : List Spoken). All (λ s. IsAbove now seat s.reply) l) (sym all)
     (joined_above now seat xs log.replies (all_above_on bounds old now run more (seat + 1) xs c.requires.above) tells)
 
 pub returns-clause-pairs : goal.returns-clause-pairs
 returns-clause-pairs g c =
-    let xs = c.args.replies.now.items in
+    let xs = c.args.replies.now in
     let log = c.out.inside.log in
-    let all = c.in_ok-append.ensures.items ∙ ap (λ (l : List Spoken). xs ++ l) c.into_parts-told.ensures.parts.1 in
+    let all = c.in_ok-add.ensures ∙ ap (λ (l : List Spoken). xs ++ l) c.into_parts-told.ensures.parts.1 in
     subst (λ (l : List Spoken). All (TellsPair g.L.Source.text) l) (sym all)
     (All-append (TellsPair g.L.Source.text) xs log.replies c.requires.pairs c.into_parts-told.ensures.pairs)
