@@ -54,6 +54,8 @@ where
     ended: Condvar,
     /// The place of each job, by its number.
     places: HashMap<u32, usize>,
+    /// Whether one worker makes all steps. Then no two are ever made at once, and none asks for its latches.
+    alone: bool,
 }
 
 impl<J: Job, N: Opening<J>> Pool<J, N>
@@ -61,7 +63,7 @@ where
     J::Out: Drop,
 {
     /// Takes the room of a run, and puts each job on the ready queue.
-    fn new<R: Wait>(rt: &R, alloc: Global, jobs: Vec<J>) -> Result<Pool<J, N>, Fault>
+    fn new<R: Wait>(rt: &R, alloc: Global, jobs: Vec<J>, alone: bool) -> Result<Pool<J, N>, Fault>
         requires { jobs.items ≡ N.jobs }
         ensures err { IfErr result (λ e. e ≡ OutOfMemory) }
     {
@@ -90,6 +92,7 @@ where
             results: Mutex::new(results),
             ended: Condvar::new(),
             places,
+            alone,
         })
     }
 
@@ -294,7 +297,7 @@ where
     if jobs.is_empty() {
         return Ok(outs);
     }
-    let pool: Pool<J, N> = Pool::new(rt, alloc, jobs)?;
+    let pool: Pool<J, N> = Pool::new(rt, alloc, jobs, workers <= 1)?;
     let there = serve(rt, workers, &pool, gate)?;
     Ok(gather(there, outs))
 }
@@ -302,8 +305,8 @@ where
 /// Makes the steps of these jobs, each job's in its order and the jobs side by side: on this thread and on up to
 /// `workers - 1` further ones. A thread that cannot be started is left out; all are joined before it answers.
 ///
-/// A worker makes a step once its slots are its own, between `gate.before` and `gate.after`, and then lets the slots go. It makes
-/// up to 16 steps of a job in a row while others are ready. The command of a step has the number of its job times 2^32, plus the
+/// A worker makes a step once its slots are its own, between `gate.before` and `gate.after`, and then lets the slots go; where it is the
+/// only one, they are its own with no look at the latches. It makes up to 16 steps of a job in a row while others are ready. The command of a step has the number of its job times 2^32, plus the
 /// number of the step from 0, modulo 2^32.
 ///
 /// It waits until each job has its result, and gives the results in the order of the jobs: each is what its job promised, and

@@ -26,6 +26,9 @@ where
         slots: &mut Vec<Slot>,
     ) -> Option<Task<J, N>> {
         slots.clear();
+        if self.alone {
+            return Some(task);
+        }
         if task.slots(slots).is_err() {
             self.refuse(rt);
             return None;
