@@ -106,10 +106,7 @@ where
     let ended = run_script::<FlatCells, _, _, _, _, _>(
         rt,
         rt.alloc(),
-        Settings {
-            workers: 2,
-            life_time: None,
-        },
+        Settings::new(2),
         &Plain,
         &Open,
         &mut script.as_slice(),

@@ -12,7 +12,9 @@ ghost use Rattle.tx_journal.specs.Known.{known, greatest_ts, DrawsNothing, HasSe
 ghost use Rattle.tx_journal.specs.Rules.{Belongs, Owns, Adds, IsSeatsToken};
 
 use crate::told::Told;
-use crate::view::{APART, Add, Advance, COUNTS, Hear, Home, Learn, Look, Naming, Said, Tell, Token, WORDS, Words};
+use crate::view::{
+    APART, Add, Advance, COUNTS, Hear, Home, Learn, Look, Naming, Said, Tell, Token, WORDS, Words,
+};
 use std::marker::{Brand, Model, PhantomData};
 use std::sync::Arc;
 use tx_core::{Event, SeatNo};

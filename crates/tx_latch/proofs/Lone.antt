@@ -38,12 +38,13 @@ AreFree-push e (c ∷ fs) p f h = (f.0, AreFree-push (e ++ c ∷ []) fs p f.1 (a
 -- fewer before them
 AreFree-fewer : (e less fs : List Command) → ((c : Command) → blocked e c ≡ false → blocked less c ≡ false) → AreFree e fs → AreFree less fs
 AreFree-fewer e less [] h f = tt
-AreFree-fewer e less (c ∷ fs) h f =
-    (h c f.0,
-    AreFree-fewer (e ++ c ∷ []) (less ++ c ∷ []) fs
-    (λ d k. let two = or_none (blocked e d) (blocked (c ∷ []) d) (sym (blocked-append e (c ∷ []) d) ∙ k) in
-    blocked-append less (c ∷ []) d ∙ rw (h d two.0) two.1)
-    f.1)
+AreFree-fewer e less (c ∷ fs) h f = (
+  h c f.0,
+  AreFree-fewer (e ++ c ∷ []) (less ++ c ∷ []) fs
+      (λ d k. let two = or_none (blocked e d) (blocked (c ∷ []) d) (sym (blocked-append e (c ∷ []) d) ∙ k) in
+      blocked-append less (c ∷ []) d ∙ rw (h d two.0) two.1)
+      f.1,
+)
 
 blocked_first : (e : List Command) (p c : Command) → blocked (e ++ p ∷ []) c ≡ false → (blocked e c ≡ false) × (meets p.slots c.slots ≡ false)
 blocked_first e p c k =

@@ -60,6 +60,23 @@ fn commands_are_granted_in_asking_order(rt: HostRuntime) -> Result<(), Fail> {
 }
 
 #[test]
+fn commands_that_stand_alone_go_before_one_that_waits(rt: HostRuntime) -> Result<(), Fail> {
+    let mut latches = Latches::new(rt.alloc());
+    let a = Slot::new(97);
+    let b = Slot::new(33);
+    assert!(rt; acquire(&rt, &mut latches, 1, &[a])?);
+    assert!(rt; acquire(&rt, &mut latches, 2, &[b])?);
+    assert!(rt; !acquire(&rt, &mut latches, 3, &[a])?);
+    assert!(rt; !acquire(&rt, &mut latches, 5, &[b, a])?);
+    release(&rt, &mut latches, 2, &[])?;
+    release(&rt, &mut latches, 1, &[Cid::new(3)])?;
+    release(&rt, &mut latches, 3, &[Cid::new(5)])?;
+    release(&rt, &mut latches, 5, &[])?;
+    assert!(rt; acquire(&rt, &mut latches, 1, &[b])?);
+    release(&rt, &mut latches, 1, &[])
+}
+
+#[test]
 fn a_command_of_no_slots_is_granted_at_once(rt: HostRuntime) -> Result<(), Fail> {
     let mut latches = Latches::new(rt.alloc());
     assert!(rt; acquire(&rt, &mut latches, 1, &[Slot::new(0)])?);

@@ -1,4 +1,5 @@
 //! How a run is played.
+ghost use Rattle.std.specs.Prelude.{◌≡◌, None};
 
 /// How a run is played: by how many workers, and what is collected meanwhile.
 #[derive(Clone, Copy, Debug, PartialEq, Eq)]
@@ -9,4 +10,16 @@ pub struct Settings {
     /// collects at a safe point so many below the last timestamp, between two of its transactions. A transaction that is open for
     /// longer may be told `E7`. None: nothing is collected.
     pub life_time: Option<u64>,
+}
+
+impl Settings {
+    /// By so many workers, 1 to 64, and nothing is collected.
+    pub fn new(workers: usize) -> Settings
+        ensures { (result.workers ≡ workers) × (result.life_time ≡ None) }
+    {
+        Settings {
+            workers,
+            life_time: None,
+        }
+    }
 }

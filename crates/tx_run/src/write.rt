@@ -55,10 +55,7 @@ fn put_total(alloc: Global, out: &mut Vec<u8>, total: Total) -> Result<(), Broke
 }
 
 // Adds these answers, each with the number of its line.
-fn enter<'a>(
-    lines: &mut Vec<(u64, &'a Spoken)>,
-    replies: &'a [Spoken],
-) -> Result<(), AllocError> {
+fn enter<'a>(lines: &mut Vec<(u64, &'a Spoken)>, replies: &'a [Spoken]) -> Result<(), AllocError> {
     for spoken in replies {
         lines.push((spoken.number, spoken))?;
     }

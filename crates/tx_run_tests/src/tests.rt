@@ -12,14 +12,6 @@ use tx_lines::Broken;
 use tx_run::{Plain, Played, Reply, Settings, Spoken, run_script};
 use tx_sched::Open;
 
-// By so many workers, and with nothing collected.
-fn by(workers: usize) -> Settings {
-    Settings {
-        workers,
-        life_time: None,
-    }
-}
-
 // Plays a script, and writes what it is answered.
 fn run<R: Threads + Wait + Sync + Send + Clone + Drop>(
     rt: &R,
@@ -49,7 +41,7 @@ fn writes<R: Threads + Wait + Sync + Send + Clone + Drop>(
     wanted: &str,
 ) -> Result<bool, Broken> {
     let mut text = Vec::new(alloc);
-    let played = run(rt, alloc, by(2), script.as_bytes(), &mut text);
+    let played = run(rt, alloc, Settings::new(2), script.as_bytes(), &mut text);
     let same = played.is_ok() && text.as_slice() == wanted.as_bytes();
     drop(played);
     drop(text);
@@ -230,7 +222,7 @@ fn keeps(sums: Sums) -> bool {
 #[test]
 fn transfers_keep_the_total(rt: HostRuntime) -> Result<(), Fail> {
     for workers in [1, 2, 4, 8] {
-        let sums = sums_by(&rt, rt.alloc(), by(workers), 8)?;
+        let sums = sums_by(&rt, rt.alloc(), Settings::new(workers), 8)?;
         assert!(rt; sums.is_some_and(keeps), "{workers} workers: {sums:?}");
     }
     Ok(())
@@ -248,7 +240,10 @@ fn one_session_commits_each_transfer(rt: HostRuntime) -> Result<(), Fail> {
             total: 1000,
             collected: 0,
         };
-        assert_eq!(rt; sums_by(&rt, rt.alloc(), by(workers), 1)?, Some(wanted));
+        assert_eq!(rt;
+            sums_by(&rt, rt.alloc(), Settings::new(workers), 1)?,
+            Some(wanted)
+        );
     }
     Ok(())
 }

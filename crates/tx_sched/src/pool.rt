@@ -110,13 +110,7 @@ where
 
     /// Makes steps of a job, until it waits for its latches, gives its result, or was given its share while others wait. `slots` is
     /// the room for those of a step, which one worker uses again and again.
-    fn advance<R: Wait, G: Gate>(
-        &self,
-        rt: &R,
-        gate: &G,
-        task: Task<J, N>,
-        slots: &mut Vec<Slot>,
-    ) {
+    fn advance<R: Wait, G: Gate>(&self, rt: &R, gate: &G, task: Task<J, N>, slots: &mut Vec<Slot>) {
         let mut task = task;
         for _ in rt.forever() {
             for _ in 0..SHARE {

@@ -110,10 +110,7 @@ fn answers<R: Threads + Wait + Clock + Sync + Send + Clone + Drop>(
     let played = run_script::<FlatCells, _, _, _, _, _>(
         &watch.rt,
         alloc,
-        Settings {
-            workers: 2,
-            life_time: None,
-        },
+        Settings::new(2),
         &Plain,
         watch,
         &mut reader,

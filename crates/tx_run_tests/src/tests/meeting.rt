@@ -146,10 +146,7 @@ fn answers<R: Threads + Wait + Sync + Send + Clone + Drop>(
     let played = run_script::<Meeting, _, _, _, _, _>(
         rt,
         alloc,
-        Settings {
-            workers: 2,
-            life_time: None,
-        },
+        Settings::new(2),
         place,
         &Open,
         &mut reader,
