@@ -94,6 +94,7 @@ impl Asked {
     }
 
     // Moves the first of those without a queue to the end of the queues, if there is one.
+    #[inline(never)]
     fn queue_one(&mut self) -> Result<(), Fault>
         requires { KeptAll self.old }
         ensures kept { KeptAll self.new }
@@ -118,6 +119,9 @@ impl Asked {
         ensures none { OnOk result (self.new.lone.items ≡ []) }
         ensures err { IfErr result (λ e. e ≡ Fault.OutOfMemory) }
     {
+        if self.lone.is_empty() {
+            return Ok(());
+        }
         self.queue_one()?;
         self.queue_one()?;
         self.queue_one()?;

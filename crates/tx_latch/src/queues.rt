@@ -141,6 +141,7 @@ impl Queues {
     }
 
     /// Puts a command at the end of the queue of each of its slots. Says how many it then stands directly behind.
+    #[inline(always)]
     fn join(&mut self, cid: Cid, slots: &[Slot]) -> usize
         requires joinable { Joinable self.old }
         requires absent { is_asked (asked_of self.old) cid ≡ false }
