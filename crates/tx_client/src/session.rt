@@ -90,7 +90,6 @@ fn record_declared<J: Naming>(seat: &mut Seat<J>, transaction: &Transaction, ter
 
 impl<J: Naming> Session<J> {
     /// Begins a transaction at a timestamp that its seat draws. It takes no memory. A seat whose ticks are spent is handed back.
-    #[inline(always)]
     pub fn begin(alloc: Global, seat: Seat<J>) -> Result<Session<J>, Seat<J>>
         ensures ok { IfOk result (λ s. (s.state ≡ begun s.state.start) × BeganAt J.bounds seat s.state.start s.seat) }
         ensures spent { IfErr result (λ s. (s ≡ seat) × (seat.ticks < 1)) }

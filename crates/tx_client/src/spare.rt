@@ -5,10 +5,11 @@ use crate::buffer::Buffer;
 use indexmap::IndexMap;
 use std::alloc::Global;
 
-/// A write buffer of a transaction that is over. A transaction that begins in its room takes that much less memory.
+/// A write buffer with nothing in it, which keeps the room that it had. A transaction that begins in it takes that much less memory.
 #[derive(Debug, Drop)]
 pub struct Spare {
     buffer: Buffer,
+    ghost empty: { buffer.entries ≡ [] },
 }
 
 impl Spare {
@@ -20,16 +21,16 @@ impl Spare {
     }
 
     /// The room of this buffer.
-    pub(crate) fn of(buffer: Buffer) -> Spare {
+    pub(crate) fn of(mut buffer: Buffer) -> Spare {
+        buffer.clear();
         Spare { buffer }
     }
 
-    /// The buffer, emptied.
+    /// The buffer.
     pub(crate) fn into_buffer(self) -> Buffer
         ensures { result.entries ≡ [] }
     {
-        let Spare { mut buffer } = self;
-        buffer.clear();
+        let Spare { buffer } = self;
         buffer
     }
 }

@@ -53,7 +53,7 @@ impl Model for Transaction {
 }
 
 impl Transaction {
-    /// A transaction that starts here, in the room of a buffer. It takes no memory.
+    /// A transaction that starts here, in a buffer that was emptied. It takes no memory.
     pub(crate) fn begin(alloc: Global, spare: Spare, start: Ts) -> Transaction
         ensures { result ≡ begun start }
     {
@@ -69,8 +69,7 @@ impl Transaction {
         }
     }
 
-    /// The room of its buffer.
-    #[inline(always)]
+    /// Its buffer, emptied.
     pub(crate) fn into_spare(self) -> Spare {
         let Transaction {
             start: _,

@@ -124,7 +124,6 @@ impl<J: Naming> Session<J> {
 
     /// Ends the transaction with its outcome: the fate where it is known, read-only where nothing was declared, unknown where
     /// there is a cause. Where there is none, the session comes back.
-    #[inline(always)]
     pub fn finish(self) -> Result<(Outcome, Seat<J>), Session<J>>
         ensures ended { IfOk result (λ r. (finish_of self.state ≡ Some r.0) × Records J.bounds self.seat (Answered self.state.start r.0) r.1 × IsDecidedSo self.seat.events self.state.start r.0) }
         ensures open_yet { IfErr result (λ s. (finish_of self.state ≡ None) × (s ≡ self)) }
