@@ -7,7 +7,6 @@ mod buffer;
 mod resolved;
 mod sender;
 mod session;
-mod spare;
 mod state;
 mod transaction;
 
@@ -15,5 +14,4 @@ pub use asking::ask;
 pub use resolved::{Decision, Met, Resolved, Status, WaitCause};
 pub use sender::{Lost, Sender};
 pub use session::Session;
-pub use spare::Spare;
 pub use state::{Came, Entry, Miss, Phase, Progress, Terms};

@@ -17,7 +17,6 @@ mod reads;
 
 use crate::asking::ask;
 use crate::sender::Sender;
-use crate::spare::Spare;
 use crate::state::{Came, Due, Miss, Phase, Terms};
 use crate::transaction::Transaction;
 use std::alloc::Global;
@@ -90,15 +89,7 @@ fn record_declared<J: Naming>(seat: &mut Seat<J>, transaction: &Transaction, ter
 
 impl<J: Naming> Session<J> {
     /// Begins a transaction at a timestamp that its seat draws. It takes no memory. A seat whose ticks are spent is handed back.
-    pub fn begin(alloc: Global, seat: Seat<J>) -> Result<Session<J>, Seat<J>>
-        ensures ok { IfOk result (λ s. (s.state ≡ begun s.state.start) × BeganAt J.bounds seat s.state.start s.seat) }
-        ensures spent { IfErr result (λ s. (s ≡ seat) × (seat.ticks < 1)) }
-    {
-        Session::begin_in(alloc, Spare::new(alloc), seat)
-    }
-
-    /// As `begin`, in the room of a buffer that an earlier session left.
-    pub fn begin_in(alloc: Global, spare: Spare, mut seat: Seat<J>) -> Result<Session<J>, Seat<J>>
+    pub fn begin(alloc: Global, mut seat: Seat<J>) -> Result<Session<J>, Seat<J>>
         ensures ok { IfOk result (λ s. (s.state ≡ begun s.state.start) × BeganAt J.bounds seat s.state.start s.seat) }
         ensures spent { IfErr result (λ s. (s ≡ seat) × (seat.ticks < 1)) }
     {
@@ -108,7 +99,7 @@ impl<J: Naming> Session<J> {
         record_began(&mut seat, start);
         Ok(Session {
             seat,
-            transaction: Transaction::begin(alloc, spare, start),
+            transaction: Transaction::begin(alloc, start),
         })
     }
 

@@ -10,8 +10,8 @@ mod hearing;
 mod requests;
 
 use crate::buffer::{Buffer, changes_in, find, has_keys, is_full, is_known, touch};
-use crate::spare::Spare;
 use crate::state::{Miss, Terms};
+use indexmap::IndexMap;
 use std::alloc::Global;
 use std::marker::Model;
 use tx_core::{Answer, Declaration, Starts, UnknownCause};
@@ -53,13 +53,13 @@ impl Model for Transaction {
 }
 
 impl Transaction {
-    /// A transaction that starts here, in a buffer that was emptied. It takes no memory.
-    pub(crate) fn begin(alloc: Global, spare: Spare, start: Ts) -> Transaction
+    /// A transaction that starts here. It takes no memory.
+    pub(crate) fn begin(alloc: Global, start: Ts) -> Transaction
         ensures { result ≡ begun start }
     {
         Transaction {
             start,
-            buffer: spare.into_buffer(),
+            buffer: IndexMap::new(alloc),
             declared: None,
             bypass: Starts::new(alloc),
             met: None,
@@ -67,21 +67,6 @@ impl Transaction {
             decision: None,
             cause: None,
         }
-    }
-
-    /// Its buffer, emptied.
-    pub(crate) fn into_spare(self) -> Spare {
-        let Transaction {
-            start: _,
-            buffer,
-            declared: _,
-            bypass: _,
-            met: _,
-            drawn: _,
-            decision: _,
-            cause: _,
-        } = self;
-        Spare::of(buffer)
     }
 
     pub(crate) fn start(&self) -> Ts

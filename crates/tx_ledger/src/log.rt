@@ -10,7 +10,7 @@ use crate::source::Source;
 use crate::words::Words;
 use std::marker::{Model, PhantomData};
 use std::mem::replace;
-use tx_client::{Session, Spare};
+use tx_client::Session;
 use tx_core::{Outcome, SeatNo};
 use tx_journal::{Naming, Seat, Told};
 use tx_types::{Cause, Key, Ts};
@@ -111,7 +111,7 @@ impl<J: Naming, L: Source> Log<J, L> {
         self.end(number, start, &outcome, keys);
     }
 
-    /// Ends a transaction, and keeps its outcome: its seat is then free, and the room of its buffer. Where it has no outcome, the session comes back. `keys` are
+    /// Ends a transaction, and keeps its outcome: its seat is then free. Where it has no outcome, the session comes back. `keys` are
     /// those that a transfer moves between. A session of another seat than the log's is not told of: the log has no such
     /// session. `by` is a seat of the journal.
     pub fn finish(
@@ -120,7 +120,7 @@ impl<J: Naming, L: Source> Log<J, L> {
         number: u64,
         mut session: Session<J>,
         keys: Option<(Key, Key)>,
-    ) -> Result<(Seat<J>, Spare), Session<J>>
+    ) -> Result<Seat<J>, Session<J>>
         requires moves { MovesSome keys session.state }
         requires pair { HasPair L.text number keys }
         ensures { self.new.seat ≡ self.old.seat }
@@ -128,14 +128,14 @@ impl<J: Naming, L: Source> Log<J, L> {
         session.hear_of(by.copy(&mut self.told));
         session.show();
         let start = session.start();
-        match session.finish_sparing() {
-            Ok((outcome, mut seat, spare)) => {
+        match session.finish() {
+            Ok((outcome, mut seat)) => {
                 if seat.number() == self.seat {
                     self.ended(number, start, outcome, keys, &mut seat);
                 } else {
                     self.lost = true;
                 }
-                Ok((seat, spare))
+                Ok(seat)
             }
             Err(session) => Err(session),
         }

@@ -10,7 +10,7 @@ use crate::sends;
 use std::alloc::Global;
 use std::sync::{Arc, Wait};
 use tx_cells::Families;
-use tx_client::{Miss, Resolved, Session, Spare, Status};
+use tx_client::{Miss, Resolved, Session, Status};
 use tx_core::Answer;
 use tx_journal::{Naming, Seat, Told};
 use tx_ledger::{Log, Source, Spoken};
@@ -156,15 +156,15 @@ impl<J: Naming, F: Families + Drop, R: Wait + Drop> Access<J, F, R> {
         }
     }
 
-    /// Ends a transaction, and keeps its outcome in the log: its seat is then free, and the room of its buffer. Where it has no outcome, the
-    /// session comes back.
+    /// Ends a transaction, and keeps its outcome in the log: its seat is then free. Where it has no outcome, the session comes
+    /// back.
     pub fn finish<L: Source>(
         &self,
         log: &mut Log<J, L>,
         number: u64,
         session: Session<J>,
         keys: Option<(Key, Key)>,
-    ) -> Result<(Seat<J>, Spare), Session<J>>
+    ) -> Result<Seat<J>, Session<J>>
         requires moves { MovesSome keys session.state }
         requires pair { HasPair L.text number keys }
         ensures { log.new.seat ≡ log.old.seat }

@@ -1,6 +1,5 @@
 //! A session of a run, as a job of the workers: each line is a step. A transfer is mostly two: its reads, and then its writes.
 ghost use Rattle.std.specs.Prelude.{◌≡◌, ◌<◌, Some, None, IfOk};
-ghost use Rattle.tx_client.specs.Sessions.{begun};
 ghost use Rattle.tx_steps.specs.Steps.{asked};
 ghost use Rattle.tx_run.specs.Jobs.{StaysSame};
 ghost use Rattle.tx_ledger.specs.Sources.{HasPair, pair_of};
@@ -15,7 +14,7 @@ use std::marker::Model;
 use std::mem::replace;
 use std::sync::Wait;
 use tx_cells::Families;
-use tx_client::{Session, Spare};
+use tx_client::Session;
 use tx_core::Answer;
 use tx_journal::{Naming, Seat};
 use tx_latch::{Slot, slot_of};
@@ -39,8 +38,6 @@ pub(crate) struct ScriptJob<J: Naming, L: Source, F: Families + Drop, R: Wait + 
     /// The slots of the lock that last stood in its way.
     met: Vec<Slot>,
     collector: Collector,
-    /// The room of the buffer of the transaction before.
-    spare: Option<Spare>,
     faulted: bool,
 }
 
@@ -76,7 +73,6 @@ impl<J: Naming, L: Source, F: Families + Drop, R: Wait + Drop> ScriptJob<J, L, F
             touched: Vec::new(alloc),
             met: Vec::new(alloc),
             collector,
-            spare: None,
             faulted: false,
         })
     }
@@ -119,23 +115,10 @@ impl<J: Naming, L: Source, F: Families + Drop, R: Wait + Drop> ScriptJob<J, L, F
         }
     }
 
-    // Opens a transaction, in the room that the one before left.
-    fn opens(&mut self, seat: Seat<J>) -> Result<Session<J>, Seat<J>>
-        ensures same { StaysSame self.old self.new }
-        ensures begun { IfOk result (λ s. s.state ≡ begun s.state.start) }
-    {
-        let alloc = self.access.alloc;
-        let spare = match self.spare.take() {
-            Some(spare) => spare,
-            None => Spare::new(alloc),
-        };
-        Session::begin_in(alloc, spare, seat)
-    }
-
     fn begins(&mut self, number: u64, seat: Seat<J>)
         ensures { StaysSame self.old self.new }
     {
-        match self.opens(seat) {
+        match Session::begin(self.access.alloc, seat) {
             Ok(session) => {
                 let start = session.start();
                 self.touched.clear();
@@ -154,10 +137,7 @@ impl<J: Naming, L: Source, F: Families + Drop, R: Wait + Drop> ScriptJob<J, L, F
         ensures { StaysSame self.old self.new }
     {
         match self.access.finish(&mut self.log, number, session, None) {
-            Ok((seat, spare)) => {
-                self.spare = Some(spare);
-                self.stand(Place::Free(seat));
-            }
+            Ok(seat) => self.stand(Place::Free(seat)),
             Err(session) => {
                 self.stand(Place::Live(session));
                 self.fails(number, Cause::Order);
@@ -177,7 +157,7 @@ impl<J: Naming, L: Source, F: Families + Drop, R: Wait + Drop> ScriptJob<J, L, F
         ensures { StaysSame self.old self.new }
     {
         let number = order.number;
-        match self.opens(seat) {
+        match Session::begin(self.access.alloc, seat) {
             Ok(session) => self.stand(Place::Moving(Moving::new(session, order))),
             Err(seat) => {
                 self.stand(Place::Free(seat));
@@ -310,10 +290,7 @@ impl<J: Naming, L: Source, F: Families + Drop, R: Wait + Drop> ScriptJob<J, L, F
             .access
             .finish(&mut self.log, number, session, Some(keys))
         {
-            Ok((seat, spare)) => {
-                self.spare = Some(spare);
-                self.stand(Place::Free(seat));
-            }
+            Ok(seat) => self.stand(Place::Free(seat)),
             Err(session) => self.stops(number, session, Words::new(Reply::OutOfMemory)),
         }
     }

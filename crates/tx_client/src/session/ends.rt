@@ -12,7 +12,6 @@ ghost use Rattle.tx_client.specs.Facts.{standing};
 
 use super::Session;
 use crate::resolved::{Decision, Met, Resolved};
-use crate::spare::Spare;
 use std::marker::Brand;
 use tx_core::Outcome;
 use tx_journal::{Naming, Said, Seat};
@@ -114,29 +113,21 @@ impl<J: Naming> Session<J> {
         Ok(())
     }
 
-    // Its seat, and the room of its buffer.
-    fn into_parts(self) -> (Seat<J>, Spare)
-        ensures { result.0 ≡ self.seat }
+    // Its seat.
+    fn into_seat(self) -> Seat<J>
+        ensures { result ≡ self.seat }
     {
-        let Session { seat, transaction } = self;
-        (seat, transaction.into_spare())
+        let Session {
+            seat,
+            transaction: _,
+        } = self;
+        seat
     }
 
     /// Ends the transaction with its outcome: the fate where it is known, read-only where nothing was declared, unknown where
     /// there is a cause. Where there is none, the session comes back.
-    pub fn finish(self) -> Result<(Outcome, Seat<J>), Session<J>>
-        ensures ended { IfOk result (λ r. (finish_of self.state ≡ Some r.0) × Records J.bounds self.seat (Answered self.state.start r.0) r.1 × IsDecidedSo self.seat.events self.state.start r.0) }
-        ensures open_yet { IfErr result (λ s. (finish_of self.state ≡ None) × (s ≡ self)) }
-    {
-        match self.finish_sparing() {
-            Ok((outcome, seat, _)) => Ok((outcome, seat)),
-            Err(session) => Err(session),
-        }
-    }
-
-    /// As `finish`, with the room of its buffer, in which another session may begin.
     #[inline(always)]
-    pub fn finish_sparing(self) -> Result<(Outcome, Seat<J>, Spare), Session<J>>
+    pub fn finish(self) -> Result<(Outcome, Seat<J>), Session<J>>
         ensures ended { IfOk result (λ r. (finish_of self.state ≡ Some r.0) × Records J.bounds self.seat (Answered self.state.start r.0) r.1 × IsDecidedSo self.seat.events self.state.start r.0) }
         ensures open_yet { IfErr result (λ s. (finish_of self.state ≡ None) × (s ≡ self)) }
     {
@@ -144,9 +135,9 @@ impl<J: Naming> Session<J> {
             None => Err(self),
             Some(outcome) => {
                 let start = self.transaction.start();
-                let (mut seat, spare) = self.into_parts();
+                let mut seat = self.into_seat();
                 record_answered(&mut seat, start, &outcome);
-                Ok((outcome, seat, spare))
+                Ok((outcome, seat))
             }
         }
     }
@@ -155,7 +146,7 @@ impl<J: Naming> Session<J> {
     pub fn stop(self) -> Seat<J>
         ensures { Records J.bounds self.seat (Stopped self.seat.seat) result }
     {
-        let (mut seat, _) = self.into_parts();
+        let mut seat = self.into_seat();
         record_stopped(&mut seat);
         seat
     }

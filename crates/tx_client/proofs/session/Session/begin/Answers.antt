@@ -5,7 +5,7 @@ use Rattle.tx_journal.proofs.Calls.{may_begin_there}
 use Rattle.tx_client.specs.Sessions.{State}
 use Rattle.tx_client.specs.Facts.{IsSeated}
 use Rattle.tx_client.proofs.Calling.{began_seated}
-use Rattle.tx_client.proofs.session.Session.begin_in.Goals as goal
+use Rattle.tx_client.proofs.session.Session.begin.Goals as goal
 
 pub record_began-requires : goal.record_began-requires
 record_began-requires g c =

@@ -1,0 +1,13 @@
+use Rattle.std.proofs.Common.{◌∙◌, sym, ap, subst}
+use Rattle.tx_client.specs.Facts.{IsSeated}
+use Rattle.tx_client.specs.Calls.{Seated}
+use Rattle.tx_client.proofs.Calling.{finish_may, finish_ends}
+use Rattle.tx_client.proofs.session.Session.finish.Goals as goal
+
+pub record_answered-requires : goal.record_answered-requires
+record_answered-requires g c =
+    finish_may g.J.Naming.bounds c.args.self.seat c.into_seat-seat.result c.args.self.state c.start-start.result c.in-Some.outcome (subst (λ (z : Seated). IsSeated g.J.Naming.bounds z.seat z.state) c.self.view_is c.self.invariant) (sym c.outcome.ensures ∙ c.in-Some.is) c.into_seat-seat.ensures (c.start-start.ensures ∙ ap (λ (z : Seated). z.state.start) c.self.view_is)
+
+pub returns-in-Some-clause-ended : goal.returns-in-Some-clause-ended
+returns-in-Some-clause-ended g c =
+    finish_ends g.J.Naming.bounds c.args.self.seat c.into_seat-seat.result c.args.self.state c.start-start.result c.in-Some.outcome (subst (λ (z : Seated). IsSeated g.J.Naming.bounds z.seat z.state) c.self.view_is c.self.invariant) (sym c.outcome.ensures ∙ c.in-Some.is) c.into_seat-seat.ensures (c.start-start.ensures ∙ ap (λ (z : Seated). z.state.start) c.self.view_is) c.record_answered.new.seat c.record_answered.ensures
