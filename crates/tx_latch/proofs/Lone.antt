@@ -1,5 +1,5 @@
 -- Commands that need no queue: they are all granted, and none becomes so when one of them leaves.
-use Rattle.std.proofs.Common.{◌≡◌, ℕ, suc, zero, ◌+◌, ◌<◌, ◌≤◌, Bool, true, false, cond, not, ◌||◌, eqb, ltb, List, [], ◌∷◌, ◌++◌, Option, None, Some, Result, Ok, Err, IfOk, OnErr, IsTrue, length, take, drop, map, refl, sym, ap, ◌∙◌, subst, append_assoc, arith}
+use Rattle.std.proofs.Common.{◌≡◌, ℕ, suc, ◌+◌, ◌<◌, ◌≤◌, Bool, true, false, cond, not, ◌||◌, eqb, ltb, List, [], ◌∷◌, ◌++◌, None, Some, Result, Ok, Err, IfOk, OnErr, IsTrue, length, take, drop, refl, sym, ap, ◌∙◌, subst, append_assoc, arith}
 use Rattle.std.specs.List.{list_any, filter, position, prefix_len, slice_get}
 use Rattle.std.proofs.lemmas.Bool.{eqb-true}
 use Rattle.std.proofs.lemmas.Bool.Decides.{nat_tests}
@@ -12,7 +12,7 @@ use Rattle.tx_latch.specs.Lone.{alone, lones}
 use Rattle.tx_latch.proofs.Lists.{Each, Each_map, filter_agree_each, or_false, or_none, eqb_self, same_eqb, contains-append}
 use Rattle.tx_latch.proofs.Granted.{blocked-append, granted-cons, Distinct-around, Distinct-filter, without-Lacks, without-around, Lacks-append, Lacks-both, cids-append, newly-around}
 use Rattle.tx_latch.proofs.Freed.{granted_behind-append, granted_apart}
-use Rattle.tx_latch.proofs.Read.{true_false, or_true}
+use Rattle.tx_latch.proofs.Read.{or_true}
 
 -- ---- commands that share no slot with those before them
 

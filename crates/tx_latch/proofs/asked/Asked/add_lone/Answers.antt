@@ -1,4 +1,4 @@
-use Rattle.std.proofs.Common.{◌≡◌, true, false, sym, ap, ◌∙◌, subst}
+use Rattle.std.proofs.Common.{◌≡◌, true, false, sym, subst}
 use Rattle.tx_latch.specs.declared.asked.Lone.{Lone}
 use Rattle.tx_latch.specs.Asked.{Lacks, blocked, is_granted}
 use Rattle.tx_latch.specs.Queues.{asked_of}

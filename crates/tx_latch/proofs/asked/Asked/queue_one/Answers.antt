@@ -1,6 +1,5 @@
 use Rattle.std.proofs.Common.{◌≡◌, false, Some, sym, ap, ◌∙◌, subst, drop, ◌∷◌}
 use Rattle.std.specs.List.{slice_get}
-use Rattle.tx_latch.specs.declared.asked.Lone.{Lone}
 use Rattle.tx_latch.specs.Asked.{is_asked, Distinct}
 use Rattle.tx_latch.specs.Queues.{asked_of}
 use Rattle.tx_latch.specs.Lone.{lones}

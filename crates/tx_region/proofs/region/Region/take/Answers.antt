@@ -1,8 +1,8 @@
-use Rattle.std.proofs.Common.{◌≡◌, ◌≤◌, ℕ, Some, length, sym, ap, subst, ◌∙◌, arith}
+use Rattle.std.proofs.Common.{◌≡◌, ◌≤◌, ℕ, length, sym, ap, subst, ◌∙◌, arith}
 use Rattle.tx_plan.specs.declared.body.Body.{Body}
 use Rattle.tx_plan.specs.Answers.{AnswersLeast, leaves}
 use Rattle.tx_core.specs.Allowed.{Allowed}
-use Rattle.tx_core.specs.Histories.{History, last, left, Begins}
+use Rattle.tx_core.specs.Histories.{last, left, Begins}
 use Rattle.tx_core.specs.Worlds.{Holds}
 use Rattle.tx_journal.specs.Known.{Known, HasSeen}
 use Rattle.tx_journal.specs.Replies.{Asked}

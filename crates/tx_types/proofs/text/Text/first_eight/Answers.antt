@@ -1,4 +1,4 @@
-use Rattle.std.proofs.Common.{◌≡◌, ◌-◌, ℕ, List, take, ◌++◌, replicate, sym, ap, ◌∙◌, subst}
+use Rattle.std.proofs.Common.{◌-◌, ℕ, List, take, ◌++◌, replicate, sym, ap, ◌∙◌, subst}
 use Rattle.tx_types.specs.Texts.{bytes_of, IsWithin}
 use Rattle.tx_types.proofs.Parts.{first_of}
 use Rattle.tx_types.proofs.text.Text.first_eight.Goals as goal
