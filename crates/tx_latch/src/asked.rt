@@ -4,7 +4,7 @@
 //!
 //! A command that has to wait, or that asks for more slots than one, goes to the queues, and those that stood there without one go
 //! before it, in their order. So the list is the same whether one of them was moved or not.
-ghost use Rattle.std.specs.Prelude.{◌≡◌, ◌-◌, ◌<◌, ◌≤◌, nat_eq, ◌++◌, ◌∷◌, [], true, false, length, IfOk, IfErr, IfSome, IfNone, OnOk, OnErr, IsTrue};
+ghost use Rattle.std.specs.Prelude.{◌≡◌, ◌-◌, ◌<◌, ◌≤◌, nat_eq, ◌++◌, ◌∷◌, [], true, false, length, IfOk, IfErr, OnOk, OnErr, IsTrue};
 ghost use Rattle.std.specs.List.{list_any, position};
 ghost use Rattle.tx_latch.specs.Asked.{blocked, is_asked, is_granted, newly_granted, without};
 ghost use Rattle.tx_latch.specs.Lone.{KeptAll, all_asked, alone};

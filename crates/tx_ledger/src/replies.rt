@@ -1,5 +1,5 @@
 //! What all lines of a run were answered, in the parts in which it was handed in.
-ghost use Rattle.std.specs.Prelude.{◌≡◌, ◌++◌, [], length, IfErr, OnOk};
+ghost use Rattle.std.specs.Prelude.{◌≡◌, ◌++◌, [], OnOk};
 ghost use Rattle.tx_ledger.specs.Replies.{all_of};
 
 use crate::reply::Spoken;
