@@ -1,23 +1,23 @@
--- The records below a safe point go one after the other, from the newest on.
-use Rattle.std.proofs.Common.{◌≡◌, ◌≢◌, ◌⊎◌, ℕ, ◌==◌, ◌<◌, ◌≤◌, inl, inr, Bool, true, false, not, ◌&&◌, cond, Option, Some, None, refl, sym, ap, ◌∙◌, arith}
+-- The values that records below a safe point keep apart go one after the other, from the newest record on.
+use Rattle.std.proofs.Common.{◌≡◌, ◌⊎◌, ℕ, ◌<◌, ◌≤◌, inl, inr, Bool, true, false, not, ◌&&◌, Option, Some, None, refl, sym, ap, ◌∙◌, arith}
 use Rattle.std.specs.Prelude.{nat_lt}
-use Rattle.std.proofs.lemmas.Bool.{cases_Bool, cases_lt, cases_eq, lt-ltb, le-ltb, eq-eqb, eqb-true}
+use Rattle.std.proofs.lemmas.Bool.{cases_lt, cases_eq, lt-ltb, le-ltb}
 use Rattle.tx_types.specs.declared.value.Value.{Value}
 use Rattle.tx_types.specs.declared.write.CommitRec.{CommitRec}
 use Rattle.tx_types.specs.declared.write.WriteRec.{WriteRec}
 use Rattle.tx_types.specs.declared.write.WriteRec.TheVariants.{Commit, Rollback}
-use Rattle.tx_plan.specs.Collecting.{stays}
-use Rattle.tx_cells.specs.Heads.{keeps_apart, write_keeps_apart}
-use Rattle.tx_cells.specs.Drops.{Records, ValuesGo, DropsValue, goes_below}
+use Rattle.tx_timeline.specs.Places.{stays, goes_below}
+use Rattle.tx_cells.specs.Heads.{keeps_apart}
+use Rattle.tx_cells.specs.Drops.{Records, ValuesGo, DropsValue}
 use Rattle.tx_cells.proofs.Dropping.{none_gone, same_gone, same_after, gone_bare, gone_apart, stays_true, stays_false}
 
--- the records from `below` on have gone
+-- the records from `below` on that go
 abbrev pub goes_from : ℕ → ℕ → Option ℕ → ℕ → Bool
 goes_from below safe stay q = not (nat_lt q below) && goes_below safe stay q
 
-pub record SoFar (write : Records) (before : ℕ → Option Value) (safe : ℕ) (stay : Option ℕ) (below : ℕ) (now : Records) (after : ℕ → Option Value) : Type 0 where
+-- their values have gone
+pub record SoFar (write : Records) (before : ℕ → Option Value) (safe : ℕ) (stay : Option ℕ) (below : ℕ) (after : ℕ → Option Value) : Type 0 where
   pub upto : below ≤ safe
-  pub left : (q : ℕ) → now q ≡ cond (goes_from below safe stay q) None (write q)
   pub values : ValuesGo write (goes_from below safe stay) before after
 
 module _ (write : Records) (before : ℕ → Option Value) (safe : ℕ) (stay : Option ℕ) where
@@ -30,75 +30,39 @@ module _ (write : Records) (before : ℕ → Option Value) (safe : ℕ) (stay : 
   above : (q : ℕ) → safe ≤ q → goes_below safe stay q ≡ false
   above q le = ap (λ b. b && not (stays stay q)) (le-ltb q safe le)
 
-  pub starts : SoFar write before safe stay safe write before
+  pub starts : SoFar write before safe stay safe before
   starts = record {
     upto = omega arith;
-    left = λ q. sym (ap (λ b. cond b None (write q)) (none q));
     values = none_gone write (goes_from safe safe stay) before none;
   }
     where
       none : (q : ℕ) → goes_from safe safe stay q ≡ false
       none q = elim (cases_lt q safe) [ inl lt ↦ not_yet safe q lt | inr le ↦ already safe q le ∙ above q le ]
 
-  module _ (below : ℕ) (now : Records) (after : ℕ → Option Value) (so : SoFar write before safe stay below now after) where
-    -- a place below is as it was
-    untouched : (q : ℕ) → q < below → now q ≡ write q
-    untouched q lt = so.left q ∙ ap (λ b. cond b None (write q)) (not_yet below q lt)
-
-    pub ends : ((q : ℕ) → q < below → now q ≡ None) → ((q : ℕ) → now q ≡ cond (goes_below safe stay q) None (write q)) × ValuesGo write (goes_below safe stay) before after
-    ends none = (left, same_gone write (goes_from below safe stay) (goes_below safe stay) before after same so.values)
+  module _ (below : ℕ) (after : ℕ → Option Value) (so : SoFar write before safe stay below after) where
+    pub ends : ((q : ℕ) → q < below → write q ≡ None) → ValuesGo write (goes_below safe stay) before after
+    ends none = same_gone write (goes_from below safe stay) (goes_below safe stay) before after same so.values
       where
-        choice : (b : Bool) → ◌≡◌ {A = Option WriteRec} None (cond b None None)
-        choice true = refl
-        choice false = refl
-
-        left : (q : ℕ) → now q ≡ cond (goes_below safe stay q) None (write q)
-        left q = elim (cases_lt q below) [
-          | inl lt ↦ (let gone : write q ≡ None = sym (untouched q lt) ∙ none q lt in none q lt ∙ choice (goes_below safe stay q) ∙ sym (ap (λ o. cond (goes_below safe stay q) None o) gone))
-          | inr le ↦ so.left q ∙ ap (λ b. cond b None (write q)) (already below q le)
-        ]
-
         same : (q : ℕ) (r : WriteRec) → write q ≡ Some r → goes_from below safe stay q ≡ goes_below safe stay q
         same q r e = elim (cases_lt q below) [
-          | inl lt ↦ (let gone : write q ≡ None = sym (untouched q lt) ∙ none q lt in absurd (cc (e, gone)))
+          | inl lt ↦ (let gone : write q ≡ None = none q lt in absurd (cc (e, gone)))
           | inr le ↦ already below q le
         ]
 
-    module _ (at : ℕ) (lt : at < below) (between : (q : ℕ) → at < q → q < below → now q ≡ None) where
-      -- nothing was between
-      nothing : (q : ℕ) → at < q → q < below → write q ≡ None
-      nothing q a b = sym (untouched q b) ∙ between q a b
-
+    module _ (at : ℕ) (lt : at < below) (between : (q : ℕ) → at < q → q < below → write q ≡ None) where
       same_above : (q : ℕ) (r : WriteRec) → write q ≡ Some r → (q ≡ at → ⊥) → goes_from below safe stay q ≡ goes_from at safe stay q
       same_above q r e other = elim (cases_lt q below) [
         | inl b ↦ elim (cases_lt q at) [
           | inl a ↦ not_yet below q b ∙ sym (not_yet at q a)
-          | inr a ↦ (let n : write q ≡ None = nothing q (omega (arith, a, other)) b in absurd (cc (e, n)))
+          | inr a ↦ (let n : write q ≡ None = between q (omega (arith, a, other)) b in absurd (cc (e, n)))
         ]
         | inr b ↦ already below q b ∙ sym (already at q (omega (arith, b, lt)))
       ]
 
-      left_above : (q : ℕ) → (q ≡ at → ⊥) → now q ≡ cond (goes_from at safe stay q) None (write q)
-      left_above q other = so.left q ∙ go (write q) refl
-        where
-          choice : (a b : Bool) → ◌≡◌ {A = Option WriteRec} (cond a None None) (cond b None None)
-          choice true true = refl
-          choice true false = refl
-          choice false true = refl
-          choice false false = refl
-
-          go : (o : Option WriteRec) → write q ≡ o → cond (goes_from below safe stay q) None (write q) ≡ cond (goes_from at safe stay q) None (write q)
-          go None e = ap (λ o. cond (goes_from below safe stay q) None o) e ∙ choice (goes_from below safe stay q) (goes_from at safe stay q) ∙ sym (ap (λ o. cond (goes_from at safe stay q) None o) e)
-          go (Some r) e = ap (λ b. cond b None (write q)) (same_above q r e other)
-
       -- the record that stays is passed
-      pub passes : stay ≡ Some at → SoFar write before safe stay at now after
+      pub passes : stay ≡ Some at → SoFar write before safe stay at after
       passes is = record {
         upto = (let u = so.upto in omega (arith, u, lt));
-        left = λ q. elim (cases_eq q at) [
-          | inl same ↦ so.left q ∙ ap (λ b. cond b None (write q)) (stayed q same)
-          | inr other ↦ left_above q other
-        ];
         values = same_gone write (goes_from below safe stay) (goes_from at safe stay) before after (λ q r e. elim (cases_eq q at) [ inl same ↦ stayed q same | inr other ↦ same_above q r e other ]) so.values;
       }
         where
@@ -112,8 +76,8 @@ module _ (write : Records) (before : ℕ → Option Value) (safe : ℕ) (stay : 
           stayed : (q : ℕ) → q ≡ at → goes_from below safe stay q ≡ goes_from at safe stay q
           stayed q same = not_yet below q (omega (arith, same, lt)) ∙ sym (already at q (omega (arith, same)) ∙ ap (goes_below safe stay) same ∙ off)
 
-      -- the record goes
-      module _ (goes : stay ≡ Some at → ⊥) (later : Records) (rest : ℕ → Option Value) (left : (q : ℕ) → later q ≡ cond (at == q) None (now q)) (drops : DropsValue (now at) after rest) where
+      -- the value of a record that goes is dropped
+      module _ (goes : stay ≡ Some at → ⊥) (rest : ℕ → Option Value) (drops : DropsValue (write at) after rest) where
         on : goes_from at safe stay at ≡ true
         on = already at at (omega arith) ∙ ap (λ b. b && not (stays stay at)) (lt-ltb at safe (let u = so.upto in omega (arith, u, lt))) ∙ ap not (stays_false stay at goes)
 
@@ -126,17 +90,14 @@ module _ (write : Records) (before : ℕ → Option Value) (safe : ℕ) (stay : 
         only : (q : ℕ) (r : WriteRec) → write q ≡ Some r → goes_from at safe stay q ≡ true → (goes_from below safe stay q ≡ true) ⊎ (q ≡ at)
         only q r e g = elim (cases_eq q at) [ inl same ↦ inr same | inr other ↦ inl (same_above q r e other ∙ g) ]
 
-        found : now at ≡ write at
-        found = untouched at lt
-
         values_later : ValuesGo write (goes_from at safe stay) before rest
         values_later = go (write at) refl
           where
             bare_or_not : (rec : CommitRec) → write at ≡ Some (Commit rec) → (b : Bool) → keeps_apart rec.mutation ≡ b → ValuesGo write (goes_from at safe stay) before rest
-            bare_or_not rec e true k = same_after write (goes_from at safe stay) before _ rest (drops.gone rec (found ∙ e) k)
+            bare_or_not rec e true k = same_after write (goes_from at safe stay) before _ rest (drops.gone rec e k)
                 (gone_apart write (goes_from below safe stay) (goes_from at safe stay) at before after so.values there only on rec e k)
             bare_or_not rec e false k = same_after write (goes_from at safe stay) before after rest
-                (drops.stays (λ other f a. (let one : rec ≡ other = same_commit rec other (sym e ∙ sym found ∙ f) in let b = ap (λ (r : CommitRec). keeps_apart r.mutation) one in cc (a, b, k))))
+                (drops.stays (λ other f a. (let one : rec ≡ other = same_commit rec other (sym e ∙ f) in let b = ap (λ (r : CommitRec). keeps_apart r.mutation) one in cc (a, b, k))))
                 (gone_bare write (goes_from below safe stay) (goes_from at safe stay) at before after so.values there only on
                 (λ other f a. (let one : rec ≡ other = same_commit rec other (sym e ∙ f) in let b = ap (λ (r : CommitRec). keeps_apart r.mutation) one in cc (a, b, k))))
               where
@@ -144,7 +105,7 @@ module _ (write : Records) (before : ℕ → Option Value) (safe : ℕ) (stay : 
                 same_commit a b e = cc e
 
             none_here : ((rec : CommitRec) → write at ≡ Some (Commit rec) → ⊥) → ValuesGo write (goes_from at safe stay) before rest
-            none_here none = same_after write (goes_from at safe stay) before after rest (drops.stays (λ rec f a. none rec (sym found ∙ f)))
+            none_here none = same_after write (goes_from at safe stay) before after rest (drops.stays (λ rec f a. none rec f))
                 (gone_bare write (goes_from below safe stay) (goes_from at safe stay) at before after so.values there only on (λ rec f a. none rec f))
 
             go : (o : Option WriteRec) → write at ≡ o → ValuesGo write (goes_from at safe stay) before rest
@@ -152,15 +113,8 @@ module _ (write : Records) (before : ℕ → Option Value) (safe : ℕ) (stay : 
             go (Some (Rollback s)) e = none_here (λ rec f. cc (e, f))
             go (Some (Commit rec)) e = bare_or_not rec e (keeps_apart rec.mutation) refl
 
-        pub goes_on : SoFar write before safe stay at later rest
+        pub goes_on : SoFar write before safe stay at rest
         goes_on = record {
           upto = (let u = so.upto in omega (arith, u, lt));
-          left = λ q. elim (cases_eq q at) [
-            | inl same ↦ left q ∙ ap (λ b. cond b None (now q)) (eq-eqb at q (sym same)) ∙ sym (ap (λ b. cond b None (write q)) (ap (goes_from at safe stay) same ∙ on))
-            | inr other ↦ left q ∙ ap (λ b. cond b None (now q)) (differ q other) ∙ left_above q other
-          ];
           values = values_later;
         }
-          where
-            differ : (q : ℕ) → (q ≡ at → ⊥) → (at == q) ≡ false
-            differ q other = elim (cases_Bool (at == q)) [ inl e ↦ absurd (other (sym (eqb-true at q e))) | inr e ↦ e ]

@@ -1,6 +1,6 @@
 -- Records of a key that go, with the values that they keep apart.
-use Rattle.std.proofs.Common.{◌≡◌, ◌≢◌, ◌⊎◌, ◌↔◌, ℕ, ◌==◌, ◌^◌, ◌<◌, ◌≤◌, inl, inr, Bool, true, false, not, ◌&&◌, cond, Option, Some, None, refl, sym, ap, subst, ◌∙◌, arith}
-use Rattle.std.specs.Prelude.{option_map, nat_lt}
+use Rattle.std.proofs.Common.{◌≡◌, ◌≢◌, ◌⊎◌, ◌↔◌, ℕ, ◌==◌, ◌<◌, inl, inr, Bool, true, false, cond, Option, Some, None, refl, sym, ap, subst, ◌∙◌}
+use Rattle.std.specs.Prelude.{option_map}
 use Rattle.std.proofs.lemmas.Bool.{cases_Bool, cases_lt, cases_eq, lt-ltb, le-ltb, eq-eqb, eqb-true}
 use mathlib.Core.Logic.{∥∥₁_elim}
 use Rattle.std.specs.Coded.{Coded-set, coded_option, coded_list, coded_ℕ}
@@ -13,9 +13,7 @@ use Rattle.tx_types.specs.declared.write.CommitRec.{CommitRec}
 use Rattle.tx_types.specs.declared.write.WriteRec.{WriteRec}
 use Rattle.tx_types.specs.declared.write.WriteRec.TheVariants.{Commit, Rollback}
 use Rattle.tx_plan.specs.Whole.{whole_lock, whole_write}
-use Rattle.tx_plan.specs.Cells as tables
-use Rattle.tx_plan.specs.Cells.{Cells, Write}
-use Rattle.tx_plan.specs.Collecting.{stays}
+use Rattle.tx_timeline.specs.Places.{stays, goes_below}
 use Rattle.tx_plan.specs.cases.Collect.{keeps, kept}
 use Rattle.tx_plan.proofs.Sound.{sound_kept}
 use Rattle.tx_plan.proofs.Collects.{keeps_above}
@@ -23,7 +21,7 @@ use Rattle.tx_plan.specs.Sound.{IsSound}
 use Rattle.tx_cells.specs.Heads.{keeps_apart}
 use Rattle.tx_cells.specs.Contents.{OnKey, cells_of, lock_of, write_of, whole, IsWhole, IsKept, LockKeeps, WriteKeeps}
 use Rattle.tx_cells.specs.Afterwards.{Collected, without_value}
-use Rattle.tx_cells.specs.Drops.{Records, GoneApart, ValuesGo, goes_below}
+use Rattle.tx_cells.specs.Drops.{Records, GoneApart, ValuesGo}
 use Rattle.tx_cells.proofs.Showing.{stands_commit}
 use Rattle.tx_cells.proofs.CellsAfter.{cells_same, without_apart}
 

@@ -10,7 +10,6 @@ use Rattle.tx_types.specs.declared.write.WriteRec.TheVariants.{Rollback}
 use Rattle.tx_plan.specs.declared.key_change.Left.{Left}
 use Rattle.tx_plan.specs.declared.key_change.Left.TheVariants as left
 use Rattle.tx_cells.specs.Afterwards.{after_left, marked}
-use Rattle.tx_cells.specs.Spelt.{version_cmp}
 use Rattle.tx_cells.proofs.FlatMaps.{Writes, on_version, off_version}
 use Rattle.tx_cells.proofs.FlatChanges.{VersionChanged}
 

@@ -1,5 +1,5 @@
 -- What each change makes of flat maps, from what is known of the look-ups of the changed maps.
-use Rattle.std.proofs.Common.{◌≡◌, ◌≢◌, ◌<◌, ◌^◌, ℕ, ◌==◌, inl, inr, Bool, true, false, cond, List, Option, Some, None, Result, Ok, Err, bytes_eq, refl, sym, ap, subst, ◌∙◌}
+use Rattle.std.proofs.Common.{◌≡◌, ◌≢◌, ℕ, ◌==◌, inl, inr, Bool, true, false, cond, List, Option, Some, None, Result, Ok, Err, bytes_eq, refl, sym, ap, subst, ◌∙◌}
 use Rattle.std.specs.Prelude.{OnOk, OnErr}
 use mathlib.Core.Logic.{∥∥₁_elim}
 use Rattle.std.proofs.lemmas.Slice.Eq.{bytes_eq-Decides}

@@ -1,5 +1,5 @@
 -- What is left of a key of flat maps where its values went first and then its records.
-use Rattle.std.proofs.Common.{◌≡◌, ◌≢◌, ◌⊎◌, inl, inr, ℕ, zero, suc, ◌+◌, ◌-◌, ◌<◌, ◌≤◌, ◌&&◌, not, Bool, true, false, cond, Option, Some, None, refl, sym, ap, subst, ◌∙◌, arith}
+use Rattle.std.proofs.Common.{◌≡◌, ◌≢◌, inl, inr, ℕ, zero, suc, ◌+◌, ◌-◌, ◌<◌, ◌≤◌, ◌&&◌, not, Bool, true, false, cond, Option, Some, None, refl, sym, ap, subst, ◌∙◌, arith}
 use Rattle.std.specs.Prelude.{◌||◌, nat_lt, option_map}
 use Rattle.std.proofs.lemmas.Bool.{cases_Bool, cases_lt, not-true}
 use mathlib.Core.Logic.{∥∥₁_elim}
@@ -7,17 +7,16 @@ use Rattle.std.specs.Coded.{Coded-set, coded_option, coded_list, coded_ℕ}
 use Rattle.tx_types.specs.declared.value.Value.{Value}
 use Rattle.tx_types.specs.declared.mutation.StoredMutation.{StoredMutation}
 use Rattle.tx_types.specs.declared.mutation.StoredMutation.TheVariants as stored
-use Rattle.tx_types.specs.declared.write.CommitRec.{CommitRec}
 use Rattle.tx_types.specs.declared.write.WriteRec.{WriteRec}
-use Rattle.tx_types.specs.declared.write.WriteRec.TheVariants.{Commit, Rollback}
+use Rattle.tx_types.specs.declared.write.WriteRec.TheVariants.{Commit}
 use Rattle.tx_plan.specs.Cells.{Writes}
 use Rattle.tx_plan.specs.cases.Collect.{keeps, kept, none_above, commit_is, is_put, is_visible}
-use Rattle.tx_plan.proofs.Collects.{SeenFrom, keeps_above, drops_followed}
+use Rattle.tx_plan.proofs.Collects.{keeps_above, drops_followed}
 use Rattle.tx_cells.specs.Heads.{record_kind, keeps_apart}
-use Rattle.tx_cells.specs.Contents.{OnKey, cells_of, lock_of, IsWhole, LockKeeps, WriteKeeps}
+use Rattle.tx_cells.specs.Contents.{OnKey, cells_of, lock_of, IsWhole}
 use Rattle.tx_cells.specs.Afterwards.{Collected}
 use Rattle.tx_cells.specs.Drops.{GoneApart, ValuesGo}
-use Rattle.tx_cells.specs.Sieves.{Outdated, writes_of}
+use Rattle.tx_cells.specs.Sieves.{Outdated}
 use Rattle.tx_cells.proofs.Facts.{dated}
 use Rattle.tx_cells.proofs.Maps.{same_maps}
 use Rattle.tx_cells.proofs.Showing.{stands_commit}

@@ -1,5 +1,5 @@
 -- The locks of flat maps, as the rows of a walk.
-use Rattle.std.proofs.Common.{◌≡◌, inl, inr, Bool, cond, List, [], ◌∷◌, Option, Some, bytes_eq, refl, sym, ap, ◌∙◌}
+use Rattle.std.proofs.Common.{◌≡◌, inl, inr, cond, List, [], ◌∷◌, Option, Some, bytes_eq, refl, sym, ap, ◌∙◌}
 use Rattle.std.specs.Prelude.{IsTrue, option_map}
 use Rattle.std.specs.List.Sorted.{IsStrictlySortedBy}
 use Rattle.std.specs.Map.{keys_of, lookup}
@@ -10,12 +10,10 @@ use Rattle.std.specs.declared.cmp.Ordering.TheVariants.{Less}
 use Rattle.std.proofs.lemmas.Bool.{cases_Bool}
 use Rattle.std.proofs.lemmas.Slice.Eq.{bytes_eq-Decides}
 use Rattle.tx_types.specs.declared.key.Key.{Key}
-use Rattle.tx_types.specs.declared.value.Value.{Value}
 use Rattle.tx_types.specs.declared.lock.LockRec.{LockRec}
 use Rattle.tx_types.specs.Keys.{key_lt}
-use Rattle.tx_plan.specs.declared.view.LockHead.{LockHead}
 use Rattle.tx_plan.specs.Views.{lock_head_of}
-use Rattle.tx_plan.specs.Walks.{LockRow, LocksInOrder, lock_by, IsLockWalk}
+use Rattle.tx_plan.specs.Walks.{LocksInOrder, lock_by, IsLockWalk}
 use Rattle.tx_cells.specs.Contents.{OnKey, Content, cells_in, lock_of}
 use Rattle.tx_cells.specs.Heads.{lock_head}
 use Rattle.tx_cells.specs.Flats.{flat_content, lock_rows_in}

@@ -6,7 +6,7 @@ use Rattle.std.specs.Int.{w32, w64, to_be_bytes}
 use Rattle.tx_types.specs.Kinds.{stored_kind}
 use Rattle.tx_types.specs.Locks.{mode_of}
 use Rattle.tx_types.specs.declared.lock.LockRec.{LockRec}
-use Rattle.tx_codec.specs.Records.{kind_byte, mode_byte, mark_byte, key_bytes, others_bytes, value_bytes, lock_bytes, commit_bytes}
+use Rattle.tx_codec.specs.Records.{kind_byte, mode_byte, mark_byte, key_bytes, others_bytes, value_bytes, commit_bytes}
 use Rattle.tx_cells.specs.Recorded.{SpellsLock, HasValueAt, same_lock}
 use Rattle.tx_cells.specs.Afterwards.{commit_of}
 

@@ -1,19 +1,13 @@
 -- Collection of all keys of nested maps.
-use Rattle.std.proofs.Common.{◌≡◌, ◌⊎◌, ℕ, inl, inr, Bool, true, false, cond, List, [], ◌∷◌, Option, Some, None, bytes_eq, refl, sym, ap, subst, ◌∙◌}
-use Rattle.std.specs.List.{AllByRecursion}
+use Rattle.std.proofs.Common.{◌≡◌, ℕ, inl, inr, Bool, true, false, cond, [], ◌∷◌, Option, Some, None, bytes_eq, refl, sym, ap, subst, ◌∙◌}
 use Rattle.std.specs.List.Sorted.{IsStrictlySortedBy}
-use Rattle.std.specs.Map.{keys_of, lookup}
 use Rattle.std.specs.Map.Calls.{RetainsPairs}
-use Rattle.std.specs.BTreeMap as tree
-use Rattle.std.specs.Ordering.{nat_cmp, is_eq}
-use Rattle.std.specs.Cmp.Lexicographic.{slice_cmp}
-use Rattle.std.specs.declared.cmp.Ordering.TheVariants.{Less}
 use Rattle.std.proofs.lemmas.Bool.{cases_Bool}
 use Rattle.std.proofs.lemmas.Slice.Eq.{bytes_eq-Decides}
 use Rattle.tx_types.specs.declared.key.Key.{Key}
 use Rattle.tx_plan.specs.cases.Collect.{keeps, kept}
 use Rattle.tx_cells.specs.declared.nested.key.KeyFamilies.{KeyFamilies}
-use Rattle.tx_cells.specs.Contents.{OnKey, cells_of, nothing_held, LockKeeps, WriteKeeps}
+use Rattle.tx_cells.specs.Contents.{OnKey, cells_of, nothing_held}
 use Rattle.tx_cells.specs.Afterwards.{Collected}
 use Rattle.tx_cells.specs.Nested.{held, held_on}
 use Rattle.tx_cells.proofs.CellsAfter.{cells_same}

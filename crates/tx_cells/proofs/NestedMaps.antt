@@ -1,5 +1,5 @@
 -- What changes of nested maps make of what is held.
-use Rattle.std.proofs.Common.{◌≡◌, ◌≢◌, ℕ, ◌==◌, Bool, true, false, cond, List, Option, Some, None, refl, sym, ap, subst, ◌∙◌, inl, inr}
+use Rattle.std.proofs.Common.{◌≡◌, ℕ, cond, Option, Some, None, sym, ap, ◌∙◌, inl, inr}
 use Rattle.std.proofs.lemmas.Bool.{cases_Bool}
 use Rattle.std.proofs.lemmas.Slice.Eq.{bytes_eq-Decides}
 use Rattle.std.specs.Map.{lookup}
@@ -14,7 +14,7 @@ use Rattle.tx_types.specs.declared.write.WriteRec.{WriteRec}
 use Rattle.tx_plan.specs.declared.body.Prewrite.{Prewrite}
 use Rattle.tx_plan.specs.declared.key_change.NewLock.{NewLock}
 use Rattle.tx_cells.specs.declared.nested.key.KeyFamilies.{KeyFamilies}
-use Rattle.tx_cells.specs.Contents.{OnKey, IsWhole, nothing_held}
+use Rattle.tx_cells.specs.Contents.{OnKey}
 use Rattle.tx_cells.specs.Afterwards.{OnlyOn, put_on, lock_put, with_value, apart_of}
 use Rattle.tx_cells.specs.Nested.{held_on}
 use Rattle.tx_cells.proofs.Maps.{key_here, key_elsewhere, key_is, with_at, same_maps}
@@ -40,6 +40,10 @@ value_not_put f t o e q = ap (λ (x : Option Value). with_value f t x q) (sym e)
 -- ---- all keys
 
 module _ (old new : Key → Option KeyFamilies) where
+  -- the key that was changed, by another name
+  pub moved : (j key : Key) (o : Option KeyFamilies) → j ≡ key → ((k : Key) → new k ≡ cond (is_eq (slice_cmp nat_cmp j k)) o (old k)) → (k : Key) → new k ≡ cond (is_eq (slice_cmp nat_cmp key k)) o (old k)
+  moved j key o is put k = put k ∙ ap (λ i. cond (is_eq (slice_cmp nat_cmp i k)) o (old k)) is
+
   pub at_key : (key : Key) (o : Option KeyFamilies) → ((k : Key) → new k ≡ cond (is_eq (slice_cmp nat_cmp key k)) o (old k)) → new key ≡ o
   at_key key o is = is key ∙ ap (λ b. cond b o (old key)) (key_here key)
 

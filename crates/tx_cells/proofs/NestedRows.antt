@@ -1,23 +1,23 @@
 -- The entries of nested maps, as the rows of walks.
-use Rattle.std.proofs.Common.{◌≡◌, ◌⊎◌, inl, inr, Bool, true, false, not, ◌&&◌, cond, List, [], ◌∷◌, Option, Some, None, bytes_eq, map, refl, sym, ap, subst, ◌∙◌}
+use Rattle.std.proofs.Common.{◌≡◌, inl, inr, Bool, true, false, cond, List, [], ◌∷◌, Option, Some, None, bytes_eq, refl, sym, ap, subst, ◌∙◌}
 use Rattle.std.specs.Prelude.{IsTrue, option_map}
 use Rattle.std.specs.List.{filter, AllByRecursion}
 use Rattle.std.specs.List.Sorted.{IsStrictlySortedBy}
 use Rattle.std.specs.Map.{keys_of, lookup}
 use Rattle.std.specs.BTreeMap as tree
-use Rattle.std.specs.Ordering.{nat_cmp, is_eq, is_lt, is_le}
+use Rattle.std.specs.Ordering.{nat_cmp, is_eq, is_lt}
 use Rattle.std.specs.Cmp.Lexicographic.{slice_cmp}
-use Rattle.std.specs.declared.cmp.Ordering.TheVariants.{Less, Equal, Greater}
+use Rattle.std.specs.declared.cmp.Ordering.TheVariants.{Less}
 use Rattle.std.proofs.lemmas.Bool.{cases_Bool}
 use Rattle.std.proofs.lemmas.Slice.Eq.{bytes_eq-Decides}
 use Rattle.std.proofs.lemmas.Map.Entries.{lookup-filter-keys}
 use Rattle.std.proofs.lemmas.List.Kept.{IsStrictlySortedBy-filter}
 use Rattle.tx_types.specs.declared.key.Key.{Key}
 use Rattle.tx_types.specs.declared.lock.LockRec.{LockRec}
-use Rattle.tx_types.specs.Keys.{key_lt, key_le}
+use Rattle.tx_types.specs.Keys.{key_lt}
 use Rattle.tx_plan.specs.declared.view.LockHead.{LockHead}
-use Rattle.tx_plan.specs.Cells.{Lock, Cells, no_cells}
-use Rattle.tx_plan.specs.Walks.{KeyRow, LockRow, AreInOrder, KeysPass, cells_by, IsWalk, every_key, LocksInOrder, lock_by, IsLockWalk}
+use Rattle.tx_plan.specs.Cells.{Lock, Cells}
+use Rattle.tx_plan.specs.Walks.{LockRow, AreInOrder, KeysPass, cells_by, IsWalk, every_key, LocksInOrder, lock_by, IsLockWalk}
 use Rattle.tx_plan.specs.Views.{lock_head_of}
 use Rattle.tx_cells.specs.declared.nested.key.KeyFamilies.{KeyFamilies}
 use Rattle.tx_cells.specs.Contents.{cells_of, lock_of}

@@ -1,5 +1,6 @@
 -- What collection asks of a record, as it is kept and in the cells.
-use Rattle.std.proofs.Common.{◌≡◌, ℕ, Bool, true, false, length, Option, Some, None, refl, sym, ap, ◌∙◌}
+use Rattle.std.proofs.Common.{◌≡◌, ℕ, ◌<◌, ◌≤◌, Bool, true, false, length, Option, Some, None, refl, sym, ap, subst, ◌∙◌, arith}
+use Rattle.std.specs.Prelude.{IsSome, IfSome, IfNone, MatchOption, is_some}
 use Rattle.std.proofs.lemmas.Bool.{lt-ltb, le-ltb}
 use Rattle.tx_types.specs.declared.limits.TheConstants.{MAX_INLINE_BYTES}
 use Rattle.tx_types.specs.declared.value.Value.{Value}
@@ -10,9 +11,9 @@ use Rattle.tx_types.specs.declared.write.WriteRec.{WriteRec}
 use Rattle.tx_types.specs.declared.write.CommitRec.{CommitRec}
 use Rattle.tx_types.specs.declared.write.WriteRec.TheVariants.{Commit, Rollback}
 use Rattle.tx_plan.specs.Cells.{is_long}
-use Rattle.tx_plan.specs.Collecting.{IsKind, IsNext}
+use Rattle.tx_plan.specs.Collecting.{IsKind, IsNext, NoneUpto}
 use Rattle.tx_plan.specs.cases.Collect.{commit_is, is_put, is_visible}
-use Rattle.std.specs.Prelude.{option_map, ◌<◌, ◌≤◌, ◌≢◌}
+use Rattle.std.specs.Prelude.{option_map, ◌<◌, ◌≤◌}
 use Rattle.tx_types.specs.declared.mutation.LockKind.{LockKind}
 use Rattle.tx_types.specs.declared.mutation.LockKind.TheVariants as kind
 use Rattle.tx_types.specs.Kinds.{stored_kind}
@@ -79,6 +80,24 @@ is_next x t bound c rec e upto newest = record {
   newest = λ q lt le. ap (option_map (write_of x.value)) (newest q lt le);
   is = kind_is x t c rec e;
 }
+
+-- nothing stands between the nearest record and the bound
+pub past_nearest : (write : ℕ → Option WriteRec) (bound c : ℕ) → ((q : ℕ) → q ≤ bound → IsSome (write q) → q ≤ c) → (q : ℕ) → c < q → q ≤ bound → write q ≡ None
+past_nearest write bound c near q lt le = go (write q) refl
+  where
+    go : (o : Option WriteRec) → write q ≡ o → write q ≡ None
+    go None e = e
+    go (Some rec) e = absurd (let n = near q le (ap is_some e) in omega (arith, n, lt))
+
+-- a record that is found so is the newest at the bound or below, and where none is found there is none
+pub next_found : (x : OnKey) → ∥ IsWhole x ∥₁ → (bound : ℕ) (o : Option (ℕ × RecordKind)) → IfSome o (λ p. (p.0 ≤ bound) × (option_map record_kind (x.write p.0) ≡ Some p.1)) → IfSome o (λ p. (q : ℕ) → q ≤ bound → IsSome (x.write q) → q ≤ p.0)
+    → IfNone o ((q : ℕ) → q ≤ bound → x.write q ≡ None) → MatchOption o (NoneUpto (cells_of x).write bound) (λ p. IsNext (cells_of x).write bound p.0 p.1)
+next_found x t bound None found near none = λ q le. ap (option_map (write_of x.value)) (none q le)
+next_found x t bound (Some (c, kind)) found near none = go (x.write c) refl found.1
+  where
+    go : (w : Option WriteRec) → x.write c ≡ w → option_map record_kind w ≡ Some kind → IsNext (cells_of x).write bound c kind
+    go None e is = absurd (cc is)
+    go (Some rec) e is = subst (IsNext (cells_of x).write bound c) (cc is) (is_next x t bound c rec e found.0 (past_nearest x.write bound c near))
 
 -- ---- of a commit record, by its kind
 

@@ -1,5 +1,5 @@
 -- How many records a pass over the entries of a map of versions has dropped.
-use Rattle.std.proofs.Common.{◌≡◌, ◌≢◌, ◌↔◌, inl, inr, ℕ, suc, ◌+◌, Bool, true, false, cond, List, [], ◌∷◌, length, Option, Some, None, refl, sym, ap, subst, ◌∙◌, arith}
+use Rattle.std.proofs.Common.{◌≡◌, ◌≢◌, ◌↔◌, inl, inr, ℕ, suc, ◌+◌, true, false, cond, List, [], ◌∷◌, length, Option, Some, None, refl, sym, ap, subst, ◌∙◌, arith}
 use Rattle.std.specs.Prelude.{Contains, option_map}
 use Rattle.std.specs.Map.{keys_of}
 use Rattle.std.specs.BTreeMap as tree
@@ -11,7 +11,7 @@ use Rattle.tx_types.specs.declared.key.Key.{Key}
 use Rattle.tx_types.specs.declared.value.Value.{Value}
 use Rattle.tx_types.specs.declared.write.WriteRec.{WriteRec}
 use Rattle.tx_plan.specs.Cells.{Lock, Cells, is_long}
-use Rattle.tx_plan.specs.cases.Collect.{keeps, commit_is, IsDropped, AllDropped, long_values}
+use Rattle.tx_plan.specs.cases.Collect.{commit_is, IsDropped, AllDropped, long_values}
 use Rattle.tx_plan.proofs.Collects.{pairs_first, pairs_none}
 use Rattle.tx_plan.proofs.OnceLists.{Once}
 use Rattle.tx_plan.proofs.LockRows.{contains_first, contains_next, contains_cases, contains_none}

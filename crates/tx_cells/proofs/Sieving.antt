@@ -1,14 +1,14 @@
 -- A pass over the entries of a map of versions tells which records collection keeps.
-use Rattle.std.proofs.Common.{◌≡◌, ◌≢◌, ◌⊎◌, ◌↔◌, inl, inr, ℕ, ◌+◌, ◌==◌, ◌<◌, ◌≤◌, ◌&&◌, not, Bool, true, false, cond, List, [], ◌∷◌, Option, Some, None, bytes_eq, refl, sym, ap, subst, ◌∙◌, arith}
-use Rattle.std.specs.Prelude.{◌||◌, nat_lt, option_map, IsTrue}
+use Rattle.std.proofs.Common.{◌≡◌, inl, inr, ℕ, ◌+◌, ◌<◌, ◌≤◌, ◌&&◌, not, Bool, true, false, List, [], ◌∷◌, Option, Some, None, bytes_eq, refl, sym, ap, ◌∙◌, arith}
+use Rattle.std.specs.Prelude.{◌||◌, nat_lt}
 use Rattle.std.specs.List.{AllByRecursion}
 use Rattle.std.specs.List.Sorted.{IsStrictlySortedBy}
 use Rattle.std.specs.Map.{keys_of, lookup}
 use Rattle.std.specs.BTreeMap as tree
-use Rattle.std.specs.Ordering.{nat_cmp, is_eq, ordering_reverse}
+use Rattle.std.specs.Ordering.{is_eq, ordering_reverse}
 use Rattle.std.specs.declared.cmp.Ordering.{Ordering}
-use Rattle.std.specs.declared.cmp.Ordering.TheVariants.{Less, Equal, Greater}
-use Rattle.std.proofs.lemmas.Bool.{cases_Bool, cases_lt, cases_eq, lt-ltb, le-ltb, and_parts, or_cases, not-true}
+use Rattle.std.specs.declared.cmp.Ordering.TheVariants.{Less}
+use Rattle.std.proofs.lemmas.Bool.{cases_Bool, cases_lt, lt-ltb, le-ltb, and_parts, or_cases}
 use Rattle.std.proofs.lemmas.Cmp.{tied_itself}
 use Rattle.std.proofs.lemmas.Slice.Eq.{bytes_eq-Decides}
 use Rattle.std.proofs.lemmas.Map.Entries.{lookup_head, lookup_tail}
@@ -18,15 +18,13 @@ use Rattle.tx_types.specs.declared.write.WriteRec.{WriteRec}
 use Rattle.tx_codec.specs.Keys.{encoded_key}
 use Rattle.tx_codec.proofs.Versions.{encoded_key-one}
 use Rattle.tx_plan.specs.cases.Collect.{keeps, commit_is, is_put, is_visible}
-use Rattle.tx_plan.proofs.Collects.{SeenFrom, UnseenFrom, keeps_above, keeps_put, drops_other, drops_followed}
+use Rattle.tx_plan.proofs.Collects.{SeenFrom, keeps_above, keeps_put, drops_other, drops_followed}
 use Rattle.tx_cells.specs.Heads.{record_kind}
 use Rattle.tx_cells.specs.Sieves.{is_followed, is_kept, writes_of}
 use Rattle.tx_cells.specs.declared.flat.sieve.Sieve.{Sieve}
-use Rattle.tx_cells.specs.Spelt.{version_cmp, versions_total, exact_versions}
+use Rattle.tx_cells.specs.Spelt.{version_cmp, versions_total}
 use Rattle.tx_cells.proofs.RecordKinds.{kind_puts, kind_seen, seen_there}
 use Rattle.tx_cells.proofs.Above.{less_cases, less_key, less_newer, newer_of}
-use Rattle.tx_cells.proofs.Nearest.{beside}
-use Rattle.tx_cells.proofs.Maps.{less_of}
 
 abbrev pub Version : Type 0
 Version = List ℕ × ℕ

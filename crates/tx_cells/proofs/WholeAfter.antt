@@ -1,5 +1,5 @@
 -- Changes keep what every key meets.
-use Rattle.std.proofs.Common.{◌≡◌, ◌≢◌, ◌⊎◌, ℕ, ◌==◌, ◌^◌, ◌<◌, ◌≤◌, inl, inr, Bool, true, false, cond, length, Option, Some, None, refl, sym, ap, subst, ◌∙◌, arith}
+use Rattle.std.proofs.Common.{◌≡◌, ◌≢◌, ◌⊎◌, ℕ, ◌==◌, ◌^◌, ◌<◌, inl, inr, Bool, true, false, cond, length, Option, Some, None, refl, sym, ap, subst, ◌∙◌, arith}
 use Rattle.std.proofs.lemmas.Bool.{eqb-true, eq-eqb, cases_Bool, cases_lt, cases_eq, lt-ltb, le-ltb}
 use Rattle.std.specs.Prelude.{option_map}
 use Rattle.tx_types.specs.declared.limits.TheConstants.{MAX_INLINE_BYTES}
@@ -7,7 +7,6 @@ use Rattle.tx_types.specs.declared.value.Value.{Value}
 use Rattle.tx_types.specs.declared.value.StoredValue.TheVariants.{Inline, InDefault}
 use Rattle.tx_types.specs.declared.mutation.Mutation.{Mutation}
 use Rattle.tx_types.specs.declared.mutation.Mutation.TheVariants as mutation
-use Rattle.tx_types.specs.declared.mutation.StoredMutation.{StoredMutation}
 use Rattle.tx_types.specs.declared.mutation.StoredMutation.TheVariants as stored
 use Rattle.tx_types.specs.declared.lock.LockRec.{LockRec}
 use Rattle.tx_types.specs.declared.write.CommitRec.{CommitRec}
@@ -21,7 +20,7 @@ use Rattle.tx_plan.specs.declared.key_change.Left.{Left}
 use Rattle.tx_plan.specs.declared.key_change.Left.TheVariants as left
 use Rattle.tx_plan.specs.Cells as tables
 use Rattle.tx_plan.specs.Cells.{is_long}
-use Rattle.tx_plan.specs.Changes.{Applies, IsLeft, IsRemoved, CommitsAt, CanPut, changed, after_put}
+use Rattle.tx_plan.specs.Changes.{Applies, IsLeft, IsRemoved, CommitsAt, CanPut}
 use Rattle.tx_cells.specs.Heads.{keeps_apart}
 use Rattle.tx_cells.specs.Contents.{OnKey, cells_of, lock_of, IsWhole, IsKept, LockKeeps, WriteKeeps}
 use Rattle.tx_plan.specs.Sound.{IsSound}

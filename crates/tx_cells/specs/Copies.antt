@@ -1,14 +1,12 @@
 -- What is shown of a key, by its cells.
 use Rattle.std.specs.Prelude.{◌≡◌, ◌⊎◌, ◌↔◌, ℕ, ◌<◌, true, List, [], ◌∷◌, ◌++◌, Some, Contains, option_map}
 use Rattle.tx_types.specs.declared.value.Value.{Value}
-use Rattle.tx_types.specs.declared.write.WriteRec.{WriteRec}
 use Rattle.tx_plan.specs.declared.view.RecordHead.{RecordHead}
 use Rattle.tx_plan.specs.Cells.{Lock, Cells, is_long}
 use Rattle.tx_plan.specs.Own.{OwnLock, OwnCommit}
 use Rattle.tx_plan.specs.Views.{head_of, lock_head_of}
 use Rattle.tx_cells.specs.declared.copies.RecordAt.{RecordAt}
 use Rattle.tx_cells.specs.declared.copies.KeyCopy.{KeyCopy}
-use Rattle.tx_cells.specs.Heads.{write_head}
 
 -- timestamps fall
 abbrev pub AreFalling : List ℕ → Type 0
@@ -34,13 +32,6 @@ pub record Copies (cells : Cells) (copy : KeyCopy) : Type 0 where
   pub values : (t : ℕ) → Contains copy.values t ↔ ∥ HasLongValue cells t ∥₁
 
 -- ---- entries in the order of their timestamps, shown from the newest on
-
-abbrev pub record_at : ℕ × WriteRec → RecordAt
-record_at e = record { at = e.0; head = write_head e.1 }
-
-abbrev pub records_down : List (ℕ × WriteRec) → List RecordAt
-records_down [] = []
-records_down (e ∷ es) = records_down es ++ record_at e ∷ []
 
 abbrev pub starts_down : List (ℕ × Value) → List ℕ
 starts_down [] = []

@@ -1,10 +1,9 @@
 -- Records of a key that go one after the other, and the values that they keep apart.
-use Rattle.std.specs.Prelude.{◌≡◌, ◌≢◌, ℕ, ◌&&◌, not, nat_lt, Bool, true, Option, Some, None}
+use Rattle.std.specs.Prelude.{◌≡◌, ◌≢◌, ℕ, Bool, true, Option, Some, None}
 use Rattle.tx_types.specs.declared.value.Value.{Value}
 use Rattle.tx_types.specs.declared.write.CommitRec.{CommitRec}
 use Rattle.tx_types.specs.declared.write.WriteRec.{WriteRec}
-use Rattle.tx_types.specs.declared.write.WriteRec.TheVariants.{Commit, Rollback}
-use Rattle.tx_plan.specs.Collecting.{stays}
+use Rattle.tx_types.specs.declared.write.WriteRec.TheVariants.{Commit}
 use Rattle.tx_cells.specs.Heads.{keeps_apart}
 use Rattle.tx_cells.specs.Afterwards.{without_value}
 
@@ -25,10 +24,6 @@ pub record ValuesGo (write : Records) (goes : ℕ → Bool) (before after : ℕ 
   pub gone : (t : ℕ) → GoneApart write goes t → after t ≡ None
   pub stayed : (t : ℕ) → (GoneApart write goes t → ⊥) → after t ≡ before t
   pub fewer : (t : ℕ) → after t ≢ None → after t ≡ before t
-
--- all below the safe point, but the one that stays
-abbrev pub goes_below : ℕ → Option ℕ → ℕ → Bool
-goes_below safe stay q = nat_lt q safe && not (stays stay q)
 
 -- with a record goes the value that it keeps apart
 pub record DropsValue (found : Option WriteRec) (before after : ℕ → Option Value) : Type 0 where

@@ -1,9 +1,13 @@
 //! What is shown of a key.
-ghost use Rattle.std.specs.Prelude.{◌≡◌, IfOk, IfErr};
+ghost use Rattle.std.specs.Prelude.{◌≡◌, ◌↔◌, ℕ, Some, Contains, IfOk, IfErr, option_map};
+ghost use Rattle.tx_plan.specs.declared.view.RecordHead.{RecordHead};
 ghost use Rattle.tx_plan.specs.Cells.{Cells};
 ghost use Rattle.tx_cells.specs.declared.copies.KeyCopy.{KeyCopy};
-ghost use Rattle.tx_cells.specs.Copies.{Copies};
+ghost use Rattle.tx_cells.specs.Heads.{write_head};
+ghost use Rattle.tx_cells.specs.Histories.{AreFitting};
+ghost use Rattle.tx_cells.specs.Copies.{Copies, AreFalling, times_of};
 
+use crate::history::History;
 use std::alloc::Global;
 use std::marker::Model;
 use tx_plan::{LockHead, RecordHead};
@@ -62,3 +66,29 @@ impl Shown {
 pub fn one_copy()
     ensures { (cells : Cells) (a b : KeyCopy) → Copies cells a → Copies cells b → a ≡ b }
 {}
+
+/// The heads of the write records of a key, from the newest on.
+pub(crate) fn records_down<H: History>(
+    alloc: Global,
+    history: &mut H,
+) -> Result<Items<RecordAt>, Fault>
+    requires { AreFitting (H.writes history.old) }
+    ensures fall { IfOk result (λ records. AreFalling (times_of records)) }
+    ensures all { IfOk result (λ records. (at : ℕ) (head : RecordHead) → Contains records (record { at = at; head = head }) ↔ (option_map write_head (H.writes history.old at) ≡ Some head)) }
+    ensures same_key { H.key history.new ≡ H.key history.old }
+    ensures err { IfErr result (λ e. e ≡ Fault.OutOfMemory) }
+{
+    let mut records = Items::new(alloc);
+    let mut bound = u64::MAX;
+    'records: loop {
+        let Some(entry) = history.upto(Ts::new(bound)) else {
+            return Ok(records);
+        };
+        let (at, head) = entry;
+        records.push(RecordAt { at, head })?;
+        if at.get() == 0 {
+            return Ok(records);
+        }
+        bound = at.get() - 1;
+    }
+}

@@ -1,94 +1,85 @@
-//! What is asked of records that are kept as they are.
-ghost use Rattle.std.specs.Prelude.{◌≡◌, option_map};
-ghost use Rattle.tx_cells.specs.Heads.{write_head, lock_head, is_apart, keeps_apart, record_kind};
+//! What is asked of records, read from their bytes.
+ghost use Rattle.std.specs.Prelude.{◌≡◌, Bool, IfSome};
+ghost use Rattle.tx_plan.specs.declared.view.RecordHead.TheVariants as head;
+ghost use Rattle.tx_cells.specs.Heads.{write_head, lock_head, record_kind};
+ghost use Rattle.tx_cells.specs.Histories.{IsSeenKind};
 
+use crate::history::Seen;
+use crate::records::{LockBytes, WriteBytes};
 use tx_plan::{LockHead, RecordHead, RecordKind};
-use tx_types::{LockRec, StoredMutation, StoredValue, WriteRec};
+use tx_types::{LockKind, Ts};
 
 /// What is asked of a write record.
-pub(crate) fn head_of(rec: &WriteRec) -> RecordHead
-    ensures { result ≡ write_head rec.now }
+pub(crate) fn head_of(bytes: &WriteBytes) -> RecordHead
+    ensures { result ≡ write_head bytes.now }
 {
-    match rec {
-        WriteRec::Commit(rec) => RecordHead::Commit {
-            kind: rec.mutation.kind(),
-            start: rec.start,
-            overlapped_rollback: rec.overlapped_rollback,
-        },
-        WriteRec::Rollback(_) => RecordHead::Rollback,
+    if bytes.is_rollback() {
+        return RecordHead::Rollback;
     }
-}
-
-/// What is asked of a lock.
-fn lock_head_of(rec: &LockRec) -> LockHead
-    ensures { result ≡ lock_head rec.now }
-{
-    LockHead {
-        start: rec.start,
-        min: rec.min,
-        ttl: rec.ttl,
-        kind: rec.mutation.kind(),
-        mode: rec.mode.mode(),
-    }
-}
-
-/// What is asked of the lock, where there is one.
-pub(crate) fn head_on(lock: &Option<LockRec>) -> Option<LockHead>
-    ensures { result ≡ option_map lock_head lock.now }
-{
-    match lock {
-        Some(rec) => Some(lock_head_of(rec)),
-        None => None,
-    }
-}
-
-/// Whether the value is kept apart from its record.
-fn is_apart(value: &StoredValue) -> bool
-    ensures { result ≡ is_apart value.now }
-{
-    match value {
-        StoredValue::Inline(_) => false,
-        StoredValue::InDefault => true,
-    }
-}
-
-/// Whether the mutation puts a value that is kept apart.
-pub(crate) fn keeps_apart(mutation: &StoredMutation) -> bool
-    ensures { result ≡ keeps_apart mutation.now }
-{
-    match mutation {
-        StoredMutation::Put(value) => is_apart(value),
-        StoredMutation::Delete => false,
-        StoredMutation::Lock => false,
+    RecordHead::Commit {
+        kind: bytes.kind(),
+        start: bytes.start(),
+        overlapped_rollback: bytes.is_marked(),
     }
 }
 
 /// What collection asks of a write record.
-pub(crate) fn kind_of(rec: &WriteRec) -> RecordKind
-    ensures { result ≡ record_kind rec.now }
+pub(crate) fn kind_of(bytes: &WriteBytes) -> RecordKind
+    ensures { result ≡ record_kind bytes.now }
 {
-    let WriteRec::Commit(rec) = rec else {
+    if bytes.is_rollback() {
         return RecordKind {
             puts: false,
             is_seen: false,
             has_long_value: false,
         };
-    };
-    match &rec.mutation {
-        StoredMutation::Put(value) => RecordKind {
+    }
+    match bytes.kind() {
+        LockKind::Put => RecordKind {
             puts: true,
             is_seen: true,
-            has_long_value: is_apart(value),
+            has_long_value: bytes.keeps_value_apart(),
         },
-        StoredMutation::Delete => RecordKind {
+        LockKind::Delete => RecordKind {
             puts: false,
             is_seen: true,
             has_long_value: false,
         },
-        StoredMutation::Lock => RecordKind {
+        LockKind::Lock => RecordKind {
             puts: false,
             is_seen: false,
             has_long_value: false,
         },
     }
+}
+
+/// What is asked of a lock.
+pub(crate) fn lock_head_of(bytes: &LockBytes) -> LockHead
+    ensures { result ≡ lock_head bytes.now }
+{
+    LockHead {
+        start: bytes.start(),
+        min: bytes.min(),
+        ttl: bytes.ttl(),
+        kind: bytes.kind(),
+        mode: bytes.mode(),
+    }
+}
+
+/// The record at a timestamp as reads see it, where it is a put or a delete.
+pub(crate) fn seen_in(commit: Ts, bytes: &WriteBytes) -> Option<Seen>
+    ensures commit { IfSome result (λ seen. seen.commit ≡ commit) }
+    ensures kind { IfSome result (λ seen. IsSeenKind seen.kind × ((mark : Bool) × (write_head bytes.now ≡ head.Commit seen.kind seen.start mark))) }
+{
+    let RecordHead::Commit { kind, start, .. } = head_of(bytes) else {
+        return None;
+    };
+    if kind == LockKind::Lock {
+        return None;
+    }
+    Some(Seen {
+        commit,
+        start,
+        kind,
+    })
 }

@@ -29,7 +29,7 @@ use tx_types::{Cause, Fault, Key};
 pub(crate) struct ScriptJob<J: Naming, L: Source, F: Families + Drop, R: Wait + Drop> {
     number: u32,
     access: Access<J, F, R>,
-    place: Place<Seat<J>, Session<J>, Moving<J, L>>,
+    place: Place<Seat<J>, Box<Session<J>>, Box<Moving<J, L>>>,
     log: Log<J, L>,
     /// The last line first.
     lines: Vec<Entry<L>>,
@@ -78,7 +78,7 @@ impl<J: Naming, L: Source, F: Families + Drop, R: Wait + Drop> ScriptJob<J, L, F
     }
 
     // Stands so from now on.
-    fn stand(&mut self, place: Place<Seat<J>, Session<J>, Moving<J, L>>)
+    fn stand(&mut self, place: Place<Seat<J>, Box<Session<J>>, Box<Moving<J, L>>>)
         ensures { StaysSame self.old self.new }
     {
         drop(replace(&mut self.place, place));
@@ -119,15 +119,27 @@ impl<J: Naming, L: Source, F: Families + Drop, R: Wait + Drop> ScriptJob<J, L, F
         ensures { StaysSame self.old self.new }
     {
         match Session::begin(self.access.alloc, seat) {
+            Ok(session) => self.begun(number, session),
+            Err(seat) => {
+                self.stand(Place::Free(seat));
+                self.tell(number, Words::new(Reply::OracleSpent));
+            }
+        }
+    }
+
+    // Keeps a session that has just begun.
+    fn begun(&mut self, number: u64, session: Session<J>)
+        ensures { StaysSame self.old self.new }
+    {
+        let start = session.start();
+        match Box::new(self.access.alloc, session) {
             Ok(session) => {
-                let start = session.start();
                 self.touched.clear();
                 self.stand(Place::Live(session));
                 self.tell(number, Words::new(Reply::Start(start)));
             }
-            Err(seat) => {
-                self.stand(Place::Free(seat));
-                self.tell(number, Words::new(Reply::OracleSpent));
+            Err(refused) => {
+                self.stops(number, refused.value, Words::new(Reply::OutOfMemory));
             }
         }
     }
@@ -139,7 +151,7 @@ impl<J: Naming, L: Source, F: Families + Drop, R: Wait + Drop> ScriptJob<J, L, F
         match self.access.finish(&mut self.log, number, session, None) {
             Ok(seat) => self.stand(Place::Free(seat)),
             Err(session) => {
-                self.stand(Place::Live(session));
+                self.stand(Place::Free(session.stop()));
                 self.fails(number, Cause::Order);
             }
         }
@@ -158,7 +170,12 @@ impl<J: Naming, L: Source, F: Families + Drop, R: Wait + Drop> ScriptJob<J, L, F
     {
         let number = order.number;
         match Session::begin(self.access.alloc, seat) {
-            Ok(session) => self.stand(Place::Moving(Moving::new(session, order))),
+            Ok(session) => match Box::new(self.access.alloc, Moving::new(session, order)) {
+                Ok(moving) => self.stand(Place::Moving(moving)),
+                Err(refused) => {
+                    self.gives_up(refused.value, Words::new(Reply::OutOfMemory));
+                }
+            },
             Err(seat) => {
                 self.stand(Place::Free(seat));
                 self.tell(number, Words::new(Reply::OracleSpent));
@@ -208,7 +225,7 @@ impl<J: Naming, L: Source, F: Families + Drop, R: Wait + Drop> ScriptJob<J, L, F
     }
 
     // A step of a session that is live.
-    fn acts(&mut self, number: u64, mut session: Session<J>, step: Step<'_>)
+    fn acts(&mut self, number: u64, mut session: Box<Session<J>>, step: Step<'_>)
         ensures { StaysSame self.old self.new }
     {
         let result = match step {
@@ -241,9 +258,9 @@ impl<J: Naming, L: Source, F: Families + Drop, R: Wait + Drop> ScriptJob<J, L, F
                 }
             },
             Place::Live(session) => match step {
-                Step::Act(_, Action::Finish) => self.finishes(number, session),
+                Step::Act(_, Action::Finish) => self.finishes(number, Box::into_inner(session)),
                 Step::Act(_, Action::Stop) => {
-                    self.stops(number, session, Words::new(Reply::Fine));
+                    self.stops(number, Box::into_inner(session), Words::new(Reply::Fine));
                 }
                 other => self.acts(number, session, other),
             },
@@ -321,9 +338,15 @@ impl<J: Naming, L: Source, F: Families + Drop, R: Wait + Drop> ScriptJob<J, L, F
         match replace(&mut self.place, Place::Gone) {
             Place::Moving(moving) => match after {
                 After::Goes => self.stand(Place::Moving(moving)),
-                After::Ends => self.moved(moving),
-                After::Spent => self.gives_up(moving, Words::new(Reply::OracleSpent)),
-                After::NoMemory => self.gives_up(moving, Words::new(Reply::OutOfMemory)),
+                After::Ends => self.moved(Box::into_inner(moving)),
+                After::Spent => self.gives_up(
+                    Box::into_inner(moving),
+                    Words::new(Reply::OracleSpent),
+                ),
+                After::NoMemory => self.gives_up(
+                    Box::into_inner(moving),
+                    Words::new(Reply::OutOfMemory),
+                ),
             },
             other => self.stand(other),
         }

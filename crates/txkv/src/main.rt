@@ -15,7 +15,7 @@ use std::io::{BufReader, BufWriter};
 use std::process::ExitCode;
 use std::sync::Wait;
 use std::thread::Threads;
-use tx_cells::FlatCells;
+use tx_cells::NestedCells;
 use tx_check::check;
 use tx_run::{Plain, run_script};
 use tx_sched::Open;
@@ -36,7 +36,7 @@ where
         Job::Simulate => simulate(rt.alloc(), &mut reader, &mut writer),
         Job::Run(settings) => {
             let alloc = rt.alloc();
-            let (end, played) = run_script::<FlatCells, _, _, _, _, _>(
+            let (end, played) = run_script::<NestedCells, _, _, _, _, _>(
                 rt,
                 alloc,
                 settings,

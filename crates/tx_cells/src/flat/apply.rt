@@ -9,7 +9,7 @@ ghost use Rattle.tx_cells.specs.Afterwards.{OnlyOn, after, after_left};
 ghost use Rattle.tx_cells.specs.Spelt.{version_cmp};
 
 use super::FlatCells;
-use super::records::{commit_record, lock_with_min, lock_with_ttl, marked_record, rollback_record};
+use crate::derived::{commit_record, lock_with_min, lock_with_ttl, marked_record, rollback_record};
 use crate::records::WriteBytes;
 use crate::spelling::{KeyBytes, VersionBytes};
 use std::alloc::Global;

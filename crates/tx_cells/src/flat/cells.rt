@@ -11,36 +11,12 @@ ghost use Rattle.tx_plan.specs.declared.view.LockHead.{LockHead};
 
 use super::FlatCells;
 use super::searches::{FlatHistory, head_on};
-use crate::copies::{KeyCopy, RecordAt};
-use crate::history::History;
+use crate::copies::{KeyCopy, records_down};
 use crate::spelling::VersionBytes;
 use std::alloc::Global;
 use std::collections::BTreeMap;
 use tx_plan::LockHead;
 use tx_types::{Fault, Items, Key, Ts, Value};
-
-/// The heads of the write records of a key, from the newest on.
-fn records_down<H: History>(alloc: Global, history: &mut H) -> Result<Items<RecordAt>, Fault>
-    requires { AreFitting (H.writes history.old) }
-    ensures fall { IfOk result (λ records. AreFalling (times_of records)) }
-    ensures all { IfOk result (λ records. (at : ℕ) (head : RecordHead) → Contains records (record { at = at; head = head }) ↔ (option_map write_head (H.writes history.old at) ≡ Some head)) }
-    ensures same_key { H.key history.new ≡ H.key history.old }
-    ensures err { IfErr result (λ e. e ≡ Fault.OutOfMemory) }
-{
-    let mut records = Items::new(alloc);
-    let mut bound = u64::MAX;
-    'records: loop {
-        let Some(entry) = history.upto(Ts::new(bound)) else {
-            return Ok(records);
-        };
-        let (at, head) = entry;
-        records.push(RecordAt { at, head })?;
-        if at.get() == 0 {
-            return Ok(records);
-        }
-        bound = at.get() - 1;
-    }
-}
 
 /// The start of the value nearest to a version of its key, at its timestamp or below.
 fn start_upto(values: &BTreeMap<VersionBytes, Value>, bound: &VersionBytes) -> Option<Ts>

@@ -12,8 +12,8 @@ ghost use Rattle.tx_cells.specs.Sieves.{is_followed, is_kept, writes_of, Outdate
 ghost use Rattle.tx_cells.specs.Spelt.{version_cmp};
 
 use super::FlatCells;
-use super::searches::kind_of;
 use super::sieve::Sieve;
+use crate::heads::kind_of;
 use crate::records::WriteBytes;
 use crate::spelling::VersionBytes;
 use std::collections::BTreeMap;

@@ -6,7 +6,8 @@ ghost use Rattle.tx_cells.specs.Contents.{cells_of};
 ghost use Rattle.tx_cells.specs.Histories.{IsSeen};
 
 use super::FlatCells;
-use super::searches::{FlatHistory, head_on, newest_seen, seen_in};
+use super::searches::{FlatHistory, head_on, newest_seen};
+use crate::heads::seen_in;
 use crate::history::{Seen, seen_at};
 use crate::records::WriteBytes;
 use crate::spelling::VersionBytes;

@@ -1,76 +1,19 @@
 //! Look-ups in what is held under keys and versions. The versions of a key are from the newest to the oldest.
-ghost use Rattle.std.specs.Prelude.{◌≡◌, ◌≤◌, ℕ, Bool, None, Some, IfSome, IfNone, IsSome, IsTrue, option_map};
+ghost use Rattle.std.specs.Prelude.{◌≡◌, ◌≤◌, ℕ, None, Some, IfSome, IfNone, IsSome, IsTrue, option_map};
 ghost use Rattle.std.specs.BTreeMap as tree;
 ghost use Rattle.std.specs.Ordering.{nat_cmp};
 ghost use Rattle.std.specs.Cmp.Lexicographic.{slice_cmp};
 ghost use Rattle.tx_cells.specs.Spelt.{version_cmp};
-ghost use Rattle.tx_cells.specs.Heads.{write_head, lock_head, record_kind};
-ghost use Rattle.tx_cells.specs.Histories.{IsSeen, IsSeenKind, AreFitting};
-ghost use Rattle.tx_plan.specs.declared.view.RecordHead.TheVariants as head;
+ghost use Rattle.tx_cells.specs.Heads.{write_head, lock_head};
+ghost use Rattle.tx_cells.specs.Histories.{IsSeen, AreFitting};
 
+use crate::heads::{head_of, lock_head_of, seen_in};
 use crate::history::{History, Seen};
 use crate::records::{LockBytes, WriteBytes};
 use crate::spelling::{KeyBytes, VersionBytes};
 use std::collections::BTreeMap;
-use tx_plan::{LockHead, RecordHead, RecordKind};
-use tx_types::{LockKind, Ts};
-
-/// What is asked of a write record.
-pub(super) fn head_of(bytes: &WriteBytes) -> RecordHead
-    ensures { result ≡ write_head bytes.now }
-{
-    if bytes.is_rollback() {
-        return RecordHead::Rollback;
-    }
-    RecordHead::Commit {
-        kind: bytes.kind(),
-        start: bytes.start(),
-        overlapped_rollback: bytes.is_marked(),
-    }
-}
-
-/// What collection asks of a write record.
-pub(super) fn kind_of(bytes: &WriteBytes) -> RecordKind
-    ensures { result ≡ record_kind bytes.now }
-{
-    if bytes.is_rollback() {
-        return RecordKind {
-            puts: false,
-            is_seen: false,
-            has_long_value: false,
-        };
-    }
-    match bytes.kind() {
-        LockKind::Put => RecordKind {
-            puts: true,
-            is_seen: true,
-            has_long_value: bytes.keeps_value_apart(),
-        },
-        LockKind::Delete => RecordKind {
-            puts: false,
-            is_seen: true,
-            has_long_value: false,
-        },
-        LockKind::Lock => RecordKind {
-            puts: false,
-            is_seen: false,
-            has_long_value: false,
-        },
-    }
-}
-
-/// What is asked of a lock.
-pub(super) fn lock_head_of(bytes: &LockBytes) -> LockHead
-    ensures { result ≡ lock_head bytes.now }
-{
-    LockHead {
-        start: bytes.start(),
-        min: bytes.min(),
-        ttl: bytes.ttl(),
-        kind: bytes.kind(),
-        mode: bytes.mode(),
-    }
-}
+use tx_plan::{LockHead, RecordHead};
+use tx_types::Ts;
 
 /// What is asked of the lock on this key.
 pub(super) fn head_on(locks: &BTreeMap<KeyBytes, LockBytes>, key: &KeyBytes) -> Option<LockHead>
@@ -143,24 +86,6 @@ fn head_upto(
         return None;
     };
     Some((at, head_of(bytes)))
-}
-
-/// The record at a timestamp as reads see it, where it is a put or a delete.
-pub(super) fn seen_in(commit: Ts, bytes: &WriteBytes) -> Option<Seen>
-    ensures commit { IfSome result (λ seen. seen.commit ≡ commit) }
-    ensures kind { IfSome result (λ seen. IsSeenKind seen.kind × ((mark : Bool) × (write_head bytes.now ≡ head.Commit seen.kind seen.start mark))) }
-{
-    let RecordHead::Commit { kind, start, .. } = head_of(bytes) else {
-        return None;
-    };
-    if kind == LockKind::Lock {
-        return None;
-    }
-    Some(Seen {
-        commit,
-        start,
-        kind,
-    })
 }
 
 /// The record nearest to a version of its key, at its timestamp or below, where it is a put or a delete.

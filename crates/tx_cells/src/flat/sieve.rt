@@ -4,8 +4,8 @@ ghost use Rattle.tx_codec.specs.Keys.{encoded_key};
 ghost use Rattle.tx_cells.specs.Heads.{record_kind};
 ghost use Rattle.tx_cells.specs.Sieves.{is_followed, is_kept};
 
-use super::searches::kind_of;
 use crate::front::Front;
+use crate::heads::kind_of;
 use crate::records::WriteBytes;
 use crate::spelling::VersionBytes;
 use tx_types::Ts;

@@ -12,7 +12,7 @@ ghost use Rattle.tx_cells.specs.Places.{coming, first_of, next_key, comes_before
 
 use super::FlatCells;
 use super::next_key::{Record, next_front};
-use super::searches::lock_head_of;
+use crate::heads::lock_head_of;
 use crate::records::{LockBytes, WriteBytes};
 use crate::spelling::{KeyBytes, VersionBytes};
 use std::alloc::Global;

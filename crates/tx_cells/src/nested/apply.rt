@@ -5,27 +5,25 @@ ghost use Rattle.std.specs.Ordering.{nat_cmp};
 ghost use Rattle.tx_plan.specs.Changes.{Applies, SomeLock, RaisesMinimum, CommitsAt, changed};
 ghost use Rattle.tx_plan.specs.declared.key_change.KeyChange.TheVariants as change;
 ghost use Rattle.tx_cells.specs.Contents.{cells_of};
-ghost use Rattle.tx_cells.specs.Afterwards.{OnlyOn, after, after_left, marked};
+ghost use Rattle.tx_cells.specs.Afterwards.{OnlyOn, after, after_left};
 
 use super::NestedCells;
 use super::key::KeyFamilies;
-use crate::putting::commit_record;
+use crate::derived::{commit_record, lock_with_min, lock_with_ttl, marked_record, rollback_record};
+use crate::records::WriteBytes;
+use crate::spelling::KeyBytes;
 use std::alloc::Global;
-use std::collections::BTreeMap;
 use tx_plan::{KeyChange, Left};
-use tx_types::{Fault, Key, Ts, WriteRec};
-
-/// Marks a commit record.
-fn mark(rec: &mut WriteRec)
-    ensures { Some rec.new ≡ marked (Some rec.old) }
-{
-    if let WriteRec::Commit(rec) = rec {
-        rec.overlapped_rollback = true;
-    }
-}
+use tx_timeline::Timeline;
+use tx_types::{Fault, Key, Ts};
 
 /// Leaves the rollback of the transaction that started then. `OutOfMemory` leaves the records as they were.
-fn leave(writes: &mut BTreeMap<Ts, WriteRec>, start: Ts, left: Left) -> Result<(), Fault>
+fn leave(
+    writes: &mut Timeline<WriteBytes>,
+    alloc: Global,
+    start: Ts,
+    left: Left,
+) -> Result<(), Fault>
     ensures ok { OnOk result ((q : ℕ) → tree.get nat_cmp writes.new q ≡ after_left (tree.get nat_cmp writes.old) start left q) }
     ensures same { OnErr result (writes.new.entries ≡ writes.old.entries) }
     ensures err { IfErr result (λ e. e ≡ Fault.OutOfMemory) }
@@ -33,13 +31,16 @@ fn leave(writes: &mut BTreeMap<Ts, WriteRec>, start: Ts, left: Left) -> Result<(
     match left {
         Left::Already => Ok(()),
         Left::Record => {
-            writes.insert(start, WriteRec::Rollback(start))?;
+            let rec = rollback_record(alloc, start)?;
+            writes.insert(start, rec)?;
             Ok(())
         }
         Left::Mark => {
-            if let Some(rec) = writes.get_mut(&start) {
-                mark(rec);
-            }
+            let rec = match writes.get(start) {
+                Some(bytes) => marked_record(alloc, bytes)?,
+                None => return Ok(()),
+            };
+            writes.insert(start, rec)?;
             Ok(())
         }
     }
@@ -49,27 +50,37 @@ impl KeyFamilies {
     ghost use Rattle.tx_cells.specs.Nested.{held};
 
     // Gives the lock another time to live.
-    fn set_ttl(&mut self, ttl: u32)
+    fn set_ttl(&mut self, alloc: Global, ttl: u32) -> Result<(), Fault>
         requires { SomeLock (cells_of (held self.old)).lock }
-        ensures { held self.new ≡ after (held self.old) (change.Ttl ttl) }
+        ensures ok { OnOk result (held self.new ≡ after (held self.old) (change.Ttl ttl)) }
+        ensures same { OnErr result (held self.new ≡ held self.old) }
+        ensures err { IfErr result (λ e. e ≡ Fault.OutOfMemory) }
     {
-        if let Some(lock) = &mut self.lock {
-            lock.ttl = ttl;
-        }
+        let Some(lock) = &self.lock else {
+            return Ok(());
+        };
+        let rec = lock_with_ttl(alloc, lock, ttl)?;
+        self.lock = Some(rec);
+        Ok(())
     }
 
     // Gives the lock another minimum.
-    fn set_minimum(&mut self, min: Ts)
+    fn set_minimum(&mut self, alloc: Global, min: Ts) -> Result<(), Fault>
         requires { RaisesMinimum (cells_of (held self.old)).lock min }
-        ensures { held self.new ≡ after (held self.old) (change.Minimum min) }
+        ensures ok { OnOk result (held self.new ≡ after (held self.old) (change.Minimum min)) }
+        ensures same { OnErr result (held self.new ≡ held self.old) }
+        ensures err { IfErr result (λ e. e ≡ Fault.OutOfMemory) }
     {
-        if let Some(lock) = &mut self.lock {
-            lock.min = min;
-        }
+        let Some(lock) = &self.lock else {
+            return Ok(());
+        };
+        let rec = lock_with_min(alloc, lock, min)?;
+        self.lock = Some(rec);
+        Ok(())
     }
 
     // Makes a commit record of the lock. `OutOfMemory` leaves the key as it was.
-    fn commit(&mut self, commit: Ts, overlapped_rollback: bool) -> Result<(), Fault>
+    fn commit(&mut self, alloc: Global, commit: Ts, overlapped_rollback: bool) -> Result<(), Fault>
         requires { CommitsAt (cells_of (held self.old)) commit overlapped_rollback }
         ensures ok { OnOk result (held self.new ≡ after (held self.old) (change.Commit commit overlapped_rollback)) }
         ensures same { OnErr result (held self.new ≡ held self.old) }
@@ -79,21 +90,27 @@ impl KeyFamilies {
         let Some(lock) = &self.lock else {
             return Ok(());
         };
-        let rec = commit_record(lock, overlapped_rollback)?;
-        self.writes.insert(commit, WriteRec::Commit(rec))?;
+        let rec = commit_record(alloc, lock, overlapped_rollback)?;
+        self.writes.insert(commit, rec)?;
         self.lock = None;
         Ok(())
     }
 
     // Rolls a transaction back. `OutOfMemory` leaves the key as it was.
-    fn roll_back(&mut self, start: Ts, removes_lock: bool, left: Left) -> Result<(), Fault>
+    fn roll_back(
+        &mut self,
+        alloc: Global,
+        start: Ts,
+        removes_lock: bool,
+        left: Left,
+    ) -> Result<(), Fault>
         requires { Applies (cells_of (held self.old)) (change.RollBack start removes_lock left) }
         ensures ok { OnOk result (held self.new ≡ after (held self.old) (change.RollBack start removes_lock left)) }
         ensures same { OnErr result (held self.new ≡ held self.old) }
         ensures err { IfErr result (λ e. e ≡ Fault.OutOfMemory) }
     {
         let _ticks = start.get();
-        leave(&mut self.writes, start, left)?;
+        leave(&mut self.writes, alloc, start, left)?;
         if !removes_lock {
             return Ok(());
         }
@@ -103,7 +120,7 @@ impl KeyFamilies {
     }
 
     // Makes a change. `OutOfMemory` leaves the key as it was.
-    fn apply(&mut self, change: KeyChange) -> Result<(), Fault>
+    fn apply(&mut self, alloc: Global, change: KeyChange) -> Result<(), Fault>
         requires { Applies (cells_of (held self.old)) change }
         ensures ok { OnOk result (held self.new ≡ after (held self.old) change) }
         ensures cells { OnOk result (cells_of (held self.new) ≡ changed (cells_of (held self.old)) change) }
@@ -113,23 +130,17 @@ impl KeyFamilies {
         match change {
             KeyChange::Nothing => Ok(()),
             KeyChange::Lock(_) => Ok(()),
-            KeyChange::Ttl(ttl) => {
-                self.set_ttl(ttl);
-                Ok(())
-            }
-            KeyChange::Minimum(min) => {
-                self.set_minimum(min);
-                Ok(())
-            }
+            KeyChange::Ttl(ttl) => self.set_ttl(alloc, ttl),
+            KeyChange::Minimum(min) => self.set_minimum(alloc, min),
             KeyChange::Commit {
                 commit,
                 overlapped_rollback,
-            } => self.commit(commit, overlapped_rollback),
+            } => self.commit(alloc, commit, overlapped_rollback),
             KeyChange::RollBack {
                 start,
                 removes_lock,
                 left,
-            } => self.roll_back(start, removes_lock, left),
+            } => self.roll_back(alloc, start, removes_lock, left),
         }
     }
 }
@@ -153,12 +164,12 @@ impl NestedCells {
         if let KeyChange::Nothing = change {
             return Ok(());
         }
-        if let Some(on_key) = self.keys.get_mut(key) {
-            return on_key.apply(change);
+        let key = KeyBytes::new(alloc, key)?;
+        if let Some(on_key) = self.keys.get_mut(&key) {
+            return on_key.apply(alloc, change);
         }
-        let key = key.clone()?;
         let mut on_key = KeyFamilies::new(alloc);
-        on_key.apply(change)?;
+        on_key.apply(alloc, change)?;
         self.keys.insert(key, on_key)?;
         Ok(())
     }

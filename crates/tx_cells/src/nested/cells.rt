@@ -3,32 +3,16 @@ ghost use Rattle.std.specs.Prelude.{◌≡◌, IfOk, IfErr};
 ghost use Rattle.std.specs.BTreeMap.{IsOrdered};
 ghost use Rattle.std.specs.Ordering.{nat_cmp};
 ghost use Rattle.tx_cells.specs.Contents.{cells_of};
-ghost use Rattle.tx_cells.specs.Copies.{Copies, records_down, starts_down};
+ghost use Rattle.tx_cells.specs.Copies.{Copies, starts_down};
 
 use super::NestedCells;
 use super::key::KeyFamilies;
-use crate::copies::{KeyCopy, RecordAt};
-use crate::heads::{head_of, head_on};
+use super::searches::NestedHistory;
+use crate::copies::{KeyCopy, records_down};
+use crate::spelling::KeyBytes;
 use std::alloc::Global;
 use std::collections::BTreeMap;
-use tx_types::{Fault, Items, Key, Ts, Value, WriteRec};
-
-/// The heads of the records, from the newest on.
-fn heads(alloc: Global, writes: &BTreeMap<Ts, WriteRec>) -> Result<Items<RecordAt>, Fault>
-    ensures ordered { IsOrdered nat_cmp writes.now }
-    ensures ok { IfOk result (λ heads. heads ≡ records_down writes.now.entries) }
-    ensures err { IfErr result (λ e. e ≡ Fault.OutOfMemory) }
-{
-    let mut heads = Items::new(alloc);
-    let mut entries = writes.iter();
-    'records: while let Some((at, rec)) = entries.next_back() {
-        heads.push(RecordAt {
-            at: *at,
-            head: head_of(rec),
-        })?;
-    }
-    Ok(heads)
-}
+use tx_types::{Fault, Items, Key, Ts, Value};
 
 /// The starts of the values, from the newest on.
 fn starts(alloc: Global, values: &BTreeMap<Ts, Value>) -> Result<Items<Ts>, Fault>
@@ -52,8 +36,11 @@ impl KeyFamilies {
         ensures copies { IfOk result (λ copy. Copies (cells_of (held self.now)) copy) }
         ensures err { IfErr result (λ e. e ≡ Fault.OutOfMemory) }
     {
-        let lock = head_on(&self.lock);
-        let records = heads(alloc, &self.writes)?;
+        let lock = self.lock_head();
+        let mut history = NestedHistory {
+            writes: &self.writes,
+        };
+        let records = records_down(alloc, &mut history)?;
         let values = starts(alloc, &self.values)?;
         Ok(KeyCopy {
             lock,
@@ -71,7 +58,8 @@ impl NestedCells {
         ensures copies { IfOk result (λ copy. Copies (cells_of (nested_content self.now key.now)) copy) }
         ensures err { IfErr result (λ e. e ≡ Fault.OutOfMemory) }
     {
-        match self.keys.get(key) {
+        let spelt = KeyBytes::new(alloc, key)?;
+        match self.keys.get(&spelt) {
             Some(on_key) => on_key.copy(alloc),
             None => Ok(KeyCopy {
                 lock: None,

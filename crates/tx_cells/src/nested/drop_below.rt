@@ -1,45 +1,54 @@
 //! Records that go.
-ghost use Rattle.std.specs.Prelude.{◌≡◌, ◌==◌, ℕ, ◌≤◌, ◌<◌, Bool, true, false, cond, None, Some, IsSome, IfSome, IfNone, MatchOption};
+ghost use Rattle.std.specs.Prelude.{◌≡◌, ℕ, true, false, cond, None};
 ghost use Rattle.std.specs.BTreeMap as tree;
 ghost use Rattle.std.specs.Ordering.{nat_cmp};
 ghost use Rattle.tx_types.specs.declared.key.Key.{Key};
 ghost use Rattle.tx_plan.specs.cases.Collect.{kept};
+ghost use Rattle.tx_timeline.specs.Places.{goes_below};
 ghost use Rattle.tx_cells.specs.Contents.{cells_of, nothing_held};
 ghost use Rattle.tx_cells.specs.Afterwards.{Collected};
-ghost use Rattle.tx_cells.specs.Drops.{goes_below, ValuesGo, DropsValue};
+ghost use Rattle.tx_cells.specs.Drops.{ValuesGo, DropsValue};
 
 use super::NestedCells;
 use super::key::KeyFamilies;
-use crate::heads::keeps_apart;
+use crate::records::WriteBytes;
 use std::collections::BTreeMap;
 use tx_plan::KeyCollection;
-use tx_types::{Ts, Value, WriteRec};
+use tx_timeline::Timeline;
+use tx_types::{Ts, Value};
 
-/// The timestamp of the newest record below a timestamp.
-fn newest_below(writes: &BTreeMap<Ts, WriteRec>, below: Ts) -> Option<Ts>
-    ensures found { IfSome result (λ at. (at < below) × IsSome (tree.get nat_cmp writes.now at)) }
-    ensures newest { IfSome result (λ at. (q : ℕ) → at < q → q < below → tree.get nat_cmp writes.now q ≡ None) }
-    ensures none { IfNone result ((q : ℕ) → q < below → tree.get nat_cmp writes.now q ≡ None) }
+/// Drops the value that the record at a timestamp keeps apart.
+fn drop_value(writes: &Timeline<WriteBytes>, values: &mut BTreeMap<Ts, Value>, at: Ts)
+    ensures { DropsValue (tree.get nat_cmp writes.now at) (tree.get nat_cmp values.old) (tree.get nat_cmp values.new) }
 {
-    let (at, _) = writes.range(..below).next_back()?;
-    Some(*at)
-}
-
-/// Drops the record at a timestamp, and the value that it keeps apart.
-fn drop_at(writes: &mut BTreeMap<Ts, WriteRec>, values: &mut BTreeMap<Ts, Value>, at: Ts)
-    ensures writes { (q : ℕ) → tree.get nat_cmp writes.new q ≡ cond (at == q) None (tree.get nat_cmp writes.old q) }
-    ensures values { DropsValue (tree.get nat_cmp writes.old at) (tree.get nat_cmp values.old) (tree.get nat_cmp values.new) }
-{
-    if let Some(WriteRec::Commit(rec)) = writes.remove(&at) {
-        if keeps_apart(&rec.mutation) {
-            values.remove(&rec.start);
+    if let Some(bytes) = writes.get(at) {
+        if bytes.keeps_value_apart() {
+            values.remove(&bytes.start());
         }
     }
 }
 
-/// Drops all records below the safe point but the one that stays, if one does.
+/// Drops the values that the records below the safe point keep apart, but for the one that stays, if one does.
+fn drop_values(
+    writes: &Timeline<WriteBytes>,
+    values: &mut BTreeMap<Ts, Value>,
+    safe: Ts,
+    stay: Option<Ts>,
+)
+    ensures { ValuesGo (tree.get nat_cmp writes.now) (goes_below safe stay) (tree.get nat_cmp values.old) (tree.get nat_cmp values.new) }
+{
+    let mut below = safe;
+    'records: while let Some(at) = writes.below(below) {
+        if stay != Some(at) {
+            drop_value(writes, values, at);
+        }
+        below = at;
+    }
+}
+
+/// Drops all records below the safe point but the one that stays, if one does, with the values that they keep apart.
 fn drop_records(
-    writes: &mut BTreeMap<Ts, WriteRec>,
+    writes: &mut Timeline<WriteBytes>,
     values: &mut BTreeMap<Ts, Value>,
     safe: Ts,
     stay: Option<Ts>,
@@ -47,13 +56,9 @@ fn drop_records(
     ensures writes { (q : ℕ) → tree.get nat_cmp writes.new q ≡ cond (goes_below safe stay q) None (tree.get nat_cmp writes.old q) }
     ensures values { ValuesGo (tree.get nat_cmp writes.old) (goes_below safe stay) (tree.get nat_cmp values.old) (tree.get nat_cmp values.new) }
 {
-    let mut below = safe;
-    'records: while let Some(at) = newest_below(writes, below) {
-        if stay != Some(at) {
-            drop_at(writes, values, at);
-        }
-        below = at;
-    }
+    let kept = stay;
+    drop_values(writes, values, safe, kept);
+    writes.keep_above(safe, stay);
 }
 
 impl KeyFamilies {

@@ -12,13 +12,11 @@ impl Families for NestedCells {
     ghost content = { nested_content };
 
     fn view(&self, alloc: Global, key: &Key, start: Ts, commit: Ts) -> Result<TxnView, Fault> {
-        let _ = alloc;
-        Ok(self.view_of(key, start, commit))
+        self.view_of(alloc, key, start, commit)
     }
 
     fn read(&self, alloc: Global, key: &Key, at: Ts) -> Result<ReadView, Fault> {
-        let _ = alloc;
-        self.read_of(key, at)
+        self.read_of(alloc, key, at)
     }
 
     fn lock_info(&self, alloc: Global, key: &Key) -> Result<Option<LockInfo>, Fault> {

@@ -3,16 +3,18 @@ ghost use Rattle.std.specs.BTreeMap as tree;
 ghost use Rattle.std.specs.Ordering.{nat_cmp};
 ghost use Rattle.tx_cells.specs.Contents.{OnKey, IsWhole};
 
+use crate::records::{LockBytes, WriteBytes};
 use std::alloc::Global;
 use std::collections::BTreeMap;
-use tx_types::{LockRec, Ts, Value, WriteRec};
+use tx_timeline::Timeline;
+use tx_types::{Ts, Value};
 
-/// The lock record of a key, its write records by timestamp, and its long values by the start of the transaction that put
-/// them.
+/// The lock record of a key, its write records by timestamp, which mostly come in that order, and its long values by the start of
+/// the transaction that put them.
 #[derive(Drop)]
 pub(crate) struct KeyFamilies {
-    pub lock: Option<LockRec>,
-    pub writes: BTreeMap<Ts, WriteRec>,
+    pub lock: Option<LockBytes>,
+    pub writes: Timeline<WriteBytes>,
     pub values: BTreeMap<Ts, Value>,
     ghost whole: { ∥ IsWhole (record { lock = lock; write = tree.get nat_cmp writes; value = tree.get nat_cmp values }) ∥₁ },
 }
@@ -28,7 +30,7 @@ impl KeyFamilies {
     {
         KeyFamilies {
             lock: None,
-            writes: BTreeMap::new(alloc),
+            writes: Timeline::new(alloc),
             values: BTreeMap::new(alloc),
         }
     }

@@ -5,6 +5,7 @@ ghost use Rattle.tx_cells.specs.Contents.{cells_of};
 
 use super::NestedCells;
 use super::key::KeyFamilies;
+use crate::spelling::KeyBytes;
 use std::alloc::Global;
 use tx_types::{Fault, Key, LockInfo};
 
@@ -17,7 +18,7 @@ impl KeyFamilies {
         ensures err { IfErr result (λ e. e ≡ Fault.OutOfMemory) }
     {
         match &self.lock {
-            Some(rec) => Ok(Some(rec.info(alloc, key)?)),
+            Some(bytes) => Ok(Some(bytes.read(alloc)?.info(alloc, key)?)),
             None => Ok(None),
         }
     }
@@ -31,7 +32,8 @@ impl NestedCells {
         ensures info { IfOk result (λ info. info ≡ info_on (cells_of (nested_content self.now key.now)) key.now) }
         ensures err { IfErr result (λ e. e ≡ Fault.OutOfMemory) }
     {
-        match self.keys.get(key) {
+        let spelt = KeyBytes::new(alloc, key)?;
+        match self.keys.get(&spelt) {
             Some(on_key) => on_key.lock_info(alloc, key),
             None => Ok(None),
         }

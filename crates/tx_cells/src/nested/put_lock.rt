@@ -6,7 +6,8 @@ ghost use Rattle.tx_cells.specs.Afterwards.{OnlyOn, put_on};
 
 use super::NestedCells;
 use super::key::KeyFamilies;
-use crate::putting::{apart, lock_record};
+use crate::putting::{apart, lock_bytes};
+use crate::spelling::KeyBytes;
 use std::alloc::Global;
 use tx_plan::{NewLock, Prewrite};
 use tx_types::Fault;
@@ -15,13 +16,13 @@ impl KeyFamilies {
     ghost use Rattle.tx_cells.specs.Nested.{held};
 
     // Puts the lock that a prewrite asks for. `OutOfMemory` leaves the key as it was.
-    fn put_lock(&mut self, body: &Prewrite, new: NewLock) -> Result<(), Fault>
+    fn put_lock(&mut self, alloc: Global, body: &Prewrite, new: NewLock) -> Result<(), Fault>
         requires { CanPut (cells_of (held self.old)) body.now new }
         ensures ok { OnOk result (held self.new ≡ put_on (held self.old) body.now new) }
         ensures same { OnErr result (held self.new ≡ held self.old) }
         ensures err { IfErr result (λ e. e ≡ Fault.OutOfMemory) }
     {
-        let rec = lock_record(body, new)?;
+        let rec = lock_bytes(alloc, body, new)?;
         match apart(&body.mutation)? {
             Some(value) => {
                 self.values.insert(body.start, value)?;
@@ -52,12 +53,12 @@ impl NestedCells {
         ensures same { OnErr result (nested_content self.new ≡ nested_content self.old) }
         ensures err { IfErr result (λ e. e ≡ Fault.OutOfMemory) }
     {
-        if let Some(on_key) = self.keys.get_mut(&body.key) {
-            return on_key.put_lock(body, new);
+        let key = KeyBytes::new(alloc, &body.key)?;
+        if let Some(on_key) = self.keys.get_mut(&key) {
+            return on_key.put_lock(alloc, body, new);
         }
-        let key = body.key.clone()?;
         let mut on_key = KeyFamilies::new(alloc);
-        on_key.put_lock(body, new)?;
+        on_key.put_lock(alloc, body, new)?;
         self.keys.insert(key, on_key)?;
         Ok(())
     }

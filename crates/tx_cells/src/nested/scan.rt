@@ -18,7 +18,7 @@ impl NestedCells {
         ensures answers { IfOk result (λ a. MeetsLock (cells_in (nested_content self.now)) body.now a ⊎ GivesRows (cells_in (nested_content self.now)) body.now a) }
         ensures err { IfErr result (λ e. e ≡ Fault.OutOfMemory) }
     {
-        scan_walk(alloc, self.reads_from(&body.from), body)
+        scan_walk(alloc, self.reads_from(alloc, &body.from)?, body)
     }
 
     /// What is told of the locks that started below a timestamp.

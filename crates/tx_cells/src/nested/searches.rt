@@ -6,34 +6,37 @@ ghost use Rattle.tx_cells.specs.Heads.{write_head};
 
 use crate::heads::head_of;
 use crate::history::History;
-use std::collections::BTreeMap;
+use crate::records::WriteBytes;
 use tx_plan::RecordHead;
-use tx_types::{Ts, WriteRec};
+use tx_timeline::Timeline;
+use tx_types::Ts;
 
 /// What is asked of the record at this timestamp.
-pub(super) fn head_at(writes: &BTreeMap<Ts, WriteRec>, at: Ts) -> Option<RecordHead>
+pub(super) fn head_at(writes: &Timeline<WriteBytes>, at: Ts) -> Option<RecordHead>
     ensures { result ≡ option_map write_head (tree.get nat_cmp writes.now at) }
 {
-    match writes.get(&at) {
-        Some(rec) => Some(head_of(rec)),
+    match writes.get(at) {
+        Some(bytes) => Some(head_of(bytes)),
         None => None,
     }
 }
 
 /// What is asked of the record nearest to the bound, at it or below.
-fn head_upto(writes: &BTreeMap<Ts, WriteRec>, bound: Ts) -> Option<(Ts, RecordHead)>
+fn head_upto(writes: &Timeline<WriteBytes>, bound: Ts) -> Option<(Ts, RecordHead)>
     ensures found { IfSome result (λ x. (x.0 ≤ bound) × (option_map write_head (tree.get nat_cmp writes.now x.0) ≡ Some x.1)) }
     ensures nearest { IfSome result (λ x. (q : ℕ) → q ≤ bound → IsSome (tree.get nat_cmp writes.now q) → q ≤ x.0) }
     ensures none { IfNone result ((q : ℕ) → q ≤ bound → tree.get nat_cmp writes.now q ≡ None) }
 {
-    let (at, rec) = writes.range(..=bound).next_back()?;
-    Some((*at, head_of(rec)))
+    let Some((at, bytes)) = writes.upto(bound) else {
+        return None;
+    };
+    Some((at, head_of(bytes)))
 }
 
 /// The write records of one key.
 #[derive(Drop)]
 pub(super) struct NestedHistory<'a> {
-    pub writes: &'a BTreeMap<Ts, WriteRec>,
+    pub writes: &'a Timeline<WriteBytes>,
 }
 
 impl<'a> History for NestedHistory<'a> {

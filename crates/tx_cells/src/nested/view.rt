@@ -1,16 +1,18 @@
 //! What a request sees of its key.
-ghost use Rattle.std.specs.Prelude.{◌≡◌, option_map};
-ghost use Rattle.tx_cells.specs.Heads.{lock_head};
+ghost use Rattle.std.specs.Prelude.{◌≡◌, ◌≤◌, ℕ, None, IsTrue, IfOk, IfErr, option_map};
 ghost use Rattle.tx_plan.specs.Views.{Shows};
 ghost use Rattle.tx_cells.specs.Contents.{cells_of, nothing_held};
+ghost use Rattle.tx_cells.specs.Heads.{lock_head};
 
 use super::NestedCells;
 use super::key::KeyFamilies;
 use super::searches::{NestedHistory, head_at};
-use crate::heads::head_on;
+use crate::heads::lock_head_of;
 use crate::history::{Above, commits_above};
+use crate::spelling::KeyBytes;
+use std::alloc::Global;
 use tx_plan::{LockHead, TxnView};
-use tx_types::{Key, Ts};
+use tx_types::{Fault, Key, Ts};
 
 /// What is seen of a key of which nothing is held.
 fn empty_view(start: Ts, commit: Ts) -> TxnView
@@ -33,14 +35,28 @@ impl KeyFamilies {
     pub(super) fn lock_head(&self) -> Option<LockHead>
         ensures { result ≡ option_map lock_head self.now.lock }
     {
-        head_on(&self.lock)
+        match &self.lock {
+            Some(bytes) => Some(lock_head_of(bytes)),
+            None => None,
+        }
     }
 
-    // What a request of the transaction that started then sees of the key, and of the record at `commit`.
-    fn view(&self, start: Ts, commit: Ts) -> TxnView
+    // Whether each record is older than a start and a commit.
+    fn is_past(&self, start: Ts, commit: Ts) -> bool
+        ensures start { IsTrue result → (q : ℕ) → start ≤ q → (held self.now).write q ≡ None }
+        ensures commit { IsTrue result → (q : ℕ) → commit ≤ q → (held self.now).write q ≡ None }
+    {
+        match self.writes.last() {
+            Some((at, _)) => at < start && at < commit,
+            None => true,
+        }
+    }
+
+    // What a request sees of the key, whose lock has this head, by its records.
+    fn view_by(&self, lock: Option<LockHead>, start: Ts, commit: Ts) -> TxnView
+        requires { lock ≡ option_map lock_head self.now.lock }
         ensures { Shows (cells_of (held self.now)) start commit result }
     {
-        let lock = head_on(&self.lock);
         let at_start = head_at(&self.writes, start);
         let at_commit = head_at(&self.writes, commit);
         let mut history = NestedHistory {
@@ -55,18 +71,44 @@ impl KeyFamilies {
             newest_above: newest,
         }
     }
+
+    // What a request of the transaction that started then sees of the key, and of the record at `commit`. Mostly all records are
+    // older.
+    fn view(&self, start: Ts, commit: Ts) -> TxnView
+        ensures { Shows (cells_of (held self.now)) start commit result }
+    {
+        let lock = self.lock_head();
+        if self.is_past(start, commit) {
+            return TxnView {
+                lock,
+                at_start: None,
+                at_commit: None,
+                own_commit: None,
+                newest_above: None,
+            };
+        }
+        self.view_by(lock, start, commit)
+    }
 }
 
 impl NestedCells {
     ghost use Rattle.tx_cells.specs.Nested.{nested_content};
 
     /// What a request of the transaction that started then sees of its key, and of the record at `commit`.
-    pub(crate) fn view_of(&self, key: &Key, start: Ts, commit: Ts) -> TxnView
-        ensures { Shows (cells_of (nested_content self.now key.now)) start commit result }
+    pub(crate) fn view_of(
+        &self,
+        alloc: Global,
+        key: &Key,
+        start: Ts,
+        commit: Ts,
+    ) -> Result<TxnView, Fault>
+        ensures shows { IfOk result (λ view. Shows (cells_of (nested_content self.now key.now)) start commit view) }
+        ensures err { IfErr result (λ e. e ≡ Fault.OutOfMemory) }
     {
-        match self.keys.get(key) {
-            Some(on_key) => on_key.view(start, commit),
-            None => empty_view(start, commit),
+        let spelt = KeyBytes::new(alloc, key)?;
+        match self.keys.get(&spelt) {
+            Some(on_key) => Ok(on_key.view(start, commit)),
+            None => Ok(empty_view(start, commit)),
         }
     }
 }

@@ -7,6 +7,7 @@ ghost use Rattle.tx_plan.specs.Walks.{KeyRow, LockRow, IsWalk, IsLockWalk};
 
 use super::NestedCells;
 use super::key::KeyFamilies;
+use crate::spelling::KeyBytes;
 use std::alloc::Global;
 use std::collections::btree_map::{Iter, Range};
 use tx_plan::{LockHead, LockWalk, ReadView, ReadWalk};
@@ -16,7 +17,7 @@ use tx_types::{Fault, Key, LockInfo, Ts};
 #[derive(Drop)]
 pub(crate) struct NestedReads<'a> {
     cells: &'a NestedCells,
-    keys: Range<'a, Key, KeyFamilies>,
+    keys: Range<'a, KeyBytes, KeyFamilies>,
 }
 
 impl<'a> ReadWalk for NestedReads<'a> {
@@ -28,12 +29,11 @@ impl<'a> ReadWalk for NestedReads<'a> {
     ghost rest = { λ w. key_rows w.keys };
 
     fn next(&mut self, alloc: Global, at: Ts) -> Result<Option<(Key, ReadView)>, Fault> {
-        let _ = alloc;
         let Some((key, on_key)) = self.keys.next() else {
             return Ok(None);
         };
-        let view = on_key.read(at)?;
-        Ok(Some((key.clone()?, view)))
+        let view = on_key.read(alloc, at)?;
+        Ok(Some((key.read(alloc)?, view)))
     }
 
     fn lock_info(&self, alloc: Global, key: &Key) -> Result<Option<LockInfo>, Fault> {
@@ -45,7 +45,7 @@ impl<'a> ReadWalk for NestedReads<'a> {
 #[derive(Drop)]
 pub(crate) struct NestedLocks<'a> {
     cells: &'a NestedCells,
-    keys: Iter<'a, Key, KeyFamilies>,
+    keys: Iter<'a, KeyBytes, KeyFamilies>,
 }
 
 impl<'a> LockWalk for NestedLocks<'a> {
@@ -57,10 +57,9 @@ impl<'a> LockWalk for NestedLocks<'a> {
     ghost rest = { λ w. lock_rows w.keys };
 
     fn next(&mut self, alloc: Global) -> Result<Option<(Key, LockHead)>, Fault> {
-        let _ = alloc;
         'keys: while let Some((key, on_key)) = self.keys.next() {
             if let Some(head) = on_key.lock_head() {
-                return Ok(Some((key.clone()?, head)));
+                return Ok(Some((key.read(alloc)?, head)));
             }
         }
         Ok(None)
@@ -76,14 +75,16 @@ impl NestedCells {
     ghost use Rattle.tx_cells.specs.Nested.{nested_content, key_rows, lock_rows};
 
     /// A walk over the keys from this one on.
-    pub(super) fn reads_from(&self, from: &Key) -> NestedReads<'_>
-        ensures same { result.cells.now ≡ self.now }
-        ensures walk { IsWalk (cells_in (nested_content self.now)) (key_le from.now) (key_rows result.keys) }
+    pub(super) fn reads_from(&self, alloc: Global, from: &Key) -> Result<NestedReads<'_>, Fault>
+        ensures same { IfOk result (λ walk. walk.cells.now ≡ self.now) }
+        ensures walk { IfOk result (λ walk. IsWalk (cells_in (nested_content self.now)) (key_le from.now) (key_rows walk.keys)) }
+        ensures err { IfErr result (λ e. e ≡ Fault.OutOfMemory) }
     {
-        NestedReads {
+        let from = KeyBytes::new(alloc, from)?;
+        Ok(NestedReads {
             cells: self,
-            keys: self.keys.range(from..),
-        }
+            keys: self.keys.range(&from..),
+        })
     }
 
     /// A walk over all locks.

@@ -1,11 +1,9 @@
-use Rattle.std.proofs.Common.{◌≡◌, ℕ, List, Option, Some, None, ap, sym, subst, ◌∙◌, refl}
+use Rattle.std.proofs.Common.{ap, sym, subst, ◌∙◌, refl}
 use Rattle.std.specs.BTreeMap as tree
 use Rattle.std.specs.Ordering.{nat_cmp}
 use Rattle.std.specs.Cmp.Lexicographic.{slice_cmp}
-use Rattle.tx_types.specs.declared.value.Value.{Value}
-use Rattle.tx_types.specs.declared.lock.LockRec.{LockRec}
-use Rattle.tx_cells.specs.Contents.{IsWhole, cells_of}
-use Rattle.tx_cells.specs.Afterwards.{OnlyOn, put_on}
+use Rattle.tx_cells.specs.Contents.{cells_of}
+use Rattle.tx_cells.specs.Afterwards.{put_on}
 use Rattle.tx_cells.specs.Spelt.{version_cmp}
 use Rattle.tx_cells.specs.Flats.{flat_content}
 use Rattle.tx_cells.proofs.Facts.{whole_at}

@@ -1,4 +1,4 @@
-use Rattle.std.proofs.Common.{◌≡◌, ℕ, ◌≤◌, sym, ap, ◌∙◌, subst}
+use Rattle.std.proofs.Common.{◌≡◌, ◌≤◌, sym, ap, ◌∙◌, subst}
 use Rattle.std.specs.BTreeMap as tree
 use Rattle.tx_cells.specs.Ceilings.{ceiling_of}
 use Rattle.tx_cells.specs.Spelt.{version_cmp}

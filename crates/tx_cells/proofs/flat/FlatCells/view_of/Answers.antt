@@ -1,4 +1,4 @@
-use Rattle.std.proofs.Common.{◌≡◌, ℕ, List, None, ap, subst, ◌∙◌}
+use Rattle.std.proofs.Common.{◌≡◌, ℕ, List, ap, subst, ◌∙◌}
 use Rattle.std.specs.Prelude.{option_map}
 use Rattle.std.specs.BTreeMap as tree
 use Rattle.std.specs.Ordering.{nat_cmp}
@@ -6,9 +6,7 @@ use Rattle.std.specs.Cmp.Lexicographic.{slice_cmp}
 use Rattle.tx_plan.specs.Views.{Shows}
 use Rattle.tx_cells.specs.Contents.{cells_of}
 use Rattle.tx_cells.specs.Heads.{lock_head}
-use Rattle.tx_cells.specs.Spelt.{version_cmp}
 use Rattle.tx_cells.specs.Flats.{flat_content}
-use Rattle.tx_cells.specs.Histories.{Records}
 use Rattle.tx_cells.proofs.Facts.{dated, whole_at}
 use Rattle.tx_cells.proofs.Showing.{shown_past}
 use Rattle.tx_cells.proofs.flat.FlatCells.view_of.Goals as goal

@@ -1,4 +1,7 @@
-use Rattle.std.proofs.Common.{None, Option, refl, subst}
+use Rattle.std.proofs.Common.{None, Option, refl, subst, ap, ◌∙◌}
+use Rattle.std.specs.BTreeMap as tree
+use Rattle.std.specs.Ordering.{nat_cmp}
+use Rattle.std.specs.Cmp.Lexicographic.{slice_cmp}
 use Rattle.tx_cells.specs.declared.nested.key.KeyFamilies.{KeyFamilies}
 use Rattle.tx_cells.specs.declared.copies.KeyCopy.{KeyCopy}
 use Rattle.tx_cells.specs.Contents.{cells_of}
@@ -7,7 +10,7 @@ use Rattle.tx_cells.specs.Nested.{held_on}
 use Rattle.tx_cells.proofs.Copied.{copied_none}
 use Rattle.tx_cells.proofs.nested.NestedCells.copy_of.Goals as goal
 
-pub returns-in-None-clause-copies : goal.returns-in-None-clause-copies
-returns-in-None-clause-copies c =
-    let copy : KeyCopy = record { lock = None; records = c.new.result; values = c.new-in-None.result } in
-    subst (λ (o : Option KeyFamilies). Copies (cells_of (held_on o)) copy) c.in-None.ensures.value (copied_none copy refl c.new.ensures c.new-in-None.ensures)
+pub returns-clause-copies : goal.returns-clause-copies
+returns-clause-copies c =
+    let copy : KeyCopy = record { lock = None; records = c.new-in-None.result; values = c.new-in-None-2.result } in
+    subst (λ (o : Option KeyFamilies). Copies (cells_of (held_on o)) copy) (c.in-None.ensures.value ∙ ap (tree.get (slice_cmp nat_cmp) c.args.self.now.keys) c.in_ok-spelt.ensures) (copied_none copy refl c.new-in-None.ensures c.new-in-None-2.ensures)

@@ -4,10 +4,12 @@ use Rattle.tx_cells.proofs.Facts.{cells_made, on_ok}
 use Rattle.tx_cells.proofs.nested.key.KeyFamilies.apply.Goals as goal
 
 pub returns-in-Ttl-clause-cells : goal.returns-in-Ttl-clause-cells
-returns-in-Ttl-clause-cells c = cells_made (held c.args.self.now) (held c.set_ttl.new.self) c.args.change (change.Ttl c.in-Ttl.ttl) c.args.self.now.whole c.requires c.in-Ttl.is c.set_ttl.ensures
+returns-in-Ttl-clause-cells c =
+    on_ok c.set_ttl.result _ _ (cells_made (held c.args.self.now) (held c.set_ttl.new.self) c.args.change (change.Ttl c.in-Ttl.ttl) c.args.self.now.whole c.requires c.in-Ttl.is) c.set_ttl.ensures.ok
 
 pub returns-in-Minimum-clause-cells : goal.returns-in-Minimum-clause-cells
-returns-in-Minimum-clause-cells c = cells_made (held c.args.self.now) (held c.set_minimum.new.self) c.args.change (change.Minimum c.in-Minimum.min) c.args.self.now.whole c.requires c.in-Minimum.is c.set_minimum.ensures
+returns-in-Minimum-clause-cells c =
+    on_ok c.set_minimum.result _ _ (cells_made (held c.args.self.now) (held c.set_minimum.new.self) c.args.change (change.Minimum c.in-Minimum.min) c.args.self.now.whole c.requires c.in-Minimum.is) c.set_minimum.ensures.ok
 
 pub returns-in-Commit-clause-cells : goal.returns-in-Commit-clause-cells
 returns-in-Commit-clause-cells c =

@@ -1,13 +1,9 @@
 use Rattle.tx_cells.specs.Nested.{held}
-use Rattle.tx_cells.proofs.Facts.{dated, fitting}
-use Rattle.tx_cells.proofs.Showing.{shown}
+use Rattle.tx_cells.proofs.Facts.{dated}
+use Rattle.tx_cells.proofs.Showing.{shown_past}
 use Rattle.tx_cells.proofs.nested.key.KeyFamilies.view.Goals as goal
 
-pub commits_above-own_commit-requires-clause-dated : goal.commits_above-own_commit-requires-clause-dated
-commits_above-own_commit-requires-clause-dated c = dated (held c.args.self.now) c.args.self.now.whole
-
-pub commits_above-own_commit-requires-clause-fitting : goal.commits_above-own_commit-requires-clause-fitting
-commits_above-own_commit-requires-clause-fitting c = fitting (held c.args.self.now) c.args.self.now.whole
-
-pub returns : goal.returns
-returns c = shown (held c.args.self.now) c.args.start c.args.commit _ c.head_on-lock.ensures c.head_at-at_start.ensures c.head_at-at_commit.ensures c.commits_above-own_commit.ensures.own c.commits_above-own_commit.ensures.newest
+pub returns-then-is_past : goal.returns-then-is_past
+returns-then-is_past c =
+    let x = held c.args.self.now in
+    shown_past x c.args.start c.args.commit c.lock_head-lock.result (dated x c.args.self.now.whole) (c.is_past.ensures.start c.if-is_past.true) (c.is_past.ensures.commit c.if-is_past.true) c.lock_head-lock.ensures

@@ -1,0 +1,5 @@
+//! What a timeline holds after each of its calls.
+#![tactic(auto)]
+
+#[cfg(test)]
+mod tests;
