@@ -51,23 +51,23 @@ const TRACES: [&str; 3] = [
 #[derive(Clone, Copy, Debug)]
 enum Kind {
     Script,
-    /// A script over nested maps, in place of the flat ones that scripts are played on.
-    Nested,
+    /// A script over flat maps, in place of the nested ones that scripts are played on.
+    Flat,
     /// A script with its check.
     Checked,
-    /// The same over nested maps.
-    CheckedNested,
+    /// The same over flat maps.
+    CheckedFlat,
     Trace,
 }
 
-fn nested(alloc: Global, text: &[u8], written: &mut Vec<u8>) -> bool {
+fn flat(alloc: Global, text: &[u8], written: &mut Vec<u8>) -> bool {
     let mut reader = text;
-    simulate_with::<NestedCells, _, _>(alloc, &mut reader, written).is_ok()
+    simulate_with::<FlatCells, _, _>(alloc, &mut reader, written).is_ok()
 }
 
-fn checked_nested(alloc: Global, text: &[u8], written: &mut Vec<u8>) -> bool {
+fn checked_flat(alloc: Global, text: &[u8], written: &mut Vec<u8>) -> bool {
     let mut reader = text;
-    simulate_checked_with::<NestedCells, _, _>(alloc, &mut reader, written).is_ok()
+    simulate_checked_with::<FlatCells, _, _>(alloc, &mut reader, written).is_ok()
 }
 
 impl Kind {
@@ -76,9 +76,9 @@ impl Kind {
         let mut reader = text;
         match self {
             Kind::Script => simulate(rt.alloc(), &mut reader, written).is_ok(),
-            Kind::Nested => nested(rt.alloc(), text, written),
+            Kind::Flat => flat(rt.alloc(), text, written),
             Kind::Checked => simulate_checked(rt.alloc(), &mut reader, written).is_ok(),
-            Kind::CheckedNested => checked_nested(rt.alloc(), text, written),
+            Kind::CheckedFlat => checked_flat(rt.alloc(), text, written),
             Kind::Trace => check(rt.alloc(), &mut reader, written).is_ok(),
         }
     }
@@ -103,7 +103,7 @@ where
     let path = format!(in rt.alloc(); "{name}.out")?;
     let shown = fs::read(rt, path)?;
     let mut written = Vec::new(rt.alloc());
-    let ended = run_script::<FlatCells, _, _, _, _, _>(
+    let ended = run_script::<NestedCells, _, _, _, _, _>(
         rt,
         rt.alloc(),
         Settings::new(2),
@@ -125,7 +125,7 @@ fn verdict(is_shown: bool) -> &'static str {
 
 fn main(rt: HostRuntime) -> Result<()> {
     for name in SCRIPTS {
-        let shown = is_shown(&rt, name, Kind::Script)? && is_shown(&rt, name, Kind::Nested)?;
+        let shown = is_shown(&rt, name, Kind::Script)? && is_shown(&rt, name, Kind::Flat)?;
         println!(rt; "{name}: {}", verdict(shown))?;
     }
     for name in RUNS {
@@ -136,13 +136,13 @@ fn main(rt: HostRuntime) -> Result<()> {
         let shown = is_shown(&rt, name, Kind::Trace)?;
         println!(rt; "{name}: {}", verdict(shown))?;
     }
-    let flat = count_shown(&rt, "scripts.rows", Kind::Script)?;
+    let flat = count_shown(&rt, "scripts.rows", Kind::Flat)?;
     println!(rt; "scripts.rows, over flat maps: {flat} as shown")?;
-    let nested = count_shown(&rt, "scripts.rows", Kind::Nested)?;
+    let nested = count_shown(&rt, "scripts.rows", Kind::Script)?;
     println!(rt; "scripts.rows, over nested maps: {nested} as shown")?;
-    let checked = count_shown(&rt, "checked.rows", Kind::Checked)?;
+    let checked = count_shown(&rt, "checked.rows", Kind::CheckedFlat)?;
     println!(rt; "checked.rows, over flat maps: {checked} as shown")?;
-    let checked = count_shown(&rt, "checked.rows", Kind::CheckedNested)?;
+    let checked = count_shown(&rt, "checked.rows", Kind::Checked)?;
     println!(rt; "checked.rows, over nested maps: {checked} as shown")?;
     let traces = count_shown(&rt, "traces.rows", Kind::Trace)?;
     println!(rt; "traces.rows: {traces} as shown")?;

@@ -12,7 +12,7 @@ use crate::script::{check_over, simulate_over};
 use std::alloc::Global;
 use std::io::{BufRead, Write};
 use std::marker::Brand;
-use tx_cells::{Families, FlatCells, Fresh};
+use tx_cells::{Families, Fresh, NestedCells};
 use tx_journal::{Naming, Opened};
 use tx_lines::{Broken, End, Found, Parts, read_line};
 use tx_play::engine_of;
@@ -143,7 +143,7 @@ pub fn simulate<R: BufRead, W: Write>(
     ensures breaks { IfErr result (λ why. IfSome (R.remaining reader.old)
         (λ input. BreaksScript why input (W.contents writer.old) (W.contents writer.new))) }
 {
-    simulate_with::<FlatCells, R, W>(alloc, reader, writer)
+    simulate_with::<NestedCells, R, W>(alloc, reader, writer)
 }
 
 /// Plays and checks a script as `simulate_checked` does, over families of one's own choice, which begin with nothing.
@@ -179,5 +179,5 @@ pub fn simulate_checked<R: BufRead, W: Write>(
     ensures breaks { IfErr result (λ why. IfSome (R.remaining reader.old)
         (λ input. BreaksChecked why input (W.contents writer.old) (W.contents writer.new))) }
 {
-    simulate_checked_with::<FlatCells, R, W>(alloc, reader, writer)
+    simulate_checked_with::<NestedCells, R, W>(alloc, reader, writer)
 }
