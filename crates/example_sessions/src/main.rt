@@ -15,8 +15,8 @@ use std::marker::Brand;
 use std::sync::Wait;
 use story::tell;
 use table::head;
-use tx_cells::NestedCells;
 use tx_journal::{Naming, Opened, Seat};
+use tx_nested::NestedCells;
 use tx_store::Store;
 
 // The journal has its name here, and so have the seats, the store and the sessions.

@@ -1,13 +1,13 @@
 //! A store of two regions, and seats for two sessions.
 ghost use Rattle.std.specs.Prelude.{◌≡◌, ◌<◌, All, IfOk, length, vec_len};
 ghost use Rattle.tx_cells.specs.Contents.{nothing_held};
-ghost use Rattle.tx_cells.specs.Nested.{nested_content};
+ghost use Rattle.tx_nested.specs.Nested.{nested_content};
 ghost use Rattle.tx_journal.specs.Known.{AreRising};
 
 use anyhow::Result;
 use std::alloc::Global;
-use tx_cells::NestedCells;
 use tx_journal::{Naming, Opened, Seat};
+use tx_nested::NestedCells;
 use tx_store::Store;
 use tx_types::Key;
 

@@ -3,9 +3,9 @@ use crate::table::{line, line_at, line_ended, line_read, line_sent};
 use anyhow::{Context, Result};
 use std::alloc::Global;
 use std::sync::Wait;
-use tx_cells::NestedCells;
 use tx_client::{Session, Terms};
 use tx_journal::{Naming, Seat};
+use tx_nested::NestedCells;
 use tx_store::{Store, Wire};
 use tx_types::{Key, Mode, Value};
 

@@ -68,10 +68,7 @@ pub fn one_copy()
 {}
 
 /// The heads of the write records of a key, from the newest on.
-pub(crate) fn records_down<H: History>(
-    alloc: Global,
-    history: &mut H,
-) -> Result<Items<RecordAt>, Fault>
+pub fn records_down<H: History>(alloc: Global, history: &mut H) -> Result<Items<RecordAt>, Fault>
     requires { AreFitting (H.writes history.old) }
     ensures fall { IfOk result (λ records. AreFalling (times_of records)) }
     ensures all { IfOk result (λ records. (at : ℕ) (head : RecordHead) → Contains records (record { at = at; head = head }) ↔ (option_map write_head (H.writes history.old at) ≡ Some head)) }

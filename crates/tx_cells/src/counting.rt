@@ -4,7 +4,7 @@ ghost use Rattle.std.specs.Prelude.{◌≡◌, ◌+◌, IfOk, IfErr};
 use tx_types::Fault;
 
 /// The sum. `OutOfMemory` where a number does not hold it.
-pub(crate) fn sum(a: u64, b: u64) -> Result<u64, Fault>
+pub fn sum(a: u64, b: u64) -> Result<u64, Fault>
     ensures ok { IfOk result (λ n. n ≡ a + b) }
     ensures err { IfErr result (λ e. e ≡ Fault.OutOfMemory) }
 {

@@ -1,10 +1,5 @@
 //! Families of a region in which nothing happened.
-ghost use Rattle.std.specs.Prelude.{◌≡◌};
-ghost use Rattle.tx_cells.specs.Contents.{nothing_held};
-
 use crate::families::Families;
-use crate::flat::FlatCells;
-use crate::nested::NestedCells;
 use std::alloc::Global;
 
 /// Families that one can begin with.
@@ -15,16 +10,4 @@ pub trait Fresh: Families + Drop {
     /// Families that hold nothing. It takes no memory.
     fn fresh(alloc: Global) -> Self
         ensures { Self.content result ≡ (λ k. nothing_held) };
-}
-
-impl Fresh for NestedCells {
-    fn fresh(alloc: Global) -> NestedCells {
-        NestedCells::new(alloc)
-    }
-}
-
-impl Fresh for FlatCells {
-    fn fresh(alloc: Global) -> FlatCells {
-        FlatCells::new(alloc)
-    }
 }

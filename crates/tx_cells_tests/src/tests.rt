@@ -7,7 +7,9 @@ mod steps;
 use scenarios::{LONG_VALUE, MARKS, PASSED, SCANS, SURVIVORS};
 use std::alloc::Global;
 use steps::{Step, goes, steps_that_go};
-use tx_cells::{Families, FlatCells, NestedCells};
+use tx_cells::Families;
+use tx_flat::FlatCells;
+use tx_nested::NestedCells;
 
 /// A name, and the steps.
 type Scenario = (&'static str, &'static [Step]);

@@ -1,14 +1,11 @@
 -- What is due of a session is allowed.
 use Rattle.std.proofs.Common.{◌≡◌, ◌≢◌, ℕ, ◌<◌, ◌&&◌, inl, inr, Bool, true, false, length, List, [], ◌∷◌, Option, Some, None, is_some, refl, sym, ap, subst, ◌∙◌, arith}
-use Rattle.std.proofs.lemmas.Bool.{and_parts}
 use Rattle.tx_types.specs.declared.key.Key.{Key}
 use Rattle.tx_types.specs.declared.mutation.Fate.{Fate}
 use Rattle.tx_types.specs.declared.mutation.Fate.TheVariants as fate
 use Rattle.tx_types.specs.declared.mutation.Mode.{Mode}
 use Rattle.tx_types.specs.declared.mutation.Mode.TheVariants.{TwoPhase, Async}
-use Rattle.tx_machine.specs.Keys.{mutation_at}
 use Rattle.tx_machine.specs.Machine.{Done}
-use Rattle.tx_plan.specs.declared.body.Body.{Body}
 use Rattle.tx_plan.specs.Answers.{start_in}
 use Rattle.tx_core.specs.declared.event.Outcome.TheVariants as outcome
 use Rattle.tx_core.specs.Histories.{History, declared}
@@ -18,14 +15,15 @@ use Rattle.tx_core.specs.Worlds.{MayAnswer, IsWorldRun}
 use Rattle.tx_core.proofs.Basics.{some_same}
 use Rattle.tx_core.proofs.runs.AllRuns.{run_told}
 use Rattle.tx_core.proofs.runs.Consequences.{told_fate, decided_declared}
-use Rattle.tx_client.specs.declared.state.Terms.{Terms}
-use Rattle.tx_client.specs.declared.state.Phase.{Phase}
-use Rattle.tx_client.specs.declared.state.Phase.TheVariants as phase
-use Rattle.tx_client.specs.declared.state.Due.{Due}
-use Rattle.tx_client.specs.Buffers.{Entries, not_empty, first_place}
-use Rattle.tx_client.specs.Sessions.{State, is_declared, has_primary, declaration_of, prewrite_of, prewrite_at, due_prewrite, commit_of, commit_at, commit_drawn, commit_by, commit_if, due_commit, rollback_of, rollback_at, check_of, check_at, abort_of, abort_open, abort_by, due_abort, heartbeat_of, outcome_of}
+use Rattle.tx_transaction.specs.declared.state.Terms.{Terms}
+use Rattle.tx_transaction.specs.declared.state.Phase.{Phase}
+use Rattle.tx_transaction.specs.declared.state.Phase.TheVariants as phase
+use Rattle.tx_transaction.specs.declared.state.Due.{Due}
+use Rattle.tx_transaction.specs.Buffers.{Entries, not_empty, first_place}
+use Rattle.tx_transaction.specs.Sessions.{State, has_primary, declaration_of, prewrite_of, prewrite_at, due_prewrite, commit_of, commit_at, commit_drawn, commit_by, commit_if, due_commit, rollback_of, rollback_at, check_of, check_at, abort_of, abort_open, abort_by, due_abort, heartbeat_of, outcome_of}
 use Rattle.tx_client.specs.Facts.{standing, IsSession, IsFor}
-use Rattle.tx_client.proofs.Entries.{first_within, mutation_there, first_there, others_listed}
+use Rattle.tx_transaction.proofs.Places.{some_entries}
+use Rattle.tx_transaction.proofs.Entries.{first_within, mutation_there, first_there, others_listed}
 
 -- ---- what a request of a phase names
 
@@ -48,10 +46,6 @@ pub standing_some : (t : ℕ) (es : Entries) (o : Option Terms) → standing t e
 standing_some t es None some = absurd (some refl)
 standing_some t [] (Some terms) some = absurd (some refl)
 standing_some t (e ∷ es) (Some terms) some = (terms, refl, refl, omega arith)
-
-pub some_entries : (es : Entries) → not_empty es ≡ true → 0 < length es
-some_entries [] e = absurd (cc (e))
-some_entries (x ∷ es) e = omega arith
 
 module _ (bounds : List Key) (h : History) (run : IsWorldRun bounds h) (i : ℕ) (s : State) (is : IsSession h i s) where
   -- what is known of a fate is decided

@@ -1,6 +1,5 @@
 -- A session's own events may come, and keep what holds of its state: its begin, its puts, its declaration, its draw, and its end.
-use Rattle.std.proofs.Common.{◌≡◌, ◌≢◌, ℕ, ◌+◌, ◌<◌, ◌==◌, ◌&&◌, ◌||◌, inl, inr, zero, suc, not, Bool, true, false, cond, List, [], ◌∷◌, ◌++◌, Option, Some, None, is_some as some_test, bytes_eq, refl, sym, ap, subst, ◌∙◌, arith}
-use Rattle.std.specs.Prelude.{Contains}
+use Rattle.std.proofs.Common.{◌≡◌, ◌≢◌, ℕ, ◌+◌, ◌==◌, ◌&&◌, ◌||◌, inl, inr, zero, suc, not, Bool, true, false, cond, List, [], ◌∷◌, Option, Some, None, is_some as some_test, bytes_eq, refl, sym, ap, subst, ◌∙◌, arith}
 use Rattle.std.proofs.lemmas.Bool.{and_parts}
 use Rattle.std.proofs.lemmas.List.Elements.{Contains-push_cases}
 use Rattle.tx_types.specs.declared.key.Key.{Key}
@@ -9,33 +8,30 @@ use Rattle.tx_types.specs.declared.mutation.Mutation.TheVariants as mutation
 use Rattle.tx_types.specs.declared.mutation.Fate.{Fate}
 use Rattle.tx_types.specs.declared.mutation.Fate.TheVariants as fate
 use Rattle.tx_machine.specs.Keys.{mutation_at, IsDistinct}
-use Rattle.tx_machine.specs.Machine.{Done}
 use Rattle.tx_core.specs.declared.event.Declaration.{Declaration}
 use Rattle.tx_core.specs.declared.event.Outcome.{Outcome}
 use Rattle.tx_core.specs.declared.event.Outcome.TheVariants as outcome
 use Rattle.tx_core.specs.declared.event.UnknownCause.{UnknownCause}
 use Rattle.tx_core.specs.declared.event.Event.TheVariants.{Drawn, Began, Declared, Answered}
-use Rattle.tx_core.specs.Histories.{History, last, drawer, began, declared, set_of, Begins}
-use Rattle.tx_core.specs.Decisions.{accepted, decided, HasTwoPhaseLock}
+use Rattle.tx_core.specs.Histories.{History, drawer, began, declared, set_of, Begins}
+use Rattle.tx_core.specs.Decisions.{accepted, HasTwoPhaseLock}
 use Rattle.tx_core.specs.Allowed.{MayPass}
 use Rattle.tx_core.specs.Worlds.{MayAnswer, IsWorldRun}
 use Rattle.tx_core.specs.Recording.{MayRecord, Extends}
-use Rattle.tx_core.specs.Laws.{HadAsyncLock}
-use Rattle.tx_core.proofs.Basics.{nat_same, key_same, key_test, some_of, is_some}
+use Rattle.tx_core.proofs.Basics.{nat_same, key_test, is_some}
 use Rattle.tx_core.proofs.seats.Beginnings.{begins_all, extends_begins}
 use Rattle.tx_core.proofs.seats.Staying.{drawer_on, drawer_new, began_new, began_drawn}
 use Rattle.tx_core.proofs.seats.Answering.{may_answer_on}
 use Rattle.tx_core.proofs.seats.Recording.{unbegun_on, may_declare, may_answer}
 use Rattle.tx_core.proofs.runs.Consequences.{undeclared, unanswered, accepted_upto}
 use Rattle.tx_journal.specs.Known.{HasRecorded, HasDrawn}
-use Rattle.tx_client.specs.declared.state.Terms.{Terms}
-use Rattle.tx_client.specs.declared.state.Phase.TheVariants as phase
-use Rattle.tx_client.specs.Buffers.{Entries, fresh, buffered, touched, locked, not_empty, changes_of, place_from, first_place, is_zero, has_two_phase_lock}
-use Rattle.tx_client.specs.Sessions.{State, begun, is_declared, has_primary, declaration_of, declaration, is_open, can_draw, with_passed, outcome_of, unknown_by, undecided, finish_by, finish_of}
+use Rattle.tx_transaction.specs.declared.state.Terms.{Terms}
+use Rattle.tx_transaction.specs.declared.state.Phase.TheVariants as phase
+use Rattle.tx_transaction.specs.Buffers.{Entries, fresh, buffered, touched, locked, not_empty, changes_of, place_from, first_place, is_zero, has_two_phase_lock}
+use Rattle.tx_transaction.specs.Sessions.{State, begun, is_declared, has_primary, declaration_of, declaration, is_open, can_draw, with_passed, outcome_of, unknown_by, undecided, finish_by, finish_of}
 use Rattle.tx_client.specs.Facts.{standing, Mark, Marks, IsReady, IsSession}
-use Rattle.tx_client.proofs.Entries.{distinct_touched}
+use Rattle.tx_transaction.proofs.Entries.{distinct_touched}
 use Rattle.tx_client.proofs.Kept.{marks_on, ready_on, read_on, told_of_on, others_act}
-use Rattle.tx_client.proofs.Due.{known_decided}
 
 -- ---- it begins
 

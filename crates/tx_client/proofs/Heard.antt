@@ -1,5 +1,5 @@
 -- What an answer to a session's request tells, its state may keep.
-use Rattle.std.proofs.Common.{◌≡◌, ◌≢◌, ℕ, inl, inr, zero, suc, true, List, [], ◌∷◌, Option, Some, None, refl, sym, ap, subst, ◌∙◌}
+use Rattle.std.proofs.Common.{◌≡◌, ℕ, inl, inr, zero, suc, true, List, [], ◌∷◌, Option, Some, None, refl, sym, ap, subst, ◌∙◌}
 use Rattle.std.specs.Prelude.{Contains}
 use Rattle.std.proofs.lemmas.List.Elements.{Contains-push}
 use Rattle.tx_types.specs.declared.key.Key.{Key}
@@ -16,17 +16,17 @@ use Rattle.tx_core.specs.Histories.{History, declared}
 use Rattle.tx_core.specs.Decisions.{fate_in, infos_in}
 use Rattle.tx_core.specs.Worlds.{WasTold, MayAnswer, IsWorldRun}
 use Rattle.tx_core.specs.Laws.{WasToldOf}
-use Rattle.tx_client.specs.declared.state.Terms.{Terms}
-use Rattle.tx_client.specs.declared.state.Phase.{Phase}
-use Rattle.tx_client.specs.declared.state.Phase.TheVariants as phase
-use Rattle.tx_client.specs.declared.state.Progress.{Progress}
-use Rattle.tx_client.specs.declared.state.Came.{Came}
-use Rattle.tx_client.specs.declared.state.Came.TheVariants as came
-use Rattle.tx_client.specs.declared.state.Due.{Due}
-use Rattle.tx_client.specs.Buffers.{Entries, changes_of, key_at, progress_at, with_progress, promised}
-use Rattle.tx_client.specs.Sessions.{State, first_settled, committed_by, met_by, drawn_after, sent_by, marked_by, marked, with_sent, missed, heard, after_came, after_read, prewrite_of, rollback_of, check_of, outcome_of}
+use Rattle.tx_transaction.specs.declared.state.Terms.{Terms}
+use Rattle.tx_transaction.specs.declared.state.Phase.{Phase}
+use Rattle.tx_transaction.specs.declared.state.Phase.TheVariants as phase
+use Rattle.tx_transaction.specs.declared.state.Progress.{Progress}
+use Rattle.tx_transaction.specs.declared.state.Came.{Came}
+use Rattle.tx_transaction.specs.declared.state.Came.TheVariants as came
+use Rattle.tx_transaction.specs.declared.state.Due.{Due}
+use Rattle.tx_transaction.specs.Buffers.{Entries, changes_of, key_at, progress_at, with_progress, promised}
+use Rattle.tx_transaction.specs.Sessions.{State, first_settled, committed_by, met_by, drawn_after, sent_by, marked_by, marked, missed, heard, after_came, after_read, outcome_of}
 use Rattle.tx_client.specs.Facts.{WasAnswered, CameSo, standing, Mark, Marks, IsSession, IsFor}
-use Rattle.tx_client.proofs.Entries.{changes_with, declaration_with}
+use Rattle.tx_transaction.proofs.Entries.{changes_with, declaration_with}
 use Rattle.tx_client.proofs.Due.{names_start}
 use Rattle.tx_client.proofs.Marking.{prewritten_mark, checked_mark, rolled_unlocked}
 use Rattle.tx_client.proofs.Promising.{promised_greatest}

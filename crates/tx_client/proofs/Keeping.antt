@@ -1,5 +1,5 @@
 -- The calls of a session that send leave what it writes as it is.
-use Rattle.std.proofs.Common.{◌≡◌, inl, inr, ℕ, zero, suc, Bool, true, false, List, [], ◌∷◌, Option, Some, None, Result, Ok, Err, refl, sym, ap, subst, ◌∙◌}
+use Rattle.std.proofs.Common.{◌≡◌, inl, inr, ℕ, zero, suc, Bool, true, false, List, [], ◌∷◌, Option, Some, None, Result, refl, sym, ap, subst}
 use Rattle.tx_types.specs.declared.key.Key.{Key}
 use Rattle.tx_types.specs.declared.mutation.Mutation.{Mutation}
 use Rattle.tx_types.specs.declared.mutation.Mutation.TheVariants as mutation
@@ -8,16 +8,17 @@ use Rattle.tx_plan.specs.declared.answer.Answer.TheVariants.{KeyIsLocked}
 use Rattle.tx_plan.specs.declared.body.Body.{Body}
 use Rattle.tx_journal.specs.Known.{Known}
 use Rattle.tx_journal.specs.Replies.{Asked}
-use Rattle.tx_client.specs.declared.state.Came.{Came}
-use Rattle.tx_client.specs.declared.state.Came.TheVariants.{Lost, Unsaid, Said}
-use Rattle.tx_client.specs.declared.state.Miss.{Miss}
-use Rattle.tx_client.specs.declared.state.Phase.{Phase}
-use Rattle.tx_client.specs.declared.state.Progress.{Progress}
-use Rattle.tx_client.specs.declared.state.Due.{Due}
-use Rattle.tx_client.specs.Buffers.{Entries, keys_of, with_progress, buffered}
-use Rattle.tx_client.specs.Sessions.{State, after_came, after_read, with_passed, read_of}
+use Rattle.tx_transaction.specs.declared.state.Came.{Came}
+use Rattle.tx_transaction.specs.declared.state.Came.TheVariants.{Lost, Unsaid, Said}
+use Rattle.tx_transaction.specs.declared.state.Miss.{Miss}
+use Rattle.tx_transaction.specs.declared.state.Phase.{Phase}
+use Rattle.tx_transaction.specs.declared.state.Progress.{Progress}
+use Rattle.tx_transaction.specs.declared.state.Due.{Due}
+use Rattle.tx_transaction.specs.Buffers.{Entries, keys_of, with_progress, buffered}
+use Rattle.tx_transaction.specs.Sessions.{State, after_came, after_read, with_passed, read_of}
 use Rattle.tx_client.specs.Senders.{Reached, came_of}
-use Rattle.tx_client.specs.Walks.{Walk, Sends, handed, returned, read, short, due_walk, look_walk, get_by, get_walk}
+use Rattle.tx_client.specs.Walks.{Sends, handed, due_walk, look_walk, get_by, get_walk}
+use Rattle.tx_transaction.specs.Returns.{returned, read}
 use Rattle.tx_client.specs.Calls.{KeepsSet}
 
 pub keeps_itself : (s : State) → KeepsSet s s

@@ -10,7 +10,7 @@ use Rattle.tx_core.specs.Recording.{Extends}
 use Rattle.tx_core.specs.Decisions.{accepted}
 use Rattle.tx_core.specs.Allowed.{AllowsRead}
 use Rattle.tx_core.specs.Worlds.{IsWorldRun}
-use Rattle.tx_core.specs.Laws.{WasToldOf, HadAsyncLock}
+use Rattle.tx_core.specs.Laws.{WasToldOf}
 use Rattle.tx_core.proofs.Basics.{some_of, is_some}
 use Rattle.tx_core.proofs.seats.Beginnings.{extends_begins}
 use Rattle.tx_core.proofs.seats.Staying.{drawer_on, began_on, declared_on, among_on, accepted_on}
@@ -19,9 +19,9 @@ use Rattle.tx_core.proofs.seats.StaysDecided.{two_phase_on, all_accepted_on, dre
 use Rattle.tx_core.proofs.seats.Answering.{may_answer_on}
 use Rattle.tx_core.proofs.seats.Recording.{undeclared_on, unanswered_on}
 use Rattle.tx_core.proofs.locks.ToldLocks.{is_lock_on}
-use Rattle.tx_client.specs.Buffers.{Entries}
-use Rattle.tx_client.specs.Sessions.{State, outcome_of}
-use Rattle.tx_client.specs.Facts.{standing, HasFallenBack, Mark, Marks, IsReady, IsSession}
+use Rattle.tx_transaction.specs.Buffers.{Entries}
+use Rattle.tx_transaction.specs.Sessions.{State, outcome_of}
+use Rattle.tx_client.specs.Facts.{standing, Mark, Marks, IsReady, IsSession}
 
 accepted_still : (l h : History) → Begins l h → (t : ℕ) (k : Key) → accepted l t k ≢ None → accepted h t k ≢ None
 accepted_still l h b t k some = (let by = some_of (accepted l t k) some in is_some (accepted h t k) by.0 (accepted_on l h b t k by.0 by.1))

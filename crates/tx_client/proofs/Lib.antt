@@ -1,9 +1,3 @@
--- The buffer by places.
-pub mod Places
--- Keys that are looked up in a buffer.
-pub mod Finding
--- The buffer by places: what it declares, and what stands in it.
-pub mod Entries
 -- What holds of a session's state stays so while others act.
 pub mod Kept
 -- What is due of a session is allowed.
@@ -24,4 +18,5 @@ pub mod Looking
 pub mod Routing
 -- A scan is its regions' parts in order.
 pub mod Scanning
+-- The calls of a session that send leave what it writes as it is.
 pub mod Keeping

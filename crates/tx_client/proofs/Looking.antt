@@ -1,17 +1,18 @@
 -- What a send comes to is what its walk says.
-use Rattle.std.proofs.Common.{◌≡◌, inl, inr, List, Option, Some, None, Ok, Err, Result, refl, sym, ap, subst, ◌∙◌}
+use Rattle.std.proofs.Common.{◌≡◌, inl, inr, List, Result, refl, sym, subst}
 use Rattle.tx_types.specs.declared.key.Key.{Key}
 use Rattle.tx_plan.specs.declared.body.Body.{Body}
 use Rattle.tx_plan.specs.declared.answer.Answer.{Answer}
 use Rattle.tx_plan.specs.declared.answer.Answer.TheVariants.{KeyIsLocked}
 use Rattle.tx_journal.specs.Known.{Known}
 use Rattle.tx_journal.specs.Replies.{Asked}
-use Rattle.tx_client.specs.declared.state.Came.{Came}
-use Rattle.tx_client.specs.declared.state.Came.TheVariants.{Lost, Unsaid, Said}
-use Rattle.tx_client.specs.declared.state.Miss.{Miss}
-use Rattle.tx_client.specs.Sessions.{State, after_read}
+use Rattle.tx_transaction.specs.declared.state.Came.{Came}
+use Rattle.tx_transaction.specs.declared.state.Came.TheVariants.{Said}
+use Rattle.tx_transaction.specs.declared.state.Miss.{Miss}
+use Rattle.tx_transaction.specs.Sessions.{State, after_read}
 use Rattle.tx_client.specs.Senders.{Reached, came_of}
-use Rattle.tx_client.specs.Walks.{Walk, asks, grows, ends, then_walk, Sends, handed, read, look_walk, ReadsAs}
+use Rattle.tx_client.specs.Walks.{Walk, asks, grows, ends, then_walk, Sends, handed, look_walk}
+use Rattle.tx_transaction.specs.Returns.{read, ReadsAs}
 use Rattle.tx_client.specs.Calls.{Asks}
 
 module _ {S : Type 0} (sends : S → Asked → Reached → S → Type 0) (bounds : List Key) where

@@ -1,5 +1,5 @@
 -- What an answer says of a key's lock is so.
-use Rattle.std.proofs.Common.{◌≡◌, ◌≢◌, ℕ, ◌<◌, ◌⊎◌, inl, inr, zero, suc, true, List, [], ◌∷◌, Option, Some, None, bytes_eq, refl, sym, ap, subst, ◌∙◌, arith}
+use Rattle.std.proofs.Common.{◌≡◌, ◌≢◌, ℕ, ◌⊎◌, inl, inr, zero, suc, List, [], ◌∷◌, Option, Some, None, refl, sym, ap, subst, ◌∙◌, arith}
 use Rattle.std.specs.Prelude.{Contains}
 use Rattle.std.proofs.lemmas.List.Elements.{Contains-push}
 use Rattle.tx_types.specs.declared.key.Key.{Key}
@@ -8,7 +8,6 @@ use Rattle.tx_types.specs.declared.mutation.Change.{Change}
 use Rattle.tx_types.specs.declared.mutation.Mode.{Mode}
 use Rattle.tx_types.specs.declared.mutation.Mode.TheVariants.{TwoPhase, Async}
 use Rattle.tx_machine.specs.Keys.{mutation_at}
-use Rattle.tx_plan.specs.declared.body.Body.{Body}
 use Rattle.tx_plan.specs.declared.body.Body.TheVariants as request
 use Rattle.tx_plan.specs.declared.body.Prewrite.{Prewrite}
 use Rattle.tx_plan.specs.declared.body.BatchRollback.{BatchRollback}
@@ -28,7 +27,7 @@ use Rattle.tx_core.proofs.view.View.{does_within}
 use Rattle.tx_core.proofs.runs.AllRuns.{run_told}
 use Rattle.tx_core.proofs.locks.AllAsync.{prewritten_lock}
 use Rattle.tx_core.proofs.locks.ToldLocks.{told_lock}
-use Rattle.tx_client.specs.Sessions.{minimum_in}
+use Rattle.tx_transaction.specs.Sessions.{minimum_in}
 use Rattle.tx_client.specs.Facts.{WasAnswered, Mark}
 
 mode_of : (m : Mode) → (m ≡ TwoPhase) ⊎ (m ≡ Async)

@@ -1,7 +1,6 @@
 -- Where each key of a buffer has an async lock, its transaction is committed at the greatest of their minimums.
-use Rattle.std.proofs.Common.{◌≡◌, ◌≢◌, ℕ, zero, suc, max, Bool, true, false, cond, List, [], ◌∷◌, Option, Some, None, bytes_eq, inl, inr, refl, sym, ap, subst, ◌∙◌, arith}
+use Rattle.std.proofs.Common.{◌≡◌, ◌≢◌, ℕ, zero, suc, max, false, cond, List, [], ◌∷◌, Option, Some, None, bytes_eq, inl, inr, refl, sym, ap, subst, ◌∙◌, arith}
 use Rattle.tx_types.specs.declared.key.Key.{Key}
-use Rattle.tx_types.specs.declared.mutation.Change.{Change}
 use Rattle.tx_machine.specs.Keys.{mutation_at, IsDistinct}
 use Rattle.tx_core.specs.Histories.{History, declared, set_of, set_at}
 use Rattle.tx_core.specs.Decisions.{accepted, greatest}
@@ -9,9 +8,9 @@ use Rattle.tx_core.specs.Worlds.{IsWorldRun}
 use Rattle.tx_core.specs.Laws.{HadAsyncLock, greatest_of}
 use Rattle.tx_core.proofs.Basics.{key_test, key_same, is_some}
 use Rattle.tx_core.proofs.locks.AllAsync.{all_async}
-use Rattle.tx_client.specs.declared.state.Entry.{Entry}
-use Rattle.tx_client.specs.declared.state.Terms.{Terms}
-use Rattle.tx_client.specs.Buffers.{Entries, changes_of, async_minimum, promised_from, promised}
+use Rattle.tx_transaction.specs.declared.state.Entry.{Entry}
+use Rattle.tx_transaction.specs.declared.state.Terms.{Terms}
+use Rattle.tx_transaction.specs.Buffers.{Entries, changes_of, async_minimum, promised_from, promised}
 use Rattle.tx_client.specs.Facts.{standing, Mark, Marks}
 use Rattle.tx_client.proofs.Due.{standing_some}
 

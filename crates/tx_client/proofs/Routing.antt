@@ -1,5 +1,5 @@
 -- Some region holds each part of a scan.
-use Rattle.std.proofs.Common.{◌≡◌, ◌≤◌, ◌<◌, ℕ, ◌+◌, ◌-◌, ◌&&◌, get_or, zero, suc, Bool, true, false, cond, List, [], ◌∷◌, length, inl, inr, refl, sym, ap, subst, ◌∙◌, arith}
+use Rattle.std.proofs.Common.{◌≡◌, ◌≤◌, ◌<◌, ℕ, ◌+◌, ◌-◌, get_or, zero, suc, Bool, true, false, cond, List, [], ◌∷◌, length, inl, inr, refl, sym, ap, subst, ◌∙◌, arith}
 use Rattle.std.specs.Prelude.{IsTrue, count_by}
 use Rattle.std.proofs.lemmas.Bool.{cases_Bool, and_parts}
 use Rattle.std.proofs.lemmas.List.Sums.{sum_by-cons}
@@ -7,7 +7,7 @@ use Rattle.tx_types.specs.declared.key.Key.{Key}
 use Rattle.tx_types.specs.Keys.{key_lt, key_le}
 use Rattle.tx_plan.proofs.KeyOrder.{lt_trans, lt_itself, lt_le, le_itself, le_cases, lt_then_le, not_lt}
 use Rattle.tx_journal.specs.Known.{AreRising}
-use Rattle.tx_client.specs.Sessions.{State, scan_of}
+use Rattle.tx_transaction.specs.Sessions.{State, scan_of}
 use Rattle.tx_client.specs.Senders.{IsHeld}
 use Rattle.tx_client.specs.Walks.{lesser, greater, low_of, high_of}
 

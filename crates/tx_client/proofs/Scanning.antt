@@ -1,5 +1,5 @@
 -- A scan is its regions' parts in order.
-use Rattle.std.proofs.Common.{◌≡◌, ◌≤◌, ◌<◌, ◌-◌, ◌+◌, ℕ, zero, suc, Bool, true, false, cond, inl, inr, List, [], ◌∷◌, length, Option, Some, None, Ok, Err, Result, refl, sym, ap, subst, ◌∙◌, arith}
+use Rattle.std.proofs.Common.{◌≡◌, ◌≤◌, ◌<◌, ◌-◌, ◌+◌, ℕ, zero, suc, Bool, true, false, cond, inl, inr, List, [], ◌∷◌, length, Some, None, Ok, Err, Result, refl, sym, ap, subst, ◌∙◌, arith}
 use Rattle.tx_types.specs.declared.key.Key.{Key}
 use Rattle.tx_types.specs.declared.mutation.KeyValue.{KeyValue}
 use Rattle.tx_plan.specs.declared.body.Body.{Body}
@@ -8,12 +8,12 @@ use Rattle.tx_plan.specs.declared.answer.Answer.TheVariants.{Rows}
 use Rattle.tx_types.specs.Keys.{key_lt}
 use Rattle.tx_journal.specs.Known.{Known}
 use Rattle.tx_journal.specs.Replies.{Asked}
-use Rattle.tx_client.specs.declared.state.Part.{Part}
-use Rattle.tx_client.specs.declared.state.Part.TheVariants.{More, Done}
-use Rattle.tx_client.specs.declared.state.Miss.{Miss}
-use Rattle.tx_client.specs.Sessions.{State, scan_of}
+use Rattle.tx_client.specs.declared.part.Part.{Part}
+use Rattle.tx_client.specs.declared.part.Part.TheVariants.{More, Done}
+use Rattle.tx_transaction.specs.declared.state.Miss.{Miss}
+use Rattle.tx_transaction.specs.Sessions.{State, scan_of}
 use Rattle.tx_client.specs.Senders.{Reached}
-use Rattle.tx_client.specs.Walks.{Walk, ends, then_walk, Sends, Continues, look_walk, part_after, look_part, IsPart, part_of, part_walk, scan_after, scan_from, scan_walk, low_of, high_of, greater}
+use Rattle.tx_client.specs.Walks.{Walk, ends, then_walk, Sends, Continues, look_walk, part_after, look_part, IsPart, part_of, part_walk, scan_after, scan_from, low_of, high_of, greater}
 use Rattle.tx_client.proofs.Looking.{sent_then}
 
 -- the body of a part that is not empty

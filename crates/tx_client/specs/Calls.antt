@@ -1,5 +1,5 @@
 -- What the calls of a session make of its state and of its seat.
-use Rattle.std.specs.Prelude.{◌≡◌, ℕ, ◌+◌, Bool, true, false, List, Option, Some, None}
+use Rattle.std.specs.Prelude.{◌≡◌, ℕ, ◌+◌, List, Option, Some, None}
 use Rattle.tx_types.specs.declared.key.Key.{Key}
 use Rattle.tx_types.specs.declared.mutation.Fate.TheVariants as fate
 use Rattle.tx_machine.specs.Machine.{Done}
@@ -14,9 +14,9 @@ use Rattle.tx_core.specs.Histories.{History, Begins}
 use Rattle.tx_core.specs.Recording.{part}
 use Rattle.tx_journal.specs.Known.{Known, HasSeen, HasRecorded, HasDrawn}
 use Rattle.tx_journal.specs.Replies.{Asked}
-use Rattle.tx_client.specs.declared.state.Came.{Came}
-use Rattle.tx_client.specs.Buffers.{keys_of}
-use Rattle.tx_client.specs.Sessions.{State}
+use Rattle.tx_transaction.specs.declared.state.Came.{Came}
+use Rattle.tx_transaction.specs.Buffers.{keys_of}
+use Rattle.tx_transaction.specs.Sessions.{State}
 use Rattle.tx_client.specs.Senders.{Reached, came_of, Learns}
 
 -- a session: its state, and what its seat knows

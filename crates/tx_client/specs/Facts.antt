@@ -10,19 +10,19 @@ use Rattle.tx_core.specs.declared.event.Declaration.{Declaration}
 use Rattle.tx_core.specs.declared.event.Taken.{Taken}
 use Rattle.tx_core.specs.declared.event.Event.TheVariants.{Took}
 use Rattle.tx_core.specs.Histories.{History, drawer, began, declared, answered, Among}
-use Rattle.tx_core.specs.Decisions.{Acceptance, accepted, AllAccepted, HasTwoPhaseLock}
+use Rattle.tx_core.specs.Decisions.{accepted, AllAccepted, HasTwoPhaseLock}
 use Rattle.tx_core.specs.Allowed.{AllowsRead, DrewAfterAll}
 use Rattle.tx_core.specs.Worlds.{MayAnswer, IsWorldRun}
 use Rattle.tx_core.specs.Laws.{WasToldOf, HadAsyncLock}
 use Rattle.tx_journal.specs.Known.{Known}
-use Rattle.tx_client.specs.declared.state.Terms.{Terms}
-use Rattle.tx_client.specs.declared.state.Came.{Came}
-use Rattle.tx_client.specs.declared.state.Came.TheVariants as came
-use Rattle.tx_client.specs.declared.state.Phase.{Phase}
-use Rattle.tx_client.specs.declared.state.Phase.TheVariants as phase
-use Rattle.tx_client.specs.declared.state.Due.{Due}
-use Rattle.tx_client.specs.Buffers.{Entries, changes_of}
-use Rattle.tx_client.specs.Sessions.{State, declaration, exceeds, prewrite_of, commit_of, rollback_of, check_of, outcome_of}
+use Rattle.tx_transaction.specs.declared.state.Terms.{Terms}
+use Rattle.tx_transaction.specs.declared.state.Came.{Came}
+use Rattle.tx_transaction.specs.declared.state.Came.TheVariants as came
+use Rattle.tx_transaction.specs.declared.state.Phase.{Phase}
+use Rattle.tx_transaction.specs.declared.state.Phase.TheVariants as phase
+use Rattle.tx_transaction.specs.declared.state.Due.{Due}
+use Rattle.tx_transaction.specs.Buffers.{Entries, changes_of}
+use Rattle.tx_transaction.specs.Sessions.{State, declaration, prewrite_of, commit_of, rollback_of, check_of, outcome_of}
 
 -- a request was answered so
 pub record WasAnswered (h : History) (b : Body) (a : Answer) : Type 0 where
@@ -41,11 +41,6 @@ CameSo h b (came.Said a) = WasAnswered h b a
 abbrev pub standing : ℕ → Entries → Option Terms → Option Declaration
 standing start es None = None
 standing start es (Some terms) = declaration start es terms
-
--- a declared buffer has no more keys than its terms allow
-abbrev pub Few : Option Terms → Entries → Type 0
-Few None es = Unit {0}
-Few (Some terms) es = exceeds es terms ≡ false
 
 -- a key is accepted, and some key of its transaction in two phases
 pub record HasFallenBack (h : History) (t : ℕ) (k : Key) : Type 0 where

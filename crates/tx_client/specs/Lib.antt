@@ -1,5 +1,3 @@
-pub mod Buffers
-pub mod Sessions
 pub mod Senders
 pub mod Walks
 pub mod Facts

@@ -8,8 +8,8 @@ use Rattle.tx_core.specs.Worlds.{Holds}
 use Rattle.tx_journal.specs.Known.{Known, HasSeen}
 use Rattle.tx_journal.specs.Replies.{Asked, Given}
 use Rattle.tx_client.specs.declared.sender.Lost.{Lost}
-use Rattle.tx_client.specs.declared.state.Came.{Came}
-use Rattle.tx_client.specs.declared.state.Came.TheVariants as came
+use Rattle.tx_transaction.specs.declared.state.Came.{Came}
+use Rattle.tx_transaction.specs.declared.state.Came.TheVariants as came
 
 -- a reply, or none
 abbrev pub Reached : Type 0

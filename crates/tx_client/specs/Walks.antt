@@ -1,5 +1,5 @@
 -- Requests that are sent one after another, by what came of those before.
-use Rattle.std.specs.Prelude.{◌≡◌, ◌⊎◌, ◌||◌, not, cond, ℕ, zero, suc, ◌-◌, Bool, true, false, List, [], ◌∷◌, ◌++◌, length, nat_lt, Option, Some, None, Result, Ok, Err}
+use Rattle.std.specs.Prelude.{◌≡◌, ◌⊎◌, not, cond, ℕ, zero, suc, ◌-◌, List, [], ◌∷◌, ◌++◌, length, nat_lt, Option, Some, None, Result, Ok, Err}
 use Rattle.tx_types.specs.declared.key.Key.{Key}
 use Rattle.tx_types.specs.declared.mutation.KeyValue.{KeyValue}
 use Rattle.tx_types.specs.declared.mutation.Mutation.{Mutation}
@@ -10,16 +10,17 @@ use Rattle.tx_plan.specs.declared.answer.Answer.TheVariants as answer
 use Rattle.tx_types.specs.Keys.{key_lt}
 use Rattle.tx_journal.specs.Known.{Known}
 use Rattle.tx_journal.specs.Replies.{Asked}
-use Rattle.tx_client.specs.declared.state.Phase.{Phase}
-use Rattle.tx_client.specs.declared.state.Came.{Came}
-use Rattle.tx_client.specs.declared.state.Came.TheVariants as came
-use Rattle.tx_client.specs.declared.state.Part.{Part}
-use Rattle.tx_client.specs.declared.state.Part.TheVariants as part
-use Rattle.tx_client.specs.declared.state.Miss.{Miss}
-use Rattle.tx_client.specs.declared.state.Miss.TheVariants.{NoReply, NoMemory}
-use Rattle.tx_client.specs.declared.state.Due.{Due}
-use Rattle.tx_client.specs.Buffers.{buffered}
-use Rattle.tx_client.specs.Sessions.{State, heartbeat_of, read_of, scan_of, after_came, after_read}
+use Rattle.tx_transaction.specs.declared.state.Phase.{Phase}
+use Rattle.tx_transaction.specs.declared.state.Came.{Came}
+use Rattle.tx_transaction.specs.declared.state.Came.TheVariants as came
+use Rattle.tx_client.specs.declared.part.Part.{Part}
+use Rattle.tx_client.specs.declared.part.Part.TheVariants as part
+use Rattle.tx_transaction.specs.declared.state.Miss.{Miss}
+use Rattle.tx_transaction.specs.declared.state.Miss.TheVariants.{NoMemory}
+use Rattle.tx_transaction.specs.declared.state.Due.{Due}
+use Rattle.tx_transaction.specs.Buffers.{buffered}
+use Rattle.tx_transaction.specs.Sessions.{State, heartbeat_of, read_of, scan_of, after_came, after_read}
+use Rattle.tx_transaction.specs.Returns.{returned, read}
 use Rattle.tx_client.specs.Senders.{Reached, came_of, Learns}
 
 -- What a caller sends next by what came so far: a request, and what follows by what comes of it; a growth of its own, and what follows where
@@ -57,12 +58,6 @@ abbrev pub handed : {R : Type 0} → State → Result R Miss → Came → Walk (
 handed s r (came.Said (answer.KeyIsLocked info)) = grows (ends (s, r)) (short s)
 handed s r _ = ends (s, r)
 
--- no answer to a request is no answer of the call
-abbrev pub returned : Came → Result (Option Answer) Miss
-returned came.Lost = Err NoReply
-returned came.Unsaid = Err NoMemory
-returned (came.Said a) = Ok (Some a)
-
 -- the request of a phase that is due, if there is one
 abbrev pub due_walk : State → Phase → Option Due → Walk (State × Result (Option Answer) Miss)
 due_walk s x None = ends (s, Ok None)
@@ -71,11 +66,6 @@ due_walk s x (Some due) = grows (asks due.body (λ c. handed (after_came s x due
 -- a heartbeat changes nothing
 abbrev pub heartbeat_walk : State → ℕ → Walk (State × Result (Option Answer) Miss)
 heartbeat_walk s ttl = grows (asks (heartbeat_of s ttl) (λ c. ends (s, returned c))) (short s)
-
-abbrev pub read : Came → Result Answer Miss
-read came.Lost = Err NoReply
-read came.Unsaid = Err NoMemory
-read (came.Said a) = Ok a
 
 -- a read
 abbrev pub look_walk : State → Body → Walk (State × Result Answer Miss)
@@ -89,27 +79,6 @@ get_by s k _ = grows (look_walk s (read_of s k)) (short s)
 
 abbrev pub get_walk : State → Key → Walk (State × Result Answer Miss)
 get_walk s k = get_by s k (buffered s.buffer k)
-
--- ---- what a call gives of what came
-
--- an answer is handed on, but for the copy of a lock that it names
-abbrev pub IsHanded : Answer → Result Answer Miss → Type 0
-IsHanded (answer.KeyIsLocked info) r = (r ≡ Err NoMemory) ⊎ (r ≡ Ok (answer.KeyIsLocked info))
-IsHanded a r = r ≡ Ok a
-
-abbrev pub Returns : Came → Result (Option Answer) Miss → Type 0
-Returns (came.Said (answer.KeyIsLocked info)) r = (r ≡ Err NoMemory) ⊎ (r ≡ Ok (Some (answer.KeyIsLocked info)))
-Returns c r = r ≡ returned c
-
-abbrev pub ReadsAs : Came → Result Answer Miss → Type 0
-ReadsAs (came.Said (answer.KeyIsLocked info)) r = (r ≡ Err NoMemory) ⊎ (r ≡ Ok (answer.KeyIsLocked info))
-ReadsAs c r = r ≡ read c
-
--- what the buffer answers to a read
-abbrev pub IsBuffered : Option Mutation → Option (Result Answer Miss) → Type 0
-IsBuffered (Some (mutation.Put v)) r = (r ≡ Some (Err NoMemory)) ⊎ (r ≡ Some (Ok (answer.Found v)))
-IsBuffered (Some mutation.Delete) r = r ≡ Some (Ok answer.Nothing)
-IsBuffered _ r = r ≡ None
 
 -- ---- a scan
 

@@ -7,9 +7,9 @@ ghost use Rattle.tx_client.specs.Facts.{CameSo};
 ghost use Rattle.tx_client.specs.Calls.{Asks};
 
 use crate::sender::{Lost, Sender};
-use crate::state::Came;
 use tx_core::{Answer, Body};
 use tx_journal::{Naming, Reply, Request, Seat};
+use tx_transaction::Came;
 
 // What a reply comes to.
 fn came_by(answer: Option<Answer>) -> Came

@@ -4,9 +4,9 @@ ghost use Rattle.tx_types.specs.declared.fault.Fault.TheVariants as fault;
 ghost use Rattle.tx_core.specs.declared.event.Event.TheVariants.{Began, Declared};
 ghost use Rattle.tx_core.specs.Allowed.{Allowed};
 ghost use Rattle.tx_core.specs.Recording.{MayRecord};
-ghost use Rattle.tx_client.specs.declared.state.Phase.TheVariants as phase;
-ghost use Rattle.tx_client.specs.Buffers.{touched, locked, buffered, is_full, is_known};
-ghost use Rattle.tx_client.specs.Sessions.{begun, is_declared, has_primary, declaration, declaration_of, exceeds, due_prewrite, due_commit, due_abort, can_draw, can_commit, can_abort};
+ghost use Rattle.tx_transaction.specs.declared.state.Phase.TheVariants as phase;
+ghost use Rattle.tx_transaction.specs.Buffers.{touched, locked, buffered, is_full, is_known};
+ghost use Rattle.tx_transaction.specs.Sessions.{begun, is_declared, has_primary, declaration, declaration_of, exceeds, due_prewrite, due_commit, due_abort, can_draw, can_commit, can_abort};
 ghost use Rattle.tx_client.specs.Senders.{IsHeld, IsWay};
 ghost use Rattle.tx_client.specs.Walks.{Sends, due_walk, heartbeat_walk};
 ghost use Rattle.tx_client.specs.Facts.{CameSo, IsFor};
@@ -17,12 +17,11 @@ mod reads;
 
 use crate::asking::ask;
 use crate::sender::Sender;
-use crate::state::{Came, Due, Miss, Phase, Terms};
-use crate::transaction::Transaction;
 use std::alloc::Global;
 use std::marker::{Brand, Model};
 use tx_core::{Answer, Body, Declaration};
 use tx_journal::{Naming, Reply, Request, Said, Seat, Told};
+use tx_transaction::{Came, Due, Miss, Phase, Terms, Transaction};
 use tx_types::{Fault, Key, Mutation, Ts, Value};
 
 /// A session: one transaction, and the seat that it was begun with. Contracts see its state and what its seat knows. What it

@@ -9,13 +9,13 @@ use Rattle.tx_core.specs.declared.event.Outcome.{Outcome}
 use Rattle.tx_core.specs.declared.event.Outcome.TheVariants.{Committed, Aborted, Unknown, ReadOnly}
 use Rattle.tx_core.specs.Histories.{History, Begins, declared}
 use Rattle.tx_plan.proofs.KeyOrder.{key_same, other_key}
-use Rattle.tx_client.specs.declared.state.Entry.{Entry}
+use Rattle.tx_transaction.specs.declared.state.Entry.{Entry}
 use Rattle.tx_core.specs.Worlds.{IsWorldRun}
 use Rattle.tx_core.proofs.runs.Consequences.{decided_declared}
 use Rattle.tx_core.proofs.seats.Staying.{declared_on}
-use Rattle.tx_client.specs.declared.state.Terms.{Terms}
-use Rattle.tx_client.specs.Buffers.{Entries, keys_of, changes_of, touched, fresh}
-use Rattle.tx_client.specs.Sessions.{State, is_declared, declaration_of}
+use Rattle.tx_transaction.specs.declared.state.Terms.{Terms}
+use Rattle.tx_transaction.specs.Buffers.{Entries, keys_of, changes_of, touched, fresh}
+use Rattle.tx_transaction.specs.Sessions.{State, is_declared, declaration_of}
 use Rattle.tx_client.specs.Facts.{standing}
 use Rattle.tx_client.specs.Calls.{IsDecidedSo, Seated}
 use Rattle.tx_ledger.specs.Outcomes.{DeclaresJust, IsBetween}

@@ -2,8 +2,8 @@
 use Rattle.std.specs.Prelude.{◌≡◌, ◌⊎◌, List, [], ◌∷◌, Option, Some, None}
 use Rattle.tx_types.specs.declared.key.Key.{Key}
 use Rattle.tx_types.specs.declared.mutation.Mutation.{Mutation}
-use Rattle.tx_client.specs.Buffers.{keys_of, touched}
-use Rattle.tx_client.specs.Sessions.{State}
+use Rattle.tx_transaction.specs.Buffers.{keys_of, touched}
+use Rattle.tx_transaction.specs.Sessions.{State}
 
 -- a put of this key entered its buffer
 abbrev pub HasEntered : State → Key → State → Type 0

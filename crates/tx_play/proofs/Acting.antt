@@ -13,14 +13,14 @@ use Rattle.tx_core.proofs.seats.Beginnings.{begins_length, begins_whole}
 use Rattle.tx_journal.specs.Known.{Known}
 use Rattle.tx_client.specs.Calls.{HasHeard, BeganAt, Records, Draws, RecordsDeclared}
 use Rattle.tx_client.specs.Walks.{Walk, Sends}
-use Rattle.tx_play.specs.Posts.{Desk, made_by, GoesOnWith, KeptAs, NotesDrawn, NotesDeclared, stage_of, with_events, Passes, Runs}
+use Rattle.tx_post.specs.Posts.{Desk, made_by, GoesOnWith, KeptAs, NotesDrawn, NotesDeclared, stage_of, with_events, Passes, Runs}
 use Rattle.tx_play.specs.Places.{Acts, at_regions}
 use Rattle.tx_play.specs.Scenes.{declared_in}
-use Rattle.tx_play.proofs.Alone.{recorded_grows, recorded_alone, drawn_grows, drawn_number, drawn_alone, begun_grows, begun_number, begun_alone}
-use Rattle.tx_play.proofs.Counts.{recorded_part, drawn_part}
-use Rattle.tx_play.proofs.Stages.{same_stage}
-use Rattle.tx_play.proofs.Tracing.{traced_same, traced_kept, traced_on, traced_twice}
-use Rattle.tx_play.proofs.Walking.{walk_comes}
+use Rattle.tx_post.proofs.Alone.{recorded_grows, recorded_alone, drawn_grows, drawn_number, drawn_alone, begun_grows, begun_number, begun_alone}
+use Rattle.tx_post.proofs.Counts.{recorded_part, drawn_part}
+use Rattle.tx_post.proofs.Stages.{same_stage}
+use Rattle.tx_post.proofs.Tracing.{traced_same, traced_kept, traced_on, traced_twice}
+use Rattle.tx_post.proofs.Walking.{walk_comes}
 
 -- one and the same seat
 made_same : (k l : Known) → l.seat ≡ k.seat → length (part k.seat l.events) ≤ length (part k.seat k.events) → made_by l ≤ made_by k

@@ -1,5 +1,5 @@
 -- Histories only grow as steps are played.
-use Rattle.std.proofs.Common.{ℕ, ◌+◌, ◌&&◌, Bool, true, false, not, cond, inr, List, [], ◌∷◌, Option, Some, None, is_some, nat_eq, nat_le, sym, subst}
+use Rattle.std.proofs.Common.{ℕ, ◌+◌, ◌&&◌, Bool, true, false, not, cond, inr, List, [], Option, Some, None, is_some, nat_eq, nat_le}
 use Rattle.tx_types.specs.declared.fault.Cause.{Cause}
 use Rattle.tx_types.specs.declared.fault.Cause.TheVariants as cause
 use Rattle.tx_types.specs.declared.key.Key.{Key}
@@ -12,20 +12,20 @@ use Rattle.tx_core.specs.declared.event.Declaration.{Declaration}
 use Rattle.tx_core.specs.declared.event.Outcome.{Outcome}
 use Rattle.tx_core.specs.Histories.{History, last, Begins}
 use Rattle.tx_core.proofs.seats.Beginnings.{begins_all, begins_more}
-use Rattle.tx_client.specs.declared.state.Came.{Came}
-use Rattle.tx_client.specs.declared.state.Came.TheVariants as came
-use Rattle.tx_client.specs.Buffers.{Entries, is_full}
-use Rattle.tx_client.specs.Sessions.{State, is_declared, has_primary, exceeds, declaration, can_draw, can_commit, can_abort, finish_of}
-use Rattle.tx_client.specs.declared.state.Terms.{Terms}
+use Rattle.tx_transaction.specs.declared.state.Came.{Came}
+use Rattle.tx_transaction.specs.declared.state.Came.TheVariants as came
+use Rattle.tx_transaction.specs.Buffers.{Entries, is_full}
+use Rattle.tx_transaction.specs.Sessions.{State, is_declared, has_primary, exceeds, declaration, can_draw, can_commit, can_abort, finish_of}
+use Rattle.tx_transaction.specs.declared.state.Terms.{Terms}
 use Rattle.tx_client.specs.Walks.{Walk, asks, grows, ends, get_walk, scan_walk, heartbeat_walk}
 use Rattle.tx_resolve.specs.Reading.{read_walk}
 use Rattle.tx_resolve.specs.Collecting.{gc_walk}
-use Rattle.tx_play.specs.declared.post.Way.TheVariants.{Plain, Lose, LoseReply, Repeat, Hold}
+use Rattle.tx_post.specs.declared.way.Way.TheVariants.{Plain, Lose, LoseReply, Repeat, Hold}
 use Rattle.tx_lines.specs.declared.reply.Reply.{Reply}
 use Rattle.tx_lines.specs.declared.reply.Reply.TheVariants as reply
-use Rattle.tx_play.specs.Posts.{Course, taken, holding}
+use Rattle.tx_post.specs.Posts.{Course, taken, holding, is_name, may_go}
 use Rattle.tx_play.specs.Steps.{Deed, put, delete, lock, get, scan, declare, prewrite, draw, commit, abort, heartbeat, course_of, Call, begin, acts, finish, stop, deliver, read, versions, tick, resolve, gc}
-use Rattle.tx_play.specs.Scenes.{Scene, Turn, goes, inquires, shows, stops, is_refused, later_of, calls, is_key, is_value, is_name, at_stage, at_history, with_session, began, declared_in, read_by, said_by, asked, sent, runs, runs_to, first_free, live_at, enters, may_go, is_too_many, deeds_by, deeds, delivered_by, delivers, finishes_by, begins_at, in_session, turn, learns, resolves_by, collected_as}
+use Rattle.tx_play.specs.Scenes.{Scene, Turn, goes, inquires, shows, stops, is_refused, later_of, calls, is_key, is_value, at_stage, at_history, with_session, began, declared_in, read_by, said_by, asked, sent, runs, runs_to, first_free, live_at, enters, is_too_many, deeds_by, deeds, delivered_by, delivers, finishes_by, begins_at, in_session, turn, learns, resolves_by, collected_as}
 use Rattle.tx_play.specs.Plays.{Leads}
 
 -- Whatever a turn leads to, and wherever it asks a region, h has happened there; it stops at most where `from` has happened.

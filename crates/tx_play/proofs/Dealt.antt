@@ -9,7 +9,7 @@ use Rattle.tx_types.specs.declared.key.Key.{Key}
 use Rattle.tx_core.proofs.Basics.{some_same}
 use Rattle.tx_journal.specs.Known.{Known, known}
 use Rattle.tx_play.specs.declared.places.Slot.TheVariants.{Free}
-use Rattle.tx_play.specs.Posts.{AreNumbered, made_by, body_at}
+use Rattle.tx_post.specs.Posts.{AreNumbered, made_by, body_at}
 use Rattle.tx_play.specs.Scenes.{free}
 use Rattle.tx_play.specs.Places.{Held, seat_in, place_of, name_at, made_in, AreSeated, AllSeated}
 use Rattle.tx_play.specs.Openings.{frees, AreDealt, IsOpening}

@@ -11,12 +11,12 @@ use Rattle.tx_journal.specs.Replies.{Asked, Given}
 use Rattle.tx_client.specs.Senders.{came_by}
 use Rattle.tx_lines.specs.declared.reply.Reply.{Reply}
 use Rattle.tx_lines.specs.declared.reply.Reply.TheVariants as reply
-use Rattle.tx_play.specs.Posts.{Desk, region_for, made_by, Hands, request_at, IsTraced, stage_of}
+use Rattle.tx_post.specs.Posts.{Desk, region_for, made_by, Hands, request_at, IsTraced, stage_of}
 use Rattle.tx_play.specs.Steps.{deliver}
 use Rattle.tx_play.specs.Scenes.{Place, goes, delivered_by, delivers, turn}
 use Rattle.tx_play.specs.Plays.{Leads}
 use Rattle.tx_play.specs.Places.{seat_in, place_of, Held, name_at, scene_with, scene_of, made_in, AreSeated, AllSeated, Goes, GoesTo, Handed, Delivered, Turned}
-use Rattle.tx_play.proofs.Walking.{take_one}
+use Rattle.tx_post.proofs.Walking.{take_one}
 use Rattle.tx_play.proofs.Keeping.{rested, seated_fewer, known_ticks}
 use Rattle.tx_play.proofs.Turning.{goes_at, asked_leads}
 

@@ -5,10 +5,10 @@ use Rattle.tx_journal.specs.Known.{Known}
 use Rattle.tx_journal.specs.Replies.{Asked}
 use Rattle.tx_client.specs.Senders.{Reached, IsHeld, IsWay, LosesNothing, came_by, came_of}
 use Rattle.tx_client.specs.Walks.{Walk, asks, grows, ends, Sends}
-use Rattle.tx_play.specs.declared.post.Way.TheVariants.{Plain}
-use Rattle.tx_play.specs.Posts.{Desk, made_by, Passes, stage_of, Met, Runs}
+use Rattle.tx_post.specs.declared.way.Way.TheVariants.{Plain}
+use Rattle.tx_post.specs.Posts.{Desk, made_by, Passes, stage_of, Met, Runs}
 use Rattle.tx_play.specs.Places.{Serves}
-use Rattle.tx_play.proofs.Walking.{Comes, IsSame, same_learnt, rest_comes, take_one, one_comes, then_comes, or_comes}
+use Rattle.tx_post.proofs.Walking.{Comes, IsSame, same_learnt, rest_comes, take_one, one_comes, then_comes, or_comes}
 
 module _ {S : Type 0} (desk : S → Desk) (bounds : List Key) where
   -- each request is taken once, and its reply comes

@@ -19,15 +19,15 @@ use Rattle.tx_core.specs.declared.event.Event.TheVariants.{Began, Drawn, Answere
 use Rattle.tx_core.specs.declared.event.Outcome.{Outcome}
 use Rattle.tx_core.specs.Histories.{History, last}
 use Rattle.tx_journal.specs.Known.{Known}
-use Rattle.tx_client.specs.declared.state.Came.{Came}
+use Rattle.tx_transaction.specs.declared.state.Came.{Came}
 use Rattle.tx_client.specs.Calls.{Seated}
-use Rattle.tx_client.specs.Sessions.{begun, finish_of}
+use Rattle.tx_transaction.specs.Sessions.{begun, finish_of}
 use Rattle.tx_play.specs.declared.places.Slot.TheVariants.{Free, Live, Lent}
 use Rattle.tx_lines.specs.declared.reply.Reply.{Reply}
 use Rattle.tx_lines.specs.declared.reply.Reply.TheVariants as reply
-use Rattle.tx_play.specs.Posts.{Desk, stage_of, with_events, Met}
+use Rattle.tx_post.specs.Posts.{Desk, stage_of, with_events, Met, is_name}
 use Rattle.tx_play.specs.Steps.{Deed, Call, begin, acts, finish, stop, read, tick}
-use Rattle.tx_play.specs.Scenes.{free, session, goes, stops, is_name, is_key, delivered_by, asked, at_stage, at_history, seat_at, began, gone, ticked, first_free, lives, at_place, live_at, in_session, deeds, finishes, finishes_by, leaves, turn}
+use Rattle.tx_play.specs.Scenes.{free, session, goes, stops, is_key, delivered_by, asked, at_stage, at_history, seat_at, began, gone, ticked, first_free, lives, at_place, live_at, in_session, deeds, finishes, finishes_by, leaves, turn}
 use Rattle.tx_play.specs.Plays.{Leads}
 use Rattle.tx_play.specs.Places.{ActsIn, Kept, place_of, Held, texts, name_at, scene_with, scene_of, AllSeated, Acts, Serves, Goes, Did, Turned}
 use Rattle.tx_play.proofs.Keeping.{set_here, seated_at, at_place_of, acted, served, rested, known_ticks}

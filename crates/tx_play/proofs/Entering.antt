@@ -6,12 +6,12 @@ use Rattle.tx_types.specs.declared.fault.Fault.{Fault}
 use Rattle.tx_types.specs.declared.fault.Fault.TheVariants as fault
 use Rattle.tx_types.specs.declared.key.Key.{Key}
 use Rattle.tx_types.specs.declared.mutation.Mutation.TheVariants as mutation
-use Rattle.tx_client.specs.Buffers.{Entries, is_full, touched, locked}
+use Rattle.tx_transaction.specs.Buffers.{Entries, is_full, touched, locked}
 use Rattle.tx_client.specs.Calls.{Seated, seated}
-use Rattle.tx_client.specs.Sessions.{State, is_declared}
+use Rattle.tx_transaction.specs.Sessions.{State, is_declared}
 use Rattle.tx_lines.specs.declared.reply.Reply.{Reply}
 use Rattle.tx_lines.specs.declared.reply.Reply.TheVariants as reply
-use Rattle.tx_play.specs.Posts.{Desk}
+use Rattle.tx_post.specs.Posts.{Desk}
 use Rattle.tx_play.specs.Scenes.{Scene, Turn, goes, stops, calls, is_key, is_value, enters, entered_by, puts, deletes, locks}
 use Rattle.tx_play.specs.Places.{Did}
 use Rattle.tx_play.proofs.Doing.{stops_at, rests, entered}

@@ -7,8 +7,8 @@ use Rattle.std.proofs.lemmas.Option.{slice_get_within, get_or_from_slice_get}
 use Rattle.tx_types.specs.declared.key.Key.{Key}
 use Rattle.tx_core.proofs.Basics.{some_same}
 use Rattle.tx_journal.specs.Known.{Known}
-use Rattle.tx_play.specs.Posts.{made_by}
-use Rattle.tx_play.proofs.Tracing.{traced_same}
+use Rattle.tx_post.specs.Posts.{made_by}
+use Rattle.tx_post.proofs.Tracing.{traced_same}
 use Rattle.tx_play.specs.Places.{Kept, seat_in, Held, made_in, IsSeat, AreSeated, AllSeated, Acts, Serves, Finds, Goes}
 
 abbrev pub known_ticks : Known → ℕ

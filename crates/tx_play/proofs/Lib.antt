@@ -1,17 +1,3 @@
--- Where as many events came as were made, nobody else acted.
-pub mod Alone
--- How many events of a seat there are at most.
-pub mod Counts
--- Requests that are held under names.
-pub mod Holding
--- What a desk's stage is after requests.
-pub mod Stages
--- What the post's taking makes of what is newest.
-pub mod Posting
--- The trace that is kept, as what is newest grows.
-pub mod Tracing
--- A walk through the one thread's way.
-pub mod Walking
 -- What a session's acts count, and what they are where nobody else acted.
 pub mod Acting
 -- What the seat for what no session does makes.

@@ -1,5 +1,5 @@
 -- What it gives to resolve a lock that a session met, and to collect.
-use Rattle.std.proofs.Common.{◌≡◌, ◌+◌, ℕ, Bool, true, false, List, [], ◌∷◌, ◌++◌, map, length, slice_get, slice_set, Option, Some, None, option_map, is_some, Result, Ok, Err, inl, inr, refl, sym, ap, subst, ◌∙◌, append_assoc, arith}
+use Rattle.std.proofs.Common.{◌≡◌, ℕ, Bool, true, false, List, [], ◌∷◌, ◌++◌, map, length, slice_get, slice_set, Option, Some, None, option_map, is_some, Result, Ok, Err, inl, inr, refl, sym, ap, subst, ◌∙◌, append_assoc, arith}
 use Rattle.std.proofs.lemmas.List.{map-set}
 use Rattle.std.proofs.lemmas.Option.{slice_get-map}
 use Rattle.tx_types.specs.declared.fault.Cause.{Cause}
@@ -10,7 +10,7 @@ use Rattle.tx_types.specs.declared.lock.LockInfo.{LockInfo}
 use Rattle.tx_core.specs.Recording.{part}
 use Rattle.tx_journal.specs.Known.{Known}
 use Rattle.tx_client.specs.Calls.{Seated}
-use Rattle.tx_client.specs.Sessions.{with_passed}
+use Rattle.tx_transaction.specs.Sessions.{with_passed}
 use Rattle.tx_client.specs.Statuses.{Found, lies_above}
 use Rattle.tx_resolve.specs.declared.collector.Counts.{Counts}
 use Rattle.tx_resolve.specs.Reading.{read_walk}
@@ -18,8 +18,8 @@ use Rattle.tx_resolve.specs.Collecting.{gc_walk}
 use Rattle.tx_lines.specs.declared.reply.Reply.{Reply}
 use Rattle.tx_lines.specs.declared.reply.Reply.TheVariants as reply
 use Rattle.tx_play.specs.declared.places.Slot.TheVariants.{Live, Lent}
-use Rattle.tx_play.specs.declared.post.Way.TheVariants.{Plain}
-use Rattle.tx_play.specs.Posts.{Desk, made_by, stage_of, Runs}
+use Rattle.tx_post.specs.declared.way.Way.TheVariants.{Plain}
+use Rattle.tx_post.specs.Posts.{Desk, made_by, stage_of, Runs}
 use Rattle.tx_play.specs.Steps.{resolve, gc}
 use Rattle.tx_play.specs.Scenes.{Place, session, Scene, goes, stops, at_stage, seat_at, with_session, learns, resolves_by, resolves, collected_as, live_at, in_session, turn}
 use Rattle.tx_play.specs.Plays.{Leads}

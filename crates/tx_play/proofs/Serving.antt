@@ -7,17 +7,17 @@ use Rattle.tx_core.specs.declared.event.Event.TheVariants.{Drawn}
 use Rattle.tx_core.specs.Histories.{last, Begins}
 use Rattle.tx_core.specs.Recording.{part}
 use Rattle.tx_journal.specs.Known.{Known, HasDrawn}
-use Rattle.tx_client.specs.declared.state.Came.{Came}
+use Rattle.tx_transaction.specs.declared.state.Came.{Came}
 use Rattle.tx_client.specs.Calls.{Asks}
 use Rattle.tx_client.specs.Walks.{Walk, asks, ends}
-use Rattle.tx_play.specs.declared.post.Way.TheVariants.{Plain}
-use Rattle.tx_play.specs.Posts.{Desk, made_by, NotesDrawn, IsTraced, Stage, stage_of, with_events, IsSet, Passes, Met, Runs}
+use Rattle.tx_post.specs.declared.way.Way.TheVariants.{Plain}
+use Rattle.tx_post.specs.Posts.{Desk, made_by, NotesDrawn, IsTraced, Stage, stage_of, with_events, IsSet, Passes, Met, Runs}
 use Rattle.tx_play.specs.Places.{Serves, at_regions}
-use Rattle.tx_play.proofs.Alone.{drawn_grows, drawn_number, drawn_alone}
-use Rattle.tx_play.proofs.Counts.{drawn_part}
-use Rattle.tx_play.proofs.Stages.{same_stage, set_regions, set_newest, set_trace, set_stage, set_runs}
-use Rattle.tx_play.proofs.Tracing.{traced_same, traced_on}
-use Rattle.tx_play.proofs.Walking.{walk_comes}
+use Rattle.tx_post.proofs.Alone.{drawn_grows, drawn_number, drawn_alone}
+use Rattle.tx_post.proofs.Counts.{drawn_part}
+use Rattle.tx_post.proofs.Stages.{same_stage, set_regions, set_newest, set_trace, set_stage, set_runs}
+use Rattle.tx_post.proofs.Tracing.{traced_same, traced_on}
+use Rattle.tx_post.proofs.Walking.{walk_comes}
 
 -- the seat k learnt what is newest and is then l
 module _ (bounds : List Key) (from to : Desk) (k l : Known) (number : l.seat ≡ k.seat) (knows : Begins from.newest l.events) (own : part k.seat l.events ≡ part k.seat k.events) where

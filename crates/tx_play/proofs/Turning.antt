@@ -3,20 +3,20 @@ use Rattle.std.proofs.Common.{◌≡◌, ℕ, Bool, true, false, List, [], ◌�
 use Rattle.tx_types.specs.declared.fault.Cause.{Cause}
 use Rattle.tx_types.specs.declared.key.Key.{Key}
 use Rattle.tx_plan.specs.declared.body.Body.{Body}
-use Rattle.tx_client.specs.declared.state.Came.{Came}
-use Rattle.tx_client.specs.declared.state.Came.TheVariants as came
+use Rattle.tx_transaction.specs.declared.state.Came.{Came}
+use Rattle.tx_transaction.specs.declared.state.Came.TheVariants as came
 use Rattle.tx_client.specs.Calls.{Seated}
-use Rattle.tx_client.specs.Sessions.{State}
+use Rattle.tx_transaction.specs.Sessions.{State}
 use Rattle.tx_client.specs.Walks.{Walk, asks, grows, ends, Sends}
-use Rattle.tx_play.specs.declared.post.Way.TheVariants.{Plain, Lose, LoseReply, Repeat, Hold}
+use Rattle.tx_post.specs.declared.way.Way.TheVariants.{Plain, Lose, LoseReply, Repeat, Hold}
 use Rattle.tx_lines.specs.declared.reply.Reply.{Reply}
-use Rattle.tx_play.specs.Posts.{Course, Desk, Stage, stage_of, IsSet, Passes, Met, Reach, Runs}
+use Rattle.tx_post.specs.Posts.{Course, Desk, Stage, stage_of, IsSet, Passes, Met, Reach, Runs}
 use Rattle.tx_play.specs.Scenes.{session, Scene, Turn, goes, stops, at_stage, seat_at, with_session, asked, sent, runs, runs_to}
 use Rattle.tx_play.specs.Plays.{Leads}
 use Rattle.tx_play.specs.Places.{scene_with, GoesTo, SessionGoes, Sent, Did}
 use Rattle.tx_play.proofs.Acting.{still_acts, acts_so, sent_acts}
 use Rattle.tx_play.proofs.Keeping.{set_here}
-use Rattle.tx_play.proofs.Stages.{set_regions, set_newest, set_trace, set_stage, set_runs}
+use Rattle.tx_post.proofs.Stages.{set_regions, set_newest, set_trace, set_stage, set_runs}
 
 -- ---- walks
 

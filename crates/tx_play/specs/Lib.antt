@@ -1,4 +1,3 @@
-pub mod Posts
 pub mod Steps
 pub mod Scenes
 pub mod Plays

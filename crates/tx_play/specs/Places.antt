@@ -8,7 +8,7 @@ use Rattle.tx_types.specs.declared.fault.Cause.TheVariants as cause
 use Rattle.tx_types.specs.declared.key.Key.{Key}
 use Rattle.tx_core.specs.Histories.{History}
 use Rattle.tx_journal.specs.Known.{Known}
-use Rattle.tx_client.specs.Sessions.{State, begun, with_passed}
+use Rattle.tx_transaction.specs.Sessions.{State, begun, with_passed}
 use Rattle.tx_client.specs.Calls.{Seated}
 use Rattle.tx_client.specs.Calls.{HasHeard}
 use Rattle.tx_client.specs.Statuses.{Found, lies_above}
@@ -16,7 +16,7 @@ use Rattle.tx_play.specs.declared.places.Slot.{Slot}
 use Rattle.tx_play.specs.declared.places.Slot.TheVariants.{Free, Live, Lent}
 use Rattle.tx_lines.specs.declared.reply.Reply.{Reply}
 use Rattle.tx_lines.specs.declared.reply.Reply.TheVariants as replies
-use Rattle.tx_play.specs.Posts.{Desk, stage_of, Stage, made_by, IsDone, AreNumbered, IsTraced}
+use Rattle.tx_post.specs.Posts.{Desk, stage_of, Stage, made_by, IsDone, AreNumbered, IsTraced}
 use Rattle.tx_play.specs.Steps.{Call, Deed}
 use Rattle.tx_play.specs.Scenes.{Place, free, session, Scene, Turn, stops, seat_at, deeds, resolves, delivers, inspects, turn}
 use Rattle.tx_play.specs.Plays.{Leads}

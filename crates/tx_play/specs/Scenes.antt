@@ -1,8 +1,8 @@
 -- What each step of a script does, in one thread in which nobody else acts: the events that it makes, what it changes of its session, and
 -- its reply.
-use Rattle.std.specs.Prelude.{ℕ, ◌+◌, ◌-◌, ◌&&◌, not, Bool, true, false, List, [], ◌∷◌, length, replicate, nat_eq, nat_le, slice_get, slice_set, Option, Some, None, option_map, is_some, if◌then◌else◌, Result, Ok, Err, bytes_eq}
+use Rattle.std.specs.Prelude.{ℕ, ◌+◌, ◌-◌, ◌&&◌, not, Bool, false, List, [], ◌∷◌, length, replicate, nat_eq, nat_le, slice_get, slice_set, Option, Some, None, option_map, is_some, if◌then◌else◌, Result, Ok, Err, bytes_eq}
 use Rattle.std.specs.Map.{update}
-use Rattle.tx_types.specs.declared.limits.TheConstants.{MAX_HELD_REQUESTS, MAX_KEY_BYTES, MAX_NAME_BYTES, MAX_VALUE_BYTES, MIN_KEY_BYTES}
+use Rattle.tx_types.specs.declared.limits.TheConstants.{MAX_KEY_BYTES, MAX_VALUE_BYTES, MIN_KEY_BYTES}
 use Rattle.tx_types.specs.declared.fault.Fault.{Fault}
 use Rattle.tx_types.specs.declared.fault.Fault.TheVariants as fault
 use Rattle.tx_types.specs.declared.fault.Cause.{Cause}
@@ -20,24 +20,24 @@ use Rattle.tx_core.specs.declared.event.Declaration.{Declaration}
 use Rattle.tx_core.specs.declared.event.Outcome.{Outcome}
 use Rattle.tx_core.specs.declared.event.Event.TheVariants.{Drawn, Began, Declared, Answered, Stopped}
 use Rattle.tx_core.specs.Histories.{History, last}
-use Rattle.tx_client.specs.declared.state.Terms.{Terms}
-use Rattle.tx_client.specs.declared.state.Phase.TheVariants as phase
-use Rattle.tx_client.specs.declared.state.Came.{Came}
-use Rattle.tx_client.specs.declared.state.Came.TheVariants as came
+use Rattle.tx_transaction.specs.declared.state.Terms.{Terms}
+use Rattle.tx_transaction.specs.declared.state.Phase.TheVariants as phase
+use Rattle.tx_transaction.specs.declared.state.Came.{Came}
+use Rattle.tx_transaction.specs.declared.state.Came.TheVariants as came
 use Rattle.tx_client.specs.declared.resolved.Status.{Status}
-use Rattle.tx_client.specs.declared.state.Miss.{Miss}
-use Rattle.tx_client.specs.declared.state.Miss.TheVariants as miss
-use Rattle.tx_client.specs.Buffers.{Entries, touched, locked, buffered, is_full, is_known}
-use Rattle.tx_client.specs.Sessions.{State, begun, is_declared, has_primary, exceeds, declaration, due_prewrite, due_commit, due_abort, can_draw, can_commit, can_abort, finish_of, with_passed}
+use Rattle.tx_transaction.specs.declared.state.Miss.{Miss}
+use Rattle.tx_transaction.specs.declared.state.Miss.TheVariants as miss
+use Rattle.tx_transaction.specs.Buffers.{Entries, touched, locked, buffered, is_full, is_known}
+use Rattle.tx_transaction.specs.Sessions.{State, begun, is_declared, has_primary, exceeds, declaration, due_prewrite, due_commit, due_abort, can_draw, can_commit, can_abort, finish_of, with_passed}
 use Rattle.tx_client.specs.Statuses.{lies_above}
 use Rattle.tx_client.specs.Walks.{Walk, asks, grows, ends, due_walk, heartbeat_walk, get_walk, scan_walk}
 use Rattle.tx_resolve.specs.declared.collector.Counts.{Counts}
 use Rattle.tx_resolve.specs.Reading.{read_walk}
 use Rattle.tx_resolve.specs.Collecting.{gc_walk}
-use Rattle.tx_play.specs.declared.post.Way.TheVariants.{Plain, Lose, LoseReply, Repeat, Hold}
+use Rattle.tx_post.specs.declared.way.Way.TheVariants.{Plain, Lose, LoseReply, Repeat, Hold}
 use Rattle.tx_lines.specs.declared.reply.Reply.{Reply}
 use Rattle.tx_lines.specs.declared.reply.Reply.TheVariants as reply
-use Rattle.tx_play.specs.Posts.{Course, Stage, with_events, taken, holding}
+use Rattle.tx_post.specs.Posts.{Course, Stage, with_events, taken, holding, is_name, may_go, is_crowded}
 use Rattle.tx_play.specs.Steps.{Deed, put, delete, lock, get, scan, declare, prewrite, draw, commit, abort, heartbeat, course_of, Call, begin, acts, finish, stop, resolve, deliver, read, versions, tick, gc}
 
 -- a place: free, or with a live session
@@ -79,26 +79,13 @@ later_of (b ∷ refused) = refused
 abbrev pub calls : List Bool → Scene → (List Bool → Turn) → Turn
 calls refused scene more = if is_refused refused then goes scene reply.OutOfMemory (later_of refused) else more (later_of refused)
 
--- ---- names, keys and values
-
-abbrev pub is_name : List ℕ → Bool
-is_name name = nat_le 1 (length name) && nat_le (length name) MAX_NAME_BYTES
+-- ---- keys and values
 
 abbrev pub is_key : List ℕ → Bool
 is_key key = nat_le MIN_KEY_BYTES (length key) && nat_le (length key) MAX_KEY_BYTES
 
 abbrev pub is_value : List ℕ → Bool
 is_value value = nat_le (length value) MAX_VALUE_BYTES
-
--- a name to hold under is of 1 to 64 bytes, and not in use
-abbrev pub may_go : Stage → Course → Bool
-may_go s (Hold name) = is_name name && not (is_some (s.held name))
-may_go s _ = true
-
--- a request that is to be held would be one too many
-abbrev pub is_crowded : Stage → Course → Bool
-is_crowded s (Hold name) = nat_le MAX_HELD_REQUESTS s.kept
-is_crowded s _ = false
 
 -- whether a session sends a request, by what it does: what its buffer answers is not sent, and neither is what its state does not allow
 abbrev pub sends : State → Deed → Bool

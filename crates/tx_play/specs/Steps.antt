@@ -1,13 +1,13 @@
 -- Steps as plain data.
 use Rattle.std.specs.Prelude.{ℕ, List, Option}
 use Rattle.tx_types.specs.declared.mutation.Mode.{Mode}
-use Rattle.tx_play.specs.declared.post.Way.TheVariants.{Plain}
+use Rattle.tx_post.specs.declared.way.Way.TheVariants.{Plain}
 use Rattle.tx_play.specs.declared.step.Act.{Act}
 use Rattle.tx_play.specs.declared.step.Act.TheVariants.{Put, Delete, Lock, Get, Scan, Declare, Prewrite, Draw, Commit, Abort, Heartbeat}
 use Rattle.tx_play.specs.declared.step.Step.{Step}
 use Rattle.tx_play.specs.declared.step.Step.TheVariants.{Begin, Finish, Stop, Resolve, Deliver, Read, Versions, Tick, Gc}
 use Rattle.tx_play.specs.declared.step.Step.TheVariants as steps
-use Rattle.tx_play.specs.Posts.{Course, by_name}
+use Rattle.tx_post.specs.Posts.{Course, by_name}
 
 -- what a live session does: with the bytes of its keys and value, and what becomes of its request
 pub data Deed : Type 0 where

@@ -2,18 +2,18 @@
 ghost use Rattle.std.specs.Prelude.{◌≡◌, ◌<◌, ◌+◌, [], ◌∷◌, ◌⊎◌, Option, Some, None, true, false, IfOk, IfErr, OnOk, IfSome, IfNone};
 ghost use Rattle.tx_core.specs.declared.event.Event.TheVariants as events;
 ghost use Rattle.tx_core.specs.Histories.{last};
-ghost use Rattle.tx_client.specs.Sessions.{begun, can_draw, declaration, exceeds, finish_of, is_declared};
+ghost use Rattle.tx_transaction.specs.Sessions.{begun, can_draw, declaration, exceeds, finish_of, is_declared};
 ghost use Rattle.tx_plan.specs.declared.body.Body.TheVariants as body;
-ghost use Rattle.tx_play.specs.Posts.{stage_of, with_events, Foresees, Met, NotesDeclared};
+ghost use Rattle.tx_post.specs.Posts.{stage_of, with_events, Foresees, Met, NotesDeclared};
 ghost use Rattle.tx_play.specs.Places.{Acts, Serves};
 ghost use Rattle.tx_play.specs.Scenes.{declared_in};
 
-use crate::post::{Post, Way};
 use std::alloc::Global;
 use tx_cells::Families;
 use tx_client::{Came, Session, Terms, ask};
 use tx_core::{Body, Declaration, Get, Outcome, Starts};
 use tx_journal::{Naming, Seat};
+use tx_post::{Post, Way};
 use tx_types::{Fault, Key, Ts};
 
 /// A session begins.

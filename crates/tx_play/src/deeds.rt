@@ -3,7 +3,7 @@
 ghost use Rattle.std.specs.Prelude.{◌≡◌, ◌<◌};
 ghost use Rattle.tx_play.specs.Places.{Did};
 ghost use Rattle.tx_play.specs.Scenes.{is_key as key_test, is_value as value_test, sends, is_too_many, deeds_by, deeds};
-ghost use Rattle.tx_play.specs.Posts.{by_name, stage_of};
+ghost use Rattle.tx_post.specs.Posts.{by_name, stage_of};
 ghost use Rattle.tx_play.specs.Steps.{course_of, deed_of};
 
 mod buffer;
@@ -15,12 +15,12 @@ use crate::deeds::buffer::{declare, delete, lock, put};
 pub(crate) use crate::deeds::delivery::deliver;
 use crate::deeds::sending::{abort, commit, draw, get, heartbeat, prewrite, scan};
 pub(crate) use crate::deeds::versions::versions;
-use crate::post::{Post, Way};
 use crate::step::{Act, Reply};
 use std::alloc::Global;
 use tx_cells::Families;
 use tx_client::{Session, Terms};
 use tx_journal::Naming;
+use tx_post::{Post, Way};
 use tx_types::Cause;
 use tx_types::limits::{MAX_KEY_BYTES, MAX_VALUE_BYTES};
 

@@ -6,14 +6,13 @@ ghost use Rattle.std.specs.BTreeMap.{get_by_text};
 ghost use Rattle.tx_client.specs.Calls.{Seated};
 ghost use Rattle.tx_play.specs.declared.places.Slot.TheVariants as slots;
 ghost use Rattle.tx_play.specs.Places.{ActsIn, Held, Goes, AllSeated, Settled, Turned};
-ghost use Rattle.tx_play.specs.Scenes.{delivered_by, is_name as name_test};
+ghost use Rattle.tx_play.specs.Scenes.{delivered_by};
 ghost use Rattle.tx_trace.specs.Traces.{Noted, Traces};
 ghost use Rattle.tx_play.specs.Steps.{begin, acts, finish, stop, resolve, deliver as to_deliver, read, versions as to_show, tick, gc, call_of, deed_of};
 
 use crate::acts::{begin_at, finish_at, read_at, stop_at, tick_at};
 use crate::deeds::{act, deliver, is_key, versions};
 use crate::places::{Slot, first_free, swap_slot};
-use crate::post::Post;
 use crate::resolving::{Direct, collected_as, gc_at, resolve_at};
 use crate::step::{Act, Reply, Step};
 use std::alloc::{AllocError, Global};
@@ -22,8 +21,8 @@ use std::marker::Model;
 use tx_cells::Families;
 use tx_client::{Came, Session};
 use tx_journal::{Naming, Seat, Told};
+use tx_post::{Post, is_name};
 use tx_trace::Trace;
-use tx_types::limits::MAX_NAME_BYTES;
 use tx_types::{Cause, Key, Ts};
 
 /// The engine.
@@ -53,12 +52,6 @@ impl<J: Naming, F: Families + Drop> Drop for Engine<J, F> {
             places: _,
         } = self;
     }
-}
-
-fn is_name(name: &str) -> bool
-    ensures { result ≡ name_test name.now }
-{
-    !name.is_empty() && name.len() <= MAX_NAME_BYTES
 }
 
 // What comes of a request to a region.

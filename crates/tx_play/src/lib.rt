@@ -7,12 +7,10 @@ mod deeds;
 mod engine;
 mod opening;
 mod places;
-mod post;
 mod resolving;
 mod step;
 
 pub use engine::Engine;
 pub use opening::engine_of;
 pub use places::Slot;
-pub use post::{Post, Way};
 pub use step::{Act, Reply, Step};

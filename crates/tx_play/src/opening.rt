@@ -6,11 +6,11 @@ ghost use Rattle.tx_play.specs.Places.{AllSeated};
 
 use crate::engine::Engine;
 use crate::places::Slot;
-use crate::post::Post;
 use std::alloc::{AllocError, Global};
 use tx_cells::Families;
 use tx_client::Session;
 use tx_journal::{Journal, Naming, Seat};
+use tx_post::Post;
 use tx_region::Region;
 use tx_types::Fault;
 

@@ -2,17 +2,17 @@
 ghost use Rattle.std.specs.Prelude.{◌≡◌, ◌<◌, length, Some};
 ghost use Rattle.tx_resolve.specs.Collecting.{gc_walk};
 ghost use Rattle.tx_resolve.specs.Reading.{read_walk};
-ghost use Rattle.tx_play.specs.declared.post.Way.TheVariants as ways;
+ghost use Rattle.tx_post.specs.declared.way.Way.TheVariants as ways;
 ghost use Rattle.tx_play.specs.Places.{Learnt, Resolves, Serves};
-ghost use Rattle.tx_play.specs.Posts.{stage_of, Runs};
+ghost use Rattle.tx_post.specs.Posts.{stage_of, Runs};
 ghost use Rattle.tx_play.specs.Scenes.{collected_as as collected_so, refused_as as refused_so};
 
-use crate::post::Post;
 use crate::step::Reply;
 use tx_cells::Families;
 use tx_client::{Lost, Met, Resolved, Sender, Session};
 use tx_core::Answer;
 use tx_journal::{Naming, Request, Seat};
+use tx_post::Post;
 use tx_resolve::{Counts, gc, resolve};
 use tx_types::{Cause, Fault, Key, Ts};
 
@@ -40,8 +40,8 @@ impl<J: Naming, F: Families + Drop> Drop for Direct<J, F> {
 impl<J: Naming, F: Families> Sender<Request<J>, tx_journal::Reply<J>> for Direct<J, F> {
     ghost use Rattle.std.specs.Prelude.{Some};
     ghost use Rattle.tx_client.specs.Senders.{IsHeld};
-    ghost use Rattle.tx_play.specs.declared.post.Way.TheVariants.{Plain};
-    ghost use Rattle.tx_play.specs.Posts.{Passes};
+    ghost use Rattle.tx_post.specs.declared.way.Way.TheVariants.{Plain};
+    ghost use Rattle.tx_post.specs.Posts.{Passes};
 
     ghost fits = { λ a q. IsHeld J.bounds q.body };
 

@@ -1,6 +1,6 @@
 //! Steps, and what they give.
-use crate::post::Way;
 pub use tx_lines::Reply;
+use tx_post::Way;
 use tx_types::{Mode, Ts};
 
 /// What a live session does, over the text of its line. Keys and values stand for their UTF-8 bytes. What becomes of the request

@@ -8,9 +8,10 @@ use crate::table_tests::shown::{BARE, RAISED, Short, Word, answered, is, stands}
 use std::alloc::Global;
 use std::marker::Brand;
 use std::test::Fail;
-use tx_cells::{Fresh, NestedCells};
+use tx_cells::Fresh;
 use tx_core::Body;
 use tx_journal::{Naming, Opened, Reply, Request, Seat};
+use tx_nested::NestedCells;
 use tx_region::Region;
 use tx_types::Fault;
 

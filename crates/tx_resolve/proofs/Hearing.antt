@@ -18,8 +18,8 @@ use Rattle.tx_core.specs.Worlds.{IsWorldRun}
 use Rattle.tx_core.specs.Laws.{WasToldOf}
 use Rattle.tx_journal.specs.Known.{Known}
 use Rattle.tx_journal.specs.Replies.{Asked}
-use Rattle.tx_client.specs.declared.state.Came.{Came}
-use Rattle.tx_client.specs.declared.state.Came.TheVariants as came
+use Rattle.tx_transaction.specs.declared.state.Came.{Came}
+use Rattle.tx_transaction.specs.declared.state.Came.TheVariants as came
 use Rattle.tx_client.specs.Senders.{Reached, LosesNothing, came_by, came_of}
 use Rattle.tx_client.specs.Facts.{WasAnswered, CameSo}
 use Rattle.tx_client.specs.Calls.{Asks}

@@ -12,7 +12,7 @@ use Rattle.tx_core.proofs.seats.Staying.{among_on}
 use Rattle.tx_journal.specs.Known.{Known}
 use Rattle.tx_journal.specs.Replies.{Asked}
 use Rattle.tx_journal.proofs.Calls.{seen_begins}
-use Rattle.tx_client.specs.declared.state.Came.{Came}
+use Rattle.tx_transaction.specs.declared.state.Came.{Came}
 use Rattle.tx_client.specs.Senders.{Reached, came_of, Learns}
 use Rattle.tx_client.specs.Walks.{Walk, asks, grows, ends, Sends}
 use Rattle.tx_client.specs.Calls.{Asks}

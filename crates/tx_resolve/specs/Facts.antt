@@ -9,8 +9,8 @@ use Rattle.tx_core.specs.Decisions.{decided, HasTwoPhaseLock}
 use Rattle.tx_core.specs.Worlds.{IsWorldRun}
 use Rattle.tx_core.specs.Laws.{WasToldOf, IsLockOf, HadAsyncLock}
 use Rattle.tx_plan.specs.declared.answer.Answer.TheVariants as answer
-use Rattle.tx_client.specs.declared.state.Came.{Came}
-use Rattle.tx_client.specs.declared.state.Came.TheVariants as came
+use Rattle.tx_transaction.specs.declared.state.Came.{Came}
+use Rattle.tx_transaction.specs.declared.state.Came.TheVariants as came
 use Rattle.tx_client.specs.Statuses.{Ends}
 use Rattle.tx_resolve.specs.declared.found.Primary.{Primary}
 use Rattle.tx_resolve.specs.declared.found.Primary.TheVariants as primary

@@ -3,24 +3,18 @@
 //! between the balances of two keys.
 #![tactic(auto)]
 
-mod access;
-mod acts;
-mod collector;
 mod families;
 mod job;
 mod out;
 mod place;
 mod play;
 mod run;
-mod seeds;
-mod sends;
 mod settings;
-mod transfer;
 mod write;
 
 pub use families::{Makes, Plain};
 pub use play::Played;
 pub use run::run_script;
-pub use seeds::Total;
 pub use settings::Settings;
 pub use tx_ledger::{Reply, Spoken, Words};
+pub use tx_work::Total;

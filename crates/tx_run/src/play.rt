@@ -5,12 +5,9 @@ ghost use Rattle.tx_run.specs.Jobs.{IsAbove, AreFalling, AreFrom, HaveOwnSeats};
 ghost use Rattle.tx_ledger.specs.Scripts.{IsWithin};
 ghost use Rattle.tx_ledger.specs.Sources.{TellsPair};
 
-use crate::access::Access;
-use crate::collector::Collector;
 use crate::families::{Makes, families};
 use crate::job::ScriptJob;
 use crate::out::Out;
-use crate::seeds::{Total, play_seeds, read_total};
 use crate::settings::Settings;
 use std::alloc::Global;
 use std::marker::Brand;
@@ -23,6 +20,7 @@ use tx_lines::Broken;
 use tx_sched::{Gate, run_sessions};
 use tx_store::Store;
 use tx_types::Fault;
+use tx_work::{Access, Collector, Total, play_seeds, read_total};
 
 // A store, and the seats for others than its regions.
 fn open<J: Naming, F: Families + Drop, M: Makes<F>>(

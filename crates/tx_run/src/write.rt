@@ -1,12 +1,12 @@
 //! Writing what was played.
 use crate::play::Played;
-use crate::seeds::Total;
 use std::alloc::{AllocError, Global};
 use std::io::Write;
 use tx_core::Outcome;
 use tx_ledger::{Reply, Spoken, put_line};
 use tx_lines::{Broken, finish, put_fault, put_number, send};
 use tx_types::Cause;
+use tx_work::Total;
 
 // Adds the outcomes among these answers: committed, aborted, unknown, read-only.
 fn count(counts: &mut [u64; 4], replies: &[Spoken]) {

@@ -6,9 +6,10 @@ use std::alloc::{AllocError, Global};
 use std::sync::Wait;
 use std::test::Fail;
 use std::thread::Threads;
-use tx_cells::{FlatCells, NestedCells};
 use tx_core::Outcome;
+use tx_flat::FlatCells;
 use tx_lines::Broken;
+use tx_nested::NestedCells;
 use tx_run::{Plain, Played, Reply, Settings, Spoken, run_script};
 use tx_sched::Open;
 

@@ -15,7 +15,7 @@ use Rattle.tx_trace.specs.Traces.{Noted, Traces}
 use Rattle.tx_lines.specs.declared.end.Broken.{Broken}
 use Rattle.tx_lines.specs.declared.end.End.{End}
 use Rattle.tx_lines.specs.declared.end.End.TheVariants.{Well}
-use Rattle.tx_play.specs.Posts.{IsTraced}
+use Rattle.tx_post.specs.Posts.{IsTraced}
 use Rattle.tx_play.specs.Places.{Held, own, AllSeated, Settled}
 use Rattle.tx_play.specs.Openings.{IsOpening}
 use Rattle.tx_script.specs.Checked.{IsBegun, step_lines, steps_told, EndsCheckedLines, BreaksCheckedLines}

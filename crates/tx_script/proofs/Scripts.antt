@@ -18,7 +18,7 @@ use Rattle.tx_lines.specs.Replies.{reply_words, reply_text}
 use Rattle.tx_lines.specs.Faults.{fault_words}
 use Rattle.tx_play.specs.Scenes.{Scene, opening, Turn, goes, inquires, shows, stops}
 use Rattle.tx_play.specs.Plays.{Leads}
-use Rattle.tx_play.specs.Posts.{Desk, IsTraced}
+use Rattle.tx_post.specs.Posts.{Desk, IsTraced}
 use Rattle.tx_play.specs.Places.{Held, scene_of, own, AllSeated, Goes, GoesTo}
 use Rattle.tx_play.specs.Openings.{IsOpening}
 use Rattle.tx_play.proofs.AllGrow.{leads_begin}

@@ -1,7 +1,7 @@
 -- The step that is played, by the form that a line says. None for the steps of runs of workers.
 use Rattle.std.specs.Prelude.{ℕ, List, Option, Some, None}
-use Rattle.tx_play.specs.declared.post.Way.TheVariants.{Plain, Lose, LoseReply, Repeat, Hold}
-use Rattle.tx_play.specs.Posts.{Course}
+use Rattle.tx_post.specs.declared.way.Way.TheVariants.{Plain, Lose, LoseReply, Repeat, Hold}
+use Rattle.tx_post.specs.Posts.{Course}
 use Rattle.tx_play.specs.Steps.{Call, Deed, begin, acts, finish, stop, resolve, deliver, read, versions, tick, gc}
 use Rattle.tx_play.specs.Steps as deed
 use Rattle.tx_steps.specs.Steps.{Asked, Act, Sent, Way}

@@ -1,11 +1,12 @@
 //! The step that is played, by the step that a line says.
 ghost use Rattle.std.specs.Prelude.{◌≡◌, option_map};
-ghost use Rattle.tx_play.specs.Posts.{by_name};
+ghost use Rattle.tx_post.specs.Posts.{by_name};
 ghost use Rattle.tx_play.specs.Steps.{call_of, deed_of};
 ghost use Rattle.tx_steps.specs.Steps.{asked, acted, sent, way};
 ghost use Rattle.tx_script.specs.Calls.{way_of, sending, acting, played};
 
-use tx_play::{Act, Way};
+use tx_play::Act;
+use tx_post::Way;
 use tx_steps::{Action, Delivery, Request, Step};
 use tx_types::Ts;
 

@@ -4,7 +4,7 @@ ghost use Rattle.tx_types.specs.declared.limits.TheConstants as limits;
 ghost use Rattle.tx_core.specs.Worlds.{IsWorldRun};
 ghost use Rattle.tx_play.specs.Places.{AllSeated, own};
 ghost use Rattle.tx_play.specs.Openings.{IsOpening};
-ghost use Rattle.tx_play.specs.Posts.{IsTraced};
+ghost use Rattle.tx_post.specs.Posts.{IsTraced};
 ghost use Rattle.tx_script.specs.Play.{EndsLines, BreaksLines};
 ghost use Rattle.tx_script.specs.Checked.{EndsCheckedLines, BreaksCheckedLines};
 ghost use Rattle.tx_script.specs.Loops.{Ahead, Kept, EndsAt, BreaksAt};

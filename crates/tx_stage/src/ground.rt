@@ -5,9 +5,9 @@ ghost use Rattle.tx_client.specs.Senders.{IsHeld};
 
 use std::alloc::Global;
 use std::marker::Model;
-use tx_cells::NestedCells;
 use tx_client::{Lost, Sender};
 use tx_journal::{Journal, Naming, Reply, Request, Seat, Told};
+use tx_nested::NestedCells;
 use tx_region::Region;
 use tx_resolve::{Counts, gc};
 use tx_types::{Fault, Key, Ts};

@@ -5,7 +5,7 @@ ghost use Rattle.tx_core.specs.declared.event.Event.TheVariants.{Answered, Stopp
 ghost use Rattle.tx_core.specs.Histories.{declared};
 ghost use Rattle.tx_core.specs.Recording.{MayRecord};
 ghost use Rattle.tx_core.specs.Worlds.{IsWorldRun};
-ghost use Rattle.tx_client.specs.Sessions.{with_passed, finish_of};
+ghost use Rattle.tx_transaction.specs.Sessions.{with_passed, finish_of};
 ghost use Rattle.tx_client.specs.Statuses.{lies_above};
 ghost use Rattle.tx_client.specs.Calls.{HasHeard, Records, IsDecidedSo};
 ghost use Rattle.tx_client.specs.Facts.{standing};

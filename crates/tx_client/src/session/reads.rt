@@ -3,19 +3,20 @@ ghost use Rattle.std.specs.Prelude.{◌≡◌, ◌≤◌, ◌⊎◌, ◌++◌, �
 ghost use Rattle.tx_types.specs.declared.fault.Fault.TheVariants as fault;
 ghost use Rattle.tx_core.specs.Allowed.{Allowed};
 ghost use Rattle.tx_journal.specs.Known.{AreRising};
-ghost use Rattle.tx_client.specs.declared.state.Miss.TheVariants.{NoMemory};
-ghost use Rattle.tx_client.specs.declared.state.Part.TheVariants as part;
-ghost use Rattle.tx_client.specs.Sessions.{read_of, scan_of};
+ghost use Rattle.tx_transaction.specs.declared.state.Miss.TheVariants.{NoMemory};
+ghost use Rattle.tx_client.specs.declared.part.Part.TheVariants as part;
+ghost use Rattle.tx_transaction.specs.Sessions.{read_of, scan_of};
 ghost use Rattle.tx_client.specs.Senders.{IsHeld, IsWay};
 ghost use Rattle.tx_client.specs.Walks.{Sends, look_walk, get_walk, part_walk, look_part, IsPart, scan_walk, part_of, low_of, high_of, enough, lesser, greater};
 
+use crate::part::Part;
 use crate::sender::Sender;
 use crate::session::Session;
-use crate::state::{Miss, Part};
 use std::alloc::Global;
 use std::convert::TryFrom;
 use tx_core::{Answer, Body};
 use tx_journal::{Naming, Reply, Request};
+use tx_transaction::Miss;
 use tx_types::{Fault, Key, KeyValues};
 
 impl<J: Naming> Session<J> {

@@ -1,21 +1,21 @@
 //! What a session does in its buffer: it puts, deletes and locks keys, and declares them.
 ghost use Rattle.std.specs.Prelude.{◌≡◌, ◌⊎◌, true, false, IfErr, OnOk, OnErr};
 ghost use Rattle.tx_types.specs.declared.mutation.Mutation.TheVariants as mutation;
-ghost use Rattle.tx_client.specs.Buffers.{touched, locked, is_full};
+ghost use Rattle.tx_transaction.specs.Buffers.{touched, locked, is_full};
 ghost use Rattle.tx_client.specs.Calls.{seated};
-ghost use Rattle.tx_client.specs.Sessions.{is_declared};
-ghost use Rattle.tx_play.specs.Posts.{Desk};
+ghost use Rattle.tx_transaction.specs.Sessions.{is_declared};
+ghost use Rattle.tx_post.specs.Posts.{Desk};
 ghost use Rattle.tx_play.specs.Places.{Did};
 ghost use Rattle.tx_play.specs.Scenes.{is_key as key_test, is_value as value_test, puts, deletes, locks, declares, entered_by};
 
 use crate::acts::declare_at;
 use crate::deeds::{is_key, is_value};
-use crate::post::Post;
 use crate::step::Reply;
 use std::alloc::Global;
 use tx_cells::Families;
 use tx_client::{Session, Terms};
 use tx_journal::Naming;
+use tx_post::Post;
 use tx_types::{Cause, Fault, Key, Value};
 
 // Enters a put into the buffer.

@@ -1,10 +1,10 @@
 //! A held request is delivered: its region takes a copy of it, and its session hears nothing of that.
 ghost use Rattle.tx_play.specs.Places.{Delivered};
 
-use crate::post::Post;
 use crate::step::Reply;
 use tx_cells::Families;
 use tx_journal::Naming;
+use tx_post::Post;
 use tx_types::Cause;
 
 /// A copy of the request that is held under a name is taken, and the request stays held. `Name` where none is held under it.

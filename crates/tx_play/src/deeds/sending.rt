@@ -2,19 +2,19 @@
 //! names.
 ghost use Rattle.std.specs.Prelude.{◌≡◌, ◌<◌, ◌&&◌, true, IfOk};
 ghost use Rattle.tx_client.specs.Walks.{get_walk, scan_walk};
-ghost use Rattle.tx_play.specs.Posts.{by_name};
+ghost use Rattle.tx_post.specs.Posts.{by_name};
 ghost use Rattle.tx_play.specs.Places.{Did, Sent};
 ghost use Rattle.tx_play.specs.Scenes.{is_key as key_test, draws, gets, scans, prewrites, commits, aborts, beats, runs_to, missed_by, said_by, read_by};
 
 use crate::acts::draw_at;
 use crate::deeds::is_key;
-use crate::post::{Post, Way};
 use crate::step::Reply;
 use std::alloc::Global;
 use tx_cells::Families;
 use tx_client::{Miss, Session};
 use tx_core::Answer;
 use tx_journal::Naming;
+use tx_post::{Post, Way};
 use tx_types::{Cause, Fault, Key};
 
 // What it gives that a request had no answer.

@@ -2,11 +2,11 @@
 ghost use Rattle.tx_play.specs.Places.{Inspected};
 
 use crate::deeds::is_key;
-use crate::post::Post;
 use crate::step::Reply;
 use std::alloc::Global;
 use tx_cells::Families;
 use tx_journal::Naming;
+use tx_post::Post;
 use tx_types::Key;
 
 /// What is kept of a key is shown. No event is made.

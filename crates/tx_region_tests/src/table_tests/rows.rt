@@ -2,7 +2,9 @@
 use crate::table_tests::asked::{Ask, body, key};
 use crate::table_tests::shown::{Short, Stand, Word, answered, is, stands};
 use std::alloc::Global;
-use tx_cells::{Families, FlatCells, Fresh, NestedCells};
+use tx_cells::{Families, Fresh};
+use tx_flat::FlatCells;
+use tx_nested::NestedCells;
 use tx_region::Records;
 use tx_types::Ts;
 

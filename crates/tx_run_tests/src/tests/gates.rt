@@ -7,7 +7,7 @@ use std::test::Fail;
 use std::thread;
 use std::thread::Threads;
 use std::time::{Clock, Duration};
-use tx_cells::FlatCells;
+use tx_flat::FlatCells;
 use tx_latch::Cid;
 use tx_lines::Broken;
 use tx_run::{Plain, Settings, run_script};

@@ -6,8 +6,9 @@ use std::sync::atomic::{AtomicU64, Ordering};
 use std::sync::{Arc, Wait};
 use std::test::Fail;
 use std::thread::{Threads, yield_now};
-use tx_cells::{Families, KeyCopy, NestedCells};
+use tx_cells::{Families, KeyCopy};
 use tx_lines::Broken;
+use tx_nested::NestedCells;
 use tx_plan::{Answer, Dropped, Infos, KeyChange, NewLock, Prewrite, ReadView, Scan, TxnView};
 use tx_run::{Makes, Settings, run_script};
 use tx_sched::Open;
@@ -78,7 +79,7 @@ impl Makes<Meeting> for Arc<Place> {
 }
 
 impl Families for Meeting {
-    ghost use Rattle.tx_cells.specs.Nested.{nested_content};
+    ghost use Rattle.tx_nested.specs.Nested.{nested_content};
 
     ghost content = { λ m. nested_content m.cells };
 

@@ -1,7 +1,7 @@
 //! Two threads are inside the look-ups of two regions at once, and never inside those of one.
 ghost use Rattle.std.specs.Prelude.{◌≡◌, IfSome, length};
 ghost use Rattle.tx_cells.specs.Contents.{nothing_held};
-ghost use Rattle.tx_cells.specs.Nested.{nested_content};
+ghost use Rattle.tx_nested.specs.Nested.{nested_content};
 
 use crate::tests::meeting::{Meeting, Place};
 use crate::tests::opening::{one_bound, open};

@@ -1,13 +1,14 @@
 //! Families whose look-ups for reads wait for each other.
 ghost use Rattle.std.specs.Prelude.{◌≡◌, IfSome};
 ghost use Rattle.tx_cells.specs.Contents.{nothing_held};
-ghost use Rattle.tx_cells.specs.Nested.{nested_content};
+ghost use Rattle.tx_nested.specs.Nested.{nested_content};
 
 use std::alloc::Global;
 use std::sync::Arc;
 use std::sync::atomic::{AtomicU64, Ordering};
 use std::thread::yield_now;
-use tx_cells::{Families, KeyCopy, NestedCells};
+use tx_cells::{Families, KeyCopy};
+use tx_nested::NestedCells;
 use tx_plan::{Answer, Dropped, Infos, KeyChange, NewLock, Prewrite, ReadView, Scan, TxnView};
 use tx_types::{Fault, Key, LockInfo, Ts};
 
@@ -79,7 +80,7 @@ impl Meeting {
 }
 
 impl Families for Meeting {
-    ghost use Rattle.tx_cells.specs.Nested.{nested_content};
+    ghost use Rattle.tx_nested.specs.Nested.{nested_content};
 
     ghost content = { λ m. nested_content m.cells };
 

@@ -7,10 +7,11 @@ use std::marker::Brand;
 use std::sync::Wait;
 use std::test::Fail;
 use std::thread::{Threads, join};
-use tx_cells::{Families, NestedCells};
+use tx_cells::Families;
 use tx_client::{Session, Terms};
 use tx_core::Answer;
 use tx_journal::{Naming, Opened, Seat, Told};
+use tx_nested::NestedCells;
 use tx_store::{Store, Wire};
 use tx_types::{Key, Mode, Ts, Value};
 

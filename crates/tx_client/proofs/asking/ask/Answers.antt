@@ -1,7 +1,6 @@
 use Rattle.std.proofs.Common.{◌≡◌, ◌∙◌, Ok, sym, ap, subst}
 use Rattle.tx_journal.specs.Replies.{Asked, Given}
-use Rattle.tx_client.specs.declared.state.Came.{Came}
-use Rattle.tx_client.specs.Senders.{Reached, Learns}
+use Rattle.tx_transaction.specs.declared.state.Came.{Came}
 use Rattle.tx_client.specs.Facts.{CameSo}
 use Rattle.tx_client.proofs.Calling.{came_reached}
 use Rattle.tx_client.proofs.asking.ask.Goals as goal

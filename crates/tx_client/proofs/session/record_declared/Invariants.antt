@@ -1,5 +1,5 @@
 use Rattle.tx_core.specs.declared.event.Event.TheVariants.{Declared}
-use Rattle.tx_client.specs.Sessions.{declaration_of}
+use Rattle.tx_transaction.specs.Sessions.{declaration_of}
 use Rattle.tx_client.proofs.session.record_declared.Given as goal
 
 -- the transaction declares its buffer

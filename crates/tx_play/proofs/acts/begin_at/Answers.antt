@@ -3,7 +3,7 @@ use Rattle.tx_core.specs.declared.event.Event.TheVariants.{Began, Drawn}
 use Rattle.tx_core.specs.Histories.{last, Begins}
 use Rattle.tx_client.specs.Calls.{Seated, HasHeard}
 use Rattle.tx_trace.specs.Traces.{Noted}
-use Rattle.tx_play.specs.Posts.{Desk, GoesOnWith, NotesDrawn, stage_of, with_events}
+use Rattle.tx_post.specs.Posts.{Desk, GoesOnWith, NotesDrawn, stage_of, with_events}
 use Rattle.tx_play.specs.Places.{Acts}
 use Rattle.tx_play.proofs.Acting.{begun_acts}
 use Rattle.tx_play.proofs.acts.begin_at.Goals as goal

@@ -4,13 +4,12 @@ use Rattle.tx_types.specs.declared.fault.Fault.TheVariants as fault
 use Rattle.tx_core.specs.Histories.{History}
 use Rattle.tx_core.specs.declared.event.Declaration.{Declaration}
 use Rattle.tx_client.specs.Calls.{Seated, HasHeard, RecordsDeclared}
-use Rattle.tx_client.specs.Sessions.{State, declaration, exceeds}
-use Rattle.tx_trace.specs.Traces.{Noted}
-use Rattle.tx_play.specs.Posts.{Desk, Foresees, NotesDeclared, stage_of, with_events}
+use Rattle.tx_transaction.specs.Sessions.{State, declaration, exceeds}
+use Rattle.tx_post.specs.Posts.{Desk, Foresees, NotesDeclared, stage_of, with_events}
 use Rattle.tx_play.specs.Places.{Acts}
 use Rattle.tx_play.specs.Scenes.{declared_in}
 use Rattle.tx_play.proofs.Acting.{declared_acts, heard_acts}
-use Rattle.tx_play.proofs.Tracing.{kept_same}
+use Rattle.tx_post.proofs.Tracing.{kept_same}
 use Rattle.tx_play.proofs.acts.declare_at.Goals as goal
 
 pub returns-in-Ok-clause-ok : goal.returns-in-Ok-clause-ok

@@ -2,7 +2,7 @@ use Rattle.std.proofs.Common.{Option, ◌≡◌, ◌+◌, ◌∷◌, sym, ap, su
 use Rattle.tx_core.specs.declared.event.Event.TheVariants.{Drawn}
 use Rattle.tx_core.specs.Histories.{History, last}
 use Rattle.tx_client.specs.Calls.{Seated, HasHeard}
-use Rattle.tx_play.specs.Posts.{Desk, GoesOnWith, stage_of, with_events}
+use Rattle.tx_post.specs.Posts.{Desk, GoesOnWith, stage_of, with_events}
 use Rattle.tx_play.specs.Places.{Acts}
 use Rattle.tx_trace.specs.Traces.{Noted}
 use Rattle.tx_play.proofs.Acting.{drew_acts}

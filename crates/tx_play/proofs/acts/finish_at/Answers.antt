@@ -3,12 +3,12 @@ use Rattle.tx_core.specs.declared.event.Event.TheVariants.{Answered}
 use Rattle.tx_core.specs.Histories.{History}
 use Rattle.tx_journal.specs.Known.{Known}
 use Rattle.tx_client.specs.Calls.{Seated, HasHeard, Records}
-use Rattle.tx_client.specs.Sessions.{State, finish_of}
+use Rattle.tx_transaction.specs.Sessions.{State, finish_of}
 use Rattle.tx_trace.specs.Traces.{Noted}
-use Rattle.tx_play.specs.Posts.{Desk, GoesOnWith, Stage, stage_of, with_events}
+use Rattle.tx_post.specs.Posts.{Desk, GoesOnWith, Stage, stage_of, with_events}
 use Rattle.tx_play.specs.Places.{Acts}
 use Rattle.tx_play.proofs.Acting.{acts_so, recorded_acts, heard_acts}
-use Rattle.tx_play.proofs.Tracing.{kept_same}
+use Rattle.tx_post.proofs.Tracing.{kept_same}
 use Rattle.tx_play.proofs.acts.finish_at.Goals as goal
 
 pub returns-in-Ok-clause-ended : goal.returns-in-Ok-clause-ended

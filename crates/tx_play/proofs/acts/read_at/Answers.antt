@@ -1,6 +1,6 @@
 use Rattle.std.proofs.Common.{ℕ, List, subst}
 use Rattle.tx_plan.specs.declared.body.Body.TheVariants as body
-use Rattle.tx_play.specs.Posts.{stage_of, Met}
+use Rattle.tx_post.specs.Posts.{stage_of, Met}
 use Rattle.tx_play.specs.Places.{Serves}
 use Rattle.tx_play.proofs.Serving.{ask_serves}
 use Rattle.tx_play.proofs.acts.read_at.Goals as goal

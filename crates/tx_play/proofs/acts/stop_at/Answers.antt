@@ -3,9 +3,9 @@ use Rattle.tx_core.specs.declared.event.Event.TheVariants.{Stopped}
 use Rattle.tx_core.specs.Histories.{History}
 use Rattle.tx_journal.specs.Known.{Known}
 use Rattle.tx_client.specs.Calls.{HasHeard}
-use Rattle.tx_play.specs.Posts.{Desk, stage_of, with_events}
+use Rattle.tx_post.specs.Posts.{Desk, stage_of, with_events}
 use Rattle.tx_play.specs.Places.{Acts}
-use Rattle.tx_play.proofs.Tracing.{stopped_on}
+use Rattle.tx_post.proofs.Tracing.{stopped_on}
 use Rattle.tx_play.proofs.Acting.{recorded_acts}
 use Rattle.tx_play.proofs.acts.stop_at.Goals as goal
 

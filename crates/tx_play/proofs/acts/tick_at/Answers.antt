@@ -2,7 +2,7 @@ use Rattle.std.proofs.Common.{Option, ◌≡◌, ◌+◌, ◌∷◌, sym, ap, su
 use Rattle.tx_core.specs.declared.event.Event.TheVariants.{Drawn}
 use Rattle.tx_core.specs.Histories.{last, Begins}
 use Rattle.tx_journal.specs.Known.{Known}
-use Rattle.tx_play.specs.Posts.{Desk, GoesOnWith, stage_of, with_events}
+use Rattle.tx_post.specs.Posts.{Desk, GoesOnWith, stage_of, with_events}
 use Rattle.tx_play.specs.Places.{Serves}
 use Rattle.tx_trace.specs.Traces.{Noted}
 use Rattle.tx_play.proofs.Serving.{tick_serves}

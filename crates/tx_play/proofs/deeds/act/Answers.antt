@@ -1,6 +1,5 @@
 use Rattle.std.proofs.Common.{sym, ap, ◌∙◌}
-use Rattle.tx_play.specs.Posts.{stage_of}
-use Rattle.tx_play.specs.Scenes.{may_go}
+use Rattle.tx_post.specs.Posts.{stage_of, may_go}
 use Rattle.tx_play.specs.Steps.{deed_of}
 use Rattle.tx_play.proofs.Doing.{held_amiss, held_many, goes_on}
 use Rattle.tx_play.proofs.deeds.act.Goals as goal

@@ -1,6 +1,6 @@
 use Rattle.std.proofs.Common.{◌≡◌, ◌<◌, ◌+◌, ◌∷◌, length, ap, subst, ◌∙◌, arith}
 use Rattle.tx_journal.specs.Known.{Known}
-use Rattle.tx_play.specs.Posts.{Desk}
+use Rattle.tx_post.specs.Posts.{Desk}
 use Rattle.tx_play.specs.Openings.{AreDealt}
 use Rattle.tx_play.proofs.Dealt.{removed, numbered, opens, ready, sized}
 use Rattle.tx_play.proofs.opening.engine_of.Goals as goal

@@ -6,8 +6,8 @@ use Rattle.tx_types.specs.declared.lock.LockInfo.{LockInfo}
 use Rattle.tx_resolve.specs.Reading.{read_walk}
 use Rattle.tx_resolve.proofs.Knowing.{told_on}
 use Rattle.tx_play.specs.declared.resolving.Direct.{Direct}
-use Rattle.tx_play.specs.declared.post.Way.TheVariants.{Plain}
-use Rattle.tx_play.specs.Posts.{stage_of, Runs}
+use Rattle.tx_post.specs.declared.way.Way.TheVariants.{Plain}
+use Rattle.tx_post.specs.Posts.{stage_of, Runs}
 use Rattle.tx_play.specs.Places.{Serves}
 use Rattle.tx_play.proofs.Directly.{direct_ticks, direct_serves}
 use Rattle.tx_play.proofs.resolving.find.Goals as goal

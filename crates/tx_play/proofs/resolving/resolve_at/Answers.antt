@@ -4,9 +4,9 @@ use Rattle.tx_core.specs.Histories.{History}
 use Rattle.tx_client.specs.Calls.{Seated}
 use Rattle.tx_client.specs.Statuses.{Stopping}
 use Rattle.tx_lines.specs.declared.reply.Reply.TheVariants as reply
-use Rattle.tx_play.specs.declared.post.Way.TheVariants.{Plain}
+use Rattle.tx_post.specs.declared.way.Way.TheVariants.{Plain}
 use Rattle.tx_resolve.specs.Reading.{read_walk}
-use Rattle.tx_play.specs.Posts.{stage_of, Runs}
+use Rattle.tx_post.specs.Posts.{stage_of, Runs}
 use Rattle.tx_play.specs.Places.{Serves, Resolves}
 use Rattle.tx_play.proofs.Resolves.{resolve_short, resolve_found}
 use Rattle.tx_play.proofs.resolving.resolve_at.Goals as goal

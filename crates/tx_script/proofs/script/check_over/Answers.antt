@@ -1,7 +1,7 @@
 use Rattle.std.proofs.Common.{◌+◌, length, inl, ap, ◌∙◌}
 use Rattle.tx_types.specs.declared.limits.TheConstants.{MAX_LINES}
 use Rattle.tx_play.specs.Places.{Held}
-use Rattle.tx_play.specs.Posts.{IsTraced}
+use Rattle.tx_post.specs.Posts.{IsTraced}
 use Rattle.tx_script.specs.Loops.{AreOf}
 use Rattle.tx_script.proofs.Scripts.{if_err_is}
 use Rattle.tx_script.proofs.Ending.{breaks_lines}

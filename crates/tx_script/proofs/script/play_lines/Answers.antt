@@ -3,7 +3,7 @@ use Rattle.std.proofs.KnownBytes.{Keeps-refl}
 use Rattle.tx_types.specs.declared.limits.TheConstants.{MAX_LINES}
 use Rattle.tx_lines.specs.declared.end.Broken.{Broken}
 use Rattle.tx_play.specs.Places.{Held, own, Goes}
-use Rattle.tx_play.specs.Posts.{IsTraced}
+use Rattle.tx_post.specs.Posts.{IsTraced}
 use Rattle.tx_script.specs.declared.line.Turned.TheVariants as turned
 use Rattle.tx_script.specs.Loops.{FoundTurned, FitsFound, Kept}
 use Rattle.tx_script.proofs.Scripts.{counts_first, kept, ready, still, kept_after, traced_on, if_err_is, if_any_err}

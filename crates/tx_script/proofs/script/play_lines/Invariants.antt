@@ -1,6 +1,6 @@
 use Rattle.std.proofs.Common.{◌+◌, ◌-◌, ◌≤◌, length}
 use Rattle.tx_types.specs.declared.limits.TheConstants.{MAX_LINES}
-use Rattle.tx_play.specs.Posts.{IsTraced}
+use Rattle.tx_post.specs.Posts.{IsTraced}
 use Rattle.tx_play.specs.Places.{own}
 use Rattle.tx_script.proofs.Scripts.{Counts}
 use Rattle.tx_script.proofs.Lines.{On}

@@ -2,7 +2,7 @@ use Rattle.std.proofs.Common.{sym, subst}
 use Rattle.tx_core.specs.declared.event.Event.TheVariants.{Began}
 use Rattle.tx_core.specs.Recording.{MayRecord}
 use Rattle.tx_journal.proofs.Calls.{may_begin_there}
-use Rattle.tx_client.specs.Sessions.{State}
+use Rattle.tx_transaction.specs.Sessions.{State}
 use Rattle.tx_client.specs.Facts.{IsSeated}
 use Rattle.tx_client.proofs.Calling.{began_seated}
 use Rattle.tx_client.proofs.session.Session.begin.Goals as goal

@@ -1,5 +1,5 @@
 use Rattle.std.proofs.Common.{◌≡◌, false, refl, sym, subst}
-use Rattle.tx_client.specs.Sessions.{State, is_declared, declaration}
+use Rattle.tx_transaction.specs.Sessions.{State, is_declared, declaration}
 use Rattle.tx_client.specs.Facts.{IsSeated}
 use Rattle.tx_client.specs.Calls.{Seated}
 use Rattle.tx_client.proofs.Calling.{may_declare_some, declared_seated}

@@ -1,5 +1,5 @@
 use Rattle.std.proofs.Common.{◌≡◌, true, sym, subst}
-use Rattle.tx_client.specs.Sessions.{State, can_draw}
+use Rattle.tx_transaction.specs.Sessions.{State, can_draw}
 use Rattle.tx_client.specs.Facts.{IsSeated}
 use Rattle.tx_client.specs.Calls.{Seated}
 use Rattle.tx_client.proofs.Calling.{drew_seated}

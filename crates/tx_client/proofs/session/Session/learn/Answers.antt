@@ -1,6 +1,6 @@
 use Rattle.std.proofs.Common.{◌≡◌, ◌∙◌, sym, subst}
 use Rattle.tx_core.specs.Histories.{History, Begins}
-use Rattle.tx_client.specs.Sessions.{State, with_passed}
+use Rattle.tx_transaction.specs.Sessions.{State, with_passed}
 use Rattle.tx_client.specs.Statuses.{lies_above}
 use Rattle.tx_client.specs.Facts.{IsSeated}
 use Rattle.tx_client.proofs.Calling.{passed_seated}

@@ -1,5 +1,5 @@
 use Rattle.std.proofs.Common.{◌≡◌, ◌∙◌, sym, ap, subst}
-use Rattle.tx_client.specs.Sessions.{State, after_read}
+use Rattle.tx_transaction.specs.Sessions.{State, after_read}
 use Rattle.tx_client.specs.Facts.{CameSo, IsSeated}
 use Rattle.tx_client.specs.Calls.{Seated, Asks}
 use Rattle.tx_client.proofs.Heard.{read_ok}

@@ -1,5 +1,5 @@
 use Rattle.std.proofs.Common.{◌≡◌, ◌∙◌, sym, ap, subst}
-use Rattle.tx_client.specs.Sessions.{State}
+use Rattle.tx_transaction.specs.Sessions.{State}
 use Rattle.tx_client.specs.Facts.{CameSo, IsFor, IsSeated}
 use Rattle.tx_client.specs.Calls.{Seated}
 use Rattle.tx_client.proofs.Heard.{came_ok}

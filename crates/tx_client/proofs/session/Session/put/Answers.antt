@@ -1,6 +1,6 @@
 use Rattle.std.proofs.Common.{◌≡◌, false, sym, subst}
-use Rattle.tx_types.specs.declared.mutation.Mutation.TheVariants.{Put, Delete}
-use Rattle.tx_client.specs.Sessions.{State, is_declared}
+use Rattle.tx_types.specs.declared.mutation.Mutation.TheVariants.{Put}
+use Rattle.tx_transaction.specs.Sessions.{State, is_declared}
 use Rattle.tx_client.specs.Facts.{IsSeated}
 use Rattle.tx_client.specs.Calls.{Seated}
 use Rattle.tx_client.proofs.Events.{touched_ok}

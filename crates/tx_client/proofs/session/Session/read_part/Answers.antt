@@ -1,7 +1,5 @@
-use Rattle.std.proofs.Common.{◌≡◌, ◌∙◌, List, Some, sym, subst}
-use Rattle.tx_types.specs.declared.key.Key.{Key}
+use Rattle.std.proofs.Common.{◌≡◌, ◌∙◌, Some, sym, subst}
 use Rattle.tx_plan.specs.declared.body.Body.{Body}
-use Rattle.tx_core.specs.Allowed.{Allowed}
 use Rattle.tx_client.specs.Senders.{IsHeld}
 use Rattle.tx_client.specs.Walks.{part_of, greater, low_of, high_of}
 use Rattle.tx_client.proofs.Routing.{held_part}

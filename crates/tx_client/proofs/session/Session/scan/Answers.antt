@@ -1,4 +1,4 @@
-use Rattle.std.proofs.Common.{◌≡◌, ◌≤◌, ◌<◌, ◌∙◌, List, length, ap, sym, subst, arith}
+use Rattle.std.proofs.Common.{◌≤◌, ◌<◌, ◌∙◌, List, length, ap, arith}
 use Rattle.tx_types.specs.declared.key.Key.{Key}
 use Rattle.tx_client.specs.Walks.{scan_walk}
 use Rattle.tx_client.proofs.Scanning.{more_read, done_read, all_read}

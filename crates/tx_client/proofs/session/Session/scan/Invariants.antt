@@ -1,4 +1,3 @@
-use Rattle.std.proofs.Common.{◌≡◌}
 use Rattle.tx_client.specs.Walks.{Continues, scan_walk}
 use Rattle.tx_client.proofs.Scanning.{scan_left}
 use Rattle.tx_client.proofs.session.Session.scan.Given as goal

@@ -1,4 +1,4 @@
-use Rattle.std.proofs.Common.{◌≡◌, ◌<◌, ◌≤◌, ◌∙◌, length, ap, sym, subst, arith}
+use Rattle.std.proofs.Common.{◌≡◌, ◌<◌, ◌≤◌, ◌∙◌, length, ap, subst, arith}
 use Rattle.std.specs.Prelude.{IfOk}
 use Rattle.tx_types.specs.declared.key.Key.{Key}
 use Rattle.tx_client.specs.Walks.{lesser}

@@ -3,7 +3,7 @@ use Rattle.std.proofs.lemmas.Bool.{eqb-true}
 use Rattle.tx_core.specs.Histories.{History, Begins}
 use Rattle.tx_core.specs.declared.event.Event.TheVariants.{Answered}
 use Rattle.tx_client.specs.Calls.{Records}
-use Rattle.tx_client.specs.Sessions.{State}
+use Rattle.tx_transaction.specs.Sessions.{State}
 use Rattle.tx_ledger.specs.Logs.{Logged, TellsBy}
 use Rattle.tx_ledger.specs.Outcomes.{IsBetween}
 use Rattle.tx_ledger.specs.Transfers.{MovesSome}

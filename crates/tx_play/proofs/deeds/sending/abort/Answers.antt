@@ -1,7 +1,7 @@
 use Rattle.std.proofs.Common.{sym}
-use Rattle.tx_play.specs.Posts.{by_name}
+use Rattle.tx_post.specs.Posts.{by_name}
 use Rattle.tx_play.proofs.Asking.{abort_early, abort_sent}
-use Rattle.tx_play.proofs.Walking.{is_way}
+use Rattle.tx_post.proofs.Walking.{is_way}
 use Rattle.tx_play.proofs.deeds.sending.abort.Goals as goal
 
 pub abort_next-requires-clause-way : goal.abort_next-requires-clause-way

@@ -1,5 +1,5 @@
 use Rattle.std.proofs.Common.{ℕ, List, sym, subst, ◌∙◌}
-use Rattle.tx_play.specs.Posts.{by_name}
+use Rattle.tx_post.specs.Posts.{by_name}
 use Rattle.tx_play.specs.Places.{Sent}
 use Rattle.tx_play.proofs.Asking.{getting_key, get_key, get_short, get_sent}
 use Rattle.tx_play.proofs.deeds.sending.get.Goals as goal

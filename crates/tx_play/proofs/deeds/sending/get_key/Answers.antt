@@ -1,10 +1,10 @@
 use Rattle.std.proofs.Common.{[], refl}
 use Rattle.tx_client.specs.Walks.{get_walk}
-use Rattle.tx_play.specs.Posts.{by_name}
+use Rattle.tx_post.specs.Posts.{by_name}
 use Rattle.tx_play.specs.Scenes.{read_by}
 use Rattle.tx_play.proofs.Asking.{getting_key}
 use Rattle.tx_play.proofs.Turning.{did_send}
-use Rattle.tx_play.proofs.Walking.{is_way}
+use Rattle.tx_post.proofs.Walking.{is_way}
 use Rattle.tx_play.proofs.deeds.sending.get_key.Goals as goal
 
 pub get-requires : goal.get-requires

@@ -1,5 +1,5 @@
 use Rattle.std.proofs.Common.{ℕ, List, sym, subst}
-use Rattle.tx_play.specs.Posts.{by_name}
+use Rattle.tx_post.specs.Posts.{by_name}
 use Rattle.tx_play.specs.Places.{Sent}
 use Rattle.tx_play.proofs.Asking.{scanning_keys, scan_key, scan_short, scan_sent}
 use Rattle.tx_play.proofs.deeds.sending.scan.Goals as goal

@@ -1,6 +1,6 @@
 use Rattle.std.proofs.Common.{ℕ, List, ◌∙◌, sym, subst}
 use Rattle.tx_core.specs.Worlds.{route}
-use Rattle.tx_play.specs.Posts.{Displays}
+use Rattle.tx_post.specs.Posts.{Displays}
 use Rattle.tx_play.proofs.Inspecting.{inspect_unkeyed, inspect_short, inspect_refused, inspect_shown}
 use Rattle.tx_play.proofs.deeds.versions.versions.Goals as goal
 

@@ -1,9 +1,9 @@
 use Rattle.std.proofs.Common.{◌≡◌, ◌+◌, length, Some, Contains, sym, ap, subst, ◌∙◌, arith}
 use Rattle.tx_core.specs.Histories.{Begins}
 use Rattle.tx_journal.specs.Known.{Known}
-use Rattle.tx_play.specs.Posts.{Desk, IsDone, AreNumbered}
+use Rattle.tx_post.specs.Posts.{Desk, IsDone, AreNumbered}
 use Rattle.tx_play.specs.Places.{Held, Kept, seat_in, Done}
-use Rattle.tx_play.proofs.Settling.{done_learnt, done_popped}
+use Rattle.tx_post.proofs.Learning.{done_learnt, done_popped}
 use Rattle.tx_play.proofs.engine.Engine.settle.Goals as goal
 
 pub places-preserved-in-Free : goal.places-preserved-in-Free

@@ -1,5 +1,0 @@
-use Rattle.tx_cells.proofs.Places.{AreBehind}
-use Rattle.tx_cells.proofs.flat.next_key.next_front.Given as goal
-
-abbrev pub invariant-steps : goal.invariant-steps
-invariant-steps l = AreBehind l.key l.writes.entries l.rest

@@ -1,6 +1,0 @@
-use Rattle.tx_cells.specs.Nested.{held}
-use Rattle.tx_cells.proofs.Reading.{none_found}
-use Rattle.tx_cells.proofs.nested.key.KeyFamilies.value_searched.Goals as goal
-
-pub returns-in_default-clause-value : goal.returns-in_default-clause-value
-returns-in_default-clause-value c = none_found (held c.args.self.now) c.args.at c.in_default.ensures.seen

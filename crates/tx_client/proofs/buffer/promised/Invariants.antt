@@ -1,7 +1,0 @@
-use Rattle.std.proofs.Common.{◌≡◌}
-use Rattle.tx_client.specs.Buffers.{promised_from}
-use Rattle.tx_client.proofs.Places.{rest}
-use Rattle.tx_client.proofs.buffer.promised.Given as goal
-
-abbrev pub invariant-loop-i : goal.invariant-loop-i
-invariant-loop-i l = promised_from 0 l.buffer.entries ≡ promised_from l.greatest (rest l.i l.buffer.entries)

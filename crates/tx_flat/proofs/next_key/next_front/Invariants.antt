@@ -1,0 +1,5 @@
+use Rattle.tx_flat.proofs.Places.{AreBehind}
+use Rattle.tx_flat.proofs.next_key.next_front.Given as goal
+
+abbrev pub invariant-steps : goal.invariant-steps
+invariant-steps l = AreBehind l.key l.writes.entries l.rest

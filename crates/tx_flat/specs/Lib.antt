@@ -1,0 +1,5 @@
+pub mod Flats
+pub mod NextKeys
+pub mod Sieves
+pub mod Places
+pub mod Ceilings

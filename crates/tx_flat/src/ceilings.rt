@@ -1,0 +1,59 @@
+//! A timestamp for each key that no write record of it is above.
+ghost use Rattle.std.specs.Prelude.{◌≡◌, ◌<◌, ◌≤◌, List, ℕ};
+ghost use Rattle.tx_flat.specs.Ceilings.{place_of, ceiling_of};
+ghost use Rattle.tx_flat.specs.declared.ceilings.TheConstants.{PLACES};
+
+use std::marker::Model;
+use tx_types::{Key, Ts};
+
+/// How many timestamps are kept: keys share one where their last two bytes lead to one place.
+const PLACES: usize = 64;
+
+// The place of a key, by its last two bytes, in which numbered keys differ.
+fn place(key: &Key) -> usize
+    ensures place { result ≡ place_of key.now }
+    ensures within { result < PLACES }
+{
+    let bytes = key.as_bytes();
+    let last = bytes.len() - 1;
+    (bytes[last] as usize + 10 * bytes[last.saturating_sub(1)] as usize) % PLACES
+}
+
+/// A ceiling for each key. It only rises.
+#[derive(Drop)]
+pub(crate) struct Ceilings {
+    marks: [Ts; PLACES],
+}
+
+impl Model for Ceilings {
+    ghost Value = { List ℕ };
+
+    ghost view = { λ c. c.marks };
+}
+
+impl Ceilings {
+    /// All at 0.
+    pub fn new() -> Ceilings {
+        Ceilings {
+            marks: [Ts::ZERO; PLACES],
+        }
+    }
+
+    /// The ceiling of a key.
+    pub fn of(&self, key: &Key) -> Ts
+        ensures { result ≡ ceiling_of self.now key.now }
+    {
+        self.marks[place(key)]
+    }
+
+    /// A record of this key is put at a timestamp.
+    pub fn raise(&mut self, key: &Key, at: Ts)
+        ensures kept { (k : List ℕ) → ceiling_of self.old k ≤ ceiling_of self.new k }
+        ensures above { at ≤ ceiling_of self.new key.now }
+    {
+        let place = place(key);
+        if self.marks[place] < at {
+            self.marks[place] = at;
+        }
+    }
+}

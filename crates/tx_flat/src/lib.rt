@@ -1,0 +1,61 @@
+//! Families as three flat maps, from the bytes of keys and versions to the bytes of records.
+#![tactic(auto)]
+
+ghost use Rattle.std.specs.Prelude.{◌≡◌, ◌<◌, List, ℕ, None};
+ghost use Rattle.std.specs.BTreeMap as tree;
+ghost use Rattle.std.specs.Ordering.{nat_cmp};
+ghost use Rattle.std.specs.Cmp.Lexicographic.{slice_cmp};
+ghost use Rattle.tx_encoded.specs.Spelt.{version_cmp};
+ghost use Rattle.tx_flat.specs.Ceilings.{ceiling_of};
+ghost use Rattle.tx_cells.specs.Contents.{OnKey, IsWhole};
+
+use ceilings::Ceilings;
+use std::alloc::Global;
+use std::collections::BTreeMap;
+use tx_encoded::{KeyBytes, LockBytes, VersionBytes, WriteBytes};
+use tx_types::Value;
+
+mod apply;
+mod ceilings;
+mod cells;
+mod count_below;
+mod drop_below;
+mod families;
+mod front;
+mod lock_info;
+mod next_key;
+mod put_lock;
+mod read;
+mod scan;
+mod searches;
+mod sieve;
+mod view;
+mod walks;
+
+/// The families of a region, flat. No write record of a key is above its ceiling, so a request that is later searches for none.
+#[derive(Drop)]
+pub struct FlatCells {
+    locks: BTreeMap<KeyBytes, LockBytes>,
+    writes: BTreeMap<VersionBytes, WriteBytes>,
+    values: BTreeMap<VersionBytes, Value>,
+    ceilings: Ceilings,
+    ghost whole: { ∥ ((key : List ℕ) → IsWhole (record { lock = tree.get (slice_cmp nat_cmp) locks key; write = λ c. tree.get version_cmp writes (key, c); value = λ t. tree.get version_cmp values (key, t) })) ∥₁ },
+    ghost bounded: { ∥ ((key : List ℕ) (q : ℕ) → ceiling_of ceilings key < q → tree.get version_cmp writes (key, q) ≡ None) ∥₁ },
+}
+
+impl FlatCells {
+    ghost use Rattle.tx_cells.specs.Contents.{nothing_held};
+    ghost use Rattle.tx_flat.specs.Flats.{flat_content};
+
+    /// Families that hold nothing.
+    pub fn new(alloc: Global) -> FlatCells
+        ensures { flat_content result ≡ (λ k. nothing_held) }
+    {
+        FlatCells {
+            locks: BTreeMap::new(alloc),
+            writes: BTreeMap::new(alloc),
+            values: BTreeMap::new(alloc),
+            ceilings: Ceilings::new(),
+        }
+    }
+}

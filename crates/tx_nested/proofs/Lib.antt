@@ -1,0 +1,10 @@
+-- Which records go where all below the safe point go but one that may stay.
+mod Going
+-- What changes of nested maps make of what is held.
+mod NestedMaps
+-- The entries of nested maps, as the rows of walks.
+mod NestedRows
+-- Collection of all keys of nested maps.
+mod NestedCollects
+-- The records below a safe point go one after the other, from the newest on.
+mod DropSteps

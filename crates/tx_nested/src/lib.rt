@@ -1,0 +1,43 @@
+//! Families as a map from keys to what is held of them.
+#![tactic(auto)]
+
+use crate::key::KeyFamilies;
+use std::alloc::Global;
+use std::collections::BTreeMap;
+use tx_encoded::KeyBytes;
+
+mod apply;
+mod cells;
+mod collection;
+mod count_below;
+mod drop_below;
+mod families;
+mod key;
+mod lock_info;
+mod put_lock;
+mod read;
+mod scan;
+mod searches;
+mod view;
+mod walks;
+
+/// The families of a region, nested.
+#[derive(Drop)]
+pub struct NestedCells {
+    keys: BTreeMap<KeyBytes, KeyFamilies>,
+}
+
+impl NestedCells {
+    ghost use Rattle.std.specs.Prelude.{◌≡◌};
+    ghost use Rattle.tx_cells.specs.Contents.{nothing_held};
+    ghost use Rattle.tx_nested.specs.Nested.{nested_content};
+
+    /// Families that hold nothing.
+    pub fn new(alloc: Global) -> NestedCells
+        ensures { nested_content result ≡ (λ k. nothing_held) }
+    {
+        NestedCells {
+            keys: BTreeMap::new(alloc),
+        }
+    }
+}

@@ -1,0 +1,105 @@
+//! What a read sees of its key.
+ghost use Rattle.std.specs.Prelude.{◌≡◌, Some, IfOk, IfErr};
+ghost use Rattle.tx_plan.specs.Reads.{Reads};
+ghost use Rattle.tx_plan.specs.Views.{ShowsRead};
+ghost use Rattle.tx_cells.specs.Contents.{cells_of};
+ghost use Rattle.tx_cells.specs.Histories.{IsSeen};
+
+use crate::NestedCells;
+use crate::key::KeyFamilies;
+use crate::searches::NestedHistory;
+use std::alloc::Global;
+use tx_cells::{Seen, seen_at};
+use tx_encoded::{KeyBytes, WriteBytes, seen_in};
+use tx_plan::ReadView;
+use tx_types::{Fault, Key, Ts, Value};
+
+impl KeyFamilies {
+    ghost use Rattle.tx_nested.specs.Nested.{held};
+
+    // The value that a read at this timestamp sees by this record, the newest put or delete.
+    fn value_in(
+        &self,
+        alloc: Global,
+        bytes: &WriteBytes,
+        at: Ts,
+        seen: Seen,
+    ) -> Result<Option<Value>, Fault>
+        requires seen { IsSeen (held self.now).write at seen.commit seen.start seen.kind }
+        requires stands { (held self.now).write seen.commit ≡ Some bytes.now }
+        ensures value { IfOk result (λ value. Reads (cells_of (held self.now)).write at value) }
+        ensures err { IfErr result (λ e. e ≡ Fault.OutOfMemory) }
+    {
+        let _ = at;
+        if !bytes.keeps_value_apart() {
+            return bytes.inline_value(alloc);
+        }
+        match self.values.get(&seen.start) {
+            Some(value) => Ok(Some(value.clone()?)),
+            None => Ok(None),
+        }
+    }
+
+    // The same, by a search for that record.
+    fn value_searched(&self, alloc: Global, at: Ts) -> Result<Option<Value>, Fault>
+        ensures value { IfOk result (λ value. Reads (cells_of (held self.now)).write at value) }
+        ensures err { IfErr result (λ e. e ≡ Fault.OutOfMemory) }
+    {
+        let mut history = NestedHistory {
+            writes: &self.writes,
+        };
+        let Some(seen) = seen_at(&mut history, at) else {
+            return Ok(None);
+        };
+        match self.writes.get(seen.commit) {
+            Some(bytes) => self.value_in(alloc, bytes, at, seen),
+            None => Ok(None),
+        }
+    }
+
+    // The same. Mostly the newest record is the one.
+    fn value_at(&self, alloc: Global, at: Ts) -> Result<Option<Value>, Fault>
+        ensures value { IfOk result (λ value. Reads (cells_of (held self.now)).write at value) }
+        ensures err { IfErr result (λ e. e ≡ Fault.OutOfMemory) }
+    {
+        let Some((commit, bytes)) = self.writes.last() else {
+            return Ok(None);
+        };
+        if commit > at {
+            return self.value_searched(alloc, at);
+        }
+        match seen_in(commit, bytes) {
+            Some(seen) => self.value_in(alloc, bytes, at, seen),
+            None => self.value_searched(alloc, at),
+        }
+    }
+
+    /// What a read at this timestamp sees of the key.
+    pub(crate) fn read(&self, alloc: Global, at: Ts) -> Result<ReadView, Fault>
+        ensures shows { IfOk result (λ view. ShowsRead (cells_of (held self.now)) at view) }
+        ensures err { IfErr result (λ e. e ≡ Fault.OutOfMemory) }
+    {
+        let lock = self.lock_head();
+        let value = self.value_at(alloc, at)?;
+        Ok(ReadView { lock, value })
+    }
+}
+
+impl NestedCells {
+    ghost use Rattle.tx_nested.specs.Nested.{nested_content};
+
+    /// What a read at this timestamp sees of its key.
+    pub(crate) fn read_of(&self, alloc: Global, key: &Key, at: Ts) -> Result<ReadView, Fault>
+        ensures shows { IfOk result (λ view. ShowsRead (cells_of (nested_content self.now key.now)) at view) }
+        ensures err { IfErr result (λ e. e ≡ Fault.OutOfMemory) }
+    {
+        let spelt = KeyBytes::new(alloc, key)?;
+        match self.keys.get(&spelt) {
+            Some(on_key) => on_key.read(alloc, at),
+            None => Ok(ReadView {
+                lock: None,
+                value: None,
+            }),
+        }
+    }
+}

@@ -1,0 +1,30 @@
+use Rattle.std.proofs.Common.{option_map, string_bytes, refl, sym, subst}
+use Rattle.tx_post.specs.Posts.{Desk, AllFit, by_name, requests, Keeps}
+use Rattle.tx_post.proofs.Holding.{requests_set, fit_set, many_set}
+use Rattle.tx_post.proofs.post.Post.hold.Goals as goal
+
+pub invariant_of-self : goal.invariant_of-self
+invariant_of-self g c = (
+  c.self.invariant.0,
+  c.self.invariant.1,
+  fit_set g.J.Naming.bounds c.self.inside.held c.keep.new.held (string_bytes c.args.name) c.args.request c.in-Ok.ensures.sets c.requires c.self.invariant.2,
+)
+
+pub invariant_of-self-in-Err : goal.invariant_of-self-in-Err
+invariant_of-self-in-Err g c = (c.self.invariant.0, c.self.invariant.1, subst (λ es. AllFit g.J.Naming.bounds (requests es)) (sym c.in-Err.ensures.same.1) c.self.invariant.2)
+
+pub returns-in-Ok : goal.returns-in-Ok
+returns-in-Ok g c =
+    let old = c.self.inside.held in
+    let new = c.keep.new.held in
+    let name = string_bytes c.args.name in
+    let s = c.self.inside in
+    let to : Desk = record { regions = s.regions.items; newest = s.newest; held = requests new.entries; way = option_map (by_name string_bytes) s.way; trace = s.trace } in
+    subst (λ (d : Desk). Keeps name d to c.args.request) c.self.view_is (record {
+      regions = refl;
+      newest = refl;
+      held = requests_set old new name c.args.request c.in-Ok.ensures.sets;
+      many = many_set old new name c.in-Ok.ensures.many;
+      way = refl;
+      trace = refl;
+    })

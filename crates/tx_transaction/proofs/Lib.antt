@@ -1,0 +1,6 @@
+-- The buffer by places.
+pub mod Places
+-- Keys that are looked up in a buffer.
+pub mod Finding
+-- The buffer by places: what it declares, and what stands in it.
+pub mod Entries

@@ -1,0 +1,255 @@
+//! The write buffer: keys in the order in which they were first touched.
+ghost use Rattle.std.specs.Prelude.{◌≡◌, ◌<◌, ◌≤◌, length, IfOk, IfErr, IfSome, OnOk, OnErr, is_some, max, option_map, bytes_eq};
+ghost use Rattle.tx_machine.specs.Keys.{IsDistinct};
+ghost use Rattle.tx_types.specs.declared.mutation.Mode.TheVariants.{Async};
+ghost use Rattle.tx_transaction.specs.Buffers.{Entries, key_at, mutation_in, progress_at, with_progress, first_place, wants, is_full, is_change, is_known, not_empty, changes_of, touched, buffered, has_two_phase_lock, async_minimum, promised, is_zero};
+ghost use Rattle.tx_transaction.specs.Sessions.{others_at, sent_by, marked_by};
+
+use crate::answers::{mark, mark_sent};
+use crate::state::{Entry, Phase, Progress};
+use indexmap::IndexMap;
+use std::alloc::Global;
+use tx_core::Answer;
+use tx_types::limits::MAX_KEYS;
+use tx_types::{Change, Changes, Fault, Key, Mutation, Secondaries, Ts};
+
+pub(crate) type Buffer = IndexMap<Key, Entry>;
+
+/// Whether the key would be one too many.
+pub(crate) fn is_full(buffer: &Buffer, key: &Key) -> bool
+    ensures { result ≡ is_full buffer.now.entries key.now }
+{
+    buffer.len() >= MAX_KEYS && find(buffer, key).is_none()
+}
+
+/// Sets what is done to a key, of which then nothing was answered yet.
+pub(crate) fn touch(buffer: &mut Buffer, key: Key, mutation: Mutation) -> Result<(), Fault>
+    ensures ok { OnOk result (buffer.new.entries ≡ touched buffer.old.entries key mutation) }
+    ensures same { OnErr result (buffer.new.entries ≡ buffer.old.entries) }
+    ensures err { IfErr result (λ e. e ≡ Fault.OutOfMemory) }
+{
+    let progress = Progress {
+        sent: false,
+        accepted: None,
+        committed: false,
+        rolled: false,
+    };
+    buffer.insert(key, Entry { mutation, progress })?;
+    Ok(())
+}
+
+/// What is done to a key, where it is in the buffer.
+pub(crate) fn find<'a>(buffer: &'a Buffer, key: &Key) -> Option<&'a Mutation>
+    ensures { option_map (λ m. m.now) result ≡ buffered buffer.now.entries key.now }
+{
+    match buffer.get(key) {
+        Some(entry) => Some(&entry.mutation),
+        None => None,
+    }
+}
+
+// Whether the key at a place has these bytes.
+fn is_at(buffer: &Buffer, i: usize, key: &[u8]) -> bool
+    requires { i < length buffer.now.entries }
+    ensures { result ≡ bytes_eq (key_at buffer.now.entries i) key.now }
+{
+    match buffer.get_index(i) {
+        Some((k, _)) => k.as_bytes() == key,
+        None => unreachable!(),
+    }
+}
+
+// Whether it changes what is read.
+fn is_change(mutation: &Mutation) -> bool
+    ensures { result ≡ is_change mutation.now }
+{
+    match mutation {
+        Mutation::Put(_) | Mutation::Delete => true,
+        Mutation::Lock => false,
+    }
+}
+
+// Whether the key at a place is put or deleted.
+fn is_changed(buffer: &Buffer, i: usize) -> bool
+    requires { i < length buffer.now.entries }
+    ensures { result ≡ is_change (mutation_in buffer.now.entries i) }
+{
+    match buffer.get_index(i) {
+        Some((_, entry)) => is_change(&entry.mutation),
+        None => unreachable!(),
+    }
+}
+
+/// Whether a read of the key of these bytes is answered from the buffer.
+pub(crate) fn is_known(buffer: &Buffer, key: &[u8]) -> bool
+    ensures { result ≡ is_known (buffered buffer.now.entries key.now) }
+{
+    for i in 0..buffer.len() {
+        if is_at(buffer, i, key) {
+            return is_changed(buffer, i);
+        }
+    }
+    false
+}
+
+fn wants_more(phase: Phase, progress: Progress) -> bool
+    ensures { result ≡ wants phase progress }
+{
+    match phase {
+        Phase::Prewrite => progress.accepted.is_none(),
+        Phase::Commit => !progress.committed,
+        Phase::Abort => progress.sent && !progress.rolled,
+    }
+}
+
+/// The place of the first key of which the phase has something left to send.
+pub(crate) fn place_of(buffer: &Buffer, phase: Phase) -> Option<usize>
+    ensures place { result ≡ first_place phase buffer.now.entries }
+    ensures within { IfSome result (λ i. i < length buffer.now.entries) }
+{
+    for i in 0..buffer.len() {
+        if wants_more(phase, progress_of(buffer, i)) {
+            return Some(i);
+        }
+    }
+    None
+}
+
+/// A copy of the key at a place.
+pub(crate) fn key_of(buffer: &Buffer, i: usize) -> Result<Key, Fault>
+    requires { i < length buffer.now.entries }
+    ensures ok { IfOk result (λ k. k ≡ key_at buffer.now.entries i) }
+    ensures err { IfErr result (λ e. e ≡ Fault.OutOfMemory) }
+{
+    match buffer.get_index(i) {
+        Some((key, _)) => key.clone(),
+        None => unreachable!(),
+    }
+}
+
+/// A copy of the mutation at a place.
+pub(crate) fn mutation_of(buffer: &Buffer, i: usize) -> Result<Mutation, Fault>
+    requires { i < length buffer.now.entries }
+    ensures ok { IfOk result (λ m. m ≡ mutation_in buffer.now.entries i) }
+    ensures err { IfErr result (λ e. e ≡ Fault.OutOfMemory) }
+{
+    match buffer.get_index(i) {
+        Some((_, entry)) => entry.mutation.clone(),
+        None => unreachable!(),
+    }
+}
+
+pub(crate) fn progress_of(buffer: &Buffer, i: usize) -> Progress
+    requires { i < length buffer.now.entries }
+    ensures { result ≡ progress_at buffer.now.entries i }
+{
+    match buffer.get_index(i) {
+        Some((_, entry)) => entry.progress,
+        None => unreachable!(),
+    }
+}
+
+/// Notes what was sent and answered for the key at a place.
+pub(crate) fn note(buffer: &mut Buffer, i: usize, phase: Phase, answer: &Answer)
+    requires { i < length buffer.old.entries }
+    ensures { buffer.new.entries ≡ with_progress buffer.old.entries i (marked_by phase answer.now (sent_by phase (progress_at buffer.old.entries i))) }
+{
+    if let Some(entry) = buffer.get_index_mut(i) {
+        mark(phase, answer, &mut entry.progress);
+    }
+}
+
+/// Notes that a request was sent for the key at a place.
+pub(crate) fn note_sent(buffer: &mut Buffer, i: usize, phase: Phase)
+    requires { i < length buffer.old.entries }
+    ensures { buffer.new.entries ≡ with_progress buffer.old.entries i (sent_by phase (progress_at buffer.old.entries i)) }
+{
+    if let Some(entry) = buffer.get_index_mut(i) {
+        mark_sent(phase, &mut entry.progress);
+    }
+}
+
+pub(crate) fn has_keys(buffer: &Buffer) -> bool
+    ensures { result ≡ not_empty buffer.now.entries }
+{
+    !buffer.is_empty()
+}
+
+/// The write set.
+pub(crate) fn changes_in(alloc: Global, buffer: &Buffer) -> Result<Changes, Fault>
+    ensures all { IfOk result (λ c. c ≡ changes_of buffer.now.entries) }
+    ensures distinct { OnOk result (IsDistinct (changes_of buffer.now.entries)) }
+    ensures err { IfErr result (λ e. e ≡ Fault.OutOfMemory) }
+{
+    let mut changes = Changes::new(alloc);
+    for i in 0..buffer.len() {
+        let key = key_of(buffer, i)?;
+        let mutation = mutation_of(buffer, i)?;
+        changes.push(Change { key, mutation })?;
+    }
+    Ok(changes)
+}
+
+/// All keys but the first.
+pub(crate) fn other_keys(alloc: Global, buffer: &Buffer) -> Result<Secondaries, Fault>
+    requires { length buffer.now.entries ≤ 256 }
+    ensures ok { IfOk result (λ keys. keys ≡ others_at Async buffer.now.entries 0) }
+    ensures err { IfErr result (λ e. e ≡ Fault.OutOfMemory) }
+{
+    let mut keys = Secondaries::new(alloc);
+    for i in 1..buffer.len() {
+        keys.push(key_of(buffer, i)?)?;
+    }
+    Ok(keys)
+}
+
+fn is_two_phase(progress: Progress) -> bool
+    ensures { result ≡ is_zero progress.accepted }
+{
+    progress.accepted == Some(Ts::ZERO)
+}
+
+/// Whether some key has a two-phase lock.
+pub(crate) fn has_two_phase_lock(buffer: &Buffer) -> bool
+    ensures { result ≡ has_two_phase_lock buffer.now.entries }
+{
+    for i in 0..buffer.len() {
+        if is_two_phase(progress_of(buffer, i)) {
+            return true;
+        }
+    }
+    false
+}
+
+// The minimum of an async lock.
+fn async_minimum(progress: Progress) -> Option<Ts>
+    ensures { result ≡ async_minimum progress.accepted }
+{
+    match progress.accepted {
+        Some(minimum) if minimum > Ts::ZERO => Some(minimum),
+        _ => None,
+    }
+}
+
+fn later(a: Ts, b: Ts) -> Ts
+    ensures { result ≡ max a b }
+{
+    if a < b { b } else { a }
+}
+
+/// The greatest minimum, where each key has an async lock.
+pub(crate) fn promised(buffer: &Buffer) -> Option<Ts>
+    ensures { result ≡ promised buffer.now.entries }
+{
+    if !has_keys(buffer) {
+        return None;
+    }
+    let mut greatest = Ts::ZERO;
+    for i in 0..buffer.len() {
+        let Some(minimum) = async_minimum(progress_of(buffer, i)) else {
+            return None;
+        };
+        greatest = later(greatest, minimum);
+    }
+    Some(greatest)
+}

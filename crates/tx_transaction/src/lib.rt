@@ -1,0 +1,11 @@
+//! A transaction as its client knows it: its write buffer, what is due of it, what came of its requests, and what is known of its fate. It
+//! sends nothing: sessions do.
+#![tactic(auto)]
+
+mod answers;
+mod buffer;
+mod state;
+mod transaction;
+
+pub use state::{Came, Due, Entry, Miss, Phase, Progress, Terms};
+pub use transaction::Transaction;

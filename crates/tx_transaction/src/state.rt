@@ -1,0 +1,68 @@
+//! What a session keeps of its transaction.
+use tx_plan::{Answer, Body};
+use tx_types::{Mode, Mutation, Ts};
+
+/// How a transaction commits.
+#[derive(Clone, Copy, Debug, PartialEq, Eq)]
+pub struct Terms {
+    pub mode: Mode,
+    /// The time to live of its locks, in ticks.
+    pub ttl: u32,
+    /// The greatest commit timestamp that an async lock may promise; none is no bound.
+    pub max_commit: Option<Ts>,
+}
+
+/// What a session sends for.
+#[derive(Clone, Copy, Debug, PartialEq, Eq)]
+pub enum Phase {
+    Prewrite,
+    Commit,
+    Abort,
+}
+
+/// What was sent and answered for a key.
+#[derive(Clone, Copy, Debug, PartialEq, Eq)]
+pub struct Progress {
+    /// A prewrite of it was sent.
+    pub sent: bool,
+    /// The minimum commit timestamp of its accepted lock, 0 of a two-phase one.
+    pub accepted: Option<Ts>,
+    /// A commit of it was answered as committed.
+    pub committed: bool,
+    /// It was answered that a rollback stands on it.
+    pub rolled: bool,
+}
+
+/// What a session does to a key, and how far it is.
+#[derive(Debug, Drop)]
+pub struct Entry {
+    pub mutation: Mutation,
+    pub progress: Progress,
+}
+
+/// What came of a request.
+#[derive(Debug, Drop)]
+pub enum Came {
+    /// No reply.
+    Lost,
+    /// A reply without an answer: the region was refused memory.
+    Unsaid,
+    /// An answer.
+    Said(Answer),
+}
+
+/// Why a call has no answer.
+#[derive(Clone, Copy, Debug, PartialEq, Eq)]
+pub enum Miss {
+    /// No reply came.
+    NoReply,
+    /// Memory was refused, to the session or to the region.
+    NoMemory,
+}
+
+/// A request that is due, and the place of its key in the buffer.
+#[derive(Debug, Drop)]
+pub struct Due {
+    pub place: usize,
+    pub body: Body,
+}

@@ -1,0 +1,173 @@
+//! One transaction, as its client knows it: the rules of a session, without its seat.
+ghost use Rattle.std.specs.Prelude.{◌≡◌, ◌⊎◌, true, false, Ok, Err, IfOk, IfErr, OnOk, OnErr};
+ghost use Rattle.tx_transaction.specs.Buffers.{touched, locked, buffered, is_full, is_known, not_empty};
+ghost use Rattle.tx_transaction.specs.Sessions.{begun, is_declared, has_primary, declaration, exceeds};
+ghost use Rattle.tx_transaction.specs.declared.state.Miss.TheVariants.{NoMemory};
+ghost use Rattle.tx_transaction.specs.Returns.{IsBuffered};
+
+mod fate;
+mod hearing;
+mod requests;
+
+use crate::buffer::{Buffer, changes_in, find, has_keys, is_full, is_known, touch};
+use crate::state::{Miss, Terms};
+use indexmap::IndexMap;
+use std::alloc::Global;
+use std::marker::Model;
+use tx_core::{Answer, Declaration, Starts, UnknownCause};
+use tx_types::limits::MAX_ASYNC_KEYS;
+use tx_types::{Fate, Fault, Key, LockInfo, Mode, Mutation, Ts, Value};
+
+// A copy of a value, as an answer.
+fn found(value: &Value) -> Result<Answer, Miss>
+    ensures { (result ≡ Err NoMemory) ⊎ (result ≡ Ok (Answer.Found value.now)) }
+{
+    match value.clone() {
+        Ok(value) => Ok(Answer::Found(value)),
+        Err(_) => Err(Miss::NoMemory),
+    }
+}
+
+/// One transaction: its write buffer, what was sent and answered of each key, and what is known of its fate.
+#[derive(Debug, Drop)]
+pub struct Transaction {
+    start: Ts,
+    buffer: Buffer,
+    declared: Option<Terms>,
+    bypass: Starts,
+    met: Option<LockInfo>,
+    drawn: Option<Ts>,
+    decision: Option<Fate>,
+    cause: Option<UnknownCause>,
+}
+
+impl Model for Transaction {
+    ghost use Rattle.tx_transaction.specs.Sessions.{State};
+    ghost use Rattle.tx_transaction.specs.Sessions.{Few};
+
+    ghost Value = { State };
+
+    ghost view = { λ t. record { start = t.start; buffer = t.buffer.entries; declared = t.declared; bypass = t.bypass; met = t.met; drawn = t.drawn; decision = t.decision; cause = t.cause } };
+
+    ghost invariant = { λ t. Few t.declared t.buffer.entries };
+}
+
+impl Transaction {
+    /// A transaction that starts here. It takes no memory.
+    pub fn begin(alloc: Global, start: Ts) -> Transaction
+        ensures { result ≡ begun start }
+    {
+        Transaction {
+            start,
+            buffer: IndexMap::new(alloc),
+            declared: None,
+            bypass: Starts::new(alloc),
+            met: None,
+            drawn: None,
+            decision: None,
+            cause: None,
+        }
+    }
+
+    pub fn start(&self) -> Ts
+        ensures { result ≡ self.now.start }
+    {
+        self.start
+    }
+
+    pub fn is_declared(&self) -> bool
+        ensures { result ≡ is_declared self.now }
+    {
+        self.declared.is_some()
+    }
+
+    pub fn has_primary(&self) -> bool
+        ensures { result ≡ has_primary self.now }
+    {
+        self.declared.is_some() && has_keys(&self.buffer)
+    }
+
+    /// What the buffer answers to a read of a key.
+    pub fn answer_of(&self, key: &Key) -> Option<Result<Answer, Miss>>
+        ensures { IsBuffered (buffered self.now.buffer key.now) result }
+    {
+        match find(&self.buffer, key) {
+            Some(Mutation::Put(value)) => Some(found(value)),
+            Some(Mutation::Delete) => Some(Ok(Answer::Nothing)),
+            _ => None,
+        }
+    }
+
+    /// Whether the buffer answers a read of the key of these bytes.
+    pub fn is_known(&self, key: &[u8]) -> bool
+        ensures { result ≡ is_known (buffered self.now.buffer key.now) }
+    {
+        is_known(&self.buffer, key)
+    }
+
+    /// Enters a change of a key into the buffer. A key that is there keeps its place.
+    pub fn touch(&mut self, key: Key, mutation: Mutation) -> Result<(), Fault>
+        requires { is_declared self.old ≡ false }
+        ensures ok { OnOk result ((is_full self.old.buffer key ≡ false) × (self.new ≡ record self.old { buffer = touched self.old.buffer key mutation })) }
+        ensures same { OnErr result (self.new ≡ self.old) }
+        ensures err { IfErr result (λ e. (e ≡ Fault.OutOfMemory) ⊎ ((e ≡ Fault.TooManyKeys) × (is_full self.old.buffer key ≡ true))) }
+    {
+        if is_full(&self.buffer, &key) {
+            return Err(Fault::TooManyKeys);
+        }
+        touch(&mut self.buffer, key, mutation)
+    }
+
+    /// Enters a lock of a key that is not in the buffer.
+    pub fn lock(&mut self, key: Key) -> Result<(), Fault>
+        requires { is_declared self.old ≡ false }
+        ensures ok { OnOk result ((is_full self.old.buffer key ≡ false) × (self.new ≡ record self.old { buffer = locked self.old.buffer key })) }
+        ensures same { OnErr result (self.new ≡ self.old) }
+        ensures err { IfErr result (λ e. (e ≡ Fault.OutOfMemory) ⊎ ((e ≡ Fault.TooManyKeys) × (is_full self.old.buffer key ≡ true))) }
+    {
+        if find(&self.buffer, &key).is_some() {
+            return Ok(());
+        }
+        self.touch(key, Mutation::Lock)
+    }
+
+    /// Whether its buffer has a key.
+    pub fn has_keys(&self) -> bool
+        ensures { result ≡ not_empty self.now.buffer }
+    {
+        has_keys(&self.buffer)
+    }
+
+    /// What the buffer declares under these terms, which is nothing where it is empty.
+    pub fn declaration(&self, alloc: Global, terms: &Terms) -> Result<Option<Declaration>, Fault>
+        ensures ok { IfOk result (λ d. d ≡ declaration self.now.start self.now.buffer terms.now) }
+        ensures err { IfErr result (λ e. e ≡ Fault.OutOfMemory) }
+    {
+        if !has_keys(&self.buffer) {
+            return Ok(None);
+        }
+        let changes = changes_in(alloc, &self.buffer)?;
+        Ok(Some(Declaration {
+            start: self.start,
+            changes,
+            mode: terms.mode,
+            ttl: terms.ttl,
+            max_commit: terms.max_commit,
+        }))
+    }
+
+    /// Whether the buffer has more keys than these terms allow.
+    pub fn exceeds(&self, terms: &Terms) -> bool
+        ensures { result ≡ exceeds self.now.buffer terms.now }
+    {
+        terms.mode == Mode::Async && self.buffer.len() > MAX_ASYNC_KEYS
+    }
+
+    /// Its buffer is fixed under these terms.
+    pub fn declare(&mut self, terms: Terms)
+        requires { exceeds self.old.buffer terms ≡ false }
+        ensures { self.new ≡ record self.old { declared = Some terms } }
+    {
+        self.declared = Some(terms);
+    }
+}

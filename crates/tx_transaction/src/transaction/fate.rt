@@ -1,0 +1,125 @@
+//! What may be done of a transaction, and what is known of its fate.
+ghost use Rattle.std.specs.Prelude.{◌≡◌, Some, IfOk, IfErr, OnOk, OnErr, is_some};
+ghost use Rattle.tx_transaction.specs.declared.state.Phase.TheVariants as phase;
+ghost use Rattle.tx_transaction.specs.Buffers.{first_place};
+ghost use Rattle.tx_transaction.specs.Sessions.{can_draw, may_commit, can_commit, may_abort, can_abort, with_passed, finish_of};
+
+use super::Transaction;
+use crate::buffer::{has_keys, has_two_phase_lock, place_of};
+use crate::state::Phase;
+use tx_core::Outcome;
+use tx_types::{Fate, Fault, LockInfo, Mode, Ts};
+
+impl Transaction {
+    /// Whether a commit timestamp may be drawn.
+    pub fn can_draw(&self) -> bool
+        ensures { result ≡ can_draw self.now }
+    {
+        self.decision.is_none()
+            && self.drawn.is_none()
+            && self.has_primary()
+            && place_of(&self.buffer, Phase::Prewrite).is_none()
+            && has_two_phase_lock(&self.buffer)
+    }
+
+    /// Takes the commit timestamp that its seat drew.
+    pub fn drew(&mut self, commit: Ts)
+        ensures { self.new ≡ record self.old { drawn = Some commit } }
+    {
+        self.drawn = Some(commit);
+    }
+
+    // Whether a commit may be asked, where something was declared.
+    fn may_commit(&self) -> bool
+        ensures { result ≡ may_commit self.now.decision self.now.drawn }
+    {
+        match self.decision {
+            None => self.drawn.is_some(),
+            Some(Fate::Committed(_)) => true,
+            Some(Fate::Aborted) => false,
+        }
+    }
+
+    /// Whether a commit may be asked.
+    pub fn can_commit(&self) -> bool
+        ensures { result ≡ can_commit self.now }
+    {
+        self.declared.is_some() && (!has_keys(&self.buffer) || self.may_commit())
+    }
+
+    // Whether an abort may be asked, where something was declared in this mode.
+    fn may_abort(&self, mode: Mode) -> bool
+        ensures { result ≡ may_abort self.now.decision mode (first_place phase.Prewrite self.now.buffer) }
+    {
+        match self.decision {
+            None => match mode {
+                Mode::TwoPhase => true,
+                Mode::Async => place_of(&self.buffer, Phase::Prewrite).is_some(),
+            },
+            Some(Fate::Committed(_)) => false,
+            Some(Fate::Aborted) => true,
+        }
+    }
+
+    /// Whether an abort may be asked.
+    pub fn can_abort(&self) -> bool
+        ensures { result ≡ can_abort self.now }
+    {
+        match self.declared {
+            None => false,
+            Some(terms) => !has_keys(&self.buffer) || self.may_abort(terms.mode),
+        }
+    }
+
+    /// What it knows of its fate.
+    pub fn decision(&self) -> Option<Fate>
+        ensures { result ≡ self.now.decision }
+    {
+        self.decision
+    }
+
+    /// Whether a lock stood in its way.
+    pub fn has_met(&self) -> bool
+        ensures { result ≡ is_some self.now.met }
+    {
+        self.met.is_some()
+    }
+
+    /// A copy of the lock that last stood in its way.
+    pub fn met(&self) -> Result<Option<LockInfo>, Fault>
+        ensures ok { IfOk result (λ met. met ≡ self.now.met) }
+        ensures err { IfErr result (λ e. e ≡ Fault.OutOfMemory) }
+    {
+        match &self.met {
+            Some(info) => Ok(Some(info.clone()?)),
+            None => Ok(None),
+        }
+    }
+
+    /// The outcome, where there is one.
+    pub fn outcome(&self) -> Option<Outcome>
+        ensures { result ≡ finish_of self.now }
+    {
+        match self.decision {
+            Some(Fate::Committed(commit)) => Some(Outcome::Committed(commit)),
+            Some(Fate::Aborted) => Some(Outcome::Aborted),
+            None if !self.has_primary() => Some(Outcome::ReadOnly),
+            None => match self.cause {
+                Some(cause) => Some(Outcome::Unknown(cause)),
+                None => None,
+            },
+        }
+    }
+
+    /// Its reads pass by one more transaction, where they may.
+    pub fn pass(&mut self, start: Ts, may: bool) -> Result<(), Fault>
+        ensures ok { OnOk result (self.new ≡ with_passed self.old start may) }
+        ensures same { OnErr result (self.new ≡ self.old) }
+        ensures err { IfErr result (λ e. e ≡ Fault.OutOfMemory) }
+    {
+        if may {
+            self.bypass.push(start)?;
+        }
+        Ok(())
+    }
+}

@@ -1,0 +1,191 @@
+//! How a session of a run reaches the regions, and resolves what stands in its way.
+ghost use Rattle.std.specs.Prelude.{◌≡◌, ◌<◌, true, [], length};
+ghost use Rattle.tx_core.specs.Laws.{WasToldOf};
+ghost use Rattle.tx_transaction.specs.Sessions.{is_declared, can_commit, can_abort, has_primary};
+ghost use Rattle.tx_client.specs.Calls.{KeepsSet};
+ghost use Rattle.tx_ledger.specs.Sources.{HasPair};
+ghost use Rattle.tx_ledger.specs.Transfers.{MovesSome};
+
+use crate::sends;
+use std::alloc::Global;
+use std::sync::{Arc, Wait};
+use tx_cells::Families;
+use tx_client::{Miss, Resolved, Session, Status};
+use tx_core::Answer;
+use tx_journal::{Naming, Seat, Told};
+use tx_ledger::{Log, Source, Spoken};
+use tx_resolve::{gc, resolve};
+use tx_store::{Store, Wire};
+use tx_types::{Fault, Key, LockInfo, Ts};
+
+/// What the calls of a session need: the store, what its locks wait by, and a seat that resolves.
+#[derive(Drop)]
+pub struct Access<J: Naming, F: Families + Drop, R: Wait + Drop> {
+    pub alloc: Global,
+    rt: R,
+    store: Arc<Store<J, F>>,
+    resolver: Seat<J>,
+    ghost few: { length J.bounds < 1024 },
+}
+
+impl<J: Naming, F: Families + Drop, R: Wait + Drop> Access<J, F, R> {
+    /// The way of a session whose locks wait by `rt`, with a seat that resolves for it.
+    pub fn new(alloc: Global, rt: R, store: Arc<Store<J, F>>, resolver: Seat<J>) -> Access<J, F, R>
+        requires few { length J.bounds < 1024 }
+    {
+        Access {
+            alloc,
+            rt,
+            store,
+            resolver,
+        }
+    }
+
+    /// Reads a key.
+    pub fn get(&self, session: &mut Session<J>, key: &Key) -> Result<Answer, Miss>
+        ensures { KeepsSet session.old.state session.new.state }
+    {
+        let mut wire = Wire::new(&self.rt, &self.store);
+        wire.show();
+        sends::get(session, key, &mut wire)
+    }
+
+    /// Reads a range.
+    pub fn scan(
+        &self,
+        session: &mut Session<J>,
+        from: &Key,
+        to: &Key,
+        limit: u32,
+    ) -> Result<Answer, Miss> {
+        let _ = self.store.bounds();
+        let mut wire = Wire::new(&self.rt, &self.store);
+        wire.show();
+        session.scan(self.alloc, from, to, limit, &mut wire)
+    }
+
+    /// Sends the prewrite that is due.
+    pub fn prewrite(&self, session: &mut Session<J>) -> Result<Option<Answer>, Miss>
+        requires { is_declared session.old.state ≡ true }
+        ensures { KeepsSet session.old.state session.new.state }
+    {
+        let mut wire = Wire::new(&self.rt, &self.store);
+        wire.show();
+        sends::prewrite(session, self.alloc, &mut wire)
+    }
+
+    /// Sends the commit that is due.
+    pub fn commit(&self, session: &mut Session<J>) -> Result<Option<Answer>, Miss>
+        requires { can_commit session.old.state ≡ true }
+        ensures { KeepsSet session.old.state session.new.state }
+    {
+        let mut wire = Wire::new(&self.rt, &self.store);
+        wire.show();
+        sends::commit(session, &mut wire)
+    }
+
+    /// Sends what an abort has due.
+    pub fn abort(&self, session: &mut Session<J>) -> Result<Option<Answer>, Miss>
+        requires { can_abort session.old.state ≡ true }
+        ensures { KeepsSet session.old.state session.new.state }
+    {
+        let mut wire = Wire::new(&self.rt, &self.store);
+        wire.show();
+        sends::abort(session, &mut wire)
+    }
+
+    /// Asks that the primary's lock live so long after the start, in ticks.
+    pub fn heartbeat(&self, session: &mut Session<J>, ttl: u32) -> Result<Option<Answer>, Miss>
+        requires { has_primary session.old.state ≡ true }
+    {
+        let mut wire = Wire::new(&self.rt, &self.store);
+        wire.show();
+        session.heartbeat(ttl, &mut wire)
+    }
+}
+
+impl<J: Naming, F: Families + Drop, R: Wait + Drop> Access<J, F, R> {
+    // Finds what became of the transaction of this lock, which stood in the way of a reader.
+    fn resolve_lock(
+        &mut self,
+        info: &LockInfo,
+        told: Told<J>,
+        reader: Ts,
+        now: Option<Ts>,
+    ) -> Resolved<J>
+        requires { WasToldOf told info.now }
+    {
+        self.resolver.learn(told);
+        let last = self.resolver.last();
+        let mut wire = Wire::new(&self.rt, &self.store);
+        wire.show();
+        resolve(
+            &mut self.resolver,
+            info,
+            reader,
+            now.unwrap_or(last),
+            &mut wire,
+        )
+    }
+
+    /// Resolves the lock that last stood in the session's way, at this time or at the last timestamp that was drawn, and tells
+    /// the session. None where no lock stood in its way.
+    pub fn resolve(
+        &mut self,
+        session: &mut Session<J>,
+        now: Option<Ts>,
+    ) -> Result<Option<Status>, Fault>
+        ensures { KeepsSet session.old.state session.new.state }
+    {
+        let Some(met) = session.met()? else {
+            return Ok(None);
+        };
+        let (info, told) = met.into_parts();
+        let resolved = self.resolve_lock(&info, told, session.start(), now);
+        let status = resolved.status();
+        session.learn(resolved)?;
+        Ok(Some(status))
+    }
+
+    /// The last timestamp that was drawn.
+    pub fn last(&mut self) -> Ts {
+        self.resolver.last()
+    }
+
+    /// Collects at this safe point in each region, and says how many write records that dropped: 0 where it was refused, though regions
+    /// before the refusal may have dropped some. It may be asked again.
+    pub fn collect(&mut self, safe: Ts) -> u64 {
+        let mut wire = Wire::new(&self.rt, &self.store);
+        wire.show();
+        match gc(&mut self.resolver, safe, &mut wire) {
+            Ok(counts) => counts.records,
+            Err(_) => 0,
+        }
+    }
+
+    /// Ends a transaction, and keeps its outcome in the log: its seat is then free. Where it has no outcome, the session comes
+    /// back.
+    pub fn finish<L: Source>(
+        &self,
+        log: &mut Log<J, L>,
+        number: u64,
+        session: Session<J>,
+        keys: Option<(Key, Key)>,
+    ) -> Result<Seat<J>, Session<J>>
+        requires moves { MovesSome keys session.state }
+        requires pair { HasPair L.text number keys }
+        ensures { log.new.seat ≡ log.old.seat }
+    {
+        log.finish(&self.resolver, number, session, keys)
+    }
+
+    /// What a log says; it is then empty.
+    pub fn take<L: Source>(&self, log: &mut Log<J, L>, empty: Vec<Spoken>) -> Log<J, L>
+        requires { empty.items ≡ [] }
+        ensures same { log.new.seat ≡ log.old.seat }
+        ensures told { log.new.told ≡ log.old.told }
+        ensures log { result ≡ log.old }
+    {
+        log.take(&self.resolver, empty)
+    }
+}
