@@ -1,7 +1,5 @@
 //! Checking a trace: each line is read as a step and made by the machine, and one line is written, with the verdict.
 ghost use Rattle.std.specs.Prelude.{◌≡◌, ◌≤◌, length, IfOk, IfErr, IfSome};
-ghost use Rattle.tx_machine.specs.Machine.{Table, Admits, after};
-ghost use Rattle.tx_machine.specs.Representation.{Represents};
 ghost use Rattle.serde_json.specs.View.{view};
 ghost use Rattle.tx_lines.specs.Parts.{parts_items};
 ghost use Rattle.tx_check.specs.MachineSteps.{step_of, step_of_items};

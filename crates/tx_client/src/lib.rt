@@ -1,4 +1,4 @@
-//! Sessions: the rules by which a client runs one transaction over a store.
+//! Sessions: a client with its seat, which runs one transaction over a store by the rules of tx_transaction.
 #![tactic(auto)]
 
 mod asking;

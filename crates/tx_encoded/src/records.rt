@@ -1,6 +1,6 @@
 //! Records that are kept as their bytes. Contracts see the records. What a request asks of a record is read from the bytes
 //! without memory.
-ghost use Rattle.std.specs.Prelude.{◌≡◌, ◌↔◌, IfOk, IfErr, IsTrue};
+ghost use Rattle.std.specs.Prelude.{◌≡◌, IfOk, IfErr};
 ghost use Rattle.tx_types.specs.declared.lock.LockRec.{LockRec};
 ghost use Rattle.tx_types.specs.declared.write.WriteRec.{WriteRec};
 ghost use Rattle.tx_types.specs.declared.write.CommitRec.{CommitRec};
@@ -54,8 +54,7 @@ impl WriteBytes {
         ensures ok { IfOk result (λ bytes. bytes ≡ rec.now) }
         ensures err { IfErr result (λ e. e ≡ Fault.OutOfMemory) }
     {
-        let bytes = encode_write(alloc, rec)?;
-        let bytes = Text::new(alloc, bytes.as_slice())?;
+        let bytes = Text::from_vec(encode_write(alloc, rec)?)?;
         Ok(WriteBytes { bytes })
     }
 

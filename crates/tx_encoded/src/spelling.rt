@@ -1,7 +1,7 @@
 //! Keys that are kept as their bytes: the first group of an encoded key as a number, so that most keys are told apart where they lie,
 //! and behind it its marker, one group more, or the groups in memory of their own. Contracts see the key.
 ghost use Rattle.std.specs.Int.{w64, to_be_bytes};
-ghost use Rattle.std.specs.Prelude.{◌≡◌, ◌↔◌, ◌++◌, ◌-◌, ◌*◌, ◌^◌, ◌<◌, ◌≤◌, length, replicate, take, ◌+◌, ℕ, List, Some, refl, IfOk, IfErr, IsTrue};
+ghost use Rattle.std.specs.Prelude.{◌≡◌, ◌++◌, ◌-◌, ◌*◌, ◌^◌, ◌<◌, ◌≤◌, length, replicate, take, ◌+◌, ℕ, List, Some, refl, IfOk, IfErr};
 ghost use Rattle.std.specs.Ordering.{nat_cmp, eq_by_cmp, ordering_then};
 ghost use Rattle.std.specs.Cmp.{partial_equiv_from_equiv, eq_by_cmp_equiv, po};
 ghost use Rattle.std.specs.Cmp.Lexicographic.{slice_cmp, nat_list_cmp_total};

@@ -1,12 +1,9 @@
 //! What is shown of a key.
-ghost use Rattle.std.specs.Prelude.{◌≡◌, ◌↔◌, ◌^◌, ◌<◌, ◌≤◌, ℕ, Some, None, Contains, IsSome, IfSome, IfNone, IfOk, IfErr, MatchOption, option_map};
+ghost use Rattle.std.specs.Prelude.{◌≡◌, ◌↔◌, ◌^◌, ◌<◌, ◌≤◌, ℕ, Some, None, Contains, IsSome, IfSome, IfNone, IfOk, IfErr};
 ghost use Rattle.std.specs.BTreeMap as tree;
-ghost use Rattle.tx_plan.specs.declared.view.RecordHead.{RecordHead};
 ghost use Rattle.tx_cells.specs.Contents.{cells_of};
-ghost use Rattle.tx_cells.specs.Heads.{write_head};
-ghost use Rattle.tx_cells.specs.Histories.{AreFitting};
 ghost use Rattle.tx_encoded.specs.Spelt.{version_cmp};
-ghost use Rattle.tx_cells.specs.Copies.{Copies, AreFalling, times_of};
+ghost use Rattle.tx_cells.specs.Copies.{Copies, AreFalling};
 ghost use Rattle.tx_plan.specs.declared.view.LockHead.{LockHead};
 
 use crate::FlatCells;

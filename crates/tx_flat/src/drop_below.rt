@@ -1,5 +1,5 @@
 //! Records that go.
-ghost use Rattle.std.specs.Prelude.{◌≡◌, ◌≢◌, ◌↔◌, ℕ, ◌==◌, ◌<◌, ◌≤◌, ◌&&◌, ◌||◌, not, cond, nat_lt, IsTrue, Option, None, Some, IfSome, IfNone};
+ghost use Rattle.std.specs.Prelude.{◌≡◌, ◌≢◌, ◌↔◌, ℕ, ◌==◌, ◌<◌, ◌&&◌, ◌||◌, not, cond, nat_lt, IsTrue, Option, None, Some, IfSome, IfNone};
 ghost use Rattle.std.specs.BTreeMap as tree;
 ghost use Rattle.tx_types.specs.declared.key.Key.{Key};
 ghost use Rattle.tx_plan.specs.cases.Collect.{keeps, kept};

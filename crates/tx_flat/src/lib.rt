@@ -7,7 +7,7 @@ ghost use Rattle.std.specs.Ordering.{nat_cmp};
 ghost use Rattle.std.specs.Cmp.Lexicographic.{slice_cmp};
 ghost use Rattle.tx_encoded.specs.Spelt.{version_cmp};
 ghost use Rattle.tx_flat.specs.Ceilings.{ceiling_of};
-ghost use Rattle.tx_cells.specs.Contents.{OnKey, IsWhole};
+ghost use Rattle.tx_cells.specs.Contents.{IsWhole};
 
 use ceilings::Ceilings;
 use std::alloc::Global;

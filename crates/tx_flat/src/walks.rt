@@ -1,11 +1,10 @@
 //! Walks over the keys, and over the locks.
-ghost use Rattle.std.specs.Prelude.{◌≡◌, ◌∷◌, ℕ, true, [], List, None, Some, option_map, IfOk, IfErr, MatchOption};
+ghost use Rattle.std.specs.Prelude.{◌≡◌, ◌∷◌, ℕ, true, None, Some, option_map, IfOk, IfErr};
 ghost use Rattle.std.proofs.Props.{props};
 ghost use Rattle.std.specs.Map.Iter.{deref_pair};
 ghost use Rattle.tx_types.specs.declared.key.Key.{Key};
-ghost use Rattle.tx_plan.specs.Cells.{Cells};
 ghost use Rattle.tx_types.specs.Keys.{key_le};
-ghost use Rattle.tx_plan.specs.Walks.{KeyRow, LockRow, IsWalk, IsLockWalk};
+ghost use Rattle.tx_plan.specs.Walks.{IsWalk, IsLockWalk};
 ghost use Rattle.tx_cells.specs.Heads.{lock_head};
 ghost use Rattle.tx_flat.specs.Flats.{fronts_of};
 ghost use Rattle.tx_flat.specs.Places.{coming, first_of, next_key, comes_before, lock_on, locks_behind, IsPlace, Passes};

@@ -122,6 +122,18 @@ impl Asked {
         if self.lone.is_empty() {
             return Ok(());
         }
+        self.queue_few()
+    }
+
+    // The same, one after the other.
+    #[inline(never)]
+    fn queue_few(&mut self) -> Result<(), Fault>
+        requires { KeptAll self.old }
+        ensures kept { KeptAll self.new }
+        ensures same { all_asked self.new ≡ all_asked self.old }
+        ensures none { OnOk result (self.new.lone.items ≡ []) }
+        ensures err { IfErr result (λ e. e ≡ Fault.OutOfMemory) }
+    {
         self.queue_one()?;
         self.queue_one()?;
         self.queue_one()?;
@@ -129,6 +141,7 @@ impl Asked {
     }
 
     // Adds a command at the end of the queues.
+    #[inline(never)]
     fn add_queued(&mut self, cid: Cid, slots: &[Slot]) -> Result<bool, Fault>
         requires kept { KeptAll self.old }
         requires absent { is_asked (all_asked self.old) cid ≡ false }

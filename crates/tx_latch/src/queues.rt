@@ -12,7 +12,7 @@
 //! A call looks at the commands directly before or behind one in its slots, each by its number, and never at the others
 //! that wait. The places of those that left are dropped once they are more than those that are taken, which costs each
 //! command that left a constant share. So `add` and `remove` cost O(slots of the command), amortised.
-ghost use Rattle.std.specs.Prelude.{◌≡◌, ℕ, ◌+◌, ◌-◌, ◌<◌, ◌≤◌, ◌++◌, ◌∷◌, [], ◌↔◌, ◌&&◌, true, false, IsTrue, IfOk, IfErr, OnErr, map, cond, length, Option, None, Some, slice_index_or, nat_eq};
+ghost use Rattle.std.specs.Prelude.{◌≡◌, ℕ, ◌+◌, ◌-◌, ◌<◌, ◌≤◌, ◌++◌, ◌∷◌, [], ◌&&◌, true, false, IsTrue, IfOk, IfErr, OnErr, map, cond, length, Option, None, Some, slice_index_or, nat_eq};
 ghost use Rattle.std.specs.Option.{option_map, is_some};
 ghost use Rattle.std.specs.List.{list_any, All, slice_get, filter};
 ghost use Rattle.tx_latch.specs.Asked.{contains, cids, is_asked, is_granted, newly_granted, without};
@@ -20,16 +20,20 @@ ghost use Rattle.tx_latch.specs.Queues.{Joinable, Kept, HasRoom, links, link_of,
 
 use crate::cid::Cid;
 use crate::slot::Slot;
+use smallvec::SmallVec;
 use std::alloc::Global;
 use std::collections::HashMap;
 use tx_types::Fault;
 use tx_types::limits::LATCH_SLOTS;
 
+/// How many slots of a command stand with it; more take memory of their own.
+const FEW_SLOTS: usize = 16;
+
 /// A command that stands in the list.
 #[derive(Debug, Drop)]
 pub struct Entry {
     pub cid: Cid,
-    pub slots: Vec<Slot>,
+    pub slots: SmallVec<Slot, FEW_SLOTS>,
     /// How many commands it stands directly behind in one of its slots.
     pub ahead: usize,
     /// The commands that stand directly behind it in one of its slots, in asking order.
@@ -160,6 +164,7 @@ impl Queues {
     }
 
     /// Adds a command at the end of the list, and says whether it is granted.
+    #[inline(always)]
     pub fn add(&mut self, cid: Cid, slots: &[Slot]) -> Result<bool, Fault>
         requires kept { Kept self.old }
         requires absent { is_asked (asked_of self.old) cid ≡ false }
@@ -170,7 +175,7 @@ impl Queues {
         ensures err { IfErr result (λ e. e ≡ Fault.OutOfMemory) }
     {
         let alloc = *self.asked.allocator();
-        let own = Vec::from_slice(alloc, slots)?;
+        let own = SmallVec::from_slice(alloc, slots)?;
         let behind = Vec::with_capacity(alloc, slots.len())?;
         let place = self.asked.len();
         self.asked.push(None)?;
@@ -241,15 +246,9 @@ impl Queues {
         let Some(entry) = self.asked[place].take() else {
             unreachable!()
         };
-        let Entry {
-            cid: _,
-            slots,
-            ahead: _,
-            behind,
-        } = entry;
-        self.free(cid, slots.as_slice());
-        self.lower_all(behind.as_slice());
-        behind
+        self.free(cid, entry.slots.as_slice());
+        self.lower_all(entry.behind.as_slice());
+        entry.behind
     }
 
     /// Takes a granted command out of the list. Gives those that become granted by it, in asking order.

@@ -7,7 +7,7 @@ use tx_types::Key;
 use tx_types::limits::LATCH_SLOTS;
 
 /// One of the 256 slots over which latches are spread. Contracts see its number.
-#[derive(Clone, Copy, Debug, PartialEq, Eq)]
+#[derive(Clone, Copy, Debug, Default, PartialEq, Eq)]
 pub struct Slot {
     number: u8,
 }

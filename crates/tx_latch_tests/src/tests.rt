@@ -85,6 +85,16 @@ fn a_command_of_no_slots_is_granted_at_once(rt: HostRuntime) -> Result<(), Fail>
     release(&rt, &mut latches, 1, &[])
 }
 
+#[test]
+fn a_command_of_many_slots_stands_in_the_way_of_each(rt: HostRuntime) -> Result<(), Fail> {
+    let mut latches = Latches::new(rt.alloc());
+    let slots = [0, 1, 2, 3, 4, 5, 6, 7, 8, 9, 10, 11, 12, 13, 14, 15, 16].map(Slot::new);
+    assert!(rt; acquire(&rt, &mut latches, 1, &slots)?);
+    assert!(rt; !acquire(&rt, &mut latches, 2, &[Slot::new(16)])?);
+    release(&rt, &mut latches, 1, &[Cid::new(2)])?;
+    release(&rt, &mut latches, 2, &[])
+}
+
 // The key of these bytes, made once more where memory was refused.
 fn key_of(rt: &HostRuntime, bytes: &[u8]) -> Result<Key, Fault> {
     match Key::new(rt.alloc(), bytes) {

@@ -16,6 +16,6 @@ pub use log::Log;
 pub use order::Order;
 pub use replies::Replies;
 pub use reply::{Reply, Spoken, put_line};
-pub use script::{Asks, Entry, Said, Script, is_name, read_script};
+pub use script::{Asks, Entry, Said, Script, read_script};
 pub use source::Source;
 pub use words::Words;

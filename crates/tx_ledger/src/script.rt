@@ -13,13 +13,8 @@ use std::io::BufRead;
 use std::marker::PhantomData;
 use tx_lines::{Broken, Found, Parts, read_line};
 use tx_steps::{Action, Line, Program, Request, Step};
-use tx_types::limits::{MAX_LIVE_SESSIONS, MAX_NAME_BYTES};
-use tx_types::{Cause, Key};
-
-/// Whether a text may name a session.
-pub fn is_name(name: &str) -> bool {
-    !name.is_empty() && name.len() <= MAX_NAME_BYTES
-}
+use tx_types::limits::MAX_LIVE_SESSIONS;
+use tx_types::{Cause, Key, is_name};
 
 /// Which latches a line asks for.
 #[derive(Clone, Copy, Debug, PartialEq, Eq)]

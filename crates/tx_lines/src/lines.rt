@@ -1,6 +1,6 @@
 //! Reading a text line by line, what is at hand at a time. A line is ended by a newline or by the end of the input; the last
 //! newline begins no line.
-ghost use Rattle.std.specs.Prelude.{◌≡◌, ◌≢◌, ◌<◌, ◌≤◌, length, take, slice_index, All, IsTrue, IfOk, IfSome, true, false};
+ghost use Rattle.std.specs.Prelude.{◌≡◌, ◌≢◌, ◌<◌, ◌≤◌, length, take, slice_index, All, IfOk, IfSome, true, false};
 ghost use Rattle.tx_lines.specs.Lines.{Reads, Takes};
 
 use crate::Broken;

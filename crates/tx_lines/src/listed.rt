@@ -1,5 +1,5 @@
 //! A line that is an array whose last member is a list of rows, as the machine's steps have it, by a scan of its bytes.
-ghost use Rattle.std.specs.Prelude.{◌≡◌, ◌≤◌, [], length, drop, Some, IfSome};
+ghost use Rattle.std.specs.Prelude.{◌≡◌, ◌≤◌, length, drop, Some, IfSome};
 ghost use Rattle.serde_json.specs.Data.{array};
 ghost use Rattle.tx_lines.specs.Parts.{json_of, scanned_items};
 ghost use Rattle.tx_lines.specs.Scan.{BeginsRow, BeginsRows};

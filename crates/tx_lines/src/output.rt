@@ -1,5 +1,5 @@
 //! Writing, by a loop over `write`, so that what was written before a failure is known.
-ghost use Rattle.std.specs.Prelude.{◌≡◌, ℕ, ◌≤◌, length, take, OnOk, OnErr, IfErr};
+ghost use Rattle.std.specs.Prelude.{◌≡◌, OnOk, OnErr, IfErr};
 ghost use Rattle.std.specs.Io.KnownBytes.{Appends, Keeps};
 ghost use Rattle.tx_lines.specs.Output.{AppendsPart};
 

@@ -1,5 +1,5 @@
 //! The members of a line's array.
-ghost use Rattle.std.specs.Prelude.{◌≡◌, ◌≤◌, ◌<◌, length, option_map, option_and_then, is_some, Some, IfSome, IfNone};
+ghost use Rattle.std.specs.Prelude.{◌≡◌, ◌<◌, option_map, option_and_then, is_some, Some, IfSome, IfNone};
 ghost use Rattle.serde_json.specs.Data.{Items, array};
 ghost use Rattle.serde_json.specs.Find.{as_array as array_in, as_str as str_in, as_null as null_in, as_number as number_in, as_u64 as u64_in};
 ghost use Rattle.serde_json.specs.View.{view, items_view};

@@ -1,6 +1,4 @@
 //! The rows of a scan in a reply line.
-ghost use Rattle.std.specs.Prelude.{◌≡◌, ◌++◌, OnOk};
-ghost use Rattle.serde_json.specs.Written.{compact_text};
 ghost use Rattle.tx_lines.specs.Replies.{row_data};
 
 use crate::list::Entry;

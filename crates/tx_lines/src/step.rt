@@ -1,9 +1,7 @@
 //! The lines of the machine's steps, as they are read in a trace.
-ghost use Rattle.std.specs.Prelude.{◌≡◌, ◌++◌, ◌∷◌, [], codes, decimal, OnOk};
-ghost use Rattle.serde_json.specs.Data.{array, item, no_items, string};
-ghost use Rattle.serde_json.specs.View.{items_of};
+ghost use Rattle.std.specs.Prelude.{◌≡◌, ◌++◌, ◌∷◌, OnOk};
+ghost use Rattle.serde_json.specs.Data.{string};
 ghost use Rattle.serde_json.specs.Written.{compact_text};
-ghost use Rattle.tx_lines.specs.Replies.{row_data};
 ghost use Rattle.tx_lines.specs.Steps.{change_data, fate_words, found_data, mutation_words, step_fields, step_text, step_word};
 ghost use Rattle.tx_lines.specs.Texts.{members_text};
 

@@ -1,5 +1,5 @@
 //! The text of a line's parts, appended to bytes that are kept from line to line: a kept buffer allocates only where it grows.
-ghost use Rattle.std.specs.Prelude.{◌≡◌, ℕ, [], ◌∷◌, ◌++◌, ◌<◌, ◌≤◌, decimal, length, get_or, take, false, OnOk, IsTrue, IsAscii};
+ghost use Rattle.std.specs.Prelude.{◌≡◌, ℕ, [], ◌∷◌, ◌++◌, ◌<◌, ◌≤◌, decimal, length, get_or, false, OnOk, IsTrue, IsAscii};
 ghost use Rattle.tx_lines.specs.declared.plain.TheConstants.{BLOCK};
 ghost use Rattle.tx_lines.specs.Plain.{is_foreign};
 ghost use Rattle.serde_json.specs.Written.{compact_text};

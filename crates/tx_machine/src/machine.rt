@@ -5,7 +5,6 @@
 //! before. A commit lists its versions first and ends the transaction last: where memory is refused in between, the versions
 //! say nothing, since their transaction is not committed.
 ghost use Rattle.std.specs.Prelude.{◌≡◌, ◌↔◌, true, false, List, Option, Some, None, IsTrue, IfOk, IfErr, OnOk, OnErr, IsErrOf};
-ghost use Rattle.std.specs.Cmp.Lexicographic.{slice_cmp};
 ghost use Rattle.std.specs.Ordering.{nat_cmp};
 ghost use Rattle.std.specs.BTreeMap as tree;
 ghost use Rattle.tx_machine.specs.Machine.{empty};

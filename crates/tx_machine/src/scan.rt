@@ -2,7 +2,7 @@
 //!
 //! The rows are walked in order. Between one row and the next no key may show a value, and each row's key has to show the
 //! row's value. So only keys of the range are looked at, and where the limit ended the scan none beyond the last row.
-ghost use Rattle.std.specs.Prelude.{◌≡◌, ℕ, ◌↔◌, option_map, IsTrue};
+ghost use Rattle.std.specs.Prelude.{◌↔◌, option_map, IsTrue};
 ghost use Rattle.std.specs.Cmp.Lexicographic.{slice_cmp};
 ghost use Rattle.std.specs.Ordering.{nat_cmp};
 ghost use Rattle.std.specs.Range.Bound.{bound_map};

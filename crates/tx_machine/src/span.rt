@@ -1,5 +1,5 @@
 //! The span of keys that a scan covered.
-ghost use Rattle.std.specs.Prelude.{◌≡◌, ◌↔◌, IfOk, IfErr, IsTrue};
+ghost use Rattle.std.specs.Prelude.{◌≡◌, IfOk, IfErr};
 ghost use Rattle.tx_types.specs.declared.key.Key.{Key};
 ghost use Rattle.tx_types.specs.Keys.{IsRising};
 ghost use Rattle.tx_machine.specs.Keys.{covered};

@@ -1,5 +1,5 @@
 //! A change on a key.
-ghost use Rattle.std.specs.Prelude.{◌≡◌, ℕ, Some, option_map, OnOk, OnErr, IfErr};
+ghost use Rattle.std.specs.Prelude.{◌≡◌, ℕ, Some, OnOk, OnErr, IfErr};
 ghost use Rattle.std.specs.BTreeMap as tree;
 ghost use Rattle.std.specs.Ordering.{nat_cmp};
 ghost use Rattle.tx_plan.specs.Changes.{Applies, SomeLock, RaisesMinimum, CommitsAt, changed};

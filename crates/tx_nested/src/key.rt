@@ -1,7 +1,7 @@
 //! What is held of one key.
 ghost use Rattle.std.specs.BTreeMap as tree;
 ghost use Rattle.std.specs.Ordering.{nat_cmp};
-ghost use Rattle.tx_cells.specs.Contents.{OnKey, IsWhole};
+ghost use Rattle.tx_cells.specs.Contents.{IsWhole};
 
 use std::alloc::Global;
 use std::collections::BTreeMap;

@@ -1,9 +1,8 @@
 //! Walks over the keys, and over the locks.
-ghost use Rattle.std.specs.Prelude.{◌≡◌, [], List, IfOk, IfErr, MatchOption};
+ghost use Rattle.std.specs.Prelude.{◌≡◌, IfOk, IfErr};
 ghost use Rattle.tx_types.specs.declared.key.Key.{Key};
 ghost use Rattle.tx_types.specs.Keys.{key_le};
-ghost use Rattle.tx_plan.specs.Cells.{Cells};
-ghost use Rattle.tx_plan.specs.Walks.{KeyRow, LockRow, IsWalk, IsLockWalk};
+ghost use Rattle.tx_plan.specs.Walks.{IsWalk, IsLockWalk};
 
 use crate::NestedCells;
 use crate::key::KeyFamilies;

@@ -25,7 +25,8 @@ use Rattle.tx_transaction.specs.Sessions.{begun, finish_of}
 use Rattle.tx_play.specs.declared.places.Slot.TheVariants.{Free, Live, Lent}
 use Rattle.tx_lines.specs.declared.reply.Reply.{Reply}
 use Rattle.tx_lines.specs.declared.reply.Reply.TheVariants as reply
-use Rattle.tx_post.specs.Posts.{Desk, stage_of, with_events, Met, is_name}
+use Rattle.tx_types.specs.Names.{is_name}
+use Rattle.tx_post.specs.Posts.{Desk, stage_of, with_events, Met}
 use Rattle.tx_play.specs.Steps.{Deed, Call, begin, acts, finish, stop, read, tick}
 use Rattle.tx_play.specs.Scenes.{free, session, goes, stops, is_key, delivered_by, asked, at_stage, at_history, seat_at, began, gone, ticked, first_free, lives, at_place, live_at, in_session, deeds, finishes, finishes_by, leaves, turn}
 use Rattle.tx_play.specs.Plays.{Leads}

@@ -21,9 +21,9 @@ use std::marker::Model;
 use tx_cells::Families;
 use tx_client::{Came, Session};
 use tx_journal::{Naming, Seat, Told};
-use tx_post::{Post, is_name};
+use tx_post::Post;
 use tx_trace::Trace;
-use tx_types::{Cause, Key, Ts};
+use tx_types::{Cause, Key, Ts, is_name};
 
 /// The engine.
 pub struct Engine<J: Naming, F: Families> {

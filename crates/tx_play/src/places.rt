@@ -1,5 +1,5 @@
 //! Places: each has a free seat or a live session.
-ghost use Rattle.std.specs.Prelude.{◌≡◌, ◌<◌, ℕ, length, map, slice_get, slice_set, Some, IfSome};
+ghost use Rattle.std.specs.Prelude.{◌≡◌, ◌<◌, length, map, slice_get, slice_set, Some, IfSome};
 ghost use Rattle.tx_journal.specs.Known.{Known};
 ghost use Rattle.tx_play.specs.declared.places.Slot.TheVariants as slots;
 ghost use Rattle.tx_play.specs.Scenes.{first_free as first_of};

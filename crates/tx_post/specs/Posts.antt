@@ -4,7 +4,8 @@ use Rattle.std.specs.Global.{Global}
 use Rattle.std.specs.Map.{lookup, update}
 use Rattle.std.specs.List.{sum_by}
 use Rattle.tx_types.specs.declared.fault.Fault.{Fault}
-use Rattle.tx_types.specs.declared.limits.TheConstants.{MAX_HELD_REQUESTS, MAX_NAME_BYTES}
+use Rattle.tx_types.specs.declared.limits.TheConstants.{MAX_HELD_REQUESTS}
+use Rattle.tx_types.specs.Names.{is_name}
 use Rattle.tx_types.specs.declared.key.Key.{Key}
 use Rattle.tx_plan.specs.declared.body.Body.{Body}
 use Rattle.tx_plan.specs.declared.body.Body.TheVariants.{Get, Scan, Prewrite, Commit, BatchRollback, TxnHeartBeat, CheckTxnStatus, CheckSecondaryLocks, ResolveLock, RaiseSafe, LocksBelow, Collect}
@@ -274,10 +275,6 @@ taken bounds s body a = with_events s (Took (record { region = region_for bounds
 -- after a request was held under a name
 abbrev pub holding : Stage → List ℕ → Body → Stage
 holding s name body = record { history = s.history; held = update bytes_eq s.held name (Some body); kept = s.kept + cond (is_some (s.held name)) 0 1 }
-
--- a name is of 1 to 64 bytes
-abbrev pub is_name : List ℕ → Bool
-is_name name = nat_le 1 (length name) && nat_le (length name) MAX_NAME_BYTES
 
 -- a name to hold under is of 1 to 64 bytes, and not in use
 abbrev pub may_go : Stage → Course → Bool

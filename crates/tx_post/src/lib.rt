@@ -6,4 +6,4 @@ mod post;
 mod way;
 
 pub use post::Post;
-pub use way::{Way, is_name};
+pub use way::Way;

@@ -4,18 +4,19 @@ ghost use Rattle.std.specs.Map.{update};
 ghost use Rattle.std.specs.BTreeMap.{get_by_text};
 ghost use Rattle.tx_types.specs.declared.fault.Fault.TheVariants as fault;
 ghost use Rattle.tx_types.specs.declared.limits.TheConstants.{MAX_HELD_REQUESTS};
+ghost use Rattle.tx_types.specs.Names.{is_name as name_test};
 ghost use Rattle.tx_core.specs.Worlds.{Holds, route};
 ghost use Rattle.tx_journal.specs.Known.{Known, AreRising};
 ghost use Rattle.tx_journal.specs.Replies.{Asked, Given};
 ghost use Rattle.tx_client.specs.Senders.{IsHeld};
 ghost use Rattle.tx_post.specs.declared.way.Way.TheVariants as ways;
-ghost use Rattle.tx_post.specs.Posts.{AreNumbered, AllFit, region_for, by_name, IsHold, IsSet, request_at, Hands, Twice, IsUntaken, HeldUnder, IsDone, stage_of, may_go, is_crowded, is_name as name_test};
+ghost use Rattle.tx_post.specs.Posts.{AreNumbered, AllFit, region_for, by_name, IsSet, request_at, Hands, Twice, IsUntaken, HeldUnder, IsDone, stage_of, may_go, is_crowded};
 
 mod showing;
 mod tracing;
 
 use crate::post::tracing::note_reply;
-use crate::way::{Way, is_name, own_way};
+use crate::way::{Way, own_way};
 use std::alloc::Global;
 use std::collections::BTreeMap;
 use std::marker::Model;
@@ -26,7 +27,7 @@ use tx_journal::{Journal, Naming, Reply, Request, Seat, Told};
 use tx_region::{Region, route};
 use tx_trace::Trace;
 use tx_types::limits::MAX_HELD_REQUESTS;
-use tx_types::{Fault, Key};
+use tx_types::{Fault, Key, is_name};
 
 /// The regions in their order, the newest history that anyone here has seen, the requests that are held, and what becomes of the
 /// next request: none where there was no memory for the name of its hold.

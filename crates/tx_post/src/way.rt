@@ -1,9 +1,8 @@
 //! What becomes of the requests that are sent, and the names that they are held under.
 ghost use Rattle.std.specs.Prelude.{◌≡◌, IfNone, IfSome, string_bytes};
-ghost use Rattle.tx_post.specs.Posts.{by_name, IsHold, is_name as name_test};
+ghost use Rattle.tx_post.specs.Posts.{by_name, IsHold};
 
 use std::alloc::Global;
-use tx_types::limits::MAX_NAME_BYTES;
 
 /// What becomes of the requests that are sent.
 #[derive(Clone, Copy, Debug, Drop)]
@@ -18,13 +17,6 @@ pub enum Way<N> {
     Repeat,
     /// It is held under a name, and not taken.
     Hold(N),
-}
-
-/// Whether a name is of 1 to 64 bytes.
-pub fn is_name(name: &str) -> bool
-    ensures { result ≡ name_test name.now }
-{
-    !name.is_empty() && name.len() <= MAX_NAME_BYTES
 }
 
 /// The same way by a name of its own; none where memory for that is refused.

@@ -3,7 +3,7 @@
 //! Each command is a method (`commands`, one file a command) with the same contract: the answer is the one of the case
 //! table, with the least minimum for an async lock, and the region is as that answer leaves it. `OutOfMemory` leaves it as
 //! it was: whatever can be refused is asked for before the first change.
-ghost use Rattle.std.specs.Prelude.{◌≡◌, ℕ, IfOk, IfErr, OnErr};
+ghost use Rattle.std.specs.Prelude.{◌≡◌, IfOk, IfErr, OnErr};
 ghost use Rattle.tx_types.specs.declared.key.Key.{Key};
 ghost use Rattle.tx_plan.specs.Cells.{new_region};
 ghost use Rattle.tx_plan.specs.Changes.{Applies};

@@ -1,7 +1,5 @@
 //! A region with its seat takes requests that are always allowed.
-ghost use Rattle.std.specs.Prelude.{◌≡◌, ◌≤◌, [], length};
-ghost use Rattle.tx_core.specs.Allowed.{Allowed};
-ghost use Rattle.tx_core.specs.Histories.{History};
+ghost use Rattle.std.specs.Prelude.{◌≡◌};
 
 use crate::table_tests::asked::{Ask, key, of_region};
 use crate::table_tests::shown::{BARE, RAISED, Short, Word, answered, is, stands};

@@ -1,5 +1,5 @@
 //! Playing a script: its seeds, and then its sessions side by side, by workers.
-ghost use Rattle.std.specs.Prelude.{◌≡◌, ◌<◌, ◌+◌, ◌*◌, ◌≤◌, ℕ, All, IfOk, IfSome, OnOk, None, length, vec_len};
+ghost use Rattle.std.specs.Prelude.{◌≡◌, ◌<◌, ◌+◌, ◌*◌, ◌≤◌, All, IfOk, IfSome, OnOk, None, length, vec_len};
 ghost use Rattle.tx_ledger.specs.Outcomes.{TellsOutcomes, start_of};
 ghost use Rattle.tx_run.specs.Jobs.{IsAbove, AreFalling, AreFrom, HaveOwnSeats};
 ghost use Rattle.tx_ledger.specs.Scripts.{IsWithin};

@@ -1,9 +1,8 @@
 //! The machine's steps of a script's run, and the line that says that they are a run.
-ghost use Rattle.std.specs.Prelude.{◌≡◌, ◌++◌, ◌∷◌, [], List, reverse, map, OnOk, OnErr, IfOk, IfErr, IfSome};
+ghost use Rattle.std.specs.Prelude.{◌≡◌, ◌++◌, ◌∷◌, [], reverse, map, OnOk, IfOk, IfErr, IfSome};
 ghost use Rattle.std.specs.List.{concat};
 ghost use Rattle.std.specs.Io.KnownBytes.{Appends};
 ghost use Rattle.tx_core.specs.Histories.{History};
-ghost use Rattle.tx_core.specs.Shadow.{shadow};
 ghost use Rattle.tx_machine.specs.Machine.{IsRun};
 ghost use Rattle.tx_lines.specs.Steps.{step_text};
 ghost use Rattle.tx_lines.specs.Texts.{line_text};

@@ -1,5 +1,5 @@
 //! A line of a script, as it was read: what it says is a step, or there is a cause why it says none.
-ghost use Rattle.std.specs.Prelude.{◌≡◌, [], option_map, Some, None, if◌then◌else◌, Ok, Err, IfOk, IfErr, MatchResult};
+ghost use Rattle.std.specs.Prelude.{◌≡◌, option_map, Some, None, if◌then◌else◌, Ok, Err, IfOk, IfErr, MatchResult};
 ghost use Rattle.serde_json.specs.View.{view};
 ghost use Rattle.tx_types.specs.declared.fault.Fault.TheVariants as fault;
 ghost use Rattle.tx_steps.specs.Steps.{asked};

@@ -1,5 +1,5 @@
 //! What a transfer moves.
-ghost use Rattle.std.specs.Prelude.{◌≡◌, ◌≢◌};
+ghost use Rattle.std.specs.Prelude.{◌≢◌};
 
 use tx_types::Mode;
 

@@ -33,7 +33,6 @@ impl<'a, J: Naming, F: Families + Drop, R: Wait> Wire<'a, J, F, R> {
 
 impl<'a, J: Naming, F: Families + Drop, R: Wait> Sender<Request<J>, Reply<J>>
     for Wire<'a, J, F, R> {
-    ghost use Rattle.std.specs.Prelude.{◌≡◌};
     ghost use Rattle.tx_store.specs.Stores.{Replies, TakesHeld};
 
     ghost fits = { TakesHeld J.bounds };

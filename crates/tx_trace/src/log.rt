@@ -5,7 +5,7 @@ ghost use Rattle.tx_machine.specs.declared.step.Step.TheVariants as steps;
 ghost use Rattle.tx_core.specs.declared.event.Event.TheVariants as event;
 ghost use Rattle.tx_core.specs.declared.event.Taken.{Taken};
 ghost use Rattle.tx_core.specs.Decisions.{fate_in};
-ghost use Rattle.tx_core.specs.Shadow.{reading, answering};
+ghost use Rattle.tx_core.specs.Shadow.{reading};
 ghost use Rattle.tx_trace.specs.Logs.{Keeps, GoesOn, Stays, steps_of, Writes, Ends, Tells, Locked, Prewrites, Enters, ended};
 
 use crate::pending::{Pending, accept_in};

@@ -69,18 +69,21 @@ impl Transaction {
         }
     }
 
+    /// The timestamp at which it started.
     pub fn start(&self) -> Ts
         ensures { result ≡ self.now.start }
     {
         self.start
     }
 
+    /// Whether its write set was declared.
     pub fn is_declared(&self) -> bool
         ensures { result ≡ is_declared self.now }
     {
         self.declared.is_some()
     }
 
+    /// Whether a write set was declared that has keys, so that there is a primary.
     pub fn has_primary(&self) -> bool
         ensures { result ≡ has_primary self.now }
     {

@@ -1,17 +1,22 @@
 //! Bytes that stand in the value itself where they are few, and else in memory that its copies share.
-ghost use Rattle.std.specs.Prelude.{◌≡◌, ◌≤◌, ◌+◌, ◌-◌, ◌++◌, length, replicate, take, nat_eq, IfOk};
+ghost use Rattle.std.specs.Prelude.{◌≡◌, ◌<◌, ◌≤◌, ◌+◌, ◌-◌, ◌++◌, length, replicate, take, nat_eq, IfOk};
 ghost use Rattle.std.specs.Cmp.Lexicographic.{pointwise, nat_list_eq_equiv};
 ghost use Rattle.std.specs.Cmp.{partial_equiv_from_equiv};
+ghost use Rattle.tx_types.specs.Texts.{bytes_of};
 ghost use Rattle.tx_types.specs.declared.text.TheConstants.{MAX_SHORT_BYTES};
 
+use crate::limits::MAX_KEY_BYTES;
 use bytes::Bytes;
 use std::alloc::{AllocError, Global};
 use std::fmt;
 use std::marker::Model;
-use std::sync::Arc;
+use std::sync::{Arc, ArcSlice};
 
 /// The most bytes that stand in the value itself.
 const MAX_SHORT_BYTES: usize = 22;
+
+/// The most bytes that lie in a slice. No key has more.
+const MAX_SLICE_BYTES: usize = MAX_KEY_BYTES;
 
 // Few bytes: the first of an array, behind which it has zeros.
 #[derive(Clone, Copy)]
@@ -50,11 +55,25 @@ fn short_of_two(front: &[u8], back: &[u8]) -> Short
     }
 }
 
-// Bytes, by how many they are. Many lie behind one pointer, so that a text is three words large.
+// Bytes, by how many they are. All but few lie behind one pointer, so that a text is three words large.
 #[derive(Drop)]
 enum Kept {
     Short(Short),
-    Shared(Arc<Bytes>),
+    Slice(ArcSlice<u8>),
+    Long(Arc<Bytes>),
+}
+
+// These bytes, which are not few, where they lie.
+fn kept_of(bytes: Vec<u8>) -> Result<Kept, AllocError>
+    requires { MAX_SHORT_BYTES < length bytes.items }
+    ensures { IfOk result (λ kept. bytes_of kept ≡ bytes.items) }
+{
+    if bytes.len() <= MAX_SLICE_BYTES {
+        return Ok(Kept::Slice(ArcSlice::from_vec(bytes)?));
+    }
+    let alloc = *bytes.allocator();
+    let bytes = Bytes::from_vec(bytes)?;
+    Ok(Kept::Long(Arc::new(alloc, bytes)?))
 }
 
 /// Bytes. Up to 22 stand in the value itself, which is three words large; a copy of more shares them. Contracts see the bytes.
@@ -87,8 +106,19 @@ impl Text {
         let kept = if bytes.len() <= MAX_SHORT_BYTES {
             Kept::Short(short_of(bytes))
         } else {
-            let bytes = Bytes::copy_from_slice(alloc, bytes)?;
-            Kept::Shared(Arc::new(alloc, bytes)?)
+            kept_of(Vec::from_slice(alloc, bytes)?)?
+        };
+        Ok(Text { kept })
+    }
+
+    /// The same of bytes in memory of their own, which are not copied where they are many.
+    pub fn from_vec(bytes: Vec<u8>) -> Result<Text, AllocError>
+        ensures ok { IfOk result (λ text. text ≡ bytes.items) }
+    {
+        let kept = if bytes.len() <= MAX_SHORT_BYTES {
+            Kept::Short(short_of(bytes.as_slice()))
+        } else {
+            kept_of(bytes)?
         };
         Ok(Text { kept })
     }
@@ -104,7 +134,8 @@ impl Text {
         let mut bytes = Vec::with_capacity(alloc, front.len().saturating_add(back.len()))?;
         bytes.extend_from_slice(front)?;
         bytes.extend_from_slice(back)?;
-        Text::new(alloc, bytes.as_slice())
+        let kept = kept_of(bytes)?;
+        Ok(Text { kept })
     }
 
     /// Its first eight bytes, with zeros behind them where it has fewer.
@@ -114,7 +145,8 @@ impl Text {
         let mut first = [0; 8];
         match &self.kept {
             Kept::Short(short) => first.copy_from_slice(&short.bytes[..8]),
-            Kept::Shared(bytes) => first.copy_from_slice(&bytes.as_slice()[..8]),
+            Kept::Slice(bytes) => first.copy_from_slice(&bytes.as_slice()[..8]),
+            Kept::Long(bytes) => first.copy_from_slice(&bytes.as_slice()[..8]),
         }
         first
     }
@@ -125,7 +157,8 @@ impl Text {
     {
         match &self.kept {
             Kept::Short(short) => &short.bytes[..short.len as usize],
-            Kept::Shared(bytes) => bytes.as_slice(),
+            Kept::Slice(bytes) => bytes.as_slice(),
+            Kept::Long(bytes) => bytes.as_slice(),
         }
     }
 }
@@ -136,7 +169,8 @@ impl Clone for Text {
     fn clone(&self) -> Result<Text, AllocError> {
         let kept = match &self.kept {
             Kept::Short(short) => Kept::Short(*short),
-            Kept::Shared(bytes) => Kept::Shared(Arc::try_clone(bytes)?),
+            Kept::Slice(bytes) => Kept::Slice(bytes.clone()?),
+            Kept::Long(bytes) => Kept::Long(Arc::try_clone(bytes)?),
         };
         Ok(Text { kept })
     }

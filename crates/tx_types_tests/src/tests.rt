@@ -41,6 +41,32 @@ fn texts_of_two_parts_have_both(rt: HostRuntime) {
     }
 }
 
+fn has_a_copy(text: &Text) -> bool {
+    text.clone().is_ok()
+}
+
+fn is_made_of(own: Vec<u8>, bytes: &[u8]) -> bool {
+    match Text::from_vec(own) {
+        Ok(text) => text.as_slice() == bytes && has_a_copy(&text),
+        Err(_) => false,
+    }
+}
+
+fn is_made(rt: &HostRuntime, bytes: &[u8]) -> bool {
+    match Vec::from_slice(rt.alloc(), bytes) {
+        Ok(own) => is_made_of(own, bytes),
+        Err(_) => false,
+    }
+}
+
+#[test]
+fn texts_have_the_bytes_of_a_vector(rt: HostRuntime) {
+    let long = [7u8; 513];
+    for len in [0, 22, 23, 512, 513] {
+        assert!(rt; is_made(&rt, &long[..len]), "{len} bytes");
+    }
+}
+
 // Whether a record keeps a value of so many bytes inline; none where there is no such value.
 fn is_kept_inline(rt: &HostRuntime, len: usize) -> Option<bool> {
     let bytes = vec![in rt.alloc(); 7u8; len].ok()?;

@@ -1,5 +1,5 @@
 //! What the lines of a session do to it, but those that begin or end a transaction.
-ghost use Rattle.std.specs.Prelude.{◌≡◌, false, true};
+ghost use Rattle.std.specs.Prelude.{◌≡◌, false};
 ghost use Rattle.tx_transaction.specs.Sessions.{is_declared};
 
 use crate::access::Access;

@@ -1,5 +1,5 @@
 //! The seeds of a run, each a transaction of its own, and what all keys have at its end.
-ghost use Rattle.std.specs.Prelude.{◌≡◌, All, None, true, false, IfOk, OnOk};
+ghost use Rattle.std.specs.Prelude.{◌≡◌, All, None, true, false, OnOk};
 ghost use Rattle.tx_transaction.specs.Sessions.{is_declared};
 ghost use Rattle.tx_ledger.specs.Outcomes.{start_of};
 

@@ -1,7 +1,7 @@
 //! A transfer: a transaction that reads the balances of two keys and moves an amount from the first to the second. Its reads are
 //! one step, which asks for no latch, and its writes another, which asks for those of both keys. A lock in its way is resolved in
 //! a step of its own.
-ghost use Rattle.std.specs.Prelude.{◌≡◌, ◌≢◌, ◌<◌, false, Some, IfOk, IfErr, OnOk, OnErr};
+ghost use Rattle.std.specs.Prelude.{◌≡◌, ◌<◌, false, Some, IfErr, OnOk, OnErr};
 ghost use Rattle.tx_types.specs.declared.fault.Fault.TheVariants as fault;
 ghost use Rattle.tx_transaction.specs.Sessions.{begun, is_declared};
 ghost use Rattle.tx_ledger.specs.Sources.{HasPair};

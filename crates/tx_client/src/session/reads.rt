@@ -1,11 +1,11 @@
 //! Reads: of a key, and of a range over several regions.
-ghost use Rattle.std.specs.Prelude.{◌≡◌, ◌≤◌, ◌⊎◌, ◌++◌, ◌-◌, length, slice_get, nat_lt, IfOk, IfErr, IfSome, Ok, Err};
+ghost use Rattle.std.specs.Prelude.{◌≡◌, ◌≤◌, ◌⊎◌, ◌++◌, ◌-◌, length, IfOk, IfErr, IfSome, Ok, Err};
 ghost use Rattle.tx_types.specs.declared.fault.Fault.TheVariants as fault;
 ghost use Rattle.tx_core.specs.Allowed.{Allowed};
 ghost use Rattle.tx_journal.specs.Known.{AreRising};
 ghost use Rattle.tx_transaction.specs.declared.state.Miss.TheVariants.{NoMemory};
 ghost use Rattle.tx_client.specs.declared.part.Part.TheVariants as part;
-ghost use Rattle.tx_transaction.specs.Sessions.{read_of, scan_of};
+ghost use Rattle.tx_transaction.specs.Sessions.{read_of};
 ghost use Rattle.tx_client.specs.Senders.{IsHeld, IsWay};
 ghost use Rattle.tx_client.specs.Walks.{Sends, look_walk, get_walk, part_walk, look_part, IsPart, scan_walk, part_of, low_of, high_of, enough, lesser, greater};
 

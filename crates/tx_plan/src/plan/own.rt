@@ -1,5 +1,5 @@
 //! What there is of a transaction on a key.
-ghost use Rattle.std.specs.Prelude.{◌≡◌, ◌↔◌, ℕ, IsTrue, MatchOption};
+ghost use Rattle.std.specs.Prelude.{◌↔◌, ℕ, IsTrue, MatchOption};
 ghost use Rattle.tx_plan.specs.Cells.{Lock, Cells};
 ghost use Rattle.tx_plan.specs.Own.{OwnLock, OwnRollback};
 ghost use Rattle.tx_plan.specs.Views.{Shows, HasOwnHead};

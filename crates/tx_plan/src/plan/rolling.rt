@@ -1,7 +1,7 @@
 //! How a transaction is rolled back on a key.
-ghost use Rattle.std.specs.Prelude.{◌≡◌, ◌↔◌, ℕ, IsTrue};
-ghost use Rattle.tx_plan.specs.Cells.{Lock, Cells};
-ghost use Rattle.tx_plan.specs.Own.{OwnLock, leave_rollback, roll_back};
+ghost use Rattle.std.specs.Prelude.{◌≡◌, ℕ};
+ghost use Rattle.tx_plan.specs.Cells.{Cells};
+ghost use Rattle.tx_plan.specs.Own.{leave_rollback, roll_back};
 ghost use Rattle.tx_plan.specs.Changes.{changed, Applies, IsLeft, after_left};
 ghost use Rattle.tx_plan.specs.Views.{Shows};
 

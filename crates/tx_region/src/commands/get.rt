@@ -1,5 +1,5 @@
 //! Get: the value of a key at a timestamp.
-ghost use Rattle.std.specs.Prelude.{◌≡◌, ℕ, IfOk, IfErr, OnErr};
+ghost use Rattle.std.specs.Prelude.{◌≡◌, IfOk, IfErr, OnErr};
 ghost use Rattle.tx_plan.specs.declared.body.Body.TheVariants as request;
 ghost use Rattle.tx_region.specs.Regions.{region_of};
 ghost use Rattle.tx_region.specs.Calls.{Executes};

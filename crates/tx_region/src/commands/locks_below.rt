@@ -1,5 +1,5 @@
 //! LocksBelow: the locks of the region that started below a timestamp.
-ghost use Rattle.std.specs.Prelude.{◌≡◌, ℕ, IfOk, IfErr, OnErr};
+ghost use Rattle.std.specs.Prelude.{◌≡◌, ℕ, IfOk, IfErr};
 ghost use Rattle.tx_plan.specs.declared.body.Body.TheVariants as request;
 ghost use Rattle.tx_region.specs.Regions.{region_of};
 ghost use Rattle.tx_region.specs.Calls.{Executes};

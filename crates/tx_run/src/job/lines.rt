@@ -1,5 +1,5 @@
 //! What a session of a run does by its lines.
-ghost use Rattle.std.specs.Prelude.{◌≡◌, None, Some};
+ghost use Rattle.std.specs.Prelude.{None, Some};
 ghost use Rattle.tx_steps.specs.Steps.{asked};
 ghost use Rattle.tx_run.specs.Jobs.{StaysSame};
 ghost use Rattle.tx_ledger.specs.Sources.{HasPair, pair_of};
@@ -12,10 +12,10 @@ use tx_cells::Families;
 use tx_client::Session;
 use tx_journal::{Naming, Seat};
 use tx_latch::slot_of;
-use tx_ledger::{Entry, Said, Source, Words, is_name};
+use tx_ledger::{Entry, Said, Source, Words};
 use tx_lines::{Parts, Reply};
 use tx_steps::{Action, Line, Program, Step};
-use tx_types::{Cause, Fault, Key};
+use tx_types::{Cause, Fault, Key, is_name};
 use tx_work::{act, send};
 
 impl<J: Naming, L: Source, F: Families + Drop, R: Wait + Drop> ScriptJob<J, L, F, R> {

@@ -1,5 +1,5 @@
 //! A transfer of a session of a run: it begins, goes on, and ends.
-ghost use Rattle.std.specs.Prelude.{◌≡◌, Some};
+ghost use Rattle.std.specs.Prelude.{Some};
 ghost use Rattle.tx_run.specs.Jobs.{StaysSame};
 ghost use Rattle.tx_ledger.specs.Sources.{HasPair};
 

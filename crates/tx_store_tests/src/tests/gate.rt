@@ -1,5 +1,5 @@
 //! Two threads are inside the look-ups of two regions at once, and never inside those of one.
-ghost use Rattle.std.specs.Prelude.{◌≡◌, IfSome, length};
+ghost use Rattle.std.specs.Prelude.{◌≡◌, length};
 ghost use Rattle.tx_cells.specs.Contents.{nothing_held};
 ghost use Rattle.tx_nested.specs.Nested.{nested_content};
 

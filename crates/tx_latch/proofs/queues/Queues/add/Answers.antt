@@ -43,7 +43,7 @@ facts c =
     let asked = c.args.self.now.asked.items in
     let items = c.push.new.self.items in
     let e : Entry = record { cid = c.args.cid; slots = c.in_ok-own.own; ahead = c.join-ahead.result; behind = c.in_ok-behind.behind } in
-    let own : c.args.slots.now ≡ c.in_ok-own.own.items = sym c.in_ok-own.ensures.items in
+    let own : c.args.slots.now ≡ c.in_ok-own.own.items = sym c.in_ok-own.ensures.ok in
     let place : c.len-place.result ≡ length asked = omega (arith, c.len-place.ensures) in
     added asked items c.join-ahead.new.self.asked.items (place_of c.args.self.now) (λ k. get nat_eq c.insert.new.self k) (place_of c.join-ahead.new.self) (last_of c.args.self.now) (last_of c.join-ahead.new.self) e c.len-place.result
     c.requires.kept.0 c.requires.kept.1 c.requires.absent c.in_ok-push.ensures.items place
@@ -60,7 +60,7 @@ pub returns-clause-kept : goal.returns-clause-kept
 returns-clause-kept c = let f = facts c in (f.chained, f.stands)
 
 pub returns-clause-ok : goal.returns-clause-ok
-returns-clause-ok c = (facts c).list ∙ ap (λ t. commands (links c.args.self.now.asked.items) ++ (let d : Command = record { cid = c.args.cid; slots = t } in d) ∷ []) c.in_ok-own.ensures.items
+returns-clause-ok c = (facts c).list ∙ ap (λ t. commands (links c.args.self.now.asked.items) ++ (let d : Command = record { cid = c.args.cid; slots = t } in d) ∷ []) c.in_ok-own.ensures.ok
 
 pub returns-clause-granted : goal.returns-clause-granted
 returns-clause-granted c = (facts c).first

@@ -35,7 +35,7 @@ lower_all-requires c =
     subst (λ t. Placed t (place_of c.free.new.self)) (sym items)
     (placed-set (links asked) (place_of c.args.self.now) (place_of c.free.new.self) (last_of c.args.self.now) (room_at asked) c.args.cid c.in-Some.place c.requires.kept.0 at left)
 
-facts : (c : goal.After-drop-slots) → Taken (links c.args.self.now.asked.items) (links c.lower_all.new.self.asked.items) (place_of c.lower_all.new.self) (last_of c.lower_all.new.self) (room_at c.lower_all.new.self.asked.items) c.args.cid c.in-Some-take.entry.behind.items
+facts : (c : goal.Joined-entry) → Taken (links c.args.self.now.asked.items) (links c.lower_all.new.self.asked.items) (place_of c.lower_all.new.self) (last_of c.lower_all.new.self) (room_at c.lower_all.new.self.asked.items) c.args.cid c.in-Some-take.entry.behind.items
 facts c =
     let asked = c.args.self.now.asked.items in
     let i = c.in-Some.place in
@@ -52,7 +52,7 @@ facts c =
     taken (links asked) (links c.lower_all.new.self.asked.items) (place_of c.args.self.now) (place_of c.lower_all.new.self) (last_of c.args.self.now) (last_of c.lower_all.new.self) (room_at asked) (room_at c.lower_all.new.self.asked.items) c.args.cid i (link_of c.in-Some-take.entry)
     c.requires.kept.0 c.requires.kept.1 c.requires.granted at there left
     (λ s less. ap (λ t. get_or t s None) c.lower_all.ensures.last ∙ c.free.ensures.last s less
-    ∙ ap (λ t. cond (contains s t && is_number c.args.cid (last_of c.args.self.now s)) None (last_of c.args.self.now s)) c.as_slice.ensures.value)
+    ∙ ap (λ t. cond (contains s t && is_number c.args.cid (last_of c.args.self.now s)) None (last_of c.args.self.now s)) c.as_slice.ensures)
     (c.lower_all.ensures.lowered ∙ ap (λ t. map (option_map (lowered_in t)) (links c.free.new.self.asked.items)) c.as_slice-2.ensures.value ∙ ap (map (option_map (lowered_in c.in-Some-take.entry.behind.items))) items)
     (λ k n.
     let one : room_at c.free.new.self.asked.items k ≤ room_at c.lower_all.new.self.asked.items k = c.lower_all.ensures.room k in

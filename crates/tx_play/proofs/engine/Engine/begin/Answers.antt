@@ -5,7 +5,7 @@ use Rattle.tx_types.specs.declared.fault.Cause.TheVariants as cause
 use Rattle.tx_play.specs.declared.places.Slot.TheVariants.{Free, Lent}
 use Rattle.tx_lines.specs.declared.reply.Reply.TheVariants as reply
 use Rattle.tx_play.specs.Scenes.{first_free}
-use Rattle.tx_post.specs.Posts.{is_name}
+use Rattle.tx_types.specs.Names.{is_name}
 use Rattle.tx_play.specs.Steps.{begin}
 use Rattle.tx_play.specs.Places.{place_of, Held, texts, name_at, AllSeated, Goes, Turned}
 use Rattle.tx_play.proofs.Keeping.{at_place_of}

@@ -1,5 +1,6 @@
 use Rattle.std.proofs.Common.{◌≡◌, ◌&&◌, not, is_some, sym, ap, subst, ◌∙◌}
-use Rattle.tx_post.specs.Posts.{Desk, body_at, requests, is_name}
+use Rattle.tx_types.specs.Names.{is_name}
+use Rattle.tx_post.specs.Posts.{Desk, body_at, requests}
 use Rattle.tx_post.proofs.Holding.{in_use}
 use Rattle.tx_post.proofs.post.Post.is_free.Goals as goal
 
