@@ -1,6 +1,7 @@
 -- An encoded key, a group at a time.
-use Rattle.std.proofs.Common.{◌≡◌, ℕ, ◌+◌, ◌-◌, ◌*◌, ◌/◌, ◌<◌, ◌≤◌, List, [], ◌∷◌, ◌++◌, length, take, drop, get_or, replicate, refl, sym, ap, ◌∙◌, append_assoc, arith, inl, inr}
-use Rattle.std.proofs.lemmas.List.{take-append-drop, length-take, take-replicate, length-append, length-replicate, take_at, drop_at, same_from_push, get_or_at}
+use Rattle.std.proofs.Common.{◌≡◌, ℕ, ◌+◌, ◌-◌, ◌*◌, ◌/◌, ◌<◌, ◌≤◌, List, [], ◌∷◌, ◌++◌, length, take, drop, get_or, replicate, refl, sym, ap, ◌∙◌, append_assoc, set, arith, inl, inr}
+use Rattle.std.proofs.Math.Seq.{set-append_seam}
+use Rattle.std.proofs.lemmas.List.{append-nil, replicate-append-replicate, take-append-drop, length-take, length-append, length-replicate, take_at, drop_at, same_from_push, get_or_at}
 use Rattle.std.proofs.lemmas.Bool.{cases_lt}
 use Rattle.tx_codec.proofs.Lists.{same_fronts}
 use Rattle.tx_codec.specs.Keys.{encoded_key, last_group}
@@ -24,23 +25,30 @@ encoded_key-split key le =
     let whole : take 8 key ++ drop 8 key ≡ key = take-append-drop 8 key in
     ap encoded_key (sym whole) ∙ encoded_key-group (take 8 key) (drop 8 key) (omega (arith, length-take 8 key))
 
--- a group was written
-pub group_written : (out rest all : List ℕ) → 8 ≤ length rest → out ++ encoded_key rest ≡ all → ((out ++ take 8 rest) ++ 255 ∷ []) ++ encoded_key (drop 8 rest) ≡ all
-group_written out rest all le so_far =
-    let split = encoded_key-split rest le in
-    let regrouped : ((out ++ take 8 rest) ++ 255 ∷ []) ++ encoded_key (drop 8 rest) ≡ out ++ (take 8 rest ++ 255 ∷ encoded_key (drop 8 rest)) =
-    append_assoc (out ++ take 8 rest) (255 ∷ []) (encoded_key (drop 8 rest)) ∙ append_assoc out (take 8 rest) (255 ∷ encoded_key (drop 8 rest)) in
-    regrouped ∙ ap (λ (x : List ℕ). out ++ x) (sym split) ∙ so_far
+-- bytes and a marker, written over zeros
+pub group_marked : (part bytes : List ℕ) (marker : ℕ) → length part ≤ 8 → bytes ≡ part ++ replicate (9 - length part) 0 → set bytes 8 marker ≡ (part ++ replicate (8 - length part) 0) ++ marker ∷ []
+group_marked part bytes marker le e =
+    let zeros : List ℕ = replicate (8 - length part) 0 in
+    let more : 9 - length part ≡ 8 - length part + 1 = omega (arith, le) in
+    let split : replicate (9 - length part) 0 ≡ zeros ++ 0 ∷ [] = ap (λ k. replicate {A = ℕ} k 0) more ∙ sym (replicate-append-replicate (8 - length part) 1 0) in
+    let whole : bytes ≡ (part ++ zeros) ++ 0 ∷ [] = e ∙ ap (λ (t : List ℕ). part ++ t) split ∙ sym (append_assoc part zeros (0 ∷ [])) in
+    let at : length (part ++ zeros) ≡ 8 = omega (arith, length-append part zeros, length-replicate {A = ℕ} (8 - length part) 0) in
+    ap (λ (t : List ℕ). set t 8 marker) whole ∙ ap (λ k. set ((part ++ zeros) ++ 0 ∷ []) k marker) (sym at) ∙ set-append_seam (part ++ zeros) 0 [] marker
+
+-- a whole group was written
+pub group_written : (out rest all group : List ℕ) → 8 ≤ length rest → group ≡ (take 8 rest ++ replicate (8 - length (take 8 rest)) 0) ++ 255 ∷ [] → out ++ encoded_key rest ≡ all
+    → (out ++ group) ++ encoded_key (drop 8 rest) ≡ all
+group_written out rest all group le e so_far =
+    let size : 8 - length (take 8 rest) ≡ 0 = omega (arith, le, length-take 8 rest) in
+    let none : replicate (8 - length (take 8 rest)) 0 ≡ [] = ap (λ k. replicate {A = ℕ} k 0) size in
+    let plain : group ≡ take 8 rest ++ 255 ∷ [] = e ∙ ap (λ (z : List ℕ). (take 8 rest ++ z) ++ 255 ∷ []) none ∙ ap (λ (w : List ℕ). w ++ 255 ∷ []) (append-nil (take 8 rest)) in
+    let regrouped : (out ++ (take 8 rest ++ 255 ∷ [])) ++ encoded_key (drop 8 rest) ≡ out ++ (take 8 rest ++ 255 ∷ encoded_key (drop 8 rest)) =
+    append_assoc out (take 8 rest ++ 255 ∷ []) (encoded_key (drop 8 rest)) ∙ ap (λ (x : List ℕ). out ++ x) (append_assoc (take 8 rest) (255 ∷ []) (encoded_key (drop 8 rest))) in
+    ap (λ (g : List ℕ). (out ++ g) ++ encoded_key (drop 8 rest)) plain ∙ regrouped ∙ ap (λ (x : List ℕ). out ++ x) (sym (encoded_key-split rest le)) ∙ so_far
 
 -- the last group was written
-pub last_written : (out part all : List ℕ) → length part < 8 → out ++ encoded_key part ≡ all → ((out ++ part) ++ take (8 - length part) (replicate 8 0)) ++ (255 - (8 - length part)) ∷ [] ≡ all
-last_written out part all lt so_far =
-    let last = encoded_key-last part lt in
-    let zeros : take (8 - length part) (replicate 8 0) ≡ replicate (8 - length part) 0 = take-replicate (8 - length part) 8 0 (omega arith) in
-    let marker = (255 - (8 - length part)) ∷ [] in
-    let regrouped : ((out ++ part) ++ replicate (8 - length part) 0) ++ marker ≡ out ++ ((part ++ replicate (8 - length part) 0) ++ marker) =
-    ap (λ (x : List ℕ). x ++ marker) (append_assoc out part (replicate (8 - length part) 0)) ∙ append_assoc out (part ++ replicate (8 - length part) 0) marker in
-    ap (λ (z : List ℕ). ((out ++ part) ++ z) ++ marker) zeros ∙ regrouped ∙ ap (λ (x : List ℕ). out ++ x) (sym last) ∙ so_far
+pub last_written : (out part all : List ℕ) → length part < 8 → out ++ encoded_key part ≡ all → out ++ last_group part ≡ all
+last_written out part all lt so_far = ap (λ (x : List ℕ). out ++ x) (sym (encoded_key-last part lt)) ∙ so_far
 
 -- a last group and its marker
 pub last_group-length : (part : List ℕ) → length part < 8 → length (last_group part) ≡ 9

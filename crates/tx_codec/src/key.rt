@@ -1,5 +1,6 @@
 //! Keys and versions as bytes.
-ghost use Rattle.std.specs.Prelude.{◌≡◌, ◌≢◌, ◌++◌, ◌^◌, ◌<◌, ◌≤◌, List, ℕ, length, take, IfOk, IfErr, IfSome, OnOk, MatchOption};
+ghost use Rattle.std.specs.Prelude.{◌≡◌, ◌≢◌, ◌++◌, ◌∷◌, [], ◌-◌, ◌^◌, ◌<◌, ◌≤◌, List, ℕ, length, take, replicate, IfOk, IfErr, IfSome, OnOk, MatchOption};
+ghost use Rattle.tx_codec.specs.declared.key.TheConstants.{GROUP};
 ghost use Rattle.tx_codec.specs.Keys.{IsKey, encoded_key, encoded_version, last_group};
 
 use byteorder::{BigEndian, ByteOrder};
@@ -31,6 +32,17 @@ fn encoded_len(key: &[u8]) -> usize
     (key.len() / GROUP + 1) * ENCODED_GROUP
 }
 
+/// A group of these bytes, with zeros behind them, and its marker.
+fn group_of(part: &[u8], marker: u8) -> [u8; ENCODED_GROUP]
+    requires { length part.now ≤ GROUP }
+    ensures { result ≡ part.now ++ replicate (GROUP - length part.now) 0 ++ marker ∷ [] }
+{
+    let mut group = [0; ENCODED_GROUP];
+    group[..part.len()].copy_from_slice(part);
+    group[GROUP] = marker;
+    group
+}
+
 /// Adds the encoded key at the end.
 fn append_key(out: &mut Vec<u8>, key: &[u8]) -> Result<(), AllocError>
     ensures { OnOk result (out.new.items ≡ out.old.items ++ encoded_key key.now) }
@@ -38,14 +50,11 @@ fn append_key(out: &mut Vec<u8>, key: &[u8]) -> Result<(), AllocError>
     let mut rest = key;
     while rest.len() >= GROUP {
         let (group, after) = rest.split_at(GROUP);
-        out.extend_from_slice(group)?;
-        out.push(WHOLE)?;
+        out.extend_from_slice(&group_of(group, WHOLE))?;
         rest = after;
     }
     let pads = GROUP - rest.len();
-    out.extend_from_slice(rest)?;
-    out.extend_from_slice(&[0; GROUP][..pads])?;
-    out.push(WHOLE - pads as u8)?;
+    out.extend_from_slice(&group_of(rest, WHOLE - pads as u8))?;
     Ok(())
 }
 
