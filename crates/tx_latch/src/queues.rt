@@ -96,6 +96,7 @@ impl Queues {
     }
 
     /// Puts a command directly behind another, unless it was put there just now. Says whether it did.
+    #[inline(always)]
     fn stand_behind(&mut self, before: Cid, cid: Cid) -> bool
         requires { (i : ℕ) → place_of self.old before ≡ Some i → HasRoom cid (slice_index_or (links self.old.asked.items) i None) (room_at self.old.asked.items i) }
         ensures followed { links self.new.asked.items ≡ at_place (place_of self.old before) (followed cid) (links self.old.asked.items) }
@@ -128,6 +129,7 @@ impl Queues {
     }
 
     /// Puts a command at the end of the queue of a slot. Says whether it then stands directly behind one more.
+    #[inline(always)]
     fn join_slot(&mut self, slot: Slot, cid: Cid) -> bool
         requires { (b i : ℕ) → last_of self.old slot ≡ Some b → place_of self.old b ≡ Some i → HasRoom cid (slice_index_or (links self.old.asked.items) i None) (room_at self.old.asked.items i) }
         ensures links { links self.new.asked.items ≡ after_slot (last_of self.old slot) (place_of self.old) cid (links self.old.asked.items) }
