@@ -120,6 +120,40 @@ fn locks_are_copied(rt: HostRuntime) {
     assert!(rt; lock_is_copied(&rt));
 }
 
+fn told_is_copied(info: &LockInfo) -> bool {
+    info.clone().is_ok() && info.facts().clone().is_ok()
+}
+
+fn what_is_told_is_copied(rt: &HostRuntime, lock: &LockRec) -> Result<bool, Fault> {
+    let key = Key::new(rt.alloc(), b"k")?;
+    let info = lock.info(rt.alloc(), &key)?;
+    Ok(told_is_copied(&info))
+}
+
+fn told_of_a_lock(rt: &HostRuntime) -> Result<bool, Fault> {
+    let lock = lock_on(rt, b"b")?;
+    what_is_told_is_copied(rt, &lock)
+}
+
+#[test]
+fn what_is_told_of_a_lock_is_copied(rt: HostRuntime) {
+    assert!(rt; matches!(told_of_a_lock(&rt), Ok(true)));
+}
+
+fn record_is_copied(rec: &WriteRec) -> bool {
+    rec.clone().is_ok()
+}
+
+#[test]
+fn write_records_are_copied(rt: HostRuntime) {
+    let rec = WriteRec::Commit(CommitRec {
+        mutation: StoredMutation::Delete,
+        start: Ts::new(1),
+        overlapped_rollback: false,
+    });
+    assert!(rt; record_is_copied(&rec));
+}
+
 fn changes_copied(rt: &HostRuntime, name: &[u8]) -> Result<usize, Fault> {
     let mut changes = Changes::new(rt.alloc());
     changes.push(Change {
