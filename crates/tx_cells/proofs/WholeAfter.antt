@@ -268,10 +268,8 @@ whole_after x made w applies fits = go made applies fits (subst IsSound (sym (ce
 
 -- ---- a lock that is put
 
-kept_apart : (value : ℕ → Option Value) (t : ℕ) (m : Mutation) → IsKept (with_value value t (apart_of m) t) (stored_of m)
-kept_apart value t mutation.Delete = tt
-kept_apart value t mutation.Lock = tt
-kept_apart value t (mutation.Put v) = elim (cases_lt MAX_INLINE_BYTES (length v)) [
+put_apart : (value : ℕ → Option Value) (t : ℕ) (v : Value) → IsKept (with_value value t (apart_of (mutation.Put v)) t) (stored_of (mutation.Put v))
+put_apart value t v = elim (cases_lt MAX_INLINE_BYTES (length v)) [
   | inl long ↦ (
       let is : is_long (mutation.Put v) ≡ true = lt-ltb MAX_INLINE_BYTES (length v) long in
       let there : IsKept (cond (t == t) (Some v) (value t)) (stored.Put InDefault) = subst (λ b. IsKept (cond b (Some v) (value t)) (stored.Put InDefault)) (sym (eq-eqb t t refl)) long in
@@ -283,14 +281,24 @@ kept_apart value t (mutation.Put v) = elim (cases_lt MAX_INLINE_BYTES (length v)
       )
 ]
 
+kept_apart : (value : ℕ → Option Value) (t : ℕ) (m : Mutation) → IsKept (with_value value t (apart_of m) t) (stored_of m)
+kept_apart value t mutation.Delete = tt
+kept_apart value t mutation.Lock = tt
+kept_apart value t (mutation.Put v) = put_apart value t v
+kept_apart value t (mutation.Insert v) = put_apart value t v
+
 -- where a value is kept apart, the record says so
-apart_kept : (value : ℕ → Option Value) (t : ℕ) (m : Mutation) → value t ≡ None → with_value value t (apart_of m) t ≢ None → keeps_apart (stored_of m) ≡ true
-apart_kept value t mutation.Delete none there = absurd (there none)
-apart_kept value t mutation.Lock none there = absurd (there none)
-apart_kept value t (mutation.Put v) none there = elim (cases_Bool (is_long (mutation.Put v))) [
+apart_put : (value : ℕ → Option Value) (t : ℕ) (v : Value) → value t ≡ None → with_value value t (apart_of (mutation.Put v)) t ≢ None → keeps_apart (stored_of (mutation.Put v)) ≡ true
+apart_put value t v none there = elim (cases_Bool (is_long (mutation.Put v))) [
   | inl long ↦ ap (λ b. keeps_apart (stored.Put (cond b InDefault (Inline v)))) long
   | inr short ↦ absurd (there (ap (λ b. with_value value t (cond b (Some v) None) t) short ∙ none))
 ]
+
+apart_kept : (value : ℕ → Option Value) (t : ℕ) (m : Mutation) → value t ≡ None → with_value value t (apart_of m) t ≢ None → keeps_apart (stored_of m) ≡ true
+apart_kept value t mutation.Delete none there = absurd (there none)
+apart_kept value t mutation.Lock none there = absurd (there none)
+apart_kept value t (mutation.Put v) none there = apart_put value t v none there
+apart_kept value t (mutation.Insert v) none there = apart_put value t v none there
 
 -- no value is kept apart for a transaction that can put a lock
 pub no_value : (x : OnKey) (b : Prewrite) (new : NewLock) → IsWhole x → CanPut (cells_of x) b new → x.value b.start ≡ None

@@ -34,15 +34,17 @@ with_lock x lock = record { lock = lock; write = x.write; value = x.value }
 
 -- ---- a lock that is put
 
--- a mutation as its record keeps it: a long value apart
+-- a mutation as its record keeps it: a long value apart, an insert as a put
 abbrev pub stored_of : Mutation → StoredMutation
 stored_of (mutation.Put v) = stored.Put (cond (is_long (mutation.Put v)) InDefault (Inline v))
+stored_of (mutation.Insert v) = stored.Put (cond (is_long (mutation.Put v)) InDefault (Inline v))
 stored_of mutation.Delete = stored.Delete
 stored_of mutation.Lock = stored.Lock
 
 -- the value that is kept apart
 abbrev pub apart_of : Mutation → Option Value
 apart_of (mutation.Put v) = cond (is_long (mutation.Put v)) (Some v) None
+apart_of (mutation.Insert v) = cond (is_long (mutation.Put v)) (Some v) None
 apart_of mutation.Delete = None
 apart_of mutation.Lock = None
 

@@ -35,7 +35,7 @@ use Rattle.tx_client.specs.Senders.{IsHeld, Reached, came_by, came_of, Learns}
 use Rattle.tx_client.specs.Facts.{CameSo, IsFor, IsSession, IsSeated}
 use Rattle.tx_client.specs.Calls.{Records, RecordsDeclared, Asks, IsDecidedSo}
 use Rattle.tx_client.proofs.Kept.{others_act}
-use Rattle.tx_client.proofs.Events.{began_ok, declared_none, may_declare_buffer, declared_ok, drew_ok, may_finish, passed_ok}
+use Rattle.tx_client.proofs.Events.{began_ok, declared_none, drawn_is, may_declare_buffer, declared_ok, drew_ok, may_finish, passed_ok}
 use Rattle.tx_client.proofs.Due.{known_decided}
 
 -- ---- some region holds what is asked
@@ -90,15 +90,17 @@ began_seated bounds k mid new t number drew r =
     let recorded : HasRecorded bounds k.seat mid.events (Began t) new.events = subst (λ i. HasRecorded bounds i mid.events (Began t) new.events) number r.recorded in
     (r.recorded.run, subst (λ i. IsSession new.events i (begun t)) (sym (r.number ∙ number)) (began_ok bounds k.seat t k.events mid.events new.events drew recorded))
 
--- what is declared it may record
-pub may_declare_some : (bounds : List Key) (k : Known) (s : State) (terms : Terms) (o : Option Declaration) → IsSeated bounds k s → is_declared s ≡ false → o ≡ declaration s.start s.buffer terms → IfSome o (λ d. MayRecord bounds k.seat k.events (Declared d))
-may_declare_some bounds k s terms None is not_yet e = tt
-may_declare_some bounds k s terms (Some d) is not_yet e = may_declare_buffer bounds k.events k.seat s terms d is.1 not_yet (sym e)
+-- once it drew a number, what is declared it may record
+pub may_declare_some : (bounds : List Key) (k : Known) (mid : History) (s : State) (p : ℕ) (terms : Terms) (o : Option Declaration) → IsSeated bounds k s → is_declared s ≡ false → HasDrawn bounds k.seat k.events 1 p mid → o ≡ declaration s.start p s.buffer terms → IfSome o (λ d. MayRecord bounds k.seat mid (Declared d))
+may_declare_some bounds k mid s p terms None is not_yet drew e = tt
+may_declare_some bounds k mid s p terms (Some d) is not_yet drew e = may_declare_buffer bounds k.events mid k.seat s p terms d is.1 not_yet drew (sym e)
 
 -- it recorded what is declared, if anything is
-pub declared_seated : (bounds : List Key) (k new : Known) (s : State) (terms : Terms) (o : Option Declaration) → IsSeated bounds k s → is_declared s ≡ false → o ≡ declaration s.start s.buffer terms → RecordsDeclared bounds k o new → IsSeated bounds new (record s { declared = Some terms })
-declared_seated bounds k new s terms None is not_yet e r = subst (λ x. IsSeated bounds x (record s { declared = Some terms })) (sym r) (is.0, declared_none k.events k.seat s terms is.1 not_yet (sym e))
-declared_seated bounds k new s terms (Some d) is not_yet e r = (r.recorded.run, subst (λ i. IsSession new.events i (record s { declared = Some terms })) (sym r.number) (declared_ok bounds k.seat s terms d k.events new.events is.1 (sym e) r.recorded))
+pub declared_seated : (bounds : List Key) (k new : Known) (s : State) (p : ℕ) (terms : Terms) (o : Option Declaration) → IsSeated bounds k s → is_declared s ≡ false → o ≡ declaration s.start p s.buffer terms → RecordsDeclared bounds k o new → IsSeated bounds new (record s { declared = Some terms; placed = p })
+declared_seated bounds k new s p terms None is not_yet e r = subst (λ x. IsSeated bounds x (record s { declared = Some terms; placed = p })) (sym r) (is.0, declared_none k.events k.seat s p terms is.1 not_yet (sym e))
+declared_seated bounds k new s p terms (Some d) is not_yet e r =
+    let drew : HasDrawn bounds k.seat k.events 1 p r.mid = subst (λ n. HasDrawn bounds k.seat k.events 1 n r.mid) (drawn_is s.start p s.buffer terms d (sym e)) r.drew in
+    (r.recorded.run, subst (λ i. IsSession new.events i (record s { declared = Some terms; placed = p })) (sym r.number) (declared_ok bounds k.seat s p terms d k.events r.mid new.events is.1 drew (sym e) r.recorded))
 
 -- it drew a commit timestamp
 pub drew_seated : (bounds : List Key) (k new : Known) (s : State) (c : ℕ) → IsSeated bounds k s → can_draw s ≡ true → new.seat ≡ k.seat → HasDrawn bounds k.seat k.events 1 c new.events → IsSeated bounds new (record s { drawn = Some c })

@@ -37,15 +37,15 @@ names_start s phase.Abort due (inr is) = ap (λ (d : Due). start_in d.body) is.1
 -- ---- what stands declared
 
 -- of a buffer that is not empty
-declared_is : (t : ℕ) (es : Entries) (terms : Terms) → 0 < length es → standing t es (Some terms) ≡ Some (declaration_of t es terms)
-declared_is t [] terms lt = absurd (omega (arith, lt))
-declared_is t (e ∷ es) terms lt = refl
+declared_is : (t placed : ℕ) (es : Entries) (terms : Terms) → 0 < length es → standing t placed es (Some terms) ≡ Some (declaration_of t placed es terms)
+declared_is t placed [] terms lt = absurd (omega (arith, lt))
+declared_is t placed (e ∷ es) terms lt = refl
 
 -- where something stands, it is the buffer, under some terms
-pub standing_some : (t : ℕ) (es : Entries) (o : Option Terms) → standing t es o ≢ None → (terms : Terms) × (o ≡ Some terms) × (standing t es o ≡ Some (declaration_of t es terms)) × (0 < length es)
-standing_some t es None some = absurd (some refl)
-standing_some t [] (Some terms) some = absurd (some refl)
-standing_some t (e ∷ es) (Some terms) some = (terms, refl, refl, omega arith)
+pub standing_some : (t placed : ℕ) (es : Entries) (o : Option Terms) → standing t placed es o ≢ None → (terms : Terms) × (o ≡ Some terms) × (standing t placed es o ≡ Some (declaration_of t placed es terms)) × (0 < length es)
+standing_some t placed es None some = absurd (some refl)
+standing_some t placed [] (Some terms) some = absurd (some refl)
+standing_some t placed (e ∷ es) (Some terms) some = (terms, refl, refl, omega arith)
 
 module _ (bounds : List Key) (h : History) (run : IsWorldRun bounds h) (i : ℕ) (s : State) (is : IsSession h i s) where
   -- what is known of a fate is decided
@@ -57,16 +57,16 @@ module _ (bounds : List Key) (h : History) (run : IsWorldRun bounds h) (i : ℕ)
       go (fate.Committed c) (inr most) = (run_told bounds h run).0.ends.all_async s.start c most
       go fate.Aborted told = told_fate bounds h run s.start fate.Aborted told
 
-  declared_so : (terms : Terms) → s.declared ≡ Some terms → 0 < length s.buffer → declared h s.start ≡ Some (declaration_of s.start s.buffer terms)
-  declared_so terms was some = is.stands ∙ ap (standing s.start s.buffer) was ∙ declared_is s.start s.buffer terms some
+  declared_so : (terms : Terms) → s.declared ≡ Some terms → 0 < length s.buffer → declared h s.start ≡ Some (declaration_of s.start s.placed s.buffer terms)
+  declared_so terms was some = is.stands ∙ ap (standing s.start s.placed s.buffer) was ∙ declared_is s.start s.placed s.buffer terms some
 
   -- where something stands declared, it is the buffer
-  pub stands_some : declared h s.start ≢ None → (terms : Terms) × (s.declared ≡ Some terms) × (declared h s.start ≡ Some (declaration_of s.start s.buffer terms)) × (0 < length s.buffer)
+  pub stands_some : declared h s.start ≢ None → (terms : Terms) × (s.declared ≡ Some terms) × (declared h s.start ≡ Some (declaration_of s.start s.placed s.buffer terms)) × (0 < length s.buffer)
   stands_some some =
-      let r = standing_some s.start s.buffer s.declared (λ none. some (is.stands ∙ none)) in
+      let r = standing_some s.start s.placed s.buffer s.declared (λ none. some (is.stands ∙ none)) in
       (r.0, r.1, is.stands ∙ r.2, r.3)
 
-  decided_some : (end : Fate) → s.decision ≡ Some end → (terms : Terms) × (s.declared ≡ Some terms) × (declared h s.start ≡ Some (declaration_of s.start s.buffer terms)) × (0 < length s.buffer)
+  decided_some : (end : Fate) → s.decision ≡ Some end → (terms : Terms) × (s.declared ≡ Some terms) × (declared h s.start ≡ Some (declaration_of s.start s.placed s.buffer terms)) × (0 < length s.buffer)
   decided_some end e = stands_some (decided_declared bounds h run s.start end (known_decided end e))
 
   abbrev Is : Phase → Due → Type 0
@@ -78,12 +78,13 @@ module _ (bounds : List Key) (h : History) (run : IsWorldRun bounds h) (i : ℕ)
   may_prewrite terms n was lt =
       let some : 0 < length s.buffer = omega (arith, lt) in
       record {
-        of = declaration_of s.start s.buffer terms;
+        of = declaration_of s.start s.placed s.buffer terms;
         stands = declared_so terms was some;
         mutation = mutation_there s.buffer n lt is.distinct;
         primary = first_there s.buffer some;
         mode = refl;
         max_commit = refl;
+        floor = refl;
         ttl = refl;
         others = others_listed terms.mode s.buffer n lt is.distinct;
       }
@@ -104,13 +105,13 @@ module _ (bounds : List Key) (h : History) (run : IsWorldRun bounds h) (i : ℕ)
   may_commit_decided : (c n : ℕ) → s.decision ≡ Some (fate.Committed c) → Allowed h (commit_of s c n).body
   may_commit_decided c n e =
       let r = decided_some (fate.Committed c) e in
-      record { of = declaration_of s.start s.buffer r.0; stands = r.2; may = inl (known_decided (fate.Committed c) e) }
+      record { of = declaration_of s.start s.placed s.buffer r.0; stands = r.2; may = inl (known_decided (fate.Committed c) e) }
 
   may_commit_drawn : (c : ℕ) → s.drawn ≡ Some c → Allowed h (commit_of s c 0).body
   may_commit_drawn c e =
       let y = is.ready c e in
       let r = stands_some y.stands in
-      record { of = declaration_of s.start s.buffer r.0; stands = r.2; may = inr (record { primary = first_there s.buffer r.3; accepted = y.all; two_phase = y.two_phase; drawn = y.drew }) }
+      record { of = declaration_of s.start s.placed s.buffer r.0; stands = r.2; may = inr (record { primary = first_there s.buffer r.3; accepted = y.all; two_phase = y.two_phase; drawn = y.drew }) }
 
   -- the commit that is due is allowed
   pub commit_allowed : (due : Due) → due_commit s ≡ Some due → Is phase.Commit due
@@ -141,15 +142,15 @@ module _ (bounds : List Key) (h : History) (run : IsWorldRun bounds h) (i : ℕ)
   may_roll_back : (n : ℕ) → s.decision ≡ Some fate.Aborted → Allowed h (rollback_of s n).body
   may_roll_back n e =
       let r = decided_some fate.Aborted e in
-      record { of = declaration_of s.start s.buffer r.0; stands = r.2; may = inl (known_decided fate.Aborted e) }
+      record { of = declaration_of s.start s.placed s.buffer r.0; stands = r.2; may = inl (known_decided fate.Aborted e) }
 
   may_roll_back_first : (terms : Terms) → s.declared ≡ Some terms → terms.mode ≡ TwoPhase → 0 < length s.buffer → Allowed h (rollback_of s 0).body
-  may_roll_back_first terms was mode some = record { of = declaration_of s.start s.buffer terms; stands = declared_so terms was some; may = inr (mode, first_there s.buffer some) }
+  may_roll_back_first terms was mode some = record { of = declaration_of s.start s.placed s.buffer terms; stands = declared_so terms was some; may = inr (mode, first_there s.buffer some) }
 
   may_check : (terms : Terms) (n : ℕ) → s.declared ≡ Some terms → terms.mode ≡ Async → n < length s.buffer → Allowed h (check_of s n).body
   may_check terms n was mode lt =
       let there = mutation_there s.buffer n lt is.distinct in
-      record { of = declaration_of s.start s.buffer terms; stands = declared_so terms was (omega (arith, lt)); async = mode; within = λ none. cc (there, none) }
+      record { of = declaration_of s.start s.placed s.buffer terms; stands = declared_so terms was (omega (arith, lt)); async = mode; within = λ none. cc (there, none) }
 
   -- the request of an abort that is due is allowed
   pub abort_allowed : (due : Due) → due_abort s ≡ Some due → Is phase.Abort due

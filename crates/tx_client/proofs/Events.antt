@@ -13,7 +13,7 @@ use Rattle.tx_core.specs.declared.event.Outcome.{Outcome}
 use Rattle.tx_core.specs.declared.event.Outcome.TheVariants as outcome
 use Rattle.tx_core.specs.declared.event.UnknownCause.{UnknownCause}
 use Rattle.tx_core.specs.declared.event.Event.TheVariants.{Drawn, Began, Declared, Answered}
-use Rattle.tx_core.specs.Histories.{History, drawer, began, declared, set_of, Begins}
+use Rattle.tx_core.specs.Histories.{History, drawer, began, declared, DrewSince, set_of, Begins}
 use Rattle.tx_core.specs.Decisions.{accepted, HasTwoPhaseLock}
 use Rattle.tx_core.specs.Allowed.{MayPass}
 use Rattle.tx_core.specs.Worlds.{MayAnswer, IsWorldRun}
@@ -83,7 +83,7 @@ module _ (h : History) (i : ℕ) (s : State) (is : IsSession h i s) where
         drew_start = is.drew_start;
         begun = is.begun;
         unanswered = is.unanswered;
-        stands = is.stands ∙ ap (standing s.start s.buffer) none ∙ sym (ap (standing s.start es) none);
+        stands = is.stands ∙ ap (standing s.start s.placed s.buffer) none ∙ sym (ap (standing s.start s.placed es) none);
         distinct = distinct;
         marks = marks;
         passes = is.passes;
@@ -122,13 +122,13 @@ module _ (h : History) (i : ℕ) (s : State) (is : IsSession h i s) where
 -- ---- it declares
 
 -- an empty buffer is no event
-pub declared_none : (h : History) (i : ℕ) (s : State) (terms : Terms) → IsSession h i s → is_declared s ≡ false → declaration s.start s.buffer terms ≡ None → IsSession h i (record s { declared = Some terms })
-declared_none h i s terms is not_yet empty =
+pub declared_none : (h : History) (i : ℕ) (s : State) (p : ℕ) (terms : Terms) → IsSession h i s → is_declared s ≡ false → declaration s.start p s.buffer terms ≡ None → IsSession h i (record s { declared = Some terms; placed = p })
+declared_none h i s p terms is not_yet empty =
     record {
       drew_start = is.drew_start;
       begun = is.begun;
       unanswered = is.unanswered;
-      stands = is.stands ∙ ap (standing s.start s.buffer) (undeclared_yet s.declared not_yet) ∙ sym empty;
+      stands = is.stands ∙ ap (standing s.start s.placed s.buffer) (undeclared_yet s.declared not_yet) ∙ sym empty;
       distinct = is.distinct;
       marks = is.marks;
       passes = is.passes;
@@ -137,21 +137,55 @@ declared_none h i s terms is not_yet empty =
       settled = is.settled;
     }
 
--- what a buffer declares is of this start and is its write set, which is not empty
-declaration_is : (t : ℕ) (es : Entries) (terms : Terms) (d : Declaration) → declaration t es terms ≡ Some d → (d.start ≡ t) × (d.changes ≡ changes_of es) × (d.changes ≢ [])
-declaration_is t [] terms d e = absurd (cc (e))
-declaration_is t (x ∷ es) terms d e =
-    let same : declaration_of t (x ∷ es) terms ≡ d = cc (e) in
-    (sym (ap (λ (z : Declaration). z.start) same), sym (ap (λ (z : Declaration). z.changes) same), λ none. (let empty : changes_of (x ∷ es) ≡ [] = ap (λ (z : Declaration). z.changes) same ∙ none in cc (empty)))
+-- what a buffer declares is of this start and is its write set, which is not empty, with this number
+declaration_is : (t p : ℕ) (es : Entries) (terms : Terms) (d : Declaration) → declaration t p es terms ≡ Some d → (d.start ≡ t) × (d.changes ≡ changes_of es) × (d.changes ≢ []) × (d.drawn ≡ p)
+declaration_is t p [] terms d e = absurd (cc (e))
+declaration_is t p (x ∷ es) terms d e =
+    let same : declaration_of t p (x ∷ es) terms ≡ d = cc (e) in (
+      sym (ap (λ (z : Declaration). z.start) same),
+      sym (ap (λ (z : Declaration). z.changes) same),
+      λ none. (let empty : changes_of (x ∷ es) ≡ [] = ap (λ (z : Declaration). z.changes) same ∙ none in cc (empty)),
+      sym (ap (λ (z : Declaration). z.drawn) same),
+    )
 
-pub may_declare_buffer : (bounds : List Key) (h : History) (i : ℕ) (s : State) (terms : Terms) (d : Declaration) → IsSession h i s → is_declared s ≡ false → declaration s.start s.buffer terms ≡ Some d → MayRecord bounds i h (Declared d)
-may_declare_buffer bounds h i s terms d is not_yet e =
-    let r = declaration_is s.start s.buffer terms d e in
-    may_declare bounds i h d (ap (drawer h) r.0 ∙ is.drew_start) (ap (began h) r.0 ∙ is.begun) (ap (declared h) r.0 ∙ is.stands ∙ ap (standing s.start s.buffer) (undeclared_yet s.declared not_yet)) r.2 (subst IsDistinct (sym r.1) is.distinct)
+pub drawn_is : (t p : ℕ) (es : Entries) (terms : Terms) (d : Declaration) → declaration t p es terms ≡ Some d → d.drawn ≡ p
+drawn_is t p es terms d e = (declaration_is t p es terms d e).3
 
-declared_next : (bounds : List Key) (h : History) (i : ℕ) (s : State) (terms : Terms) (d : Declaration) → IsWorldRun bounds (Declared d ∷ h) → IsSession h i s → declaration s.start s.buffer terms ≡ Some d → IsSession (Declared d ∷ h) i (record s { declared = Some terms })
-declared_next bounds h i s terms d run is e =
-    let r = declaration_is s.start s.buffer terms d e in
+-- its seat drew a number
+drew_number : (bounds : List Key) (h : History) (i : ℕ) (s : State) (p : ℕ) → IsWorldRun bounds (Drawn i p ∷ h) → IsSession h i s → IsSession (Drawn i p ∷ h) i s
+drew_number bounds h i s p run is =
+    let later : Begins h (Drawn i p ∷ h) = inr (begins_all h) in
+    record {
+      drew_start = drawer_on bounds h (Drawn i p ∷ h) run later s.start i is.drew_start;
+      begun = is.begun;
+      unanswered = is.unanswered;
+      stands = is.stands;
+      distinct = is.distinct;
+      marks = marks_on bounds h (Drawn i p ∷ h) run later s.start s.buffer is.marks;
+      passes = read_on bounds h (Drawn i p ∷ h) run later s.start s.bypass is.passes;
+      met = λ info q. told_of_on bounds h (Drawn i p ∷ h) run later info (is.met info q);
+      ready = λ c e. ready_on bounds h (Drawn i p ∷ h) run later s.start c (is.ready c e);
+      settled = λ end e. may_answer_on bounds h (Drawn i p ∷ h) run later s.start (outcome_of end) (is.settled end e);
+    }
+
+-- then it drew it since it began
+placed_ok : (bounds : List Key) (i : ℕ) (s : State) (p : ℕ) (old new : History) → IsSession old i s → HasDrawn bounds i old 1 p new → IsSession new i s × DrewSince new s.start p
+placed_ok bounds i s p old new is d =
+    let run : IsWorldRun bounds (Drawn i p ∷ d.before) = subst (IsWorldRun bounds) d.is d.run in
+    let before : IsSession d.before i s = others_act bounds old d.before run.0 i s d.extends is in
+    (subst (λ x. IsSession x i s) (sym d.is) (drew_number bounds d.before i s p run before), subst (λ x. DrewSince x s.start p) (sym d.is) (inl (refl, before.begun, before.drew_start)))
+
+pub may_declare_buffer : (bounds : List Key) (old mid : History) (i : ℕ) (s : State) (p : ℕ) (terms : Terms) (d : Declaration) → IsSession old i s → is_declared s ≡ false → HasDrawn bounds i old 1 p mid → declaration s.start p s.buffer terms ≡ Some d → MayRecord bounds i mid (Declared d)
+may_declare_buffer bounds old mid i s p terms d was not_yet drew e =
+    let r = declaration_is s.start p s.buffer terms d e in
+    let now = placed_ok bounds i s p old mid was drew in
+    let is : IsSession mid i s = now.0 in
+    let since : DrewSince mid d.start d.drawn = subst (λ t. DrewSince mid t d.drawn) (sym r.0) (subst (DrewSince mid s.start) (sym r.3) now.1) in
+    may_declare bounds i mid d (ap (drawer mid) r.0 ∙ is.drew_start) (ap (began mid) r.0 ∙ is.begun) (ap (declared mid) r.0 ∙ is.stands ∙ ap (standing s.start s.placed s.buffer) (undeclared_yet s.declared not_yet)) r.2 (subst IsDistinct (sym r.1) is.distinct) since
+
+declared_next : (bounds : List Key) (h : History) (i : ℕ) (s : State) (p : ℕ) (terms : Terms) (d : Declaration) → IsWorldRun bounds (Declared d ∷ h) → IsSession h i s → declaration s.start p s.buffer terms ≡ Some d → IsSession (Declared d ∷ h) i (record s { declared = Some terms; placed = p })
+declared_next bounds h i s p terms d run is e =
+    let r = declaration_is s.start p s.buffer terms d e in
     let later : Begins h (Declared d ∷ h) = inr (begins_all h) in
     record {
       drew_start = is.drew_start;
@@ -166,11 +200,12 @@ declared_next bounds h i s terms d run is e =
       settled = λ end q. may_answer_on bounds h (Declared d ∷ h) run later s.start (outcome_of end) (is.settled end q);
     }
 
--- its seat recorded what it declared
-pub declared_ok : (bounds : List Key) (i : ℕ) (s : State) (terms : Terms) (d : Declaration) (old new : History) → IsSession old i s → declaration s.start s.buffer terms ≡ Some d → HasRecorded bounds i old (Declared d) new → IsSession new i (record s { declared = Some terms })
-declared_ok bounds i s terms d old new is e r =
+-- its seat drew a number, and recorded what it declared with it
+pub declared_ok : (bounds : List Key) (i : ℕ) (s : State) (p : ℕ) (terms : Terms) (d : Declaration) (old mid new : History) → IsSession old i s → HasDrawn bounds i old 1 p mid → declaration s.start p s.buffer terms ≡ Some d → HasRecorded bounds i mid (Declared d) new → IsSession new i (record s { declared = Some terms; placed = p })
+declared_ok bounds i s p terms d old mid new was drew e r =
     let run : IsWorldRun bounds (Declared d ∷ r.before) = subst (IsWorldRun bounds) r.is r.run in
-    subst (λ x. IsSession x i (record s { declared = Some terms })) (sym r.is) (declared_next bounds r.before i s terms d run (others_act bounds old r.before run.0 i s r.extends is) e)
+    let is : IsSession mid i s = (placed_ok bounds i s p old mid was drew).0 in
+    subst (λ x. IsSession x i (record s { declared = Some terms; placed = p })) (sym r.is) (declared_next bounds r.before i s p terms d run (others_act bounds mid r.before run.0 i s r.extends is) e)
 
 -- ---- it draws a commit timestamp
 
@@ -209,10 +244,10 @@ two_phase_marked h t (x ∷ es) m e = go x.1.progress.accepted m.0 (two_phase_ma
     go (Some (suc n)) mark rest e = rest e
 
 -- what a session with a primary declared
-primary_stands : (t : ℕ) (es : Entries) (o : Option Terms) → (some_test o && not_empty es) ≡ true → (terms : Terms) × (standing t es o ≡ Some (declaration_of t es terms))
-primary_stands t es None e = absurd (cc (e))
-primary_stands t [] (Some terms) e = absurd (cc (e))
-primary_stands t (x ∷ es) (Some terms) e = (terms, refl)
+primary_stands : (t placed : ℕ) (es : Entries) (o : Option Terms) → (some_test o && not_empty es) ≡ true → (terms : Terms) × (standing t placed es o ≡ Some (declaration_of t placed es terms))
+primary_stands t placed es None e = absurd (cc (e))
+primary_stands t placed [] (Some terms) e = absurd (cc (e))
+primary_stands t placed (x ∷ es) (Some terms) e = (terms, refl)
 
 module _ (bounds : List Key) (h : History) (i : ℕ) (s : State) (is : IsSession h i s) (can : can_draw s ≡ true) (c : ℕ) (run : IsWorldRun bounds (Drawn i c ∷ h)) where
   abbrev accepted_all : Bool
@@ -224,8 +259,8 @@ module _ (bounds : List Key) (h : History) (i : ℕ) (s : State) (is : IsSession
   all_two_phase : (accepted_all ≡ true) × (has_two_phase_lock s.buffer ≡ true)
   all_two_phase = and_parts accepted_all (has_two_phase_lock s.buffer) (and_parts (has_primary s) (accepted_all && has_two_phase_lock s.buffer) rest).1
 
-  stands_so : (terms : Terms) × (declared h s.start ≡ Some (declaration_of s.start s.buffer terms))
-  stands_so = (let r = primary_stands s.start s.buffer s.declared (and_parts (has_primary s) (accepted_all && has_two_phase_lock s.buffer) rest).0 in (r.0, is.stands ∙ r.1))
+  stands_so : (terms : Terms) × (declared h s.start ≡ Some (declaration_of s.start s.placed s.buffer terms))
+  stands_so = (let r = primary_stands s.start s.placed s.buffer s.declared (and_parts (has_primary s) (accepted_all && has_two_phase_lock s.buffer) rest).0 in (r.0, is.stands ∙ r.1))
 
   accepted_by_mark : (k : Key) → mutation_at (changes_of s.buffer) k ≢ None → accepted h s.start k ≢ None
   accepted_by_mark = all_marked 0 h s.start s.buffer is.marks (none_there (first_place phase.Prewrite s.buffer) all_two_phase.0)
@@ -235,7 +270,7 @@ module _ (bounds : List Key) (h : History) (i : ℕ) (s : State) (is : IsSession
   ready_now =
       let two = two_phase_marked h s.start s.buffer is.marks all_two_phase.1 in
       record {
-        stands = is_some (declared h s.start) (declaration_of s.start s.buffer stands_so.0) stands_so.1;
+        stands = is_some (declared h s.start) (declaration_of s.start s.placed s.buffer stands_so.0) stands_so.1;
         all = λ k within. accepted_by_mark k (subst (λ o. mutation_at (set_of o) k ≢ None) stands_so.1 within);
         two_phase = record { key = two.key; by = two.by; stands = two.stands; two_phase = two.two_phase };
         drew = record {

@@ -44,9 +44,9 @@ marks_with h t (e ∷ es) zero p m new = (new, m.1)
 marks_with h t (e ∷ es) (suc i) p m new = (m.0, marks_with h t es i p m.1 new)
 
 -- progress is no part of what stands declared
-standing_with : (t : ℕ) (es : Entries) (i : ℕ) (p : Progress) (o : Option Terms) → standing t (with_progress es i p) o ≡ standing t es o
-standing_with t es i p None = refl
-standing_with t es i p (Some terms) = declaration_with t es i p terms
+standing_with : (t placed : ℕ) (es : Entries) (i : ℕ) (p : Progress) (o : Option Terms) → standing t placed (with_progress es i p) o ≡ standing t placed es o
+standing_with t placed es i p None = refl
+standing_with t placed es i p (Some terms) = declaration_with t placed es i p terms
 
 -- what was sent is not accepted by that
 sent_accepted : (x : Phase) (p : Progress) → (sent_by x p).accepted ≡ p.accepted
@@ -78,12 +78,12 @@ module _ (bounds : List Key) (h : History) (run : IsWorldRun bounds h) (i : ℕ)
       by_end fate.Aborted told = told
 
   -- where each key has an async lock
-  promise_told : (es : Entries) → declared h s.start ≡ standing s.start es s.declared → IsDistinct (changes_of es) → Marks h s.start es → (end : Fate) → committed_by (promised es) ≡ Some end → MayAnswer h s.start (outcome_of end)
+  promise_told : (es : Entries) → declared h s.start ≡ standing s.start s.placed es s.declared → IsDistinct (changes_of es) → Marks h s.start es → (end : Fate) → committed_by (promised es) ≡ Some end → MayAnswer h s.start (outcome_of end)
   promise_told es stands distinct marks end e = go (promised es) refl e
     where
       go : (o : Option ℕ) → promised es ≡ o → committed_by o ≡ Some end → MayAnswer h s.start (outcome_of end)
       go None at e = absurd (cc (e))
-      go (Some c) at e = (let same : fate.Committed c ≡ end = cc (e) in subst (λ q. MayAnswer h s.start (outcome_of q)) same (inr (promised_greatest bounds h run s.start es s.declared c stands distinct marks at)))
+      go (Some c) at e = (let same : fate.Committed c ≡ end = cc (e) in subst (λ q. MayAnswer h s.start (outcome_of q)) same (inr (promised_greatest bounds h run s.start s.placed es s.declared c stands distinct marks at)))
 
   -- the mark that an answer makes is true
   new_mark : (x : Phase) (due : Due) → IsFor s x due → (a : Answer) → WasAnswered h due.body a → (p : Progress) → Mark h s.start (key_at s.buffer due.place) p.accepted → Mark h s.start (key_at s.buffer due.place) (marked_by x a p).accepted
@@ -100,7 +100,7 @@ module _ (bounds : List Key) (h : History) (run : IsWorldRun bounds h) (i : ℕ)
   new_mark _ due f a was p old = old
 
   -- what is known of the fate, after an answer
-  settled : (x : Phase) (due : Due) → IsFor s x due → (a : Answer) → WasAnswered h due.body a → (es : Entries) → declared h s.start ≡ standing s.start es s.declared → IsDistinct (changes_of es) → Marks h s.start es → (end : Fate)
+  settled : (x : Phase) (due : Due) → IsFor s x due → (a : Answer) → WasAnswered h due.body a → (es : Entries) → declared h s.start ≡ standing s.start s.placed es s.declared → IsDistinct (changes_of es) → Marks h s.start es → (end : Fate)
       → first_settled (first_settled s.decision (fate_in a)) (committed_by (promised es)) ≡ Some end → MayAnswer h s.start (outcome_of end)
   settled x due f a was es stands distinct marks end e = go s.decision (fate_in a) refl refl e
     where
@@ -114,7 +114,7 @@ module _ (bounds : List Key) (h : History) (run : IsWorldRun bounds h) (i : ℕ)
   heard_ok x due f a was =
       let p : Progress = progress_at s.buffer due.place in
       let q : Progress = marked_by x a (sent_by x p) in
-      let stands : declared h s.start ≡ standing s.start (marked s x due.place a) s.declared = is.stands ∙ sym (standing_with s.start s.buffer due.place q s.declared) in
+      let stands : declared h s.start ≡ standing s.start s.placed (marked s x due.place a) s.declared = is.stands ∙ sym (standing_with s.start s.placed s.buffer due.place q s.declared) in
       let distinct : IsDistinct (changes_of (marked s x due.place a)) = subst IsDistinct (sym (changes_with s.buffer due.place q)) is.distinct in
       let old : Mark h s.start (key_at s.buffer due.place) (sent_by x p).accepted = subst (Mark h s.start (key_at s.buffer due.place)) (sym (sent_accepted x p)) (mark_at h s.start s.buffer due.place is.marks) in
       let marks : Marks h s.start (marked s x due.place a) = marks_with h s.start s.buffer due.place q is.marks (new_mark x due f a was (sent_by x p) old) in
@@ -139,7 +139,7 @@ module _ (bounds : List Key) (h : History) (run : IsWorldRun bounds h) (i : ℕ)
         drew_start = is.drew_start;
         begun = is.begun;
         unanswered = is.unanswered;
-        stands = is.stands ∙ sym (standing_with s.start s.buffer n (sent_by x p) s.declared);
+        stands = is.stands ∙ sym (standing_with s.start s.placed s.buffer n (sent_by x p) s.declared);
         distinct = subst IsDistinct (sym (changes_with s.buffer n (sent_by x p))) is.distinct;
         marks = marks_with h s.start s.buffer n (sent_by x p) is.marks (subst (Mark h s.start (key_at s.buffer n)) (sym (sent_accepted x p)) (mark_at h s.start s.buffer n is.marks));
         passes = is.passes;

@@ -68,6 +68,8 @@ module _ {S : Type 0} (sends : S → Asked → Reached → S → Type 0) (bounds
   by_buffer : (k new : Known) (from to : S) (s : State) (key : Key) (o : Option Mutation) (r : State × Result Answer Miss) → Sends sends bounds k from (get_by s key o) r to new → KeepsSet s r.0
   by_buffer k new from to s key (Some (mutation.Put v)) r (inl e) = keeps_same s s r.0 (ap (λ y. y.0) e.0) (keeps_itself s)
   by_buffer k new from to s key (Some (mutation.Put v)) r (inr e) = keeps_same s s r.0 (ap (λ y. y.0) e.0) (keeps_itself s)
+  by_buffer k new from to s key (Some (mutation.Insert v)) r (inl e) = keeps_same s s r.0 (ap (λ y. y.0) e.0) (keeps_itself s)
+  by_buffer k new from to s key (Some (mutation.Insert v)) r (inr e) = keeps_same s s r.0 (ap (λ y. y.0) e.0) (keeps_itself s)
   by_buffer k new from to s key (Some mutation.Delete) r e = keeps_same s s r.0 (ap (λ y. y.0) e.0) (keeps_itself s)
   by_buffer k new from to s key (Some mutation.Lock) r (inl e) = keeps_same s s r.0 (ap (λ y. y.0) e.0) (keeps_itself s)
   by_buffer k new from to s key (Some mutation.Lock) r (inr e) = keeps_look k new from to s (read_of s key) r e

@@ -20,3 +20,5 @@ pub mod Routing
 pub mod Scanning
 -- The calls of a session that send leave what it writes as it is.
 pub mod Keeping
+-- A session's commit lies above those that its seat knew to be answered when it declared.
+pub mod Ordered

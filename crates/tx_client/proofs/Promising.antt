@@ -99,12 +99,12 @@ had_declared : (h : History) (t : ℕ) (k : Key) (m : ℕ) → HadAsyncLock h t 
 had_declared h t k m a = subst (λ u. declared h u ≢ None) a.own (is_some (declared h a.info.start) a.is.of a.is.declares)
 
 -- so the session may answer that it is committed there
-pub promised_greatest : (bounds : List Key) (h : History) → IsWorldRun bounds h → (t : ℕ) (es : Entries) (o : Option Terms) (c : ℕ) → declared h t ≡ standing t es o → IsDistinct (changes_of es) → Marks h t es → promised es ≡ Some c → greatest (accepted h t) (set_at h t) ≡ Some c
-promised_greatest bounds h run t [] o c stands d marks e = absurd (cc (e))
-promised_greatest bounds h run t (x ∷ es) o c stands d marks e =
+pub promised_greatest : (bounds : List Key) (h : History) → IsWorldRun bounds h → (t placed : ℕ) (es : Entries) (o : Option Terms) (c : ℕ) → declared h t ≡ standing t placed es o → IsDistinct (changes_of es) → Marks h t es → promised es ≡ Some c → greatest (accepted h t) (set_at h t) ≡ Some c
+promised_greatest bounds h run t placed [] o c stands d marks e = absurd (cc (e))
+promised_greatest bounds h run t placed (x ∷ es) o c stands d marks e =
     let each = each_of 0 c (x ∷ es) e in
     let first : HadAsyncLock h t x.0 (suc each.0.0) = subst (Mark h t x.0) each.0.1 marks.0 in
-    let r = standing_some t (x ∷ es) o (λ none. had_declared h t x.0 (suc each.0.0) first (stands ∙ none)) in
+    let r = standing_some t placed (x ∷ es) o (λ none. had_declared h t x.0 (suc each.0.0) first (stands ∙ none)) in
     let set : set_at h t ≡ changes_of (x ∷ es) = ap set_of (stands ∙ r.2) in
     let some : set_at h t ≢ [] = λ none. (let empty : changes_of (x ∷ es) ≡ [] = sym set ∙ none in cc (empty)) in
     let most = all_async bounds h t (min_of (x ∷ es)) run some (λ k within. had h t (x ∷ es) marks each k (subst (λ s. mutation_at s k ≢ None) set within)) in

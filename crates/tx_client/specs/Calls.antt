@@ -55,10 +55,18 @@ pub record Draws (bounds : List Key) (old : Known) (c : ℕ) (new : Known) : Typ
   pub number : new.seat ≡ old.seat
   pub ticks : old.ticks ≡ new.ticks + 1
 
--- the seat recorded what was declared, if anything was
+-- the seat drew the number of a declaration by one tick, and then recorded that it is declared
+pub record DeclaredWith (bounds : List Key) (old : Known) (d : Declaration) (new : Known) : Type 0 where
+  pub mid : History
+  pub drew : HasDrawn bounds old.seat old.events 1 d.drawn mid
+  pub recorded : HasRecorded bounds old.seat mid (Declared d) new.events
+  pub number : new.seat ≡ old.seat
+  pub ticks : old.ticks ≡ new.ticks + 1
+
+-- the seat drew a number and recorded what was declared with it, if anything was
 abbrev pub RecordsDeclared : List Key → Known → Option Declaration → Known → Type 0
 RecordsDeclared bounds old None new = new ≡ old
-RecordsDeclared bounds old (Some d) new = Records bounds old (Declared d) new
+RecordsDeclared bounds old (Some d) new = DeclaredWith bounds old d new
 
 module _ {S : Type 0} (sends : S → Asked → Reached → S → Type 0) (bounds : List Key) where
   -- this one request was sent, by one who had seen just what the seat knew, and the seat learnt what was told

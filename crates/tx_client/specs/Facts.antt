@@ -38,9 +38,9 @@ CameSo h b came.Unsaid = Unit {0}
 CameSo h b (came.Said a) = WasAnswered h b a
 
 -- what stands declared: nothing before declare, and nothing of an empty buffer
-abbrev pub standing : ℕ → Entries → Option Terms → Option Declaration
-standing start es None = None
-standing start es (Some terms) = declaration start es terms
+abbrev pub standing : ℕ → ℕ → Entries → Option Terms → Option Declaration
+standing start placed es None = None
+standing start placed es (Some terms) = declaration start placed es terms
 
 -- a key is accepted, and some key of its transaction in two phases
 pub record HasFallenBack (h : History) (t : ℕ) (k : Key) : Type 0 where
@@ -71,7 +71,7 @@ pub record IsSession (h : History) (i : ℕ) (s : State) : Type 0 where
   pub drew_start : drawer h s.start ≡ Some i
   pub begun : began h s.start ≡ true
   pub unanswered : answered h s.start ≡ false
-  pub stands : declared h s.start ≡ standing s.start s.buffer s.declared
+  pub stands : declared h s.start ≡ standing s.start s.placed s.buffer s.declared
   pub distinct : IsDistinct (changes_of s.buffer)
   pub marks : Marks h s.start s.buffer
   pub passes : AllowsRead h s.start s.bypass

@@ -71,9 +71,10 @@ heartbeat_walk s ttl = grows (asks (heartbeat_of s ttl) (λ c. ends (s, returned
 abbrev pub look_walk : State → Body → Walk (State × Result Answer Miss)
 look_walk s body = asks body (λ c. handed (after_read s c) (read c) c)
 
--- the read of a key: what the buffer puts or deletes is answered from there
+-- the read of a key: what the buffer puts, inserts or deletes is answered from there
 abbrev pub get_by : State → Key → Option Mutation → Walk (State × Result Answer Miss)
 get_by s k (Some (mutation.Put v)) = grows (ends (s, Ok (answer.Found v))) (short s)
+get_by s k (Some (mutation.Insert v)) = grows (ends (s, Ok (answer.Found v))) (short s)
 get_by s k (Some mutation.Delete) = ends (s, Ok answer.Nothing)
 get_by s k _ = grows (look_walk s (read_of s k)) (short s)
 

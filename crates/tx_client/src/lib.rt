@@ -2,12 +2,14 @@
 #![tactic(auto)]
 
 mod asking;
+mod order;
 mod part;
 mod resolved;
 mod sender;
 mod session;
 
 pub use asking::ask;
+pub use order::commits_above;
 pub use resolved::{Decision, Met, Resolved, Status, WaitCause};
 pub use sender::{Lost, Sender};
 pub use session::Session;

@@ -1,11 +1,13 @@
 //! Sessions: one transaction each, run over a way to the regions.
-ghost use Rattle.std.specs.Prelude.{◌≡◌, ◌<◌, ◌⊎◌, is_some, length, true, false, Some, IfOk, IfErr, IfSome, OnOk, OnErr};
+ghost use Rattle.std.specs.Prelude.{◌≡◌, ℕ, ◌<◌, ◌⊎◌, is_some, length, true, false, Some, IfOk, IfErr, IfSome, OnOk, OnErr};
 ghost use Rattle.tx_types.specs.declared.fault.Fault.TheVariants as fault;
 ghost use Rattle.tx_core.specs.declared.event.Event.TheVariants.{Began, Declared};
 ghost use Rattle.tx_core.specs.Allowed.{Allowed};
+ghost use Rattle.tx_core.specs.Histories.{History};
 ghost use Rattle.tx_core.specs.Recording.{MayRecord};
+ghost use Rattle.tx_journal.specs.Known.{HasDrawn};
 ghost use Rattle.tx_transaction.specs.declared.state.Phase.TheVariants as phase;
-ghost use Rattle.tx_transaction.specs.Buffers.{touched, locked, buffered, is_full, is_known};
+ghost use Rattle.tx_transaction.specs.Buffers.{touched, put_over, locked, buffered, not_empty, is_full, is_known};
 ghost use Rattle.tx_transaction.specs.Sessions.{begun, is_declared, has_primary, declaration, declaration_of, exceeds, due_prewrite, due_commit, due_abort, can_draw, can_commit, can_abort};
 ghost use Rattle.tx_client.specs.Senders.{IsHeld, IsWay};
 ghost use Rattle.tx_client.specs.Walks.{Sends, due_walk, heartbeat_walk};
@@ -57,13 +59,15 @@ fn record_start<J: Naming, E: Said>(seat: &mut Seat<J>, start: Ts)
 fn record_declaration<J: Naming, E: Said>(
     seat: &mut Seat<J>,
     transaction: &Transaction,
+    placed: Ts,
     terms: &Terms,
 )
-    requires is { E.event ≡ Declared (declaration_of transaction.now.start transaction.now.buffer terms.now) }
+    requires is { E.event ≡ Declared (declaration_of transaction.now.start placed transaction.now.buffer terms.now) }
     requires right { MayRecord J.bounds seat.old.seat seat.old.events E.event }
     ensures { Records J.bounds seat.old E.event seat.new }
 {
     let _ = transaction;
+    let _ = placed;
     let _ = terms;
     seat.record_as::<E>();
 }
@@ -76,14 +80,24 @@ fn record_began<J: Naming>(seat: &mut Seat<J>, start: Ts)
     record_start::<J, Brand>(seat, start);
 }
 
-// Records what a transaction declares under these terms, if anything.
-fn record_declared<J: Naming>(seat: &mut Seat<J>, transaction: &Transaction, terms: &Terms)
-    requires { IfSome (declaration transaction.now.start transaction.now.buffer terms.now) (λ d. MayRecord J.bounds seat.old.seat seat.old.events (Declared d)) }
-    ensures { RecordsDeclared J.bounds seat.old (declaration transaction.now.start transaction.now.buffer terms.now) seat.new }
+// Draws a number for what a transaction declares under these terms, and records it, if there is anything to declare.
+fn record_declared<J: Naming>(
+    seat: &mut Seat<J>,
+    transaction: &Transaction,
+    terms: &Terms,
+) -> Result<Ts, Fault>
+    requires { (p : ℕ) (mid : History) → HasDrawn J.bounds seat.old.seat seat.old.events 1 p mid → IfSome (declaration transaction.now.start p transaction.now.buffer terms.now) (λ d. MayRecord J.bounds seat.old.seat mid (Declared d)) }
+    ensures ok { IfOk result (λ p. RecordsDeclared J.bounds seat.old (declaration transaction.now.start p transaction.now.buffer terms.now) seat.new) }
+    ensures none { IfOk result (λ p. not_empty transaction.now.buffer ≡ false → p ≡ 0) }
+    ensures room { IfOk result (λ p. p < u64.MAX) }
+    ensures spent { IfErr result (λ e. (e ≡ fault.OracleSpent) × (seat.old.ticks < 1) × (seat.new ≡ seat.old)) }
 {
-    if transaction.has_keys() {
-        record_declaration::<J, Brand>(seat, transaction, terms);
+    if !transaction.has_keys() {
+        return Ok(Ts::ZERO);
     }
+    let placed = seat.draw(1)?;
+    record_declaration::<J, Brand>(seat, transaction, placed, terms);
+    Ok(placed)
 }
 
 impl<J: Naming> Session<J> {
@@ -121,6 +135,13 @@ impl<J: Naming> Session<J> {
         ensures { result ≡ has_primary self.now.state }
     {
         self.transaction.has_primary()
+    }
+
+    /// The number that was drawn for what it declared, 0 where it declared nothing.
+    pub fn placed(&self) -> Ts
+        ensures { result ≡ self.now.state.placed }
+    {
+        self.transaction.placed()
     }
 
     /// Whether a commit timestamp may be drawn: each key of a declared set is locked, some in two phases, nothing is decided,
@@ -195,11 +216,11 @@ impl<J: Naming> Session<J> {
     /// Enters a put into the buffer. A key that is there keeps its place. A refusal leaves the session as it was.
     pub fn put(&mut self, key: Key, value: Value) -> Result<(), Fault>
         requires { is_declared self.old.state ≡ false }
-        ensures ok { OnOk result ((is_full self.old.state.buffer key ≡ false) × (self.new ≡ seated (record self.old.state { buffer = touched self.old.state.buffer key (Mutation.Put value) }) self.old.seat)) }
+        ensures ok { OnOk result ((is_full self.old.state.buffer key ≡ false) × (self.new ≡ seated (record self.old.state { buffer = touched self.old.state.buffer key (put_over (buffered self.old.state.buffer key) value) }) self.old.seat)) }
         ensures same { OnErr result (self.new ≡ self.old) }
         ensures err { IfErr result (λ e. (e ≡ fault.OutOfMemory) ⊎ ((e ≡ fault.TooManyKeys) × (is_full self.old.state.buffer key ≡ true))) }
     {
-        self.transaction.touch(key, Mutation::Put(value))
+        self.transaction.put(key, value)
     }
 
     /// Enters a delete into the buffer. A key that is there keeps its place. A refusal leaves the session as it was.
@@ -222,27 +243,34 @@ impl<J: Naming> Session<J> {
         self.transaction.lock(key)
     }
 
-    /// What its buffer declares under these terms, which is nothing where it is empty.
-    pub fn declaration(&self, alloc: Global, terms: &Terms) -> Result<Option<Declaration>, Fault>
-        ensures ok { IfOk result (λ d. d ≡ declaration self.now.state.start self.now.state.buffer terms.now) }
+    /// What its buffer declares under these terms with a number that is drawn for it, which is nothing where it is empty.
+    pub fn declaration(
+        &self,
+        alloc: Global,
+        placed: Ts,
+        terms: &Terms,
+    ) -> Result<Option<Declaration>, Fault>
+        ensures ok { IfOk result (λ d. d ≡ declaration self.now.state.start placed self.now.state.buffer terms.now) }
         ensures err { IfErr result (λ e. e ≡ fault.OutOfMemory) }
     {
-        self.transaction.declaration(alloc, terms)
+        self.transaction.declaration(alloc, placed, terms)
     }
 
-    /// Fixes the write set, and records it where it is not empty. `TooManyKeys` where it is to commit asynchronously and has
-    /// more than 256 keys: the session is then as it was. It takes no memory.
+    /// Fixes the write set, and, where it is not empty, draws a number for it and records it. `TooManyKeys` where it is to commit
+    /// asynchronously and has more than 256 keys, `OracleSpent` where the ticks of its seat are spent: the session is then as it was.
+    /// It takes no memory.
     pub fn declare(&mut self, terms: Terms) -> Result<(), Fault>
         requires { is_declared self.old.state ≡ false }
-        ensures ok { OnOk result ((exceeds self.old.state.buffer terms ≡ false) × (self.new.state ≡ record self.old.state { declared = Some terms }) × RecordsDeclared J.bounds self.old.seat (declaration self.old.state.start self.old.state.buffer terms) self.new.seat) }
+        ensures ok { OnOk result ((exceeds self.old.state.buffer terms ≡ false) × (self.new.state ≡ record self.old.state { declared = Some terms; placed = self.new.state.placed }) × RecordsDeclared J.bounds self.old.seat (declaration self.old.state.start self.new.state.placed self.old.state.buffer terms) self.new.seat) }
+        ensures none { OnOk result (not_empty self.old.state.buffer ≡ false → self.new.state.placed ≡ 0) }
         ensures same { OnErr result (self.new ≡ self.old) }
-        ensures err { IfErr result (λ e. (e ≡ fault.TooManyKeys) × (exceeds self.old.state.buffer terms ≡ true)) }
+        ensures err { IfErr result (λ e. ((e ≡ fault.TooManyKeys) × (exceeds self.old.state.buffer terms ≡ true)) ⊎ ((e ≡ fault.OracleSpent) × (self.old.seat.ticks < 1))) }
     {
         if self.transaction.exceeds(&terms) {
             return Err(Fault::TooManyKeys);
         }
-        record_declared(&mut self.seat, &self.transaction, &terms);
-        self.transaction.declare(terms);
+        let placed = record_declared(&mut self.seat, &self.transaction, &terms)?;
+        self.transaction.declare(terms, placed);
         Ok(())
     }
 }

@@ -10,3 +10,5 @@ mod CollectedRollback
 mod LimitedScan
 mod StatusAborts
 mod Resolver
+mod OrderedCommits
+mod InsertReads

@@ -1,3 +1,4 @@
 pub mod Events
 pub mod AllRuns
 pub mod Consequences
+pub mod CommitOrder

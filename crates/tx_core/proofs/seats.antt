@@ -10,3 +10,5 @@ pub mod Answering
 -- What a seat may record.
 pub mod Numbers
 pub mod Recording
+-- The greatest timestamp that was read in a history.
+pub mod ReadMarks

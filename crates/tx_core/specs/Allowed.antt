@@ -1,5 +1,5 @@
 -- The requests that a history allows.
-use Rattle.std.specs.Prelude.{◌≡◌, ◌≢◌, ◌⊎◌, ℕ, ◌<◌, true, cond, List, [], ◌∷◌, map, Some, None, Contains}
+use Rattle.std.specs.Prelude.{◌≡◌, ◌≢◌, ◌⊎◌, ℕ, ◌+◌, ◌<◌, true, cond, List, [], ◌∷◌, map, Some, None, Contains}
 use Rattle.tx_types.specs.declared.key.Key.{Key}
 use Rattle.tx_types.specs.declared.mutation.Change.{Change}
 use Rattle.tx_types.specs.declared.mutation.Mode.TheVariants.{TwoPhase, Async}
@@ -36,6 +36,10 @@ other_keys (c ∷ cs) = map (λ d. d.key) cs
 abbrev pub listed_on : Declaration → Key → List Key
 listed_on d k = elim d.mode [ TwoPhase ↦ [] | Async ↦ cond (is_first d.changes k) (other_keys d.changes) [] ]
 
+-- the least minimum that a prewrite asks for: above the number that was drawn for the declaration; in two phases there is none
+abbrev pub floor_of : Declaration → ℕ
+floor_of d = elim d.mode [ TwoPhase ↦ 0 | Async ↦ d.drawn + 1 ]
+
 -- A prewrite says what its transaction declared.
 pub record AllowsPrewrite (h : History) (b : Prewrite) : Type 0 where
   pub of : Declaration
@@ -44,6 +48,7 @@ pub record AllowsPrewrite (h : History) (b : Prewrite) : Type 0 where
   pub primary : is_first of.changes b.primary ≡ true
   pub mode : b.mode ≡ of.mode
   pub max_commit : b.max_commit ≡ of.max_commit
+  pub floor : b.floor ≡ floor_of of
   pub ttl : b.ttl ≡ of.ttl
   pub others : b.others ≡ listed_on of b.key
 

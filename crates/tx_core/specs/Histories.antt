@@ -44,6 +44,12 @@ answered [] t = false
 answered (Answered u outcome ∷ h) t = cond (u == t) true (answered h t)
 answered (_ ∷ h) t = answered h t
 
+-- the seat that drew t drew p after the transaction began there
+abbrev pub DrewSince : History → ℕ → ℕ → Type 0
+DrewSince [] t p = ⊥
+DrewSince (Drawn seat n ∷ h) t p = ((n ≡ p) × (began h t ≡ true) × (drawer h t ≡ Some seat)) ⊎ DrewSince h t p
+DrewSince (_ ∷ h) t p = DrewSince h t p
+
 -- ---- write sets
 
 abbrev pub set_of : Option Declaration → List Change

@@ -12,7 +12,8 @@ use Rattle.tx_plan.specs.cases.Prewrite.{named_minimum}
 use Rattle.tx_machine.specs.Keys.{mutation_at}
 use Rattle.tx_core.specs.declared.event.Declaration.{Declaration}
 use Rattle.tx_core.specs.declared.event.Taken.{Taken}
-use Rattle.tx_core.specs.declared.event.Event.TheVariants.{Took}
+use Rattle.tx_core.specs.declared.event.Outcome.TheVariants as outcome
+use Rattle.tx_core.specs.declared.event.Event.TheVariants.{Drawn, Answered, Took}
 use Rattle.tx_core.specs.Histories.{History, declared, is_first, Among}
 use Rattle.tx_core.specs.Decisions.{Acceptance, accepted, HasTwoPhaseLock, infos_in}
 use Rattle.tx_core.specs.Allowed.{listed_on}
@@ -53,6 +54,14 @@ pub record HasPrewritten (h : History) (b : Prewrite) (m : ℕ) : Type 0 where
   pub is : IsLockOf h (info_of b.key lock)
   pub own : lock.start ≡ b.start
   pub named : named_minimum lock ≡ m
+
+-- ---- the order of commits
+
+-- u had answered that it is committed at c when the number p was drawn
+abbrev pub AnsweredBefore : History → ℕ → ℕ → ℕ → Type 0
+AnsweredBefore [] p u c = ⊥
+AnsweredBefore (Drawn seat n ∷ h) p u c = ((n ≡ p) × Among h (Answered u (outcome.Committed c))) ⊎ AnsweredBefore h p u c
+AnsweredBefore (_ ∷ h) p u c = AnsweredBefore h p u c
 
 -- ---- the locks of all keys
 

@@ -6,3 +6,4 @@ pub mod Shadow
 pub mod Truth
 pub mod Recording
 pub mod Laws
+pub mod ReadMarks

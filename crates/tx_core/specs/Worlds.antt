@@ -15,7 +15,7 @@ use Rattle.tx_core.specs.declared.event.Outcome.TheVariants as outcome
 use Rattle.tx_core.specs.declared.event.Taken.{Taken}
 use Rattle.tx_core.specs.declared.event.Event.{Event}
 use Rattle.tx_core.specs.declared.event.Event.TheVariants.{Drawn, Began, Declared, Answered, Stopped, Took}
-use Rattle.tx_core.specs.Histories.{History, last, drawer, began, declared, answered, set_at, left, Among, WasLast}
+use Rattle.tx_core.specs.Histories.{History, last, drawer, began, declared, answered, DrewSince, set_at, left, Among, WasLast}
 use Rattle.tx_core.specs.Decisions.{accepted, greatest, fate_in}
 use Rattle.tx_core.specs.Allowed.{Allowed}
 
@@ -57,12 +57,13 @@ MayAnswer h t _ = Unit {0}
 
 -- ---- what may come next
 
--- A transaction declares once, after it began: at least one key, and each once.
+-- A transaction declares once, after it began: at least one key, and each once, and a number that its seat drew since then.
 pub record MayDeclare (h : History) (d : Declaration) : Type 0 where
   pub begun : began h d.start ≡ true
   pub once : declared h d.start ≡ None
   pub some : d.changes ≢ []
   pub distinct : IsDistinct d.changes
+  pub drew : DrewSince h d.start d.drawn
 
 -- A region takes a request that is allowed and that it holds, having loaded the last number of some beginning, and answers by the
 -- case tables from what its own events left.

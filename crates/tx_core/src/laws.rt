@@ -1,9 +1,10 @@
 //! Laws of histories, which callers may cite.
-ghost use Rattle.std.specs.Prelude.{◌≡◌, ◌≢◌, ◌++◌, ℕ, List, [], Some, None, length};
+ghost use Rattle.std.specs.Prelude.{◌≡◌, ◌≢◌, ◌<◌, ◌++◌, ℕ, List, [], Some, None, length};
 ghost use Rattle.tx_core.specs.Allowed.{Allowed};
 ghost use Rattle.tx_core.specs.Decisions.{accepted, greatest, decided};
-ghost use Rattle.tx_core.specs.Histories.{History, set_at, Begins};
-ghost use Rattle.tx_core.specs.Laws.{WasToldOf, IsLockOf, WasPrewritten, HasPrewritten, HadAsyncLock, greatest_of};
+ghost use Rattle.tx_core.specs.Histories.{History, declared, set_at, Begins};
+ghost use Rattle.tx_core.specs.Laws.{WasToldOf, IsLockOf, WasPrewritten, HasPrewritten, HadAsyncLock, greatest_of, AnsweredBefore};
+ghost use Rattle.tx_core.specs.declared.event.Declaration.{Declaration};
 ghost use Rattle.tx_core.specs.Recording.{AllOfSeats, events_of};
 ghost use Rattle.tx_core.specs.Worlds.{IsWorldRun};
 ghost use Rattle.tx_machine.specs.Keys.{mutation_at};
@@ -41,6 +42,12 @@ pub fn decided_async()
     ensures accepted { (bounds : List Key) (h : History) (t : ℕ) (min : Key → ℕ) → IsWorldRun bounds h → set_at h t ≢ []
         → ((k : Key) → mutation_at (set_at h t) k ≢ None → HadAsyncLock h t k (min k))
         → greatest (accepted h t) (set_at h t) ≡ Some (greatest_of min (set_at h t)) }
+{}
+
+/// A transaction commits above each commit that a session had answered when it drew the number of its declaration. So who was told of a
+/// commit, and declares then, commits later.
+pub fn commits_in_order()
+    ensures { (bounds : List Key) (h : History) (t u c e : ℕ) (d : Declaration) → IsWorldRun bounds h → declared h t ≡ Some d → AnsweredBefore h d.drawn u c → decided h t ≡ Done (Committed e) → c < e }
 {}
 
 /// Where each event of a history is of a seat below n, the history is as long as the parts of these seats together.

@@ -11,7 +11,10 @@ mod laws;
 pub use answers::one_answer;
 pub use event::{Declaration, Event, Outcome, Taken, UnknownCause};
 pub use headline::every_run;
-pub use laws::{allowed_stays, decided_async, parts_make_the_whole, prewritten_lock, told_lock};
+pub use laws::{
+    allowed_stays, commits_in_order, decided_async, parts_make_the_whole, prewritten_lock,
+    told_lock,
+};
 pub use tx_plan::{
     Answer, BatchRollback, Body, BoxedPrewrite, BoxedScan, CheckSecondaryLocks, CheckTxnStatus,
     Collect, Commit, Get, Infos, LocksBelow, Prewrite, RaiseSafe, RegionNo, ResolveLock, Scan,

@@ -18,6 +18,7 @@ fn stored(mutation: &Mutation) -> Result<StoredMutation, Fault>
 {
     match mutation {
         Mutation::Put(value) => Ok(StoredMutation::Put(value.stored()?)),
+        Mutation::Insert(value) => Ok(StoredMutation::Put(value.stored()?)),
         Mutation::Delete => Ok(StoredMutation::Delete),
         Mutation::Lock => Ok(StoredMutation::Lock),
     }
@@ -29,7 +30,7 @@ pub fn apart(mutation: &Mutation) -> Result<Option<Value>, Fault>
     ensures err { IfErr result (λ e. e ≡ Fault.OutOfMemory) }
 {
     match mutation {
-        Mutation::Put(value) => {
+        Mutation::Put(value) | Mutation::Insert(value) => {
             if value.as_bytes().len() <= MAX_INLINE_BYTES {
                 return Ok(None);
             }

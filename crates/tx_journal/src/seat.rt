@@ -1,11 +1,12 @@
 //! Seats of a journal. Who makes events has a seat: it draws timestamps and records events with it, each by one atomic add, and
 //! it knows a beginning of the one history that has all of its own events. None of a seat's calls waits, allocates or loops.
-ghost use Rattle.std.specs.Prelude.{◌≡◌, ℕ, ◌+◌, ◌<◌, ◌≤◌, ◌⊎◌, IfOk, IfErr};
+ghost use Rattle.std.specs.Prelude.{◌≡◌, ℕ, ◌+◌, ◌<◌, ◌≤◌, ◌⊎◌, ◌∷◌, max, IfOk, IfErr};
 ghost use Rattle.std.specs.Arc.{arc_value};
 ghost use mathlib.Core.Option.{none};
 ghost use Rattle.atomic_table.specs.Table.{step};
 ghost use Rattle.tx_types.specs.declared.fault.Fault.TheVariants as fault;
 ghost use Rattle.tx_core.specs.Histories.{last, Begins};
+ghost use Rattle.tx_core.specs.ReadMarks.{max_ts};
 ghost use Rattle.tx_core.specs.Recording.{MayRecord, part, AllOfSeats};
 ghost use Rattle.tx_core.specs.Worlds.{IsWorldRun};
 ghost use Rattle.tx_journal.specs.Known.{known, greatest_ts, DrawsNothing, HasSeen, HasRecorded, HasDrawn};
@@ -13,7 +14,8 @@ ghost use Rattle.tx_journal.specs.Rules.{Belongs, Owns, Adds, IsSeatsToken};
 
 use crate::told::Told;
 use crate::view::{
-    APART, Add, Advance, COUNTS, Hear, Home, Learn, Look, Naming, Said, Tell, Token, WORDS, Words,
+    APART, Add, Advance, COUNTS, Hear, Home, Learn, Look, LookRead, MAX_TS, Naming, Said, Tell,
+    Token, WORDS, Words,
 };
 use std::marker::{Brand, Model, PhantomData};
 use std::sync::Arc;
@@ -45,7 +47,7 @@ impl<J: Naming> Model for Seat<J> {
 
 // The word that counts the events of a seat.
 fn count_of(seat: SeatNo) -> usize
-    ensures { (0 < result) × (result < WORDS) }
+    ensures { (0 < result) × (result < MAX_TS) }
 {
     APART * (1 + seat.get() as usize % COUNTS)
 }
@@ -53,12 +55,24 @@ fn count_of(seat: SeatNo) -> usize
 // Adds the event that the call picks, by an add on this word.
 fn add<E: Said>(words: &Words, token: &mut Token, count: usize)
     requires table { (token.old.table_id ≡ words.now.table_id) × (words.now.table_id.words ≡ WORDS) }
-    requires count { (0 < count) × (count < WORDS) }
+    requires count { (0 < count) × (count < MAX_TS) }
     requires owns { Owns token.old.me.0 token.old.me.0.from }
     requires right { DrawsNothing E.event × MayRecord words.now.key.bounds.items token.old.me.0.from token.old.me.0.seen E.event }
+    requires unread { max_ts (E.event ∷ token.old.me.0.seen) ≡ max_ts token.old.me.0.seen }
     ensures { (token.new.table_id ≡ token.old.table_id) × ((n : ℕ) × Adds E.event (step words.now.table_id.slots count 1 0 none) token.old.me n token.new.me) }
 {
     words.fetch_add::<Add<E>>(token, count, 1);
+}
+
+// Adds the event that the call picks, which reads up to `at`, by a raise of the greatest timestamp read.
+fn raise<E: Said>(words: &Words, token: &mut Token, at: Ts)
+    requires table { (token.old.table_id ≡ words.now.table_id) × (words.now.table_id.words ≡ WORDS) }
+    requires owns { Owns token.old.me.0 token.old.me.0.from }
+    requires right { DrawsNothing E.event × MayRecord words.now.key.bounds.items token.old.me.0.from token.old.me.0.seen E.event }
+    requires read { max_ts (E.event ∷ token.old.me.0.seen) ≡ max (max_ts token.old.me.0.seen) at }
+    ensures { (token.new.table_id ≡ token.old.table_id) × ((n : ℕ) × Adds E.event (step words.now.table_id.slots MAX_TS at 0 none) token.old.me n token.new.me) }
+{
+    words.fetch_max::<Add<E>>(token, MAX_TS, at.get());
 }
 
 // Records this event, which the call picks.
@@ -66,6 +80,7 @@ fn record_this<J: Naming, E: Said>(seat: &mut Seat<J>, event: &Event)
     requires is { event.now ≡ E.event }
     requires quiet { DrawsNothing E.event }
     requires right { MayRecord J.bounds seat.old.seat seat.old.events E.event }
+    requires unread { max_ts (E.event ∷ seat.old.events) ≡ max_ts seat.old.events }
     ensures same { (seat.new.seat ≡ seat.old.seat) × (seat.new.ticks ≡ seat.old.ticks) }
     ensures added { HasRecorded J.bounds seat.old.seat seat.old.events E.event seat.new.events }
 {
@@ -128,11 +143,37 @@ impl<J: Naming> Seat<J> {
         Ts::new(self.words.shared.load::<Look>(&mut self.token, 0))
     }
 
+    /// The greatest timestamp that was read, by one load: this seat then knows the whole history.
+    pub fn max_ts(&mut self) -> Ts
+        ensures same { (self.new.seat ≡ self.old.seat) × (self.new.ticks ≡ self.old.ticks) }
+        ensures seen { HasSeen J.bounds self.old.seat self.old.events self.new.events }
+        ensures read { result ≡ max_ts self.new.events }
+        ensures least { max_ts self.old.events ≤ result }
+        ensures last { (result ≤ last self.new.events) × (last self.new.events ≤ greatest_ts) }
+    {
+        Ts::new(self.words.shared.load::<LookRead>(&mut self.token, MAX_TS))
+    }
+
     /// Records the event that the call picks, of which no value is made: one of this seat that is right after whatever other seats
-    /// may have done since, by one atomic add.
+    /// may have done since, and that reads at `at`, or nothing above what was read. It is one atomic maximum: the greatest timestamp
+    /// that was read rises with the event, so that it is what the events of the history say whenever it is loaded.
+    pub fn raise_read_as<E: Said>(&mut self, at: Ts)
+        requires quiet { DrawsNothing E.event }
+        requires right { MayRecord J.bounds self.old.seat self.old.events E.event }
+        requires read { max_ts (E.event ∷ self.old.events) ≡ max (max_ts self.old.events) at }
+        ensures same { (self.new.seat ≡ self.old.seat) × (self.new.ticks ≡ self.old.ticks) }
+        ensures added { HasRecorded J.bounds self.old.seat self.old.events E.event self.new.events }
+        ensures raised { at ≤ max_ts self.new.events }
+    {
+        raise::<E>(&self.words.shared, &mut self.token, at);
+    }
+
+    /// Records the event that the call picks, of which no value is made: one of this seat that is right after whatever other seats
+    /// may have done since, and that reads nothing above what was read, by one atomic add.
     pub fn record_as<E: Said>(&mut self)
         requires quiet { DrawsNothing E.event }
         requires right { MayRecord J.bounds self.old.seat self.old.events E.event }
+        requires unread { max_ts (E.event ∷ self.old.events) ≡ max_ts self.old.events }
         ensures same { (self.new.seat ≡ self.old.seat) × (self.new.ticks ≡ self.old.ticks) }
         ensures added { HasRecorded J.bounds self.old.seat self.old.events E.event self.new.events }
     {
@@ -140,10 +181,12 @@ impl<J: Naming> Seat<J> {
         add::<E>(&self.words.shared, &mut self.token, count);
     }
 
-    /// Records an event of this seat that is right after whatever other seats may have done since, by one atomic add.
+    /// Records an event of this seat that is right after whatever other seats may have done since, and that reads nothing above what
+    /// was read, by one atomic add.
     pub fn record(&mut self, event: &Event)
         requires quiet { DrawsNothing event.now }
         requires right { MayRecord J.bounds self.old.seat self.old.events event.now }
+        requires unread { max_ts (event.now ∷ self.old.events) ≡ max_ts self.old.events }
         ensures same { (self.new.seat ≡ self.old.seat) × (self.new.ticks ≡ self.old.ticks) }
         ensures added { HasRecorded J.bounds self.old.seat self.old.events event.now self.new.events }
     {

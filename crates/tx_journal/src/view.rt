@@ -1,6 +1,6 @@
 //! The journal's table: what a token of it knows, the rule that every step keeps, and what each step tells. The table's first word is
-//! the last number drawn. The seats are spread over further words, each of which counts the events of its seats; which events these were,
-//! proofs alone know.
+//! the last number drawn, its last one the greatest timestamp read. The seats are spread over the words between them, each of which counts
+//! events of its seats; which events these were, proofs alone know.
 use atomic_table::{Join, Play, Seat as TableSeat, Shared, Split, Table, TableRule};
 use std::alloc::Global;
 use std::collections::LinkedList;
@@ -14,8 +14,11 @@ pub const APART: usize = 16;
 /// How many words count events. So seats that work side by side mostly write different lines.
 pub const COUNTS: usize = 64;
 
+/// The word that is the greatest timestamp read.
+pub const MAX_TS: usize = 1_040;
+
 /// How many words the table has, of which those are used whose numbers are multiples of `APART`.
-pub const WORDS: usize = 1_040;
+pub const WORDS: usize = 1_056;
 
 /// What is fixed when a journal is opened: the keys between its regions, and how many seats it has.
 #[derive(Drop)]
@@ -71,7 +74,7 @@ impl Naming for Brand {
 }
 
 /// The rule of the table: there is one world run, each seat has seen a beginning of it that has all of the seat's own events,
-/// and the first word is its last number.
+/// the first word is its last number, and the word `MAX_TS` the greatest timestamp that was read in it.
 pub struct Law;
 
 impl TableRule<u8, View, Layout> for Law {
@@ -95,7 +98,7 @@ impl Said for Brand {
     ghost event = { Stopped 0 };
 }
 
-/// An add on a word that counts events: an event is recorded.
+/// An add on a word that counts events, or a raise of the greatest timestamp read: an event is recorded.
 pub struct Add<E>(PhantomData<E>);
 
 impl<E: Said> Play<u8, View> for Add<E> {
@@ -120,6 +123,15 @@ impl Play<u8, View> for Look {
     ghost use Rattle.tx_journal.specs.Rules.{Looks};
 
     ghost then = { Looks };
+}
+
+/// A load of the word `MAX_TS`: the whole history is seen.
+pub struct LookRead;
+
+impl Play<u8, View> for LookRead {
+    ghost use Rattle.tx_journal.specs.Rules.{LooksRead};
+
+    ghost then = { LooksRead };
 }
 
 /// A load of the first word: of what was seen and heard the longer is seen.

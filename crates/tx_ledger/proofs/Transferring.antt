@@ -35,15 +35,15 @@ keys_are : (es : Entries) → map (λ (c : Change). c.key) (changes_of es) ≡ k
 keys_are [] = refl
 keys_are (e ∷ es) = ap (λ (l : List Key). e.0 ∷ l) (keys_are es)
 
-stands_just : (h : History) (t : ℕ) (es : Entries) (terms : Option Terms) (from to : Key) → declared h t ≡ standing t es terms → declared h t ≢ None → (keys_of es ≡ from ∷ to ∷ []) ⊎ ((terms ≡ None) × ((keys_of es ≡ []) ⊎ (keys_of es ≡ from ∷ []))) → DeclaresJust h t from to
-stands_just h t es None from to is some moves = absurd (some is)
-stands_just h t [] (Some terms) from to is some moves = absurd (some is)
-stands_just h t (e ∷ es) (Some terms) from to is some (inl keys) = (declaration_of t (e ∷ es) terms, is, keys_are (e ∷ es) ∙ keys)
-stands_just h t (e ∷ es) (Some terms) from to is some (inr (none, rest)) = absurd (cc (none))
+stands_just : (h : History) (t placed : ℕ) (es : Entries) (terms : Option Terms) (from to : Key) → declared h t ≡ standing t placed es terms → declared h t ≢ None → (keys_of es ≡ from ∷ to ∷ []) ⊎ ((terms ≡ None) × ((keys_of es ≡ []) ⊎ (keys_of es ≡ from ∷ []))) → DeclaresJust h t from to
+stands_just h t placed es None from to is some moves = absurd (some is)
+stands_just h t placed [] (Some terms) from to is some moves = absurd (some is)
+stands_just h t placed (e ∷ es) (Some terms) from to is some (inl keys) = (declaration_of t placed (e ∷ es) terms, is, keys_are (e ∷ es) ∙ keys)
+stands_just h t placed (e ∷ es) (Some terms) from to is some (inr (none, rest)) = absurd (cc (none))
 
-pub ends_between : (bounds : List Key) (h : History) (s : State) (o : Outcome) (keys : Option (Key × Key)) → IsWorldRun bounds h → declared h s.start ≡ standing s.start s.buffer s.declared → IsDecidedSo h s.start o → MovesSome keys s → IsBetween h s.start o keys
-ends_between bounds h s (Committed c) (Some keys) run stands is moves = stands_just h s.start s.buffer s.declared keys.0 keys.1 stands (decided_declared bounds h run s.start (fate.Committed c) is) moves
-ends_between bounds h s Aborted (Some keys) run stands is moves = stands_just h s.start s.buffer s.declared keys.0 keys.1 stands (decided_declared bounds h run s.start fate.Aborted is) moves
+pub ends_between : (bounds : List Key) (h : History) (s : State) (o : Outcome) (keys : Option (Key × Key)) → IsWorldRun bounds h → declared h s.start ≡ standing s.start s.placed s.buffer s.declared → IsDecidedSo h s.start o → MovesSome keys s → IsBetween h s.start o keys
+ends_between bounds h s (Committed c) (Some keys) run stands is moves = stands_just h s.start s.placed s.buffer s.declared keys.0 keys.1 stands (decided_declared bounds h run s.start (fate.Committed c) is) moves
+ends_between bounds h s Aborted (Some keys) run stands is moves = stands_just h s.start s.placed s.buffer s.declared keys.0 keys.1 stands (decided_declared bounds h run s.start fate.Aborted is) moves
 ends_between bounds h s (Committed c) None run stands is moves = tt
 ends_between bounds h s Aborted None run stands is moves = tt
 ends_between bounds h s (Unknown why) keys run stands is moves = tt
@@ -117,6 +117,6 @@ module _ (from to : Key) (old one : State) (none : is_declared old ≡ false) (m
   entered_twice two apart (m, is) = ap (λ (s : State). keys_of s.buffer) is ∙ second_in from to m one.buffer apart has_first
 
 -- whatever a declaration came to, the buffer stays
-pub declared_both : {E : Type 0} (F G : Type 0) (r : Result (Unit {0}) E) (from to : Key) (terms : Terms) (old new : Seated) → OnOk r (F × (new.state ≡ record old.state { declared = Some terms }) × G) → OnErr r (new ≡ old) → keys_of old.state.buffer ≡ from ∷ to ∷ [] → Moves from to new.state
+pub declared_both : {E : Type 0} (F G : Type 0) (r : Result (Unit {0}) E) (from to : Key) (terms : Terms) (old new : Seated) → OnOk r (F × (new.state ≡ record old.state { declared = Some terms; placed = new.state.placed }) × G) → OnErr r (new ≡ old) → keys_of old.state.buffer ≡ from ∷ to ∷ [] → Moves from to new.state
 declared_both F G (Ok u) from to terms old new ok same both = inl (ap (λ (s : State). keys_of s.buffer) ok.1 ∙ both)
 declared_both F G (Err e) from to terms old new ok same both = inl (ap (λ (s : Seated). keys_of s.state.buffer) same ∙ both)

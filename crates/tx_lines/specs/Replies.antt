@@ -66,6 +66,7 @@ answer_words (answer.BelowSafePoint safe) = with_number (codes "E7") safe
 answer_words (answer.FutureTimestamp last) = with_number (codes "E8") last
 answer_words (answer.LocksRemain info) = lock_words (codes "E9") info
 answer_words answer.TxnNotFound = alone (codes "E10")
+answer_words answer.AlreadyExists = alone (codes "E17")
 answer_words _ = no_items
 
 abbrev pub unknown_word : UnknownCause → List ℕ

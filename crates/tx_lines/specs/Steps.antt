@@ -16,6 +16,7 @@ use Rattle.tx_lines.specs.Replies.{alone, with_number, row_data}
 -- what is done to a key
 abbrev pub mutation_words : Mutation → Items
 mutation_words (mutation.Put v) = item (string (codes "put")) (item (text_of v) no_items)
+mutation_words (mutation.Insert v) = item (string (codes "insert")) (item (text_of v) no_items)
 mutation_words mutation.Delete = alone (codes "delete")
 mutation_words mutation.Lock = alone (codes "lock")
 

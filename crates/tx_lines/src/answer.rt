@@ -86,6 +86,7 @@ pub(crate) fn put_answer(out: &mut Vec<u8>, answer: &Answer) -> Result<(), Alloc
         Answer::FutureTimestamp { last } => put_stamped(out, b",\"E8\"", last.get()),
         Answer::LocksRemain(info) => put_locked(out, b",\"E9\"", info),
         Answer::TxnNotFound => out.extend_from_slice(b",\"E10\""),
+        Answer::AlreadyExists => out.extend_from_slice(b",\"E17\""),
         Answer::Resolved | Answer::Raised | Answer::Locks(_) | Answer::Collected { .. } => Ok(()),
     }
 }

@@ -21,6 +21,10 @@ fn put_mutation(out: &mut Vec<u8>, mutation: &Mutation) -> Result<(), AllocError
             out.extend_from_slice(b",\"put\"")?;
             put_text(out, value.as_bytes())
         }
+        Mutation::Insert(value) => {
+            out.extend_from_slice(b",\"insert\"")?;
+            put_text(out, value.as_bytes())
+        }
         Mutation::Delete => out.extend_from_slice(b",\"delete\""),
         Mutation::Lock => out.extend_from_slice(b",\"lock\""),
     }

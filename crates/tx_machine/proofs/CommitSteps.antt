@@ -7,8 +7,11 @@ use Rattle.std.proofs.lemmas.Bool.{cases_lt}
 use Rattle.std.specs.Ordering.{nat_cmp, is_eq}
 use Rattle.std.specs.BTreeMap as tree
 use Rattle.tx_types.specs.declared.key.Key.{Key}
+use Rattle.tx_types.specs.declared.value.Value.{Value}
 use Rattle.tx_types.specs.declared.mutation.Change.{Change}
 use Rattle.tx_types.specs.declared.mutation.Mutation.{Mutation}
+use Rattle.tx_types.specs.declared.mutation.Mutation.TheVariants.{Insert}
+use Rattle.tx_types.specs.declared.mutation.Mutation.TheVariants as mutation
 use Rattle.tx_types.specs.declared.mutation.Fate.{Fate}
 use Rattle.tx_types.specs.declared.mutation.Fate.TheVariants.{Committed}
 use Rattle.tx_machine.specs.declared.versions.Version.{Version}
@@ -17,10 +20,11 @@ use Rattle.tx_machine.specs.declared.machine.Stage.TheVariants.{Declared}
 use Rattle.tx_machine.specs.declared.reads.Reads.{Reads}
 use Rattle.tx_machine.specs.declared.step.Step.TheVariants.{Commit}
 use Rattle.tx_machine.specs.Keys.{mutation_at, IsDistinct}
-use Rattle.tx_machine.specs.Machine.{State, Open, Done, Rows, Table, Commits, Overlap, MayCommit, after, with_row, changes_in}
+use Rattle.tx_types.specs.Keys.{IsInsert}
+use Rattle.tx_machine.specs.Machine.{State, Open, Done, Rows, Table, Commits, Sees, Overlap, MayCommit, after, with_row, changes_in}
 use Rattle.tx_machine.specs.Versions.{Versions, Fates, Listed}
 use Rattle.tx_machine.specs.Noted.{IsNoted}
-use Rattle.tx_machine.specs.Shown.{Index, versions_of}
+use Rattle.tx_machine.specs.Shown.{Index, versions_of, SeenOf}
 use Rattle.tx_machine.specs.Representation.{row_of, version_in, version_of, put_version, puts, ListsCommits, Tells, ListedOn, InOrder, IsFree, IsBlocked}
 use Rattle.tx_machine.proofs.Basics.{nat_test, key_test, cond_true, cond_false, some_same, nat_same}
 use Rattle.tx_machine.proofs.Distinct.{contained}
@@ -55,6 +59,13 @@ mutation_front (x ∷ xs) (suc n) k m e = elim (key_test x.key k) [
 pub no_fate : (o : Option (Bor Fate)) (x : Option Fate) → false ≡ is_some o → option_copied o ≡ x → x ≡ None
 no_fate None x e f = sym f
 no_fate (Some y) x e f = absurd (cc e)
+
+-- what an insert puts
+inserts : (m : Mutation) → IsInsert m → (v : Value) × (m ≡ Insert v)
+inserts (mutation.Put v) h = absurd h
+inserts (mutation.Insert v) h = (v, refl)
+inserts mutation.Delete h = absurd h
+inserts mutation.Lock h = absurd h
 
 done_same : (c d : ℕ) → Done (Committed c) ≡ Done (Committed d) → c ≡ d
 done_same c d e = cc
@@ -112,6 +123,30 @@ module _ (last : ℕ) (stages : ℕ → Option Stage) (fates : Fates) (index : I
     later = λ u c v d m n x y lt. later_starts k u c v d m n (of_versions k versions u c m e x) (of_versions k versions v d n e y) lt;
   }
 
+  -- ---- where a read of a key shows no value, the table sees none, and the other way round
+
+  none_by : (k : Key) (r : ℕ) (o : Option Versions) → versions_of index k ≡ o → SeenOf o fates r None → Sees table.row k r None
+  none_by k r None e x = λ m v y puts. subst (λ (o : Option Versions). ListedOn o fates y.start y.at m) e (commit_on k y.start y.at m y.commits)
+  none_by k r (Some versions) e x = λ m v y puts.
+      x m v record {
+        start = y.start;
+        at = y.at;
+        listed = subst (λ (o : Option Versions). ListedOn o fates y.start y.at m) e (commit_on k y.start y.at m y.commits);
+        upto = y.upto;
+        newest = λ u c n z seen low high. y.newest u c n (of_versions k versions u c n e z) seen low high;
+      } puts
+
+  shown_by : (k : Key) (r : ℕ) (o : Option Versions) → versions_of index k ≡ o → Sees table.row k r None → SeenOf o fates r None
+  shown_by k r None e x = refl
+  shown_by k r (Some versions) e x = λ m v y puts.
+      x m v record {
+        start = y.start;
+        at = y.at;
+        commits = of_versions k versions y.start y.at m e y.listed;
+        upto = y.upto;
+        newest = λ u c n z seen low high. y.newest u c n (subst (λ (o : Option Versions). ListedOn o fates u c n) e (commit_on k u c n z)) seen low high;
+      } puts
+
   -- ---- what is free may be committed
 
   module _ (t c : ℕ) (set : List Change) (stage : stages t ≡ Some (Declared set)) where
@@ -127,6 +162,7 @@ module _ (last : ℕ) (stages : ℕ → Option Stage) (fates : Fates) (index : I
       above = above;
       upto = let e : table.last ≡ last = tells.last_is in omega arith;
       unread = λ k m r e seen x. let kept = tells.reads.kept k r x in let below : kept.0 < c = (free k m e).unread seen kept.0 kept.2 in let h : r ≤ kept.0 = kept.1 in omega arith;
+      fresh = λ k v e. none_by k t (versions_of index k) refl ((free k (Insert v) e).fresh tt);
       apart = λ k m n u d e x o. (free k m e).apart u d n (commit_on k u d n x) o;
     }
 
@@ -135,7 +171,8 @@ module _ (last : ℕ) (stages : ℕ → Option Stage) (fates : Fates) (index : I
 
     blocked_by : (may : MayCommit table t c) (change : Change) → mutation_at may.set change.key ≡ Some change.mutation → IsBlocked index fates reads t c change → ⊥
     blocked_by may change does (inl x) = may.apart change.key change.mutation x.2 x.0 x.1 does (on_commit change.key x.0 x.1 x.2 x.3) x.4
-    blocked_by may change does (inr x) =
+    blocked_by may change does (inr (inr x)) = (let inserted = inserts change.mutation x.0 in x.1 (shown_by change.key t (versions_of index change.key) refl (may.fresh change.key inserted.0 (does ∙ ap (λ m. Some m) inserted.1))))
+    blocked_by may change does (inr (inl x)) =
         let h : x.1.0 < c = may.unread change.key change.mutation x.1.0 does x.0 (tells.reads.made change.key x.1.0 x.1.2) in
         let g : c ≤ x.1.0 = x.1.1 in
         omega arith

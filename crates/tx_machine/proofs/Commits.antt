@@ -1,5 +1,5 @@
 -- What a commit lists, and what forbids it.
-use Rattle.std.proofs.Common.{◌≡◌, ℕ, ◌+◌, ◌<◌, ◌==◌, ◌⊎◌, ◌++◌, inl, inr, Bool, true, false, not, cond, List, [], ◌∷◌, length, take, get_or, Option, Some, None, bytes_eq, refl, sym, ap, subst, ◌∙◌}
+use Rattle.std.proofs.Common.{◌≡◌, ℕ, ◌+◌, ◌<◌, ◌==◌, ◌⊎◌, ◌++◌, ◌&&◌, inl, inr, Bool, true, false, not, cond, List, [], ◌∷◌, length, take, get_or, Option, Some, None, bytes_eq, refl, sym, ap, subst, ◌∙◌}
 use Rattle.std.proofs.Common.{Result, Ok, Err}
 use Rattle.std.specs.Result.{OnErr}
 use Rattle.std.proofs.lemmas.List.{take_more}
@@ -10,14 +10,15 @@ use Rattle.std.proofs.lemmas.Map.Text.{is_eq-slice_cmp}
 use Rattle.tx_types.specs.declared.key.Key.{Key}
 use Rattle.tx_types.specs.declared.mutation.Change.{Change}
 use Rattle.tx_types.specs.declared.mutation.Mutation.{Mutation}
+use Rattle.tx_types.specs.declared.mutation.Mutation.TheVariants as mutation
 use Rattle.tx_machine.specs.declared.versions.Version.{Version}
 use Rattle.tx_machine.specs.declared.reads.Reads.{Reads}
-use Rattle.tx_types.specs.Keys.{IsVisible}
+use Rattle.tx_types.specs.Keys.{IsVisible, IsInsert}
 use Rattle.tx_machine.specs.Keys.{mutation_at}
 use Rattle.tx_machine.specs.Machine.{Overlap}
 use Rattle.tx_machine.specs.Versions.{Versions, Fates}
 use Rattle.tx_machine.specs.Noted.{IsNoted}
-use Rattle.tx_machine.specs.Shown.{Index, versions_of}
+use Rattle.tx_machine.specs.Shown.{Index, versions_of, Shows}
 use Rattle.tx_machine.specs.Representation.{version_in, put_version, puts, ListedOn, IsFree}
 use Rattle.tx_machine.proofs.Basics.{key_test, cond_true, cond_false, some_same}
 
@@ -66,15 +67,22 @@ puts_more t c set i d f now new h was is k q =
 
 -- ---- what nothing forbids
 
+-- reads see what is inserted
+insert_visible : (m : Mutation) → IsInsert m → IsVisible m
+insert_visible (mutation.Put v) h = tt
+insert_visible (mutation.Insert v) h = tt
+insert_visible mutation.Delete h = tt
+insert_visible mutation.Lock h = h
+
 pub free_hidden : (index : Index) (fates : Fates) (reads : Reads) (t c : ℕ) (change : Change)
     → ((u d : ℕ) (m : Mutation) → ListedOn (versions_of index change.key) fates u d m → Overlap t c u d → ⊥)
     → (IsVisible change.mutation → ⊥) → IsFree index fates reads t c change
-free_hidden index fates reads t c change apart hidden = record { apart = apart; unread = λ seen. absurd (hidden seen) }
+free_hidden index fates reads t c change apart hidden = record { apart = apart; unread = λ seen. absurd (hidden seen); fresh = λ inserts. absurd (hidden (insert_visible change.mutation inserts)) }
 
 pub free_seen : (index : Index) (fates : Fates) (reads : Reads) (t c : ℕ) (change : Change)
     → ((u d : ℕ) (m : Mutation) → ListedOn (versions_of index change.key) fates u d m → Overlap t c u d → ⊥)
-    → ((r : ℕ) → IsNoted reads change.key r → r < c) → IsFree index fates reads t c change
-free_seen index fates reads t c change apart unread = record { apart = apart; unread = λ seen. unread }
+    → ((r : ℕ) → IsNoted reads change.key r → r < c) → (IsInsert change.mutation → Shows index fates change.key t None) → IsFree index fates reads t c change
+free_seen index fates reads t c change apart unread fresh = record { apart = apart; unread = λ seen. unread; fresh = fresh }
 
 pub not_true : (b : Bool) → not b ≡ true → b ≡ false
 not_true true e = absurd (cc e)

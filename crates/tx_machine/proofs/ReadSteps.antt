@@ -6,7 +6,6 @@ use Rattle.tx_types.specs.declared.key.Key.{Key}
 use Rattle.tx_types.specs.declared.value.Value.{Value}
 use Rattle.tx_types.specs.declared.mutation.KeyValue.{KeyValue}
 use Rattle.tx_types.specs.declared.mutation.Mutation.{Mutation}
-use Rattle.tx_types.specs.declared.mutation.Mutation.TheVariants.{Put}
 use Rattle.tx_machine.specs.declared.machine.Stage.{Stage}
 use Rattle.tx_machine.specs.declared.reads.Reads.{Reads}
 use Rattle.tx_machine.specs.declared.step.ScanRead.{ScanRead}
@@ -49,24 +48,24 @@ module _ (last : ℕ) (stages : ℕ → Option Stage) (fates : Fates) (index : I
     }
 
     seen_sees : (r : ℕ) (found : Option Value) → SeenIn versions fates r found → Sees table.row k r found
-    seen_sees r None x = λ v y. x v (from_newest r (Put v) y)
-    seen_sees r (Some v) x = to_newest r (Put v) x
+    seen_sees r None x = λ m v y puts. x m v (from_newest r m y) puts
+    seen_sees r (Some v) (m, x, puts) = (m, to_newest r m x, puts)
 
     sees_seen : (r : ℕ) (found : Option Value) → Sees table.row k r found → SeenIn versions fates r found
-    sees_seen r None x = λ v y. x v (to_newest r (Put v) y)
-    sees_seen r (Some v) x = from_newest r (Put v) x
+    sees_seen r None x = λ m v y puts. x m v (to_newest r m y) puts
+    sees_seen r (Some v) (m, x, puts) = (m, from_newest r m x, puts)
 
   no_commit : (k : Key) → versions_of index k ≡ None → (u c : ℕ) (m : Mutation) → Commits table.row k u c m → ⊥
   no_commit k none u c m x = subst (λ (o : Option Versions). ListedOn o fates u c m) none (commit_on last stages fates index reads table tells k u c m x)
 
   shows_by : (k : Key) (r : ℕ) (found : Option Value) (o : Option Versions) → versions_of index k ≡ o → SeenOf o fates r found → Sees table.row k r found
-  shows_by k r None None e x = λ v y. no_commit k e y.start y.at (Put v) y.commits
+  shows_by k r None None e x = λ m v y puts. no_commit k e y.start y.at m y.commits
   shows_by k r (Some w) None e x = absurd (cc x)
   shows_by k r found (Some versions) e x = seen_sees k versions e r found x
 
   sees_by : (k : Key) (r : ℕ) (found : Option Value) (o : Option Versions) → versions_of index k ≡ o → Sees table.row k r found → SeenOf o fates r found
   sees_by k r None None e x = refl
-  sees_by k r (Some w) None e x = absurd (no_commit k e x.start x.at (Put w) x.commits)
+  sees_by k r (Some w) None e (m, x, puts) = absurd (no_commit k e x.start x.at m x.commits)
   sees_by k r found (Some versions) e x = sees_seen k versions e r found x
 
   pub shows_sees : (k : Key) (r : ℕ) (found : Option Value) → Shows index fates k r found → Sees table.row k r found

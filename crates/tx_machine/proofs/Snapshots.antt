@@ -6,12 +6,12 @@ use Rattle.tx_types.specs.declared.key.Key.{Key}
 use Rattle.tx_types.specs.declared.value.Value.{Value}
 use Rattle.tx_types.specs.declared.mutation.Change.{Change}
 use Rattle.tx_types.specs.declared.mutation.Mutation.{Mutation}
-use Rattle.tx_types.specs.declared.mutation.Mutation.TheVariants.{Put}
+use Rattle.tx_types.specs.declared.mutation.Mutation.TheVariants as mutation
 use Rattle.tx_types.specs.declared.mutation.Fate.{Fate}
 use Rattle.tx_types.specs.declared.mutation.Fate.TheVariants.{Committed, Aborted}
 use Rattle.tx_machine.specs.declared.step.Step.{Step}
 use Rattle.tx_machine.specs.declared.step.Step.TheVariants as step
-use Rattle.tx_types.specs.Keys.{value_in, IsVisible}
+use Rattle.tx_types.specs.Keys.{value_in, IsVisible, put_by}
 use Rattle.tx_machine.specs.Keys.{mutation_at}
 use Rattle.tx_machine.specs.declared.step.ScanRead.{ScanRead}
 use Rattle.tx_machine.specs.Machine.{State, Open, Done, Row, Rows, Table, Commits, Newest, Sees, SeesRows, IsRead, Overlap, MayCommit, Admits, with_row, changes_in, after, table_of, IsRun}
@@ -118,6 +118,13 @@ read_next table (step.Answer t f) k r x = x
 
 -- ---- what a read has seen
 
+-- what leaves a value is seen
+put_visible : (m : Mutation) (v : Value) → put_by m ≡ Some v → IsVisible m
+put_visible (mutation.Put w) v e = tt
+put_visible (mutation.Insert w) v e = tt
+put_visible mutation.Delete v e = tt
+put_visible mutation.Lock v e = cc e
+
 -- a step commits nothing below a read of what it puts or deletes
 above_read : (table : Table) (s : Step) → Admits table s → (k : Key) (r : ℕ) → IsRead table.reads k r → (u d : ℕ) (n : Mutation) → Commits (after table s).row k u d n → IsVisible n → d ≤ r → Commits table.row k u d n
 above_read table s a k r read u d n c v le =
@@ -126,29 +133,29 @@ above_read table s a k r read u d n c v le =
       | inr x ↦ absurd (omega (arith, le, x.1.0.unread k n r x.1.1 v read))
     ]
 
-newest_next : (table : Table) (s : Step) → Admits table s → (k : Key) (r : ℕ) → IsRead table.reads k r → (v : Value) → Newest table.row k r (Put v) → Newest (after table s).row k r (Put v)
-newest_next table s a k r read v w =
+newest_next : (table : Table) (s : Step) → Admits table s → (k : Key) (r : ℕ) → IsRead table.reads k r → (m : Mutation) → Newest table.row k r m → Newest (after table s).row k r m
+newest_next table s a k r read m w =
     record {
       start = w.start;
       at = w.at;
-      commits = stands_kept table s a k w.start w.at (Put v) w.commits;
+      commits = stands_kept table s a k w.start w.at m w.commits;
       upto = w.upto;
-      newest = λ u c m is visible low high. w.newest u c m (above_read table s a k r read u c m is visible high) visible low high;
+      newest = λ u c n is visible low high. w.newest u c n (above_read table s a k r read u c n is visible high) visible low high;
     }
 
-newest_before : (table : Table) (s : Step) → Admits table s → (k : Key) (r : ℕ) → IsRead table.reads k r → (v : Value) → Newest (after table s).row k r (Put v) → Newest table.row k r (Put v)
-newest_before table s a k r read v w =
+newest_before : (table : Table) (s : Step) → Admits table s → (k : Key) (r : ℕ) → IsRead table.reads k r → (m : Mutation) → IsVisible m → Newest (after table s).row k r m → Newest table.row k r m
+newest_before table s a k r read m seen w =
     record {
       start = w.start;
       at = w.at;
-      commits = above_read table s a k r read w.start w.at (Put v) w.commits tt w.upto;
+      commits = above_read table s a k r read w.start w.at m w.commits seen w.upto;
       upto = w.upto;
-      newest = λ u c m is visible low high. w.newest u c m (stands_kept table s a k u c m is) visible low high;
+      newest = λ u c n is visible low high. w.newest u c n (stands_kept table s a k u c n is) visible low high;
     }
 
 sees_next : (table : Table) (s : Step) → Admits table s → (k : Key) (r : ℕ) → IsRead table.reads k r → (found : Option Value) → Sees table.row k r found → Sees (after table s).row k r found
-sees_next table s a k r read (Some v) w = newest_next table s a k r read v w
-sees_next table s a k r read None w = λ v x. w v (newest_before table s a k r read v x)
+sees_next table s a k r read (Some v) (m, w, puts) = (m, newest_next table s a k r read m w, puts)
+sees_next table s a k r read None w = λ m v x puts. w m v (newest_before table s a k r read m (put_visible m v puts) x) puts
 
 -- ---- runs
 

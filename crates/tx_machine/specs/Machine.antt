@@ -1,6 +1,7 @@
 -- Snapshot isolation, with timestamps in the open. A transaction is named by the number at which it starts, and commits at one
 -- number in one step. Whoever reads at r sees what is committed at or below r; to keep that so for ever, no later commit may come at
--- or below r on a key that was read there (`unread`). Two transactions overlap where each starts below the other's commit; of two
+-- or below r on a key that was read there (`unread`). An insert commits only where its transaction, reading at its start, would have
+-- seen no value there (`fresh`). Two transactions overlap where each starts below the other's commit; of two
 -- that share a key only one commits (`apart`). An async commit takes a number that nobody need have drawn, at most one above the
 -- last: a transaction that starts at that number sees it. Lists of steps are newest first.
 use Rattle.std.specs.Prelude.{◌≡◌, ◌≢◌, ℕ, ◌+◌, ◌<◌, ◌≤◌, ◌==◌, ◌⊎◌, Bool, true, false, cond, List, [], ◌∷◌, length, Option, Some, None, bytes_eq, IsTrue}
@@ -8,13 +9,13 @@ use Rattle.tx_types.specs.declared.key.Key.{Key}
 use Rattle.tx_types.specs.declared.value.Value.{Value}
 use Rattle.tx_types.specs.declared.mutation.Change.{Change}
 use Rattle.tx_types.specs.declared.mutation.Mutation.{Mutation}
-use Rattle.tx_types.specs.declared.mutation.Mutation.TheVariants.{Put}
+use Rattle.tx_types.specs.declared.mutation.Mutation.TheVariants.{Insert}
 use Rattle.tx_types.specs.declared.mutation.Fate.{Fate}
 use Rattle.tx_types.specs.declared.mutation.Fate.TheVariants.{Committed, Aborted}
 use Rattle.tx_machine.specs.declared.step.ScanRead.{ScanRead}
 use Rattle.tx_machine.specs.declared.step.Step.{Step}
 use Rattle.tx_machine.specs.declared.step.Step.TheVariants.{Draw, Begin, Declare, Commit, Abort, Read, Scan, Answer}
-use Rattle.tx_types.specs.Keys.{IsRising, value_in, IsVisible}
+use Rattle.tx_types.specs.Keys.{IsRising, value_in, IsVisible, put_by}
 use Rattle.tx_machine.specs.Keys.{mutation_at, IsDistinct, covered}
 
 -- what has become of a transaction
@@ -65,10 +66,10 @@ pub record Newest (rows : Rows) (k : Key) (r : ℕ) (m : Mutation) : Type 0 wher
   pub upto : at ≤ r
   pub newest : NoneBetween rows k at r
 
--- what a read of k at r sees: the value of the newest commit, or none where the newest is no put
+-- what a read of k at r sees: the value that the newest commit leaves, or none where it leaves none or there is none
 abbrev pub Sees : Rows → Key → ℕ → Option Value → Type 0
-Sees rows k r (Some v) = Newest rows k r (Put v)
-Sees rows k r None = (v : Value) → Newest rows k r (Put v) → ⊥
+Sees rows k r (Some v) = (m : Mutation) × Newest rows k r m × (put_by m ≡ Some v)
+Sees rows k r None = (m : Mutation) (v : Value) → Newest rows k r m → put_by m ≡ Some v → ⊥
 
 -- what a scan sees: the first visible keys of its range in order, at most as many as its limit
 pub record SeesRows (rows : Rows) (s : ScanRead) : Type 0 where
@@ -87,14 +88,15 @@ abbrev pub Overlap : ℕ → ℕ → ℕ → ℕ → Type 0
 Overlap t c u d = (t < d) × (u < c)
 
 -- when the transaction that started at t may be committed at c: it is open and declared, c lies above its start and at most
--- one above the last number, no read at or above c covers a key that it puts or deletes, and no committed transaction that
--- shares a key with it would overlap it
+-- one above the last number, no read at or above c covers a key that it puts or deletes, a read at its start sees no value of what it
+-- inserts, and no committed transaction that shares a key with it would overlap it
 pub record MayCommit (table : Table) (t c : ℕ) : Type 0 where
   pub set : List Change
   pub opened : table.row t ≡ Some record { changes = Some set; state = Open }
   pub above : t < c
   pub upto : c ≤ table.last + 1
   pub unread : (k : Key) (m : Mutation) (r : ℕ) → mutation_at set k ≡ Some m → IsVisible m → IsRead table.reads k r → r < c
+  pub fresh : (k : Key) (v : Value) → mutation_at set k ≡ Some (Insert v) → Sees table.row k t None
   pub apart : (k : Key) (m n : Mutation) (u d : ℕ) → mutation_at set k ≡ Some m → Commits table.row k u d n → Overlap t c u d → ⊥
 
 -- which steps the machine makes

@@ -12,12 +12,12 @@ use Rattle.tx_machine.specs.declared.machine.Stage.TheVariants.{Drawn, Begun, De
 use Rattle.tx_machine.specs.declared.machine.Machine.{Machine}
 use Rattle.tx_machine.specs.declared.reads.Reads.{Reads}
 use Rattle.tx_machine.specs.declared.step.Step.{Step}
-use Rattle.tx_types.specs.Keys.{IsVisible}
+use Rattle.tx_types.specs.Keys.{IsVisible, IsInsert}
 use Rattle.tx_machine.specs.Keys.{mutation_at, IsDistinct}
 use Rattle.tx_machine.specs.Machine.{State, Open, Done, Row, Rows, Reading, Table, Commits, Overlap, IsRead, Admits, after}
 use Rattle.tx_machine.specs.Versions.{Fates, Versions, Listed, IsOrderly}
 use Rattle.tx_machine.specs.Noted.{IsNoted}
-use Rattle.tx_machine.specs.Shown.{Index, versions_of}
+use Rattle.tx_machine.specs.Shown.{Index, versions_of, Shows}
 
 -- the state of a transaction that may have ended
 abbrev pub state_of : Option Fate → State
@@ -90,16 +90,20 @@ abbrev pub ListedOn : Option Versions → Fates → ℕ → ℕ → Mutation →
 ListedOn None fates u c m = ⊥
 ListedOn (Some versions) fates u c m = Listed versions fates u c m
 
--- nothing forbids that a change is committed: no listed commit would overlap, and no read at or above covers what it puts or deletes
+-- nothing forbids that a change is committed: no listed commit would overlap, no read at or above covers what it puts or deletes, and of
+-- what it inserts a read at the start sees no value
 pub record IsFree (index : Index) (fates : Fates) (reads : Reads) (t c : ℕ) (change : Change) : Type 0 where
   pub apart : (u d : ℕ) (m : Mutation) → ListedOn (versions_of index change.key) fates u d m → Overlap t c u d → ⊥
   pub unread : IsVisible change.mutation → (r : ℕ) → IsNoted reads change.key r → r < c
+  pub fresh : IsInsert change.mutation → Shows index fates change.key t None
 
--- a listed commit would overlap, or a read at or above covers what it puts or deletes
+-- a listed commit would overlap, or a read at or above covers what it puts or deletes, or a read at the start sees a value of what it
+-- inserts
 abbrev pub IsBlocked : Index → Fates → Reads → ℕ → ℕ → Change → Type 0
 IsBlocked index fates reads t c change =
     ((u : ℕ) × (d : ℕ) × (m : Mutation) × ListedOn (versions_of index change.key) fates u d m × Overlap t c u d)
     ⊎ (IsVisible change.mutation × ((r : ℕ) × (c ≤ r) × IsNoted reads change.key r))
+    ⊎ (IsInsert change.mutation × (Shows index fates change.key t None → ⊥))
 
 -- the versions of all keys, with one more
 abbrev pub put_version : ℕ → ℕ → Change → (Key → ℕ → Option Version) → Key → ℕ → Option Version

@@ -5,11 +5,10 @@ use Rattle.std.specs.BTreeMap as tree
 use Rattle.std.specs.BTreeMap.{BTreeMap}
 use Rattle.tx_types.specs.declared.value.Value.{Value}
 use Rattle.tx_types.specs.declared.mutation.Mutation.{Mutation}
-use Rattle.tx_types.specs.declared.mutation.Mutation.TheVariants.{Put}
 use Rattle.tx_types.specs.declared.mutation.Fate.{Fate}
 use Rattle.tx_types.specs.declared.mutation.Fate.TheVariants.{Committed}
 use Rattle.tx_machine.specs.declared.versions.Version.{Version}
-use Rattle.tx_types.specs.Keys.{IsVisible}
+use Rattle.tx_types.specs.Keys.{IsVisible, put_by}
 
 -- the versions of a key, by commit timestamp
 abbrev pub Versions : Type 0
@@ -38,8 +37,8 @@ pub record NewestIn (versions : Versions) (fates : Fates) (r : ℕ) (m : Mutatio
 
 -- what a read at r sees of a key's versions
 abbrev pub SeenIn : Versions → Fates → ℕ → Option Value → Type 0
-SeenIn versions fates r (Some v) = NewestIn versions fates r (Put v)
-SeenIn versions fates r None = (v : Value) → NewestIn versions fates r (Put v) → ⊥
+SeenIn versions fates r (Some v) = (m : Mutation) × NewestIn versions fates r m × (put_by m ≡ Some v)
+SeenIn versions fates r None = (m : Mutation) (v : Value) → NewestIn versions fates r m → put_by m ≡ Some v → ⊥
 
 -- each commit lies above its start, and later commits started at or above earlier ones
 pub record IsOrderly (versions : Versions) (fates : Fates) : Type 0 where

@@ -1,18 +1,18 @@
 //! What forbids a commit, and the versions that it lists.
-ghost use Rattle.std.specs.Prelude.{◌≡◌, ℕ, ◌==◌, true, false, cond, Some, take, OnOk, OnErr, IfErr, Contains, IsTrue, ◌↔◌};
+ghost use Rattle.std.specs.Prelude.{◌≡◌, ℕ, ◌==◌, true, false, cond, Some, None, take, OnOk, OnErr, IfErr, Contains, IsTrue, ◌↔◌};
 ghost use Rattle.std.specs.Prelude.{bytes_eq};
 ghost use Rattle.tx_types.specs.declared.key.Key.{Key};
 ghost use Rattle.tx_types.specs.declared.mutation.Change.{Change};
 ghost use Rattle.tx_types.specs.declared.mutation.Mutation.{Mutation};
-ghost use Rattle.tx_types.specs.Keys.{IsVisible};
+ghost use Rattle.tx_types.specs.Keys.{IsVisible, IsInsert};
 ghost use Rattle.tx_machine.specs.Keys.{mutation_at};
 ghost use Rattle.tx_machine.specs.Machine.{Overlap};
-ghost use Rattle.tx_machine.specs.Shown.{versions_of};
+ghost use Rattle.tx_machine.specs.Shown.{versions_of, Shows};
 ghost use Rattle.tx_machine.specs.Representation.{InOrder, IsFree, IsBlocked, ListedOn, version_of, puts};
 
 use crate::machine::Refused;
 use crate::reads::Reads;
-use crate::scan::Index;
+use crate::scan::{Index, shown};
 use crate::versions::{Fates, Version, overlaps};
 use std::alloc::Global;
 use std::collections::BTreeMap;
@@ -22,9 +22,29 @@ fn is_visible(mutation: &Mutation) -> bool
     ensures { IsTrue result ↔ IsVisible mutation.now }
 {
     match mutation {
-        Mutation::Put(_) | Mutation::Delete => true,
+        Mutation::Put(_) | Mutation::Insert(_) | Mutation::Delete => true,
         Mutation::Lock => false,
     }
+}
+
+fn is_insert(mutation: &Mutation) -> bool
+    ensures { IsTrue result ↔ IsInsert mutation.now }
+{
+    match mutation {
+        Mutation::Insert(_) => true,
+        _ => false,
+    }
+}
+
+// Whether a read at the start sees no value of what the change inserts, if it inserts.
+fn is_fresh(index: &Index, fates: &Fates, t: Ts, change: &Change) -> bool
+    ensures fresh { result ≡ true → IsInsert change.now.mutation → Shows index.now fates.now change.now.key t None }
+    ensures stale { result ≡ false → IsInsert change.now.mutation × (Shows index.now fates.now change.now.key t None → ⊥) }
+{
+    if !is_insert(&change.mutation) {
+        return true;
+    }
+    shown(index, fates, &change.key, t).is_none()
 }
 
 // Whether a listed commit of the key would overlap.
@@ -45,6 +65,9 @@ fn is_free(index: &Index, fates: &Fates, reads: &Reads, t: Ts, c: Ts, change: &C
     ensures blocked { result ≡ false → IsBlocked index.now fates.now reads.now t c change.now }
 {
     if is_overlapped(index, fates, t, c, &change.key) {
+        return false;
+    }
+    if !is_fresh(index, fates, t, change) {
         return false;
     }
     if !is_visible(&change.mutation) {

@@ -97,6 +97,7 @@ pub(crate) fn seen<'a>(versions: &'a Versions, fates: &Fates, at: Ts) -> Option<
         if is_committed(fates, version.start, commit) {
             match &version.mutation {
                 Mutation::Put(value) => return Some(value),
+                Mutation::Insert(inserted) => return Some(inserted),
                 Mutation::Delete => return None,
                 Mutation::Lock => {}
             }

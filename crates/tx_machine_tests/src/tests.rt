@@ -135,3 +135,45 @@ fn a_commit_stays_above_the_reads_of_its_keys(rt: HostRuntime) -> Result<(), Fai
     }
     Ok(())
 }
+
+fn insert(rt: &HostRuntime, name: &[u8], value: &[u8]) -> Result<Change, Fault> {
+    Ok(Change {
+        key: key(rt, name)?,
+        mutation: Mutation::Insert(Value::new(rt.alloc(), value)?),
+    })
+}
+
+// Then a transaction from 2 or 3 on inserts y to a and commits at 4: whether that is a run.
+fn inserts_from(rt: &HostRuntime, start: u64) -> Result<bool, Fail> {
+    let mut steps = one_commit(rt)?;
+    if start > 2 {
+        steps.push(Step::Draw(Ts::new(start)))?;
+    }
+    steps.push(Step::Begin(Ts::new(start)))?;
+    steps.push(declare(rt, start, insert(rt, b"a", b"y")?)?)?;
+    steps.push(Step::Draw(Ts::new(4)))?;
+    steps.push(Step::Commit(Ts::new(start), Ts::new(4)))?;
+    Ok(check_trace(rt.alloc(), steps.as_slice()).is_some())
+}
+
+// An insert of a key without a value commits, and is read as a put; its own read at its start does not stand in its way.
+#[test]
+fn an_insert_is_read(rt: HostRuntime) -> Result<(), Fail> {
+    let mut steps = Vec::new(rt.alloc());
+    steps.push(Step::Draw(Ts::new(1)))?;
+    steps.push(Step::Begin(Ts::new(1)))?;
+    steps.push(declare(&rt, 1, insert(&rt, b"a", b"x")?)?)?;
+    steps.push(read(&rt, 1, b"a", None)?)?;
+    steps.push(Step::Draw(Ts::new(2)))?;
+    steps.push(Step::Commit(Ts::new(1), Ts::new(2)))?;
+    steps.push(read(&rt, 2, b"a", Some(b"x"))?)?;
+    assert!(rt; check_trace(rt.alloc(), steps.as_slice()).is_some());
+    Ok(())
+}
+
+#[test]
+fn no_insert_over_a_value(rt: HostRuntime) -> Result<(), Fail> {
+    assert!(rt; !inserts_from(&rt, 2)?);
+    assert!(rt; !inserts_from(&rt, 3)?);
+    Ok(())
+}

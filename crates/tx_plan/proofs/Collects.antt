@@ -4,7 +4,7 @@ use Rattle.std.specs.Prelude.{◌&&◌, ◌||◌, AllPairs, Contains, slice_inde
 use Rattle.std.proofs.lemmas.Bool.{cases_Bool, and_parts, and_from, and_cases, and_left, and_right, or_cases, or_parts, lt-ltb, le-ltb, cases_lt, cases_order, not-true}
 use Rattle.std.proofs.lemmas.List.{get_or_default}
 use Rattle.tx_types.specs.declared.mutation.Mutation.{Mutation}
-use Rattle.tx_types.specs.declared.mutation.Mutation.TheVariants.{Put, Delete, Lock}
+use Rattle.tx_types.specs.declared.mutation.Mutation.TheVariants.{Put, Insert, Delete, Lock}
 use Rattle.tx_plan.specs.declared.key_records.RecordKind.{RecordKind}
 use Rattle.tx_plan.specs.Cells.{Write, CommitOf, Rollback, Writes, is_long}
 use Rattle.tx_plan.specs.cases.Collect.{is_visible, is_put, commit_is, none_above, keeps}
@@ -20,6 +20,7 @@ put_visible (Some (CommitOf rec)) e = by_mutation rec.mutation e
   where
     by_mutation : (m : Mutation) → is_put m ≡ true → is_visible m ≡ true
     by_mutation (Put v) h = refl
+    by_mutation (Insert v) h = refl
     by_mutation Delete h = absurd (cc (h))
     by_mutation Lock h = absurd (cc (h))
 

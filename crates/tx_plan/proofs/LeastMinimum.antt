@@ -1,23 +1,24 @@
--- What a region answers with the least minimum is an answer of the tables.
-use Rattle.std.proofs.Common.{◌≡◌, inl, inr, ℕ, ◌<◌, ◌≤◌, arith}
+-- What a region answers with the least minimum above a mark is an answer of the tables.
+use Rattle.std.proofs.Common.{◌≡◌, inl, inr, ℕ, ◌+◌, ◌<◌, ◌≤◌, arith}
 use Rattle.std.proofs.lemmas.Bool.{cases_lt}
+use Rattle.tx_types.specs.declared.mutation.Mode.TheVariants.{Async}
 use Rattle.tx_plan.specs.declared.body.Prewrite.{Prewrite}
 use Rattle.tx_plan.specs.declared.body.Body.{Body}
 use Rattle.tx_plan.specs.declared.body.Body.TheVariants as body
 use Rattle.tx_plan.specs.declared.answer.Answer.{Answer}
 use Rattle.tx_plan.specs.Cells.{Cells, Region}
 use Rattle.tx_plan.specs.cases.Prewrite.{AnswersPrewrite, MayPromise, least_minimum}
-use Rattle.tx_plan.specs.Answers.{Answers, AnswersLeast}
+use Rattle.tx_plan.specs.Answers.{floor_in, Answers, AnswersFrom, AnswersLeast}
 
--- the least minimum is one that may be promised
-least_may : (max_read top start : ℕ) → max_read ≤ top → start ≤ top → (m : ℕ) → m ≡ least_minimum max_read start → MayPromise max_read top start m
-least_may max_read top start read upto m e = (omega (arith, e), omega (arith, e, read, upto))
+-- the least minimum above a mark is one that may be promised
+least_may : (max_read mark top : ℕ) (b : Prewrite) → max_read ≤ mark → mark ≤ top → b.start ≤ top → b.floor ≤ top + 1 → (m : ℕ) → m ≡ least_minimum mark b → MayPromise max_read top b m
+least_may max_read mark top b covers read upto floor m e = (omega (arith, e, covers), omega (arith, e, read, upto, floor))
 
 not_above : (m n : ℕ) → (n < m → ⊥) → m ≤ n
 not_above m n h = elim (cases_lt n m) [ inl l ↦ absurd (h l) | inr g ↦ g ]
 
 -- a prewrite's table holds for more minimums, where they may be promised to a start that was loaded
-more_promises : (cells : Cells) (safe loaded : ℕ) (P Q : ℕ → Type 0) (b : Prewrite) (a : Answer) → ((b.start ≤ loaded) → (m : ℕ) → P m → Q m) → AnswersPrewrite cells safe loaded P b a → AnswersPrewrite cells safe loaded Q b a
+pub more_promises : (cells : Cells) (safe loaded : ℕ) (P Q : ℕ → Type 0) (b : Prewrite) (a : Answer) → (b.start ≤ loaded → b.mode ≡ Async → (m : ℕ) → P m → Q m) → AnswersPrewrite cells safe loaded P b a → AnswersPrewrite cells safe loaded Q b a
 more_promises cells safe loaded P Q b a f (inl x) = inl x
 more_promises cells safe loaded P Q b a f (inr (n, inl x)) = inr (n, inl x)
 more_promises cells safe loaded P Q b a f (inr (n, inr (n1, inl x))) = inr (n, inr (n1, inl x))
@@ -25,19 +26,24 @@ more_promises cells safe loaded P Q b a f (inr (n, inr (n1, inr (n2, inl x)))) =
 more_promises cells safe loaded P Q b a f (inr (n, inr (n1, inr (n2, inr (n3, inl x))))) = inr (n, inr (n1, inr (n2, inr (n3, inl x))))
 more_promises cells safe loaded P Q b a f (inr (n, inr (n1, inr (n2, inr (n3, inr (n4, inl x)))))) = inr (n, inr (n1, inr (n2, inr (n3, inr (n4, inl x)))))
 more_promises cells safe loaded P Q b a f (inr (n, inr (n1, inr (n2, inr (n3, inr (n4, inr (n5, inl x))))))) = inr (n, inr (n1, inr (n2, inr (n3, inr (n4, inr (n5, inl x))))))
-more_promises cells safe loaded P Q b a f (inr (n, inr (n1, inr (n2, inr (n3, inr (n4, inr (n5, inr (n6, inl (async, (m, p, c)))))))))) = inr (n, inr (n1, inr (n2, inr (n3, inr (n4, inr (n5, inr (n6, inl (async, (m, f (not_above b.start loaded n1) m p, c)))))))))
-more_promises cells safe loaded P Q b a f (inr (n, inr (n1, inr (n2, inr (n3, inr (n4, inr (n5, inr (n6, inr x)))))))) = inr (n, inr (n1, inr (n2, inr (n3, inr (n4, inr (n5, inr (n6, inr x)))))))
+more_promises cells safe loaded P Q b a f (inr (n, inr (n1, inr (n2, inr (n3, inr (n4, inr (n5, inr (n6, inl x)))))))) = inr (n, inr (n1, inr (n2, inr (n3, inr (n4, inr (n5, inr (n6, inl x)))))))
+more_promises cells safe loaded P Q b a f (inr (n, inr (n1, inr (n2, inr (n3, inr (n4, inr (n5, inr (n6, inr (n7, inl (async, (m, p, c))))))))))) = inr (n, inr (n1, inr (n2, inr (n3, inr (n4, inr (n5, inr (n6, inr (n7, inl (async, (m, f (not_above b.start loaded n1) async m p, c))))))))))
+more_promises cells safe loaded P Q b a f (inr (n, inr (n1, inr (n2, inr (n3, inr (n4, inr (n5, inr (n6, inr (n7, inr x))))))))) = inr (n, inr (n1, inr (n2, inr (n3, inr (n4, inr (n5, inr (n6, inr (n7, inr x))))))))
 
-pub least_admitted : (region : Region) (loaded top : ℕ) (b : Body) (a : Answer) → region.max_read ≤ top → loaded ≤ top → AnswersLeast region loaded b a → Answers region loaded top b a
-least_admitted region loaded top (body.Get b) a read upto may = may
-least_admitted region loaded top (body.Scan b) a read upto may = may
-least_admitted region loaded top (body.Prewrite b) a read upto may = more_promises (region.cells b.key) region.safe loaded (λ m. m ≡ least_minimum region.max_read b.start) (MayPromise region.max_read top b.start) b a (λ start. least_may region.max_read top b.start read (omega (arith, start, upto))) may
-least_admitted region loaded top (body.Commit b) a read upto may = may
-least_admitted region loaded top (body.BatchRollback b) a read upto may = may
-least_admitted region loaded top (body.TxnHeartBeat b) a read upto may = may
-least_admitted region loaded top (body.CheckTxnStatus b) a read upto may = may
-least_admitted region loaded top (body.CheckSecondaryLocks b) a read upto may = may
-least_admitted region loaded top (body.ResolveLock b) a read upto may = may
-least_admitted region loaded top (body.RaiseSafe b) a read upto may = may
-least_admitted region loaded top (body.LocksBelow b) a read upto may = may
-least_admitted region loaded top (body.Collect b) a read upto may = may
+pub mark_admitted : (mark : ℕ) (region : Region) (loaded top : ℕ) (b : Body) (a : Answer) → region.max_read ≤ mark → mark ≤ top → loaded ≤ top → floor_in b ≤ top + 1 → AnswersFrom mark region loaded b a → Answers region loaded top b a
+mark_admitted mark region loaded top (body.Get b) a covers read upto floor may = may
+mark_admitted mark region loaded top (body.Scan b) a covers read upto floor may = may
+mark_admitted mark region loaded top (body.Prewrite b) a covers read upto floor may = more_promises (region.cells b.key) region.safe loaded (λ m. m ≡ least_minimum mark b) (MayPromise region.max_read top b) b a (λ start async. least_may region.max_read mark top b covers read (omega (arith, start, upto)) floor) may
+mark_admitted mark region loaded top (body.Commit b) a covers read upto floor may = may
+mark_admitted mark region loaded top (body.BatchRollback b) a covers read upto floor may = may
+mark_admitted mark region loaded top (body.TxnHeartBeat b) a covers read upto floor may = may
+mark_admitted mark region loaded top (body.CheckTxnStatus b) a covers read upto floor may = may
+mark_admitted mark region loaded top (body.CheckSecondaryLocks b) a covers read upto floor may = may
+mark_admitted mark region loaded top (body.ResolveLock b) a covers read upto floor may = may
+mark_admitted mark region loaded top (body.RaiseSafe b) a covers read upto floor may = may
+mark_admitted mark region loaded top (body.LocksBelow b) a covers read upto floor may = may
+mark_admitted mark region loaded top (body.Collect b) a covers read upto floor may = may
+
+-- by the region's own mark
+pub least_admitted : (region : Region) (loaded top : ℕ) (b : Body) (a : Answer) → region.max_read ≤ top → loaded ≤ top → floor_in b ≤ top + 1 → AnswersLeast region loaded b a → Answers region loaded top b a
+least_admitted region loaded top b a read = mark_admitted region.max_read region loaded top b a (omega arith) read

@@ -115,7 +115,7 @@ resolve_commits = refl
 -- ---- Prewrite: 4 was read, so the minimum is 5; where that is too much, the key falls back
 
 abbrev prewrite : Option ℕ → Prewrite
-prewrite max_commit = record { key = a; mutation = mutation.Put x; start = 3; primary = a; mode = Async; max_commit = max_commit; ttl = 10; others = [] }
+prewrite max_commit = record { key = a; mutation = mutation.Put x; start = 3; primary = a; mode = Async; max_commit = max_commit; floor = 0; ttl = 10; others = [] }
 
 pub prewrite_locks : (after None (only 2 (put 1 false)) (body.Prewrite (prewrite None)) (answer.Prewritten 5)).lock ≡ Some record { mutation = mutation.Put x; mode = Async; secondaries = []; start = 3; min = 5; ttl = 10; primary = a }
 prewrite_locks = refl

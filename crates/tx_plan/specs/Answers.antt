@@ -2,11 +2,13 @@
 use Rattle.std.specs.Prelude.{◌≡◌, ℕ, Option, Some, None}
 use Rattle.tx_plan.specs.declared.body.Body.{Body}
 use Rattle.tx_plan.specs.declared.body.Body.TheVariants.{Get, Scan, Prewrite, Commit, BatchRollback, TxnHeartBeat, CheckTxnStatus, CheckSecondaryLocks, ResolveLock, RaiseSafe, LocksBelow, Collect}
+use Rattle.tx_plan.specs.declared.body.Prewrite.{Prewrite as PrewriteBody}
 use Rattle.tx_plan.specs.declared.answer.Answer.{Answer}
 use Rattle.tx_plan.specs.Cells.{Region, with_cells}
+use Rattle.tx_plan.specs.Plans.{with_read}
 use Rattle.tx_plan.specs.cases.Get.{AnswersGet, leaves_get}
 use Rattle.tx_plan.specs.cases.Scan.{AnswersScan, leaves_scan}
-use Rattle.tx_plan.specs.cases.Prewrite.{AnswersPrewrite, leaves_prewrite, MayPromise, least_minimum}
+use Rattle.tx_plan.specs.cases.Prewrite.{AnswersPrewrite, leaves_prewrite, read_by_prewrite, MayPromise, least_minimum}
 use Rattle.tx_plan.specs.cases.Commit.{AnswersCommit, leaves_commit}
 use Rattle.tx_plan.specs.cases.BatchRollback.{AnswersBatchRollback, leaves_batch_rollback}
 use Rattle.tx_plan.specs.cases.TxnHeartBeat.{AnswersTxnHeartBeat, leaves_txn_heart_beat}
@@ -28,12 +30,17 @@ start_in (CheckSecondaryLocks b) = Some b.start
 start_in (ResolveLock b) = Some b.start
 start_in _ = None
 
--- The tables of a region whose seat loaded `loaded`, where `Promise start` says which minimums an async lock of the transaction that
--- starts there may have.
-abbrev pub AnswersBy : (ℕ → ℕ → Type 0) → Region → ℕ → Body → Answer → Type 0
+-- the least minimum that a request itself asks for: the floor of a prewrite
+abbrev pub floor_in : Body → ℕ
+floor_in (Prewrite b) = b.floor
+floor_in _ = 0
+
+-- The tables of a region whose seat loaded `loaded`, where `Promise b` says which minimums an async lock may have that the prewrite b
+-- puts.
+abbrev pub AnswersBy : (PrewriteBody → ℕ → Type 0) → Region → ℕ → Body → Answer → Type 0
 AnswersBy Promise region loaded (Get b) a = AnswersGet (region.cells b.key) region.safe loaded b a
 AnswersBy Promise region loaded (Scan b) a = AnswersScan region.cells region.safe loaded b a
-AnswersBy Promise region loaded (Prewrite b) a = AnswersPrewrite (region.cells b.key) region.safe loaded (Promise b.start) b a
+AnswersBy Promise region loaded (Prewrite b) a = AnswersPrewrite (region.cells b.key) region.safe loaded (Promise b) b a
 AnswersBy Promise region loaded (Commit b) a = AnswersCommit (region.cells b.key) region.collected b a
 AnswersBy Promise region loaded (BatchRollback b) a = AnswersBatchRollback (region.cells b.key) region.collected b a
 AnswersBy Promise region loaded (TxnHeartBeat b) a = AnswersTxnHeartBeat (region.cells b.key) region.collected b a
@@ -50,7 +57,7 @@ Answers region loaded top = AnswersBy (MayPromise region.max_read top) region lo
 
 -- What a region of this store answers: the same, with the least minimum. `mark` is the greatest timestamp that was read.
 abbrev pub AnswersFrom : ℕ → Region → ℕ → Body → Answer → Type 0
-AnswersFrom mark region loaded = AnswersBy (λ start m. m ≡ least_minimum mark start) region loaded
+AnswersFrom mark region loaded = AnswersBy (λ b m. m ≡ least_minimum mark b) region loaded
 
 -- by the region's own mark
 abbrev pub AnswersLeast : Region → ℕ → Body → Answer → Type 0
@@ -60,7 +67,7 @@ AnswersLeast region loaded = AnswersFrom region.max_read region loaded
 abbrev pub leaves : Region → Body → Answer → Region
 leaves region (Get b) a = leaves_get region b a
 leaves region (Scan b) a = leaves_scan region b a
-leaves region (Prewrite b) a = with_cells region b.key (leaves_prewrite (region.cells b.key) b a)
+leaves region (Prewrite b) a = with_read (with_cells region b.key (leaves_prewrite (region.cells b.key) b a)) (read_by_prewrite a (region.cells b.key).lock b)
 leaves region (Commit b) a = with_cells region b.key (leaves_commit (region.cells b.key) b a)
 leaves region (BatchRollback b) a = with_cells region b.key (leaves_batch_rollback (region.cells b.key) b a)
 leaves region (TxnHeartBeat b) a = with_cells region b.key (leaves_txn_heart_beat (region.cells b.key) b a)

@@ -9,7 +9,7 @@ use Rattle.tx_types.specs.declared.mutation.Mode.{Mode}
 use Rattle.tx_types.specs.declared.lock.LockInfo.{LockInfo}
 use Rattle.tx_types.specs.Kinds.{kind_of}
 
--- the lock of a transaction on a key: what the transaction does to the key, how it commits, the other keys that an async lock
+-- the lock of a transaction on a key: what the transaction does to the key (an insert puts, once it is locked), how it commits, the other keys that an async lock
 -- of the primary lists, its start, the least timestamp at which it may commit, its time to live and its primary
 pub record Lock : Type 0 where
   pub mutation : Mutation
@@ -59,6 +59,7 @@ new_region = record { cells = λ k. no_cells; max_read = 0; safe = 0; collected 
 -- key and the start of its transaction, as long as the lock or the commit record that puts it stands
 abbrev pub is_long : Mutation → Bool
 is_long (mutation.Put v) = nat_lt MAX_INLINE_BYTES (length v)
+is_long (mutation.Insert v) = nat_lt MAX_INLINE_BYTES (length v)
 is_long mutation.Delete = false
 is_long mutation.Lock = false
 

@@ -1,6 +1,7 @@
 -- What the changes of a plan make of the cells of a key, and what they take for granted there.
 use Rattle.std.specs.Prelude.{◌≡◌, ℕ, ◌<◌, ◌≤◌, ◌==◌, Bool, true, false, cond, [], Option, Some, None}
 use Rattle.tx_types.specs.declared.mutation.Mode.TheVariants.{TwoPhase, Async}
+use Rattle.tx_types.specs.Kinds.{as_locked}
 use Rattle.tx_plan.specs.declared.body.Prewrite.{Prewrite}
 use Rattle.tx_plan.specs.declared.key_change.KeyChange.{KeyChange}
 use Rattle.tx_plan.specs.declared.key_change.KeyChange.TheVariants as change
@@ -87,7 +88,7 @@ Applies cells (change.RollBack t removes_lock left) = IsRemoved cells.lock t rem
 -- the lock that a prewrite puts
 abbrev pub put : Prewrite → NewLock → Lock
 put b new = record {
-  mutation = b.mutation;
+  mutation = as_locked b.mutation;
   mode = new.mode;
   secondaries = elim new.mode [ TwoPhase ↦ [] | Async ↦ b.others ];
   start = b.start;

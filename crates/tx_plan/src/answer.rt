@@ -2,7 +2,7 @@
 use crate::lists::Infos;
 use tx_types::{KeyValues, LockInfo, Ts, Value};
 
-/// A region's answer, of any command: what was found or done, or a refusal, E1 to E10 with the names of
+/// A region's answer, of any command: what was found or done, or a refusal, E1 to E10 and E17 with the names of
 /// `tx_types::Fault`.
 #[derive(Debug, Drop)]
 pub enum Answer {
@@ -52,4 +52,6 @@ pub enum Answer {
     LocksRemain(LockInfo),
     /// E10: nothing of the transaction stands on the key, and no rollback was wanted.
     TxnNotFound,
+    /// E17: the key that is to be inserted has a value.
+    AlreadyExists,
 }

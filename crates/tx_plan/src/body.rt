@@ -109,6 +109,8 @@ pub struct Prewrite {
     pub mode: Mode,
     /// The greatest commit timestamp that an async lock may promise; none is no bound.
     pub max_commit: Option<Ts>,
+    /// The least minimum that an async lock may have: above the number that its transaction drew when it declared.
+    pub floor: Ts,
     /// How long after its start the lock is live, in ticks.
     pub ttl: u32,
     /// On the primary of an async transaction its other keys, elsewhere empty.
@@ -128,6 +130,7 @@ impl Prewrite {
             primary: self.primary.clone()?,
             mode: self.mode,
             max_commit: self.max_commit,
+            floor: self.floor,
             ttl: self.ttl,
             others: self.others.clone()?,
         })

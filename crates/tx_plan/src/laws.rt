@@ -1,5 +1,5 @@
 //! Laws of the case tables, which callers may cite.
-ghost use Rattle.std.specs.Prelude.{◌≡◌, ◌≤◌, ℕ, Some};
+ghost use Rattle.std.specs.Prelude.{◌≡◌, ◌+◌, ◌≤◌, ℕ, Some};
 ghost use Rattle.tx_plan.specs.declared.body.Body.{Body};
 ghost use Rattle.tx_plan.specs.declared.body.Prewrite.{Prewrite};
 ghost use Rattle.tx_plan.specs.declared.key_change.KeyChange.{KeyChange};
@@ -7,7 +7,7 @@ ghost use Rattle.tx_plan.specs.declared.key_change.NewLock.{NewLock};
 ghost use Rattle.tx_plan.specs.declared.answer.Answer.{Answer};
 ghost use Rattle.tx_plan.specs.Cells.{Cells, Region};
 ghost use Rattle.tx_plan.specs.Own.{OwnRollback, leave_rollback};
-ghost use Rattle.tx_plan.specs.Answers.{Answers, AnswersLeast};
+ghost use Rattle.tx_plan.specs.Answers.{floor_in, Answers, AnswersLeast};
 ghost use Rattle.tx_plan.specs.Changes.{changed, Applies, CanPut, after_put};
 ghost use Rattle.tx_plan.specs.Sound.{IsSound};
 ghost use Rattle.tx_plan.specs.cases.Collect.{kept};
@@ -18,9 +18,9 @@ pub fn rollback_left_again_stays()
 {}
 
 /// What a region answers with the least minimum is an answer of the tables, where neither what was read in it nor what it
-/// loaded lies above the last number drawn.
+/// loaded lies above the last number drawn, and a floor at most one above it.
 pub fn least_minimum_is_free()
-    ensures { (region : Region) (loaded top : ℕ) (body : Body) (answer : Answer) → region.max_read ≤ top → loaded ≤ top → AnswersLeast region loaded body answer → Answers region loaded top body answer }
+    ensures { (region : Region) (loaded top : ℕ) (body : Body) (answer : Answer) → region.max_read ≤ top → loaded ≤ top → floor_in body ≤ top + 1 → AnswersLeast region loaded body answer → Answers region loaded top body answer }
 {}
 
 /// What the cells of a key always meet stays so through each change that applies, each prewrite and each collection.

@@ -29,6 +29,7 @@ fn prewrite(alloc: Global) -> Result<Body, Fault> {
         primary: Key::new(alloc, b"a")?,
         mode: Mode::Async,
         max_commit: None,
+        floor: Ts::new(8),
         ttl: 10,
         others: Secondaries::new(alloc),
     };

@@ -1,6 +1,6 @@
 -- What a session's acts count, and what they are where nobody else acted.
 use Rattle.tx_trace.specs.Traces.{Noted}
-use Rattle.std.proofs.Common.{◌≡◌, ◌≤◌, ◌+◌, ℕ, List, ◌∷◌, length, Option, Some, None, Result, Ok, Err, sym, ap, subst, ◌∙◌, arith}
+use Rattle.std.proofs.Common.{◌≡◌, ◌≤◌, ◌+◌, ℕ, ◌&&◌, Bool, List, [], ◌∷◌, false, true, length, Option, Some, None, Result, Ok, Err, refl, sym, ap, subst, ◌∙◌, arith}
 use Rattle.std.specs.List.{sum_by}
 use Rattle.std.specs.Prelude.{OnOk, OnErr, IfErr}
 use Rattle.tx_types.specs.declared.key.Key.{Key}
@@ -9,17 +9,20 @@ use Rattle.tx_core.specs.declared.event.Event.{Event}
 use Rattle.tx_core.specs.declared.event.Event.TheVariants.{Began, Declared, Drawn}
 use Rattle.tx_core.specs.Histories.{History, last}
 use Rattle.tx_core.specs.Recording.{part}
-use Rattle.tx_core.proofs.seats.Beginnings.{begins_length, begins_whole}
+use Rattle.tx_core.proofs.seats.Beginnings.{begins_all, begins_length, begins_whole}
 use Rattle.tx_journal.specs.Known.{Known}
-use Rattle.tx_client.specs.Calls.{HasHeard, BeganAt, Records, Draws, RecordsDeclared}
+use Rattle.tx_transaction.specs.declared.state.Terms.{Terms}
+use Rattle.tx_transaction.specs.Buffers.{Entries, not_empty}
+use Rattle.tx_transaction.specs.Sessions.{declaration, declaration_of}
+use Rattle.tx_client.specs.Calls.{HasHeard, BeganAt, Records, Draws, DeclaredWith, RecordsDeclared}
 use Rattle.tx_client.specs.Walks.{Walk, Sends}
 use Rattle.tx_post.specs.Posts.{Desk, made_by, GoesOnWith, KeptAs, NotesDrawn, NotesDeclared, stage_of, with_events, Passes, Runs}
-use Rattle.tx_play.specs.Places.{Acts, at_regions}
-use Rattle.tx_play.specs.Scenes.{declared_in}
+use Rattle.tx_play.specs.Places.{Acts, NotesPlaced, at_regions}
+use Rattle.tx_play.specs.Scenes.{declared_in, placed_in}
 use Rattle.tx_post.proofs.Alone.{recorded_grows, recorded_alone, drawn_grows, drawn_number, drawn_alone, begun_grows, begun_number, begun_alone}
 use Rattle.tx_post.proofs.Counts.{recorded_part, drawn_part}
 use Rattle.tx_post.proofs.Stages.{same_stage}
-use Rattle.tx_post.proofs.Tracing.{traced_same, traced_kept, traced_on, traced_twice}
+use Rattle.tx_post.proofs.Tracing.{kept_same, traced_same, traced_kept, traced_on, traced_twice}
 use Rattle.tx_post.proofs.Walking.{walk_comes}
 
 -- one and the same seat
@@ -84,10 +87,35 @@ module _ (bounds : List Key) (from to : Desk) (k l m : Known) (heard : HasHeard 
     traced = λ le. traced_on from to e (newest ∙ recorded_alone bounds l.seat n l.events heard.knows e m.events r.recorded (omega (arith, le, ap length newest))) notes;
   }
 
-  -- it declares, where something is declared
-  pub declared_acts : (o : Option Declaration) → RecordsDeclared bounds l o m → NotesDeclared o from.trace to.trace → Acts k m from to (stage_of to ≡ with_events (stage_of from) (declared_in from.newest o))
-  declared_acts None same notes = heard_acts same notes
-  declared_acts (Some d) r notes = recorded_acts (Declared d) r notes
+  -- it draws a number and declares, where something is declared
+  placed_acts : (d : Declaration) → DeclaredWith bounds l d m → NotesPlaced (Some d) from.trace to.trace → Acts k m from to ((d.drawn ≡ last from.newest + 1) × (stage_of to ≡ with_events (stage_of from) (declared_in k.seat from.newest (Some d))))
+  placed_acts d r notes =
+      let mid_grows = drawn_grows bounds l.seat n l.events heard.knows 1 d.drawn r.mid r.drew in
+      let all_grows = recorded_grows bounds l.seat r.mid r.mid (begins_all r.mid) (Declared d) m.events r.recorded in
+      let alone : length to.newest ≤ length n + 2 → (d.drawn ≡ last n + 1) × (m.events ≡ Declared d ∷ Drawn l.seat d.drawn ∷ n) = λ le.
+      (let few : length r.mid ≤ length n + 1 = omega (arith, le, ap length newest, all_grows) in
+      let last : length m.events ≤ length r.mid + 1 = omega (arith, le, ap length newest, mid_grows) in (
+        drawn_number bounds l.seat n l.events heard.knows 1 d.drawn r.mid r.drew few,
+        recorded_alone bounds l.seat r.mid r.mid (begins_all r.mid) (Declared d) m.events r.recorded last ∙ ap (λ h. Declared d ∷ h) (drawn_alone bounds l.seat n l.events heard.knows 1 d.drawn r.mid r.drew few),
+      )) in
+      record {
+        made = 2;
+        counts =
+            (let one = recorded_part bounds l.seat r.mid (Declared d) m.events r.recorded in
+            let two = drawn_part bounds l.seat l.events 1 d.drawn r.mid r.drew in
+            let here : made_by m ≡ length (part l.seat m.events) = ap (λ i. length (part i m.events)) r.number in
+            omega (arith, learnt, one, two, here, regions_same));
+        seat = r.number ∙ heard.number;
+        ticks = (let a = r.ticks in let b = heard.ticks in omega (arith, a, b));
+        grows = omega (arith, mid_grows, all_grows, ap length newest);
+        exact = λ le. (let x = alone le in (x.0, same_stage from to _ (newest ∙ (x.1 ∙ (λ i. Declared d ∷ Drawn (heard.number i) d.drawn ∷ n))) held));
+        traced = λ le. traced_twice from to (Drawn l.seat d.drawn) (Declared d) notes.0 (newest ∙ (alone le).1) (notes.1 l.seat) notes.2;
+      }
+
+  pub declared_acts : (t p : ℕ) (es : Entries) (terms : Terms) → RecordsDeclared bounds l (declaration t p es terms) m → (not_empty es ≡ false → p ≡ 0) → NotesPlaced (declaration t p es terms) from.trace to.trace
+      → Acts k m from to ((p ≡ placed_in from.newest es) × (stage_of to ≡ with_events (stage_of from) (declared_in k.seat from.newest (declaration t p es terms))))
+  declared_acts t p [] terms same none notes = acts_so k m from to _ _ (heard_acts same notes) (λ x. (none refl, x))
+  declared_acts t p (e ∷ es) terms r none notes = placed_acts (declaration_of t p (e ∷ es) terms) r notes
 
   -- it draws
   pub drew_acts : (t : ℕ) → Draws bounds l t m → NotesDrawn t from.trace to.trace → Acts k m from to ((t ≡ last from.newest + 1) × (stage_of to ≡ with_events (stage_of from) (Drawn k.seat (last from.newest + 1) ∷ from.newest)))
@@ -140,6 +168,20 @@ sent_acts bounds w k new from at to result regions newest trace stage sent =
       exact = λ le. subst (λ s. Runs bounds at.way s w result (stage_of to)) stage (comes.exact (omega (arith, le, ap length newest)));
       traced = λ le t. comes.traced (omega (arith, le, ap length newest)) (traced_same from at newest trace t);
     }
+
+-- ---- what is noted of a declaration
+
+pub not_empty_is : (a b : Bool) → a ≡ true → b ≡ (a && b)
+not_empty_is true b e = refl
+not_empty_is false b e = absurd (cc e)
+
+pub placed_none : (t p : ℕ) (es : Entries) (terms : Terms) (o : Option Noted) → not_empty es ≡ false → NotesPlaced (declaration t p es terms) o o
+placed_none t p [] terms o e = kept_same o o refl
+placed_none t p (x ∷ es) terms o e = absurd (cc e)
+
+pub placed_some : (t p : ℕ) (es : Entries) (terms : Terms) (old mid new : Option Noted) → not_empty es ≡ true → NotesDrawn p old mid → NotesDeclared (declaration t p es terms) mid new → NotesPlaced (declaration t p es terms) old new
+placed_some t p [] terms old mid new e drew notes = absurd (cc e)
+placed_some t p (x ∷ es) terms old mid new e drew notes = (mid, drew, notes)
 
 -- ---- by what a call gave
 

@@ -26,7 +26,7 @@ use Rattle.tx_lines.specs.declared.reply.Reply.TheVariants as reply
 use Rattle.tx_types.specs.Names.{is_name}
 use Rattle.tx_post.specs.Posts.{Course, taken, holding, may_go}
 use Rattle.tx_play.specs.Steps.{Deed, put, delete, lock, get, scan, declare, prewrite, draw, commit, abort, heartbeat, course_of, Call, begin, acts, finish, stop, deliver, read, versions, tick, resolve, gc}
-use Rattle.tx_play.specs.Scenes.{Scene, Turn, goes, inquires, shows, stops, is_refused, later_of, calls, is_key, is_value, at_stage, at_history, with_session, began, declared_in, read_by, said_by, asked, sent, runs, runs_to, first_free, live_at, enters, is_too_many, deeds_by, deeds, delivered_by, delivers, finishes_by, begins_at, in_session, turn, learns, resolves_by, collected_as}
+use Rattle.tx_play.specs.Scenes.{Scene, Turn, goes, inquires, shows, stops, is_refused, later_of, calls, is_key, is_value, at_stage, at_history, with_session, began, declared_in, placed_in, placed, seat_at, read_by, said_by, asked, sent, runs, runs_to, first_free, live_at, enters, is_too_many, deeds_by, deeds, delivered_by, delivers, finishes_by, begins_at, in_session, turn, learns, resolves_by, collected_as}
 use Rattle.tx_play.specs.Plays.{Leads}
 
 -- Whatever a turn leads to, and wherever it asks a region, h has happened there; it stops at most where `from` has happened.
@@ -90,9 +90,9 @@ module _ (bounds : List Key) where
     enters_grow : (refused : List Bool) (k : ℕ) (s : State) (buffer : Entries) (key : List ℕ) (left : List Bool) → AllGrow h h (enters refused scene k s buffer key left)
     enters_grow refused k s buffer key left = either h h (is_full s.buffer key) _ _ (begins_all h) (begins_all h)
 
-    declared_grows : (o : Option Declaration) → Begins h (declared_in h o)
-    declared_grows None = begins_all h
-    declared_grows (Some d) = inr (begins_all h)
+    declared_grows : (seat : ℕ) (o : Option Declaration) → Begins h (declared_in seat h o)
+    declared_grows seat None = begins_all h
+    declared_grows seat (Some d) = inr (inr (begins_all h))
 
     deed_by_grows : (refused : List Bool) (k : ℕ) (s : State) (deed : Deed) → AllGrow h h (deeds_by refused scene k s bounds deed)
     deed_by_grows refused k s (put key value) =
@@ -105,7 +105,7 @@ module _ (bounds : List Key) where
         (calls_grow refused (λ left. runs_to bounds read_by k way left scene (scan_walk s bounds a b limit)) (λ left. sends_grow read_by k way left scene (scan_walk s bounds a b limit)))
     deed_by_grows refused k s (declare mode ttl max_commit) =
         (let terms : Terms = record { mode = mode; ttl = ttl; max_commit = max_commit } in
-        either h h (is_declared s) _ _ (begins_all h) (calls_grow refused (λ left. cond (exceeds s.buffer terms) (goes scene reply.TooManyKeys left) (goes (with_session (at_history scene (declared_in h (declaration s.start s.buffer terms))) k (record s { declared = Some terms })) reply.Fine left)) (λ left. either h h (exceeds s.buffer terms) (goes scene reply.TooManyKeys left) (goes (with_session (at_history scene (declared_in h (declaration s.start s.buffer terms))) k (record s { declared = Some terms })) reply.Fine left) (begins_all h) (declared_grows (declaration s.start s.buffer terms)))))
+        either h h (is_declared s) _ _ (begins_all h) (calls_grow refused (λ left. cond (exceeds s.buffer terms) (goes scene reply.TooManyKeys left) (goes (placed refused scene k s bounds terms) reply.Fine left)) (λ left. either h h (exceeds s.buffer terms) (goes scene reply.TooManyKeys left) (goes (placed refused scene k s bounds terms) reply.Fine left) (begins_all h) (declared_grows (seat_at bounds k) (declaration s.start (placed_in h s.buffer) s.buffer terms)))))
     deed_by_grows refused k s (prewrite way) = either h h (is_declared s) _ _ (sends_grow _ k way refused scene _) (begins_all h)
     deed_by_grows refused k s draw = either h h (can_draw s) _ _ (inr (begins_all h)) (begins_all h)
     deed_by_grows refused k s (commit way) = either h h (can_commit s) _ _ (sends_grow _ k way refused scene _) (begins_all h)

@@ -16,7 +16,7 @@ use Rattle.tx_client.specs.Walks.{Walk, Sends}
 use Rattle.tx_lines.specs.declared.reply.Reply.{Reply}
 use Rattle.tx_lines.specs.declared.reply.Reply.TheVariants as reply
 use Rattle.tx_post.specs.Posts.{Course, Desk, Stage, stage_of, with_events, IsSet, Passes, may_go}
-use Rattle.tx_play.specs.Scenes.{session, Scene, Turn, goes, stops, calls, at_stage, seat_at, with_session, declared_in, runs_to, enters, entered_by, declares, draws, drew, is_too_many, deeds_by, deeds}
+use Rattle.tx_play.specs.Scenes.{session, Scene, Turn, goes, stops, calls, at_stage, seat_at, with_session, declared_in, placed_in, placed, runs_to, enters, entered_by, declares, draws, drew, is_too_many, deeds_by, deeds}
 use Rattle.tx_play.specs.Steps.{Deed, course_of}
 use Rattle.tx_play.specs.Plays.{Leads}
 use Rattle.tx_play.specs.Places.{scene_with, Acts, Did}
@@ -78,23 +78,28 @@ module _ (bounds : List Key) (turn : Deeds) where
 module _ (bounds : List Key) (old new : Seated) (from to : Desk) where
   module _ (terms : Terms) (free : is_declared old.state ≡ false) where
     abbrev declaring : Deeds
-    declaring = λ refused scene k s. declares refused scene k s terms
+    declaring = λ refused scene k s. declares refused scene k s bounds terms
 
-    abbrev after : History → History
-    after h = declared_in h (declaration old.state.start old.state.buffer terms)
+    abbrev Exactly : Type 0
+    Exactly = (new.state ≡ record old.state { declared = Some terms; placed = placed_in from.newest old.state.buffer }) × (stage_of to ≡ with_events (stage_of from) (declared_in old.seat.seat from.newest (declaration old.state.start (placed_in from.newest old.state.buffer) old.state.buffer terms)))
 
     abbrev inner : List Bool → Scene → ℕ → List Bool → Turn
-    inner refused scene k left = cond (exceeds old.state.buffer terms) (goes scene reply.TooManyKeys left) (goes (with_session (at_stage scene (with_events scene.stage (after scene.stage.history))) k (record old.state { declared = Some terms })) reply.Fine left)
+    inner refused scene k left = cond (exceeds old.state.buffer terms) (goes scene reply.TooManyKeys left) (goes (placed refused scene k old.state bounds terms) reply.Fine left)
 
     declares_is : (refused : List Bool) (scene : Scene) (k : ℕ) → declaring refused scene k old.state ≡ calls refused scene (inner refused scene k)
     declares_is refused scene k = ap (λ b. cond b (stops cause.Order) (calls refused scene (inner refused scene k))) free
 
-    declared_ok : exceeds old.state.buffer terms ≡ false → new.state ≡ record old.state { declared = Some terms } → Acts old.seat new.seat from to (stage_of to ≡ with_events (stage_of from) (after from.newest)) → Did bounds declaring (Ok reply.Fine) old new from to
-    declared_ok few now act =
+    declared_ok : exceeds old.state.buffer terms ≡ false → Acts old.seat new.seat from to Exactly → Did bounds declaring (Ok reply.Fine) old new from to
+    declared_ok few act =
         acts_so old.seat new.seat from to _ _ act
-        (λ x. session_goes bounds declaring old.seat.seat old.state new.state (stage_of from) (stage_of to) reply.Fine reply.Fine (false ∷ []) (record old.state { declared = Some terms }) (λ scene k. with_events scene.stage (after scene.stage.history))
-        (λ later scene k. declares_is (false ∷ later) scene k ∙ ap (λ b. cond b (goes scene reply.TooManyKeys later) (goes (with_session (at_stage scene (with_events scene.stage (after scene.stage.history))) k (record old.state { declared = Some terms })) reply.Fine later)) few)
-        (λ scene k at number. ap (λ (s : Stage). with_events s (after s.history)) at ∙ sym x) (sym now) refl)
+        (λ x ticks names places k number there.
+        let scene = scene_with (stage_of from) ticks names places in
+        let d = declaration old.state.start (placed_in from.newest old.state.buffer) old.state.buffer terms in
+        let events : stage_of to ≡ with_events (stage_of from) (declared_in (seat_at bounds k) from.newest d) = x.1 ∙ ap (λ n. with_events (stage_of from) (declared_in n from.newest d)) number in
+        goes_at bounds (λ refused. declaring refused scene k old.state) (false ∷ []) reply.Fine reply.Fine (placed [] scene k old.state bounds terms) (scene_with (stage_of to) ticks names (slice_set places k (session new.state)))
+        (λ later. declares_is (false ∷ later) scene k ∙ ap (λ b. cond b (goes scene reply.TooManyKeys later) (goes (placed [] scene k old.state bounds terms) reply.Fine later)) few)
+        (λ i. scene_with (sym events i) ticks names (slice_set places k (session (sym x.0 i))))
+        refl)
 
     declared_err : (e : Fault) → (e ≡ fault.OutOfMemory) ⊎ ((e ≡ fault.TooManyKeys) × (exceeds old.state.buffer terms ≡ true)) → new.state ≡ old.state → Acts old.seat new.seat from to (stage_of to ≡ stage_of from) → Did bounds declaring (Ok (entered_by {T = Unit {0}} (Err e))) old new from to
     declared_err e (inl short) same act =
@@ -106,13 +111,13 @@ module _ (bounds : List Key) (old new : Seated) (from to : Desk) where
         subst (λ f. Did bounds declaring (Ok (entered_by {T = Unit {0}} (Err f))) old new from to) (sym many)
         (acts_so old.seat new.seat from to _ _ act
         (λ x. session_rests bounds declaring old.seat.seat old.state new.state (stage_of from) (stage_of to) reply.TooManyKeys reply.TooManyKeys (false ∷ [])
-        (λ later scene k. declares_is (false ∷ later) scene k ∙ ap (λ b. cond b (goes scene reply.TooManyKeys later) (goes (with_session (at_stage scene (with_events scene.stage (after scene.stage.history))) k (record old.state { declared = Some terms })) reply.Fine later)) full)
+        (λ later scene k. declares_is (false ∷ later) scene k ∙ ap (λ b. cond b (goes scene reply.TooManyKeys later) (goes (placed [] scene k old.state bounds terms) reply.Fine later)) full)
         x same refl))
 
-    pub declared : (r : Result (Unit {0}) Fault) → OnOk r ((exceeds old.state.buffer terms ≡ false) × (new.state ≡ record old.state { declared = Some terms }) × Acts old.seat new.seat from to (stage_of to ≡ with_events (stage_of from) (after from.newest)))
+    pub declared : (r : Result (Unit {0}) Fault) → OnOk r ((exceeds old.state.buffer terms ≡ false) × Acts old.seat new.seat from to Exactly)
         → IfErr r (λ e. ((e ≡ fault.OutOfMemory) ⊎ ((e ≡ fault.TooManyKeys) × (exceeds old.state.buffer terms ≡ true))) × (new.state ≡ old.state) × Acts old.seat new.seat from to (stage_of to ≡ stage_of from))
         → (said : Reply) → said ≡ entered_by r → Did bounds declaring (Ok said) old new from to
-    declared (Ok x) ok err said also = subst (λ s. Did bounds declaring (Ok s) old new from to) (sym also) (declared_ok ok.0 ok.1 ok.2)
+    declared (Ok x) ok err said also = subst (λ s. Did bounds declaring (Ok s) old new from to) (sym also) (declared_ok ok.0 ok.1)
     declared (Err e) ok err said also = subst (λ s. Did bounds declaring (Ok s) old new from to) (sym also) (declared_err e err.0 err.1 err.2)
 
   -- a draw
@@ -132,10 +137,10 @@ module _ (bounds : List Key) (old new : Seated) (from to : Desk) where
 -- ---- what is not allowed
 
 module _ (bounds : List Key) (old : Seated) (desk : Desk) where
-  pub declare_late : (terms : Terms) → is_declared old.state ≡ true → Did bounds (λ refused scene k s. declares refused scene k s terms) (Err cause.Order) old old desk desk
+  pub declare_late : (terms : Terms) → is_declared old.state ≡ true → Did bounds (λ refused scene k s. declares refused scene k s bounds terms) (Err cause.Order) old old desk desk
   declare_late terms late =
-      stops_at bounds (λ refused scene k s. declares refused scene k s terms) old desk (is_declared old.state)
-      (λ refused scene k. calls refused scene (λ left. cond (exceeds old.state.buffer terms) (goes scene reply.TooManyKeys left) (goes (with_session (at_stage scene (with_events scene.stage (declared_in scene.stage.history (declaration old.state.start old.state.buffer terms)))) k (record old.state { declared = Some terms })) reply.Fine left))) cause.Order
+      stops_at bounds (λ refused scene k s. declares refused scene k s bounds terms) old desk (is_declared old.state)
+      (λ refused scene k. calls refused scene (λ left. cond (exceeds old.state.buffer terms) (goes scene reply.TooManyKeys left) (goes (placed refused scene k old.state bounds terms) reply.Fine left))) cause.Order
       (λ refused scene k. refl) late
 
   pub draw_early : can_draw old.state ≡ false → Did bounds (λ refused scene k s. draws refused scene k s bounds) (Err cause.Order) old old desk desk

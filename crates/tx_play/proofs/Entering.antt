@@ -6,7 +6,7 @@ use Rattle.tx_types.specs.declared.fault.Fault.{Fault}
 use Rattle.tx_types.specs.declared.fault.Fault.TheVariants as fault
 use Rattle.tx_types.specs.declared.key.Key.{Key}
 use Rattle.tx_types.specs.declared.mutation.Mutation.TheVariants as mutation
-use Rattle.tx_transaction.specs.Buffers.{Entries, is_full, touched, locked}
+use Rattle.tx_transaction.specs.Buffers.{Entries, is_full, touched, put_over, buffered, locked}
 use Rattle.tx_client.specs.Calls.{Seated, seated}
 use Rattle.tx_transaction.specs.Sessions.{State, is_declared}
 use Rattle.tx_lines.specs.declared.reply.Reply.{Reply}
@@ -30,7 +30,7 @@ module _ (bounds : List Key) (old : Seated) (desk : Desk) (key : List ℕ) where
     putting = λ refused scene k s. puts refused scene k s key value
 
     abbrev at_value : List Bool → Scene → ℕ → Turn
-    at_value refused scene k = cond (not (is_value value)) (goes scene reply.ValueLength refused) (calls refused scene (enters refused scene k old.state (touched old.state.buffer key (mutation.Put value)) key))
+    at_value refused scene k = cond (not (is_value value)) (goes scene reply.ValueLength refused) (calls refused scene (enters refused scene k old.state (touched old.state.buffer key (put_over (buffered old.state.buffer key) value)) key))
 
     abbrev at_key : List Bool → Scene → ℕ → Turn
     at_key refused scene k = cond (not (is_key key)) (goes scene reply.KeyLength refused) (at_value refused scene k)
@@ -50,12 +50,12 @@ module _ (bounds : List Key) (old : Seated) (desk : Desk) (key : List ℕ) where
         value_is refused scene k = put_is refused scene k ∙ ap (λ b. cond (not b) (goes scene reply.KeyLength refused) (at_value refused scene k)) good
 
         pub put_value : is_value value ≡ false → Did bounds putting (Ok reply.ValueLength) old old desk desk
-        put_value bad = rests bounds putting old desk [] reply.ValueLength (λ later scene k. value_is later scene k ∙ ap (λ b. cond (not b) (goes scene reply.ValueLength later) (calls later scene (enters later scene k old.state (touched old.state.buffer key (mutation.Put value)) key))) bad)
+        put_value bad = rests bounds putting old desk [] reply.ValueLength (λ later scene k. value_is later scene k ∙ ap (λ b. cond (not b) (goes scene reply.ValueLength later) (calls later scene (enters later scene k old.state (touched old.state.buffer key (put_over (buffered old.state.buffer key) value)) key))) bad)
 
-        pub put_entered : is_value value ≡ true → (new : Seated) (r : Result (Unit {0}) Fault) → Enters old new (touched old.state.buffer key (mutation.Put value)) key r → (said : Reply) → said ≡ entered_by r → Did bounds putting (Ok said) old new desk desk
+        pub put_entered : is_value value ≡ true → (new : Seated) (r : Result (Unit {0}) Fault) → Enters old new (touched old.state.buffer key (put_over (buffered old.state.buffer key) value)) key r → (said : Reply) → said ≡ entered_by r → Did bounds putting (Ok said) old new desk desk
         put_entered fits new r (ok, same, err) said also =
-            entered bounds putting old new desk (touched old.state.buffer key (mutation.Put value)) key
-            (λ refused scene k. value_is refused scene k ∙ ap (λ b. cond (not b) (goes scene reply.ValueLength refused) (calls refused scene (enters refused scene k old.state (touched old.state.buffer key (mutation.Put value)) key))) fits)
+            entered bounds putting old new desk (touched old.state.buffer key (put_over (buffered old.state.buffer key) value)) key
+            (λ refused scene k. value_is refused scene k ∙ ap (λ b. cond (not b) (goes scene reply.ValueLength refused) (calls refused scene (enters refused scene k old.state (touched old.state.buffer key (put_over (buffered old.state.buffer key) value)) key))) fits)
             r ok same err said also
 
   -- ---- delete and lock

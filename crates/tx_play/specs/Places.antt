@@ -7,6 +7,9 @@ use Rattle.tx_types.specs.declared.fault.Cause.{Cause}
 use Rattle.tx_types.specs.declared.fault.Cause.TheVariants as cause
 use Rattle.tx_types.specs.declared.key.Key.{Key}
 use Rattle.tx_core.specs.Histories.{History}
+use Rattle.tx_core.specs.declared.event.Declaration.{Declaration}
+use Rattle.tx_core.specs.declared.event.Event.TheVariants.{Declared}
+use Rattle.tx_trace.specs.Traces.{Noted}
 use Rattle.tx_journal.specs.Known.{Known}
 use Rattle.tx_transaction.specs.Sessions.{State, begun, with_passed}
 use Rattle.tx_client.specs.Calls.{Seated}
@@ -16,7 +19,7 @@ use Rattle.tx_play.specs.declared.places.Slot.{Slot}
 use Rattle.tx_play.specs.declared.places.Slot.TheVariants.{Free, Live, Lent}
 use Rattle.tx_lines.specs.declared.reply.Reply.{Reply}
 use Rattle.tx_lines.specs.declared.reply.Reply.TheVariants as replies
-use Rattle.tx_post.specs.Posts.{Desk, stage_of, Stage, made_by, IsDone, AreNumbered, IsTraced}
+use Rattle.tx_post.specs.Posts.{Desk, stage_of, Stage, made_by, IsDone, AreNumbered, IsTraced, GoesOnWith, KeptAs, NotesDrawn}
 use Rattle.tx_play.specs.Steps.{Call, Deed}
 use Rattle.tx_play.specs.Scenes.{Place, free, session, Scene, Turn, stops, seat_at, deeds, resolves, delivers, inspects, turn}
 use Rattle.tx_play.specs.Plays.{Leads}
@@ -86,6 +89,11 @@ pub record AllSeated (bounds : List Key) (n : ℕ) (e : Held) : Type 0 where
   pub clerk : e.clerk.seat ≡ length bounds + 1
   pub places : AreSeated (length bounds + 2) n e.places
   pub few : length bounds < 1024
+
+-- a number was drawn for what is declared, and then it was declared; or nothing was
+abbrev pub NotesPlaced : Option Declaration → Option Noted → Option Noted → Type 0
+NotesPlaced None old new = KeptAs old new
+NotesPlaced (Some d) old new = (mid : Option Noted) × NotesDrawn d.drawn old mid × GoesOnWith mid (Declared d) new
 
 -- Some events were made by a seat and the regions, at least so many came, and where no more came, it is exact.
 pub record Acts (old new : Known) (from to : Desk) (Exact : Type 0) : Type 0 where

@@ -27,7 +27,7 @@ use Rattle.tx_transaction.specs.declared.state.Came.TheVariants as came
 use Rattle.tx_client.specs.declared.resolved.Status.{Status}
 use Rattle.tx_transaction.specs.declared.state.Miss.{Miss}
 use Rattle.tx_transaction.specs.declared.state.Miss.TheVariants as miss
-use Rattle.tx_transaction.specs.Buffers.{Entries, touched, locked, buffered, is_full, is_known}
+use Rattle.tx_transaction.specs.Buffers.{Entries, touched, put_over, locked, buffered, is_full, is_known}
 use Rattle.tx_transaction.specs.Sessions.{State, begun, is_declared, has_primary, exceeds, declaration, due_prewrite, due_commit, due_abort, can_draw, can_commit, can_abort, finish_of, with_passed}
 use Rattle.tx_client.specs.Statuses.{lies_above}
 use Rattle.tx_client.specs.Walks.{Walk, asks, grows, ends, due_walk, heartbeat_walk, get_walk, scan_walk}
@@ -118,9 +118,15 @@ with_session scene k s = record scene { places = slice_set scene.places k (sessi
 abbrev pub seat_at : List Key → ℕ → ℕ
 seat_at bounds k = length bounds + 2 + k
 
-abbrev pub declared_in : History → Option Declaration → History
-declared_in h None = h
-declared_in h (Some d) = Declared d ∷ h
+-- what the session of this seat declares, for which it draws a number first
+abbrev pub declared_in : ℕ → History → Option Declaration → History
+declared_in seat h None = h
+declared_in seat h (Some d) = Declared d ∷ Drawn seat d.drawn ∷ h
+
+-- the number that is drawn for what a buffer declares: the next one, and 0 where it declares nothing
+abbrev pub placed_in : History → Entries → ℕ
+placed_in h [] = 0
+placed_in h (e ∷ es) = last h + 1
 
 -- a session is gone, and its place is free
 abbrev pub gone : Scene → List ℕ → ℕ → Scene
@@ -237,7 +243,7 @@ module _ (refused : List Bool) (scene : Scene) (k : ℕ) (s : State) where
       if is_declared s then stops Order
       else (if not (is_key key) then goes scene reply.KeyLength refused
       else (if not (is_value value) then goes scene reply.ValueLength refused
-      else calls refused scene (enters (touched s.buffer key (mutation.Put value)) key)))
+      else calls refused scene (enters (touched s.buffer key (put_over (buffered s.buffer key) value)) key)))
 
   abbrev pub deletes : List ℕ → Turn
   deletes key =
@@ -251,15 +257,21 @@ module _ (refused : List Bool) (scene : Scene) (k : ℕ) (s : State) where
       else (if not (is_key key) then goes scene reply.KeyLength refused
       else calls refused scene (enters (locked s.buffer key) key))
 
-  -- a session declares once: an empty buffer is no event
-  abbrev pub declares : Terms → Turn
-  declares terms =
-      if is_declared s then stops Order
-      else calls refused scene (λ left.
-      if exceeds s.buffer terms then goes scene reply.TooManyKeys left
-      else goes (with_session (at_history scene (declared_in scene.stage.history (declaration s.start s.buffer terms))) k (record s { declared = Some terms })) reply.Fine left)
-
   module _ (bounds : List Key) where
+    -- the scene after it declared
+    abbrev pub placed : Terms → Scene
+    placed terms =
+        with_session (at_history scene (declared_in (seat_at bounds k) scene.stage.history (declaration s.start (placed_in scene.stage.history s.buffer) s.buffer terms))) k
+        (record s { declared = Some terms; placed = placed_in scene.stage.history s.buffer })
+
+    -- a session declares once: an empty buffer is no event
+    abbrev pub declares : Terms → Turn
+    declares terms =
+        if is_declared s then stops Order
+        else calls refused scene (λ left.
+        if exceeds s.buffer terms then goes scene reply.TooManyKeys left
+        else goes (placed terms) reply.Fine left)
+
     abbrev pub draws : Turn
     draws = if can_draw s then goes (drew bounds scene k s) (reply.Drawn (last scene.stage.history + 1)) refused else stops Order
 

@@ -5,8 +5,8 @@ ghost use Rattle.tx_core.specs.Histories.{last};
 ghost use Rattle.tx_transaction.specs.Sessions.{begun, can_draw, declaration, exceeds, finish_of, is_declared};
 ghost use Rattle.tx_plan.specs.declared.body.Body.TheVariants as body;
 ghost use Rattle.tx_post.specs.Posts.{stage_of, with_events, Foresees, Met, NotesDeclared};
-ghost use Rattle.tx_play.specs.Places.{Acts, Serves};
-ghost use Rattle.tx_play.specs.Scenes.{declared_in};
+ghost use Rattle.tx_play.specs.Places.{Acts, Serves, NotesPlaced};
+ghost use Rattle.tx_play.specs.Scenes.{declared_in, placed_in};
 
 use std::alloc::Global;
 use tx_cells::Families;
@@ -37,24 +37,24 @@ pub(crate) fn begin_at<J: Naming, F: Families>(
     (session, start)
 }
 
-// What a session is going to declare, where steps are kept. Memory for that may be refused.
+// What a session has declared, where steps are kept. Memory for that may be refused.
 fn declaration_of<J: Naming, F: Families>(
     alloc: Global,
     session: &Session<J>,
     post: &Post<J, F>,
     terms: &Terms,
 ) -> Result<Option<Declaration>, Fault>
-    ensures { Foresees post.now.trace (declaration session.now.state.start session.now.state.buffer terms.now) result }
+    ensures { Foresees post.now.trace (declaration session.now.state.start session.now.state.placed session.now.state.buffer terms.now) result }
 {
     if post.is_traced() {
-        session.declaration(alloc, terms)
+        session.declaration(alloc, session.placed(), terms)
     } else {
         Ok(None)
     }
 }
 
 // A session has declared this, if it declared anything.
-fn note_declared<J: Naming, F: Families>(
+fn note_copy<J: Naming, F: Families>(
     post: &mut Post<J, F>,
     copy: Result<Option<Declaration>, Fault>,
 )
@@ -68,6 +68,25 @@ fn note_declared<J: Naming, F: Families>(
     }
 }
 
+// A session has declared its buffer under these terms: if there was anything to declare, it drew a number, and then declared with it.
+fn note_declared<J: Naming, F: Families>(
+    alloc: Global,
+    session: &Session<J>,
+    post: &mut Post<J, F>,
+    terms: &Terms,
+)
+    requires { is_declared session.now.state ≡ true }
+    ensures same { post.new ≡ record post.old { trace = post.new.trace } }
+    ensures notes { NotesPlaced (declaration session.now.state.start session.now.state.placed session.now.state.buffer terms.now) post.old.trace post.new.trace }
+{
+    if !session.has_primary() {
+        return;
+    }
+    post.drew(session.placed());
+    let copy = declaration_of(alloc, session, post, terms);
+    note_copy(post, copy);
+}
+
 /// A session declares its buffer. A refusal is no event, and leaves its state as it was.
 pub(crate) fn declare_at<J: Naming, F: Families>(
     alloc: Global,
@@ -75,16 +94,16 @@ pub(crate) fn declare_at<J: Naming, F: Families>(
     post: &mut Post<J, F>,
     terms: Terms,
 ) -> Result<(), Fault>
-    requires { is_declared session.old.state ≡ false }
-    ensures ok { OnOk result ((exceeds session.old.state.buffer terms ≡ false) × (session.new.state ≡ record session.old.state { declared = Some terms }) × Acts session.old.seat session.new.seat post.old post.new (stage_of post.new ≡ with_events (stage_of post.old) (declared_in post.old.newest (declaration session.old.state.start session.old.state.buffer terms)))) }
+    requires undeclared { is_declared session.old.state ≡ false }
+    requires ticks { 0 < session.old.seat.ticks }
+    ensures ok { OnOk result ((exceeds session.old.state.buffer terms ≡ false) × Acts session.old.seat session.new.seat post.old post.new ((session.new.state ≡ record session.old.state { declared = Some terms; placed = placed_in post.old.newest session.old.state.buffer }) × (stage_of post.new ≡ with_events (stage_of post.old) (declared_in session.old.seat.seat post.old.newest (declaration session.old.state.start (placed_in post.old.newest session.old.state.buffer) session.old.state.buffer terms))))) }
     ensures err { IfErr result (λ e. ((e ≡ Fault.OutOfMemory) ⊎ ((e ≡ Fault.TooManyKeys) × (exceeds session.old.state.buffer terms ≡ true))) × (session.new.state ≡ session.old.state) × Acts session.old.seat session.new.seat post.old post.new (stage_of post.new ≡ stage_of post.old)) }
 {
     session.hear_of(post.newest());
-    let copy = declaration_of(alloc, session, post, &terms);
     match session.declare(terms) {
         Ok(()) => {
             post.set_newest(session.tell());
-            note_declared(post, copy);
+            note_declared(alloc, session, post, &terms);
             Ok(())
         }
         Err(fault) => {

@@ -3,10 +3,11 @@ use Rattle.std.proofs.Common.{◌≡◌, ◌≤◌, ◌+◌, ℕ, List, ◌∷�
 use Rattle.tx_types.specs.declared.key.Key.{Key}
 use Rattle.tx_plan.specs.declared.body.Body.{Body}
 use Rattle.tx_plan.specs.declared.answer.Answer.{Answer}
-use Rattle.tx_plan.specs.Answers.{AnswersLeast}
+use Rattle.tx_plan.specs.Answers.{AnswersFrom}
 use Rattle.tx_core.specs.declared.event.Event.{Event}
 use Rattle.tx_core.specs.declared.event.Event.TheVariants.{Drawn, Began, Took}
 use Rattle.tx_core.specs.Histories.{History, last, left, Begins}
+use Rattle.tx_core.specs.ReadMarks.{max_ts, AnswersNext}
 use Rattle.tx_core.proofs.seats.Beginnings.{begins_more, begins_length, begins_whole, extends_begins}
 use Rattle.tx_journal.specs.Known.{HasDrawn, HasRecorded}
 use Rattle.tx_post.specs.Posts.{Tooks}
@@ -68,7 +69,7 @@ module _ (bounds : List Key) (i : ℕ) (n l : History) (knew : Begins n l) where
 -- a request that a region takes
 module _ (r : ℕ) (n : History) (body : Body) (a : Answer) (new : History) (t : Tooks r n body a new) where
   until : Begins n t.before
-  until = begins_more n t.point t.before t.later t.ends
+  until = begins_more n t.point t.before t.later (begins_more t.point t.marked t.before t.marks t.ends)
 
   pub took_grows : length n + 1 ≤ length new
   took_grows = omega (arith, begins_length n t.before until, ap length t.is)
@@ -78,10 +79,13 @@ module _ (r : ℕ) (n : History) (body : Body) (a : Answer) (new : History) (t :
     was = begins_whole n t.before until (omega (arith, le, ap length t.is))
 
     loaded : n ≡ t.point
-    loaded = begins_whole n t.point t.later (omega (arith, ap length was, begins_length t.point t.before t.ends))
+    loaded = begins_whole n t.point t.later (omega (arith, ap length was, begins_length t.point t.before (begins_more t.point t.marked t.before t.marks t.ends)))
+
+    marked : n ≡ t.marked
+    marked = begins_whole n t.marked (begins_more n t.point t.marked t.later t.marks) (omega (arith, ap length was, begins_length t.marked t.before t.ends))
 
     pub took_alone : new ≡ Took (record { region = r; body = body; loaded = last n; answer = a }) ∷ n
     took_alone = t.is ∙ (λ i. Took (record { region = r; body = body; loaded = last (sym loaded i); answer = a }) ∷ sym was i)
 
-    pub took_answers : AnswersLeast (left n r) (last n) body a
-    took_answers = subst (λ (p : History × History). AnswersLeast (left p.0 r) (last p.1) body a) (λ i. (sym was i, sym loaded i)) t.least
+    pub took_answers : AnswersNext n r (last n) body a
+    took_answers = subst (λ (p : History × History × History). AnswersFrom (max_ts p.2) (left p.0 r) (last p.1) body a) (λ i. (sym was i, sym loaded i, sym marked i)) t.least

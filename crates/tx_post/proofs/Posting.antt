@@ -7,9 +7,10 @@ use Rattle.std.proofs.lemmas.Option.{slice_get_within, get_or_from_slice_get}
 use Rattle.tx_types.specs.declared.key.Key.{Key}
 use Rattle.tx_plan.specs.declared.body.Body.{Body}
 use Rattle.tx_plan.specs.declared.answer.Answer.{Answer}
-use Rattle.tx_plan.specs.Answers.{AnswersLeast}
+use Rattle.tx_plan.specs.Answers.{AnswersFrom}
 use Rattle.tx_core.specs.declared.event.Event.TheVariants.{Took}
 use Rattle.tx_core.specs.Histories.{History, last, left, Begins}
+use Rattle.tx_core.specs.ReadMarks.{max_ts}
 use Rattle.tx_core.specs.Recording.{part}
 use Rattle.tx_core.proofs.Basics.{some_same}
 use Rattle.tx_core.proofs.seats.Answering.{left_on}
@@ -37,9 +38,11 @@ module _ (bounds : List Key) (k k1 k2 : Known) (n : History) (q : Asked) (g : Gi
       point = x.tells.point;
       is = told ∙ (x.tells.ends ∙ (λ i. Took (record { region = number i; body = (asked i).body; loaded = last x.tells.point; answer = a }) ∷ x.tells.before));
       later = begins_more n k1.events x.tells.point knows (extends_begins k1.seat k1.events x.tells.point x.tells.region);
-      ends = extends_begins k1.seat x.tells.point x.tells.before x.tells.began;
-      least = subst (λ (p : ℕ × Body). AnswersLeast (left x.tells.before p.0) (last x.tells.point) p.1 a) (λ i. (number i, (asked i).body))
-          (subst (λ r. AnswersLeast r (last x.tells.point) g.request.body a) (sym (left_on k1.seat k1.events x.tells.before (extends_more k1.seat k1.events x.tells.point x.tells.before x.tells.region x.tells.began))) x.least);
+      marked = x.marked;
+      marks = x.later;
+      ends = x.ends;
+      least = subst (λ (p : ℕ × Body). AnswersFrom (max_ts x.marked) (left x.tells.before p.0) (last x.tells.point) p.1 a) (λ i. (number i, (asked i).body))
+          (subst (λ r. AnswersFrom (max_ts x.marked) r (last x.tells.point) g.request.body a) (sym (left_on k1.seat k1.events x.tells.before (extends_more k1.seat k1.events x.tells.point x.tells.before x.tells.region x.tells.began))) x.least);
     },
     made_upto 1
         (let events = ap (λ h. length (part k.seat h)) (told ∙ x.tells.ends) in

@@ -10,11 +10,12 @@ use Rattle.tx_types.specs.declared.key.Key.{Key}
 use Rattle.tx_plan.specs.declared.body.Body.{Body}
 use Rattle.tx_plan.specs.declared.body.Body.TheVariants.{Get, Scan, Prewrite, Commit, BatchRollback, TxnHeartBeat, CheckTxnStatus, CheckSecondaryLocks, ResolveLock, RaiseSafe, LocksBelow, Collect}
 use Rattle.tx_plan.specs.declared.answer.Answer.{Answer}
-use Rattle.tx_plan.specs.Answers.{AnswersLeast}
+use Rattle.tx_plan.specs.Answers.{AnswersFrom}
 use Rattle.tx_cells.specs.declared.copies.KeyCopy.{KeyCopy}
 use Rattle.tx_cells.specs.Copies.{Copies}
 use Rattle.tx_core.specs.declared.event.Event.TheVariants.{Declared, Drawn, Took}
 use Rattle.tx_core.specs.Histories.{History, last, left, Begins}
+use Rattle.tx_core.specs.ReadMarks.{max_ts, AnswersNext}
 use Rattle.tx_core.specs.Recording.{part}
 use Rattle.tx_core.specs.Worlds.{route}
 use Rattle.tx_journal.specs.Known.{Known}
@@ -136,14 +137,17 @@ IsTraced d = IfSome d.trace (λ t. (bounds : List Key) → IsWorldRun bounds d.n
 
 -- ---- what regions take
 
--- The region n took a request after `from`, and answered so: others may have acted before it loaded the last number, and after.
+-- The region n took a request after `from`, and answered so: others may have acted before it loaded the last number, before it loaded
+-- the greatest timestamp read, and after.
 pub record Tooks (n : ℕ) (from : History) (body : Body) (a : Answer) (to : History) : Type 0 where
   pub before : History
   pub point : History
   pub is : to ≡ Took (record { region = n; body = body; loaded = last point; answer = a }) ∷ before
+  pub marked : History
   pub later : Begins from point
-  pub ends : Begins point before
-  pub least : AnswersLeast (left before n) (last point) body a
+  pub marks : Begins point marked
+  pub ends : Begins marked before
+  pub least : AnswersFrom (max_ts marked) (left before n) (last point) body a
 
 -- by what the region n answered
 abbrev pub TakesBy : ℕ → History → Body → Option Answer → History → Type 0
@@ -295,7 +299,7 @@ MetHold name s body (came.Said a) next = ⊥
 module _ (bounds : List Key) where
   -- the region answers by the case tables from what its events left, with the least minimum for an async lock
   abbrev pub MayAnswerSo : Stage → Body → Answer → Type 0
-  MayAnswerSo s body a = AnswersLeast (left s.history (region_for bounds body)) (last s.history) body a
+  MayAnswerSo s body a = AnswersNext s.history (region_for bounds body) (last s.history) body a
 
   -- the region of a key shows what its events left there
   abbrev pub MayShowSo : Stage → Key → KeyCopy → Type 0

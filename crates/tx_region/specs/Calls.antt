@@ -1,25 +1,27 @@
 -- What a call of a region's records comes to.
-use Rattle.std.specs.Prelude.{◌≡◌, ℕ}
+use Rattle.std.specs.Prelude.{◌≡◌, ℕ, Option}
 use Rattle.tx_types.specs.declared.key.Key.{Key}
 use Rattle.tx_plan.specs.declared.body.Body.{Body}
 use Rattle.tx_plan.specs.declared.body.Body.TheVariants.{RaiseSafe}
 use Rattle.tx_plan.specs.declared.answer.Answer.{Answer}
 use Rattle.tx_plan.specs.declared.planned.Planned.{Planned}
 use Rattle.tx_plan.specs.Cells.{Region, with_cells}
-use Rattle.tx_plan.specs.Answers.{AnswersLeast, leaves}
+use Rattle.tx_plan.specs.Answers.{AnswersFrom, leaves}
 use Rattle.tx_plan.specs.Changes.{changed}
-use Rattle.tx_plan.specs.Plans.{answer_with, with_read}
+use Rattle.tx_plan.specs.Plans.{answer_with, read_upto}
 use Rattle.tx_plan.specs.Views.{info_on}
 
--- A region executes a request: the answer is of the case tables, with the least minimum, and the region is as that answer leaves it.
-pub record Executes (before : Region) (loaded : ℕ) (body : Body) (a : Answer) (after : Region) : Type 0 where
-  pub answers : AnswersLeast before loaded body a
-  pub leaves : after ≡ leaves before body a
+-- A region executes a request: the answer is of the case tables, with the least minimum above `mark`, and the region is as that answer
+-- leaves it, whatever was the greatest timestamp read in it before; after, it is that or what was read now.
+pub record Executes (mark : ℕ) (before : ℕ → Region) (loaded : ℕ) (body : Body) (a : Answer) (read : Option ℕ) (after : ℕ → Region) : Type 0 where
+  pub answers : (n : ℕ) → AnswersFrom mark (before n) loaded body a
+  pub leaves : (n : ℕ) → after (read_upto read n) ≡ leaves (before n) body a
 
--- A plan is carried out on a key: its answer is filled in, and its change is made.
-pub record CarriesOut (before : Region) (key : Key) (planned : Planned) (a : Answer) (after : Region) : Type 0 where
+-- A plan is carried out on a key: its answer is filled in, its change is made, and what it read is told.
+pub record CarriesOut (before : Region) (key : Key) (planned : Planned) (a : Answer) (read : Option ℕ) (after : Region) : Type 0 where
   pub answer : a ≡ answer_with (info_on (before.cells key) key) planned.answer
-  pub leaves : after ≡ with_read (with_cells before key (changed (before.cells key) planned.change)) planned.read
+  pub reads : read ≡ planned.read
+  pub leaves : after ≡ with_cells before key (changed (before.cells key) planned.change)
 
 -- requests that take no memory
 abbrev pub TakesNoMemory : Body → Type 0

@@ -7,6 +7,6 @@ mod records;
 mod region;
 mod routing;
 
-pub use records::Records;
+pub use records::{Executed, Records};
 pub use region::Region;
 pub use routing::{fronts, route, route_by};

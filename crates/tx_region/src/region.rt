@@ -1,15 +1,17 @@
 //! A region: a seat and records, which are what the seat's own events left.
-ghost use Rattle.std.specs.Prelude.{◌≡◌, ◌≤◌, ◌↔◌, [], length, IsTrue, IfOk, IfErr, IfSome, IfNone, IsSome};
+ghost use Rattle.std.specs.Prelude.{◌≡◌, ◌≤◌, ◌↔◌, [], ◌∷◌, max, length, IsTrue, IfOk, IfErr, IfSome, IfNone, IsSome};
 ghost use Rattle.tx_types.specs.declared.key.Key.{Key};
 ghost use Rattle.tx_cells.specs.Contents.{nothing_held};
 ghost use Rattle.tx_cells.specs.Copies.{Copies};
 ghost use Rattle.tx_core.specs.declared.event.Event.TheVariants as events;
-ghost use Rattle.tx_core.specs.Histories.{last, left, Begins};
+ghost use Rattle.tx_core.specs.Histories.{left, Begins};
+ghost use Rattle.tx_core.specs.ReadMarks.{max_ts};
 ghost use Rattle.tx_core.specs.Recording.{MayRecord, part};
 ghost use Rattle.tx_core.specs.Worlds.{Holds};
-ghost use Rattle.tx_journal.specs.Known.{greatest_ts, HasSeen, HasRecorded};
+ghost use Rattle.tx_journal.specs.Known.{greatest_ts, DrawsNothing, HasSeen, HasRecorded};
 ghost use Rattle.tx_region.specs.Calls.{TakesNoMemory};
-ghost use Rattle.tx_region.specs.Taking.{Answered};
+ghost use Rattle.tx_region.specs.Taking.{NeedsMark, IsMark, Loads, Answered};
+ghost use Rattle.tx_plan.specs.Plans.{read_upto};
 
 use crate::records::Records;
 use crate::routing::holds;
@@ -18,7 +20,7 @@ use std::marker::{Brand, Model};
 use tx_cells::{Families, Shown};
 use tx_core::{Answer, Body, SeatNo};
 use tx_journal::{Journal, Naming, Reply, Request, Said, Seat, Told};
-use tx_types::{Fault, Key, Ts};
+use tx_types::{Fault, Key, Mode, Ts};
 
 /// A region of the journal `J`. Contracts see its seat: its number, its ticks and the events that it knows.
 pub struct Region<J: Naming, F: Families> {
@@ -37,29 +39,105 @@ impl<J: Naming, F: Families> Model for Region<J, F> {
 
     ghost view = { λ r. r.seat };
 
-    ghost invariant = { λ r. (region_of F.content r.records ≡ left r.seat.events r.seat.seat) × (r.seat.seat ≤ length J.bounds) };
+    ghost invariant = { λ r. (region_of F.content r.records (left r.seat.events r.seat.seat).max_read ≡ left r.seat.events r.seat.seat) × (r.seat.seat ≤ length J.bounds) };
 }
 
-// Records the event that the call picks: the region of this seat, which loaded `loaded`, answered a request so.
-fn record_event<J: Naming, E: Said>(seat: &mut Seat<J>, loaded: Ts, body: &Body, answer: &Answer)
+// What a region loads before it answers: the last number that was drawn, and the greatest timestamp that was read, or 0 where the answer
+// does not look at that.
+#[derive(Clone, Copy)]
+struct Loaded {
+    last: Ts,
+    mark: Ts,
+}
+
+// Whether the answer to a request may look at the greatest timestamp that was read.
+fn needs_mark(body: &Body) -> bool
+    ensures { IsTrue result ↔ NeedsMark body.now }
+{
+    match body {
+        Body::Prewrite(body) => body.asked().mode == Mode::Async,
+        Body::Get(_)
+        | Body::Scan(_)
+        | Body::Commit(_)
+        | Body::BatchRollback(_)
+        | Body::TxnHeartBeat(_)
+        | Body::CheckTxnStatus(_)
+        | Body::CheckSecondaryLocks(_)
+        | Body::ResolveLock(_)
+        | Body::RaiseSafe(_)
+        | Body::LocksBelow(_)
+        | Body::Collect(_) => false,
+    }
+}
+
+// The greatest timestamp that was read, where the answer to a request may look at it: the seat then knows the whole history.
+fn load_mark<J: Naming>(seat: &mut Seat<J>, body: &Body) -> Ts
+    ensures same { (seat.new.seat ≡ seat.old.seat) × (seat.new.ticks ≡ seat.old.ticks) }
+    ensures seen { HasSeen J.bounds seat.old.seat seat.old.events seat.new.events }
+    ensures mark { IsMark body.now result seat.new.events }
+    ensures low { result ≤ greatest_ts }
+{
+    if needs_mark(body) {
+        return seat.max_ts();
+    }
+    let _ = seat.number();
+    Ts::ZERO
+}
+
+// Records the event that the call picks, which reads at `at`. Where nothing above that was read yet, it raises the greatest timestamp
+// read; a read at or below that, as most are, only looks at it.
+fn record_read<J: Naming, E: Said>(seat: &mut Seat<J>, at: Ts)
+    requires quiet { DrawsNothing E.event }
+    requires right { MayRecord J.bounds seat.old.seat seat.old.events E.event }
+    requires read { max_ts (E.event ∷ seat.old.events) ≡ max (max_ts seat.old.events) at }
+    ensures same { (seat.new.seat ≡ seat.old.seat) × (seat.new.ticks ≡ seat.old.ticks) }
+    ensures added { HasRecorded J.bounds seat.old.seat seat.old.events E.event seat.new.events }
+{
+    if seat.max_ts() < at {
+        seat.raise_read_as::<E>(at);
+    } else {
+        seat.record_as::<E>();
+    }
+}
+
+// Records the event that the call picks: the region of this seat, which loaded `loaded`, answered a request so, and read at `read`, if
+// it read. The event of a read raises the greatest timestamp read.
+fn record_event<J: Naming, E: Said>(
+    seat: &mut Seat<J>,
+    loaded: Ts,
+    body: &Body,
+    answer: &Answer,
+    read: Option<Ts>,
+)
     requires is { E.event ≡ events.Took record { region = seat.old.seat; body = body.now; loaded = loaded; answer = answer.now } }
     requires right { MayRecord J.bounds seat.old.seat seat.old.events E.event }
+    requires read { max_ts (E.event ∷ seat.old.events) ≡ read_upto read (max_ts seat.old.events) }
     ensures same { (seat.new.seat ≡ seat.old.seat) × (seat.new.ticks ≡ seat.old.ticks) }
     ensures added { HasRecorded J.bounds seat.old.seat seat.old.events E.event seat.new.events }
 {
     let _ = loaded;
     let _ = body;
     let _ = answer;
-    seat.record_as::<E>();
+    match read {
+        None => seat.record_as::<E>(),
+        Some(at) => record_read::<J, E>(seat, at),
+    }
 }
 
-// Records that the region of this seat, which loaded `loaded`, answered a request so.
-fn record_taken<J: Naming>(seat: &mut Seat<J>, loaded: Ts, body: &Body, answer: &Answer)
-    requires { MayRecord J.bounds seat.old.seat seat.old.events (events.Took record { region = seat.old.seat; body = body.now; loaded = loaded; answer = answer.now }) }
+// Records that the region of this seat, which loaded `loaded`, answered a request so, and read at `read`, if it read.
+fn record_taken<J: Naming>(
+    seat: &mut Seat<J>,
+    loaded: Ts,
+    body: &Body,
+    answer: &Answer,
+    read: Option<Ts>,
+)
+    requires right { MayRecord J.bounds seat.old.seat seat.old.events (events.Took record { region = seat.old.seat; body = body.now; loaded = loaded; answer = answer.now }) }
+    requires read { max_ts (events.Took record { region = seat.old.seat; body = body.now; loaded = loaded; answer = answer.now } ∷ seat.old.events) ≡ read_upto read (max_ts seat.old.events) }
     ensures same { (seat.new.seat ≡ seat.old.seat) × (seat.new.ticks ≡ seat.old.ticks) }
     ensures added { HasRecorded J.bounds seat.old.seat seat.old.events (events.Took record { region = seat.old.seat; body = body.now; loaded = loaded; answer = answer.now }) seat.new.events }
 {
-    record_event::<J, Brand>(seat, loaded, body, answer);
+    record_event::<J, Brand>(seat, loaded, body, answer, read);
 }
 
 impl<J: Naming, F: Families> Region<J, F> {
@@ -133,17 +211,18 @@ impl<J: Naming, F: Families> Region<J, F> {
         self.seat.learn(told);
     }
 
-    // Knows what a request's sender had seen, and then the last number that was drawn.
-    fn load(&mut self, request: &mut Request<J>) -> Ts
+    // Knows what a request's sender had seen, then the last number that was drawn, and then the greatest timestamp that was read.
+    fn load(&mut self, request: &mut Request<J>) -> Loaded
         ensures request { request.new ≡ request.old }
         ensures same { (self.new.seat ≡ self.old.seat) × (self.new.ticks ≡ self.old.ticks) }
         ensures seen { HasSeen J.bounds self.old.seat self.old.events self.new.events }
-        ensures heard { Begins request.new.by self.new.events }
-        ensures last { (result ≡ last self.new.events) × (result ≤ greatest_ts) }
+        ensures loads { Loads J.bounds self.old.seat self.old.events request.new.by request.new.body result.last result.mark self.new.events }
     {
         let heard = request.tell(&self.seat);
         self.seat.learn(heard);
-        self.seat.last()
+        let last = self.seat.last();
+        let mark = load_mark(&mut self.seat, request.body());
+        Loaded { last, mark }
     }
 
     /// Answers a request that it holds, and records that it did, by one event; where memory is refused it does neither.
@@ -159,15 +238,15 @@ impl<J: Naming, F: Families> Region<J, F> {
     {
         let loaded = self.load(&mut request);
         let asked = request.body();
-        match self.records.answer(loaded, asked) {
+        match self.records.answer(loaded.last, loaded.mark, asked) {
             Err(_) => {
                 let told = self.seat.tell();
                 Reply::new(request, None, told)
             }
-            Ok(answer) => {
-                record_taken(&mut self.seat, loaded, asked, &answer);
+            Ok(done) => {
+                record_taken(&mut self.seat, loaded.last, asked, &done.answer, done.read);
                 let told = self.seat.tell();
-                Reply::new(request, Some(answer), told)
+                Reply::new(request, Some(done.answer), told)
             }
         }
     }

@@ -7,14 +7,15 @@ use Rattle.tx_plan.specs.declared.body.Body.{Body}
 use Rattle.tx_plan.specs.declared.body.Body.TheVariants as body
 use Rattle.tx_core.specs.declared.event.Declaration.{Declaration}
 
--- what it declares: in two phases it deletes both
-abbrev pub both_of : ℕ → Key → Key → Declaration
-both_of t first second = record {
+-- what it declares, with a number that it drew: in two phases it deletes both
+abbrev pub both_of : ℕ → ℕ → Key → Key → Declaration
+both_of t placed first second = record {
   start = t;
   changes = record { key = first; mutation = Delete } ∷ record { key = second; mutation = Delete } ∷ [];
   mode = TwoPhase;
   ttl = 10;
   max_commit = None;
+  drawn = placed;
 }
 
 -- the prewrite of the second
@@ -26,6 +27,7 @@ second_of t first second = body.Prewrite record {
   primary = first;
   mode = TwoPhase;
   max_commit = None;
+  floor = 0;
   ttl = 10;
   others = [];
 }

@@ -28,7 +28,7 @@ pub enum Who {
 #[derive(Clone, Copy)]
 pub enum Act {
     Begin,
-    /// Begins on a seat that may draw so few ticks, 0 or 1.
+    /// Begins on a seat that may draw so few ticks, 0, 1 or 2.
     BeginShort(u32),
     Put(u8, u8),
     Delete(u8),
@@ -65,8 +65,8 @@ pub type Step = (Who, Act, Way, &'static str, u64);
 
 // A seat with so few ticks left.
 fn shortened<J: Naming>(mut seat: Seat<J>, left: u32) -> Seat<J> {
-    let _ = seat.draw(u32::MAX);
-    if left == 0 {
+    let _ = seat.draw(u32::MAX - 1);
+    for _ in left..2 {
         let _ = seat.draw(1);
     }
     seat

@@ -12,7 +12,7 @@ use Rattle.tx_core.specs.declared.event.Event.TheVariants.{Took}
 use Rattle.tx_core.specs.Histories.{History, last, declared, set_at, left}
 use Rattle.tx_core.specs.Decisions.{NoEffect, effect_in, accepted_by, accepted, decision, first_decided, decided, fate_in}
 use Rattle.tx_core.specs.Worlds.{IsWorldRun}
-use Rattle.tx_core.specs.Shadow.{deciding, deciding_in, reading, shadow}
+use Rattle.tx_core.specs.Shadow.{deciding, deciding_in, checking, reading, shadow}
 use Rattle.tx_core.proofs.Basics.{nat_test, nat_same, some_same, cond_true, cond_false}
 use Rattle.tx_core.proofs.runs.Consequences.{told_fate}
 use Rattle.tx_core.proofs.seats.Beginnings.{begins_all}
@@ -20,7 +20,7 @@ use Rattle.tx_core.proofs.seats.StaysDecided.{decided_on}
 use Rattle.tx_trace.specs.declared.pending.Pending.{Pending}
 use Rattle.tx_trace.specs.declared.log.Log.{Log}
 use Rattle.tx_trace.specs.Pending.{Accepted, Awaits}
-use Rattle.tx_trace.specs.Logs.{Stands, Keeps, steps_of, kept_in, ended, Writes, Ends, Tells}
+use Rattle.tx_trace.specs.Logs.{Stands, HasSteps, steps_of, kept_in, ended, Writes, Ends, Tells}
 use Rattle.tx_trace.proofs.Effects.{effect_on, accepted_apart, decision_apart}
 
 -- the same of other parts that are equal
@@ -58,36 +58,49 @@ module _ (bounds : List Key) (h : History) (x : Taken) (run : IsWorldRun bounds 
   quiet_decided : effect_in h x ≡ NoEffect → (t : ℕ) → decided (Took x ∷ h) t ≡ decided h t
   quiet_decided none t = ap (λ e. first_decided (decision (set_at h t) (accepted (Took x ∷ h) t) e t) (decided h t)) none
 
-  module _ (old new : Log) (f : Keeps h old) where
+  module _ (old new : Log) (f : HasSteps h old) where
     -- another transaction stands as it did
     others_stand : (t : ℕ) → start_in x.body ≢ Some t → (d : Declaration) → declared h t ≡ Some d → kept_in new t ≡ kept_in old t → Stands (decided (Took x ∷ h) t) d (accepted (Took x ∷ h) t) (kept_in new t)
     others_stand t apart d is same = stands_by (decided h t) (decided (Took x ∷ h) t) d (accepted h t) (accepted (Took x ∷ h) t) (kept_in old t) (kept_in new t) (other_decided t apart) (other_accepted t apart) same (f.pending t d is)
 
     -- ---- requests that name no transaction
 
-    pub reads : start_in x.body ≡ None → Writes (reading x.body x.answer) old new → Keeps (Took x ∷ h) new
-    reads none w =
+    pub reads : start_in x.body ≡ None → checking x.body (effect_in h x) ≡ [] → Writes (reading x.body x.answer) old new → HasSteps (Took x ∷ h) new
+    reads none unchecked w =
         record {
-          shadows = w.steps ∙ (ap (λ s. reading x.body x.answer ++ s) f.shadows ∙ sym (ap (λ o. deciding_in h x o ++ (reading x.body x.answer ++ shadow h)) none));
+          shadows = w.steps
+              ∙ (ap (λ s. reading x.body x.answer ++ s) f.shadows
+              ∙ sym (ap (λ o. deciding_in h x o ++ (checking x.body (effect_in h x) ++ (reading x.body x.answer ++ shadow h))) none ∙ ap (λ s. s ++ (reading x.body x.answer ++ shadow h)) unchecked));
           pending = λ t d is. others_stand t (λ e. cc (none, e)) d is (w.same t);
         }
 
-    -- ---- requests that name one
+    -- ---- what is kept of a transaction, by how it stands
 
-    module _ (t : ℕ) (named : start_in x.body ≡ Some t) (unread : reading x.body x.answer ≡ []) where
-      shadow_is : shadow (Took x ∷ h) ≡ deciding t (decided h t) (decided (Took x ∷ h) t) ++ shadow h
-      shadow_is = ap (λ o. deciding_in h x o ++ (reading x.body x.answer ++ shadow h)) named ∙ ap (λ r. deciding_in h x (Some t) ++ (r ++ shadow h)) unread
+    module _ (t : ℕ) (d : Declaration) (is : declared h t ≡ Some d) where
+      pub gone_before : (end : Fate) → decided h t ≡ Done end → kept_in old t ≡ None
+      gone_before end e = subst (λ s. Stands s d (accepted h t) (kept_in old t)) e (f.pending t d is)
+
+      pub kept_before : decided h t ≡ Open → (p : Pending) × (kept_in old t ≡ Some p) × Awaits d (accepted h t) p
+      kept_before e = open_kept d (accepted h t) (kept_in old t) (subst (λ s. Stands s d (accepted h t) (kept_in old t)) e (f.pending t d is))
+
+    -- ---- requests that name one, and the reads of their checks
+
+    module _ (t : ℕ) (named : start_in x.body ≡ Some t) (unread : reading x.body x.answer ≡ []) (seen : List Step) (checks : checking x.body (effect_in h x) ≡ seen) where
+      shadow_is : shadow (Took x ∷ h) ≡ deciding t (decided h t) (decided (Took x ∷ h) t) ++ (seen ++ shadow h)
+      shadow_is =
+          ap (λ o. deciding_in h x o ++ (checking x.body (effect_in h x) ++ (reading x.body x.answer ++ shadow h))) named
+          ∙ (ap (λ r. deciding_in h x (Some t) ++ (checking x.body (effect_in h x) ++ (r ++ shadow h))) unread ∙ ap (λ s. deciding_in h x (Some t) ++ (s ++ shadow h)) checks)
 
       apart : (q : ℕ) → q ≢ t → start_in x.body ≢ Some q
       apart q other e = other (some_same q t (sym e ∙ named))
 
-      pub goes : (more : List Step) → steps_of new ≡ more ++ steps_of old → deciding t (decided h t) (decided (Took x ∷ h) t) ≡ more
+      pub goes : (more : List Step) → steps_of new ≡ more ++ (seen ++ steps_of old) → deciding t (decided h t) (decided (Took x ∷ h) t) ≡ more
           → ((q : ℕ) → q ≢ t → kept_in new q ≡ kept_in old q)
           → ((d : Declaration) → declared h t ≡ Some d → Stands (decided (Took x ∷ h) t) d (accepted (Took x ∷ h) t) (kept_in new t))
-          → Keeps (Took x ∷ h) new
+          → HasSteps (Took x ∷ h) new
       goes more steps decides others own =
           record {
-            shadows = steps ∙ (ap (λ s. more ++ s) f.shadows ∙ sym (shadow_is ∙ ap (λ s. s ++ shadow h) decides));
+            shadows = steps ∙ (ap (λ s. more ++ (seen ++ s)) f.shadows ∙ sym (shadow_is ∙ ap (λ s. s ++ (seen ++ shadow h)) decides));
             pending = λ q d is. elim (nat_test q t) [
               | inl y ↦ subst (λ n. declared h n ≡ Some d → Stands (decided (Took x ∷ h) n) d (accepted (Took x ∷ h) n) (kept_in new n)) (sym y.1) (own d) is
               | inr y ↦ others_stand q (apart q y.1) d is (others q y.1)
@@ -95,54 +108,47 @@ module _ (bounds : List Key) (h : History) (x : Taken) (run : IsWorldRun bounds 
           }
 
       -- one that is decided stays so
-      pub done : (end : Fate) → decided h t ≡ Done end → kept_in old t ≡ None → Writes [] old new → Keeps (Took x ∷ h) new
-      done end is gone w =
-          goes [] w.steps (ap (λ s. deciding t s (decided (Took x ∷ h) t)) is) (λ q other. w.same q)
-          (λ d e. subst (λ s. Stands s d (accepted (Took x ∷ h) t) (kept_in new t)) (sym (decided_stays t end is)) (w.same t ∙ gone))
+      pub done : (end : Fate) → decided h t ≡ Done end → kept_in old t ≡ None → steps_of new ≡ seen ++ steps_of old → ((q : ℕ) → kept_in new q ≡ kept_in old q) → HasSteps (Took x ∷ h) new
+      done end is gone steps same =
+          goes [] steps (ap (λ s. deciding t s (decided (Took x ∷ h) t)) is) (λ q other. same q)
+          (λ d e. subst (λ s. Stands s d (accepted (Took x ∷ h) t) (kept_in new t)) (sym (decided_stays t end is)) (same t ∙ gone))
 
       -- one that is decided now
-      pub decides : (end : Fate) → decided h t ≡ Open → decided (Took x ∷ h) t ≡ Done end → steps_of new ≡ ended t end ∷ steps_of old
-          → ((q : ℕ) → q ≢ t → kept_in new q ≡ kept_in old q) → kept_in new t ≡ None → Keeps (Took x ∷ h) new
+      pub decides : (end : Fate) → decided h t ≡ Open → decided (Took x ∷ h) t ≡ Done end → steps_of new ≡ ended t end ∷ (seen ++ steps_of old)
+          → ((q : ℕ) → q ≢ t → kept_in new q ≡ kept_in old q) → kept_in new t ≡ None → HasSteps (Took x ∷ h) new
       decides end before now steps others gone =
           goes (ended t end ∷ []) steps (ap (λ s. deciding t s (decided (Took x ∷ h) t)) before ∙ (ap (deciding t Open) now ∙ decision_step t end)) others
           (λ d e. subst (λ s. Stands s d (accepted (Took x ∷ h) t) (kept_in new t)) (sym now) gone)
 
       -- one that is open, of which nothing is said
-      quiet : decided h t ≡ Open → effect_in h x ≡ NoEffect → Writes [] old new → Keeps (Took x ∷ h) new
-      quiet before none w =
-          goes [] w.steps (ap (λ s. deciding t s (decided (Took x ∷ h) t)) before ∙ ap (deciding t Open) (quiet_decided none t ∙ before)) (λ q other. w.same q)
-          (λ d e. stands_by (decided h t) (decided (Took x ∷ h) t) d (accepted h t) (accepted (Took x ∷ h) t) (kept_in old t) (kept_in new t) (quiet_decided none t) (quiet_accepted none t) (w.same t) (f.pending t d e))
+      quiet : decided h t ≡ Open → effect_in h x ≡ NoEffect → steps_of new ≡ seen ++ steps_of old → ((q : ℕ) → kept_in new q ≡ kept_in old q) → HasSteps (Took x ∷ h) new
+      quiet before none steps same =
+          goes [] steps (ap (λ s. deciding t s (decided (Took x ∷ h) t)) before ∙ ap (deciding t Open) (quiet_decided none t ∙ before)) (λ q other. same q)
+          (λ d e. stands_by (decided h t) (decided (Took x ∷ h) t) d (accepted h t) (accepted (Took x ∷ h) t) (kept_in old t) (kept_in new t) (quiet_decided none t) (quiet_accepted none t) (same t) (f.pending t d e))
 
-      module _ (d : Declaration) (is : declared h t ≡ Some d) where
-        -- what is kept of it, by how it stands
-        pub gone_before : (end : Fate) → decided h t ≡ Done end → kept_in old t ≡ None
-        gone_before end e = subst (λ s. Stands s d (accepted h t) (kept_in old t)) e (f.pending t d is)
+    module _ (t : ℕ) (named : start_in x.body ≡ Some t) (unread : reading x.body x.answer ≡ []) (unchecked : checking x.body (effect_in h x) ≡ []) (d : Declaration) (is : declared h t ≡ Some d) where
+      ends_done : (end : Fate) → decided h t ≡ Done end → (told : Fate) → Ends t told old new → HasSteps (Took x ∷ h) new
+      ends_done end e told ends =
+          elim ends [
+            | inl y ↦ done t named unread [] unchecked end e (gone_before t d is end e) y.1.steps y.1.same
+            | inr y ↦ (let none = gone_before t d is end e in absurd (cc (none, y.before)))
+          ]
 
-        pub kept_before : decided h t ≡ Open → (p : Pending) × (kept_in old t ≡ Some p) × Awaits d (accepted h t) p
-        kept_before e = open_kept d (accepted h t) (kept_in old t) (subst (λ s. Stands s d (accepted h t) (kept_in old t)) e (f.pending t d is))
+      ends_open : decided h t ≡ Open → (end : Fate) → fate_in x.answer ≡ Some end → Ends t end old new → HasSteps (Took x ∷ h) new
+      ends_open e end tells ends =
+          elim ends [
+            | inl y ↦ (let some = (kept_before t d is e).1 in absurd (cc (y.0, some)))
+            | inr y ↦ decides t named unread [] unchecked end e (told t end named tells) y.steps
+                (λ q other. y.gone q ∙ elim (nat_test t q) [ inl z ↦ absurd (other (sym z.1)) | inr z ↦ cond_false (t == q) None (kept_in old q) z.0 ])
+                (y.gone t ∙ cond_true (t == t) None (kept_in old t) (nat_same t))
+          ]
 
-        ends_done : (end : Fate) → decided h t ≡ Done end → (told : Fate) → Ends t told old new → Keeps (Took x ∷ h) new
-        ends_done end e told ends =
-            elim ends [
-              | inl y ↦ done end e (gone_before end e) y.1
-              | inr y ↦ (let none = gone_before end e in absurd (cc (none, y.before)))
-            ]
-
-        ends_open : decided h t ≡ Open → (end : Fate) → fate_in x.answer ≡ Some end → Ends t end old new → Keeps (Took x ∷ h) new
-        ends_open e end tells ends =
-            elim ends [
-              | inl y ↦ (let some = (kept_before e).1 in absurd (cc (y.0, some)))
-              | inr y ↦ decides end e (told t end named tells) y.steps
-                  (λ q other. y.gone q ∙ elim (nat_test t q) [ inl z ↦ absurd (other (sym z.1)) | inr z ↦ cond_false (t == q) None (kept_in old q) z.0 ])
-                  (y.gone t ∙ cond_true (t == t) None (kept_in old t) (nat_same t))
-            ]
-
-        -- the answer tells its fate, or nothing
-        pub tells : (fate_in x.answer ≡ None → decided h t ≡ Open → effect_in h x ≡ NoEffect) → Tells t (fate_in x.answer) old new → Keeps (Took x ∷ h) new
-        tells nothing does = go (decided h t) refl (fate_in x.answer) refl does
-          where
-            go : (s : State) → decided h t ≡ s → (o : Option Fate) → fate_in x.answer ≡ o → Tells t o old new → Keeps (Took x ∷ h) new
-            go (Done end) e None g w = done end e (gone_before end e) w
-            go (Done end) e (Some told) g w = ends_done end e told w
-            go Open e None g w = quiet e (nothing g e) w
-            go Open e (Some told) g w = ends_open e told g w
+      -- the answer tells its fate, or nothing
+      pub tells : (fate_in x.answer ≡ None → decided h t ≡ Open → effect_in h x ≡ NoEffect) → Tells t (fate_in x.answer) old new → HasSteps (Took x ∷ h) new
+      tells nothing does = go (decided h t) refl (fate_in x.answer) refl does
+        where
+          go : (s : State) → decided h t ≡ s → (o : Option Fate) → fate_in x.answer ≡ o → Tells t o old new → HasSteps (Took x ∷ h) new
+          go (Done end) e None g w = done t named unread [] unchecked end e (gone_before t d is end e) w.steps w.same
+          go (Done end) e (Some told) g w = ends_done end e told w
+          go Open e None g w = quiet t named unread [] unchecked e (nothing g e) w.steps w.same
+          go Open e (Some told) g w = ends_open e told g w

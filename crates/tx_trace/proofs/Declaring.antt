@@ -1,6 +1,8 @@
 -- A trace goes on with a declaration.
 use Rattle.std.proofs.Common.{◌≡◌, ◌≢◌, inl, inr, ℕ, ◌==◌, true, false, cond, List, [], ◌∷◌, Option, Some, None, is_some, refl, sym, ap, subst, ◌∙◌}
 use Rattle.tx_types.specs.declared.key.Key.{Key}
+use Rattle.tx_types.specs.declared.value.Value.{Value}
+use Rattle.tx_types.specs.declared.mutation.Mutation.TheVariants.{Insert}
 use Rattle.tx_types.specs.declared.mutation.Change.{Change}
 use Rattle.tx_machine.specs.declared.step.Step.TheVariants as step
 use Rattle.tx_machine.specs.Keys.{mutation_at}
@@ -19,7 +21,7 @@ use Rattle.tx_trace.specs.declared.pending.Pending.{Pending}
 use Rattle.tx_trace.specs.declared.pending.Pending.TheVariants as pending
 use Rattle.tx_trace.specs.declared.log.Log.{Log}
 use Rattle.tx_trace.specs.Pending.{Accepted, AwaitsLocks, Awaits, AreAll, IsFirst}
-use Rattle.tx_trace.specs.Logs.{Stands, Keeps, kept_in, Enters}
+use Rattle.tx_trace.specs.Logs.{Stands, Keeps, Tracks, kept_in, checked_in, Enters}
 use Rattle.tx_trace.proofs.Minimums.{greatest_none}
 
 -- ---- what is waited for at first
@@ -77,8 +79,19 @@ module _ (bounds : List Key) (h : History) (d : Declaration) (run : IsWorldRun b
       elim (nat_test d.start t) [
         | inl x ↦ (let same : d ≡ of = some_same d of (sym (cond_true (d.start == t) (Some d) (declared h t) x.0) ∙ is) in
             subst (λ (y : Declaration). Stands (decided h t) y (accepted h t) (kept_in new t)) same (subst (λ n. Stands (decided h n) d (accepted h n) (kept_in new n)) x.1 own))
-        | inr x ↦ subst (λ o. Stands (decided h t) of (accepted h t) o) (sym (enters.others t ∙ cond_false (d.start == t) (Some enters.first) (kept_in old t) x.0)) (f.pending t of (sym (cond_false (d.start == t) (Some d) (declared h t) x.0) ∙ is))
+        | inr x ↦ subst (λ o. Stands (decided h t) of (accepted h t) o) (sym (enters.others t ∙ cond_false (d.start == t) (Some enters.first) (kept_in old t) x.0)) (f.0.pending t of (sym (cond_false (d.start == t) (Some d) (declared h t) x.0) ∙ is))
       ]
 
+  -- nothing of it was accepted
+  inserts : (t : ℕ) (of : Declaration) (k : Key) (v : Value) → cond (d.start == t) (Some d) (declared h t) ≡ Some of → mutation_at of.changes k ≡ Some (Insert v) → accepted h t k ≢ None → checked_in new t k ≡ true
+  inserts t of k v is ins some =
+      elim (nat_test d.start t) [
+        | inl x ↦ absurd (some (subst (λ n. accepted h n k ≡ None) x.1 (unaccepted k)))
+        | inr x ↦ enters.still t k ∙ f.1.inserts t of k v (sym (cond_false (d.start == t) (Some d) (declared h t) x.0) ∙ is) ins some
+      ]
+
+  tracks : Tracks (Declared d ∷ h) (checked_in new)
+  tracks = record { accepts = λ t k e. f.1.accepts t k (sym (enters.still t k) ∙ e); inserts = inserts }
+
   pub declares : Keeps (Declared d ∷ h) new
-  declares = record { shadows = enters.steps ∙ ap (λ s. step.Declare d.start d.changes ∷ s) f.shadows; pending = stands }
+  declares = (record { shadows = enters.steps ∙ ap (λ s. step.Declare d.start d.changes ∷ s) f.0.shadows; pending = stands }, tracks)

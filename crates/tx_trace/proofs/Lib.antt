@@ -10,6 +10,10 @@ pub mod Effects
 pub mod Answering
 -- A trace goes on with a prewrite that was accepted.
 pub mod Locking
+-- A key that is checked.
+pub mod Marking
+-- A trace goes on with the check of an insert.
+pub mod Inserting
 -- A trace goes on with a declaration.
 pub mod Declaring
 -- A trace goes on with each request.

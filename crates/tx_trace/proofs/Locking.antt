@@ -1,5 +1,5 @@
 -- A trace goes on with a prewrite that was accepted.
-use Rattle.std.proofs.Common.{◌≡◌, ◌≢◌, inl, inr, ℕ, ◌+◌, ◌==◌, Bool, true, false, cond, List, [], ◌∷◌, Option, Some, None, refl, sym, ap, subst, ◌∙◌}
+use Rattle.std.proofs.Common.{◌≡◌, ◌≢◌, inl, inr, ℕ, ◌+◌, ◌==◌, Bool, true, false, cond, List, [], ◌∷◌, ◌++◌, Option, Some, None, refl, sym, ap, subst, ◌∙◌}
 use Rattle.tx_types.specs.declared.key.Key.{Key}
 use Rattle.tx_types.specs.declared.mutation.Mode.TheVariants.{TwoPhase, Async}
 use Rattle.tx_types.specs.declared.mutation.Fate.{Fate}
@@ -16,14 +16,15 @@ use Rattle.tx_core.specs.declared.event.Event.TheVariants.{Took}
 use Rattle.tx_core.specs.Histories.{History, last, declared, set_of, set_at, left}
 use Rattle.tx_core.specs.Decisions.{Puts, NoEffect, is_own, effect_in, Acceptance, accepted_by, accepted, greatest, committed_at, decision, first_decided, decided}
 use Rattle.tx_core.specs.Worlds.{IsWorldRun}
-use Rattle.tx_core.specs.Shadow.{deciding}
+use Rattle.tx_machine.specs.declared.step.Step.{Step}
+use Rattle.tx_core.specs.Shadow.{deciding, checking}
 use Rattle.tx_core.proofs.Basics.{nat_test, nat_same, key_test, key_same, some_same, cond_true, cond_false}
 use Rattle.tx_core.proofs.requests.Good.{took}
 use Rattle.tx_core.proofs.runs.Consequences.{accepted_two_phase, prewritten_accepted}
 use Rattle.tx_trace.specs.declared.pending.Pending.{Pending}
 use Rattle.tx_trace.specs.declared.log.Log.{Log}
 use Rattle.tx_trace.specs.Pending.{Awaits, Turns}
-use Rattle.tx_trace.specs.Logs.{Stands, Keeps, kept_in, Closes, Locked}
+use Rattle.tx_trace.specs.Logs.{Stands, HasSteps, steps_of, kept_in, Closes, Locked}
 use Rattle.tx_trace.proofs.Waiting.{IsNew, Gains, comes}
 use Rattle.tx_trace.proofs.Answering.{gone_before, kept_before, done, decides, goes}
 
@@ -49,10 +50,10 @@ module _ (bounds : List Key) (h : History) (n : ℕ) (b : Prewrite) (l m : ℕ) 
 
   -- ---- the effect: the lock of the transaction stands already, or is put
 
-  accepted_now : accepted (Took x ∷ h) t b.key ≢ None
+  pub accepted_now : accepted (Took x ∷ h) t b.key ≢ None
   accepted_now = prewritten_accepted bounds h run.0 x b m (sym run.1.holds) refl refl
 
-  puts : (own : Bool) → is_own ((left h n).cells b.key).lock t ≡ own → accepted h t b.key ≡ None → effect_in h x ≡ Puts b.key (lock_of b m)
+  pub puts : (own : Bool) → is_own ((left h n).cells b.key).lock t ≡ own → accepted h t b.key ≡ None → effect_in h x ≡ Puts b.key (lock_of b m)
   puts true e none = absurd (accepted_now (ap (λ o. accepted_by (cond o NoEffect (Puts b.key (lock_of b m))) (last h) t b.key (accepted h t b.key)) e ∙ none))
   puts false e none = ap (λ o. cond o NoEffect (Puts b.key (lock_of b m))) e
 
@@ -102,16 +103,16 @@ module _ (bounds : List Key) (h : History) (n : ℕ) (b : Prewrite) (l m : ℕ) 
 
   -- ---- what is kept
 
-  module _ (old new : Log) (f : Keeps h old) where
+  module _ (old new : Log) (f : HasSteps h old) (seen : List Step) (checks : checking (body.Prewrite b) (effect_in h x) ≡ seen) where
     others_of : (p : Option Pending) (kept : ℕ → Option Pending) → ((q : ℕ) → kept q ≡ cond (t == q) p (kept_in old q)) → (q : ℕ) → q ≢ t → kept q ≡ kept_in old q
     others_of p kept changed q apart = changed q ∙ elim (nat_test t q) [ inl y ↦ absurd (apart (sym y.1)) | inr y ↦ cond_false (t == q) p (kept_in old q) y.0 ]
 
     -- it waits on
     waits : (between : ℕ → Option Pending) (now : Pending) → decided h t ≡ Open → ((q : ℕ) → between q ≡ cond (t == q) (Some now) (kept_in old q))
-        → greatest (accepted (Took x ∷ h) t) of.changes ≡ None → Awaits of (accepted (Took x ∷ h) t) now → Closes t old between new None → Keeps (Took x ∷ h) new
+        → greatest (accepted (Took x ∷ h) t) of.changes ≡ None → Awaits of (accepted (Took x ∷ h) t) now → Closes t (seen ++ steps_of old) between new None → HasSteps (Took x ∷ h) new
     waits between now e changed none awaits closes =
         let after = still_open e none in
-        goes bounds h x run old new f t refl refl [] closes.0 (ap (λ s. deciding t s (decided (Took x ∷ h) t)) e ∙ ap (deciding t Open) after)
+        goes bounds h x run old new f t refl refl seen checks [] closes.0 (ap (λ s. deciding t s (decided (Took x ∷ h) t)) e ∙ ap (deciding t Open) after)
         (λ q apart. closes.1 q ∙ others_of (Some now) between changed q apart)
         (λ d same. (let one : of ≡ d = some_same of d (sym is ∙ same) in
         let kept : kept_in new t ≡ Some now = closes.1 t ∙ (changed t ∙ cond_true (t == t) (Some now) (kept_in old t) (nat_same t)) in
@@ -119,39 +120,39 @@ module _ (bounds : List Key) (h : History) (n : ℕ) (b : Prewrite) (l m : ℕ) 
 
     -- it is committed
     commits : (between : ℕ → Option Pending) (now : Pending) (c : ℕ) → decided h t ≡ Open → ((q : ℕ) → between q ≡ cond (t == q) (Some now) (kept_in old q))
-        → greatest (accepted (Took x ∷ h) t) of.changes ≡ Some c → accepted h t b.key ≡ None → Closes t old between new (Some c) → Keeps (Took x ∷ h) new
+        → greatest (accepted (Took x ∷ h) t) of.changes ≡ Some c → accepted h t b.key ≡ None → Closes t (seen ++ steps_of old) between new (Some c) → HasSteps (Took x ∷ h) new
     commits between now c e changed all none closes =
-        decides bounds h x run old new f t refl refl (Committed c) e (now_done c e none all) closes.0
+        decides bounds h x run old new f t refl refl seen checks (Committed c) e (now_done c e none all) closes.0
         (λ q apart. closes.1 q ∙ (elim (nat_test t q) [ inl y ↦ absurd (apart (sym y.1)) | inr y ↦ cond_false (t == q) None (between q) y.0 ] ∙ others_of (Some now) between changed q apart))
         (closes.1 t ∙ cond_true (t == t) None (between t) (nat_same t))
 
     two_phase : of.mode ≡ TwoPhase → (q : Key) (by : Acceptance) → accepted (Took x ∷ h) t q ≡ Some by → by.lock.mode ≡ TwoPhase
     two_phase mode q by e = accepted_two_phase bounds (Took x ∷ h) run t q by e of is mode
 
-    turned : (some : of.changes ≢ []) (between : ℕ → Option Pending) (commit : Option ℕ) → decided h t ≡ Open → Turns t b.key m (kept_in old) between commit → Closes t old between new commit → Keeps (Took x ∷ h) new
+    turned : (some : of.changes ≢ []) (between : ℕ → Option Pending) (commit : Option ℕ) → decided h t ≡ Open → Turns t b.key m (kept_in old) between commit → Closes t (seen ++ steps_of old) between new commit → HasSteps (Took x ∷ h) new
     turned some between commit e turns closes =
-        let kept = kept_before bounds h x run old new f t refl refl of is e in
+        let kept = kept_before bounds h x run old new f t of is e in
         let was : kept.0 ≡ turns.was = some_same kept.0 turns.was (sym kept.1 ∙ turns.before) in
         elim (comes of some (accepted h t) (accepted (Took x ∷ h) t) b.key m within gains two_phase turns.was turns.now commit (subst (Awaits of (accepted h t)) was kept.2) turns.accepts) [
-          | inl y ↦ waits between turns.now e turns.changed y.1 y.2 (subst (Closes t old between new) y.0 closes)
-          | inr y ↦ commits between turns.now y.0 e turns.changed y.2 y.3 (subst (Closes t old between new) y.1 closes)
+          | inl y ↦ waits between turns.now e turns.changed y.1 y.2 (subst (Closes t (seen ++ steps_of old) between new) y.0 closes)
+          | inr y ↦ commits between turns.now y.0 e turns.changed y.2 y.3 (subst (Closes t (seen ++ steps_of old) between new) y.1 closes)
         ]
 
-    pub locked : of.changes ≢ [] → Locked t b.key m old new → Keeps (Took x ∷ h) new
+    pub locked : of.changes ≢ [] → Locked t b.key m (seen ++ steps_of old) (kept_in old) new → HasSteps (Took x ∷ h) new
     locked some a = go (decided h t) refl
       where
-        unchanged : (end : Fate) → decided h t ≡ Done end → kept_in old t ≡ None → ((q : ℕ) → a.between q ≡ kept_in old q) → Closes t old a.between new None → Keeps (Took x ∷ h) new
-        unchanged end e gone same closes = done bounds h x run old new f t refl refl end e gone (record { steps = closes.0; same = λ q. closes.1 q ∙ same q })
+        unchanged : (end : Fate) → decided h t ≡ Done end → kept_in old t ≡ None → ((q : ℕ) → a.between q ≡ kept_in old q) → Closes t (seen ++ steps_of old) a.between new None → HasSteps (Took x ∷ h) new
+        unchanged end e gone same closes = done bounds h x run old new f t refl refl seen checks end e gone closes.0 (λ q. closes.1 q ∙ same q)
 
-        go : (s : State) → decided h t ≡ s → Keeps (Took x ∷ h) new
+        go : (s : State) → decided h t ≡ s → HasSteps (Took x ∷ h) new
         go (Done end) e =
-            (let gone = gone_before bounds h x run old new f t refl refl of is end e in
+            (let gone = gone_before bounds h x run old new f t of is end e in
             elim a.accepts [
-              | inl y ↦ unchanged end e gone y.1 (subst (Closes t old a.between new) y.2 a.closes)
+              | inl y ↦ unchanged end e gone y.1 (subst (Closes t (seen ++ steps_of old) a.between new) y.2 a.closes)
               | inr y ↦ absurd (cc (gone, y.before))
             ])
         go Open e =
             elim a.accepts [
-              | inl y ↦ (let kept = kept_before bounds h x run old new f t refl refl of is e in let some_kept = kept.1 in absurd (cc (y.0, some_kept)))
+              | inl y ↦ (let kept = kept_before bounds h x run old new f t of is e in let some_kept = kept.1 in absurd (cc (y.0, some_kept)))
               | inr y ↦ turned some a.between a.commit e y a.closes
             ]

@@ -31,10 +31,10 @@ kept_is : (log : Log) (t : ℕ) → kept_of (noted log).waits t ≡ kept_in log 
 kept_is log t = seen t log.pending.entries
 
 pub outward : (h : History) (log : Log) → Keeps h log → Traces h (noted log)
-outward h log k = record { shadows = k.shadows; pending = λ t d is. subst (Stands (decided h t) d (accepted h t)) (sym (kept_is log t)) (k.pending t d is) }
+outward h log k = (record { shadows = k.0.shadows; pending = λ t d is. subst (Stands (decided h t) d (accepted h t)) (sym (kept_is log t)) (k.0.pending t d is) }, k.1)
 
 pub inward : (h : History) (log : Log) → Traces h (noted log) → Keeps h log
-inward h log k = record { shadows = k.shadows; pending = λ t d is. subst (Stands (decided h t) d (accepted h t)) (kept_is log t) (k.pending t d is) }
+inward h log k = (record { shadows = k.0.shadows; pending = λ t d is. subst (Stands (decided h t) d (accepted h t)) (kept_is log t) (k.0.pending t d is) }, k.1)
 
 -- what is said of a log is said of its trace
 pub adds_out : (old new : Log) (e : Event) → GoesOn old e new → Adds (noted old) e (noted new)
@@ -66,4 +66,4 @@ module _ {E : Type 0} (r : Result (Unit {0}) E) (old new : Log) (o : Noted) (is 
 -- ---- a session that stops
 
 pub stopped_adds : (n : Noted) (seat : ℕ) → Adds n (Stopped seat) n
-stopped_adds n seat bounds h run t = record { shadows = t.shadows; pending = t.pending }
+stopped_adds n seat bounds h run t = (record { shadows = t.0.shadows; pending = t.0.pending }, record { accepts = t.1.accepts; inserts = t.1.inserts })

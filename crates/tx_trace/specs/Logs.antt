@@ -1,15 +1,22 @@
 -- What is kept of a history, and how each event changes it.
-use Rattle.std.specs.Prelude.{◌≡◌, ◌⊎◌, ℕ, ◌==◌, cond, ◌++◌, List, [], ◌∷◌, reverse, Option, Some, None}
+use Rattle.std.specs.Prelude.{◌≡◌, ◌≢◌, ◌⊎◌, ℕ, ◌==◌, ◌&&◌, Bool, true, false, cond, ◌++◌, List, [], ◌∷◌, reverse, Option, Some, None, bytes_eq}
 use Rattle.std.specs.BTreeMap as tree
-use Rattle.std.specs.Ordering.{nat_cmp}
+use Rattle.std.specs.BTreeSet as sorted
+use Rattle.std.specs.Cmp.Lexicographic.{slice_cmp}
+use Rattle.std.specs.declared.cmp.Ordering.{Ordering}
+use Rattle.std.specs.Ordering.{ordering_then, nat_cmp}
 use Rattle.tx_types.specs.declared.key.Key.{Key}
+use Rattle.tx_types.specs.declared.value.Value.{Value}
+use Rattle.tx_types.specs.declared.mutation.Mutation.TheVariants.{Insert}
 use Rattle.tx_types.specs.declared.mutation.Fate.{Fate}
 use Rattle.tx_types.specs.declared.mutation.Fate.TheVariants.{Committed, Aborted}
 use Rattle.tx_plan.specs.declared.body.Prewrite.{Prewrite}
 use Rattle.tx_plan.specs.declared.answer.Answer.{Answer}
 use Rattle.tx_plan.specs.declared.answer.Answer.TheVariants.{Prewritten}
+use Rattle.tx_plan.specs.cases.Prewrite.{check_by}
 use Rattle.tx_machine.specs.declared.step.Step.{Step}
 use Rattle.tx_machine.specs.declared.step.Step.TheVariants as step
+use Rattle.tx_machine.specs.Keys.{mutation_at}
 use Rattle.tx_machine.specs.Machine.{State, Open, Done}
 use Rattle.tx_core.specs.declared.event.Declaration.{Declaration}
 use Rattle.tx_core.specs.declared.event.Event.{Event}
@@ -32,6 +39,16 @@ pub record Follows (h : History) (steps : List Step) (kept : Kept) : Type 0 wher
   pub shadows : steps ≡ shadow h
   pub pending : (t : ℕ) (d : Declaration) → declared h t ≡ Some d → Stands (decided h t) d (accepted h t) (kept t)
 
+-- whether a key was checked for a transaction, by its start
+abbrev pub Checked : Type 0
+Checked = ℕ → Key → Bool
+
+-- What was checked was accepted, and each key that is inserted and was accepted was checked: an insert is checked where it is first
+-- accepted, whatever is decided of its transaction.
+pub record Tracks (h : History) (checked : Checked) : Type 0 where
+  pub accepts : (t : ℕ) (k : Key) → checked t k ≡ true → accepted h t k ≢ None
+  pub inserts : (t : ℕ) (d : Declaration) (k : Key) (v : Value) → declared h t ≡ Some d → mutation_at d.changes k ≡ Some (Insert v) → accepted h t k ≢ None → checked t k ≡ true
+
 -- the steps, newest first
 abbrev pub steps_of : Log → List Step
 steps_of log = reverse log.steps.items
@@ -40,9 +57,21 @@ steps_of log = reverse log.steps.items
 abbrev pub kept_in : Log → Kept
 kept_in log = tree.get nat_cmp log.pending
 
+-- the order of the pairs of a start and a key
+abbrev pub by_start : ℕ × Key → ℕ × Key → Ordering
+by_start p q = ordering_then (nat_cmp p.0 q.0) (slice_cmp nat_cmp p.1 q.1)
+
+-- which keys it has as checked
+abbrev pub checked_in : Log → Checked
+checked_in log t k = sorted.contains by_start log.checked (t, k)
+
+-- its steps and what it keeps are of the history
+abbrev pub HasSteps : History → Log → Type 0
+HasSteps h log = Follows h (steps_of log) (kept_in log)
+
 -- The log is of the history: it has just the steps of the machine that are read off it.
 abbrev pub Keeps : History → Log → Type 0
-Keeps h log = Follows h (steps_of log) (kept_in log)
+Keeps h log = HasSteps h log × Tracks h (checked_in log)
 
 -- The log goes on with an event, whatever run it is of.
 abbrev pub GoesOn : Log → Event → Log → Type 0
@@ -63,6 +92,7 @@ ended t Aborted = step.Abort t
 pub record Writes (more : List Step) (old new : Log) : Type 0 where
   pub steps : steps_of new ≡ more ++ steps_of old
   pub same : (t : ℕ) → kept_in new t ≡ kept_in old t
+  pub still : (t : ℕ) (k : Key) → checked_in new t k ≡ checked_in old t k
 
 -- a transaction that is kept is decided: its step is added, and it is kept no more
 pub record Decides (t : ℕ) (end : Fate) (old new : Log) : Type 0 where
@@ -70,6 +100,7 @@ pub record Decides (t : ℕ) (end : Fate) (old new : Log) : Type 0 where
   pub before : kept_in old t ≡ Some was
   pub steps : steps_of new ≡ ended t end ∷ steps_of old
   pub gone : (q : ℕ) → kept_in new q ≡ cond (t == q) None (kept_in old q)
+  pub still : (q : ℕ) (k : Key) → checked_in new q k ≡ checked_in old q k
 
 -- a transaction is decided, if it is kept
 abbrev pub Ends : ℕ → Fate → Log → Log → Type 0
@@ -81,20 +112,40 @@ Tells t None old new = Writes [] old new
 Tells t (Some end) old new = Ends t end old new
 
 -- a transaction is committed, where that is completed: its step is added, and it is kept no more
-abbrev pub Closes : ℕ → Log → Kept → Log → Option ℕ → Type 0
-Closes t old between new None = (steps_of new ≡ steps_of old) × ((q : ℕ) → kept_in new q ≡ between q)
-Closes t old between new (Some c) = (steps_of new ≡ step.Commit t c ∷ steps_of old) × ((q : ℕ) → kept_in new q ≡ cond (t == q) None (between q))
+abbrev pub Closes : ℕ → List Step → Kept → Log → Option ℕ → Type 0
+Closes t steps between new None = (steps_of new ≡ steps) × ((q : ℕ) → kept_in new q ≡ between q)
+Closes t steps between new (Some c) = (steps_of new ≡ step.Commit t c ∷ steps) × ((q : ℕ) → kept_in new q ≡ cond (t == q) None (between q))
 
--- a key of a transaction is locked with the minimum m: where the transaction is kept, the key is accepted, and the last key commits it
-pub record Locked (t : ℕ) (k : Key) (m : ℕ) (old new : Log) : Type 0 where
+-- A key of a transaction is locked with the minimum m, after these steps and where these are kept: where the transaction is kept, the key
+-- is accepted, and the last key commits it.
+pub record Locked (t : ℕ) (k : Key) (m : ℕ) (steps : List Step) (kept : Kept) (new : Log) : Type 0 where
   pub between : Kept
   pub commit : Option ℕ
-  pub accepts : AcceptsIn t k m (kept_in old) between commit
-  pub closes : Closes t old between new commit
+  pub accepts : AcceptsIn t k m kept between commit
+  pub closes : Closes t steps between new commit
+
+-- the read of an insert's check is added, and its key is checked from now on
+pub record Reads (b : Prewrite) (old new : Log) : Type 0 where
+  pub inserts : check_by b.mutation b.start ≡ Some b.start
+  pub first : checked_in old b.start b.key ≡ false
+  pub steps : steps_of new ≡ step.Read b.key b.start None ∷ steps_of old
+  pub same : (t : ℕ) → kept_in new t ≡ kept_in old t
+  pub keys : (t : ℕ) (k : Key) → checked_in new t k ≡ cond ((b.start == t) && bytes_eq b.key k) true (checked_in old t k)
+
+-- A prewrite was accepted: where it inserts a key that is not checked yet, the read of its check is added.
+abbrev pub Checks : Prewrite → Log → Log → Type 0
+Checks b old new = ((check_by b.mutation b.start ≡ None) × Writes [] old new) ⊎ (((checked_in old b.start b.key ≡ true) × Writes [] old new) ⊎ Reads b old new)
+
+-- a prewrite is accepted with the minimum m: its check comes before what its lock decides
+pub record Accepts (b : Prewrite) (m : ℕ) (old new : Log) : Type 0 where
+  pub between : Log
+  pub checks : Checks b old between
+  pub locks : Locked b.start b.key m (steps_of between) (kept_in between) new
+  pub still : (t : ℕ) (k : Key) → checked_in new t k ≡ checked_in between t k
 
 -- a prewrite is answered
 abbrev pub Prewrites : Prewrite → Answer → Log → Log → Type 0
-Prewrites b (Prewritten m) old new = Locked b.start b.key m old new
+Prewrites b (Prewritten m) old new = Accepts b m old new
 Prewrites b a old new = Tells b.start (fate_in a) old new
 
 -- a transaction is kept from its declaration on
@@ -103,3 +154,4 @@ pub record Enters (d : Declaration) (old new : Log) : Type 0 where
   pub is : IsFirst d first
   pub steps : steps_of new ≡ step.Declare d.start d.changes ∷ steps_of old
   pub others : (q : ℕ) → kept_in new q ≡ cond (d.start == q) (Some first) (kept_in old q)
+  pub still : (q : ℕ) (k : Key) → checked_in new q k ≡ checked_in old q k

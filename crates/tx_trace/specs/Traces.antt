@@ -1,6 +1,7 @@
 -- What a trace keeps, as callers see it.
 use Rattle.std.specs.Prelude.{ℕ, List, ◌∷◌, map, reverse, Option, Some, None, option_map}
 use Rattle.std.specs.BTreeMap as tree
+use Rattle.std.specs.List.{list_any}
 use Rattle.std.specs.Map.{lookup}
 use Rattle.std.specs.Ordering.{nat_cmp}
 use Rattle.tx_types.specs.declared.key.Key.{Key}
@@ -12,16 +13,17 @@ use Rattle.tx_trace.specs.declared.pending.Pending.{Pending}
 use Rattle.tx_trace.specs.declared.pending.Pending.TheVariants as pending
 use Rattle.tx_trace.specs.declared.log.Log.{Log}
 use Rattle.tx_trace.specs.Pending.{Kept}
-use Rattle.tx_trace.specs.Logs.{Follows}
+use Rattle.tx_trace.specs.Logs.{Follows, Checked, Tracks, by_start}
 
 -- what a transaction waits for: the keys that are left and the greatest minimum so far, or none where it waits for its primary alone
 abbrev pub Waits : Type 0
 Waits = Option (List Key × ℕ)
 
--- the steps, newest first, and by start what each transaction that is declared and not decided waits for
+-- the steps, newest first, by start what each transaction that is declared and not decided waits for, and which keys were checked
 pub record Noted : Type 0 where
   pub steps : List Step
   pub waits : List (ℕ × Waits)
+  pub checked : List (ℕ × Key)
 
 abbrev pub waits_of : Pending → Waits
 waits_of pending.Primary = None
@@ -33,15 +35,20 @@ pending_of (Some x) = pending.Locks (record { left = record { keys = x.0 }; min 
 
 -- what a log has
 abbrev pub noted : Log → Noted
-noted log = record { steps = reverse log.steps.items; waits = map (λ e. (e.0, waits_of e.1)) log.pending.entries }
+noted log = record { steps = reverse log.steps.items; waits = map (λ e. (e.0, waits_of e.1)) log.pending.entries; checked = log.checked.keys }
 
 -- what each transaction waits for
 abbrev pub kept_of : List (ℕ × Waits) → Kept
 kept_of waits t = option_map pending_of (lookup (tree.is_at (nat_cmp t)) waits)
 
--- A trace of a history has just the steps of the machine that are read off it, and each transaction stands as it does there.
+-- which keys were checked
+abbrev pub checked_of : List (ℕ × Key) → Checked
+checked_of pairs t k = list_any (tree.is_at (by_start (t, k))) pairs
+
+-- A trace of a history has just the steps of the machine that are read off it, each transaction stands as it does there, and the inserts
+-- that were accepted were checked.
 abbrev pub Traces : History → Noted → Type 0
-Traces h n = Follows h n.steps (kept_of n.waits)
+Traces h n = Follows h n.steps (kept_of n.waits) × Tracks h (checked_of n.checked)
 
 -- The trace goes on with an event: of whatever run it was, it is then of that run with the event.
 abbrev pub Adds : Noted → Event → Noted → Type 0

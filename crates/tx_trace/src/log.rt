@@ -1,26 +1,30 @@
 //! What is kept of the events so far: the steps, and what each open transaction waits for.
-ghost use Rattle.std.specs.Prelude.{◌≡◌, ◌∷◌, ℕ, [], reverse, OnOk, OnErr, IfOk, IfErr};
+ghost use Rattle.std.specs.Prelude.{◌≡◌, ◌∷◌, ◌+◌, ◌<◌, ℕ, [], Some, reverse, vec_len, vec_capacity, OnOk, OnErr, IfOk, IfErr};
+ghost use Rattle.tx_types.specs.declared.key.Key.{Key};
 ghost use Rattle.tx_plan.specs.declared.body.Body.TheVariants as request;
 ghost use Rattle.tx_machine.specs.declared.step.Step.TheVariants as steps;
 ghost use Rattle.tx_core.specs.declared.event.Event.TheVariants as event;
 ghost use Rattle.tx_core.specs.declared.event.Taken.{Taken};
+ghost use Rattle.tx_plan.specs.cases.Prewrite.{check_by};
 ghost use Rattle.tx_core.specs.Decisions.{fate_in};
 ghost use Rattle.tx_core.specs.Shadow.{reading};
-ghost use Rattle.tx_trace.specs.Logs.{Keeps, GoesOn, Stays, steps_of, Writes, Ends, Tells, Locked, Prewrites, Enters, ended};
+ghost use Rattle.tx_trace.specs.Logs.{Keeps, GoesOn, Stays, steps_of, kept_in, checked_in, Writes, Ends, Tells, Locked, Checks, Prewrites, Enters, ended};
 
 use crate::pending::{Pending, accept_in};
 use std::alloc::Global;
-use std::collections::BTreeMap;
+use std::collections::{BTreeMap, BTreeSet};
 use tx_core::{Answer, Body, Declaration, Get, Outcome, Prewrite, Scan};
 use tx_machine::{ScanRead, Step};
-use tx_types::{Fate, Fault, Key, Ts};
+use tx_types::{Fate, Fault, Key, Mutation, Ts};
 
-/// The machine's steps of the events so far, oldest first, and what each transaction that is declared and not decided waits for.
+/// The machine's steps of the events so far, oldest first, what each transaction that is declared and not decided waits for, and which
+/// keys were checked that a transaction inserts.
 #[derive(Drop)]
 pub(crate) struct Log {
     alloc: Global,
     steps: Vec<Step>,
     pending: BTreeMap<Ts, Pending>,
+    checked: BTreeSet<(Ts, Key)>,
 }
 
 // The step at which a transaction is decided.
@@ -62,6 +66,7 @@ impl Log {
             alloc,
             steps: Vec::new(alloc),
             pending: BTreeMap::new(alloc),
+            checked: BTreeSet::new(alloc),
         }
     }
 
@@ -121,18 +126,48 @@ impl Log {
         }
     }
 
-    // A key of a transaction is locked with a minimum, 0 of a two-phase lock.
-    fn lock(&mut self, start: Ts, key: &Key, min: Ts) -> Result<(), Fault>
-        ensures ok { OnOk result (Locked start key.now min self.old self.new) }
+    // A prewrite was accepted: an insert read its key at its start, where that is its first acceptance. Room is left for one step.
+    fn check(&mut self, body: &Prewrite) -> Result<(), Fault>
+        ensures ok { OnOk result (Checks body.now self.old self.new) }
+        ensures room { OnOk result (vec_len self.new.steps < vec_capacity self.new.steps) }
         ensures same { OnErr result (Stays self.old self.new) }
         ensures err { IfErr result (λ e. e ≡ Fault.OutOfMemory) }
     {
-        self.steps.reserve(1)?;
+        self.steps.reserve(2)?;
+        match body.mutation {
+            Mutation::Insert(_) => self.read_first(body),
+            Mutation::Put(_) | Mutation::Delete | Mutation::Lock => Ok(()),
+        }
+    }
+
+    // An insert was accepted: it read its key at its start, if this is its first acceptance.
+    fn read_first(&mut self, body: &Prewrite) -> Result<(), Fault>
+        requires room { vec_len self.old.steps + 1 < vec_capacity self.old.steps }
+        requires inserts { check_by body.now.mutation body.now.start ≡ Some body.now.start }
+        ensures ok { OnOk result (Checks body.now self.old self.new) }
+        ensures room { OnOk result (vec_len self.new.steps < vec_capacity self.new.steps) }
+        ensures same { OnErr result (Stays self.old self.new) }
+        ensures err { IfErr result (λ e. e ≡ Fault.OutOfMemory) }
+    {
+        let read = Step::Read(body.key.clone()?, body.start, None);
+        let first = self.checked.insert((body.start, body.key.clone()?))?;
+        if !first {
+            return Ok(());
+        }
+        self.steps.push_reserved(read);
+        Ok(())
+    }
+
+    // A key of a transaction is locked with a minimum, 0 of a two-phase lock.
+    fn lock(&mut self, start: Ts, key: &Key, min: Ts)
+        requires room { vec_len self.old.steps < vec_capacity self.old.steps }
+        ensures locks { Locked start key.now min (steps_of self.old) (kept_in self.old) self.new }
+        ensures still { (q : ℕ) (k : Key) → checked_in self.new q k ≡ checked_in self.old q k }
+    {
         if let Some(commit) = accept_in(&mut self.pending, start, key, min) {
             self.steps.push_reserved(Step::Commit(start, commit));
             self.pending.remove(&start);
         }
-        Ok(())
     }
 
     // A read of one key is answered.
@@ -175,7 +210,11 @@ impl Log {
         ensures err { IfErr result (λ e. e ≡ Fault.OutOfMemory) }
     {
         match answer {
-            Answer::Prewritten(min) => self.lock(body.start, &body.key, *min),
+            Answer::Prewritten(min) => {
+                self.check(body)?;
+                self.lock(body.start, &body.key, *min);
+                Ok(())
+            }
             _ => self.tell(body.start, answer),
         }
     }

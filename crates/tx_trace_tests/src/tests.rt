@@ -11,12 +11,14 @@ use tx_types::{Change, Changes, Fault, Key, Mode, Mutation, Secondaries, Ts, Val
 // Events, and the steps that are read off them.
 type Run = (&'static [Deed], &'static [(&'static str, u64, u64)]);
 
-// An event of a transaction that puts x to some keys, by its start.
+// An event of a transaction that puts x to some keys, or inserts it, by its start.
 #[derive(Clone, Copy)]
 enum Deed {
     Draws(u64),
     Begins(u64),
     Declares(u64, Mode, &'static [&'static [u8]]),
+    DeclaresInserts(u64, &'static [&'static [u8]]),
+    Inserts(u64, &'static [u8], u64),
     Locks(u64, &'static [u8], u64),
     Commits(u64, &'static [u8], u64),
     RollsBack(u64),
@@ -35,6 +37,22 @@ fn put(rt: &HostRuntime) -> Result<Mutation, Fault> {
     Ok(Mutation::Put(Value::new(rt.alloc(), b"x")?))
 }
 
+fn insert(rt: &HostRuntime) -> Result<Mutation, Fault> {
+    Ok(Mutation::Insert(Value::new(rt.alloc(), b"x")?))
+}
+
+// The trace does not look at the number that was drawn for it.
+fn declares(start: u64, mode: Mode, changes: Changes) -> Event {
+    Event::Declared(Declaration {
+        start: Ts::new(start),
+        changes,
+        mode,
+        ttl: 10,
+        max_commit: None,
+        drawn: Ts::ZERO,
+    })
+}
+
 fn declared(
     rt: &HostRuntime,
     start: u64,
@@ -48,13 +66,18 @@ fn declared(
             mutation: put(rt)?,
         })?;
     }
-    Ok(Event::Declared(Declaration {
-        start: Ts::new(start),
-        changes,
-        mode,
-        ttl: 10,
-        max_commit: None,
-    }))
+    Ok(declares(start, mode, changes))
+}
+
+fn declared_inserts(rt: &HostRuntime, start: u64, names: &[&'static [u8]]) -> Result<Event, Fault> {
+    let mut changes = Changes::new(rt.alloc());
+    for name in names {
+        changes.push(Change {
+            key: key(rt, name)?,
+            mutation: insert(rt)?,
+        })?;
+    }
+    Ok(declares(start, Mode::Async, changes))
 }
 
 fn took(body: Body, answer: Answer) -> Event {
@@ -66,14 +89,21 @@ fn took(body: Body, answer: Answer) -> Event {
     })
 }
 
-fn locked(rt: &HostRuntime, start: u64, name: &[u8], min: u64) -> Result<Event, Fault> {
+fn locked(
+    rt: &HostRuntime,
+    start: u64,
+    name: &[u8],
+    mutation: Mutation,
+    min: u64,
+) -> Result<Event, Fault> {
     let body = Prewrite {
         key: key(rt, name)?,
-        mutation: put(rt)?,
+        mutation,
         start: Ts::new(start),
         primary: key(rt, b"a")?,
         mode: Mode::Async,
         max_commit: None,
+        floor: Ts::ZERO,
         ttl: 10,
         others: Secondaries::new(rt.alloc()),
     };
@@ -113,7 +143,9 @@ fn event(rt: &HostRuntime, deed: Deed) -> Result<Event, Fault> {
         }),
         Deed::Begins(start) => Ok(Event::Began(Ts::new(start))),
         Deed::Declares(start, mode, names) => declared(rt, start, mode, names),
-        Deed::Locks(start, name, min) => locked(rt, start, name, min),
+        Deed::DeclaresInserts(start, names) => declared_inserts(rt, start, names),
+        Deed::Locks(start, name, min) => locked(rt, start, name, put(rt)?, min),
+        Deed::Inserts(start, name, min) => locked(rt, start, name, insert(rt)?, min),
         Deed::Commits(start, name, commit) => committed(rt, start, name, commit),
         Deed::RollsBack(start) => {
             let body = BatchRollback {
@@ -278,9 +310,60 @@ const ABANDONED: Run = (
     ],
 );
 
+// An insert's check is a read at its start, before the commit at the same event; a repeated prewrite makes none.
+const INSERTED: Run = (
+    &[
+        Deed::Draws(1),
+        Deed::Begins(1),
+        Deed::Draws(2),
+        Deed::DeclaresInserts(1, &[b"a"]),
+        Deed::Inserts(1, b"a", 3),
+        Deed::Inserts(1, b"a", 3),
+        Deed::Commits(1, b"a", 3),
+        Deed::TellsCommit(1, 3),
+    ],
+    &[
+        ("draw", 1, 0),
+        ("begin", 1, 0),
+        ("draw", 2, 0),
+        ("declare", 1, 0),
+        ("read", 1, 0),
+        ("commit", 1, 3),
+        ("answer", 1, 0),
+    ],
+);
+
+// One that comes after its transaction was aborted is read all the same, once.
+const INSERTED_LATE: Run = (
+    &[
+        Deed::Draws(1),
+        Deed::Begins(1),
+        Deed::Draws(2),
+        Deed::DeclaresInserts(1, &[b"a", b"b"]),
+        Deed::RollsBack(1),
+        Deed::Inserts(1, b"b", 3),
+        Deed::Inserts(1, b"b", 3),
+    ],
+    &[
+        ("draw", 1, 0),
+        ("begin", 1, 0),
+        ("draw", 2, 0),
+        ("declare", 1, 0),
+        ("abort", 1, 0),
+        ("read", 1, 0),
+    ],
+);
+
 #[test]
 fn worked_runs_have_their_steps(rt: HostRuntime) -> Result<(), Fail> {
-    for run in &[TWO_PHASE, ASYNC, FALLS_BACK, ABANDONED] {
+    for run in &[
+        TWO_PHASE,
+        ASYNC,
+        FALLS_BACK,
+        ABANDONED,
+        INSERTED,
+        INSERTED_LATE,
+    ] {
         assert!(rt; runs_as(&rt, run)?);
     }
     Ok(())

@@ -76,10 +76,10 @@ changes_with [] i p = refl
 changes_with (e ∷ es) zero p = refl
 changes_with (e ∷ es) (suc i) p = ap (λ (l : List Change). record { key = e.0; mutation = e.1.mutation } ∷ l) (changes_with es i p)
 
-pub declaration_with : (t : ℕ) (es : Entries) (i : ℕ) (p : Progress) (terms : Terms) → declaration t (with_progress es i p) terms ≡ declaration t es terms
-declaration_with t [] i p terms = refl
-declaration_with t (e ∷ es) zero p terms = refl
-declaration_with t (e ∷ es) (suc i) p terms = ap (λ (l : List Change). Some (record (declaration_of t es terms) { changes = record { key = e.0; mutation = e.1.mutation } ∷ l })) (changes_with es i p)
+pub declaration_with : (t placed : ℕ) (es : Entries) (i : ℕ) (p : Progress) (terms : Terms) → declaration t placed (with_progress es i p) terms ≡ declaration t placed es terms
+declaration_with t placed [] i p terms = refl
+declaration_with t placed (e ∷ es) zero p terms = refl
+declaration_with t placed (e ∷ es) (suc i) p terms = ap (λ (l : List Change). Some (record (declaration_of t placed es terms) { changes = record { key = e.0; mutation = e.1.mutation } ∷ l })) (changes_with es i p)
 
 -- ---- a key is touched
 

@@ -4,6 +4,7 @@ use Rattle.std.specs.Prelude.{ℕ, ◌+◌, zero, suc, max, nat_lt, ◌||◌, �
 use Rattle.indexmap.specs.IndexMap.{insert_entry}
 use Rattle.tx_types.specs.declared.limits.TheConstants.{MAX_KEYS}
 use Rattle.tx_types.specs.declared.key.Key.{Key}
+use Rattle.tx_types.specs.declared.value.Value.{Value}
 use Rattle.tx_types.specs.declared.mutation.Change.{Change}
 use Rattle.tx_types.specs.declared.mutation.Mutation.{Mutation}
 use Rattle.tx_types.specs.declared.mutation.Mutation.TheVariants as mutation
@@ -29,9 +30,10 @@ abbrev pub buffered : Entries → Key → Option Mutation
 buffered [] k = None
 buffered (e ∷ es) k = cond (bytes_eq e.0 k) (Some e.1.mutation) (buffered es k)
 
--- a read of a key is answered from the buffer where a put or a delete of it is there
+-- a read of a key is answered from the buffer where a put, an insert or a delete of it is there
 abbrev pub is_change : Mutation → Bool
 is_change (mutation.Put v) = true
+is_change (mutation.Insert v) = true
 is_change mutation.Delete = true
 is_change mutation.Lock = false
 
@@ -39,7 +41,12 @@ abbrev pub is_known : Option Mutation → Bool
 is_known None = false
 is_known (Some m) = is_change m
 
--- the buffer after a put or delete: a key that is there keeps its place
+-- what a put enters: an insert that is there stays one, with the new value
+abbrev pub put_over : Option Mutation → Value → Mutation
+put_over (Some (mutation.Insert w)) v = mutation.Insert v
+put_over _ v = mutation.Put v
+
+-- the buffer after a put, an insert or a delete: a key that is there keeps its place
 abbrev pub touched : Entries → Key → Mutation → Entries
 touched es k m = insert_entry bytes_eq es k (fresh m)
 

@@ -37,5 +37,6 @@ ReadsAs c r = r ≡ read c
 -- what the buffer answers to a read
 abbrev pub IsBuffered : Option Mutation → Option (Result Answer Miss) → Type 0
 IsBuffered (Some (mutation.Put v)) r = (r ≡ Some (Err NoMemory)) ⊎ (r ≡ Some (Ok (answer.Found v)))
+IsBuffered (Some (mutation.Insert v)) r = (r ≡ Some (Err NoMemory)) ⊎ (r ≡ Some (Ok (answer.Found v)))
 IsBuffered (Some mutation.Delete) r = r ≡ Some (Ok answer.Nothing)
 IsBuffered _ r = r ≡ None

@@ -11,6 +11,7 @@ use Rattle.tx_plan.specs.declared.body.Body.{Body}
 use Rattle.tx_plan.specs.declared.body.Body.TheVariants as request
 use Rattle.tx_plan.specs.declared.answer.Answer.{Answer}
 use Rattle.tx_plan.specs.declared.answer.Answer.TheVariants as answer
+use Rattle.tx_core.specs.Allowed.{floor_of}
 use Rattle.tx_core.specs.Decisions.{fate_in}
 use Rattle.tx_core.specs.declared.event.Declaration.{Declaration}
 use Rattle.tx_core.specs.declared.event.Outcome.{Outcome}
@@ -26,12 +27,13 @@ use Rattle.tx_transaction.specs.declared.state.Came.{Came}
 use Rattle.tx_transaction.specs.declared.state.Came.TheVariants as came
 use Rattle.tx_transaction.specs.Buffers.{Entries, changes_of, keys_of, not_empty, key_at, mutation_in, progress_at, with_progress, first_place, has_two_phase_lock, promised}
 
--- The state of a session: its start, its write buffer, the terms that it declared, the transactions that its reads pass by, the lock that
+-- The state of a session: its start, its write buffer, the terms that it declared, the number that its declaration drew, the transactions that its reads pass by, the lock that
 -- last stood in its way, its drawn commit timestamp, what it knows of the fate of its transaction, and why it may not know it.
 pub record State : Type 0 where
   pub start : ℕ
   pub buffer : Entries
   pub declared : Option Terms
+  pub placed : ℕ
   pub bypass : List ℕ
   pub met : Option LockInfo
   pub drawn : Option ℕ
@@ -40,7 +42,7 @@ pub record State : Type 0 where
 
 -- the state of a session that begins
 abbrev pub begun : ℕ → State
-begun start = record { start = start; buffer = []; declared = None; bypass = []; met = None; drawn = None; decision = None; cause = None }
+begun start = record { start = start; buffer = []; declared = None; placed = 0; bypass = []; met = None; drawn = None; decision = None; cause = None }
 
 -- ---- what was declared
 
@@ -52,13 +54,13 @@ is_declared s = is_some s.declared
 abbrev pub has_primary : State → Bool
 has_primary s = is_declared s && not_empty s.buffer
 
--- what a buffer declares under these terms
-abbrev pub declaration_of : ℕ → Entries → Terms → Declaration
-declaration_of start es terms = record { start = start; changes = changes_of es; mode = terms.mode; ttl = terms.ttl; max_commit = terms.max_commit }
+-- what a buffer declares under these terms, with the number that was drawn for it
+abbrev pub declaration_of : ℕ → ℕ → Entries → Terms → Declaration
+declaration_of start placed es terms = record { start = start; changes = changes_of es; mode = terms.mode; ttl = terms.ttl; max_commit = terms.max_commit; drawn = placed }
 
-abbrev pub declaration : ℕ → Entries → Terms → Option Declaration
-declaration start [] terms = None
-declaration start (e ∷ es) terms = Some (declaration_of start (e ∷ es) terms)
+abbrev pub declaration : ℕ → ℕ → Entries → Terms → Option Declaration
+declaration start placed [] terms = None
+declaration start placed (e ∷ es) terms = Some (declaration_of start placed (e ∷ es) terms)
 
 -- whether the buffer has more keys than these terms allow
 abbrev pub exceeds : Entries → Terms → Bool
@@ -88,6 +90,7 @@ prewrite_of s terms i = record {
     primary = key_at s.buffer 0;
     mode = terms.mode;
     max_commit = terms.max_commit;
+    floor = floor_of (declaration_of s.start s.placed s.buffer terms);
     ttl = terms.ttl;
     others = others_at terms.mode s.buffer i;
   });

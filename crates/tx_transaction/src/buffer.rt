@@ -2,7 +2,7 @@
 ghost use Rattle.std.specs.Prelude.{◌≡◌, ◌<◌, ◌≤◌, length, IfOk, IfErr, IfSome, OnOk, OnErr, max, option_map, bytes_eq};
 ghost use Rattle.tx_machine.specs.Keys.{IsDistinct};
 ghost use Rattle.tx_types.specs.declared.mutation.Mode.TheVariants.{Async};
-ghost use Rattle.tx_transaction.specs.Buffers.{key_at, mutation_in, progress_at, with_progress, first_place, wants, is_full, is_change, is_known, not_empty, changes_of, touched, buffered, has_two_phase_lock, async_minimum, promised, is_zero};
+ghost use Rattle.tx_transaction.specs.Buffers.{key_at, mutation_in, progress_at, with_progress, first_place, wants, is_full, is_change, is_known, not_empty, changes_of, touched, buffered, put_over, has_two_phase_lock, async_minimum, promised, is_zero};
 ghost use Rattle.tx_transaction.specs.Sessions.{others_at, sent_by, marked_by};
 
 use crate::answers::{mark, mark_sent};
@@ -11,7 +11,7 @@ use indexmap::IndexMap;
 use std::alloc::Global;
 use tx_core::Answer;
 use tx_types::limits::MAX_KEYS;
-use tx_types::{Change, Changes, Fault, Key, Mutation, Secondaries, Ts};
+use tx_types::{Change, Changes, Fault, Key, Mutation, Secondaries, Ts, Value};
 
 pub(crate) type Buffer = IndexMap<Key, Entry>;
 
@@ -48,6 +48,16 @@ pub(crate) fn find<'a>(buffer: &'a Buffer, key: &Key) -> Option<&'a Mutation>
     }
 }
 
+/// What a put of a key enters: an insert that is there stays one, with the new value.
+pub(crate) fn put_over(buffer: &Buffer, key: &Key, value: Value) -> Mutation
+    ensures { result ≡ put_over (buffered buffer.now.entries key.now) value }
+{
+    match find(buffer, key) {
+        Some(Mutation::Insert(_)) => Mutation::Insert(value),
+        _ => Mutation::Put(value),
+    }
+}
+
 // Whether the key at a place has these bytes.
 fn is_at(buffer: &Buffer, i: usize, key: &[u8]) -> bool
     requires { i < length buffer.now.entries }
@@ -64,7 +74,7 @@ fn is_change(mutation: &Mutation) -> bool
     ensures { result ≡ is_change mutation.now }
 {
     match mutation {
-        Mutation::Put(_) | Mutation::Delete => true,
+        Mutation::Put(_) | Mutation::Insert(_) | Mutation::Delete => true,
         Mutation::Lock => false,
     }
 }

@@ -1,6 +1,6 @@
 //! One transaction, as its client knows it: the rules of a session, without its seat.
-ghost use Rattle.std.specs.Prelude.{◌≡◌, ◌⊎◌, true, false, Ok, Err, IfOk, IfErr, OnOk, OnErr};
-ghost use Rattle.tx_transaction.specs.Buffers.{touched, locked, buffered, is_full, is_known, not_empty};
+ghost use Rattle.std.specs.Prelude.{◌≡◌, ◌<◌, ◌⊎◌, true, false, Ok, Err, IfOk, IfErr, OnOk, OnErr};
+ghost use Rattle.tx_transaction.specs.Buffers.{touched, put_over, locked, buffered, is_full, is_known, not_empty};
 ghost use Rattle.tx_transaction.specs.Sessions.{begun, is_declared, has_primary, declaration, exceeds};
 ghost use Rattle.tx_transaction.specs.declared.state.Miss.TheVariants.{NoMemory};
 ghost use Rattle.tx_transaction.specs.Returns.{IsBuffered};
@@ -9,7 +9,7 @@ mod fate;
 mod hearing;
 mod requests;
 
-use crate::buffer::{Buffer, changes_in, find, has_keys, is_full, is_known, touch};
+use crate::buffer::{Buffer, changes_in, find, has_keys, is_full, is_known, put_over, touch};
 use crate::state::{Miss, Terms};
 use indexmap::IndexMap;
 use std::alloc::Global;
@@ -34,6 +34,7 @@ pub struct Transaction {
     start: Ts,
     buffer: Buffer,
     declared: Option<Terms>,
+    placed: Ts,
     bypass: Starts,
     met: Option<LockInfo>,
     drawn: Option<Ts>,
@@ -43,13 +44,14 @@ pub struct Transaction {
 
 impl Model for Transaction {
     ghost use Rattle.tx_transaction.specs.Sessions.{State};
+    ghost use Rattle.std.specs.Prelude.{◌<◌};
     ghost use Rattle.tx_transaction.specs.Sessions.{Few};
 
     ghost Value = { State };
 
-    ghost view = { λ t. record { start = t.start; buffer = t.buffer.entries; declared = t.declared; bypass = t.bypass; met = t.met; drawn = t.drawn; decision = t.decision; cause = t.cause } };
+    ghost view = { λ t. record { start = t.start; buffer = t.buffer.entries; declared = t.declared; placed = t.placed; bypass = t.bypass; met = t.met; drawn = t.drawn; decision = t.decision; cause = t.cause } };
 
-    ghost invariant = { λ t. Few t.declared t.buffer.entries };
+    ghost invariant = { λ t. Few t.declared t.buffer.entries × (t.placed < 18446744073709551615) };
 }
 
 impl Transaction {
@@ -61,6 +63,7 @@ impl Transaction {
             start,
             buffer: IndexMap::new(alloc),
             declared: None,
+            placed: Ts::ZERO,
             bypass: Starts::new(alloc),
             met: None,
             drawn: None,
@@ -96,6 +99,7 @@ impl Transaction {
     {
         match find(&self.buffer, key) {
             Some(Mutation::Put(value)) => Some(found(value)),
+            Some(Mutation::Insert(value)) => Some(found(value)),
             Some(Mutation::Delete) => Some(Ok(Answer::Nothing)),
             _ => None,
         }
@@ -121,6 +125,17 @@ impl Transaction {
         touch(&mut self.buffer, key, mutation)
     }
 
+    /// Enters a put of a key into the buffer. An insert that is there stays one, with the new value.
+    pub fn put(&mut self, key: Key, value: Value) -> Result<(), Fault>
+        requires { is_declared self.old ≡ false }
+        ensures ok { OnOk result ((is_full self.old.buffer key ≡ false) × (self.new ≡ record self.old { buffer = touched self.old.buffer key (put_over (buffered self.old.buffer key) value) })) }
+        ensures same { OnErr result (self.new ≡ self.old) }
+        ensures err { IfErr result (λ e. (e ≡ Fault.OutOfMemory) ⊎ ((e ≡ Fault.TooManyKeys) × (is_full self.old.buffer key ≡ true))) }
+    {
+        let mutation = put_over(&self.buffer, &key, value);
+        self.touch(key, mutation)
+    }
+
     /// Enters a lock of a key that is not in the buffer.
     pub fn lock(&mut self, key: Key) -> Result<(), Fault>
         requires { is_declared self.old ≡ false }
@@ -141,9 +156,14 @@ impl Transaction {
         has_keys(&self.buffer)
     }
 
-    /// What the buffer declares under these terms, which is nothing where it is empty.
-    pub fn declaration(&self, alloc: Global, terms: &Terms) -> Result<Option<Declaration>, Fault>
-        ensures ok { IfOk result (λ d. d ≡ declaration self.now.start self.now.buffer terms.now) }
+    /// What the buffer declares under these terms with a number that was drawn for it, which is nothing where it is empty.
+    pub fn declaration(
+        &self,
+        alloc: Global,
+        placed: Ts,
+        terms: &Terms,
+    ) -> Result<Option<Declaration>, Fault>
+        ensures ok { IfOk result (λ d. d ≡ declaration self.now.start placed self.now.buffer terms.now) }
         ensures err { IfErr result (λ e. e ≡ Fault.OutOfMemory) }
     {
         if !has_keys(&self.buffer) {
@@ -156,6 +176,7 @@ impl Transaction {
             mode: terms.mode,
             ttl: terms.ttl,
             max_commit: terms.max_commit,
+            drawn: placed,
         }))
     }
 
@@ -166,11 +187,20 @@ impl Transaction {
         terms.mode == Mode::Async && self.buffer.len() > MAX_ASYNC_KEYS
     }
 
-    /// Its buffer is fixed under these terms.
-    pub fn declare(&mut self, terms: Terms)
-        requires { exceeds self.old.buffer terms ≡ false }
-        ensures { self.new ≡ record self.old { declared = Some terms } }
+    /// The number that was drawn for what it declared, 0 where it declared nothing.
+    pub fn placed(&self) -> Ts
+        ensures { result ≡ self.now.placed }
+    {
+        self.placed
+    }
+
+    /// Its buffer is fixed under these terms, and a number was drawn for it.
+    pub fn declare(&mut self, terms: Terms, placed: Ts)
+        requires few { exceeds self.old.buffer terms ≡ false }
+        requires room { placed < u64.MAX }
+        ensures { self.new ≡ record self.old { declared = Some terms; placed = placed } }
     {
         self.declared = Some(terms);
+        self.placed = placed;
     }
 }

@@ -6,7 +6,7 @@ use Rattle.tx_types.specs.declared.key.Key.{Key}
 use Rattle.tx_types.specs.declared.value.Value.{Value}
 use Rattle.tx_types.specs.declared.mutation.KeyValue.{KeyValue}
 use Rattle.tx_types.specs.declared.mutation.Mutation.{Mutation}
-use Rattle.tx_types.specs.declared.mutation.Mutation.TheVariants.{Put, Delete, Lock}
+use Rattle.tx_types.specs.declared.mutation.Mutation.TheVariants.{Put, Insert, Delete, Lock}
 
 -- keys are ordered as their bytes are
 abbrev pub key_lt : Key → Key → Bool
@@ -39,8 +39,23 @@ reaches (x ∷ xs) k = key_le k x.key || reaches xs k
 abbrev pub is_scanned : Key → Key → ℕ → List KeyValue → Key → Bool
 is_scanned from to limit rows k = is_between from to k && (nat_lt (length rows) limit || reaches rows k)
 
--- reads see puts and deletes, and no locks
+-- reads see puts, inserts and deletes, and no locks
 abbrev pub IsVisible : Mutation → Type 0
 IsVisible (Put v) = Unit {0}
+IsVisible (Insert v) = Unit {0}
 IsVisible Delete = Unit {0}
 IsVisible Lock = ⊥
+
+-- the value that a mutation leaves on its key, if it leaves one
+abbrev pub put_by : Mutation → Option Value
+put_by (Put v) = Some v
+put_by (Insert v) = Some v
+put_by Delete = None
+put_by Lock = None
+
+-- it asks that its key have no value
+abbrev pub IsInsert : Mutation → Type 0
+IsInsert (Put v) = ⊥
+IsInsert (Insert v) = Unit {0}
+IsInsert Delete = ⊥
+IsInsert Lock = ⊥

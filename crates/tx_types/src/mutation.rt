@@ -12,6 +12,8 @@ use crate::value::{StoredValue, Value};
 pub enum Mutation {
     /// Writes the value.
     Put(Value),
+    /// Writes the value, where the key has none at the transaction's start.
+    Insert(Value),
     /// Removes the value.
     Delete,
     /// Leaves the value, and conflicts with those that change it.
@@ -24,7 +26,7 @@ impl Mutation {
         ensures { result ≡ kind_of self.now }
     {
         match self {
-            Mutation::Put(_) => LockKind::Put,
+            Mutation::Put(_) | Mutation::Insert(_) => LockKind::Put,
             Mutation::Delete => LockKind::Delete,
             Mutation::Lock => LockKind::Lock,
         }

@@ -25,6 +25,7 @@ fn body(alloc: Global, key: Key, start: u64, mutation: Mutation) -> Result<Prewr
         primary,
         mode: Mode::TwoPhase,
         max_commit: None,
+        floor: Ts::ZERO,
         ttl: 10,
         others: Secondaries::new(alloc),
     })
@@ -60,7 +61,7 @@ fn change_of(planned: Planned) -> KeyChange
 fn locks<F: Families>(alloc: Global, families: &mut F, body: &Prewrite) -> Result<bool, Fault> {
     let view = families.view(alloc, &body.key, body.start, body.start)?;
     let loaded = Ts::new(1_000_000);
-    let planned = plan_prewrite(&view, Ts::ZERO, loaded, Ts::ZERO, body);
+    let planned = plan_prewrite(&view, false, Ts::ZERO, loaded, Ts::ZERO, body);
     put_lock(alloc, families, body, change_of(planned))
 }
 

@@ -74,7 +74,7 @@ impl<J: Naming> Session<J> {
     /// Shows what its seat has seen declared of its transaction: its buffer under its terms, once it has declared, and else nothing.
     pub fn show(&self)
         ensures run { IsWorldRun J.bounds self.now.seat.events }
-        ensures stands { declared self.now.seat.events self.now.state.start ≡ standing self.now.state.start self.now.state.buffer self.now.state.declared }
+        ensures stands { declared self.now.seat.events self.now.state.start ≡ standing self.now.state.start self.now.state.placed self.now.state.buffer self.now.state.declared }
     {
         let _ = &self.transaction;
     }

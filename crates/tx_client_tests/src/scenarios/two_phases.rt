@@ -17,10 +17,10 @@ const COMMIT_THEN_READ: [Step; 9] = [
     (A, Put(1, 5), Plain, "ok", 0),
     (A, Declare(TwoPhase, None), Plain, "ok", 0),
     (A, Prewrite, Plain, "prewritten", 0),
-    (A, Draw, Plain, "drawn", 2),
-    (A, Commit, Plain, "committed", 2),
-    (A, Finish, Plain, "ended committed", 2),
-    (B, Begin, Plain, "start", 3),
+    (A, Draw, Plain, "drawn", 3),
+    (A, Commit, Plain, "committed", 3),
+    (A, Finish, Plain, "ended committed", 3),
+    (B, Begin, Plain, "start", 4),
     (B, Get(1), Plain, "value", 5),
 ];
 
@@ -31,7 +31,7 @@ const IN_BUFFER_ORDER: [Step; 22] = [
     (A, Put(1, 6), Plain, "ok", 0),
     (A, Put(4, 7), Plain, "ok", 0),
     (A, Declare(TwoPhase, None), Plain, "ok", 0),
-    (B, Begin, Plain, "start", 2),
+    (B, Begin, Plain, "start", 3),
     (A, Prewrite, Plain, "prewritten", 0),
     (B, Get(1), Plain, "none", 0),
     (B, Get(4), Plain, "E1", 4),
@@ -39,14 +39,14 @@ const IN_BUFFER_ORDER: [Step; 22] = [
     (A, Prewrite, Plain, "prewritten", 0),
     (A, Prewrite, Plain, "done", 0),
     (A, Commit, Plain, "order", 0),
-    (A, Draw, Plain, "drawn", 3),
+    (A, Draw, Plain, "drawn", 4),
     (A, Draw, Plain, "order", 0),
-    (A, Commit, Plain, "committed", 3),
-    (A, Commit, Plain, "committed", 3),
+    (A, Commit, Plain, "committed", 4),
+    (A, Commit, Plain, "committed", 4),
     (A, Commit, Plain, "done", 0),
-    (A, Finish, Plain, "ended committed", 3),
+    (A, Finish, Plain, "ended committed", 4),
     (B, Stop, Plain, "ok", 0),
-    (B, Begin, Plain, "start", 4),
+    (B, Begin, Plain, "start", 5),
     (B, Scan(1, 9, 10), Plain, "rows", 1647),
 ];
 
@@ -58,13 +58,13 @@ const PRIMARY_COMMITS_FIRST: [Step; 13] = [
     (A, Declare(TwoPhase, None), Plain, "ok", 0),
     (A, Prewrite, Plain, "prewritten", 0),
     (A, Prewrite, Plain, "prewritten", 0),
-    (A, Draw, Plain, "drawn", 2),
-    (A, Commit, Plain, "committed", 2),
-    (B, Begin, Plain, "start", 3),
+    (A, Draw, Plain, "drawn", 3),
+    (A, Commit, Plain, "committed", 3),
+    (B, Begin, Plain, "start", 4),
     (B, Get(4), Plain, "value", 5),
     (B, Get(1), Plain, "E1", 1),
     (A, Abort, Plain, "order", 0),
-    (A, Finish, Plain, "ended committed", 2),
+    (A, Finish, Plain, "ended committed", 3),
 ];
 
 // A reader pushes the primary and passes by the other key: the drawn timestamp is refused, and another is drawn.
@@ -75,18 +75,18 @@ const SECOND_DRAW: [Step; 18] = [
     (A, Declare(TwoPhase, None), Plain, "ok", 0),
     (A, Prewrite, Plain, "prewritten", 0),
     (A, Prewrite, Plain, "prewritten", 0),
-    (A, Draw, Plain, "drawn", 2),
-    (B, Begin, Plain, "start", 3),
+    (A, Draw, Plain, "drawn", 3),
+    (B, Begin, Plain, "start", 4),
     (B, Get(2), Plain, "E1", 2),
-    (B, Resolve(5), Plain, "pushed", 4),
+    (B, Resolve(5), Plain, "pushed", 5),
     (B, Get(2), Plain, "none", 0),
-    (A, Commit, Plain, "E5", 4),
+    (A, Commit, Plain, "E5", 5),
     (A, Commit, Plain, "order", 0),
-    (A, Draw, Plain, "drawn", 4),
-    (A, Commit, Plain, "committed", 4),
-    (A, Commit, Plain, "committed", 4),
+    (A, Draw, Plain, "drawn", 5),
+    (A, Commit, Plain, "committed", 5),
+    (A, Commit, Plain, "committed", 5),
     (B, Get(2), Plain, "none", 0),
-    (A, Finish, Plain, "ended committed", 4),
+    (A, Finish, Plain, "ended committed", 5),
 ];
 
 // Abort rolls the primary back, and then the key at which it met a lock.
@@ -95,7 +95,7 @@ const ABORT_AFTER_A_LOCK: [Step; 15] = [
     (B, Put(2, 9), Plain, "ok", 0),
     (B, Declare(TwoPhase, None), Plain, "ok", 0),
     (B, Prewrite, Plain, "prewritten", 0),
-    (A, Begin, Plain, "start", 2),
+    (A, Begin, Plain, "start", 3),
     (A, Put(1, 5), Plain, "ok", 0),
     (A, Put(2, 6), Plain, "ok", 0),
     (A, Declare(TwoPhase, None), Plain, "ok", 0),
@@ -144,14 +144,14 @@ const ABORT_FINDS_THE_COMMIT: [Step; 14] = [
     (A, Declare(TwoPhase, None), Plain, "ok", 0),
     (A, Prewrite, Plain, "prewritten", 0),
     (A, Prewrite, Plain, "prewritten", 0),
-    (A, Draw, Plain, "drawn", 2),
+    (A, Draw, Plain, "drawn", 3),
     (A, Commit, LosesReply, "lost", 0),
-    (A, Abort, Plain, "E4", 2),
+    (A, Abort, Plain, "E4", 3),
     (A, Abort, Plain, "order", 0),
-    (A, Commit, Plain, "committed", 2),
-    (A, Commit, Plain, "committed", 2),
+    (A, Commit, Plain, "committed", 3),
+    (A, Commit, Plain, "committed", 3),
     (A, Commit, Plain, "done", 0),
-    (A, Finish, Plain, "ended committed", 2),
+    (A, Finish, Plain, "ended committed", 3),
 ];
 
 // The reply to the primary's commit is lost, and the commit is asked again.
@@ -160,10 +160,10 @@ const COMMIT_AGAIN: [Step; 8] = [
     (A, Put(1, 5), Plain, "ok", 0),
     (A, Declare(TwoPhase, None), Plain, "ok", 0),
     (A, Prewrite, Plain, "prewritten", 0),
-    (A, Draw, Plain, "drawn", 2),
+    (A, Draw, Plain, "drawn", 3),
     (A, Commit, LosesReply, "lost", 0),
-    (A, Commit, Plain, "committed", 2),
-    (A, Finish, Plain, "ended committed", 2),
+    (A, Commit, Plain, "committed", 3),
+    (A, Finish, Plain, "ended committed", 3),
 ];
 
 // A newer commit is a conflict, however often it is asked; it decides nothing.
@@ -174,12 +174,12 @@ const CONFLICT_REPEATED: [Step; 14] = [
     (B, Put(1, 6), Plain, "ok", 0),
     (B, Declare(TwoPhase, None), Plain, "ok", 0),
     (B, Prewrite, Plain, "prewritten", 0),
-    (B, Draw, Plain, "drawn", 3),
-    (B, Commit, Plain, "committed", 3),
+    (B, Draw, Plain, "drawn", 4),
+    (B, Commit, Plain, "committed", 4),
     (A, Declare(TwoPhase, None), Plain, "ok", 0),
-    (A, Prewrite, Plain, "E2", 3),
+    (A, Prewrite, Plain, "E2", 4),
     (A, Finish, Plain, "not yet", 0),
-    (A, Prewrite, Repeats, "E2", 3),
+    (A, Prewrite, Repeats, "E2", 4),
     (A, Abort, Plain, "rolled-back", 0),
     (A, Finish, Plain, "ended aborted", 0),
 ];
@@ -191,9 +191,9 @@ const PREWRITE_REPEATED: [Step; 8] = [
     (A, Declare(TwoPhase, None), Plain, "ok", 0),
     (A, Prewrite, Repeats, "prewritten", 0),
     (A, Prewrite, Plain, "done", 0),
-    (A, Draw, Plain, "drawn", 2),
-    (A, Commit, Repeats, "committed", 2),
-    (A, Finish, Plain, "ended committed", 2),
+    (A, Draw, Plain, "drawn", 3),
+    (A, Commit, Repeats, "committed", 3),
+    (A, Finish, Plain, "ended committed", 3),
 ];
 
 // The reply to the abort is lost, and the prewrite that is asked again tells that it is rolled back.
@@ -216,7 +216,7 @@ const LATE_PREWRITE: [Step; 9] = [
     (A, Abort, Plain, "rolled-back", 0),
     (A, Finish, Plain, "ended aborted", 0),
     (A, Deliver, Plain, "ok", 0),
-    (B, Begin, Plain, "start", 2),
+    (B, Begin, Plain, "start", 3),
     (B, Get(1), Plain, "none", 0),
 ];
 
@@ -226,8 +226,8 @@ const ROLLBACK_TOLD_BY_A_COMMIT: [Step; 12] = [
     (A, Put(1, 5), Plain, "ok", 0),
     (A, Declare(TwoPhase, None), Plain, "ok", 0),
     (A, Prewrite, Plain, "prewritten", 0),
-    (A, Draw, Plain, "drawn", 2),
-    (B, Begin, Plain, "start", 3),
+    (A, Draw, Plain, "drawn", 3),
+    (B, Begin, Plain, "start", 4),
     (B, Get(1), Plain, "E1", 1),
     (B, Resolve(100), Plain, "aborted", 0),
     (A, Commit, Plain, "E3", 0),
@@ -246,13 +246,13 @@ const HEARTBEAT: [Step; 15] = [
     (A, Prewrite, Plain, "prewritten", 0),
     (A, HeartBeat(20), Plain, "ttl", 20),
     (A, HeartBeat(15), Plain, "ttl", 20),
-    (B, Begin, Plain, "start", 2),
+    (B, Begin, Plain, "start", 3),
     (B, Get(1), Plain, "E1", 1),
-    (B, Resolve(21), Plain, "pushed", 3),
+    (B, Resolve(21), Plain, "pushed", 4),
     (A, HeartBeat(30), Loses, "lost", 0),
-    (A, Draw, Plain, "drawn", 3),
-    (A, Commit, Plain, "committed", 3),
-    (A, Finish, Plain, "ended committed", 3),
+    (A, Draw, Plain, "drawn", 4),
+    (A, Commit, Plain, "committed", 4),
+    (A, Finish, Plain, "ended committed", 4),
 ];
 
 // A transaction that declared nothing is read-only.
@@ -295,7 +295,7 @@ const STOP: [Step; 8] = [
     (A, Prewrite, Plain, "prewritten", 0),
     (A, Stop, Plain, "ok", 0),
     (A, Prewrite, Plain, "order", 0),
-    (B, Begin, Plain, "start", 2),
+    (B, Begin, Plain, "start", 3),
     (B, Get(1), Plain, "E1", 1),
 ];
 
@@ -306,9 +306,22 @@ const NO_TICK_TO_BEGIN: [Step; 3] = [
     (A, Begin, Plain, "start", 4294967297),
 ];
 
+// A session whose seat has no tick left declares nothing, and is as it was; of an empty buffer there is nothing to draw for.
+const NO_TICK_TO_DECLARE: [Step; 9] = [
+    (A, BeginShort(1), Plain, "start", 4294967296),
+    (A, Put(1, 5), Plain, "ok", 0),
+    (A, Declare(TwoPhase, None), Plain, "E11", 0),
+    (A, Put(1, 6), Plain, "ok", 0),
+    (A, Declare(TwoPhase, None), Plain, "E11", 0),
+    (A, Finish, Plain, "ended read-only", 0),
+    (A, BeginShort(1), Plain, "start", 8589934592),
+    (A, Declare(TwoPhase, None), Plain, "ok", 0),
+    (A, Finish, Plain, "ended read-only", 0),
+];
+
 // A session whose seat has no tick left draws nothing, and is as it was.
 const NO_TICK_TO_COMMIT: [Step; 10] = [
-    (A, BeginShort(1), Plain, "start", 4294967296),
+    (A, BeginShort(2), Plain, "start", 4294967295),
     (A, Put(1, 5), Plain, "ok", 0),
     (A, Declare(TwoPhase, None), Plain, "ok", 0),
     (A, Prewrite, Plain, "prewritten", 0),
@@ -320,7 +333,7 @@ const NO_TICK_TO_COMMIT: [Step; 10] = [
     (A, Finish, Plain, "ended aborted", 0),
 ];
 
-const SCENARIOS: [Scenario; 21] = [
+const SCENARIOS: [Scenario; 22] = [
     ("commit then read", &COMMIT_THEN_READ),
     ("in buffer order", &IN_BUFFER_ORDER),
     ("primary commits first", &PRIMARY_COMMITS_FIRST),
@@ -341,6 +354,7 @@ const SCENARIOS: [Scenario; 21] = [
     ("not declared", &NOT_DECLARED),
     ("stop", &STOP),
     ("no tick to begin", &NO_TICK_TO_BEGIN),
+    ("no tick to declare", &NO_TICK_TO_DECLARE),
     ("no tick to commit", &NO_TICK_TO_COMMIT),
 ];
 

@@ -47,10 +47,10 @@ const COMMIT_LOST: [Step; 9] = [
     (A, Put(1, 5), Plain, "ok", 0),
     (A, Declare(TwoPhase, None), Plain, "ok", 0),
     (A, Prewrite, Plain, "prewritten", 0),
-    (A, Draw, Plain, "drawn", 2),
+    (A, Draw, Plain, "drawn", 3),
     (A, Commit, LosesReply, "lost", 0),
     (A, Finish, Plain, "unknown reply", 0),
-    (B, Begin, Plain, "start", 3),
+    (B, Begin, Plain, "start", 4),
     (B, Get(1), Plain, "value", 5),
 ];
 
@@ -60,7 +60,7 @@ const COMMIT_WITHOUT_MEMORY: [Step; 7] = [
     (A, Put(1, 5), Plain, "ok", 0),
     (A, Declare(TwoPhase, None), Plain, "ok", 0),
     (A, Prewrite, Plain, "prewritten", 0),
-    (A, Draw, Plain, "drawn", 2),
+    (A, Draw, Plain, "drawn", 3),
     (A, Commit, Refuses, "E12", 0),
     (A, Finish, Plain, "unknown E12", 0),
 ];
@@ -106,9 +106,9 @@ const CLEARED_BY_A_LOCK: [Step; 9] = [
     (A, Prewrite, Loses, "lost", 0),
     (A, Prewrite, Plain, "prewritten", 0),
     (A, Finish, Plain, "not yet", 0),
-    (A, Draw, Plain, "drawn", 2),
-    (A, Commit, Plain, "committed", 2),
-    (A, Finish, Plain, "ended committed", 2),
+    (A, Draw, Plain, "drawn", 3),
+    (A, Commit, Plain, "committed", 3),
+    (A, Finish, Plain, "ended committed", 3),
 ];
 
 // Want of memory too, by an answer that decides nothing.
@@ -117,7 +117,7 @@ const CLEARED_BY_A_REFUSAL: [Step; 12] = [
     (B, Put(1, 9), Plain, "ok", 0),
     (B, Declare(TwoPhase, None), Plain, "ok", 0),
     (B, Prewrite, Plain, "prewritten", 0),
-    (A, Begin, Plain, "start", 2),
+    (A, Begin, Plain, "start", 3),
     (A, Put(1, 5), Plain, "ok", 0),
     (A, Declare(TwoPhase, None), Plain, "ok", 0),
     (A, Prewrite, Refuses, "E12", 0),
@@ -134,13 +134,13 @@ const CLEARED_BY_A_CHECK: [Step; 12] = [
     (A, Put(4, 6), Plain, "ok", 0),
     (A, Declare(Async, None), Plain, "ok", 0),
     (A, Prewrite, LosesReply, "lost", 0),
-    (B, Begin, Plain, "start", 2),
+    (B, Begin, Plain, "start", 3),
     (B, RaiseSafe(0, 2), Plain, "ok", 0),
     (A, Prewrite, Plain, "E7", 2),
-    (A, Abort, Plain, "locked", 2),
+    (A, Abort, Plain, "locked", 3),
     (A, Finish, Plain, "not yet", 0),
-    (A, Prewrite, Plain, "prewritten", 2),
-    (A, Finish, Plain, "ended committed", 2),
+    (A, Prewrite, Plain, "prewritten", 3),
+    (A, Finish, Plain, "ended committed", 3),
 ];
 
 // A lost commit's cause is cleared by E5.
@@ -149,16 +149,16 @@ const CLEARED_BY_A_REFUSED_COMMIT: [Step; 14] = [
     (A, Put(1, 5), Plain, "ok", 0),
     (A, Declare(TwoPhase, None), Plain, "ok", 0),
     (A, Prewrite, Plain, "prewritten", 0),
-    (A, Draw, Plain, "drawn", 2),
+    (A, Draw, Plain, "drawn", 3),
     (A, Commit, Loses, "lost", 0),
-    (B, Begin, Plain, "start", 3),
+    (B, Begin, Plain, "start", 4),
     (B, Get(1), Plain, "E1", 1),
-    (B, Resolve(5), Plain, "pushed", 4),
-    (A, Commit, Plain, "E5", 4),
+    (B, Resolve(5), Plain, "pushed", 5),
+    (A, Commit, Plain, "E5", 5),
     (A, Finish, Plain, "not yet", 0),
-    (A, Draw, Plain, "drawn", 4),
-    (A, Commit, Plain, "committed", 4),
-    (A, Finish, Plain, "ended committed", 4),
+    (A, Draw, Plain, "drawn", 5),
+    (A, Commit, Plain, "committed", 5),
+    (A, Finish, Plain, "ended committed", 5),
 ];
 
 // Reads and heartbeats that are lost are no cause, and clear none.

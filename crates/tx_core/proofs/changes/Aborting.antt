@@ -4,7 +4,7 @@ use Rattle.tx_types.specs.declared.mutation.Fate.{Fate}
 use Rattle.tx_types.specs.declared.mutation.Fate.TheVariants.{Committed, Aborted}
 use Rattle.tx_machine.specs.Machine.{State, Open, Done}
 use Rattle.tx_core.proofs.Basics.{nat_test, cond_true, cond_false}
-use Rattle.tx_core.proofs.view.View.{View, Inv, IsCommitted, Held, gone_by}
+use Rattle.tx_core.proofs.view.View.{View, Inv, IsCommitted, Held, later_by, gone_by}
 
 -- an open transaction is aborted
 abbrev pub aborting : View → ℕ → View
@@ -48,7 +48,7 @@ module _ (w : View) (t : ℕ) (i : Inv w) (opened : w.decided t ≡ Open) (some 
         acceptances = i.acceptances;
         keys = λ k. record {
           lock = (i.keys k).lock;
-          alone = λ lock e. (let old = (i.keys k).alone lock e in record { above = λ u d m end. old.above u d m (was_committed u d end); unwritten = old.unwritten; fresh = old.fresh });
+          alone = λ lock e. (let old = (i.keys k).alone lock e in record { above = λ u d m end. old.above u d m (was_committed u d end); unwritten = old.unwritten; fresh = old.fresh; unseen = λ v ins u d y end does low. later_by w.decided (aborting w t).decided w.declared w.declared k d lock.start (λ q at e. still_ended q (Committed at) e) (λ q n does. does) (old.unseen v ins u d y (was_committed u d end) does low) });
           records = record {
             committed = λ d rec e. still_ended rec.start (Committed d) ((i.keys k).records.committed d rec e);
             does = (i.keys k).records.does;

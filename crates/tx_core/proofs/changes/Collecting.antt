@@ -55,11 +55,13 @@ seen_record (Some (CommitOf rec)) e = (rec, refl, go rec.mutation refl)
   where
     go : (m : Mutation) → rec.mutation ≡ m → IsVisible rec.mutation
     go (mutation.Put v) x = rw x tt
+    go (mutation.Insert v) x = rw x tt
     go mutation.Delete x = rw x tt
     go mutation.Lock x = (let fact : commit_is is_visible (Some (CommitOf rec)) ≡ false = rw x refl in absurd (cc (fact, e)))
 
 record_seen : (m : Mutation) → IsVisible m → is_visible m ≡ true
 record_seen (mutation.Put v) h = refl
+record_seen (mutation.Insert v) h = refl
 record_seen mutation.Delete h = refl
 record_seen mutation.Lock h = absurd h
 
@@ -161,6 +163,7 @@ module _ (w : View) (within : Key → Bool) (safe : ℕ) where
               above = before.above;
               unwritten = λ c rec x. before.unwritten c rec (was_write q c (CommitOf rec) x).0;
               fresh = elim (cases_Bool (within q)) [ inl x ↦ omega (arith, now_collected q x, free q old x (was_lock q old e)) | inr x ↦ omega (arith, cond_false (within q) safe (w.collected q) x, before.fresh) ];
+              unseen = before.unseen;
             });
             records = record {
               committed = λ c rec x. (i.keys q).records.committed c rec (was_write q c (CommitOf rec) x).0;

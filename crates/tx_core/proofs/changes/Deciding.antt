@@ -4,6 +4,7 @@ use Rattle.std.proofs.lemmas.Bool.{cases_lt}
 use Rattle.tx_types.specs.declared.key.Key.{Key}
 use Rattle.tx_types.specs.declared.mutation.Change.{Change}
 use Rattle.tx_types.specs.declared.mutation.Mutation.{Mutation}
+use Rattle.tx_types.specs.declared.mutation.Mutation.TheVariants.{Put}
 use Rattle.tx_types.specs.declared.mutation.Mode.{Mode}
 use Rattle.tx_types.specs.declared.mutation.Mode.TheVariants.{TwoPhase, Async}
 use Rattle.tx_types.specs.declared.mutation.Fate.{Fate}
@@ -15,7 +16,7 @@ use Rattle.tx_plan.specs.Own.{OwnLock}
 use Rattle.tx_core.specs.Histories.{set_of, is_first}
 use Rattle.tx_core.specs.Decisions.{Acceptance, async_minimum, greater, greatest}
 use Rattle.tx_core.proofs.Basics.{nat_test, key_test, key_same, cond_true, cond_false, some_same, some_of, is_some}
-use Rattle.tx_core.proofs.view.View.{View, IsCommit, Inv, Does, IsPrimary, IsCommitted, IsAborted, Accepts, FellBack, bound, Held, first_within, does_declared, does_within, bound_async, gone_by}
+use Rattle.tx_core.proofs.view.View.{View, IsCommit, Inv, Does, IsPrimary, IsCommitted, IsAborted, Accepts, FellBack, bound, Held, first_within, does_declared, does_within, bound_async, later_by, gone_by}
 
 -- An open transaction may be committed at c: each of its keys is accepted, with a bound of at most c; what was shown lies at or below c;
 -- c lies above its start and at most one above the last number.
@@ -156,6 +157,11 @@ module _ (w : View) (t c : ℕ) (i : Inv w) (may : CanDecide w t c) where
                 ];
             unwritten = old.unwritten;
             fresh = old.fresh;
+            unseen = λ v ins u d y end does low.
+                elim (was_committed u d end) [
+                  | inl x ↦ (let at = own_of u k (Put y) x.0 does in absurd (omega (arith, ap (λ (l : Lock). l.start) (some_same at.lock lock (sym at.stands ∙ e)), at.own, may.above, x.1, low)))
+                  | inr x ↦ later_by w.decided (deciding w t c).decided w.declared w.declared k d lock.start (λ q at e. still_decided q (Committed at) e) (λ q n does. does) (old.unseen v ins u d y x does low)
+                ];
           });
           records = record {
             committed = λ d rec e. still_decided rec.start (Committed d) ((i.keys k).records.committed d rec e);

@@ -1,13 +1,15 @@
 -- A transaction declares its write set.
 use Rattle.std.proofs.Common.{◌≡◌, ◌≢◌, ℕ, ◌==◌, ◌⊎◌, inl, inr, Bool, true, false, cond, Some, None, refl, sym, ap, subst, ◌∙◌, arith}
 use Rattle.tx_types.specs.declared.key.Key.{Key}
+use Rattle.tx_types.specs.declared.value.Value.{Value}
 use Rattle.tx_types.specs.declared.mutation.Mutation.{Mutation}
+use Rattle.tx_types.specs.declared.mutation.Mutation.TheVariants.{Put, Insert}
 use Rattle.tx_machine.specs.Keys.{mutation_at}
 use Rattle.tx_core.specs.declared.event.Declaration.{Declaration}
 use Rattle.tx_core.specs.Histories.{set_of, is_first}
 use Rattle.tx_core.proofs.Basics.{nat_test, cond_true, cond_false}
 use Rattle.tx_plan.specs.Cells.{Lock}
-use Rattle.tx_core.proofs.view.View.{View, Inv, IsLock, Does, IsCommitted, Written, Held, Gone, does_declared, gone_by}
+use Rattle.tx_core.proofs.view.View.{View, Inv, IsLock, does_at, Does, Inserts, IsCommitted, Written, Held, Gone, does_declared, later_by, gone_by}
 
 -- the transaction declares this
 abbrev pub declaring : View → Declaration → View
@@ -23,10 +25,13 @@ module _ (w : View) (d : Declaration) (none : w.declared d.start ≡ None) where
       ]
 
   kept_does : (t : ℕ) (k : Key) (m : Mutation) → w.declared t ≢ None → Does (declaring w d).declared t k m → Does w.declared t k m
-  kept_does t k m some e = subst (λ o. mutation_at (set_of o) k ≡ Some m) (kept_set t some) e
+  kept_does t k m some e = subst (λ o. does_at (set_of o) k ≡ Some m) (kept_set t some) e
+
+  kept_inserts : (t : ℕ) (k : Key) (v : Value) → w.declared t ≢ None → Inserts (declaring w d).declared t k v → Inserts w.declared t k v
+  kept_inserts t k v some e = subst (λ o. mutation_at (set_of o) k ≡ Some (Insert v)) (kept_set t some) e
 
   more_does : (t : ℕ) (k : Key) (m : Mutation) → Does w.declared t k m → Does (declaring w d).declared t k m
-  more_does t k m e = subst (λ o. mutation_at (set_of o) k ≡ Some m) (sym (kept_set t (does_declared w.declared t k m e))) e
+  more_does t k m e = subst (λ o. does_at (set_of o) k ≡ Some m) (sym (kept_set t (does_declared w.declared t k m e))) e
 
   kept_first : (t : ℕ) (k : Key) (b : Bool) → w.declared t ≢ None → is_first (set_of ((declaring w d).declared t)) k ≡ b → is_first (set_of (w.declared t)) k ≡ b
   kept_first t k b some f = subst (λ o. is_first (set_of o) k ≡ b) (kept_set t some) f
@@ -55,10 +60,11 @@ module _ (w : View) (d : Declaration) (none : w.declared d.start ≡ None) where
           upto = x.upto;
           at = x.at;
           mode = λ y at. x.mode y (sym (kept_set t (does_declared w.declared t k by.lock.mutation x.does)) ∙ at);
+          after = λ y at. x.after y (sym (kept_set t (does_declared w.declared t k by.lock.mutation x.does)) ∙ at);
         });
         keys = λ k. record {
           lock = λ lock e. locked k lock ((i.keys k).lock lock e);
-          alone = λ lock e. (let x = (i.keys k).alone lock e in record { above = λ u c m end does. x.above u c m end (kept_does u k m (ended u c i end) does); unwritten = x.unwritten; fresh = x.fresh });
+          alone = λ lock e. (let x = (i.keys k).alone lock e in record { above = λ u c m end does. x.above u c m end (kept_does u k m (ended u c i end) does); unwritten = x.unwritten; fresh = x.fresh; unseen = λ v ins u c y end does low. later_by w.decided w.decided w.declared (declaring w d).declared k c lock.start (λ q at e. e) (λ q n does. more_does q k n does) (x.unseen v (kept_inserts lock.start k v (does_declared w.declared lock.start k lock.mutation ((i.keys k).lock lock e).does) ins) u c y end (kept_does u k (Put y) (ended u c i end) does) low) });
           records = (let x = (i.keys k).records in record {
             committed = x.committed;
             does = λ c rec e. more_does rec.start k rec.mutation (x.does c rec e);

@@ -18,7 +18,7 @@ inv_draw w seat n i lt =
         decides = i.clock.decides;
       };
       marks = record { upto = λ k r e. omega (arith, i.marks.upto k r e, lt); known = i.marks.known; low = i.marks.low };
-      acceptances = λ t k by e. (let x = i.acceptances t k by e in record { does = x.does; above = x.above; bounded = x.bounded; upto = x.upto; at = omega (arith, x.at, lt); mode = x.mode });
+      acceptances = λ t k by e. (let x = i.acceptances t k by e in record { does = x.does; above = x.above; bounded = x.bounded; upto = x.upto; at = omega (arith, x.at, lt); mode = x.mode; after = x.after });
       keys = i.keys;
       commits = λ t c e. (let x = i.commits t c e in record { range = (x.range.0, omega (arith, x.range.1, lt)); accepts = x.accepts; bounds = x.bounds; shows = x.shows });
       unread = i.unread;

@@ -6,7 +6,7 @@ use Rattle.tx_plan.specs.Cells.{Lock, Cells, with_lock}
 use Rattle.tx_plan.specs.Own.{on_own_lock}
 use Rattle.tx_core.specs.Histories.{set_of, is_first}
 use Rattle.tx_core.proofs.Basics.{some_same}
-use Rattle.tx_core.proofs.view.View.{View, IsLock, IsAlone, Inv, Held}
+use Rattle.tx_core.proofs.view.View.{View, does_at, HasNoValue, IsLock, IsAlone, Inv, Held}
 use Rattle.tx_plan.specs.cases.TxnHeartBeat.{with_ttl}
 use Rattle.tx_core.proofs.changes.Keyed.{keyed, keyed_same, keyed_to, own_cases, inv_keyed}
 
@@ -16,7 +16,7 @@ inv_relock w k old new i stands start does mode min =
     inv_keyed w k (with_lock (w.cells k) (Some new)) i record {
       lock = λ lock e. by lock e (IsLock w.declared w.accepted w.shown k) (let x = (i.keys k).lock old stands in record {
         accepts = subst (λ n. w.accepted n k ≢ None) (sym start) x.accepts;
-        does = ap (λ n. mutation_at (set_of (w.declared n)) k) start ∙ x.does ∙ ap (λ m. Some m) (sym does);
+        does = ap (λ n. does_at (set_of (w.declared n)) k) start ∙ x.does ∙ ap (λ m. Some m) (sym does);
         mode = λ b y. mode ∙ x.mode b (ap (λ n. w.accepted n k) (sym start) ∙ y);
         min = λ f b y. min ∙ x.min (ap (λ n. is_first (set_of (w.declared n)) k) (sym start) ∙ f) b (ap (λ n. w.accepted n k) (sym start) ∙ y);
         shows = λ f. min ∙ x.shows (ap (λ n. is_first (set_of (w.declared n)) k) (sym start) ∙ f) ∙ ap w.shown (sym start);
@@ -25,6 +25,7 @@ inv_relock w k old new i stands start does mode min =
         above = λ u d m end y other. omega (arith, x.above u d m end y (λ same. other (same ∙ sym start)), start);
         unwritten = λ c rec y same. x.unwritten c rec y (same ∙ start);
         fresh = omega (arith, x.fresh, start);
+        unseen = λ v ins. subst (HasNoValue w.declared w.decided k) (sym start) (x.unseen v (ap (λ n. mutation_at (set_of (w.declared n)) k) (sym start) ∙ ins));
       });
       records = (i.keys k).records;
       kept = (let x = (i.keys k).kept in record {

@@ -70,7 +70,7 @@ pub inv_written : (w : View) (k : Key) (new : Cells) → Inv w → FitsWrites w 
 inv_written w k new i fits =
     inv_keyed w k new i record {
       lock = λ lock e. (i.keys k).lock lock (fits.stood lock e);
-      alone = λ lock e. (let x = (i.keys k).alone lock (fits.stood lock e) in record { above = x.above; unwritten = fits.unwritten lock e; fresh = x.fresh });
+      alone = λ lock e. (let x = (i.keys k).alone lock (fits.stood lock e) in record { above = x.above; unwritten = fits.unwritten lock e; fresh = x.fresh; unseen = x.unseen });
       records = fits.records;
       kept = fits.kept;
     }

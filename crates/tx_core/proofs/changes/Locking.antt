@@ -1,19 +1,23 @@
 -- A prewrite is accepted: its lock is put on a key.
-use Rattle.std.proofs.Common.{◌≡◌, ◌≢◌, ℕ, ◌+◌, ◌<◌, ◌≤◌, ◌==◌, ◌⊎◌, ◌&&◌, inl, inr, true, cond, Some, None, bytes_eq, refl, sym, ap, subst, ◌∙◌, arith}
-use Rattle.std.proofs.lemmas.Bool.{cases_Bool, and_parts, eqb-true, eq-eqb}
+use Rattle.std.proofs.Common.{◌≡◌, ◌≢◌, ℕ, zero, suc, ◌+◌, ◌<◌, ◌≤◌, ◌==◌, ◌⊎◌, ◌&&◌, inl, inr, true, cond, Option, Some, None, bytes_eq, refl, sym, ap, subst, ◌∙◌, arith}
+use Rattle.std.proofs.lemmas.Bool.{cases_lt, cases_Bool, and_parts, eqb-true, eq-eqb}
 use Rattle.tx_types.specs.declared.key.Key.{Key}
+use Rattle.tx_types.specs.declared.value.Value.{Value}
 use Rattle.tx_types.specs.declared.mutation.Mutation.{Mutation}
+use Rattle.tx_types.specs.declared.mutation.Mutation.TheVariants as mutation
+use Rattle.tx_types.specs.declared.mutation.Mutation.TheVariants.{Put}
 use Rattle.tx_types.specs.declared.mutation.Mode.{Mode}
 use Rattle.tx_types.specs.declared.mutation.Mode.TheVariants.{TwoPhase, Async}
 use Rattle.tx_types.specs.Keys.{IsVisible}
 use Rattle.tx_machine.specs.Machine.{Open, IsRead}
-use Rattle.tx_plan.specs.Cells.{Lock, CommitRecord, CommitOf, with_lock}
+use Rattle.tx_plan.specs.Cells.{Lock, CommitRecord, Write, CommitOf, Rollback, Writes, with_lock}
+use Rattle.tx_plan.specs.Reads.{NoneWritten, Reads}
 use Rattle.tx_plan.specs.Own.{OwnCommit, OwnRollback}
 use Rattle.tx_core.specs.declared.event.Declaration.{Declaration}
 use Rattle.tx_core.specs.Histories.{set_of, is_first}
 use Rattle.tx_core.specs.Decisions.{Acceptance, Puts, first_accepted, accepted_by}
-use Rattle.tx_core.proofs.Basics.{nat_same, key_same, key_true, cond_true, cond_false, some_same, some_of, is_some, none_is}
-use Rattle.tx_core.proofs.view.View.{View, IsAccepted, IsLock, IsAlone, OnCells, Inv, Does, IsPrimary, IsCommitted, bound, Held, one_first, does_declared, does_within, bound_two_phase, bound_async, never_accepted}
+use Rattle.tx_core.proofs.Basics.{nat_test, nat_same, key_same, key_true, cond_true, cond_false, some_same, some_of, is_some, none_is}
+use Rattle.tx_core.proofs.view.View.{View, IsAccepted, IsLock, IsAlone, OnCells, Inv, Does, Inserts, HasNoValue, IsPrimary, IsCommitted, bound, Held, one_first, does_declared, does_within, one_does, bound_two_phase, bound_async, never_accepted}
 use Rattle.tx_core.proofs.changes.Keyed.{at_cells}
 
 -- the acceptance of a lock that is put now
@@ -29,8 +33,52 @@ locking w k lock =
       cells = λ q. cond (bytes_eq k q) (with_lock (w.cells k) (Some lock)) (w.cells q);
     }
 
+-- commit records that stand in one place are one
+commit_same : (x y : CommitRecord) → Some (CommitOf x) ≡ Some (CommitOf y) → x ≡ y
+commit_same x y e = cc (e)
+
+-- a commit record that reads see, above low and at most at r
+record SeenAbove (write : Writes) (low r : ℕ) : Type 0 where
+  at : ℕ
+  rec : CommitRecord
+  stands : write at ≡ Some (CommitOf rec)
+  visible : IsVisible rec.mutation
+  above : low < at
+  upto : at ≤ r
+
+is_seen : (m : Mutation) → IsVisible m ⊎ (IsVisible m → ⊥)
+is_seen (mutation.Put v) = inl tt
+is_seen (mutation.Insert v) = inl tt
+is_seen mutation.Delete = inl tt
+is_seen mutation.Lock = inr (λ h. h)
+
+-- one stands, or none does
+seen_above : (write : Writes) (low r : ℕ) → SeenAbove write low r ⊎ NoneWritten write low r
+seen_above write low zero = inr (λ c rec e v above upto. omega (arith, above, upto))
+seen_above write low (suc r) =
+    elim (seen_above write low r) [
+      | inl x ↦ inl record { at = x.at; rec = x.rec; stands = x.stands; visible = x.visible; above = x.above; upto = omega (arith, x.upto) }
+      | inr bare ↦ elim (cases_lt low (suc r)) [
+        | inr high ↦ inr (λ c rec e v above upto. omega (arith, above, upto, high))
+        | inl above ↦ here above bare (write (suc r)) refl
+      ]
+    ]
+  where
+    none_more : NoneWritten write low r → ((rec : CommitRecord) → write (suc r) ≡ Some (CommitOf rec) → IsVisible rec.mutation → ⊥) → NoneWritten write low (suc r)
+    none_more bare never c rec e v above upto = elim (nat_test c (suc r)) [ inl x ↦ never rec (ap write (sym x.1) ∙ e) v | inr x ↦ bare c rec e v above (omega (arith, upto, x.1)) ]
+
+    here : low < suc r → NoneWritten write low r → (o : Option Write) → write (suc r) ≡ o → SeenAbove write low (suc r) ⊎ NoneWritten write low (suc r)
+    here above bare None e = inr (none_more bare (λ rec f v. cc (e, f)))
+    here above bare (Some Rollback) e = inr (none_more bare (λ rec f v. cc (e, f)))
+    here above bare (Some (CommitOf rec)) e =
+        elim (is_seen rec.mutation) [
+          | inl v ↦ inl record { at = suc r; rec = rec; stands = e; visible = v; above = above; upto = omega arith }
+          | inr never ↦ inr (none_more bare (λ other f v. never (subst (λ (x : CommitRecord). IsVisible x.mutation) (commit_same other rec (sym f ∙ e)) v)))
+        ]
+
 -- The key is free and was never accepted for the transaction, which is not committed; no commit on the key and no collection lies
--- above its start; an async minimum lies above each read.
+-- above its start; an async minimum lies above each read; the bound lies above the number that was drawn for the declaration. Of what it
+-- inserts there is no value at its start.
 pub record MayLock (w : View) (k : Key) (lock : Lock) : Type 0 where
   pub free : (w.cells k).lock ≡ None
   pub new : w.accepted lock.start k ≡ None
@@ -41,6 +89,8 @@ pub record MayLock (w : View) (k : Key) (lock : Lock) : Type 0 where
   pub upto : bound (accepting w lock) ≤ w.last + 1
   pub after_reads : lock.mode ≡ Async → w.floor k < lock.min
   pub mode : (d : Declaration) → w.declared lock.start ≡ Some d → d.mode ≡ TwoPhase → lock.mode ≡ TwoPhase
+  pub after : (d : Declaration) → w.declared lock.start ≡ Some d → d.drawn < bound (accepting w lock)
+  pub unseen : (v : Value) → Inserts w.declared lock.start k v → HasNoValue w.declared w.decided k lock.start
   pub uncommitted : (c : ℕ) → IsCommitted w.decided lock.start c → ⊥
   pub above : (u d : ℕ) (m : Mutation) → IsCommitted w.decided u d → Does w.declared u k m → d ≤ lock.start
 
@@ -131,6 +181,7 @@ module _ (w : View) (k : Key) (lock : Lock) (i : Inv w) (may : MayLock w k lock)
       above = λ u d m end does other. may.above u d m end does;
       unwritten = λ c rec x same. may.uncommitted c (subst (λ n. IsCommitted w.decided n c) same (old.records.committed c rec x));
       fresh = may.fresh;
+      unseen = may.unseen;
     };
     records = old.records;
     kept = record {
@@ -169,7 +220,7 @@ module _ (w : View) (k : Key) (lock : Lock) (i : Inv w) (may : MayLock w k lock)
       record {
         clock = i.clock;
         marks = i.marks;
-        acceptances = at_accepted (IsAccepted w.last w.declared) record { does = may.does; above = may.low; bounded = may.least; upto = may.upto; at = omega arith; mode = may.mode } i.acceptances;
+        acceptances = at_accepted (IsAccepted w.last w.declared) record { does = may.does; above = may.low; bounded = may.least; upto = may.upto; at = omega arith; mode = may.mode; after = may.after } i.acceptances;
         keys = λ q. at_cells w k q (with_lock (w.cells k) (Some lock)) (λ x. OnCells w.declared w.decided (locking w k lock).accepted (locking w k lock).shown x (w.collected x)) here (others q);
         commits = λ t c end. (let was = i.commits t c end in record {
           range = was.range;
@@ -196,10 +247,27 @@ module _ (w : View) (k : Key) (lock : Lock) (i : Inv w) (may : MayLock w k lock)
         };
       }
 
+-- where no lock stands, and a read of the cells gives none, there is no value
+no_value : (w : View) (k : Key) (r : ℕ) → Inv w → w.collected k ≤ r → ((other : Lock) → (w.cells k).lock ≡ Some other → ⊥) → Reads (w.cells k).write r None → HasNoValue w.declared w.decided k r
+no_value w k r i fresh free none u d v end does low =
+    elim ((i.keys k).kept.complete u d (Put v) end does) [
+      | inl x ↦ elim (seen_above (w.cells k).write d r) [
+        | inl y ↦ record { start = y.rec.start; at = y.at; mutation = y.rec.mutation; committed = (i.keys k).records.committed y.at y.rec y.stands; does = (i.keys k).records.does y.at y.rec y.stands; visible = y.visible; above = y.above; upto = y.upto }
+        | inr bare ↦ absurd (none v (record { at = d; rec = x.rec; stands = x.stands; puts = one_does w.declared x.rec.start u k x.rec.mutation (Put v) x.own ((i.keys k).records.does d x.rec x.stands) does; upto = low; newest = bare }))
+      ]
+      | inr rest ↦ elim rest [
+        | inl x ↦ absurd (free x.lock x.stands)
+        | inr gone ↦ elim gone.way [
+          | inl other ↦ absurd (other v refl)
+          | inr x ↦ record { start = x.start; at = x.at; mutation = x.mutation; committed = x.committed; does = x.does; visible = x.visible; above = x.above; upto = omega (arith, x.upto, fresh) }
+        ]
+      ]
+    ]
+
 -- what the table of a prewrite asks gives all that the lock needs: nothing of the transaction stands on the key, which is free, no commit
 -- record lies above its start, and no collection
-pub may_lock : (w : View) (k : Key) (lock : Lock) → Inv w → w.collected k ≤ lock.start → ((c : ℕ) → OwnCommit (w.cells k).write lock.start c → ⊥) → (OwnRollback (w.cells k).write lock.start → ⊥) → ((other : Lock) → (w.cells k).lock ≡ Some other → ⊥) → ((at : ℕ) (rec : CommitRecord) → (w.cells k).write at ≡ Some (CommitOf rec) → at ≤ lock.start) → Does w.declared lock.start k lock.mutation → lock.start < lock.min → lock.min ≤ bound (accepting w lock) → bound (accepting w lock) ≤ w.last + 1 → (lock.mode ≡ Async → w.floor k < lock.min) → ((d : Declaration) → w.declared lock.start ≡ Some d → d.mode ≡ TwoPhase → lock.mode ≡ TwoPhase) → MayLock w k lock
-may_lock w k lock i fresh uncommitted unrolled free low does above least upto after mode =
+pub may_lock : (w : View) (k : Key) (lock : Lock) → Inv w → w.collected k ≤ lock.start → ((c : ℕ) → OwnCommit (w.cells k).write lock.start c → ⊥) → (OwnRollback (w.cells k).write lock.start → ⊥) → ((other : Lock) → (w.cells k).lock ≡ Some other → ⊥) → ((at : ℕ) (rec : CommitRecord) → (w.cells k).write at ≡ Some (CommitOf rec) → at ≤ lock.start) → Does w.declared lock.start k lock.mutation → lock.start < lock.min → lock.min ≤ bound (accepting w lock) → bound (accepting w lock) ≤ w.last + 1 → (lock.mode ≡ Async → w.floor k < lock.min) → ((d : Declaration) → w.declared lock.start ≡ Some d → d.mode ≡ TwoPhase → lock.mode ≡ TwoPhase) → ((d : Declaration) → w.declared lock.start ≡ Some d → d.drawn < bound (accepting w lock)) → ((v : Value) → Inserts w.declared lock.start k v → Reads (w.cells k).write lock.start None) → MayLock w k lock
+may_lock w k lock i fresh uncommitted unrolled free low does above least upto after mode drawn checked =
     record {
       free = none_is (w.cells k).lock free;
       new = new;
@@ -210,6 +278,8 @@ may_lock w k lock i fresh uncommitted unrolled free low does above least upto af
       upto = upto;
       after_reads = after;
       mode = mode;
+      after = drawn;
+      unseen = λ v ins. no_value w k lock.start i fresh free (checked v ins);
       uncommitted = λ c end. (i.commits lock.start c end).accepts k (does_within w.declared lock.start k lock.mutation does) new;
       above = λ u d m end does.
           elim ((i.keys k).kept.complete u d m end does) [

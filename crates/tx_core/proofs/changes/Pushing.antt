@@ -68,7 +68,7 @@ module _ (w : View) (k : Key) (t min : ℕ) (lock : Lock) (i : Inv w) (own : Own
       min = λ f. absurd (cc (ap (λ n. is_first (set_of (w.declared n)) k) own.own, first, f));
       shows = λ f. sym (cond_true (t == lock.start) min (w.shown lock.start) (eq-eqb t lock.start (sym own.own)));
     });
-    alone = λ l e. subst (IsAlone w.declared w.decided k (w.collected k) (w.cells k).write) (some_same (with_minimum lock min) l e) (let x = old.alone lock own.stands in record { above = x.above; unwritten = x.unwritten; fresh = x.fresh });
+    alone = λ l e. subst (IsAlone w.declared w.decided k (w.collected k) (w.cells k).write) (some_same (with_minimum lock min) l e) (let x = old.alone lock own.stands in record { above = x.above; unwritten = x.unwritten; unseen = x.unseen; fresh = x.fresh });
     records = old.records;
     kept = record {
       complete = λ u d m end does. elim (old.kept.complete u d m end does) [ inl x ↦ inl (record { rec = x.rec; stands = x.stands; own = x.own }) | inr rest ↦ elim rest [ inl x ↦ inr (inl (still_held u x)) | inr gone ↦ inr (inr gone) ] ];

@@ -3,7 +3,7 @@ use Rattle.std.proofs.Common.{◌≡◌, ℕ, ◌<◌, ◌≤◌, inl, inr, [], 
 use Rattle.tx_plan.specs.declared.body.Body.TheVariants.{Get, RaiseSafe, Collect}
 use Rattle.tx_plan.specs.declared.answer.Answer.TheVariants.{Found, Raised, Collected, BelowSafePoint}
 use Rattle.tx_core.specs.declared.event.Taken.{Taken}
-use Rattle.tx_core.specs.declared.event.Event.TheVariants.{Drawn, Took}
+use Rattle.tx_core.specs.declared.event.Event.TheVariants.{Took}
 use Rattle.tx_core.specs.Histories.{History}
 use Rattle.tx_core.specs.Worlds.{IsWorldRun, MayTake}
 use Rattle.tx_core.proofs.seats.Staying.{last_was}
@@ -19,19 +19,19 @@ use Rattle.tx_core.proofs.Basics.{key_test, nat_test}
 use Rattle.tx_core.proofs.examples.MarkedRollback.{commit_first, roll_second, both_declared, both_ok, rolls_second, commits_first}
 
 abbrev committed_run : History
-committed_run = Drawn 2 3 ∷ Took commit_first ∷ Took roll_second ∷ both_declared
+committed_run = Took commit_first ∷ Took roll_second ∷ both_declared
 
 abbrev raise : Taken
-raise = record { region = 0; body = RaiseSafe record { region = 0; safe = 3 }; loaded = 3; answer = Raised }
+raise = record { region = 0; body = RaiseSafe record { region = 0; safe = 4 }; loaded = 4; answer = Raised }
 
 abbrev collect : Taken
-collect = record { region = 0; body = Collect record { region = 0; safe = 3 }; loaded = 3; answer = Collected 0 0 }
+collect = record { region = 0; body = Collect record { region = 0; safe = 4 }; loaded = 4; answer = Collected 0 0 }
 
 abbrev get_low : Taken
-get_low = record { region = 0; body = Get record { key = a; at = 2; bypass = [] }; loaded = 3; answer = BelowSafePoint 3 }
+get_low = record { region = 0; body = Get record { key = a; at = 3; bypass = [] }; loaded = 4; answer = BelowSafePoint 4 }
 
 abbrev get_high : Taken
-get_high = record { region = 0; body = Get record { key = a; at = 3; bypass = [] }; loaded = 3; answer = Found x }
+get_high = record { region = 0; body = Get record { key = a; at = 4; bypass = [] }; loaded = 4; answer = Found x }
 
 raises : MayTake [] committed_run raise
 raises = record { region = omega arith; allowed = tt; holds = refl; loaded = last_was committed_run; answers = inr (λ h. omega (arith, h), inr (λ h. omega (arith, h), refl)) }
@@ -39,12 +39,12 @@ raises = record { region = omega arith; allowed = tt; holds = refl; loaded = las
 abbrev raised_run : History
 raised_run = Took raise ∷ committed_run
 
-drops_none : (k : Key) (q : ℕ) → IsDropped (left raised_run 0).cells 3 (k, q) → ⊥
+drops_none : (k : Key) (q : ℕ) → IsDropped (left raised_run 0).cells 4 (k, q) → ⊥
 drops_none k q d =
     elim (key_test a k) [
-      | inl e ↦ elim (nat_test 2 q) [
-        | inl two ↦ (let at : IsDropped (left raised_run 0).cells 3 (a, 2) = subst (λ j. IsDropped (left raised_run 0).cells 3 (j, 2)) (sym e.1) (subst (λ n. IsDropped (left raised_run 0).cells 3 (k, n)) (sym two.1) d) in cc (at.1))
-        | inr other ↦ (let at : IsDropped (left raised_run 0).cells 3 (a, q) = subst (λ j. IsDropped (left raised_run 0).cells 3 (j, q)) (sym e.1) d in at.0 (rw other.0 refl))
+      | inl e ↦ elim (nat_test 3 q) [
+        | inl here ↦ (let at : IsDropped (left raised_run 0).cells 4 (a, 3) = subst (λ j. IsDropped (left raised_run 0).cells 4 (j, 3)) (sym e.1) (subst (λ n. IsDropped (left raised_run 0).cells 4 (k, n)) (sym here.1) d) in cc (at.1))
+        | inr other ↦ (let at : IsDropped (left raised_run 0).cells 4 (a, q) = subst (λ j. IsDropped (left raised_run 0).cells 4 (j, q)) (sym e.1) d in at.0 (rw other.0 refl))
       ]
       | inr e ↦ d.0 (rw e.0 refl)
     ]
@@ -58,7 +58,7 @@ collects = record {
   answers = inr (λ other. other refl, inr (λ some. unlocked some.0 some.1, ([], record { once = λ i j d low high. absurd (omega (arith, high)); each = λ place. (λ c. absurd (omega (arith, c.1)), λ d. absurd (drops_none place.0 place.1 d)) }, refl)));
 }
   where
-    unlocked : (info : LockInfo) → IsLockBelow (left raised_run 0).cells 3 info → ⊥
+    unlocked : (info : LockInfo) → IsLockBelow (left raised_run 0).cells 4 info → ⊥
     unlocked info is = elim (key_test a info.key) [
       | inl e ↦ (let at : ((left raised_run 0).cells a).lock ≡ Some is.lock = subst (λ j. ((left raised_run 0).cells j).lock ≡ Some is.lock) (sym e.1) is.stands in cc (at))
       | inr e ↦ (let at : None ≡ Some is.lock = rw e.0 at is.stands in cc (at))
@@ -76,14 +76,14 @@ reads_high = record {
   allowed = λ t within. absurd (none t within);
   holds = refl;
   loaded = last_was (Took get_low ∷ collected_run);
-  answers = inr (λ h. omega (arith, h), inr (λ h. omega (arith, h), inr (λ lock b. (cc (b.stands)), (Some x, refl, record { at = 2; rec = _; stands = refl; puts = refl; upto = omega arith; newest = only }))));
+  answers = inr (λ h. omega (arith, h), inr (λ h. omega (arith, h), inr (λ lock b. (cc (b.stands)), (Some x, refl, record { at = 3; rec = _; stands = refl; puts = refl; upto = omega arith; newest = only }))));
 }
   where
-    only : (c : ℕ) (rec : CommitRecord) → ((left collected_run 0).cells a).write c ≡ Some (CommitOf rec) → IsVisible rec.mutation → 2 < c → c ≤ 3 → ⊥
-    only c rec e seen low high = (let three : 3 ≡ c = omega (arith, low, high) in (let at : ((left collected_run 0).cells a).write 3 ≡ Some (CommitOf rec) = subst (λ n. ((left collected_run 0).cells a).write n ≡ Some (CommitOf rec)) (sym three) e in cc (at)))
+    only : (c : ℕ) (rec : CommitRecord) → ((left collected_run 0).cells a).write c ≡ Some (CommitOf rec) → IsVisible rec.mutation → 3 < c → c ≤ 4 → ⊥
+    only c rec e seen low high = (let four : 4 ≡ c = omega (arith, low, high) in (let at : ((left collected_run 0).cells a).write 4 ≡ Some (CommitOf rec) = subst (λ n. ((left collected_run 0).cells a).write n ≡ Some (CommitOf rec)) (sym four) e in cc (at)))
 
 pub collection_refuses_reads_below : IsWorldRun [] (Took get_high ∷ Took get_low ∷ collected_run)
-collection_refuses_reads_below = ((((((rollback_committed, omega arith), raises), collects), reads_low), reads_high))
+collection_refuses_reads_below = ((((rollback_committed, raises), collects), reads_low), reads_high)
   where
     rollback_committed : IsWorldRun [] (Took commit_first ∷ Took roll_second ∷ both_declared)
     rollback_committed = ((both_ok, rolls_second), commits_first)

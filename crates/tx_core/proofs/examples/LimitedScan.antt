@@ -27,52 +27,52 @@ use Rattle.tx_core.proofs.seats.Staying.{last_was}
 use Rattle.tx_core.proofs.examples.Words.{a, b, x, none, unrolled}
 
 abbrev two_keys : Declaration
-two_keys = record { start = 1; changes = record { key = a; mutation = Put x } ∷ record { key = b; mutation = Put x } ∷ []; mode = mode.TwoPhase; ttl = 10; max_commit = None }
+two_keys = record { start = 1; changes = record { key = a; mutation = Put x } ∷ record { key = b; mutation = Put x } ∷ []; mode = mode.TwoPhase; ttl = 10; max_commit = None; drawn = 2 }
 
 abbrev prewrite : Key → Taken
-prewrite k = record { region = 0; body = Prewrite record { key = k; mutation = Put x; start = 1; primary = a; mode = mode.TwoPhase; max_commit = None; ttl = 10; others = [] }; loaded = 1; answer = Prewritten 0 }
+prewrite k = record { region = 0; body = Prewrite record { key = k; mutation = Put x; start = 1; primary = a; mode = mode.TwoPhase; max_commit = None; floor = 0; ttl = 10; others = [] }; loaded = 2; answer = Prewritten 0 }
 
 abbrev commit_a : Taken
-commit_a = record { region = 0; body = Commit record { key = a; start = 1; commit = 2 }; loaded = 2; answer = Committed 2 }
+commit_a = record { region = 0; body = Commit record { key = a; start = 1; commit = 3 }; loaded = 3; answer = Committed 3 }
 
 -- the range of both keys, one row
 abbrev range : scan_body.Scan
-range = record { from = a; to = 99 ∷ []; at = 3; limit = 1; bypass = [] }
+range = record { from = a; to = 99 ∷ []; at = 4; limit = 1; bypass = [] }
 
 abbrev rows : List KeyValue
 rows = record { key = a; value = x } ∷ []
 
 abbrev scan : Taken
-scan = record { region = 0; body = Scan range; loaded = 3; answer = Rows rows }
+scan = record { region = 0; body = Scan range; loaded = 4; answer = Rows rows }
 
 abbrev begins : History
-begins = Declared two_keys ∷ Began 1 ∷ Drawn 1 1 ∷ []
+begins = Declared two_keys ∷ Drawn 1 2 ∷ Began 1 ∷ Drawn 1 1 ∷ []
 
 abbrev locked : History
-locked = Drawn 1 2 ∷ Took (prewrite b) ∷ Took (prewrite a) ∷ begins
+locked = Drawn 1 3 ∷ Took (prewrite b) ∷ Took (prewrite a) ∷ begins
 
 abbrev committed : History
-committed = Drawn 2 3 ∷ Took commit_a ∷ locked
+committed = Drawn 2 4 ∷ Took commit_a ∷ locked
 
 begins_run : IsWorldRun [] begins
-begins_run = (((tt, omega arith), (λ e. (cc (e)), refl)), record { begun = refl; once = refl; some = λ e. (cc (e)); distinct = (refl, (refl, tt)) })
+begins_run = ((((tt, omega arith), (λ e. (cc (e)), refl)), omega arith), record { begun = refl; once = refl; some = λ e. (cc (e)); distinct = (refl, (refl, tt)); drew = inl (refl, refl, refl) })
 
 locks_a : MayTake [] begins (prewrite a)
 locks_a = record {
   region = omega arith;
-  allowed = record { of = two_keys; stands = refl; mutation = refl; primary = refl; mode = refl; max_commit = refl; ttl = refl; others = refl };
+  allowed = record { of = two_keys; stands = refl; mutation = refl; primary = refl; mode = refl; max_commit = refl; floor = refl; ttl = refl; others = refl };
   holds = refl;
   loaded = last_was begins;
-  answers = inr (λ h. omega arith, inr (λ h. omega arith, inr (λ lock own. (cc (own.stands)), inr (unrolled 1, inr (λ c own. (cc (own.stands)), inr (λ lock e. (cc (e)), inr (λ some. (cc (some.stands)), inr (λ e. (cc (e)), refl))))))));
+  answers = inr (λ h. omega arith, inr (λ h. omega arith, inr (λ lock own. (cc (own.stands)), inr (unrolled 1, inr (λ c own. (cc (own.stands)), inr (λ lock e. (cc (e)), inr (λ some. (cc (some.stands)), inr (λ ins. ins.0, inr (λ e. (cc (e)), refl)))))))));
 }
 
 locks_b : MayTake [] (Took (prewrite a) ∷ begins) (prewrite b)
 locks_b = record {
   region = omega arith;
-  allowed = record { of = two_keys; stands = refl; mutation = refl; primary = refl; mode = refl; max_commit = refl; ttl = refl; others = refl };
+  allowed = record { of = two_keys; stands = refl; mutation = refl; primary = refl; mode = refl; max_commit = refl; floor = refl; ttl = refl; others = refl };
   holds = refl;
   loaded = last_was (Took (prewrite a) ∷ begins);
-  answers = inr (λ h. omega arith, inr (λ h. omega arith, inr (λ lock own. (cc (own.stands)), inr (unrolled 1, inr (λ c own. (cc (own.stands)), inr (λ lock e. (cc (e)), inr (λ some. (cc (some.stands)), inr (λ e. (cc (e)), refl))))))));
+  answers = inr (λ h. omega arith, inr (λ h. omega arith, inr (λ lock own. (cc (own.stands)), inr (unrolled 1, inr (λ c own. (cc (own.stands)), inr (λ lock e. (cc (e)), inr (λ some. (cc (some.stands)), inr (λ ins. ins.0, inr (λ e. (cc (e)), refl)))))))));
 }
 
 -- the keys of the set
@@ -95,11 +95,11 @@ commits_a = record {
     all : (k : Key) → mutation_at (set_at locked 1) k ≢ None → accepted locked 1 k ≢ None
     all k within = elim (either k within) [ inl e ↦ subst (λ q. accepted locked 1 q ≢ None) e (λ n. (cc (n))) | inr e ↦ subst (λ q. accepted locked 1 q ≢ None) e (λ n. (cc (n))) ]
 
-    at_one : (k : Key) → mutation_at (set_at locked 1) k ≢ None → at_of (accepted locked 1 k) ≡ 1
-    at_one k within = elim (either k within) [ inl e ↦ subst (λ q. at_of (accepted locked 1 q) ≡ 1) e refl | inr e ↦ subst (λ q. at_of (accepted locked 1 q) ≡ 1) e refl ]
+    at_two : (k : Key) → mutation_at (set_at locked 1) k ≢ None → at_of (accepted locked 1 k) ≡ 2
+    at_two k within = elim (either k within) [ inl e ↦ subst (λ q. at_of (accepted locked 1 q) ≡ 2) e refl | inr e ↦ subst (λ q. at_of (accepted locked 1 q) ≡ 2) e refl ]
 
-    after : (k : Key) (by : Acceptance) → mutation_at (set_at locked 1) k ≢ None → accepted locked 1 k ≡ Some by → by.at < 2
-    after k by within is = omega (arith, at_one k within, ap at_of is)
+    after : (k : Key) (by : Acceptance) → mutation_at (set_at locked 1) k ≢ None → accepted locked 1 k ≡ Some by → by.at < 3
+    after k by within is = omega (arith, at_two k within, ap at_of is)
 
 -- the scan covers its row alone
 only_a : (k : Key) → IsTrue (covered range rows k) → a ≡ k
@@ -126,17 +126,17 @@ scans = record {
     inside : (k : Key) (v : Value) → value_in rows k ≡ Some v → IsTrue (covered range rows k)
     inside k v e = elim (chosen (bytes_eq a k) (Some x) None (Some v) e) [ inl y ↦ subst (λ q. IsTrue (covered range rows q)) (key_true a k y.0) refl | inr y ↦ (cc (y.1)) ]
 
-    free : (k : Key) (lock : Lock) → IsTrue (covered range rows k) → Blocks ((left committed 0).cells k).lock 3 [] lock → ⊥
-    free k lock within blocks = (let at : Blocks ((left committed 0).cells a).lock 3 [] lock = subst (λ q. Blocks ((left committed 0).cells q).lock 3 [] lock) (sym (only_a k within)) blocks in cc (at.stands))
+    free : (k : Key) (lock : Lock) → IsTrue (covered range rows k) → Blocks ((left committed 0).cells k).lock 4 [] lock → ⊥
+    free k lock within blocks = (let at : Blocks ((left committed 0).cells a).lock 4 [] lock = subst (λ q. Blocks ((left committed 0).cells q).lock 4 [] lock) (sym (only_a k within)) blocks in cc (at.stands))
 
-    newest : (c : ℕ) (rec : CommitRecord) → ((left committed 0).cells a).write c ≡ Some (CommitOf rec) → 2 < c → c ≤ 3 → ⊥
-    newest c rec e low high = (let three : 3 ≡ c = omega (arith, low, high) in let at : ((left committed 0).cells a).write 3 ≡ Some (CommitOf rec) = subst (λ n. ((left committed 0).cells a).write n ≡ Some (CommitOf rec)) (sym three) e in cc (at))
+    newest : (c : ℕ) (rec : CommitRecord) → ((left committed 0).cells a).write c ≡ Some (CommitOf rec) → 3 < c → c ≤ 4 → ⊥
+    newest c rec e low high = (let four : 4 ≡ c = omega (arith, low, high) in let at : ((left committed 0).cells a).write 4 ≡ Some (CommitOf rec) = subst (λ n. ((left committed 0).cells a).write n ≡ Some (CommitOf rec)) (sym four) e in cc (at))
 
-    finds : Reads ((left committed 0).cells a).write 3 (Some x)
-    finds = record { at = 2; rec = _; stands = refl; puts = refl; upto = omega arith; newest = λ c rec e seen low high. newest c rec e low high }
+    finds : Reads ((left committed 0).cells a).write 4 (Some x)
+    finds = record { at = 3; rec = _; stands = refl; puts = refl; upto = omega arith; newest = λ c rec e seen low high. newest c rec e low high }
 
-    read : (k : Key) → IsTrue (covered range rows k) → Reads ((left committed 0).cells k).write 3 (value_in rows k)
-    read k within = subst (λ q. Reads ((left committed 0).cells q).write 3 (value_in rows q)) (only_a k within) finds
+    read : (k : Key) → IsTrue (covered range rows k) → Reads ((left committed 0).cells k).write 4 (value_in rows k)
+    read k within = subst (λ q. Reads ((left committed 0).cells q).write 4 (value_in rows q)) (only_a k within) finds
 
 pub limit_ends_the_scan : IsWorldRun [] (Took scan ∷ committed)
 limit_ends_the_scan = ((((((begins_run, locks_a), locks_b), omega arith), commits_a), omega arith), scans)
@@ -145,5 +145,5 @@ limit_ends_the_scan = ((((((begins_run, locks_a), locks_b), omega arith), commit
 pub lock_behind_the_row : ((left committed 0).cells b).lock ≢ None
 lock_behind_the_row e = (cc (e))
 
-pub shadow_of_it : shadow (Took scan ∷ committed) ≡ step.Scan (scan_read range rows) ∷ step.Draw 3 ∷ step.Commit 1 2 ∷ step.Draw 2 ∷ step.Declare 1 two_keys.changes ∷ step.Begin 1 ∷ step.Draw 1 ∷ []
+pub shadow_of_it : shadow (Took scan ∷ committed) ≡ step.Scan (scan_read range rows) ∷ step.Draw 4 ∷ step.Commit 1 3 ∷ step.Draw 3 ∷ step.Declare 1 two_keys.changes ∷ step.Draw 2 ∷ step.Begin 1 ∷ step.Draw 1 ∷ []
 shadow_of_it = refl

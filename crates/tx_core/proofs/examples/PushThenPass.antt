@@ -19,35 +19,35 @@ use Rattle.tx_plan.specs.Cells.{Lock, info_of}
 use Rattle.tx_core.specs.Allowed.{MayPass}
 
 abbrev put : Declaration
-put = record { start = 1; changes = record { key = a; mutation = Put x } ∷ []; mode = mode.TwoPhase; ttl = 10; max_commit = None }
+put = record { start = 1; changes = record { key = a; mutation = Put x } ∷ []; mode = mode.TwoPhase; ttl = 10; max_commit = None; drawn = 2 }
 
 abbrev prewrite_put : Taken
-prewrite_put = record { region = 0; body = Prewrite record { key = a; mutation = Put x; start = 1; primary = a; mode = mode.TwoPhase; max_commit = None; ttl = 10; others = [] }; loaded = 1; answer = Prewritten 0 }
+prewrite_put = record { region = 0; body = Prewrite record { key = a; mutation = Put x; start = 1; primary = a; mode = mode.TwoPhase; max_commit = None; floor = 0; ttl = 10; others = [] }; loaded = 2; answer = Prewritten 0 }
 
--- the lock that it puts, and the same pushed above 3
+-- the lock that it puts, and the same pushed above 4
 abbrev locked_at : ℕ → Lock
 locked_at m = record { mutation = Put x; mode = mode.TwoPhase; secondaries = []; start = 1; min = m; ttl = 10; primary = a }
 
 abbrev get_blocked : Taken
-get_blocked = record { region = 0; body = Get record { key = a; at = 3; bypass = [] }; loaded = 3; answer = KeyIsLocked (info_of a (locked_at 2)) }
+get_blocked = record { region = 0; body = Get record { key = a; at = 4; bypass = [] }; loaded = 4; answer = KeyIsLocked (info_of a (locked_at 2)) }
 
 abbrev pushes : Taken
-pushes = record { region = 0; body = CheckTxnStatus record { key = a; start = 1; caller = 3; current = 5; rollback_if_not_exist = false; force_sync_commit = false }; loaded = 3; answer = Locked (info_of a (locked_at 4)) }
+pushes = record { region = 0; body = CheckTxnStatus record { key = a; start = 1; caller = 4; current = 5; rollback_if_not_exist = false; force_sync_commit = false }; loaded = 4; answer = Locked (info_of a (locked_at 5)) }
 
 abbrev get_past : Taken
-get_past = record { region = 0; body = Get record { key = a; at = 3; bypass = 1 ∷ [] }; loaded = 3; answer = Nothing }
+get_past = record { region = 0; body = Get record { key = a; at = 4; bypass = 1 ∷ [] }; loaded = 4; answer = Nothing }
 
 abbrev commit_low : Taken
-commit_low = record { region = 0; body = Commit record { key = a; start = 1; commit = 2 }; loaded = 3; answer = CommitTsExpired 4 }
+commit_low = record { region = 0; body = Commit record { key = a; start = 1; commit = 3 }; loaded = 4; answer = CommitTsExpired 5 }
 
 abbrev commit_high : Taken
-commit_high = record { region = 0; body = Commit record { key = a; start = 1; commit = 4 }; loaded = 4; answer = Committed 4 }
+commit_high = record { region = 0; body = Commit record { key = a; start = 1; commit = 5 }; loaded = 5; answer = Committed 5 }
 
 abbrev puts : History
-puts = Declared put ∷ Began 1 ∷ Drawn 1 1 ∷ []
+puts = Declared put ∷ Drawn 1 2 ∷ Began 1 ∷ Drawn 1 1 ∷ []
 
 abbrev reader : History
-reader = Began 3 ∷ Drawn 2 3 ∷ Drawn 1 2 ∷ Took prewrite_put ∷ puts
+reader = Began 4 ∷ Drawn 2 4 ∷ Drawn 1 3 ∷ Took prewrite_put ∷ puts
 
 abbrev pushed : History
 pushed = Took pushes ∷ Took get_blocked ∷ reader
@@ -56,18 +56,18 @@ abbrev passed : History
 passed = Took get_past ∷ pushed
 
 abbrev again : History
-again = Drawn 1 4 ∷ Took commit_low ∷ passed
+again = Drawn 1 5 ∷ Took commit_low ∷ passed
 
 puts_run : IsWorldRun [] puts
-puts_run = (((tt, omega arith), (λ e. (cc (e)), refl)), record { begun = refl; once = refl; some = λ e. (cc (e)); distinct = (refl, tt) })
+puts_run = ((((tt, omega arith), (λ e. (cc (e)), refl)), omega arith), record { begun = refl; once = refl; some = λ e. (cc (e)); distinct = (refl, tt); drew = inl (refl, refl, refl) })
 
 put_prewrites : MayTake [] puts prewrite_put
 put_prewrites = record {
   region = omega arith;
-  allowed = record { of = put; stands = refl; mutation = refl; primary = refl; mode = refl; max_commit = refl; ttl = refl; others = refl };
+  allowed = record { of = put; stands = refl; mutation = refl; primary = refl; mode = refl; max_commit = refl; floor = refl; ttl = refl; others = refl };
   holds = refl;
   loaded = last_was puts;
-  answers = inr (λ h. omega arith, inr (λ h. omega arith, inr (λ lock own. (cc (own.stands)), inr (unrolled 1, inr (λ c own. (cc (own.stands)), inr (λ lock e. (cc (e)), inr (λ some. (cc (some.stands)), inr (λ e. (cc (e)), refl))))))));
+  answers = inr (λ h. omega arith, inr (λ h. omega arith, inr (λ lock own. (cc (own.stands)), inr (unrolled 1, inr (λ c own. (cc (own.stands)), inr (λ lock e. (cc (e)), inr (λ some. (cc (some.stands)), inr (λ ins. ins.0, inr (λ e. (cc (e)), refl)))))))));
 }
 
 reader_run : IsWorldRun [] reader
@@ -98,13 +98,13 @@ one_only t c = go c.0 c.1 c.2
     go zero low e = e
     go (suc n) low e = absurd (omega (arith, low))
 
-was_shown : MayPass pushed 3 1
-was_shown = inr (inr (4, record { by = pushes; among = inl refl; info = info_of a (locked_at 4); told = (0, omega arith, refl); primary = refl; own = refl; min = refl }, omega arith))
+was_shown : MayPass pushed 4 1
+was_shown = inr (inr (5, record { by = pushes; among = inl refl; info = info_of a (locked_at 5); told = (0, omega arith, refl); primary = refl; own = refl; min = refl }, omega arith))
 
 passes : MayTake [] pushed get_past
 passes = record {
   region = omega arith;
-  allowed = λ t within. subst (MayPass pushed 3) (one_only t within) was_shown;
+  allowed = λ t within. subst (MayPass pushed 4) (one_only t within) was_shown;
   holds = refl;
   loaded = last_was pushed;
   answers = inr (λ h. omega arith, inr (λ h. omega arith, inr (λ lock b. b.met (0, omega arith, ap (λ (o : Option Lock). start_of o) b.stands), (None, refl, λ v f. (cc (f.stands))))));
@@ -113,24 +113,24 @@ passes = record {
 expires : MayTake [] passed commit_low
 expires = record {
   region = omega arith;
-  allowed = record { of = put; stands = refl; may = inr (decides passed (Put x) 2 _ refl refl refl refl refl (omega arith)) };
+  allowed = record { of = put; stands = refl; may = inr (decides passed (Put x) 3 _ refl refl refl refl refl (omega arith)) };
   holds = refl;
   loaded = last_was passed;
-  answers = inr (λ h. omega arith, inl (locked_at 4, record { stands = refl; own = refl }, inl (omega arith, refl)));
+  answers = inr (λ h. omega arith, inl (locked_at 5, record { stands = refl; own = refl }, inl (omega arith, refl)));
 }
 
 commits_high : MayTake [] again commit_high
 commits_high = record {
   region = omega arith;
-  allowed = record { of = put; stands = refl; may = inr (decides again (Put x) 4 _ refl refl refl refl refl (omega arith)) };
+  allowed = record { of = put; stands = refl; may = inr (decides again (Put x) 5 _ refl refl refl refl refl (omega arith)) };
   holds = refl;
   loaded = last_was again;
-  answers = inr (λ h. omega arith, inl (locked_at 4, record { stands = refl; own = refl }, inr (λ low. omega (arith, low), inr (λ rec y. (cc (y.stands)), refl))));
+  answers = inr (λ h. omega arith, inl (locked_at 5, record { stands = refl; own = refl }, inr (λ low. omega (arith, low), inr (λ rec y. (cc (y.stands)), refl))));
 }
 
--- a reader at 3 passes the pushed lock, so its transaction does not commit at 2, but at 4
+-- a reader at 4 passes the pushed lock, so its transaction does not commit at 3, but at 5
 pub push_then_pass : IsWorldRun [] (Took commit_high ∷ again)
 push_then_pass = ((((((reader_run, blocked), pushing), passes), expires), omega arith), commits_high)
 
-pub shadow_of_push : shadow (Took commit_high ∷ again) ≡ step.Commit 1 4 ∷ step.Draw 4 ∷ step.Read a 3 None ∷ step.Begin 3 ∷ step.Draw 3 ∷ step.Draw 2 ∷ step.Declare 1 put.changes ∷ step.Begin 1 ∷ step.Draw 1 ∷ []
+pub shadow_of_push : shadow (Took commit_high ∷ again) ≡ step.Commit 1 5 ∷ step.Draw 5 ∷ step.Read a 4 None ∷ step.Begin 4 ∷ step.Draw 4 ∷ step.Draw 3 ∷ step.Declare 1 put.changes ∷ step.Draw 2 ∷ step.Begin 1 ∷ step.Draw 1 ∷ []
 shadow_of_push = refl

@@ -1,5 +1,5 @@
--- A resolver finishes an async transaction whose session is gone, over two regions: the primary alone promised 2, a read has raised the
--- other region, so its late prewrite promises 3, and 3 is where the transaction is committed.
+-- A resolver finishes an async transaction whose session is gone, over two regions: the primary alone promised 3, a read has raised the
+-- other region, so its late prewrite promises 4, and 4 is where the transaction is committed.
 use Rattle.std.proofs.Common.{◌≡◌, ℕ, ◌≤◌, ◌==◌, inl, inr, true, false, cond, List, [], ◌∷◌, Some, None, refl, arith}
 use Rattle.tx_types.specs.declared.mutation.Mutation.TheVariants.{Put}
 use Rattle.tx_types.specs.declared.mutation.Mode.TheVariants as mode
@@ -26,43 +26,43 @@ abbrev cut : List Key
 cut = b ∷ []
 
 abbrev two_keys : Declaration
-two_keys = record { start = 1; changes = record { key = a; mutation = Put x } ∷ record { key = b; mutation = Put x } ∷ []; mode = mode.Async; ttl = 10; max_commit = None }
+two_keys = record { start = 1; changes = record { key = a; mutation = Put x } ∷ record { key = b; mutation = Put x } ∷ []; mode = mode.Async; ttl = 10; max_commit = None; drawn = 2 }
 
 abbrev lock_a : Lock
-lock_a = record { mutation = Put x; mode = mode.Async; secondaries = b ∷ []; start = 1; min = 2; ttl = 10; primary = a }
+lock_a = record { mutation = Put x; mode = mode.Async; secondaries = b ∷ []; start = 1; min = 3; ttl = 10; primary = a }
 
 abbrev lock_b : Lock
-lock_b = record { mutation = Put x; mode = mode.Async; secondaries = []; start = 1; min = 3; ttl = 10; primary = a }
+lock_b = record { mutation = Put x; mode = mode.Async; secondaries = []; start = 1; min = 4; ttl = 10; primary = a }
 
 abbrev prewrite_a : Taken
-prewrite_a = record { region = 0; body = Prewrite record { key = a; mutation = Put x; start = 1; primary = a; mode = mode.Async; max_commit = None; ttl = 10; others = b ∷ [] }; loaded = 1; answer = Prewritten 2 }
+prewrite_a = record { region = 0; body = Prewrite record { key = a; mutation = Put x; start = 1; primary = a; mode = mode.Async; max_commit = None; floor = 3; ttl = 10; others = b ∷ [] }; loaded = 2; answer = Prewritten 3 }
 
 abbrev get_b : Taken
-get_b = record { region = 1; body = Get record { key = b; at = 2; bypass = [] }; loaded = 2; answer = Nothing }
+get_b = record { region = 1; body = Get record { key = b; at = 3; bypass = [] }; loaded = 3; answer = Nothing }
 
 abbrev prewrite_b : Taken
-prewrite_b = record { region = 1; body = Prewrite record { key = b; mutation = Put x; start = 1; primary = a; mode = mode.Async; max_commit = None; ttl = 10; others = [] }; loaded = 1; answer = Prewritten 3 }
+prewrite_b = record { region = 1; body = Prewrite record { key = b; mutation = Put x; start = 1; primary = a; mode = mode.Async; max_commit = None; floor = 3; ttl = 10; others = [] }; loaded = 2; answer = Prewritten 4 }
 
 abbrev get_a : Taken
-get_a = record { region = 0; body = Get record { key = a; at = 2; bypass = [] }; loaded = 2; answer = KeyIsLocked (info_of a lock_a) }
+get_a = record { region = 0; body = Get record { key = a; at = 3; bypass = [] }; loaded = 3; answer = KeyIsLocked (info_of a lock_a) }
 
 abbrev check_a : Taken
-check_a = record { region = 0; body = CheckTxnStatus record { key = a; start = 1; caller = 2; current = 100; rollback_if_not_exist = true; force_sync_commit = false }; loaded = 2; answer = Locked (info_of a lock_a) }
+check_a = record { region = 0; body = CheckTxnStatus record { key = a; start = 1; caller = 3; current = 100; rollback_if_not_exist = true; force_sync_commit = false }; loaded = 3; answer = Locked (info_of a lock_a) }
 
 abbrev check_b : Taken
-check_b = record { region = 1; body = CheckSecondaryLocks record { key = b; start = 1 }; loaded = 2; answer = Locked (info_of b lock_b) }
+check_b = record { region = 1; body = CheckSecondaryLocks record { key = b; start = 1 }; loaded = 3; answer = Locked (info_of b lock_b) }
 
 abbrev resolve_a : Taken
-resolve_a = record { region = 0; body = ResolveLock record { key = a; start = 1; fate = fate.Committed 3 }; loaded = 2; answer = Resolved }
+resolve_a = record { region = 0; body = ResolveLock record { key = a; start = 1; fate = fate.Committed 4 }; loaded = 3; answer = Resolved }
 
 abbrev get_again : Taken
-get_again = record { region = 0; body = Get record { key = a; at = 2; bypass = [] }; loaded = 2; answer = Nothing }
+get_again = record { region = 0; body = Get record { key = a; at = 3; bypass = [] }; loaded = 3; answer = Nothing }
 
 abbrev begun : History
-begun = Declared two_keys ∷ Began 1 ∷ Drawn 1 1 ∷ []
+begun = Declared two_keys ∷ Drawn 1 2 ∷ Began 1 ∷ Drawn 1 1 ∷ []
 
 abbrev locked_a : History
-locked_a = Began 2 ∷ Drawn 2 2 ∷ Took prewrite_a ∷ begun
+locked_a = Began 3 ∷ Drawn 2 3 ∷ Took prewrite_a ∷ begun
 
 abbrev locked_both : History
 locked_both = Took prewrite_b ∷ Took get_b ∷ locked_a
@@ -71,15 +71,15 @@ abbrev asked : History
 asked = Took check_b ∷ Took check_a ∷ Took get_a ∷ locked_both
 
 begun_run : IsWorldRun cut begun
-begun_run = (((tt, omega arith), (λ e. (cc (e)), refl)), record { begun = refl; once = refl; some = λ e. (cc (e)); distinct = (refl, (refl, tt)) })
+begun_run = ((((tt, omega arith), (λ e. (cc (e)), refl)), omega arith), record { begun = refl; once = refl; some = λ e. (cc (e)); distinct = (refl, (refl, tt)); drew = inl (refl, refl, refl) })
 
 takes_prewrite_a : MayTake cut begun prewrite_a
 takes_prewrite_a = record {
   region = omega arith;
-  allowed = record { of = two_keys; stands = refl; mutation = refl; primary = refl; mode = refl; max_commit = refl; ttl = refl; others = refl };
+  allowed = record { of = two_keys; stands = refl; mutation = refl; primary = refl; mode = refl; max_commit = refl; floor = refl; ttl = refl; others = refl };
   holds = refl;
   loaded = last_was begun;
-  answers = inr (λ h. omega arith, inr (λ h. omega arith, inr (λ lock own. (cc (own.stands)), inr (unrolled 1, inr (λ c own. (cc (own.stands)), inr (λ lock e. (cc (e)), inr (λ some. (cc (some.stands)), inl (refl, (2, (omega arith, omega arith), inl (tt, refl))))))))));
+  answers = inr (λ h. omega arith, inr (λ h. omega arith, inr (λ lock own. (cc (own.stands)), inr (unrolled 1, inr (λ c own. (cc (own.stands)), inr (λ lock e. (cc (e)), inr (λ some. (cc (some.stands)), inr (λ ins. ins.0, inl (refl, (3, (omega arith, omega arith), inl (tt, refl)))))))))));
 }
 
 locked_a_run : IsWorldRun cut locked_a
@@ -98,10 +98,10 @@ takes_get_b = record {
 takes_prewrite_b : MayTake cut (Took get_b ∷ locked_a) prewrite_b
 takes_prewrite_b = record {
   region = omega arith;
-  allowed = record { of = two_keys; stands = refl; mutation = refl; primary = refl; mode = refl; max_commit = refl; ttl = refl; others = refl };
+  allowed = record { of = two_keys; stands = refl; mutation = refl; primary = refl; mode = refl; max_commit = refl; floor = refl; ttl = refl; others = refl };
   holds = refl;
   loaded = (Took prewrite_a ∷ begun, inr (inr (inr (inl refl))), refl);
-  answers = inr (λ h. omega arith, inr (λ h. omega arith, inr (λ lock own. (cc (own.stands)), inr (unrolled 1, inr (λ c own. (cc (own.stands)), inr (λ lock e. (cc (e)), inr (λ some. (cc (some.stands)), inl (refl, (3, (omega arith, omega arith), inl (tt, refl))))))))));
+  answers = inr (λ h. omega arith, inr (λ h. omega arith, inr (λ lock own. (cc (own.stands)), inr (unrolled 1, inr (λ c own. (cc (own.stands)), inr (λ lock e. (cc (e)), inr (λ some. (cc (some.stands)), inr (λ ins. ins.0, inl (refl, (4, (omega arith, omega arith), inl (tt, refl)))))))))));
 }
 
 locked_both_run : IsWorldRun cut locked_both
@@ -110,7 +110,7 @@ locked_both_run = ((locked_a_run, takes_get_b), takes_prewrite_b)
 pub undecided_before : decided (Took get_b ∷ locked_a) 1 ≡ decided [] 1
 undecided_before = refl
 
-pub decided_by_the_late_prewrite : decided locked_both 1 ≡ Done (fate.Committed 3)
+pub decided_by_the_late_prewrite : decided locked_both 1 ≡ Done (fate.Committed 4)
 decided_by_the_late_prewrite = refl
 
 takes_get_a : MayTake cut locked_both get_a
@@ -161,11 +161,11 @@ takes_get_again = record {
   answers = inr (λ h. omega arith, inr (λ h. omega arith, inr (λ lock y. (cc (y.stands)), (None, refl, λ v f. above f.at f.rec f.stands f.upto))));
 }
   where
-    above : (c : ℕ) (rec : CommitRecord) → cond (3 == c) (Some (CommitOf record { mutation = Put x; start = 1; overlapped_rollback = false })) None ≡ Some (CommitOf rec) → c ≤ 2 → ⊥
-    above c rec e low = elim (nat_test 3 c) [ inl y ↦ omega (arith, y.1, low) | inr y ↦ (let at : None ≡ Some (CommitOf rec) = rw y.0 at e in cc (at)) ]
+    above : (c : ℕ) (rec : CommitRecord) → cond (4 == c) (Some (CommitOf record { mutation = Put x; start = 1; overlapped_rollback = false })) None ≡ Some (CommitOf rec) → c ≤ 3 → ⊥
+    above c rec e low = elim (nat_test 4 c) [ inl y ↦ omega (arith, y.1, low) | inr y ↦ (let at : None ≡ Some (CommitOf rec) = rw y.0 at e in cc (at)) ]
 
 pub resolver_finishes : IsWorldRun cut (Took get_again ∷ Took resolve_a ∷ asked)
 resolver_finishes = ((asked_run, takes_resolve_a), takes_get_again)
 
-pub shadow_of_it : shadow (Took get_again ∷ Took resolve_a ∷ asked) ≡ step.Read a 2 None ∷ step.Commit 1 3 ∷ step.Read b 2 None ∷ step.Begin 2 ∷ step.Draw 2 ∷ step.Declare 1 two_keys.changes ∷ step.Begin 1 ∷ step.Draw 1 ∷ []
+pub shadow_of_it : shadow (Took get_again ∷ Took resolve_a ∷ asked) ≡ step.Read a 3 None ∷ step.Commit 1 4 ∷ step.Read b 3 None ∷ step.Begin 3 ∷ step.Draw 3 ∷ step.Declare 1 two_keys.changes ∷ step.Draw 2 ∷ step.Begin 1 ∷ step.Draw 1 ∷ []
 shadow_of_it = refl

@@ -54,9 +54,10 @@ module _ (r : Region) (b : Prewrite) where
   answered l top a m (inr (no0, inr (no1, inr (no2, inr (no3, inl (c, own, e)))))) is = absurd (cc (e, is))
   answered l top a m (inr (no0, inr (no1, inr (no2, inr (no3, inr (no4, inl (lock, at, e))))))) is = absurd (cc (e, is))
   answered l top a m (inr (no0, inr (no1, inr (no2, inr (no3, inr (no4, inr (no5, inl (some, (start, c, newest, e))))))))) is = absurd (cc (e, is))
-  answered l top a m (inr (no0, inr (no1, inr (no2, inr (no3, inr (no4, inr (no5, inr (no6, inl (mode, (n, promise, inl x)))))))))) is = given a m n x.1 is (new n (none_is (r.cells b.key).lock no5))
-  answered l top a m (inr (no0, inr (no1, inr (no2, inr (no3, inr (no4, inr (no5, inr (no6, inl (mode, (n, promise, inr x)))))))))) is = given a m 0 x.1 is (new 0 (none_is (r.cells b.key).lock no5))
-  answered l top a m (inr (no0, inr (no1, inr (no2, inr (no3, inr (no4, inr (no5, inr (no6, inr x)))))))) is = given a m 0 x.1 is (new 0 (none_is (r.cells b.key).lock no5))
+  answered l top a m (inr (no0, inr (no1, inr (no2, inr (no3, inr (no4, inr (no5, inr (no6, inl x)))))))) is = absurd (cc (x.1, is))
+  answered l top a m (inr (no0, inr (no1, inr (no2, inr (no3, inr (no4, inr (no5, inr (no6, inr (no7, inl (mode, (n, promise, inl x))))))))))) is = given a m n x.1 is (new n (none_is (r.cells b.key).lock no5))
+  answered l top a m (inr (no0, inr (no1, inr (no2, inr (no3, inr (no4, inr (no5, inr (no6, inr (no7, inl (mode, (n, promise, inr x))))))))))) is = given a m 0 x.1 is (new 0 (none_is (r.cells b.key).lock no5))
+  answered l top a m (inr (no0, inr (no1, inr (no2, inr (no3, inr (no4, inr (no5, inr (no6, inr (no7, inr x))))))))) is = given a m 0 x.1 is (new 0 (none_is (r.cells b.key).lock no5))
 
 prewritten_among : (bounds : List Key) (h : History) → IsWorldRun bounds h → (by : Taken) → Among h (Took by) → (b : Prewrite) (m : ℕ) → by.body ≡ body.Prewrite b → by.answer ≡ Prewritten m → HasPrewritten h b m
 prewritten_among bounds [] run by among b m is answer = absurd among

@@ -67,7 +67,7 @@ module _ (bounds : List Key) (h : History) (good : Good bounds h) (before : Told
               | inr e ↦ rw e (omega arith)
             ]
 
-    rises_prewrite : (a : Answer) → AnswersPrewrite (cells_at bounds h b.key) (left h at).safe l (MayPromise (left h at).max_read (last h) b.start) b a → Rises at (body.Prewrite b) l a
+    rises_prewrite : (a : Answer) → AnswersPrewrite (cells_at bounds h b.key) (left h at).safe l (MayPromise (left h at).max_read (last h) b) b a → Rises at (body.Prewrite b) l a
     rises_prewrite a (inl x) = rises_still a (ap (effect (left h at).cells (body.Prewrite b)) x.1)
     rises_prewrite a (inr (no0, inl x)) = rises_still a (ap (effect (left h at).cells (body.Prewrite b)) x.1)
     rises_prewrite a (inr (no0, inr (no1, inl (lock, own, e)))) =
@@ -76,7 +76,8 @@ module _ (bounds : List Key) (h : History) (good : Good bounds h) (before : Told
     rises_prewrite a (inr (no0, inr (no1, inr (no2, inr (no3, inl (c, own, e)))))) = rises_still a (ap (effect (left h at).cells (body.Prewrite b)) e)
     rises_prewrite a (inr (no0, inr (no1, inr (no2, inr (no3, inr (no4, inl (lock, stands, e))))))) = rises_still a (ap (effect (left h at).cells (body.Prewrite b)) e)
     rises_prewrite a (inr (no0, inr (no1, inr (no2, inr (no3, inr (no4, inr (no5, inl (some, (start, c, newest, e))))))))) = rises_still a (ap (effect (left h at).cells (body.Prewrite b)) e)
-    rises_prewrite a (inr (no0, inr (no1, inr (no2, inr (no3, inr (no4, inr (no5, inr (no6, rest)))))))) = last_rows rest
+    rises_prewrite a (inr (no0, inr (no1, inr (no2, inr (no3, inr (no4, inr (no5, inr (no6, inl x)))))))) = rises_still a (ap (effect (left h at).cells (body.Prewrite b)) x.1)
+    rises_prewrite a (inr (no0, inr (no1, inr (no2, inr (no3, inr (no4, inr (no5, inr (no6, inr (no7, rest))))))))) = last_rows rest
       where
         never : accepted h b.start b.key ≡ None
         never = never_accepted (view bounds h) b.key b.start good.sound.inv (elim (cases_lt b.start (left h at).safe) [ inl lt ↦ absurd (no0 lt) | inr le ↦ omega (arith, le, good.sound.inv.marks.low b.key) ]) no2 no4 no3
@@ -84,7 +85,7 @@ module _ (bounds : List Key) (h : History) (good : Good bounds h) (before : Told
         puts : (m : ℕ) → a ≡ Prewritten m → Rises at (body.Prewrite b) l a
         puts m e = rises_put a (lock_of b m) refl (ap (effect (left h at).cells (body.Prewrite b)) e) never
 
-        last_rows : Case (b.mode ≡ Async) ((m : ℕ) × MayPromise (left h at).max_read (last h) b.start m × Case (IsWithin b.max_commit m) (a ≡ Prewritten m) (a ≡ Prewritten 0)) (a ≡ Prewritten 0) → Rises at (body.Prewrite b) l a
+        last_rows : Case (b.mode ≡ Async) ((m : ℕ) × MayPromise (left h at).max_read (last h) b m × Case (IsWithin b.max_commit m) (a ≡ Prewritten m) (a ≡ Prewritten 0)) (a ≡ Prewritten 0) → Rises at (body.Prewrite b) l a
         last_rows (inl (mode, (m, promise, inl x))) = puts m x.1
         last_rows (inl (mode, (m, promise, inr x))) = puts 0 x.1
         last_rows (inr x) = puts 0 x.1

@@ -208,9 +208,10 @@ module _ (bounds : List Key) (h : History) (good : Good bounds h) (before : Told
   prewrite_tells n l b a (inr (no0, inr (no1, inr (no2, inr (no3, inl (c, own, e)))))) = nothing a (ap infos_in e)
   prewrite_tells n l b a (inr (no0, inr (no1, inr (no2, inr (no3, inr (no4, inl (lock, at, e))))))) = one a (info_of b.key lock) (ap infos_in e) (standing n b.key lock at)
   prewrite_tells n l b a (inr (no0, inr (no1, inr (no2, inr (no3, inr (no4, inr (no5, inl (some, (start, c, newest, e))))))))) = nothing a (ap infos_in e)
-  prewrite_tells n l b a (inr (no0, inr (no1, inr (no2, inr (no3, inr (no4, inr (no5, inr (no6, inl (mode, (m, promise, inl x)))))))))) = nothing a (ap infos_in x.1)
-  prewrite_tells n l b a (inr (no0, inr (no1, inr (no2, inr (no3, inr (no4, inr (no5, inr (no6, inl (mode, (m, promise, inr x)))))))))) = nothing a (ap infos_in x.1)
-  prewrite_tells n l b a (inr (no0, inr (no1, inr (no2, inr (no3, inr (no4, inr (no5, inr (no6, inr x)))))))) = nothing a (ap infos_in x.1)
+  prewrite_tells n l b a (inr (no0, inr (no1, inr (no2, inr (no3, inr (no4, inr (no5, inr (no6, inl x)))))))) = nothing a (ap infos_in x.1)
+  prewrite_tells n l b a (inr (no0, inr (no1, inr (no2, inr (no3, inr (no4, inr (no5, inr (no6, inr (no7, inl (mode, (m, promise, inl x))))))))))) = nothing a (ap infos_in x.1)
+  prewrite_tells n l b a (inr (no0, inr (no1, inr (no2, inr (no3, inr (no4, inr (no5, inr (no6, inr (no7, inl (mode, (m, promise, inr x))))))))))) = nothing a (ap infos_in x.1)
+  prewrite_tells n l b a (inr (no0, inr (no1, inr (no2, inr (no3, inr (no4, inr (no5, inr (no6, inr (no7, inr x))))))))) = nothing a (ap infos_in x.1)
 
   pub commit_tells : (n l : ℕ) (b : Commit) (a : Answer) → Answers (left h n) l (last h) (body.Commit b) a → AllShown a
   commit_tells n l b a (inl x) = nothing a (ap infos_in x.1)

@@ -26,10 +26,11 @@ use Rattle.tx_core.specs.Histories.{History, last, declared, set_of, is_first, l
 use Rattle.tx_core.specs.Decisions.{accepted, infos_in}
 use Rattle.tx_core.specs.Worlds.{IsWorldRun, route}
 use Rattle.tx_core.specs.Laws.{WasToldOf, IsLockOf}
-use Rattle.tx_machine.specs.Keys.{mutation_at}
+use Rattle.tx_types.specs.Kinds.{as_locked}
+use Rattle.std.specs.Prelude.{option_map}
 use Rattle.tx_core.proofs.Basics.{nat_same, key_same, cond_true, some_of, some_same}
 use Rattle.tx_core.proofs.changes.Keyed.{own_cases}
-use Rattle.tx_core.proofs.view.View.{Inv, FellBack}
+use Rattle.tx_core.proofs.view.View.{does_at, Inv, FellBack}
 use Rattle.tx_core.proofs.view.HistoryView.{view}
 use Rattle.tx_core.proofs.runs.AllRuns.{run_told}
 use Rattle.tx_core.proofs.locks.Told.{contains_one}
@@ -108,9 +109,10 @@ module _ (r : Region) where
   tells l top (body.Prewrite b) a (inr (no0, inr (no1, inr (no2, inr (no3, inl (c, own, e)))))) = nothing (body.Prewrite b) a _ e refl
   tells l top (body.Prewrite b) a (inr (no0, inr (no1, inr (no2, inr (no3, inr (no4, inl (lock, at, e))))))) = one (body.Prewrite b) a _ e b.key lock refl (still b.key lock at)
   tells l top (body.Prewrite b) a (inr (no0, inr (no1, inr (no2, inr (no3, inr (no4, inr (no5, inl (some, (start, c, newest, e))))))))) = nothing (body.Prewrite b) a _ e refl
-  tells l top (body.Prewrite b) a (inr (no0, inr (no1, inr (no2, inr (no3, inr (no4, inr (no5, inr (no6, inl (mode, (m, promise, inl x)))))))))) = nothing (body.Prewrite b) a _ x.1 refl
-  tells l top (body.Prewrite b) a (inr (no0, inr (no1, inr (no2, inr (no3, inr (no4, inr (no5, inr (no6, inl (mode, (m, promise, inr x)))))))))) = nothing (body.Prewrite b) a _ x.1 refl
-  tells l top (body.Prewrite b) a (inr (no0, inr (no1, inr (no2, inr (no3, inr (no4, inr (no5, inr (no6, inr x)))))))) = nothing (body.Prewrite b) a _ x.1 refl
+  tells l top (body.Prewrite b) a (inr (no0, inr (no1, inr (no2, inr (no3, inr (no4, inr (no5, inr (no6, inl x)))))))) = nothing (body.Prewrite b) a _ x.1 refl
+  tells l top (body.Prewrite b) a (inr (no0, inr (no1, inr (no2, inr (no3, inr (no4, inr (no5, inr (no6, inr (no7, inl (mode, (m, promise, inl x))))))))))) = nothing (body.Prewrite b) a _ x.1 refl
+  tells l top (body.Prewrite b) a (inr (no0, inr (no1, inr (no2, inr (no3, inr (no4, inr (no5, inr (no6, inr (no7, inl (mode, (m, promise, inr x))))))))))) = nothing (body.Prewrite b) a _ x.1 refl
+  tells l top (body.Prewrite b) a (inr (no0, inr (no1, inr (no2, inr (no3, inr (no4, inr (no5, inr (no6, inr (no7, inr x))))))))) = nothing (body.Prewrite b) a _ x.1 refl
   tells l top (body.Commit b) a (inl x) = nothing (body.Commit b) a _ x.1 refl
   tells l top (body.Commit b) a (inr (no0, inl (lock, own, inl x))) = nothing (body.Commit b) a _ x.1 refl
   tells l top (body.Commit b) a (inr (no0, inl (lock, own, inr (no1, inl (rec, x, e))))) = nothing (body.Commit b) a _ e refl
@@ -167,7 +169,7 @@ module _ (bounds : List Key) (h : History) (run : IsWorldRun bounds h) where
       record {
         of = says.of;
         declares = says.stands;
-        within = λ none. cc (ap (λ s. mutation_at s k) (sym set) ∙ ((inv.keys k).lock lock at).does, none);
+        within = λ none. (let gone : does_at says.of.changes k ≡ None = ap (option_map as_locked) none in cc (ap (λ s. does_at s k) (sym set) ∙ ((inv.keys k).lock lock at).does, gone));
         primary = says.primary;
         async = λ is. (elim (mode_of says.of.mode) [
           | inl two ↦ (let not : lock.mode ≡ TwoPhase = mode ∙ (inv.acceptances lock.start k of.0 of.1).mode says.of says.stands two in cc (not, is))

@@ -19,7 +19,7 @@ use Rattle.tx_core.specs.declared.event.Event.TheVariants.{Took}
 use Rattle.tx_core.specs.Histories.{History, last, set_at, left, Among}
 use Rattle.tx_core.specs.Decisions.{Acceptance, Effect, NoEffect, is_own, effect, effect_in, accepted, accepted_by, decision, first_decided, decided, fate_in}
 use Rattle.tx_core.specs.Worlds.{route}
-use Rattle.tx_core.specs.Shadow.{deciding, deciding_in, reading, shadow}
+use Rattle.tx_core.specs.Shadow.{deciding, deciding_in, checking, reading, shadow}
 use Rattle.tx_core.specs.Truth.{HasEnded, IsTrueAnswer}
 use Rattle.tx_core.proofs.Basics.{nat_test, nat_same, key_test, cond_true, cond_false}
 use Rattle.tx_core.proofs.view.View.{View, IsCommitted}
@@ -27,7 +27,7 @@ use Rattle.tx_core.proofs.view.Tables.{Sound, has_ended}
 use Rattle.tx_core.proofs.changes.Raising.{raising}
 use Rattle.tx_core.proofs.changes.Sounds.{sound_raise}
 use Rattle.tx_core.proofs.view.Ends.{Ends}
-use Rattle.tx_core.proofs.view.HistoryView.{reads_by, reads_in, shown_put, shown_told, shown_in, view}
+use Rattle.tx_core.proofs.view.HistoryView.{reads_by, checks_by, reads_in, shown_put, shown_told, shown_in, view}
 
 -- The machine's steps and the view are sound, the ends hold, and an answer that told of an end told what is decided.
 pub record Good (bounds : List Key) (h : History) : Type 0 where
@@ -89,6 +89,8 @@ pub record OnKey (k : Key) (body : Body) (a : Answer) (t : ℕ) (f : Cells → C
   pub does : (r : Region) → leaves r body a ≡ with_cells r k (f (r.cells k))
   pub unread : (before : List Reading) → reads_by body a before ≡ before
   pub unseen : reading body a ≡ []
+  pub unnoted : (e : Effect) (before : List Reading) → checks_by body e before ≡ before
+  pub unchecked : (e : Effect) → checking body e ≡ []
 
 -- where a region answers, what it leaves of itself stays in what the answer does not touch
 pub part_same : {X : Type 0} (h : History) (n m : ℕ) (body : Body) (l : ℕ) (a : Answer) (part : Region → X) → ((r : Region) → part (leaves r body a) ≡ part r) → part (left (Took (took n body l a) ∷ h) m) ≡ part (left h m)
@@ -99,7 +101,7 @@ part_same h n m body l a part same =
     ]
 
 -- the cells after an answer that changes those of one key
-pub cells_keyed : (bounds : List Key) (h : History) (k : Key) (body : Body) (l : ℕ) (a : Answer) (f : Cells → Cells) → ((r : Region) → leaves r body a ≡ with_cells r k (f (r.cells k))) → (q : Key) → cells_at bounds (Took (took (route bounds k) body l a) ∷ h) q ≡ cond (bytes_eq k q) (f (cells_at bounds h k)) (cells_at bounds h q)
+pub cells_keyed : (bounds : List Key) (h : History) (k : Key) (body : Body) (l : ℕ) (a : Answer) (f : Cells → Cells) → ((r : Region) (q : Key) → (leaves r body a).cells q ≡ cond (bytes_eq k q) (f (r.cells k)) (r.cells q)) → (q : Key) → cells_at bounds (Took (took (route bounds k) body l a) ∷ h) q ≡ cond (bytes_eq k q) (f (cells_at bounds h k)) (cells_at bounds h q)
 cells_keyed bounds h k body l a f does q =
     elim (key_test k q) [
       | inl e ↦ subst (λ x. cells_at bounds (Took (took (route bounds k) body l a) ∷ h) x ≡ cond (bytes_eq k x) (f (cells_at bounds h k)) (cells_at bounds h x)) e.1 (here k (nat_same (route bounds k)))
@@ -110,7 +112,7 @@ cells_keyed bounds h k body l a f does q =
     ]
   where
     here : (y : Key) → (route bounds k == route bounds y) ≡ true → cells_at bounds (Took (took (route bounds k) body l a) ∷ h) y ≡ cond (bytes_eq k y) (f ((left h (route bounds y)).cells k)) (cells_at bounds h y)
-    here y e = ap (λ (r : Region). r.cells y) (cond_true (route bounds k == route bounds y) (leaves (left h (route bounds y)) body a) (left h (route bounds y)) e ∙ does (left h (route bounds y)))
+    here y e = ap (λ (r : Region). r.cells y) (cond_true (route bounds k == route bounds y) (leaves (left h (route bounds y)) body a) (left h (route bounds y)) e) ∙ does (left h (route bounds y)) y
 
 pub decided_same : (t : ℕ) (s : State) → deciding t s s ≡ []
 decided_same t Open = refl
@@ -129,14 +131,14 @@ assemble bounds h k body l a t f on e is d acc shown new steps fates accepts sho
       declared = λ u. refl;
       decided = now;
       accepted = λ u q. ap (λ y. accepted_by y (last h) u q (accepted h u q)) is ∙ accepts u q;
-      reads = on.unread (reads_in h);
+      reads = on.unnoted (effect_in h x) (reads_by body a (reads_in h)) ∙ on.unread (reads_in h);
       shown = λ u. ap (λ y. shown_told body a u (shown_put (set_at h u) y u (shown_in h u))) is ∙ shows u;
       floor = λ q. part_same h (route bounds k) (route bounds q) body l a (λ r. r.max_read) (λ r. ap (λ (y : Region). y.max_read) (on.does r));
       safe = λ q. part_same h (route bounds k) (route bounds q) body l a (λ r. r.safe) (λ r. ap (λ (y : Region). y.safe) (on.does r));
       collected = λ q. part_same h (route bounds k) (route bounds q) body l a (λ r. r.collected) (λ r. ap (λ (y : Region). y.collected) (on.does r));
-      cells = λ q. cells_keyed bounds h k body l a f on.does q ∙ ap (λ c. cond (bytes_eq k q) c (cells_at bounds h q)) cells;
+      cells = λ q. cells_keyed bounds h k body l a f (λ r j. ap (λ (y : Region). y.cells j) (on.does r)) q ∙ ap (λ c. cond (bytes_eq k q) c (cells_at bounds h q)) cells;
     } in
-    let made : shadow (Took x ∷ h) ≡ steps = ap (λ r. deciding_in h x (start_in body) ++ (r ++ shadow h)) on.unseen ∙ ap (λ o. deciding_in h x o ++ shadow h) on.named ∙ ap (λ s. deciding t (decided h t) s ++ shadow h) (now t) ∙ same in
+    let made : shadow (Took x ∷ h) ≡ steps = ap (λ r. deciding_in h x (start_in body) ++ (r ++ (reading body a ++ shadow h))) (on.unchecked (effect_in h x)) ∙ ap (λ r. deciding_in h x (start_in body) ++ (r ++ shadow h)) on.unseen ∙ ap (λ o. deciding_in h x o ++ shadow h) on.named ∙ ap (λ s. deciding t (decided h t) s ++ shadow h) (now t) ∙ same in
     record {
       sound = subst (λ s. Sound s (view bounds (Took x ∷ h))) (sym made) (subst (Sound steps) (sym w) sound);
       ends = subst Ends (sym w) ends;
@@ -181,6 +183,8 @@ pub record IsRead (body : Body) (a : Answer) (at : ℕ) : Type 0 where
   pub does : (r : Region) → leaves r body a ≡ with_max_read r (raised a at r.max_read)
   pub none : (cells : Key → Cells) → effect cells body a ≡ NoEffect
   pub untold : (u n : ℕ) → shown_told body a u n ≡ n
+  pub unnoted : (e : Effect) (before : List Reading) → checks_by body e before ≡ before
+  pub unchecked : (e : Effect) → checking body e ≡ []
 
 -- the greatest timestamp read after an answer, on a key
 abbrev pub floor_after : List Key → History → Taken → Key → ℕ
@@ -226,14 +230,14 @@ assemble_read bounds h good n body l a at read sound truth =
       declared = λ u. refl;
       decided = λ u. ap (λ y. first_decided (decision (set_at h u) (λ q. accepted_by y (last h) u q (accepted h u q)) y u) (decided h u)) none;
       accepted = λ u q. ap (λ y. accepted_by y (last h) u q (accepted h u q)) none;
-      reads = refl;
+      reads = read.unnoted (effect_in h x) (reads_by body a (reads_in h));
       shown = λ u. ap (λ y. shown_told body a u (shown_put (set_at h u) y u (shown_in h u))) none ∙ read.untold u (shown_in h u);
       floor = λ q. refl;
       safe = λ q. part_same h n (route bounds q) body l a (λ r. r.safe) (λ r. ap (λ (y : Region). y.safe) (read.does r));
       collected = λ q. part_same h n (route bounds q) body l a (λ r. r.collected) (λ r. ap (λ (y : Region). y.collected) (read.does r));
       cells = λ q. part_same h n (route bounds q) body l a (λ r. r.cells q) (λ r. ap (λ (y : Region). y.cells q) (read.does r));
     } in
-    let made : shadow (Took x ∷ h) ≡ reading body a ++ shadow h = ap (λ o. deciding_in h x o ++ (reading body a ++ shadow h)) read.unnamed in
+    let made : shadow (Took x ∷ h) ≡ reading body a ++ shadow h = ap (λ r. deciding_in h x (start_in body) ++ (r ++ (reading body a ++ shadow h))) (read.unchecked (effect_in h x)) ∙ ap (λ o. deciding_in h x o ++ (reading body a ++ shadow h)) read.unnamed in
     record {
       sound = subst (λ s. Sound s (view bounds (Took x ∷ h))) (sym made) (subst (Sound (reading body a ++ shadow h)) (sym w) sound);
       ends = subst Ends (sym w) good.ends;

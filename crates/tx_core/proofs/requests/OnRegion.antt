@@ -8,14 +8,14 @@ use Rattle.tx_plan.specs.Cells.{Region, Cells}
 use Rattle.tx_plan.specs.Answers.{leaves, start_in}
 use Rattle.tx_core.specs.declared.event.Event.TheVariants.{Took}
 use Rattle.tx_core.specs.Histories.{History, last, set_at, left}
-use Rattle.tx_core.specs.Decisions.{NoEffect, effect, effect_in, accepted, accepted_by, decision, first_decided, decided}
+use Rattle.tx_core.specs.Decisions.{Effect, NoEffect, effect, effect_in, accepted, accepted_by, decision, first_decided, decided}
 use Rattle.tx_core.specs.Worlds.{route}
-use Rattle.tx_core.specs.Shadow.{deciding_in, reading, shadow}
+use Rattle.tx_core.specs.Shadow.{deciding_in, checking, reading, shadow}
 use Rattle.tx_core.specs.Truth.{IsTrueAnswer}
 use Rattle.tx_core.proofs.view.View.{View}
 use Rattle.tx_core.proofs.view.Tables.{Sound}
 use Rattle.tx_core.proofs.view.Ends.{Ends}
-use Rattle.tx_core.proofs.view.HistoryView.{reads_by, reads_in, shown_put, shown_told, shown_in, view}
+use Rattle.tx_core.proofs.view.HistoryView.{reads_by, checks_by, reads_in, shown_put, shown_told, shown_in, view}
 use Rattle.tx_core.proofs.requests.Good.{Good, Next, took, same_view, part_same, cells_at}
 
 -- The request names no transaction and reads nothing, and the answer leaves the greatest timestamp read.
@@ -25,6 +25,8 @@ pub record IsOfRegion (body : Body) (a : Answer) : Type 0 where
   pub untold : (u n : ℕ) → shown_told body a u n ≡ n
   pub unread : (before : List Reading) → reads_by body a before ≡ before
   pub unseen : reading body a ≡ []
+  pub unnoted : (e : Effect) (before : List Reading) → checks_by body e before ≡ before
+  pub unchecked : (e : Effect) → checking body e ≡ []
   pub floor : (r : Region) → (leaves r body a).max_read ≡ r.max_read
 
 module _ (bounds : List Key) (h : History) (good : Good bounds h) (n : ℕ) (l : ℕ) where
@@ -41,14 +43,14 @@ module _ (bounds : List Key) (h : History) (good : Good bounds h) (n : ℕ) (l :
         declared = λ u. refl;
         decided = λ u. ap (λ y. first_decided (decision (set_at h u) (λ q. accepted_by y (last h) u q (accepted h u q)) y u) (decided h u)) none;
         accepted = λ u q. ap (λ y. accepted_by y (last h) u q (accepted h u q)) none;
-        reads = is.unread (reads_in h);
+        reads = is.unnoted (effect_in h x) (reads_by body a (reads_in h)) ∙ is.unread (reads_in h);
         shown = λ u. ap (λ y. shown_told body a u (shown_put (set_at h u) y u (shown_in h u))) none ∙ is.untold u (shown_in h u);
         floor = λ q. part_same h n (route bounds q) body l a (λ r. r.max_read) is.floor;
         safe = safes;
         collected = collects;
         cells = stands;
       } in
-      let made : shadow (Took x ∷ h) ≡ shadow h = ap (λ r. deciding_in h x (start_in body) ++ (r ++ shadow h)) is.unseen ∙ ap (λ o. deciding_in h x o ++ shadow h) is.unnamed in
+      let made : shadow (Took x ∷ h) ≡ shadow h = ap (λ r. deciding_in h x (start_in body) ++ (r ++ (reading body a ++ shadow h))) (is.unchecked (effect_in h x)) ∙ ap (λ r. deciding_in h x (start_in body) ++ (r ++ shadow h)) is.unseen ∙ ap (λ o. deciding_in h x o ++ shadow h) is.unnamed in
       record {
         sound = subst (λ s. Sound s (view bounds (Took x ∷ h))) (sym made) (subst (Sound (shadow h)) (sym w) sound);
         ends = subst Ends (sym w) ends;

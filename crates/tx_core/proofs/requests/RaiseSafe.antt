@@ -23,7 +23,7 @@ module _ (bounds : List Key) (h : History) (good : Good bounds h) (n : ℕ) (l :
   raised_by : (a : Answer) → a ≡ Raised → ((b.safe < (left h n).safe) → ⊥) → Next bounds h (took n (body.RaiseSafe b) l Raised)
   raised_by a e high =
       let after : Key → ℕ = λ k. (left (Took (took n (body.RaiseSafe b) l Raised) ∷ h) (route bounds k)).safe in
-      assemble_region bounds h good n l (body.RaiseSafe b) Raised (record { unnamed = refl; none = λ cells. refl; untold = λ u m. refl; unread = λ before. refl; unseen = refl; floor = λ r. refl }) after (view bounds h).collected (view bounds h).cells
+      assemble_region bounds h good n l (body.RaiseSafe b) Raised (record { unnamed = refl; none = λ cells. refl; untold = λ u m. refl; unread = λ before. refl; unseen = refl; unnoted = λ e before. refl; unchecked = λ e. refl; floor = λ r. refl }) after (view bounds h).collected (view bounds h).cells
       (λ k. refl)
       (λ k. part_same h n (route bounds k) (body.RaiseSafe b) l Raised (λ r. r.collected) (λ r. refl))
       (λ k. part_same h n (route bounds k) (body.RaiseSafe b) l Raised (λ r. r.cells k) (λ r. refl))
@@ -44,6 +44,6 @@ module _ (bounds : List Key) (h : History) (good : Good bounds h) (n : ℕ) (l :
   silent a x e next = subst (λ y. Next bounds h (took n (body.RaiseSafe b) l y)) (sym e) next
 
   pub next_raise_safe : (a : Answer) → AnswersRaiseSafe (left h n).safe l b a → Next bounds h (took n (body.RaiseSafe b) l a)
-  next_raise_safe a (inl x) = silent a (FutureTimestamp l) x.1 (still bounds h good n l (body.RaiseSafe b) (FutureTimestamp l) (record { unnamed = refl; none = λ cells. refl; untold = λ u m. refl; unread = λ before. refl; unseen = refl; floor = λ r. refl }) (λ r. refl) tt)
-  next_raise_safe a (inr (no0, inl x)) = silent a (BelowSafePoint (left h n).safe) x.1 (still bounds h good n l (body.RaiseSafe b) (BelowSafePoint (left h n).safe) (record { unnamed = refl; none = λ cells. refl; untold = λ u m. refl; unread = λ before. refl; unseen = refl; floor = λ r. refl }) (λ r. refl) tt)
+  next_raise_safe a (inl x) = silent a (FutureTimestamp l) x.1 (still bounds h good n l (body.RaiseSafe b) (FutureTimestamp l) (record { unnamed = refl; none = λ cells. refl; untold = λ u m. refl; unread = λ before. refl; unseen = refl; unnoted = λ e before. refl; unchecked = λ e. refl; floor = λ r. refl }) (λ r. refl) tt)
+  next_raise_safe a (inr (no0, inl x)) = silent a (BelowSafePoint (left h n).safe) x.1 (still bounds h good n l (body.RaiseSafe b) (BelowSafePoint (left h n).safe) (record { unnamed = refl; none = λ cells. refl; untold = λ u m. refl; unread = λ before. refl; unseen = refl; unnoted = λ e before. refl; unchecked = λ e. refl; floor = λ r. refl }) (λ r. refl) tt)
   next_raise_safe a (inr (no0, inr (no1, e))) = silent a Raised e (raised_by a e no1)

@@ -27,7 +27,7 @@ use Rattle.tx_core.proofs.requests.Good.{Good, Next, IsRead, took, cells_at, flo
 
 module _ (bounds : List Key) (h : History) (good : Good bounds h) (n : ℕ) (b : Scan) (l : ℕ) where
   is_read : (a : Answer) → IsRead (body.Scan b) a b.at
-  is_read a = record { unnamed = refl; does = λ r. refl; none = λ cells. refl; untold = λ u n. refl }
+  is_read a = record { unnamed = refl; does = λ r. refl; none = λ cells. refl; untold = λ u n. refl; unnoted = λ e before. refl; unchecked = λ e. refl }
 
   silent : (a x : Answer) → a ≡ x → Next bounds h (took n (body.Scan b) l x) → Next bounds h (took n (body.Scan b) l a)
   silent a x e next = subst (λ y. Next bounds h (took n (body.Scan b) l y)) (sym e) next

@@ -18,7 +18,7 @@ use Rattle.tx_core.proofs.requests.Good.{Good, Next, OnKey, took, cells_at, asse
 
 module _ (bounds : List Key) (h : History) (good : Good bounds h) (b : TxnHeartBeat) (l : ℕ) where
   on_key : (a : Answer) → OnKey b.key (body.TxnHeartBeat b) a b.start (λ c. leaves_txn_heart_beat c b a)
-  on_key a = record { named = refl; does = λ r. refl; unread = λ before. refl; unseen = refl }
+  on_key a = record { named = refl; does = λ r. refl; unread = λ before. refl; unseen = refl; unnoted = λ e before. refl; unchecked = λ e. refl }
 
   silent : (a x : Answer) → a ≡ x → Next bounds h (took (route bounds b.key) (body.TxnHeartBeat b) l x) → Next bounds h (took (route bounds b.key) (body.TxnHeartBeat b) l a)
   silent a x e next = subst (λ y. Next bounds h (took (route bounds b.key) (body.TxnHeartBeat b) l y)) (sym e) next

@@ -22,7 +22,7 @@ use Rattle.tx_core.proofs.view.View.{View}
 use Rattle.tx_core.proofs.changes.Reading.{Passes}
 use Rattle.tx_core.proofs.view.Tables.{Shows, changes_of}
 use Rattle.tx_core.proofs.view.HistoryView.{shown_in, view}
-use Rattle.tx_core.proofs.seats.Staying.{was_last_upto}
+use Rattle.tx_core.proofs.seats.Staying.{was_last_upto, declared_drew}
 use Rattle.tx_core.proofs.requests.Good.{true_end, Good, Next, took}
 use Rattle.tx_core.proofs.requests.Get.{next_get}
 use Rattle.tx_core.proofs.requests.Scan.{next_scan}
@@ -79,7 +79,7 @@ module _ (bounds : List Key) (h : History) (run : IsWorldRun bounds h) (good : G
   next_taken : (n : ℕ) (body : Body) (l : ℕ) (a : Answer) → l ≤ last h → Allowed h body → Holds bounds n body → Answers (left h n) l (last h) body a → Next bounds h (took n body l a)
   next_taken n (Get b) l a upto allowed holds answers = subst (λ m. Next bounds h (took m (Get b) l a)) holds (next_get bounds h good b l a (passes b.at b.bypass allowed) upto (subst (λ m. Answers (left h m) l (last h) (Get b) a) (sym holds) answers))
   next_taken n (Scan b) l a upto allowed holds answers = next_scan bounds h good n b l a holds (passes b.at b.bypass allowed) upto answers
-  next_taken n (Prewrite b) l a upto allowed holds answers = subst (λ m. Next bounds h (took m (Prewrite b) l a)) holds (next_prewrite bounds h good b l a allowed upto (subst (λ m. Answers (left h m) l (last h) (Prewrite b) a) (sym holds) answers))
+  next_taken n (Prewrite b) l a upto allowed holds answers = subst (λ m. Next bounds h (took m (Prewrite b) l a)) holds (next_prewrite bounds h good b l a allowed (declared_drew bounds h run b.start allowed.of allowed.stands) upto (subst (λ m. Answers (left h m) l (last h) (Prewrite b) a) (sym holds) answers))
   next_taken n (Commit b) l a upto allowed holds answers = subst (λ m. Next bounds h (took m (Commit b) l a)) holds (next_commit bounds h good b l a allowed (subst (λ m. Answers (left h m) l (last h) (Commit b) a) (sym holds) answers))
   next_taken n (BatchRollback b) l a upto allowed holds answers = subst (λ m. Next bounds h (took m (BatchRollback b) l a)) holds (next_rollback bounds h good b l a allowed (subst (λ m. Answers (left h m) l (last h) (BatchRollback b) a) (sym holds) answers))
   next_taken n (TxnHeartBeat b) l a upto allowed holds answers = subst (λ m. Next bounds h (took m (TxnHeartBeat b) l a)) holds (next_heart_beat bounds h good b l a allowed (subst (λ m. Answers (left h m) l (last h) (TxnHeartBeat b) a) (sym holds) answers))

@@ -53,12 +53,12 @@ later_row f (inr x) = inr (x.0, f x.1)
 -- what a region may answer it may answer later: the bound of the free minimum only rises
 promised_later : (P Q : ℕ → Type 0) → ((m : ℕ) → P m → Q m) → (cells : Cells) (safe loaded : ℕ) (b : Prewrite) (a : Answer) → AnswersPrewrite cells safe loaded P b a → AnswersPrewrite cells safe loaded Q b a
 promised_later P Q more cells safe loaded b a answers =
-    later_row (later_row (later_row (later_row (later_row (later_row (later_row (λ row. elim row [ inl x ↦ inl (x.0, (x.1.0, more x.1.0 x.1.1, x.1.2)) | inr x ↦ inr x ]))))))) answers
+    later_row (later_row (later_row (later_row (later_row (later_row (later_row (later_row (λ row. elim row [ inl x ↦ inl (x.0, (x.1.0, more x.1.0 x.1.1, x.1.2)) | inr x ↦ inr x ])))))))) answers
 
 pub answers_later : (region : Region) (loaded top more : ℕ) → top ≤ more → (body : Body) (a : Answer) → Answers region loaded top body a → Answers region loaded more body a
 answers_later region loaded top more le (body.Get b) a answers = answers
 answers_later region loaded top more le (body.Scan b) a answers = answers
-answers_later region loaded top more le (body.Prewrite b) a answers = promised_later (MayPromise region.max_read top b.start) (MayPromise region.max_read more b.start) (λ m promised. (promised.0, omega (arith, promised.1, le))) (region.cells b.key) region.safe loaded b a answers
+answers_later region loaded top more le (body.Prewrite b) a answers = promised_later (MayPromise region.max_read top b) (MayPromise region.max_read more b) (λ m promised. (promised.0, omega (arith, promised.1, le))) (region.cells b.key) region.safe loaded b a answers
 answers_later region loaded top more le (body.Commit b) a answers = answers
 answers_later region loaded top more le (body.BatchRollback b) a answers = answers
 answers_later region loaded top more le (body.TxnHeartBeat b) a answers = answers

@@ -1,5 +1,5 @@
 -- The numbers of a region lie at most at the last number drawn.
-use Rattle.std.proofs.Common.{◌≡◌, ◌<◌, ◌≤◌, ◌⊎◌, ℕ, inl, inr, List, [], ◌∷◌, ap, subst, arith}
+use Rattle.std.proofs.Common.{◌≡◌, ◌<◌, ◌≤◌, ◌⊎◌, ℕ, max, inl, inr, List, [], ◌∷◌, Option, Some, None, refl, ap, subst, arith}
 use Rattle.std.proofs.lemmas.Bool.{cases_lt}
 use Rattle.tx_types.specs.declared.key.Key.{Key}
 use Rattle.tx_plan.specs.declared.body.Body.{Body}
@@ -7,11 +7,17 @@ use Rattle.tx_plan.specs.declared.body.Body.TheVariants as body
 use Rattle.tx_plan.specs.declared.body.Collect.{Collect}
 use Rattle.tx_plan.specs.declared.body.RaiseSafe.{RaiseSafe}
 use Rattle.tx_plan.specs.declared.answer.Answer.{Answer}
-use Rattle.tx_plan.specs.declared.answer.Answer.TheVariants.{Found, Nothing, Rows, KeyIsLocked, BelowSafePoint, FutureTimestamp, Raised, Collected}
-use Rattle.tx_plan.specs.Cells.{Region}
+use Rattle.tx_plan.specs.declared.answer.Answer.TheVariants.{Found, Nothing, Rows, Prewritten, KeyIsLocked, BelowSafePoint, FutureTimestamp, Raised, Collected, AlreadyExists}
+use Rattle.tx_types.specs.declared.mutation.Mutation.{Mutation}
+use Rattle.tx_types.specs.declared.mutation.Mutation.TheVariants as mutation
+use Rattle.tx_plan.specs.declared.body.Prewrite.{Prewrite}
+use Rattle.std.proofs.Math.Nat.{le-max_left}
+use Rattle.tx_plan.specs.Cells.{Lock, Cells, Region}
 use Rattle.tx_plan.specs.Answers.{Answers, leaves}
 use Rattle.tx_plan.specs.Reads.{raised}
 use Rattle.tx_plan.specs.cases.Collect.{AnswersCollect, leaves_collect}
+use Rattle.tx_plan.specs.Plans.{read_upto as rise}
+use Rattle.tx_plan.specs.cases.Prewrite.{AnswersPrewrite, MayPromise, read_by_prewrite, check_by}
 use Rattle.tx_plan.specs.cases.RaiseSafe.{AnswersRaiseSafe, leaves_raise_safe}
 use Rattle.tx_core.specs.declared.event.Event.TheVariants.{Drawn, Began, Declared, Answered, Stopped, Took}
 use Rattle.tx_core.specs.Histories.{History, last, left}
@@ -43,6 +49,40 @@ read_upto a r safe loaded n top low upto (inl x) = (let same = ap (λ y. raised 
 read_upto a r safe loaded n top low upto (inr (no0, inl x)) = (let same = ap (λ y. raised y r n) x.1 in omega (arith, same, low))
 read_upto a r safe loaded n top low upto (inr (no0, inr (no1, rest))) = (let within = at_least loaded r no1 in raised_upto a r n top low (omega (arith, within, upto)))
 
+-- a prewrite reads at its start, or not at all
+read_at_start : (a : Answer) (lock : Option Lock) (b : Prewrite) → (read_by_prewrite a lock b ≡ None) ⊎ (read_by_prewrite a lock b ≡ Some b.start)
+read_at_start a lock b = by_answer a lock
+  where
+    checked : (m : Mutation) → (check_by m b.start ≡ None) ⊎ (check_by m b.start ≡ Some b.start)
+    checked (mutation.Put v) = inl refl
+    checked (mutation.Insert v) = inr refl
+    checked mutation.Delete = inl refl
+    checked mutation.Lock = inl refl
+
+    by_answer : (a : Answer) (lock : Option Lock) → (read_by_prewrite a lock b ≡ None) ⊎ (read_by_prewrite a lock b ≡ Some b.start)
+    by_answer AlreadyExists lock = checked b.mutation
+    by_answer (Prewritten m) None = checked b.mutation
+    by_answer (Prewritten m) (Some lock) = inl refl
+    by_answer _ lock = inl refl
+
+pub read_upto_start : (a : Answer) (lock : Option Lock) (b : Prewrite) (n : ℕ) → rise (read_by_prewrite a lock b) n ≤ max n b.start
+read_upto_start a lock b n =
+    let low : n ≤ max n b.start = le-max_left n b.start in
+    elim (read_at_start a lock b) [
+      | inl e ↦ (let same = ap (λ o. rise o n) e in omega (arith, same, low))
+      | inr e ↦ (let same = ap (λ o. rise o n) e in omega (arith, same))
+    ]
+
+prewrite_upto : (Promise : ℕ → Type 0) (cells : Cells) (safe loaded n top : ℕ) (b : Prewrite) (a : Answer) → n ≤ top → loaded ≤ top → AnswersPrewrite cells safe loaded Promise b a → rise (read_by_prewrite a cells.lock b) n ≤ top
+prewrite_upto Promise cells safe loaded n top b a low upto (inl x) = (let same = ap (λ y. rise (read_by_prewrite y cells.lock b) n) x.1 in omega (arith, same, low))
+prewrite_upto Promise cells safe loaded n top b a low upto (inr (no0, inl x)) = (let same = ap (λ y. rise (read_by_prewrite y cells.lock b) n) x.1 in omega (arith, same, low))
+prewrite_upto Promise cells safe loaded n top b a low upto (inr (no0, inr (no1, rest))) =
+    let within = at_least loaded b.start no1 in
+    elim (read_at_start a cells.lock b) [
+      | inl e ↦ (let same = ap (λ o. rise o n) e in omega (arith, same, low))
+      | inr e ↦ (let same = ap (λ o. rise o n) e in omega (arith, same, low, within, upto))
+    ]
+
 raise_upto : (region : Region) (loaded top : ℕ) (b : RaiseSafe) (a : Answer) → IsUpto region top → loaded ≤ top → AnswersRaiseSafe region.safe loaded b a → IsUpto (leaves_raise_safe region b a) top
 raise_upto region loaded top b Raised is upto (inl x) = absurd (cc (x.1))
 raise_upto region loaded top b Raised is upto (inr (no0, inl x)) = absurd (cc (x.1))
@@ -62,7 +102,7 @@ collect_upto region top b _ is answers = is
 answer_upto : (region : Region) (loaded top : ℕ) (body : Body) (a : Answer) → IsUpto region top → loaded ≤ top → Answers region loaded top body a → IsUpto (leaves region body a) top
 answer_upto region loaded top (body.Get b) a is upto answers = record { read = read_upto a b.at region.safe loaded region.max_read top is.read upto answers; safe = is.safe; collected = is.collected }
 answer_upto region loaded top (body.Scan b) a is upto answers = record { read = read_upto a b.at region.safe loaded region.max_read top is.read upto answers; safe = is.safe; collected = is.collected }
-answer_upto region loaded top (body.Prewrite b) a is upto answers = record { read = is.read; safe = is.safe; collected = is.collected }
+answer_upto region loaded top (body.Prewrite b) a is upto answers = record { read = prewrite_upto (MayPromise region.max_read top b) (region.cells b.key) region.safe loaded region.max_read top b a is.read upto answers; safe = is.safe; collected = is.collected }
 answer_upto region loaded top (body.Commit b) a is upto answers = record { read = is.read; safe = is.safe; collected = is.collected }
 answer_upto region loaded top (body.BatchRollback b) a is upto answers = record { read = is.read; safe = is.safe; collected = is.collected }
 answer_upto region loaded top (body.TxnHeartBeat b) a is upto answers = record { read = is.read; safe = is.safe; collected = is.collected }

@@ -1,21 +1,25 @@
 -- What a seat may record: one lemma a kind of event.
-use Rattle.std.proofs.Common.{◌≡◌, ◌≢◌, ◌<◌, ◌≤◌, ℕ, inl, inr, true, false, List, [], ◌∷◌, length, Some, None, refl, sym, ap, subst, ◌∙◌}
+use Rattle.std.proofs.Common.{◌≡◌, ◌≢◌, ◌+◌, ◌<◌, ◌≤◌, ℕ, inl, inr, true, false, List, [], ◌∷◌, length, Some, None, refl, sym, ap, subst, ◌∙◌, arith}
 use Rattle.tx_types.specs.declared.key.Key.{Key}
-use Rattle.tx_plan.specs.Answers.{Answers, AnswersLeast}
-use Rattle.tx_plan.proofs.LeastMinimum.{least_admitted}
+use Rattle.tx_types.specs.declared.mutation.Mode.{Mode}
+use Rattle.tx_types.specs.declared.mutation.Mode.TheVariants.{TwoPhase, Async}
+use Rattle.tx_plan.specs.declared.body.Body.{Body}
+use Rattle.tx_plan.specs.declared.body.Body.TheVariants.{Prewrite}
+use Rattle.tx_plan.specs.Answers.{floor_in, Answers, AnswersFrom, AnswersLeast}
+use Rattle.tx_plan.proofs.LeastMinimum.{mark_admitted, least_admitted}
 use Rattle.tx_machine.specs.Keys.{IsDistinct}
 use Rattle.tx_core.specs.declared.event.Declaration.{Declaration}
 use Rattle.tx_core.specs.declared.event.Outcome.{Outcome}
 use Rattle.tx_core.specs.declared.event.Taken.{Taken}
 use Rattle.tx_core.specs.declared.event.Event.{Event}
 use Rattle.tx_core.specs.declared.event.Event.TheVariants.{Drawn, Began, Declared, Answered, Stopped, Took}
-use Rattle.tx_core.specs.Histories.{History, last, drawer, began, declared, answered, left, WasLast}
+use Rattle.tx_core.specs.Histories.{History, last, drawer, began, declared, answered, DrewSince, left, WasLast}
 use Rattle.tx_core.specs.Allowed.{Allowed}
 use Rattle.tx_core.specs.Worlds.{Holds, MayAnswer, IsWorldRun}
 use Rattle.tx_core.specs.Recording.{owner, Extends, MayRecord}
 use Rattle.tx_core.proofs.Basics.{nat_test, is_some}
 use Rattle.tx_core.proofs.seats.Beginnings.{other_run_on, extends_begins, extends_more}
-use Rattle.tx_core.proofs.seats.Staying.{last_on, was_last_on, was_last_upto, drawer_next, drawer_on, drawer_new, began_on, began_drawn}
+use Rattle.tx_core.proofs.seats.Staying.{last_on, was_last_on, was_last_upto, drawer_next, drawer_on, drawer_new, drew_since_on, declared_drew, began_on, began_drawn}
 use Rattle.tx_core.proofs.seats.StaysAllowed.{allowed_on}
 use Rattle.tx_core.proofs.seats.Numbers.{left_upto}
 use Rattle.tx_core.proofs.seats.Answering.{left_on, answers_later, may_answer_on}
@@ -63,6 +67,15 @@ module _ (bounds : List Key) (i t : ℕ) (l h : History) (run : IsWorldRun bound
 
 -- ---- what may be recorded
 
+-- the floor of a prewrite lies at most one above the last number
+floor_upto : (bounds : List Key) (h : History) → IsWorldRun bounds h → (body : Body) → Allowed h body → floor_in body ≤ last h + 1
+floor_upto bounds h run (Prewrite b) may = omega (arith, may.floor, of_mode may.of.mode, declared_drew bounds h run b.start may.of may.stands)
+  where
+    of_mode : (m : Mode) → elim m as (λ _. ℕ) [ TwoPhase ↦ 0 | Async ↦ may.of.drawn + 1 ] ≤ may.of.drawn + 1
+    of_mode TwoPhase = omega arith
+    of_mode Async = omega arith
+floor_upto bounds h run _ may = omega arith
+
 module _ (bounds : List Key) (i : ℕ) (l : History) where
   -- a region takes a request that is allowed after what it has seen
   pub may_take : (x : Taken) → x.region ≡ i → i ≤ length bounds → Allowed l x.body → Holds bounds x.region x.body → WasLast l x.loaded → Answers (left l x.region) x.loaded (last l) x.body x.answer → MayRecord bounds i l (Took x)
@@ -79,9 +92,13 @@ module _ (bounds : List Key) (i : ℕ) (l : History) where
         ap Some own,
       )
 
-  -- so it may answer with the least minimum
+  -- so it may answer with the least minimum above a mark, which covers what was read in the region and was drawn
+  pub may_take_from : (mark : ℕ) (x : Taken) → x.region ≡ i → i ≤ length bounds → Allowed l x.body → Holds bounds x.region x.body → WasLast l x.loaded → IsWorldRun bounds l → (left l x.region).max_read ≤ mark → mark ≤ last l → AnswersFrom mark (left l x.region) x.loaded x.body x.answer → MayRecord bounds i l (Took x)
+  may_take_from mark x own inside allowed holds was run covers upto answers = may_take x own inside allowed holds was (mark_admitted mark (left l x.region) x.loaded (last l) x.body x.answer covers upto (was_last_upto bounds l run x.loaded was) (floor_upto bounds l run x.body allowed) answers)
+
+  -- or above what was read in the region
   pub may_take_least : (x : Taken) → x.region ≡ i → i ≤ length bounds → Allowed l x.body → Holds bounds x.region x.body → WasLast l x.loaded → IsWorldRun bounds l → AnswersLeast (left l x.region) x.loaded x.body x.answer → MayRecord bounds i l (Took x)
-  may_take_least x own inside allowed holds was run answers = may_take x own inside allowed holds was (least_admitted (left l x.region) x.loaded (last l) x.body x.answer (left_upto bounds l run x.region).read (was_last_upto bounds l run x.loaded was) answers)
+  may_take_least x own inside allowed holds was run answers = may_take x own inside allowed holds was (least_admitted (left l x.region) x.loaded (last l) x.body x.answer (left_upto bounds l run x.region).read (was_last_upto bounds l run x.loaded was) (floor_upto bounds l run x.body allowed) answers)
 
   -- a session begins at a number that it drew, and that did not begin yet
   pub may_begin : (t : ℕ) → drawer l t ≡ Some i → began l t ≡ false → MayRecord bounds i l (Began t)
@@ -89,11 +106,11 @@ module _ (bounds : List Key) (i : ℕ) (l : History) where
       let still = drawer_on bounds l h run (extends_begins i l h goes) t i by in
       ((is_some (drawer h t) i still, unbegun_on bounds i t l h run goes by new), still)
 
-  -- it declares once
-  pub may_declare : (d : Declaration) → drawer l d.start ≡ Some i → began l d.start ≡ true → declared l d.start ≡ None → d.changes ≢ [] → IsDistinct d.changes → MayRecord bounds i l (Declared d)
-  may_declare d by begun new some distinct h run goes =
+  -- it declares once, with a number that it drew since
+  pub may_declare : (d : Declaration) → drawer l d.start ≡ Some i → began l d.start ≡ true → declared l d.start ≡ None → d.changes ≢ [] → IsDistinct d.changes → DrewSince l d.start d.drawn → MayRecord bounds i l (Declared d)
+  may_declare d by begun new some distinct drew h run goes =
       let b = extends_begins i l h goes in
-      (record { begun = began_on l h b d.start begun; once = undeclared_on bounds i d.start l h run goes by new; some = some; distinct = distinct }, drawer_on bounds l h run b d.start i by)
+      (record { begun = began_on l h b d.start begun; once = undeclared_on bounds i d.start l h run goes by new; some = some; distinct = distinct; drew = drew_since_on l h b d.start d.drawn drew }, drawer_on bounds l h run b d.start i by)
 
   -- it answers once, what it knows
   pub may_answer : (t : ℕ) (o : Outcome) → drawer l t ≡ Some i → began l t ≡ true → answered l t ≡ false → MayAnswer l t o → MayRecord bounds i l (Answered t o)

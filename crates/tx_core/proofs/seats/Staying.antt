@@ -1,15 +1,15 @@
 -- What stays so, however a world run grows.
-use Rattle.std.proofs.Common.{◌≡◌, ◌≢◌, ◌≤◌, ℕ, inl, inr, Bool, true, false, cond, List, [], ◌∷◌, Some, None, refl, sym, ap, subst, ◌∙◌, arith}
+use Rattle.std.proofs.Common.{◌≡◌, ◌≢◌, ◌≤◌, ℕ, ◌==◌, inl, inr, Bool, true, false, cond, List, [], ◌∷◌, Some, None, refl, sym, ap, subst, ◌∙◌, arith}
 use Rattle.tx_types.specs.declared.key.Key.{Key}
 use Rattle.tx_types.specs.declared.mutation.Fate.{Fate}
 use Rattle.tx_core.specs.declared.event.Declaration.{Declaration}
 use Rattle.tx_core.specs.declared.event.Event.{Event}
 use Rattle.tx_core.specs.declared.event.Event.TheVariants.{Drawn, Began, Declared, Answered, Stopped, Took}
-use Rattle.tx_core.specs.Histories.{History, last, drawer, began, declared, answered, set_of, set_at, Among, WasLast, Begins}
+use Rattle.tx_core.specs.Histories.{History, last, drawer, began, declared, answered, DrewSince, set_of, set_at, Among, WasLast, Begins}
 use Rattle.tx_core.specs.Recording.{owner}
 use Rattle.tx_core.specs.Decisions.{Acceptance, Effect, Puts, Settles, RollsBack, NoEffect, accepted_by, accepted, effect_in}
 use Rattle.tx_core.specs.Worlds.{MayCome, IsWorldRun, WasTold}
-use Rattle.tx_core.proofs.Basics.{nat_test, nat_same, cond_same, some_same, some_of, is_some}
+use Rattle.tx_core.proofs.Basics.{nat_test, nat_same, chosen, cond_same, some_same, some_of, is_some}
 use Rattle.tx_core.proofs.seats.Beginnings.{begins_all, begins_more, kept_on, run_on}
 
 -- ---- the last number
@@ -73,6 +73,41 @@ drawer_on bounds l h run b t s = run_on bounds (λ x. drawer x t ≡ Some s) (λ
 
 pub drawn_on : (bounds : List Key) (l h : History) → IsWorldRun bounds h → Begins l h → (t : ℕ) → drawer l t ≢ None → drawer h t ≢ None
 drawn_on bounds l h run b t drawn = (let by = some_of (drawer l t) drawn in is_some (drawer h t) by.0 (drawer_on bounds l h run b t by.0 by.1))
+
+-- what was drawn since a start stays so, and is at most the last number
+pub drew_since_on : (l h : History) → Begins l h → (t p : ℕ) → DrewSince l t p → DrewSince h t p
+drew_since_on l h b t p = kept_on (λ x. DrewSince x t p) (λ x e is. next x e is) l h b
+  where
+    next : (x : History) (e : Event) → DrewSince x t p → DrewSince (e ∷ x) t p
+    next x (Drawn s n) is = inr is
+    next x (Began u) is = is
+    next x (Declared d) is = is
+    next x (Answered u o) is = is
+    next x (Stopped s) is = is
+    next x (Took y) is = is
+
+pub drew_upto : (bounds : List Key) (h : History) → IsWorldRun bounds h → (t p : ℕ) → DrewSince h t p → p ≤ last h
+drew_upto bounds [] run t p drew = absurd drew
+drew_upto bounds (Drawn s n ∷ h) run t p drew = elim drew [ inl now ↦ omega (arith, now.0) | inr before ↦ omega (arith, drew_upto bounds h run.0 t p before, run.1) ]
+drew_upto bounds (Began u ∷ h) run t p drew = drew_upto bounds h run.0 t p drew
+drew_upto bounds (Declared d ∷ h) run t p drew = drew_upto bounds h run.0 t p drew
+drew_upto bounds (Answered u o ∷ h) run t p drew = drew_upto bounds h run.0 t p drew
+drew_upto bounds (Stopped s ∷ h) run t p drew = drew_upto bounds h run.0 t p drew
+drew_upto bounds (Took x ∷ h) run t p drew = drew_upto bounds h run.0 t p drew
+
+-- so is the number that was drawn for a declaration
+pub declared_drew : (bounds : List Key) (h : History) → IsWorldRun bounds h → (t : ℕ) (d : Declaration) → declared h t ≡ Some d → d.drawn ≤ last h
+declared_drew bounds [] run t d e = absurd (cc (e))
+declared_drew bounds (Declared x ∷ h) run t d e =
+    elim (chosen (x.start == t) (Some x) (declared h t) (Some d) e) [
+      | inl now ↦ (let same : x ≡ d = some_same x d now.1 in omega (arith, drew_upto bounds h run.0 x.start x.drawn run.1.drew, ap (λ (y : Declaration). y.drawn) same))
+      | inr before ↦ declared_drew bounds h run.0 t d before.1
+    ]
+declared_drew bounds (Drawn s n ∷ h) run t d e = omega (arith, declared_drew bounds h run.0 t d e, run.1)
+declared_drew bounds (Began u ∷ h) run t d e = declared_drew bounds h run.0 t d e
+declared_drew bounds (Answered u o ∷ h) run t d e = declared_drew bounds h run.0 t d e
+declared_drew bounds (Stopped s ∷ h) run t d e = declared_drew bounds h run.0 t d e
+declared_drew bounds (Took x ∷ h) run t d e = declared_drew bounds h run.0 t d e
 
 -- the number that a seat just drew is its
 pub drawer_new : (i t : ℕ) (h : History) → drawer (Drawn i t ∷ h) t ≡ Some i

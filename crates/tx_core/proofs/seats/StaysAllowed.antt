@@ -41,7 +41,7 @@ module _ (bounds : List Key) (l h : History) (run : IsWorldRun bounds h) (b : Be
   pub allowed_on : (x : Body) → Allowed l x → Allowed h x
   allowed_on (body.Get x) a = λ t named. may_pass_on x.at t (a t named)
   allowed_on (body.Scan x) a = λ t named. may_pass_on x.at t (a t named)
-  allowed_on (body.Prewrite x) a = record { of = a.of; stands = declared_on bounds l h run b x.start a.of a.stands; mutation = a.mutation; primary = a.primary; mode = a.mode; max_commit = a.max_commit; ttl = a.ttl; others = a.others }
+  allowed_on (body.Prewrite x) a = record { of = a.of; stands = declared_on bounds l h run b x.start a.of a.stands; mutation = a.mutation; primary = a.primary; mode = a.mode; max_commit = a.max_commit; floor = a.floor; ttl = a.ttl; others = a.others }
   allowed_on (body.Commit x) a =
       record {
         of = a.of;

@@ -5,15 +5,17 @@ use Rattle.tx_types.specs.declared.mutation.Fate.TheVariants.{Committed}
 use Rattle.tx_machine.specs.Machine.{Done}
 use Rattle.tx_plan.specs.declared.body.Body.{Body}
 use Rattle.tx_plan.specs.declared.body.Body.TheVariants.{Get, Scan, Prewrite, Commit, BatchRollback, TxnHeartBeat, CheckTxnStatus, CheckSecondaryLocks, ResolveLock, RaiseSafe, LocksBelow, Collect}
+use Rattle.tx_plan.specs.declared.body.Prewrite.{Prewrite as PrewriteBody}
 use Rattle.tx_plan.specs.declared.answer.Answer.{Answer}
 use Rattle.tx_plan.specs.declared.answer.Answer.TheVariants.{Raised, Collected}
 use Rattle.tx_plan.specs.Cells.{Cells, Region, no_cells, with_cells}
 use Rattle.tx_plan.specs.Own.{OwnCommit}
-use Rattle.tx_plan.specs.Answers.{AnswersBy, AnswersLeast, leaves}
+use Rattle.tx_plan.specs.Answers.{AnswersBy, leaves}
 use Rattle.tx_plan.specs.cases.Prewrite.{least_minimum}
 use Rattle.tx_plan.specs.cases.Collect.{keeps, kept}
 use Rattle.tx_core.specs.declared.event.Event.TheVariants.{Drawn, Began, Declared, Answered, Stopped, Took}
 use Rattle.tx_core.specs.Histories.{History, left}
+use Rattle.tx_core.specs.ReadMarks.{max_ts, AnswersNext}
 use Rattle.tx_core.specs.Decisions.{decided}
 use Rattle.tx_core.specs.Worlds.{route, Holds, IsWorldRun}
 use Rattle.tx_core.proofs.Basics.{nat_test, key_test, cond_true, cond_false, cond_same}
@@ -83,10 +85,10 @@ module _ (bounds : List Key) where
       ]
 
   -- whatever the least minimum is
-  pub one_answer_by : (least : ℕ → ℕ) (h : History) (n loaded : ℕ) (q : Body) (a b : Answer) → IsWorldRun bounds h → AnswersBy (λ start m. m ≡ least start) (left h n) loaded q a → AnswersBy (λ start m. m ≡ least start) (left h n) loaded q b → a ≡ b
+  pub one_answer_by : (least : PrewriteBody → ℕ) (h : History) (n loaded : ℕ) (q : Body) (a b : Answer) → IsWorldRun bounds h → AnswersBy (λ x m. m ≡ least x) (left h n) loaded q a → AnswersBy (λ x m. m ≡ least x) (left h n) loaded q b → a ≡ b
   one_answer_by least h n loaded (Get q) a b run = one_get ((left h n).cells q.key) (left h n).safe loaded q a b
   one_answer_by least h n loaded (Scan q) a b run = one_scan (left h n).cells q (left h n).safe loaded a b
-  one_answer_by least h n loaded (Prewrite q) a b run = one_prewrite ((left h n).cells q.key) (left h n).safe loaded (least q.start) q a b (commits_once h run n q.key q.start)
+  one_answer_by least h n loaded (Prewrite q) a b run = one_prewrite ((left h n).cells q.key) (left h n).safe loaded (least q) q a b (commits_once h run n q.key q.start)
   one_answer_by least h n loaded (Commit q) a b run = one_commit ((left h n).cells q.key) (left h n).collected q a b (commits_once h run n q.key q.start)
   one_answer_by least h n loaded (BatchRollback q) a b run = one_rollback ((left h n).cells q.key) (left h n).collected q a b (commits_once h run n q.key q.start)
   one_answer_by least h n loaded (TxnHeartBeat q) a b run = one_heart_beat ((left h n).cells q.key) (left h n).collected q a b
@@ -97,5 +99,5 @@ module _ (bounds : List Key) where
   one_answer_by least h n loaded (LocksBelow q) a b run = one_locks (left h n).cells q a b
   one_answer_by least h n loaded (Collect q) a b run = one_collect (left h n).cells (left h n).safe q a b
 
-  pub one_answer : (h : History) (n loaded : ℕ) (q : Body) (a b : Answer) → IsWorldRun bounds h → AnswersLeast (left h n) loaded q a → AnswersLeast (left h n) loaded q b → a ≡ b
-  one_answer h n = one_answer_by (least_minimum (left h n).max_read) h n
+  pub one_answer : (h : History) (n loaded : ℕ) (q : Body) (a b : Answer) → IsWorldRun bounds h → AnswersNext h n loaded q a → AnswersNext h n loaded q b → a ≡ b
+  one_answer h n = one_answer_by (least_minimum (max_ts h)) h n

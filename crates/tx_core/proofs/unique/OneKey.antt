@@ -71,8 +71,9 @@ one_prewrite cells safe loaded least q a b own =
     (one_case_of (λ c d x y. alike AlreadyCommitted c d a b (own c d x y))
     (one_case_of (λ lock also x y. alike (λ l. KeyIsLocked (info_of q.key l)) lock also a b (one_lock cells.lock lock also x y))
     (one_case (one_conflict cells.write q.start a b)
+    (one_case (same _ a b)
     (one_case (λ x y. one_minimum q.max_commit least x.0 y.0 a b x.1 y.1 x.2 y.2)
-    (same _ a b))))))))
+    (same _ a b)))))))))
 
 -- ---- commits, and locks that are resolved
 

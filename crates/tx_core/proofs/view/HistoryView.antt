@@ -1,5 +1,5 @@
 -- What a history says, as a view.
-use Rattle.std.proofs.Common.{◌≡◌, ℕ, ◌==◌, ◌&&◌, inl, inr, cond, List, [], ◌∷◌, bytes_eq, refl, arith}
+use Rattle.std.proofs.Common.{◌≡◌, ℕ, ◌==◌, ◌&&◌, inl, inr, cond, List, [], ◌∷◌, Option, Some, None, bytes_eq, refl, arith}
 use Rattle.tx_types.specs.declared.key.Key.{Key}
 use Rattle.tx_types.specs.declared.mutation.Change.{Change}
 use Rattle.tx_machine.specs.Machine.{Reading}
@@ -15,6 +15,7 @@ use Rattle.tx_core.specs.declared.event.Event.TheVariants.{Drawn, Began, Declare
 use Rattle.tx_core.specs.Histories.{History, last, drawer, began, declared, set_at, left}
 use Rattle.tx_core.specs.Decisions.{Effect, Settles, RollsBack, NoEffect, effect_in, accepted, decided}
 use Rattle.tx_core.specs.Worlds.{route}
+use Rattle.tx_plan.specs.cases.Prewrite.{check_by}
 use Rattle.tx_core.specs.Shadow.{scan_read}
 use Rattle.tx_machine.specs.Keys.{covered}
 use Rattle.tx_core.proofs.changes.Drawing.{drawing}
@@ -30,10 +31,19 @@ reads_by (body.Get b) Nothing before = record { covers = bytes_eq b.key; at = b.
 reads_by (body.Scan b) (Rows rows) before = record { covers = covered (scan_read b rows); at = b.at } ∷ before
 reads_by _ _ before = before
 
+-- and those of inserts whose check passed
+abbrev pub noted : Key → Option ℕ → List Reading → List Reading
+noted k None before = before
+noted k (Some at) before = record { covers = bytes_eq k; at = at } ∷ before
+
+abbrev pub checks_by : Body → Effect → List Reading → List Reading
+checks_by (body.Prewrite b) (Puts key lock) before = noted b.key (check_by b.mutation b.start) before
+checks_by _ _ before = before
+
 -- all of them, newest first
 abbrev pub reads_in : History → List Reading
 reads_in [] = []
-reads_in (Took x ∷ h) = reads_by x.body x.answer (reads_in h)
+reads_in (Took x ∷ h) = checks_by x.body (effect_in h x) (reads_by x.body x.answer (reads_in h))
 reads_in (_ ∷ h) = reads_in h
 
 -- the greatest minimum that the lock of a transaction on its primary has had: the one that it was put with, or that it was pushed to

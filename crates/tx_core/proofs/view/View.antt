@@ -4,10 +4,12 @@ use Rattle.tx_types.specs.declared.key.Key.{Key}
 use Rattle.tx_types.specs.declared.value.Value.{Value}
 use Rattle.tx_types.specs.declared.mutation.Change.{Change}
 use Rattle.tx_types.specs.declared.mutation.Mutation.{Mutation}
-use Rattle.tx_types.specs.declared.mutation.Mutation.TheVariants.{Put}
+use Rattle.tx_types.specs.declared.mutation.Mutation.TheVariants.{Put, Insert}
 use Rattle.tx_types.specs.declared.mutation.Mode.TheVariants.{TwoPhase, Async}
 use Rattle.tx_types.specs.declared.mutation.Fate.TheVariants.{Committed, Aborted}
 use Rattle.tx_types.specs.Keys.{IsVisible}
+use Rattle.tx_types.specs.Kinds.{as_locked}
+use Rattle.std.specs.Prelude.{option_map}
 use Rattle.tx_machine.specs.Keys.{mutation_at}
 use Rattle.tx_machine.specs.Machine.{State, Open, Done, Reading, IsRead}
 use Rattle.tx_plan.specs.Cells.{Lock, CommitRecord, CommitOf, Writes, Cells}
@@ -37,9 +39,17 @@ pub record View : Type 0 where
 
 -- ---- the words of the facts
 
--- the transaction is declared to do m to k
+-- what a write set does to a key, as locks and commit records have it: an insert puts
+abbrev pub does_at : List Change → Key → Option Mutation
+does_at set k = option_map as_locked (mutation_at set k)
+
+-- the transaction is declared to do m to k, as locks and records have it
 abbrev pub Does : (ℕ → Option Declaration) → ℕ → Key → Mutation → Type 0
-Does declared t k m = mutation_at (set_of (declared t)) k ≡ Some m
+Does declared t k m = does_at (set_of (declared t)) k ≡ Some m
+
+-- it is declared to insert v there
+abbrev pub Inserts : (ℕ → Option Declaration) → ℕ → Key → Value → Type 0
+Inserts declared t k v = mutation_at (set_of (declared t)) k ≡ Some (Insert v)
 
 -- k is its primary
 abbrev pub IsPrimary : (ℕ → Option Declaration) → ℕ → Key → Type 0
@@ -111,7 +121,8 @@ pub record Marks (last : ℕ) (reads : List Reading) (floor safe collected : Key
   pub low : (k : Key) → collected k ≤ safe k
 
 -- An accepted lock does what was declared. Its minimum lies above the start, and its bound is at least that and at most one above the
--- last number then. Where its transaction was declared two-phase, it is so too.
+-- last number then. Where its transaction was declared two-phase, it is so too; it lies above the number that was drawn for the
+-- declaration.
 pub record IsAccepted (last : ℕ) (declared : ℕ → Option Declaration) (t : ℕ) (k : Key) (by : Acceptance) : Type 0 where
   pub does : Does declared t k by.lock.mutation
   pub above : t < by.lock.min
@@ -119,6 +130,7 @@ pub record IsAccepted (last : ℕ) (declared : ℕ → Option Declaration) (t : 
   pub upto : bound by ≤ by.at + 1
   pub at : by.at ≤ last
   pub mode : (d : Declaration) → declared t ≡ Some d → d.mode ≡ TwoPhase → by.lock.mode ≡ TwoPhase
+  pub after : (d : Declaration) → declared t ≡ Some d → d.drawn < bound by
 
 -- A lock that stands was accepted, and does what was declared. It has the mode of its acceptance, and the minimum too, but on the
 -- primary, where it has the greatest that was shown.
@@ -129,12 +141,17 @@ pub record IsLock (declared : ℕ → Option Declaration) (accepted : ℕ → Ke
   pub min : is_first (set_of (declared lock.start)) k ≡ false → (by : Acceptance) → accepted lock.start k ≡ Some by → lock.min ≡ by.lock.min
   pub shows : IsPrimary declared lock.start k → lock.min ≡ shown lock.start
 
+-- each put that is committed at most at r is followed by a later change at most at r: a read there would see no value
+abbrev pub HasNoValue : (ℕ → Option Declaration) → (ℕ → State) → Key → ℕ → Type 0
+HasNoValue declared decided k r = (u d : ℕ) (v : Value) → IsCommitted decided u d → Does declared u k (Put v) → d ≤ r → Later decided declared k d r
+
 -- Another's commit on the key lies at or below the start of the lock, no commit record of its own transaction stands beside it, and its
--- region collects at most up to its start.
+-- region collects at most up to its start. Of what it inserts there is no value at its start.
 pub record IsAlone (declared : ℕ → Option Declaration) (decided : ℕ → State) (k : Key) (collected : ℕ) (write : Writes) (lock : Lock) : Type 0 where
   pub above : (u d : ℕ) (m : Mutation) → IsCommitted decided u d → Does declared u k m → u ≢ lock.start → d ≤ lock.start
   pub unwritten : (c : ℕ) (rec : CommitRecord) → write c ≡ Some (CommitOf rec) → rec.start ≢ lock.start
   pub fresh : collected ≤ lock.start
+  pub unseen : (v : Value) → Inserts declared lock.start k v → HasNoValue declared decided k lock.start
 
 -- A commit record's transaction is committed there, and does what it says. Where its rollback stands, a transaction is aborted. Where a
 -- put or delete below the collection stands, no later one up to the collection is committed.
@@ -196,21 +213,25 @@ one_first declared t j k = go (set_of (declared t))
 pub first_within : (declared : ℕ → Option Declaration) (t : ℕ) (k : Key) → IsPrimary declared t k → (m : Mutation) × Does declared t k m
 first_within declared t k = go (set_of (declared t))
   where
-    go : (set : List Change) → is_first set k ≡ true → (m : Mutation) × (mutation_at set k ≡ Some m)
+    go : (set : List Change) → is_first set k ≡ true → (m : Mutation) × (does_at set k ≡ Some m)
     go [] e = absurd (cc (e))
-    go (c ∷ cs) e = (c.mutation, rw e refl)
+    go (c ∷ cs) e = (as_locked c.mutation, rw e refl)
 
 -- who does something is declared
 pub does_declared : (declared : ℕ → Option Declaration) (t : ℕ) (k : Key) (m : Mutation) → Does declared t k m → declared t ≢ None
-does_declared declared t k m e none = cc (subst (λ o. mutation_at (set_of o) k ≡ Some m) none e)
+does_declared declared t k m e none = cc (subst (λ o. does_at (set_of o) k ≡ Some m) none e)
 
 -- and its key is one of the set
 pub does_within : (declared : ℕ → Option Declaration) (t : ℕ) (k : Key) (m : Mutation) → Does declared t k m → mutation_at (set_of (declared t)) k ≢ None
-does_within declared t k m e none = cc (e, none)
+does_within declared t k m e none = (let fact : does_at (set_of (declared t)) k ≡ None = ap (option_map as_locked) none in cc (e, fact))
 
 -- one key, one mutation
 pub one_does : (declared : ℕ → Option Declaration) (t u : ℕ) (k : Key) (m n : Mutation) → t ≡ u → Does declared t k m → Does declared u k n → m ≡ n
-one_does declared t u k m n same e f = some_same m n (sym e ∙ ap (λ x. mutation_at (set_of (declared x)) k) same ∙ f)
+one_does declared t u k m n same e f = some_same m n (sym e ∙ ap (λ x. does_at (set_of (declared x)) k) same ∙ f)
+
+-- what is declared is done
+pub declared_does : (declared : ℕ → Option Declaration) (t : ℕ) (k : Key) (m : Mutation) → mutation_at (set_of (declared t)) k ≡ Some m → Does declared t k (as_locked m)
+declared_does declared t k m e = ap (option_map as_locked) e
 
 -- a bound of one mode
 pub bound_two_phase : (by : Acceptance) → by.lock.mode ≡ TwoPhase → bound by ≡ by.at + 1
@@ -220,6 +241,9 @@ pub bound_async : (by : Acceptance) → by.lock.mode ≡ Async → bound by ≡ 
 bound_async by e = rw e refl
 
 -- no later facts are lost
+pub later_by : (decided after : ℕ → State) (declared next : ℕ → Option Declaration) (k : Key) (d safe : ℕ) → ((q at : ℕ) → IsCommitted decided q at → IsCommitted after q at) → ((q : ℕ) (n : Mutation) → Does declared q k n → Does next q k n) → Later decided declared k d safe → Later after next k d safe
+later_by decided after declared next k d safe f g x = record { start = x.start; at = x.at; mutation = x.mutation; committed = f x.start x.at x.committed; does = g x.start x.mutation x.does; visible = x.visible; above = x.above; upto = x.upto }
+
 pub gone_by : (decided after : ℕ → State) (declared next : ℕ → Option Declaration) (k : Key) (d safe upto : ℕ) (m : Mutation) → ((q at : ℕ) → IsCommitted decided q at → IsCommitted after q at) → ((q : ℕ) (n : Mutation) → Does declared q k n → Does next q k n) → safe ≤ upto → Gone decided declared k d safe m → Gone after next k d upto m
 gone_by decided after declared next k d safe upto m f g more gone =
     record {

@@ -3,7 +3,7 @@ use Rattle.std.specs.Prelude.{◌≡◌, ◌≢◌, ◌↔◌, ℕ, zero, suc, �
 use Rattle.tx_types.specs.declared.key.Key.{Key}
 use Rattle.tx_types.specs.declared.lock.LockInfo.{LockInfo}
 use Rattle.tx_types.specs.declared.mutation.Mutation.{Mutation}
-use Rattle.tx_types.specs.declared.mutation.Mutation.TheVariants.{Put, Delete, Lock}
+use Rattle.tx_types.specs.declared.mutation.Mutation.TheVariants.{Put, Insert, Delete, Lock}
 use Rattle.tx_plan.specs.declared.body.Collect.{Collect}
 use Rattle.tx_plan.specs.declared.answer.Answer.{Answer}
 use Rattle.tx_plan.specs.declared.answer.Answer.TheVariants.{Collected, BelowSafePoint, LocksRemain}
@@ -17,12 +17,14 @@ use Rattle.tx_plan.specs.cases.LocksBelow.{IsLockBelow}
 -- whether a mutation puts or deletes
 abbrev pub is_visible : Mutation → Bool
 is_visible (Put v) = true
+is_visible (Insert v) = true
 is_visible Delete = true
 is_visible Lock = false
 
 -- whether it puts
 abbrev pub is_put : Mutation → Bool
 is_put (Put v) = true
+is_put (Insert v) = true
 is_put Delete = false
 is_put Lock = false
 

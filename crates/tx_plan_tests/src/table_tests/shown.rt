@@ -26,6 +26,7 @@ pub enum Word {
     BelowSafePoint,
     FutureTimestamp,
     TxnNotFound,
+    AlreadyExists,
     TwoPhaseLock,
     AsyncLock,
     Ttl,
@@ -67,6 +68,7 @@ fn refusal(answer: &Answer) -> Short {
         Answer::BelowSafePoint { safe } => (Word::BelowSafePoint, safe.get(), 0),
         Answer::FutureTimestamp { last } => (Word::FutureTimestamp, last.get(), 0),
         Answer::TxnNotFound => (Word::TxnNotFound, 0, 0),
+        Answer::AlreadyExists => (Word::AlreadyExists, 0, 0),
         _ => SAME,
     }
 }

@@ -1,7 +1,7 @@
 //! What a session does in its buffer: it puts, deletes and locks keys, and declares them.
-ghost use Rattle.std.specs.Prelude.{◌≡◌, ◌⊎◌, true, false, IfErr, OnOk, OnErr};
+ghost use Rattle.std.specs.Prelude.{◌≡◌, ◌<◌, ◌⊎◌, true, false, IfErr, OnOk, OnErr};
 ghost use Rattle.tx_types.specs.declared.mutation.Mutation.TheVariants as mutation;
-ghost use Rattle.tx_transaction.specs.Buffers.{touched, locked, is_full};
+ghost use Rattle.tx_transaction.specs.Buffers.{touched, put_over, buffered, locked, is_full};
 ghost use Rattle.tx_client.specs.Calls.{seated};
 ghost use Rattle.tx_transaction.specs.Sessions.{is_declared};
 ghost use Rattle.tx_post.specs.Posts.{Desk};
@@ -27,7 +27,7 @@ fn enter_put<J: Naming>(
 ) -> Result<(), Fault>
     requires undeclared { is_declared session.old.state ≡ false }
     requires fits { (key_test key.now ≡ true) × (value_test value.now ≡ true) }
-    ensures ok { OnOk result ((is_full session.old.state.buffer key.now ≡ false) × (session.new ≡ seated (record session.old.state { buffer = touched session.old.state.buffer key.now (mutation.Put value.now) }) session.old.seat)) }
+    ensures ok { OnOk result ((is_full session.old.state.buffer key.now ≡ false) × (session.new ≡ seated (record session.old.state { buffer = touched session.old.state.buffer key.now (put_over (buffered session.old.state.buffer key.now) value.now) }) session.old.seat)) }
     ensures same { OnErr result (session.new ≡ session.old) }
     ensures err { IfErr result (λ e. (e ≡ Fault.OutOfMemory) ⊎ ((e ≡ Fault.TooManyKeys) × (is_full session.old.state.buffer key.now ≡ true))) }
 {
@@ -140,7 +140,8 @@ pub(crate) fn declare<J: Naming, F: Families>(
     post: &mut Post<J, F>,
     terms: Terms,
 ) -> Result<Reply, Cause>
-    ensures { Did J.bounds (λ refused scene k s. declares refused scene k s terms) result session.old session.new post.old post.new }
+    requires ticks { 0 < session.old.seat.ticks }
+    ensures { Did J.bounds (λ refused scene k s. declares refused scene k s J.bounds terms) result session.old session.new post.old post.new }
 {
     if session.is_declared() {
         return Err(Cause::Order);

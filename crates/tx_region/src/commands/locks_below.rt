@@ -4,7 +4,7 @@ ghost use Rattle.tx_plan.specs.declared.body.Body.TheVariants as request;
 ghost use Rattle.tx_region.specs.Regions.{region_of};
 ghost use Rattle.tx_region.specs.Calls.{Executes};
 
-use crate::records::Records;
+use crate::records::{Executed, Records};
 use tx_cells::Families;
 use tx_plan::{Answer, LocksBelow};
 use tx_types::Fault;
@@ -12,11 +12,11 @@ use tx_types::Fault;
 impl<F: Families> Records<F> {
     /// Answers a LocksBelow. Nothing changes.
     #[inline(never)]
-    pub fn locks_below(&self, body: &LocksBelow) -> Result<Answer, Fault>
-        ensures ok { (loaded : ℕ) → IfOk result (λ a. Executes (region_of F.content self.now) loaded (request.LocksBelow body.now) a (region_of F.content self.now)) }
+    pub fn locks_below(&self, body: &LocksBelow) -> Result<Executed, Fault>
+        ensures ok { (mark loaded : ℕ) → IfOk result (λ r. Executes mark (region_of F.content self.now) loaded (request.LocksBelow body.now) r.answer r.read (region_of F.content self.now)) }
         ensures err { IfErr result (λ e. e ≡ Fault.OutOfMemory) }
     {
         let infos = self.families.locks_below(self.alloc, body.safe)?;
-        Ok(Answer::Locks(infos))
+        Ok(Executed::unread(Answer::Locks(infos)))
     }
 }

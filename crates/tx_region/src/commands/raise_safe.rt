@@ -1,4 +1,5 @@
 //! RaiseSafe: the region's safe point rises.
+ghost use Rattle.std.specs.Prelude.{ℕ, None};
 ghost use Rattle.tx_plan.specs.declared.body.Body.TheVariants as request;
 ghost use Rattle.tx_region.specs.Regions.{region_of};
 ghost use Rattle.tx_region.specs.Calls.{Executes};
@@ -12,7 +13,7 @@ impl<F: Families> Records<F> {
     /// Answers a RaiseSafe, by a seat that loaded `loaded`. It takes no memory.
     #[inline(never)]
     pub fn raise_safe(&mut self, loaded: Ts, body: &RaiseSafe) -> Answer
-        ensures { Executes (region_of F.content self.old) loaded (request.RaiseSafe body.now) result (region_of F.content self.new) }
+        ensures { (mark : ℕ) → Executes mark (region_of F.content self.old) loaded (request.RaiseSafe body.now) result None (region_of F.content self.new) }
     {
         let SafePlan { answer, safe } = plan_raise_safe(self.safe, loaded, body);
         self.safe = safe;

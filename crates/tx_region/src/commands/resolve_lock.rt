@@ -5,16 +5,16 @@ ghost use Rattle.tx_plan.specs.Committing.{commit_in};
 ghost use Rattle.tx_region.specs.Regions.{region_of};
 ghost use Rattle.tx_region.specs.Calls.{Executes};
 
-use crate::records::Records;
+use crate::records::{Executed, Records};
 use tx_cells::Families;
-use tx_plan::{Answer, ResolveLock, plan_resolve_lock};
+use tx_plan::{ResolveLock, plan_resolve_lock};
 use tx_types::{Fate, Fault, Ts};
 
 impl<F: Families> Records<F> {
     /// Answers a ResolveLock. `OutOfMemory` leaves the region as it was.
     #[inline(never)]
-    pub fn resolve_lock(&mut self, body: &ResolveLock) -> Result<Answer, Fault>
-        ensures ok { (loaded : ℕ) → IfOk result (λ a. Executes (region_of F.content self.old) loaded (request.ResolveLock body.now) a (region_of F.content self.new)) }
+    pub fn resolve_lock(&mut self, body: &ResolveLock) -> Result<Executed, Fault>
+        ensures ok { (mark loaded : ℕ) → IfOk result (λ r. Executes mark (region_of F.content self.old) loaded (request.ResolveLock body.now) r.answer r.read (region_of F.content self.new)) }
         ensures same { OnErr result (region_of F.content self.new ≡ region_of F.content self.old) }
         ensures err { IfErr result (λ e. e ≡ Fault.OutOfMemory) }
     {

@@ -124,6 +124,7 @@ fn prewrite(
         primary,
         mode,
         max_commit: bound(max_commit),
+        floor: Ts::ZERO,
         ttl: 10,
         others: Secondaries::new(alloc),
     };

@@ -5,7 +5,7 @@ use std::alloc::Global;
 use tx_cells::{Families, Fresh};
 use tx_flat::FlatCells;
 use tx_nested::NestedCells;
-use tx_region::Records;
+use tx_region::{Executed, Records};
 use tx_types::Ts;
 
 /// What was asked before, what is asked, what is answered, and what then stands on the key `k`.
@@ -15,20 +15,42 @@ pub type Row = (&'static [Ask], Ask, Short, Stand);
 /// read, the safe point, and the safe point of the last collection.
 pub type RegionRow = (&'static [Ask], Ask, Short, [u64; 3]);
 
+// Records, and the greatest timestamp that was read in them.
+#[derive(Drop)]
+struct Tried<F> {
+    records: Records<F>,
+    read: Ts,
+}
+
 // What the region answers where it has loaded 20.
-fn ask<F: Families>(records: &mut Records<F>, alloc: Global, asked: Ask) -> Short {
-    if records.max_read().get() == u64::MAX {
+fn ask<F: Families>(tried: &mut Tried<F>, alloc: Global, asked: Ask) -> Short {
+    if tried.read.get() == u64::MAX {
         return (Word::Refused, 0, 0);
     }
-    match body(alloc, asked) {
-        Ok(body) => answered(records.answer(Ts::new(20), &body)),
-        Err(_) => (Word::Refused, 0, 0),
+    let Ok(body) = body(alloc, asked) else {
+        return (Word::Refused, 0, 0);
+    };
+    match tried.records.answer(Ts::new(20), tried.read, &body) {
+        Ok(Executed { answer, read }) => {
+            if let Some(read) = read {
+                tried.read = tried.read.max(read);
+            }
+            answered(Ok(answer))
+        }
+        Err(fault) => answered(Err(fault)),
     }
 }
 
-fn ask_all<F: Families>(records: &mut Records<F>, alloc: Global, asked: &[Ask]) {
+fn ask_all<F: Families>(tried: &mut Tried<F>, alloc: Global, asked: &[Ask]) {
     for one in asked {
-        ask(records, alloc, *one);
+        ask(tried, alloc, *one);
+    }
+}
+
+fn untried<F: Fresh>(alloc: Global) -> Tried<F> {
+    Tried {
+        records: Records::new(alloc, F::fresh(alloc)),
+        read: Ts::ZERO,
     }
 }
 
@@ -38,24 +60,24 @@ fn stands_on_k<F: Families>(records: &Records<F>, alloc: Global) -> Option<Stand
 }
 
 fn holds<F: Fresh>(alloc: Global, row: &Row) -> bool {
-    let mut records = Records::new(alloc, F::fresh(alloc));
-    ask_all(&mut records, alloc, row.0);
-    let given = ask(&mut records, alloc, row.1);
-    let left = stands_on_k(&records, alloc);
-    drop(records);
+    let mut tried = untried::<F>(alloc);
+    ask_all(&mut tried, alloc, row.0);
+    let given = ask(&mut tried, alloc, row.1);
+    let left = stands_on_k(&tried.records, alloc);
+    drop(tried);
     is(given, row.2) && left == Some(row.3)
 }
 
 fn holds_in_region<F: Fresh>(alloc: Global, row: &RegionRow) -> bool {
-    let mut records = Records::new(alloc, F::fresh(alloc));
-    ask_all(&mut records, alloc, row.0);
-    let given = ask(&mut records, alloc, row.1);
+    let mut tried = untried::<F>(alloc);
+    ask_all(&mut tried, alloc, row.0);
+    let given = ask(&mut tried, alloc, row.1);
     let left = [
-        records.max_read().get(),
-        records.safe().get(),
-        records.collected().get(),
+        tried.read.get(),
+        tried.records.safe().get(),
+        tried.records.collected().get(),
     ];
-    drop(records);
+    drop(tried);
     is(given, row.2) && left == row.3
 }
 

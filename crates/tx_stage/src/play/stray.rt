@@ -1,5 +1,6 @@
 //! A transaction of no session: it prewrites its second key and not its primary, which is allowed, but which no session does.
-ghost use Rattle.std.specs.Prelude.{◌≡◌, IfSome};
+ghost use Rattle.std.specs.Prelude.{◌≡◌, ◌∷◌, IfSome};
+ghost use Rattle.tx_core.specs.ReadMarks.{max_ts};
 ghost use Rattle.tx_core.specs.Recording.{MayRecord};
 ghost use Rattle.tx_journal.specs.Known.{DrawsNothing};
 ghost use Rattle.tx_client.specs.Calls.{Records};
@@ -22,9 +23,9 @@ fn deleted(key: &Key) -> Option<Change>
     Some(Change { key, mutation })
 }
 
-// What is declared.
-fn both_of(alloc: Global, start: Ts, first: &Key, second: &Key) -> Option<Declaration>
-    ensures { IfSome result (λ d. d ≡ both_of start first.now second.now) }
+// What is declared, with a number that was drawn for it.
+fn both_of(alloc: Global, start: Ts, placed: Ts, first: &Key, second: &Key) -> Option<Declaration>
+    ensures { IfSome result (λ d. d ≡ both_of start placed first.now second.now) }
 {
     let mut changes = Changes::new(alloc);
     changes.push(deleted(first)?).ok()?;
@@ -35,6 +36,7 @@ fn both_of(alloc: Global, start: Ts, first: &Key, second: &Key) -> Option<Declar
         mode: Mode::TwoPhase,
         ttl: 10,
         max_commit: None,
+        drawn: placed,
     })
 }
 
@@ -49,6 +51,7 @@ fn second_of(alloc: Global, start: Ts, first: &Key, second: &Key) -> Option<Body
         primary: first.clone().ok()?,
         mode: Mode::TwoPhase,
         max_commit: None,
+        floor: Ts::ZERO,
         ttl: 10,
         others: Secondaries::new(alloc),
     };
@@ -59,6 +62,7 @@ fn second_of(alloc: Global, start: Ts, first: &Key, second: &Key) -> Option<Body
 fn add<J: Naming>(seat: &mut Seat<J>, event: Event)
     requires quiet { DrawsNothing event }
     requires right { MayRecord J.bounds seat.old.seat seat.old.events event }
+    requires unread { max_ts (event ∷ seat.old.events) ≡ max_ts seat.old.events }
     ensures { Records J.bounds seat.old event seat.new }
 {
     seat.record(&event);
@@ -79,7 +83,10 @@ pub fn stray<J: Naming>(
         return ("E11", 0);
     };
     add(seat, Event::Began(start));
-    let Some(declaration) = both_of(alloc, start, first, second) else {
+    let Ok(placed) = seat.draw(1) else {
+        return ("E11", 0);
+    };
+    let Some(declaration) = both_of(alloc, start, placed, first, second) else {
         return ("E12", 0);
     };
     add(seat, Event::Declared(declaration));

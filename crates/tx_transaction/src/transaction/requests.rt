@@ -1,8 +1,9 @@
 //! What a transaction sends: the requests that are due, and its reads.
 ghost use Rattle.std.specs.Prelude.{◌≡◌, ◌<◌, length, true, false, IfOk, IfErr, OnErr, IfSome, is_some};
+ghost use Rattle.tx_core.specs.Allowed.{floor_of};
 ghost use Rattle.tx_plan.specs.declared.body.Body.TheVariants as request;
 ghost use Rattle.tx_transaction.specs.Buffers.{not_empty};
-ghost use Rattle.tx_transaction.specs.Sessions.{has_primary, exceeds, others_at, prewrite_of, due_prewrite, due_commit, due_abort, commit_at, check_at, rollback_at, heartbeat_of, read_of, scan_of, abort_open};
+ghost use Rattle.tx_transaction.specs.Sessions.{has_primary, declaration_of, exceeds, others_at, prewrite_of, due_prewrite, due_commit, due_abort, commit_at, check_at, rollback_at, heartbeat_of, read_of, scan_of, abort_open};
 
 use super::Transaction;
 use crate::buffer::{has_keys, key_of, mutation_of, other_keys, place_of};
@@ -27,6 +28,16 @@ impl Transaction {
         Ok(Secondaries::new(alloc))
     }
 
+    // The floor that a prewrite carries.
+    fn floor(&self, terms: &Terms) -> Ts
+        ensures { result ≡ floor_of (declaration_of self.now.start self.now.placed self.now.buffer terms.now) }
+    {
+        match terms.mode {
+            Mode::TwoPhase => Ts::ZERO,
+            Mode::Async => Ts::new(self.placed.get() + 1),
+        }
+    }
+
     // The prewrite of the key at a place.
     fn prewrite_at(&self, alloc: Global, terms: &Terms, place: usize) -> Result<Prewrite, Fault>
         requires within { place < length self.now.buffer }
@@ -45,6 +56,7 @@ impl Transaction {
             primary,
             mode: terms.mode,
             max_commit: terms.max_commit,
+            floor: self.floor(terms),
             ttl: terms.ttl,
             others,
         })

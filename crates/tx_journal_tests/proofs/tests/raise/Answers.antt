@@ -1,12 +1,14 @@
-use Rattle.std.proofs.Common.{◌≡◌, ℕ, inr, List, [], Some, refl, sym, ap, subst, ◌∙◌, arith}
+use Rattle.std.proofs.Common.{◌≡◌, ℕ, inr, List, [], ◌∷◌, Some, None, refl, sym, ap, subst, ◌∙◌, arith}
 use Rattle.tx_types.specs.declared.key.Key.{Key}
 use Rattle.tx_plan.specs.declared.body.Body.{Body}
 use Rattle.tx_plan.specs.declared.body.Body.TheVariants.{RaiseSafe}
 use Rattle.tx_plan.specs.declared.answer.Answer.TheVariants.{Raised}
 use Rattle.tx_core.specs.declared.event.Event.TheVariants.{Took}
 use Rattle.tx_core.specs.Histories.{History, last, WasLast, Begins}
+use Rattle.tx_core.specs.ReadMarks.{max_ts}
 use Rattle.tx_core.specs.Recording.{Extends, MayRecord}
 use Rattle.tx_core.proofs.seats.Answering.{left_on}
+use Rattle.tx_core.proofs.seats.ReadMarks.{taken_raises}
 use Rattle.tx_core.proofs.seats.Recording.{may_take}
 use Rattle.tx_core.proofs.seats.Staying.{last_was}
 use Rattle.tx_journal.specs.Known.{HasSeen, HasRecorded}
@@ -34,6 +36,17 @@ record-requires-clause-right g c =
     let body : c.into_parts-by.result.1 ≡ RaiseSafe record { region = 0; safe = 0 } = c.into_parts-by.ensures.parts.1 ∙ (ap (λ r. r.body) c.requires.copy ∙ c.requires.body) in
     subst (λ (p : ℕ × ℕ × Body). MayRecord bounds p.0 l (Took record { region = p.1; body = p.2; loaded = c.last-loaded.result; answer = Raised })) (λ i. (sym seat i, sym region i, sym body i))
     (may_raise bounds l c.last-loaded.result here.extends c.last-loaded.ensures.last.0)
+
+-- it reads nothing
+unread : (l : History) (n : ℕ) → max_ts (Took record { region = 0; body = RaiseSafe record { region = 0; safe = 0 }; loaded = n; answer = Raised } ∷ l) ≡ max_ts l
+unread l n = taken_raises l record { region = 0; body = RaiseSafe record { region = 0; safe = 0 }; loaded = n; answer = Raised } None refl
+
+pub record-requires-clause-unread : goal.record-requires-clause-unread
+record-requires-clause-unread g c =
+    let l = c.last-loaded.new.self.events in
+    let region = c.new-number.ensures in
+    let body : c.into_parts-by.result.1 ≡ RaiseSafe record { region = 0; safe = 0 } = c.into_parts-by.ensures.parts.1 ∙ (ap (λ r. r.body) c.requires.copy ∙ c.requires.body) in
+    subst (λ (p : ℕ × Body). max_ts (Took record { region = p.0; body = p.1; loaded = c.last-loaded.result; answer = Raised } ∷ l) ≡ max_ts l) (λ i. (sym region i, sym body i)) (unread l c.last-loaded.result)
 
 pub new-requires : goal.new-requires
 new-requires g c =

@@ -9,4 +9,4 @@ returns-then-not-is_visible-clause-free c e ordered =
 pub returns-clause-free : goal.returns-clause-free
 returns-clause-free c e ordered =
     free_seen c.args.index.now c.args.fates.now c.args.reads.now c.args.t c.args.c c.args.change.now
-    (c.is_overlapped.ensures.none c.if-is_overlapped.false ordered) (c.covers_from.ensures.none (not_true _ e))
+    (c.is_overlapped.ensures.none c.if-is_overlapped.false ordered) (c.covers_from.ensures.none (not_true _ e)) (c.is_fresh.ensures.fresh c.if-not-is_fresh.false)

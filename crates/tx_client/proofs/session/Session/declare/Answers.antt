@@ -9,11 +9,11 @@ pub record_declared-requires : goal.record_declared-requires
 record_declared-requires g c =
     let s = c.self.inside.transaction in
     let not_yet : is_declared s ≡ false = subst (λ (z : Seated). is_declared z.state ≡ false) (sym c.self.view_is) c.requires in
-    may_declare_some g.J.Naming.bounds c.self.inside.seat s c.args.terms (declaration s.start s.buffer c.args.terms) c.self.invariant not_yet refl
+    λ p mid drew. may_declare_some g.J.Naming.bounds c.self.inside.seat mid s p c.args.terms (declaration s.start p s.buffer c.args.terms) c.self.invariant not_yet drew refl
 
-pub invariant_of-self : goal.invariant_of-self
-invariant_of-self g c =
+pub invariant_of-self-2 : goal.invariant_of-self-2
+invariant_of-self-2 g c =
     let s = c.self.inside.transaction in
     let not_yet : is_declared s ≡ false = subst (λ (z : Seated). is_declared z.state ≡ false) (sym c.self.view_is) c.requires in
     subst (λ (z : State). IsSeated g.J.Naming.bounds c.record_declared.new.seat z) (sym c.declare.ensures)
-    (declared_seated g.J.Naming.bounds c.self.inside.seat c.record_declared.new.seat s c.args.terms (declaration s.start s.buffer c.args.terms) c.self.invariant not_yet refl c.record_declared.ensures)
+    (declared_seated g.J.Naming.bounds c.self.inside.seat c.record_declared.new.seat s c.in_ok-placed.placed c.args.terms (declaration s.start c.in_ok-placed.placed s.buffer c.args.terms) c.self.invariant not_yet refl c.in_ok-placed.ensures.ok)

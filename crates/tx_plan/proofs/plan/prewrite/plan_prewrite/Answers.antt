@@ -2,19 +2,20 @@ use Rattle.std.proofs.Common.{◌<◌, Option, Some, None, IfSome, inl, inr, ref
 use Rattle.tx_plan.specs.declared.answer.Answer.TheVariants.{Prewritten}
 use Rattle.tx_plan.specs.declared.key_change.NewLock.{NewLock}
 use Rattle.tx_plan.specs.Changes.{new_lock, CanPut}
+use Rattle.tx_plan.specs.cases.Prewrite.{read_by_prewrite}
 use Rattle.tx_plan.specs.Views.{named_in, info_on}
 use Rattle.tx_plan.proofs.Orders.{not_below, not_true}
 use Rattle.tx_plan.proofs.Seen.{own_commit, no_commit, newest, none_above, no_lock}
 use Rattle.tx_plan.proofs.plan.prewrite.plan_prewrite.Goals as goal
 
 pub returns-in-Some-clause-answers : goal.returns-in-Some-clause-answers
-returns-in-Some-clause-answers c cells commit shows =
+returns-in-Some-clause-answers c cells commit shows knows =
     let b = c.args.body.now in
     let own = c.in-Some.ensures cells commit shows in
     rw (c.given-in-Some.ensures, c.named_minimum.ensures) (inr (not_below b.start c.args.safe c.if-lt.ensures, inr (not_below c.args.loaded b.start c.if-lt-2.ensures, inl (own.lock, own.stands, ap Prewritten (ap named_in own.shown)))))
 
 pub returns-in-Some-own_commit-clause-answers : goal.returns-in-Some-own_commit-clause-answers
-returns-in-Some-own_commit-clause-answers c cells commit shows =
+returns-in-Some-own_commit-clause-answers c cells commit shows knows =
     let b = c.args.body.now in
     rw c.given-in-Some-own_commit.ensures (inr (
       not_below b.start c.args.safe c.if-lt.ensures,
@@ -31,7 +32,7 @@ returns-in-Some-own_commit-clause-answers c cells commit shows =
     ))
 
 pub returns-in-Some-newest_above-clause-answers : goal.returns-in-Some-newest_above-clause-answers
-returns-in-Some-newest_above-clause-answers c cells commit shows =
+returns-in-Some-newest_above-clause-answers c cells commit shows knows =
     let b = c.args.body.now in
     let view = c.args.view.now in
     let at = c.in-Some-newest_above.newest in
@@ -57,8 +58,42 @@ returns-in-Some-newest_above-clause-answers c cells commit shows =
       ),
     ))
 
+pub returns-then-finds_value-clause-answers : goal.returns-then-finds_value-clause-answers
+returns-then-finds_value-clause-answers c cells commit shows knows =
+    let b = c.args.body.now in
+    let view = c.args.view.now in
+    let free = no_lock cells b.start commit view shows (sym c.is_some.ensures ∙ c.if-is_some.false) in
+    let found = c.finds_value.ensures.0 c.if-finds_value.true in
+    inr (
+      not_below b.start c.args.safe c.if-lt.ensures,
+      inr (
+        not_below c.args.loaded b.start c.if-lt-2.ensures,
+        inr (
+          c.in_default.ensures cells commit shows,
+          inr (
+            λ own. not_true c.is_rolled_back.result c.if-is_rolled_back.false ((c.is_rolled_back.ensures cells commit shows).1 own),
+            inr (
+              no_commit cells b.start commit view shows c.in_default-own_commit.is,
+              inr (
+                λ lock stands. (cc (free, stands)),
+                inr (none_above cells b.start commit view shows c.in_default-newest_above.is, inl ((found.0, (knows found.0).0 found.1), refl)),
+              ),
+            ),
+          ),
+        ),
+      ),
+    )
+
+pub returns-in-Some-clause-read : goal.returns-in-Some-clause-read
+returns-in-Some-clause-read c cells commit shows =
+    let own = c.in-Some.ensures cells commit shows in
+    rw c.given-in-Some.ensures (sym (ap (λ o. read_by_prewrite (Prewritten c.named_minimum.result) o c.args.body.now) own.stands.stands))
+
+pub returns-clause-read : goal.returns-clause-read
+returns-clause-read c cells commit shows = c.lock_key.ensures.read cells (no_lock cells c.args.body.now.start commit c.args.view.now shows (sym c.is_some.ensures ∙ c.if-is_some.false))
+
 pub returns-clause-answers : goal.returns-clause-answers
-returns-clause-answers c cells commit shows =
+returns-clause-answers c cells commit shows knows =
     let b = c.args.body.now in
     let view = c.args.view.now in
     let free = no_lock cells b.start commit view shows (sym c.is_some.ensures ∙ c.if-is_some.false) in
@@ -74,7 +109,7 @@ returns-clause-answers c cells commit shows =
               no_commit cells b.start commit view shows c.in_default-own_commit.is,
               inr (
                 λ lock stands. (cc (free, stands)),
-                inr (none_above cells b.start commit view shows c.in_default-newest_above.is, c.lock_key.ensures.answers (info_on cells b.key)),
+                inr (none_above cells b.start commit view shows c.in_default-newest_above.is, inr (λ x. not_true c.finds_value.result c.if-finds_value.false (c.finds_value.ensures.1 (x.0, (knows x.0).1 x.1)), c.lock_key.ensures.answers (info_on cells b.key))),
               ),
             ),
           ),

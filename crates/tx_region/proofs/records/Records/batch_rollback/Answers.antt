@@ -12,9 +12,9 @@ returns-clause-ok g c =
     let content = g.F.Families.content in
     let before = region_of content c.args.self.now in
     let b = c.args.body.now in
-    let cells = before.cells b.key in
+    let cells = (before 0).cells b.key in
     let plan = c.plan_batch_rollback-planned.ensures in
     let shows = c.in_ok-view.ensures.shows in
-    λ loaded. if_ok c.carry_out.result _ _ (λ a out.
-    let done = on_key before (region_of content c.carry_out.new.self) b.key c.plan_batch_rollback-planned.result a (λ x y. AnswersBatchRollback x before.collected b y) (λ x y. leaves_batch_rollback x b y) out plan.unread (plan.answers cells c.args.body.now.start shows) (plan.leaves cells c.args.body.now.start shows) in
+    λ mark loaded. if_ok c.carry_out.result _ _ (λ r out.
+    let done = on_key before (region_of content c.carry_out.new.self) b.key c.plan_batch_rollback-planned.result r.answer r.read (λ x y. AnswersBatchRollback x (before 0).collected b y) (λ x y. leaves_batch_rollback x b y) out plan.unread (λ n. plan.answers cells c.args.body.now.start shows) (λ n. plan.leaves cells c.args.body.now.start shows) in
     record { answers = done.0; leaves = done.1 }) c.carry_out.ensures.ok

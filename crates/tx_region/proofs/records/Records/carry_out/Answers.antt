@@ -1,5 +1,4 @@
-use Rattle.std.proofs.Common.{ap, ◌∙◌}
-use Rattle.tx_plan.specs.Plans.{with_read}
+use Rattle.std.proofs.Common.{refl}
 use Rattle.tx_plan.specs.Changes.{changed}
 use Rattle.tx_cells.specs.Contents.{cells_of}
 use Rattle.tx_region.proofs.Carrying.{region_put}
@@ -10,7 +9,8 @@ returns-clause-ok g c =
     let s = c.args.self.now in
     let content = g.F.Families.content in
     let applied = c.in_ok-apply.ensures in
-    record {
+    λ n. record {
       answer = c.in_ok-answer.ensures.answer;
-      leaves = c.raise_read.ensures ∙ ap (λ r. with_read r c.args.planned.read) (region_put (content s.families) (content c.apply.new.self) s.max_read s.safe s.collected c.args.key.now _ (changed (cells_of (content s.families c.args.key.now)) c.args.planned.change) applied.content applied.cells);
+      reads = refl;
+      leaves = region_put (content s.families) (content c.apply.new.self) n s.safe s.collected c.args.key.now _ (changed (cells_of (content s.families c.args.key.now)) c.args.planned.change) applied.content applied.cells;
     }

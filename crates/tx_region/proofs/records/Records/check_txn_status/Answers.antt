@@ -12,9 +12,9 @@ returns-clause-ok g c =
     let content = g.F.Families.content in
     let before = region_of content c.args.self.now in
     let b = c.args.body.now in
-    let cells = before.cells b.key in
+    let cells = (before 0).cells b.key in
     let plan = c.plan_check_txn_status-planned.ensures in
     let shows = c.in_ok-view.ensures.shows in
-    if_ok c.carry_out.result _ _ (λ a out.
-    let done = on_key before (region_of content c.carry_out.new.self) b.key c.plan_check_txn_status-planned.result a (λ x y. AnswersCheckTxnStatus x before.collected c.args.loaded b y) (λ x y. leaves_check_txn_status x b y) out plan.unread (plan.answers cells c.args.body.now.start shows) (plan.leaves cells c.args.body.now.start shows) in
+    λ mark. if_ok c.carry_out.result _ _ (λ r out.
+    let done = on_key before (region_of content c.carry_out.new.self) b.key c.plan_check_txn_status-planned.result r.answer r.read (λ x y. AnswersCheckTxnStatus x (before 0).collected c.args.loaded b y) (λ x y. leaves_check_txn_status x b y) out plan.unread (λ n. plan.answers cells c.args.body.now.start shows) (λ n. plan.leaves cells c.args.body.now.start shows) in
     record { answers = done.0; leaves = done.1 }) c.carry_out.ensures.ok

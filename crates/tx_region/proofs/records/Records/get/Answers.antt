@@ -7,11 +7,11 @@ pub returns-clause-ok : goal.returns-clause-ok
 returns-clause-ok g c =
     let before = region_of g.F.Families.content c.args.self.now in
     let b = c.args.body.now in
-    let cells = before.cells b.key in
+    let cells = (before 0).cells b.key in
     let plan = c.plan_get-answer.ensures in
     let shows = c.in_ok-view.ensures.shows in
     let filled = c.in_ok-answer.ensures.answer in
-    record {
-      answers = subst (λ a. AnswersGet cells before.safe c.args.loaded b a) (sym filled) (plan.answers cells shows);
-      leaves = c.raise_read.ensures ∙ (sym (plan.leaves cells shows before) ∙ ap (λ a. leaves_get before b a) (sym filled));
+    λ mark. record {
+      answers = λ n. subst (λ a. AnswersGet cells (before 0).safe c.args.loaded b a) (sym filled) (plan.answers cells shows);
+      leaves = λ n. sym (plan.leaves cells shows (before n)) ∙ ap (λ a. leaves_get (before n) b a) (sym filled);
     }

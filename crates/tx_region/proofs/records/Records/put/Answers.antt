@@ -12,7 +12,7 @@ returns-in-Lock-clause-ok g c =
     let content = g.F.Families.content in
     let s = c.args.self.now in
     let b = c.args.body.now in
-    let before = region_of content s in
-    on_ok_both c.put_lock.result _ _ _ (λ only cells.
-    region_put (content s.families) (content c.put_lock.new.self) s.max_read s.safe s.collected b.key _ _ only cells
-    ∙ ap (λ (change : KeyChange). with_cells before b.key (after_put (before.cells b.key) b (new_lock change))) (sym c.in-Lock.is)) c.put_lock.ensures.content c.put_lock.ensures.cells
+    let before = region_of content s 0 in
+    on_ok_both c.put_lock.result _ _ _ (λ only cells n.
+    region_put (content s.families) (content c.put_lock.new.self) n s.safe s.collected b.key _ _ only cells
+    ∙ ap (λ (change : KeyChange). with_cells (region_of content s n) b.key (after_put (before.cells b.key) b (new_lock change))) (sym c.in-Lock.is)) c.put_lock.ensures.content c.put_lock.ensures.cells

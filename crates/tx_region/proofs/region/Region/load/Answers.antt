@@ -1,33 +1,71 @@
-use Rattle.std.proofs.Common.{◌≤◌, length, sym, ap, subst, ◌∙◌}
+use Rattle.std.proofs.Common.{◌≡◌, ◌≤◌, ℕ, length, sym, ap, subst, ◌∙◌}
+use Rattle.tx_plan.specs.declared.body.Body.{Body}
+use Rattle.tx_plan.specs.Cells.{Region}
 use Rattle.tx_core.specs.Histories.{left, Begins}
 use Rattle.tx_core.proofs.seats.Answering.{left_on}
 use Rattle.tx_core.proofs.seats.Beginnings.{begins_more, extends_begins}
 use Rattle.tx_journal.specs.Known.{Known, HasSeen}
 use Rattle.tx_journal.specs.Replies.{Asked}
 use Rattle.tx_journal.proofs.Calls.{seen_more}
+use Rattle.tx_region.specs.Regions.{region_of}
+use Rattle.tx_region.specs.Taking.{IsMark, Loads}
 use Rattle.tx_region.proofs.region.Region.load.Goals as goal
 
 pub invariant_of-self : goal.invariant_of-self
 invariant_of-self g c =
+    let bounds = g.J.Naming.bounds in
     let s = c.self.inside in
     let n = s.seat.seat in
-    let point = c.last.new.self.events in
-    let number = c.last.ensures.same.0 ∙ c.learn.ensures.same.0 in
-    let then = subst (λ m. HasSeen g.J.Naming.bounds m c.learn.new.self.events point) c.learn.ensures.same.0 c.last.ensures.seen in
-    let here = seen_more g.J.Naming.bounds n s.seat.events c.learn.new.self.events point c.learn.ensures.seen then in
-    let still = left_on n s.seat.events point here.extends in
-    (c.self.invariant.0 ∙ sym still ∙ ap (λ m. left point m) (sym number), subst (λ m. m ≤ length g.J.Naming.bounds) (sym number) c.self.invariant.1)
+    let learnt = c.learn.new.self.events in
+    let point = c.last-last.new.self.events in
+    let marked = c.load_mark-mark.new.seat.events in
+    let one = c.learn.ensures.same.0 in
+    let two = c.last-last.ensures.same.0 ∙ one in
+    let number = c.load_mark-mark.ensures.same.0 ∙ two in
+    let here = seen_more bounds n s.seat.events learnt point c.learn.ensures.seen (subst (λ m. HasSeen bounds m learnt point) one c.last-last.ensures.seen) in
+    let there = seen_more bounds n s.seat.events point marked here (subst (λ m. HasSeen bounds m point marked) two c.load_mark-mark.ensures.seen) in
+    let still = left_on n s.seat.events marked there.extends in (
+      subst (λ (r : Region). region_of g.F.Families.content s.records r.max_read ≡ r) (sym still ∙ ap (λ m. left marked m) (sym number)) c.self.invariant.0,
+      subst (λ m. m ≤ length bounds) (sym number) c.self.invariant.1,
+    )
 
 pub returns-clause-seen : goal.returns-clause-seen
 returns-clause-seen g c =
+    let bounds = g.J.Naming.bounds in
     let s = c.self.inside in
-    let point = c.last.new.self.events in
-    let then = subst (λ m. HasSeen g.J.Naming.bounds m c.learn.new.self.events point) c.learn.ensures.same.0 c.last.ensures.seen in
-    subst (λ (k : Known). HasSeen g.J.Naming.bounds k.seat k.events point) c.self.view_is (seen_more g.J.Naming.bounds s.seat.seat s.seat.events c.learn.new.self.events point c.learn.ensures.seen then)
-
-pub returns-clause-heard : goal.returns-clause-heard
-returns-clause-heard g c =
+    let n = s.seat.seat in
     let learnt = c.learn.new.self.events in
-    let point = c.last.new.self.events in
+    let point = c.last-last.new.self.events in
+    let marked = c.load_mark-mark.new.seat.events in
+    let one = c.learn.ensures.same.0 in
+    let two = c.last-last.ensures.same.0 ∙ one in
+    let here = seen_more bounds n s.seat.events learnt point c.learn.ensures.seen (subst (λ m. HasSeen bounds m learnt point) one c.last-last.ensures.seen) in
+    let there = seen_more bounds n s.seat.events point marked here (subst (λ m. HasSeen bounds m point marked) two c.load_mark-mark.ensures.seen) in
+    subst (λ (k : Known). HasSeen bounds k.seat k.events marked) c.self.view_is there
+
+pub returns-clause-loads : goal.returns-clause-loads
+returns-clause-loads g c =
+    let bounds = g.J.Naming.bounds in
+    let s = c.self.inside in
+    let n = s.seat.seat in
+    let learnt = c.learn.new.self.events in
+    let point = c.last-last.new.self.events in
+    let marked = c.load_mark-mark.new.seat.events in
+    let one = c.learn.ensures.same.0 in
+    let two = c.last-last.ensures.same.0 ∙ one in
+    let m = c.load_mark-mark.ensures in
+    let asked = c.tell-heard.new.self in
+    let mark = c.load_mark-mark.result in
+    let here = seen_more bounds n s.seat.events learnt point c.learn.ensures.seen (subst (λ i. HasSeen bounds i learnt point) one c.last-last.ensures.seen) in
+    let on = subst (λ i. HasSeen bounds i point marked) two m.seen in
     let heard = subst (λ h. Begins h learnt) (c.tell-heard.ensures.told ∙ ap (λ (r : Asked). r.by) (sym c.tell-heard.ensures.same)) c.learn.ensures.told in
-    begins_more c.tell-heard.new.self.by learnt point heard (extends_begins c.learn.new.self.seat learnt point c.last.ensures.seen.extends)
+    let loads : Loads bounds n s.seat.events asked.by asked.body c.last-last.result mark marked = record {
+      point = point;
+      here = here;
+      heard = begins_more asked.by learnt point heard (extends_begins c.learn.new.self.seat learnt point c.last-last.ensures.seen.extends);
+      is_last = c.last-last.ensures.last.0;
+      on = on;
+      is_mark = subst (λ (b : Body). IsMark b mark marked) c.body.ensures.body m.mark;
+      low = (c.last-last.ensures.last.1, m.low);
+    } in
+    subst (λ (k : Known). Loads bounds k.seat k.events asked.by asked.body c.last-last.result mark marked) c.self.view_is loads

@@ -37,9 +37,9 @@ returns-in-ResolveLock-clause-ok c = on_ok c.tell-in-ResolveLock.result (Tells c
 pub returns-in-RaiseSafe-clause-ok : goal.returns-in-RaiseSafe-clause-ok
 returns-in-RaiseSafe-clause-ok c x e f =
     elim c.in-RaiseSafe.is [
-      | inl y ↦ region_adds c.args.self.now (body.RaiseSafe y.0) c.args.answer.now refl refl x (e ∙ y.1) f
+      | inl y ↦ region_adds c.args.self.now (body.RaiseSafe y.0) c.args.answer.now refl refl (λ z. refl) (λ b z. cc z) x (e ∙ y.1) f
       | inr rest ↦ elim rest [
-        | inl y ↦ region_adds c.args.self.now (body.LocksBelow y.0) c.args.answer.now refl refl x (e ∙ y.1) f
-        | inr y ↦ region_adds c.args.self.now (body.Collect y.0) c.args.answer.now refl refl x (e ∙ y.1) f
+        | inl y ↦ region_adds c.args.self.now (body.LocksBelow y.0) c.args.answer.now refl refl (λ z. refl) (λ b z. cc z) x (e ∙ y.1) f
+        | inr y ↦ region_adds c.args.self.now (body.Collect y.0) c.args.answer.now refl refl (λ z. refl) (λ b z. cc z) x (e ∙ y.1) f
       ]
     ]

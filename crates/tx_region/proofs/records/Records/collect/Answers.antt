@@ -1,0 +1,25 @@
+use Rattle.std.proofs.Common.{rules, ◌≡◌, ◌≢◌, ℕ, inr, length, sym, ap, ◌∙◌}
+use Rattle.tx_plan.specs.declared.answer.Answer.TheVariants.{Collected}
+use Rattle.tx_plan.specs.cases.Collect.{SomeLockBelow, long_values, leaves_collect}
+use Rattle.tx_plan.specs.Plans.{read_upto}
+use Rattle.tx_region.specs.Regions.{region_of}
+use Rattle.tx_region.proofs.records.Records.collect.Goals as goal
+
+pub returns-clause-ok : goal.returns-clause-ok
+returns-clause-ok g c =
+    let content = g.F.Families.content in
+    let s = c.args.self.now in
+    let b = c.args.body.now in
+    let before = region_of content s in
+    let after = region_of content record { alloc = s.alloc; families = c.drop_below.new.self; safe = s.safe; collected = b.safe } in
+    let counts = c.in_ok-records.ensures.counts in
+    let read = c.unread-2.result.read in
+    let a_is : c.unread-2.result.answer ≡ Collected (length counts.0) (long_values (before 0).cells counts.0) = c.unread-2.ensures.0 ∙ (λ i. Collected (counts.2 i) (counts.3 i)) in
+    let at_safe : b.safe ≢ s.safe → ⊥ = search rules in
+    let unlocked : SomeLockBelow (before 0).cells b.safe → ⊥ = search rules in
+    λ mark loaded. record {
+      answers = λ n. inr (at_safe, inr (unlocked, (counts.0, counts.1, a_is)));
+      leaves = λ n.
+          ap (λ r. after (read_upto r n)) c.unread-2.ensures.1
+          ∙ ((λ i. record { cells = λ k. c.drop_below.ensures.cells k i; max_read = n; safe = s.safe; collected = b.safe }) ∙ ap (λ a. leaves_collect (before n) b a) (sym a_is));
+    }
