@@ -6,6 +6,7 @@ use Rattle.tx_types.specs.declared.key.Key.{Key}
 use Rattle.tx_types.specs.declared.limits.TheConstants.{MAX_LIVE_SESSIONS}
 use Rattle.tx_core.specs.Histories.{History, Begins}
 use Rattle.tx_core.specs.Worlds.{IsWorldRun}
+use Rattle.tx_core.proofs.runs.AllRuns.{shadow_runs, all_true}
 use Rattle.tx_core.proofs.seats.Beginnings.{begins_all}
 use Rattle.tx_lines.specs.declared.reply.Reply.TheVariants.{Regions}
 use Rattle.tx_lines.specs.Replies.{reply_words}
@@ -57,4 +58,4 @@ module _ (bounds : List Key) where
       (line_turn bounds refused (number + 1) line scene) (line_grows scene refused (number + 1) line) x y
 
   pub is_play : (refused : List Bool) (lines : List (List ℕ)) (p : Played) → Plays bounds (opening MAX_LIVE_SESSIONS) 0 refused lines p → IsWorldRun bounds p.history → IsPlay bounds refused lines p
-  is_play refused lines p plays run = record { plays = plays; only = λ q also. one_play lines (opening MAX_LIVE_SESSIONS) 0 refused p q run plays also; run = run }
+  is_play refused lines p plays run = record { plays = plays; only = λ q also. one_play lines (opening MAX_LIVE_SESSIONS) 0 refused p q run plays also; run = run; one_step = shadow_runs bounds p.history run; answers = all_true bounds p.history run }

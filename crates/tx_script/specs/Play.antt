@@ -7,7 +7,10 @@ use Rattle.tx_types.specs.declared.fault.Cause.{Cause}
 use Rattle.tx_types.specs.declared.fault.Cause.TheVariants.{Form}
 use Rattle.tx_types.specs.declared.key.Key.{Key}
 use Rattle.tx_types.specs.declared.limits.TheConstants.{MAX_LIVE_SESSIONS}
+use Rattle.tx_machine.specs.Machine.{IsRun}
 use Rattle.tx_core.specs.Histories.{History}
+use Rattle.tx_core.specs.Shadow.{shadow}
+use Rattle.tx_core.specs.Truth.{AllTrue}
 use Rattle.tx_core.specs.Worlds.{IsWorldRun}
 use Rattle.tx_lines.specs.declared.end.Broken.{Broken}
 use Rattle.tx_lines.specs.declared.end.Broken.TheVariants.{Output}
@@ -96,12 +99,16 @@ module _ (bounds : List Key) where
       (λ cause. p ≡ faulted scene (number + 1) cause)
       (line_turn bounds refused (number + 1) line scene)
 
-  -- What lines mean over regions with these bounds, where the calls that `refused` names met want of memory: they mean nothing else, and
-  -- their events are a run of the protocol.
+  -- What lines mean over regions with these bounds, where the calls that `refused` names met want of
+  -- memory: they mean nothing else, and their events are a run of the protocol. So the steps of the
+  -- machine that commits each transaction in one step, read off that run, are a run of that machine,
+  -- and each answer is true of its table where it was given.
   pub record IsPlay (refused : List Bool) (lines : List (List ℕ)) (p : Played) : Type 0 where
     pub plays : Plays (opening MAX_LIVE_SESSIONS) 0 refused lines p
     pub only : (q : Played) → Plays (opening MAX_LIVE_SESSIONS) 0 refused lines q → q ≡ p
     pub run : IsWorldRun bounds p.history
+    pub one_step : IsRun (shadow p.history)
+    pub answers : AllTrue p.history
 
   -- lines that were played to their end: the text of their replies was written, and nothing else
   abbrev pub EndsLines : List (List ℕ) → Option (List ℕ) → Option (List ℕ) → End → Type 0
