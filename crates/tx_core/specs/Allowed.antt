@@ -36,7 +36,8 @@ other_keys (c ∷ cs) = map (λ d. d.key) cs
 abbrev pub listed_on : Declaration → Key → List Key
 listed_on d k = elim d.mode [ TwoPhase ↦ [] | Async ↦ cond (is_first d.changes k) (other_keys d.changes) [] ]
 
--- the least minimum that a prewrite asks for: above the number that was drawn for the declaration; in two phases there is none
+-- the least minimum that a prewrite asks for: above the number that was drawn for the declaration;
+-- in two phases there is none
 abbrev pub floor_of : Declaration → ℕ
 floor_of d = elim d.mode [ TwoPhase ↦ 0 | Async ↦ d.drawn + 1 ]
 

@@ -12,7 +12,7 @@ max_ts [] = 0
 max_ts (Took x ∷ h) = max (max_ts h) (leaves (left h x.region) x.body x.answer).max_read
 max_ts (_ ∷ h) = max_ts h
 
--- what the region n, which loaded `loaded`, answers after a history: by the case tables from what its own events left, with the least
--- minimum above each read of the store for an async lock
+-- what the region n, which loaded `loaded`, answers after a history: by the case tables from what
+-- its own events left, with the least minimum above each read of the store for an async lock
 abbrev pub AnswersNext : History → ℕ → ℕ → Body → Answer → Type 0
 AnswersNext h n loaded = AnswersFrom (max_ts h) (left h n) loaded

@@ -42,7 +42,8 @@ reading (body.Get b) Nothing = step.Read b.key b.at None ∷ []
 reading (body.Scan b) (Rows rows) = step.Scan (scan_read b rows) ∷ []
 reading _ _ = []
 
--- the read that the check of an insert makes: where its lock was put, there was no value at its start
+-- the read that the check of an insert makes: where its lock was put, there was no value at its
+-- start
 abbrev pub checked : Prewrite → Option ℕ → List Step
 checked b None = []
 checked b (Some at) = step.Read b.key at None ∷ []
@@ -58,8 +59,9 @@ answering t outcome.Aborted = step.Answer t Aborted ∷ []
 answering t (outcome.Unknown cause) = []
 answering t outcome.ReadOnly = []
 
--- the machine's steps, newest first: a draw, a begin, a declaration and an answer where they stand, a commit or an abort at the event
--- that decides it, each answered read, and before a commit at the same event the read of an insert's check
+-- the machine's steps, newest first: a draw, a begin, a declaration and an answer where they stand,
+-- a commit or an abort at the event that decides it, each answered read, and before a commit at the
+-- same event the read of an insert's check
 abbrev pub shadow : History → List Step
 shadow [] = []
 shadow (Drawn seat n ∷ h) = step.Draw n ∷ shadow h

@@ -57,7 +57,8 @@ MayAnswer h t _ = Unit {0}
 
 -- ---- what may come next
 
--- A transaction declares once, after it began: at least one key, and each once, and a number that its seat drew since then.
+-- A transaction declares once, after it began: at least one key, and each once, and a number that
+-- its seat drew since then.
 pub record MayDeclare (h : History) (d : Declaration) : Type 0 where
   pub begun : began h d.start ≡ true
   pub once : declared h d.start ≡ None

@@ -15,8 +15,8 @@ pub struct Declaration {
     pub ttl: u32,
     /// The greatest commit timestamp that an async lock may promise; none is no bound.
     pub max_commit: Option<Ts>,
-    /// The number that its seat drew for it, after it began: it commits above this one, and so above all that was answered
-    /// before.
+    /// The number that its seat drew for it, after it began: it commits above this one, and so
+    /// above all that was answered before.
     pub drawn: Ts,
 }
 

@@ -44,8 +44,8 @@ pub fn decided_async()
         → greatest (accepted h t) (set_at h t) ≡ Some (greatest_of min (set_at h t)) }
 {}
 
-/// A transaction commits above each commit that a session had answered when it drew the number of its declaration. So who was told of a
-/// commit, and declares then, commits later.
+/// A transaction commits above each commit that a session had answered when it drew the number of
+/// its declaration. So who was told of a commit, and declares then, commits later.
 pub fn commits_in_order()
     ensures { (bounds : List Key) (h : History) (t u c e : ℕ) (d : Declaration) → IsWorldRun bounds h → declared h t ≡ Some d → AnsweredBefore h d.drawn u c → decided h t ≡ Done (Committed e) → c < e }
 {}

@@ -1,6 +1,7 @@
-//! The journal: the one piece of memory that threads share without a lock. Behind its words, the last timestamp drawn and
-//! counts of events, stands one history of events, which proofs alone know; each seat knows a prefix of it. A `Told` is such a prefix
-//! to be handed on, a `Request` carries the prefix that allows it, and a `Reply` the prefix in which it was answered.
+//! The journal: the one piece of memory that threads share without a lock. Behind its words, the last
+//! timestamp drawn, the greatest timestamp read and counts of events, stands one history of events,
+//! which proofs alone know; each seat knows a prefix of it. A `Told` is such a prefix to be handed on,
+//! a `Request` carries the prefix that allows it, and a `Reply` the prefix in which it was answered.
 //!
 //! ```
 //! let opened = Opened::new(alloc, bounds, sessions)?;      // then, in a function that is generic in J:
@@ -8,7 +9,8 @@
 //! let start = seat.draw(1)?;                               // a timestamp above all drawn before
 //! seat.record(&Event::Began(start));                       // an event that may come now, whatever other seats did
 //! let request = Request::new(seat.tell(), body);           // allowed by what the seat knows
-//! let reply = region.take(request);                        // the region records the answer after all that
+//! let reply = region.take(request);                        // the region records the answer after all that:
+//!                                                          // by `record`, and a read at r by `raise_read`
 //! seat.learn(reply.tell(&seat));                           // the seat knows of the answer
 //! ```
 //!

@@ -1,5 +1,6 @@
-//! Seats of a journal. Who makes events has a seat: it draws timestamps and records events with it, each by one atomic add, and
-//! it knows a beginning of the one history that has all of its own events. None of a seat's calls waits, allocates or loops.
+//! Seats of a journal. Who makes events has a seat: it draws timestamps and records events with it,
+//! each by one atomic add, and the event of a read by one atomic maximum; and it knows a beginning of
+//! the one history that has all of its own events. None of a seat's calls waits, allocates or loops.
 ghost use Rattle.std.specs.Prelude.{◌≡◌, ℕ, ◌+◌, ◌<◌, ◌≤◌, ◌⊎◌, ◌∷◌, max, IfOk, IfErr};
 ghost use Rattle.std.specs.Arc.{arc_value};
 ghost use mathlib.Core.Option.{none};
@@ -64,7 +65,8 @@ fn add<E: Said>(words: &Words, token: &mut Token, count: usize)
     words.fetch_add::<Add<E>>(token, count, 1);
 }
 
-// Adds the event that the call picks, which reads up to `at`, by a raise of the greatest timestamp read.
+// Adds the event that the call picks, which reads up to `at`, by a raise of the greatest timestamp
+// read.
 fn raise<E: Said>(words: &Words, token: &mut Token, at: Ts)
     requires table { (token.old.table_id ≡ words.now.table_id) × (words.now.table_id.words ≡ WORDS) }
     requires owns { Owns token.old.me.0 token.old.me.0.from }
@@ -86,6 +88,20 @@ fn record_this<J: Naming, E: Said>(seat: &mut Seat<J>, event: &Event)
 {
     let _ = event;
     seat.record_as::<E>();
+}
+
+// Records this event, which the call picks, and raises the greatest timestamp read to `at`.
+fn raise_by_this<J: Naming, E: Said>(seat: &mut Seat<J>, event: &Event, at: Ts)
+    requires is { event.now ≡ E.event }
+    requires quiet { DrawsNothing E.event }
+    requires right { MayRecord J.bounds seat.old.seat seat.old.events E.event }
+    requires read { max_ts (E.event ∷ seat.old.events) ≡ max (max_ts seat.old.events) at }
+    ensures same { (seat.new.seat ≡ seat.old.seat) × (seat.new.ticks ≡ seat.old.ticks) }
+    ensures added { HasRecorded J.bounds seat.old.seat seat.old.events E.event seat.new.events }
+    ensures raised { at ≤ max_ts seat.new.events }
+{
+    let _ = event;
+    seat.raise_read_as::<E>(at);
 }
 
 impl<J: Naming> Seat<J> {
@@ -154,9 +170,10 @@ impl<J: Naming> Seat<J> {
         Ts::new(self.words.shared.load::<LookRead>(&mut self.token, MAX_TS))
     }
 
-    /// Records the event that the call picks, of which no value is made: one of this seat that is right after whatever other seats
-    /// may have done since, and that reads at `at`, or nothing above what was read. It is one atomic maximum: the greatest timestamp
-    /// that was read rises with the event, so that it is what the events of the history say whenever it is loaded.
+    /// Records the event that the call picks, of which no value is made: one of this seat that is
+    /// right after whatever other seats may have done since, and that reads at `at`, or nothing
+    /// above what was read. It is one atomic maximum: the greatest timestamp that was read rises
+    /// with the event, so that it is what the events of the history say whenever it is loaded.
     pub fn raise_read_as<E: Said>(&mut self, at: Ts)
         requires quiet { DrawsNothing E.event }
         requires right { MayRecord J.bounds self.old.seat self.old.events E.event }
@@ -168,8 +185,23 @@ impl<J: Naming> Seat<J> {
         raise::<E>(&self.words.shared, &mut self.token, at);
     }
 
-    /// Records the event that the call picks, of which no value is made: one of this seat that is right after whatever other seats
-    /// may have done since, and that reads nothing above what was read, by one atomic add.
+    /// Raises the greatest timestamp that was read to `at`, with the event that reads there, by one
+    /// atomic maximum. The event is one of this seat that is right after whatever other seats may
+    /// have done since. There is no raise without an event.
+    pub fn raise_read(&mut self, event: &Event, at: Ts)
+        requires quiet { DrawsNothing event.now }
+        requires right { MayRecord J.bounds self.old.seat self.old.events event.now }
+        requires read { max_ts (event.now ∷ self.old.events) ≡ max (max_ts self.old.events) at }
+        ensures same { (self.new.seat ≡ self.old.seat) × (self.new.ticks ≡ self.old.ticks) }
+        ensures added { HasRecorded J.bounds self.old.seat self.old.events event.now self.new.events }
+        ensures raised { at ≤ max_ts self.new.events }
+    {
+        raise_by_this::<J, Brand>(self, event, at);
+    }
+
+    /// Records the event that the call picks, of which no value is made: one of this seat that is
+    /// right after whatever other seats may have done since, and that reads nothing above what was
+    /// read, by one atomic add.
     pub fn record_as<E: Said>(&mut self)
         requires quiet { DrawsNothing E.event }
         requires right { MayRecord J.bounds self.old.seat self.old.events E.event }
@@ -181,8 +213,8 @@ impl<J: Naming> Seat<J> {
         add::<E>(&self.words.shared, &mut self.token, count);
     }
 
-    /// Records an event of this seat that is right after whatever other seats may have done since, and that reads nothing above what
-    /// was read, by one atomic add.
+    /// Records an event of this seat that is right after whatever other seats may have done since,
+    /// and that reads nothing above what was read, by one atomic add.
     pub fn record(&mut self, event: &Event)
         requires quiet { DrawsNothing event.now }
         requires right { MayRecord J.bounds self.old.seat self.old.events event.now }

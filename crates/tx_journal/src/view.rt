@@ -1,6 +1,7 @@
-//! The journal's table: what a token of it knows, the rule that every step keeps, and what each step tells. The table's first word is
-//! the last number drawn, its last one the greatest timestamp read. The seats are spread over the words between them, each of which counts
-//! events of its seats; which events these were, proofs alone know.
+//! The journal's table: what a token of it knows, the rule that every step keeps, and what each
+//! step tells. The table's first word is the last number drawn, its last one the greatest timestamp
+//! read. The seats are spread over the words between them, each of which counts events of its
+//! seats; which events these were, proofs alone know.
 use atomic_table::{Join, Play, Seat as TableSeat, Shared, Split, Table, TableRule};
 use std::alloc::Global;
 use std::collections::LinkedList;
@@ -73,8 +74,9 @@ impl Naming for Brand {
     ghost seats = { 0 };
 }
 
-/// The rule of the table: there is one world run, each seat has seen a beginning of it that has all of the seat's own events,
-/// the first word is its last number, and the word `MAX_TS` the greatest timestamp that was read in it.
+/// The rule of the table: there is one world run, each seat has seen a beginning of it that has all
+/// of the seat's own events, the first word is its last number, and the word `MAX_TS` the greatest
+/// timestamp that was read in it.
 pub struct Law;
 
 impl TableRule<u8, View, Layout> for Law {
@@ -98,7 +100,8 @@ impl Said for Brand {
     ghost event = { Stopped 0 };
 }
 
-/// An add on a word that counts events, or a raise of the greatest timestamp read: an event is recorded.
+/// An add on a word that counts events, or a raise of the greatest timestamp read: an event is
+/// recorded.
 pub struct Add<E>(PhantomData<E>);
 
 impl<E: Said> Play<u8, View> for Add<E> {

@@ -1,5 +1,5 @@
 -- What a region answers with the least minimum above a mark is an answer of the tables.
-use Rattle.std.proofs.Common.{◌≡◌, inl, inr, ℕ, ◌+◌, ◌<◌, ◌≤◌, arith}
+use Rattle.std.proofs.Common.{◌≡◌, inl, inr, ℕ, ◌+◌, ◌<◌, ◌≤◌, max, arith}
 use Rattle.std.proofs.lemmas.Bool.{cases_lt}
 use Rattle.tx_types.specs.declared.mutation.Mode.TheVariants.{Async}
 use Rattle.tx_plan.specs.declared.body.Prewrite.{Prewrite}
@@ -8,7 +8,7 @@ use Rattle.tx_plan.specs.declared.body.Body.TheVariants as body
 use Rattle.tx_plan.specs.declared.answer.Answer.{Answer}
 use Rattle.tx_plan.specs.Cells.{Cells, Region}
 use Rattle.tx_plan.specs.cases.Prewrite.{AnswersPrewrite, MayPromise, least_minimum}
-use Rattle.tx_plan.specs.Answers.{floor_in, Answers, AnswersFrom, AnswersLeast}
+use Rattle.tx_plan.specs.Answers.{floor_in, Answers, AnswersFrom}
 
 -- the least minimum above a mark is one that may be promised
 least_may : (max_read mark top : ℕ) (b : Prewrite) → max_read ≤ mark → mark ≤ top → b.start ≤ top → b.floor ≤ top + 1 → (m : ℕ) → m ≡ least_minimum mark b → MayPromise max_read top b m
@@ -44,6 +44,6 @@ mark_admitted mark region loaded top (body.RaiseSafe b) a covers read upto floor
 mark_admitted mark region loaded top (body.LocksBelow b) a covers read upto floor may = may
 mark_admitted mark region loaded top (body.Collect b) a covers read upto floor may = may
 
--- by the region's own mark
-pub least_admitted : (region : Region) (loaded top : ℕ) (b : Body) (a : Answer) → region.max_read ≤ top → loaded ≤ top → floor_in b ≤ top + 1 → AnswersLeast region loaded b a → Answers region loaded top b a
-least_admitted region loaded top b a read = mark_admitted region.max_read region loaded top b a (omega arith) read
+-- a read at the start of the transaction itself does not raise it
+pub check_leaves : (mark : ℕ) (b : Prewrite) → least_minimum (max mark b.start) b ≡ least_minimum mark b
+check_leaves mark b = omega arith

@@ -14,7 +14,7 @@ use Rattle.tx_plan.specs.declared.answer.Answer.{Answer}
 use Rattle.tx_plan.specs.declared.answer.Answer.TheVariants as answer
 use Rattle.tx_plan.specs.Cells.{Lock, Write, CommitOf, Rollback, Writes, Cells, Region, info_of}
 use Rattle.tx_plan.specs.Reads.{covered}
-use Rattle.tx_plan.specs.Answers.{AnswersLeast, leaves}
+use Rattle.tx_plan.specs.Answers.{AnswersFrom, leaves}
 use Rattle.tx_plan.specs.cases.Collect.{keeps}
 
 abbrev a : Key
@@ -66,7 +66,7 @@ commit_removes_lock = refl
 pub commit_keeps_rollback_as_mark : commit.write 2 ≡ Some (put 1 true)
 commit_keeps_rollback_as_mark = refl
 
-pub commit_is_answered : AnswersLeast (before (Some (lock 1 2)) (only 2 Rollback)) 5 (body.Commit record { key = a; start = 1; commit = 2 }) (answer.Committed 2)
+pub commit_is_answered : AnswersFrom 4 (before (Some (lock 1 2)) (only 2 Rollback)) 5 (body.Commit record { key = a; start = 1; commit = 2 }) (answer.Committed 2)
 commit_is_answered = inr (λ h. omega arith, inl (_, record { stands = refl; own = refl }, inr (λ h. omega arith, inr (λ rec h. (cc (h.stands)), refl))))
 
 -- ---- BatchRollback: another's commit record is marked; an own lock goes; another's lock stays
@@ -97,7 +97,7 @@ check = body.CheckTxnStatus record { key = a; start = 1; caller = 3; current = 5
 pub check_pushes : (after (Some (lock 1 2)) none check (answer.Locked (info_of a (lock 1 4)))).lock ≡ Some (lock 1 4)
 check_pushes = refl
 
-pub check_is_answered : AnswersLeast (before (Some (lock 1 2)) none) 5 check (answer.Locked (info_of a (lock 1 4)))
+pub check_is_answered : AnswersFrom 4 (before (Some (lock 1 2)) none) 5 check (answer.Locked (info_of a (lock 1 4)))
 check_is_answered = inr (λ h. omega arith, inr (λ h. omega arith, inl (_, record { stands = refl; own = refl }, inr (λ h. (cc (h.0)), inr (λ h. omega arith, inl (omega arith, refl))))))
 
 pub missing_is_left : (after None none (body.CheckSecondaryLocks record { key = a; start = 1 }) answer.Missing).write 1 ≡ Some Rollback

@@ -35,8 +35,8 @@ abbrev pub floor_in : Body → ℕ
 floor_in (Prewrite b) = b.floor
 floor_in _ = 0
 
--- The tables of a region whose seat loaded `loaded`, where `Promise b` says which minimums an async lock may have that the prewrite b
--- puts.
+-- The tables of a region whose seat loaded `loaded`, where `Promise b` says which minimums an async
+-- lock may have that the prewrite b puts.
 abbrev pub AnswersBy : (PrewriteBody → ℕ → Type 0) → Region → ℕ → Body → Answer → Type 0
 AnswersBy Promise region loaded (Get b) a = AnswersGet (region.cells b.key) region.safe loaded b a
 AnswersBy Promise region loaded (Scan b) a = AnswersScan region.cells region.safe loaded b a
@@ -55,13 +55,10 @@ AnswersBy Promise region loaded (Collect b) a = AnswersCollect region.cells regi
 abbrev pub Answers : Region → ℕ → ℕ → Body → Answer → Type 0
 Answers region loaded top = AnswersBy (MayPromise region.max_read top) region loaded
 
--- What a region of this store answers: the same, with the least minimum. `mark` is the greatest timestamp that was read.
+-- What a region of this store answers: the same, with the least minimum above a mark, which is the
+-- greatest timestamp that was read in any region.
 abbrev pub AnswersFrom : ℕ → Region → ℕ → Body → Answer → Type 0
 AnswersFrom mark region loaded = AnswersBy (λ b m. m ≡ least_minimum mark b) region loaded
-
--- by the region's own mark
-abbrev pub AnswersLeast : Region → ℕ → Body → Answer → Type 0
-AnswersLeast region loaded = AnswersFrom region.max_read region loaded
 
 -- what an answer leaves of the region: the answer tells the change
 abbrev pub leaves : Region → Body → Answer → Region

@@ -9,8 +9,9 @@ use Rattle.tx_types.specs.declared.mutation.Mode.{Mode}
 use Rattle.tx_types.specs.declared.lock.LockInfo.{LockInfo}
 use Rattle.tx_types.specs.Kinds.{kind_of}
 
--- the lock of a transaction on a key: what the transaction does to the key (an insert puts, once it is locked), how it commits, the other keys that an async lock
--- of the primary lists, its start, the least timestamp at which it may commit, its time to live and its primary
+-- the lock of a transaction on a key: what the transaction does to the key (an insert puts, once it
+-- is locked), how it commits, the other keys that an async lock of the primary lists, its start,
+-- the least timestamp at which it may commit, its time to live and its primary
 pub record Lock : Type 0 where
   pub mutation : Mutation
   pub mode : Mode

@@ -2,8 +2,8 @@
 use crate::lists::Infos;
 use tx_types::{KeyValues, LockInfo, Ts, Value};
 
-/// A region's answer, of any command: what was found or done, or a refusal, E1 to E10 and E17 with the names of
-/// `tx_types::Fault`.
+/// A region's answer, of any command: what was found or done, or a refusal, E1 to E10 and E17 with
+/// the names of `tx_types::Fault`.
 #[derive(Debug, Drop)]
 pub enum Answer {
     /// The value of the key that was read.

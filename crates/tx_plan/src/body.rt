@@ -109,7 +109,8 @@ pub struct Prewrite {
     pub mode: Mode,
     /// The greatest commit timestamp that an async lock may promise; none is no bound.
     pub max_commit: Option<Ts>,
-    /// The least minimum that an async lock may have: above the number that its transaction drew when it declared.
+    /// The least minimum that an async lock may have: above the number that its transaction drew
+    /// when it declared.
     pub floor: Ts,
     /// How long after its start the lock is live, in ticks.
     pub ttl: u32,

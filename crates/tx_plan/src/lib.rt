@@ -20,7 +20,9 @@ pub use body::{
 };
 pub use key_change::{KeyChange, Left, NewLock};
 pub use key_records::{KeyCollection, KeyRecords, RecordKind, collect_key};
-pub use laws::{cells_stay_sound, least_minimum_is_free, rollback_left_again_stays};
+pub use laws::{
+    cells_stay_sound, check_leaves_the_minimum, least_minimum_is_free, rollback_left_again_stays,
+};
 pub use lists::{Infos, Starts};
 pub use plan::batch_rollback::plan_batch_rollback;
 pub use plan::check_secondary_locks::plan_check_secondary_locks;

@@ -49,7 +49,8 @@ by_mark mark h region loaded (body.RaiseSafe b) a is answers = answers
 by_mark mark h region loaded (body.LocksBelow b) a is answers = answers
 by_mark mark h region loaded (body.Collect b) a is answers = answers
 
--- The region n had seen `had`. It loaded what it needs, and executed the request, by families that hold what its own events left.
+-- The region n had seen `had`. It loaded what it needs, and executed the request, by families that
+-- hold what its own events left.
 module _ (bounds : List Key) (n : ℕ) (inside : n ≤ length bounds) (had by : History) (body : Body) (loaded mark : ℕ) (marked : History) (loads : Loads bounds n had by body loaded mark marked) (allowed : Allowed by body) (holds : Holds bounds n body)
     (before after : ℕ → Region) (a : Answer) (read : Option ℕ) (executes : Executes mark before loaded body a read after) (kept : before (left marked n).max_read ≡ left marked n) (mine : (m : ℕ) → (after m).max_read ≡ m) where
   abbrev pub event : Taken

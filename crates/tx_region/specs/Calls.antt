@@ -11,13 +11,15 @@ use Rattle.tx_plan.specs.Changes.{changed}
 use Rattle.tx_plan.specs.Plans.{answer_with, read_upto}
 use Rattle.tx_plan.specs.Views.{info_on}
 
--- A region executes a request: the answer is of the case tables, with the least minimum above `mark`, and the region is as that answer
--- leaves it, whatever was the greatest timestamp read in it before; after, it is that or what was read now.
+-- A region executes a request: the answer is of the case tables, with the least minimum above
+-- `mark`, and the region is as that answer leaves it, whatever was the greatest timestamp read in
+-- it before; after, it is that or what was read now.
 pub record Executes (mark : ℕ) (before : ℕ → Region) (loaded : ℕ) (body : Body) (a : Answer) (read : Option ℕ) (after : ℕ → Region) : Type 0 where
   pub answers : (n : ℕ) → AnswersFrom mark (before n) loaded body a
   pub leaves : (n : ℕ) → after (read_upto read n) ≡ leaves (before n) body a
 
--- A plan is carried out on a key: its answer is filled in, its change is made, and what it read is told.
+-- A plan is carried out on a key: its answer is filled in, its change is made, and what it read is
+-- told.
 pub record CarriesOut (before : Region) (key : Key) (planned : Planned) (a : Answer) (read : Option ℕ) (after : Region) : Type 0 where
   pub answer : a ≡ answer_with (info_on (before.cells key) key) planned.answer
   pub reads : read ≡ planned.read

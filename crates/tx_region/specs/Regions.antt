@@ -4,7 +4,8 @@ use Rattle.tx_plan.specs.Cells.{Region}
 use Rattle.tx_cells.specs.Contents.{Content, cells_in}
 use Rattle.tx_region.specs.declared.records.Records.{Records}
 
--- the region of records whose families hold what `content` says, in which nothing above `max_read` was read
+-- the region of records whose families hold what `content` says, in which nothing above `max_read`
+-- was read
 abbrev pub region_of : {F : Type 0} → (F → Content) → Records F → ℕ → Region
 region_of content records max_read = record {
   cells = cells_in (content records.families);

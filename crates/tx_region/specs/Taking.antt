@@ -20,8 +20,8 @@ NeedsMark _ = ⊥
 abbrev pub IsMark : Body → ℕ → History → Type 0
 IsMark body mark h = NeedsMark body → mark ≡ max_ts h
 
--- The region n, which had seen `had`, learnt what the sender had seen, loaded the last number at `point`, and then, where it needs that,
--- the greatest timestamp read; it then knew `marked`.
+-- The region n, which had seen `had`, learnt what the sender had seen, loaded the last number at
+-- `point`, and then, where it needs that, the greatest timestamp read; it then knew `marked`.
 pub record Loads (bounds : List Key) (n : ℕ) (had by : History) (body : Body) (loaded mark : ℕ) (marked : History) : Type 0 where
   pub point : History
   pub here : HasSeen bounds n had point
@@ -31,8 +31,9 @@ pub record Loads (bounds : List Key) (n : ℕ) (had by : History) (body : Body) 
   pub is_mark : IsMark body mark marked
   pub low : (loaded ≤ greatest_ts) × (mark ≤ greatest_ts)
 
--- The region n, which had seen `had`, gave this answer, which is the one of the case tables with the least minimum: of what its own
--- events had left, of the number that it loaded, and of the greatest timestamp that was read up to a point after that.
+-- The region n, which had seen `had`, gave this answer, which is the one of the case tables with
+-- the least minimum: of what its own events had left, of the number that it loaded, and of the
+-- greatest timestamp that was read up to a point after that.
 pub record Answered (bounds : List Key) (n : ℕ) (had : History) (g : Given) (a : Answer) : Type 0 where
   pub tells : Tells bounds n had g a
   pub marked : History

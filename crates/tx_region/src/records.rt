@@ -1,9 +1,11 @@
-//! The records of a region: what its families hold of its keys, its safe point, and that of the last collection. The greatest timestamp
-//! that was read is not kept here: it is one word for all regions, which the seat raises and loads.
+//! The records of a region: what its families hold of its keys, its safe point, and that of the
+//! last collection. The greatest timestamp that was read is not kept here: it is one word for all
+//! regions, which the seat raises and loads.
 //!
-//! Each command is a method (`commands`, one file a command) with the same contract: the answer is the one of the case
-//! table, with the least minimum above a mark for an async lock, and the region is as that answer leaves it, whatever was read in it
-//! before. `OutOfMemory` leaves it as it was: whatever can be refused is asked for before the first change.
+//! Each command is a method (`commands`, one file a command) with the same contract: the answer is
+//! the one of the case table, with the least minimum above a mark for an async lock, and the region
+//! is as that answer leaves it, whatever was read in it before. `OutOfMemory` leaves it as it was:
+//! whatever can be refused is asked for before the first change.
 ghost use Rattle.std.specs.Prelude.{◌≡◌, ℕ, None, IfOk, IfErr, OnErr};
 ghost use Rattle.tx_types.specs.declared.key.Key.{Key};
 ghost use Rattle.tx_plan.specs.Cells.{new_region};
@@ -36,8 +38,9 @@ impl Executed {
     }
 }
 
-/// What is on the keys of a region, its safe point, and the safe point of the last collection. Contracts see the region of the case
-/// tables by `region_of`, for each greatest timestamp that may have been read in it.
+/// What is on the keys of a region, its safe point, and the safe point of the last collection.
+/// Contracts see the region of the case tables by `region_of`, for each greatest timestamp that may
+/// have been read in it.
 #[derive(Drop)]
 pub struct Records<F> {
     pub(crate) alloc: Global,

@@ -42,8 +42,8 @@ impl<J: Naming, F: Families> Model for Region<J, F> {
     ghost invariant = { λ r. (region_of F.content r.records (left r.seat.events r.seat.seat).max_read ≡ left r.seat.events r.seat.seat) × (r.seat.seat ≤ length J.bounds) };
 }
 
-// What a region loads before it answers: the last number that was drawn, and the greatest timestamp that was read, or 0 where the answer
-// does not look at that.
+// What a region loads before it answers: the last number that was drawn, and the greatest timestamp
+// that was read, or 0 where the answer does not look at that.
 #[derive(Clone, Copy)]
 struct Loaded {
     last: Ts,
@@ -70,7 +70,8 @@ fn needs_mark(body: &Body) -> bool
     }
 }
 
-// The greatest timestamp that was read, where the answer to a request may look at it: the seat then knows the whole history.
+// The greatest timestamp that was read, where the answer to a request may look at it: the seat then
+// knows the whole history.
 fn load_mark<J: Naming>(seat: &mut Seat<J>, body: &Body) -> Ts
     ensures same { (seat.new.seat ≡ seat.old.seat) × (seat.new.ticks ≡ seat.old.ticks) }
     ensures seen { HasSeen J.bounds seat.old.seat seat.old.events seat.new.events }
@@ -84,8 +85,9 @@ fn load_mark<J: Naming>(seat: &mut Seat<J>, body: &Body) -> Ts
     Ts::ZERO
 }
 
-// Records the event that the call picks, which reads at `at`. Where nothing above that was read yet, it raises the greatest timestamp
-// read; a read at or below that, as most are, only looks at it.
+// Records the event that the call picks, which reads at `at`. Where nothing above that was read
+// yet, it raises the greatest timestamp read; a read at or below that, as most are, only looks at
+// it.
 fn record_read<J: Naming, E: Said>(seat: &mut Seat<J>, at: Ts)
     requires quiet { DrawsNothing E.event }
     requires right { MayRecord J.bounds seat.old.seat seat.old.events E.event }
@@ -100,8 +102,9 @@ fn record_read<J: Naming, E: Said>(seat: &mut Seat<J>, at: Ts)
     }
 }
 
-// Records the event that the call picks: the region of this seat, which loaded `loaded`, answered a request so, and read at `read`, if
-// it read. The event of a read raises the greatest timestamp read.
+// Records the event that the call picks: the region of this seat, which loaded `loaded`, answered a
+// request so, and read at `read`, if it read. The event of a read raises the greatest timestamp
+// read.
 fn record_event<J: Naming, E: Said>(
     seat: &mut Seat<J>,
     loaded: Ts,
@@ -124,7 +127,8 @@ fn record_event<J: Naming, E: Said>(
     }
 }
 
-// Records that the region of this seat, which loaded `loaded`, answered a request so, and read at `read`, if it read.
+// Records that the region of this seat, which loaded `loaded`, answered a request so, and read at
+// `read`, if it read.
 fn record_taken<J: Naming>(
     seat: &mut Seat<J>,
     loaded: Ts,
@@ -211,7 +215,8 @@ impl<J: Naming, F: Families> Region<J, F> {
         self.seat.learn(told);
     }
 
-    // Knows what a request's sender had seen, then the last number that was drawn, and then the greatest timestamp that was read.
+    // Knows what a request's sender had seen, then the last number that was drawn, and then the
+    // greatest timestamp that was read.
     fn load(&mut self, request: &mut Request<J>) -> Loaded
         ensures request { request.new ≡ request.old }
         ensures same { (self.new.seat ≡ self.old.seat) × (self.new.ticks ≡ self.old.ticks) }

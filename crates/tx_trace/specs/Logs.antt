@@ -43,8 +43,8 @@ pub record Follows (h : History) (steps : List Step) (kept : Kept) : Type 0 wher
 abbrev pub Checked : Type 0
 Checked = ℕ → Key → Bool
 
--- What was checked was accepted, and each key that is inserted and was accepted was checked: an insert is checked where it is first
--- accepted, whatever is decided of its transaction.
+-- What was checked was accepted, and each key that is inserted and was accepted was checked: an
+-- insert is checked where it is first accepted, whatever is decided of its transaction.
 pub record Tracks (h : History) (checked : Checked) : Type 0 where
   pub accepts : (t : ℕ) (k : Key) → checked t k ≡ true → accepted h t k ≢ None
   pub inserts : (t : ℕ) (d : Declaration) (k : Key) (v : Value) → declared h t ≡ Some d → mutation_at d.changes k ≡ Some (Insert v) → accepted h t k ≢ None → checked t k ≡ true
@@ -116,8 +116,8 @@ abbrev pub Closes : ℕ → List Step → Kept → Log → Option ℕ → Type 0
 Closes t steps between new None = (steps_of new ≡ steps) × ((q : ℕ) → kept_in new q ≡ between q)
 Closes t steps between new (Some c) = (steps_of new ≡ step.Commit t c ∷ steps) × ((q : ℕ) → kept_in new q ≡ cond (t == q) None (between q))
 
--- A key of a transaction is locked with the minimum m, after these steps and where these are kept: where the transaction is kept, the key
--- is accepted, and the last key commits it.
+-- A key of a transaction is locked with the minimum m, after these steps and where these are kept:
+-- where the transaction is kept, the key is accepted, and the last key commits it.
 pub record Locked (t : ℕ) (k : Key) (m : ℕ) (steps : List Step) (kept : Kept) (new : Log) : Type 0 where
   pub between : Kept
   pub commit : Option ℕ
@@ -132,7 +132,8 @@ pub record Reads (b : Prewrite) (old new : Log) : Type 0 where
   pub same : (t : ℕ) → kept_in new t ≡ kept_in old t
   pub keys : (t : ℕ) (k : Key) → checked_in new t k ≡ cond ((b.start == t) && bytes_eq b.key k) true (checked_in old t k)
 
--- A prewrite was accepted: where it inserts a key that is not checked yet, the read of its check is added.
+-- A prewrite was accepted: where it inserts a key that is not checked yet, the read of its check is
+-- added.
 abbrev pub Checks : Prewrite → Log → Log → Type 0
 Checks b old new = ((check_by b.mutation b.start ≡ None) × Writes [] old new) ⊎ (((checked_in old b.start b.key ≡ true) × Writes [] old new) ⊎ Reads b old new)
 

@@ -19,7 +19,8 @@ use Rattle.tx_trace.specs.Logs.{Follows, Checked, Tracks, by_start}
 abbrev pub Waits : Type 0
 Waits = Option (List Key × ℕ)
 
--- the steps, newest first, by start what each transaction that is declared and not decided waits for, and which keys were checked
+-- the steps, newest first, by start what each transaction that is declared and not decided waits
+-- for, and which keys were checked
 pub record Noted : Type 0 where
   pub steps : List Step
   pub waits : List (ℕ × Waits)
@@ -45,8 +46,8 @@ kept_of waits t = option_map pending_of (lookup (tree.is_at (nat_cmp t)) waits)
 abbrev pub checked_of : List (ℕ × Key) → Checked
 checked_of pairs t k = list_any (tree.is_at (by_start (t, k))) pairs
 
--- A trace of a history has just the steps of the machine that are read off it, each transaction stands as it does there, and the inserts
--- that were accepted were checked.
+-- A trace of a history has just the steps of the machine that are read off it, each transaction
+-- stands as it does there, and the inserts that were accepted were checked.
 abbrev pub Traces : History → Noted → Type 0
 Traces h n = Follows h n.steps (kept_of n.waits) × Tracks h (checked_of n.checked)
 

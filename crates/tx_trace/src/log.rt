@@ -17,8 +17,8 @@ use tx_core::{Answer, Body, Declaration, Get, Outcome, Prewrite, Scan};
 use tx_machine::{ScanRead, Step};
 use tx_types::{Fate, Fault, Key, Mutation, Ts};
 
-/// The machine's steps of the events so far, oldest first, what each transaction that is declared and not decided waits for, and which
-/// keys were checked that a transaction inserts.
+/// The machine's steps of the events so far, oldest first, what each transaction that is declared
+/// and not decided waits for, and which keys were checked that a transaction inserts.
 #[derive(Drop)]
 pub(crate) struct Log {
     alloc: Global,
@@ -126,7 +126,8 @@ impl Log {
         }
     }
 
-    // A prewrite was accepted: an insert read its key at its start, where that is its first acceptance. Room is left for one step.
+    // A prewrite was accepted: an insert read its key at its start, where that is its first
+    // acceptance. Room is left for one step.
     fn check(&mut self, body: &Prewrite) -> Result<(), Fault>
         ensures ok { OnOk result (Checks body.now self.old self.new) }
         ensures room { OnOk result (vec_len self.new.steps < vec_capacity self.new.steps) }

@@ -76,9 +76,10 @@ seen_above write low (suc r) =
           | inr never ↦ inr (none_more bare (λ other f v. never (subst (λ (x : CommitRecord). IsVisible x.mutation) (commit_same other rec (sym f ∙ e)) v)))
         ]
 
--- The key is free and was never accepted for the transaction, which is not committed; no commit on the key and no collection lies
--- above its start; an async minimum lies above each read; the bound lies above the number that was drawn for the declaration. Of what it
--- inserts there is no value at its start.
+-- The key is free and was never accepted for the transaction, which is not committed; no commit on
+-- the key and no collection lies above its start; an async minimum lies above each read; the bound
+-- lies above the number that was drawn for the declaration. Of what it inserts there is no value at
+-- its start.
 pub record MayLock (w : View) (k : Key) (lock : Lock) : Type 0 where
   pub free : (w.cells k).lock ≡ None
   pub new : w.accepted lock.start k ≡ None

@@ -1,5 +1,5 @@
--- The check of an insert that passes is a read at its start: it raises what was read, so that an async transaction that started before
--- commits above it, though the insert itself is rolled back.
+-- The check of an insert that passes is a read at its start: it raises what was read, so that an
+-- async transaction that started before commits above it, though the insert itself is rolled back.
 use Rattle.std.proofs.Common.{◌≡◌, ℕ, ◌==◌, inl, inr, cond, [], ◌∷◌, Some, None, refl, arith}
 use Rattle.tx_types.specs.declared.mutation.Mutation.TheVariants.{Put, Insert}
 use Rattle.tx_types.specs.declared.mutation.Mode.TheVariants as mode

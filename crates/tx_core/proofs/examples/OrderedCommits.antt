@@ -1,5 +1,6 @@
--- Two async transactions on two keys, of which one declares after the other was answered: the number that it draws then is the floor of its
--- minimum, so it commits above the other, though it began before and nothing was read.
+-- Two async transactions on two keys, of which one declares after the other was answered: the
+-- number that it draws then is the floor of its minimum, so it commits above the other, though it
+-- began before and nothing was read.
 use Rattle.std.proofs.Common.{◌≡◌, ℕ, inl, inr, [], ◌∷◌, Some, None, refl, arith}
 use Rattle.tx_types.specs.declared.mutation.Mutation.TheVariants.{Put}
 use Rattle.tx_types.specs.declared.mutation.Mode.TheVariants as mode

@@ -1,5 +1,6 @@
--- A resolver finishes an async transaction whose session is gone, over two regions: the primary alone promised 3, a read has raised the
--- other region, so its late prewrite promises 4, and 4 is where the transaction is committed.
+-- A resolver finishes an async transaction whose session is gone, over two regions: the primary
+-- alone promised 3, a read has raised the other region, so its late prewrite promises 4, and 4 is
+-- where the transaction is committed.
 use Rattle.std.proofs.Common.{◌≡◌, ℕ, ◌≤◌, ◌==◌, inl, inr, true, false, cond, List, [], ◌∷◌, Some, None, refl, arith}
 use Rattle.tx_types.specs.declared.mutation.Mutation.TheVariants.{Put}
 use Rattle.tx_types.specs.declared.mutation.Mode.TheVariants as mode

@@ -253,7 +253,8 @@ module _ (bounds : List Key) (h : History) (good : Good bounds h) (b : Prewrite)
       of_declared : (d : Declaration) → declared h b.start ≡ Some d → may.of ≡ d
       of_declared d e = some_same may.of d (sym may.stands ∙ e)
 
-      -- the number that was drawn for the declaration is at most the last one, and lies below the floor of an async one
+      -- the number that was drawn for the declaration is at most the last one, and lies below the
+      -- floor of an async one
       drawn_upto : (d : Declaration) → declared h b.start ≡ Some d → d.drawn ≤ last h
       drawn_upto d e = omega (arith, drew, ap (λ (x : Declaration). x.drawn) (of_declared d e))
 

@@ -1,4 +1,5 @@
--- The order of commits: what was answered committed before a transaction drew the number of its declaration lies below its commit.
+-- The order of commits: what was answered committed before a transaction drew the number of its
+-- declaration lies below its commit.
 use Rattle.std.proofs.Common.{◌≡◌, ◌≢◌, ℕ, ◌<◌, ◌≤◌, ◌==◌, inl, inr, true, List, [], ◌∷◌, Some, refl, sym, ap, subst, ◌∙◌, arith}
 use Rattle.tx_types.specs.declared.key.Key.{Key}
 use Rattle.tx_types.specs.declared.mutation.Change.{Change}
@@ -70,8 +71,8 @@ declared_some bounds (Answered u o ∷ h) run t d e = declared_some bounds h run
 declared_some bounds (Stopped s ∷ h) run t d e = declared_some bounds h run.0 t d e
 declared_some bounds (Took x ∷ h) run t d e = declared_some bounds h run.0 t d e
 
--- a transaction commits above what was answered committed before it drew the number of its declaration: the bound of each of its keys lies
--- above that number
+-- a transaction commits above what was answered committed before it drew the number of its
+-- declaration: the bound of each of its keys lies above that number
 pub commits_in_order : (bounds : List Key) (h : History) (t u c e : ℕ) (d : Declaration) → IsWorldRun bounds h → declared h t ≡ Some d → AnsweredBefore h d.drawn u c → decided h t ≡ Done (fate.Committed e) → c < e
 commits_in_order bounds h t u c e d run stands before end = go (set_at h t) refl
   where

@@ -5,8 +5,8 @@ use Rattle.tx_types.specs.declared.mutation.Mode.{Mode}
 use Rattle.tx_types.specs.declared.mutation.Mode.TheVariants.{TwoPhase, Async}
 use Rattle.tx_plan.specs.declared.body.Body.{Body}
 use Rattle.tx_plan.specs.declared.body.Body.TheVariants.{Prewrite}
-use Rattle.tx_plan.specs.Answers.{floor_in, Answers, AnswersFrom, AnswersLeast}
-use Rattle.tx_plan.proofs.LeastMinimum.{mark_admitted, least_admitted}
+use Rattle.tx_plan.specs.Answers.{floor_in, Answers, AnswersFrom}
+use Rattle.tx_plan.proofs.LeastMinimum.{mark_admitted}
 use Rattle.tx_machine.specs.Keys.{IsDistinct}
 use Rattle.tx_core.specs.declared.event.Declaration.{Declaration}
 use Rattle.tx_core.specs.declared.event.Outcome.{Outcome}
@@ -21,7 +21,6 @@ use Rattle.tx_core.proofs.Basics.{nat_test, is_some}
 use Rattle.tx_core.proofs.seats.Beginnings.{other_run_on, extends_begins, extends_more}
 use Rattle.tx_core.proofs.seats.Staying.{last_on, was_last_on, was_last_upto, drawer_next, drawer_on, drawer_new, drew_since_on, declared_drew, began_on, began_drawn}
 use Rattle.tx_core.proofs.seats.StaysAllowed.{allowed_on}
-use Rattle.tx_core.proofs.seats.Numbers.{left_upto}
 use Rattle.tx_core.proofs.seats.Answering.{left_on, answers_later, may_answer_on}
 
 -- ---- what the seat that drew a start has not done, nobody does
@@ -92,13 +91,10 @@ module _ (bounds : List Key) (i : ℕ) (l : History) where
         ap Some own,
       )
 
-  -- so it may answer with the least minimum above a mark, which covers what was read in the region and was drawn
+  -- so it may answer with the least minimum above a mark, which covers what was read in the region
+  -- and does not lie above the last number drawn
   pub may_take_from : (mark : ℕ) (x : Taken) → x.region ≡ i → i ≤ length bounds → Allowed l x.body → Holds bounds x.region x.body → WasLast l x.loaded → IsWorldRun bounds l → (left l x.region).max_read ≤ mark → mark ≤ last l → AnswersFrom mark (left l x.region) x.loaded x.body x.answer → MayRecord bounds i l (Took x)
   may_take_from mark x own inside allowed holds was run covers upto answers = may_take x own inside allowed holds was (mark_admitted mark (left l x.region) x.loaded (last l) x.body x.answer covers upto (was_last_upto bounds l run x.loaded was) (floor_upto bounds l run x.body allowed) answers)
-
-  -- or above what was read in the region
-  pub may_take_least : (x : Taken) → x.region ≡ i → i ≤ length bounds → Allowed l x.body → Holds bounds x.region x.body → WasLast l x.loaded → IsWorldRun bounds l → AnswersLeast (left l x.region) x.loaded x.body x.answer → MayRecord bounds i l (Took x)
-  may_take_least x own inside allowed holds was run answers = may_take x own inside allowed holds was (least_admitted (left l x.region) x.loaded (last l) x.body x.answer (left_upto bounds l run x.region).read (was_last_upto bounds l run x.loaded was) (floor_upto bounds l run x.body allowed) answers)
 
   -- a session begins at a number that it drew, and that did not begin yet
   pub may_begin : (t : ℕ) → drawer l t ≡ Some i → began l t ≡ false → MayRecord bounds i l (Began t)

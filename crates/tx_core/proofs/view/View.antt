@@ -120,9 +120,9 @@ pub record Marks (last : ℕ) (reads : List Reading) (floor safe collected : Key
   pub known : (k : Key) (r : ℕ) → IsRead reads k r → r ≤ floor k
   pub low : (k : Key) → collected k ≤ safe k
 
--- An accepted lock does what was declared. Its minimum lies above the start, and its bound is at least that and at most one above the
--- last number then. Where its transaction was declared two-phase, it is so too; it lies above the number that was drawn for the
--- declaration.
+-- An accepted lock does what was declared. Its minimum lies above the start, and its bound is at
+-- least that and at most one above the last number then. Where its transaction was declared
+-- two-phase, it is so too; it lies above the number that was drawn for the declaration.
 pub record IsAccepted (last : ℕ) (declared : ℕ → Option Declaration) (t : ℕ) (k : Key) (by : Acceptance) : Type 0 where
   pub does : Does declared t k by.lock.mutation
   pub above : t < by.lock.min
@@ -141,7 +141,8 @@ pub record IsLock (declared : ℕ → Option Declaration) (accepted : ℕ → Ke
   pub min : is_first (set_of (declared lock.start)) k ≡ false → (by : Acceptance) → accepted lock.start k ≡ Some by → lock.min ≡ by.lock.min
   pub shows : IsPrimary declared lock.start k → lock.min ≡ shown lock.start
 
--- each put that is committed at most at r is followed by a later change at most at r: a read there would see no value
+-- each put that is committed at most at r is followed by a later change at most at r: a read there
+-- would see no value
 abbrev pub HasNoValue : (ℕ → Option Declaration) → (ℕ → State) → Key → ℕ → Type 0
 HasNoValue declared decided k r = (u d : ℕ) (v : Value) → IsCommitted decided u d → Does declared u k (Put v) → d ≤ r → Later decided declared k d r
 

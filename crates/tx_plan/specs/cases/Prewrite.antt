@@ -14,11 +14,13 @@ use Rattle.tx_plan.specs.Cells.{Lock, CommitRecord, CommitOf, Writes, Cells, inf
 use Rattle.tx_plan.specs.Own.{OwnLock, OwnCommit, OwnRollback}
 use Rattle.tx_plan.specs.Reads.{Finds}
 
--- the least minimum of an async lock: above each read of the region, above the start, and not below the floor that the prewrite carries
+-- the least minimum of an async lock: above the mark, which is the greatest timestamp read, above
+-- the start, and not below the floor that the prewrite carries
 abbrev pub least_minimum : ℕ → Prewrite → ℕ
-least_minimum max_read b = max (max max_read b.start + 1) b.floor
+least_minimum mark b = max (max mark b.start + 1) b.floor
 
--- the minimums that an async lock may have: from the least up to one above the last number drawn
+-- the minimums that an async lock may have: from the least above the region's reads up to one above
+-- the last number drawn
 abbrev pub MayPromise : ℕ → ℕ → Prewrite → ℕ → Type 0
 MayPromise max_read top b m = (least_minimum max_read b ≤ m) × (m ≤ top + 1)
 
@@ -50,11 +52,12 @@ pub record NewestAbove (write : Writes) (t start c : ℕ) : Type 0 where
 abbrev pub HasValue : Writes → ℕ → Type 0
 HasValue write t = (v : Value) × Finds write t v
 
--- A start below the safe point or above the last number loaded is refused. What stands of the transaction itself is told. Another's
--- lock, or a commit record above the start, is in the way. An insert is refused where there is a value: no commit record is left above
--- the start then, so it is the newest. Else the key is locked: an async lock promises a minimum, and where the
--- transaction's greatest commit timestamp does not allow it, the lock is a two-phase one, as it is where two-phase was asked for.
--- `Promise` says which minimums may be given.
+-- A start below the safe point or above the last number loaded is refused. What stands of the
+-- transaction itself is told. Another's lock, or a commit record above the start, is in the way. An
+-- insert is refused where there is a value: no commit record stands above the start then, so it is
+-- the key's newest. Else the key is locked: an async lock promises a minimum, and where the
+-- transaction's greatest commit timestamp does not allow it, the lock is a two-phase one, as it is
+-- where two-phase was asked for. `Promise` says which minimums may be given.
 abbrev pub AnswersPrewrite : Cells → ℕ → ℕ → (ℕ → Type 0) → Prewrite → Answer → Type 0
 AnswersPrewrite cells safe loaded Promise b a =
     Case (b.start < safe) (a ≡ BelowSafePoint safe)
@@ -98,8 +101,8 @@ check_by (mutation.Insert v) t = Some t
 check_by mutation.Delete t = None
 check_by mutation.Lock t = None
 
--- The timestamp that a prewrite reads at: where its check was made, which is where a value stood in the way, and where its lock was put.
--- A lock that stood before was checked then.
+-- The timestamp that a prewrite reads at: where its check was made, which is where a value stood in
+-- the way, and where its lock was put. A lock that stood before was checked then.
 abbrev pub read_by_prewrite : Answer → Option Lock → Prewrite → Option ℕ
 read_by_prewrite AlreadyExists lock b = check_by b.mutation b.start
 read_by_prewrite (Prewritten m) None b = check_by b.mutation b.start

@@ -17,25 +17,27 @@ use crate::planned::{Planned, PlannedAnswer};
 use crate::view::{LockHead, TxnView};
 use tx_types::{Mode, Mutation, Ts};
 
-/// The answer to a Prewrite that sees this of its key, on which a read at its start finds a value or not (only an insert
-/// asks for that), in a region with this safe point, whose seat loaded `loaded` and
-/// in which nothing above `max_read` was read, and the lock that is put. An async lock promises the least minimum, which
-/// lies above each read and not below the floor; where the transaction's greatest commit timestamp does not allow that, the lock is a two-phase
-/// one. `BelowSafePoint` and `FutureTimestamp` where the start lies below `safe` or above `loaded`; `AlreadyRolledBack`
-/// and `AlreadyCommitted` where the transaction's own record is there and its lock is not; `KeyIsLocked` by another's
-/// lock; `WriteConflict`, with the newest commit record, where there is one above the start; `AlreadyExists` where an
-/// insert finds a value. An insert reads at its start.
+/// The answer to a Prewrite that sees this of its key, on which a read at its start finds a value
+/// or not (only an insert asks for that), in a region with this safe point, whose seat loaded
+/// `loaded`, and the lock that is put. An async lock promises the least minimum, which lies above
+/// `mark`, the greatest timestamp that was read in any region, and not below the floor; where the
+/// transaction's greatest commit timestamp does not allow that, the lock is a two-phase one.
+/// `BelowSafePoint` and `FutureTimestamp` where the start lies below `safe` or above `loaded`;
+/// `AlreadyRolledBack` and `AlreadyCommitted` where the transaction's own record is there and its
+/// lock is not; `KeyIsLocked` by another's lock; `WriteConflict`, with the newest commit record,
+/// where there is one above the start; `AlreadyExists` where an insert finds a value. An insert
+/// reads at its start: where it finds a value, and where its lock is put.
 pub fn plan_prewrite(
     view: &TxnView,
     has_value: bool,
     safe: Ts,
     loaded: Ts,
-    max_read: Ts,
+    mark: Ts,
     body: &Prewrite,
 ) -> Planned
     requires room { loaded < u64.MAX }
-    requires above { max_read < u64.MAX }
-    ensures answers { (cells : Cells) (commit : ℕ) → Shows cells body.now.start commit view.now → (IsInsert body.now.mutation → IsTrue has_value ↔ HasValue cells.write body.now.start) → AnswersPrewrite cells safe loaded (λ m. m ≡ least_minimum max_read body.now) body.now (answer_with (info_on cells body.now.key) result.answer) }
+    requires above { mark < u64.MAX }
+    ensures answers { (cells : Cells) (commit : ℕ) → Shows cells body.now.start commit view.now → (IsInsert body.now.mutation → IsTrue has_value ↔ HasValue cells.write body.now.start) → AnswersPrewrite cells safe loaded (λ m. m ≡ least_minimum mark body.now) body.now (answer_with (info_on cells body.now.key) result.answer) }
     ensures leaves { (cells : Cells) (commit : ℕ) → Shows cells body.now.start commit view.now → after_put cells body.now (new_lock result.change) ≡ leaves_prewrite cells body.now (answer_with (info_on cells body.now.key) result.answer) }
     ensures applies { (cells : Cells) (commit : ℕ) → Shows cells body.now.start commit view.now → IfSome (new_lock result.change) (λ new. CanPut cells body.now new) }
     ensures read { (cells : Cells) (commit : ℕ) → Shows cells body.now.start commit view.now → result.read ≡ read_by_prewrite (answer_with (info_on cells body.now.key) result.answer) cells.lock body.now }
@@ -71,7 +73,7 @@ pub fn plan_prewrite(
             read: Some(body.start),
         };
     }
-    lock_key(max_read, body)
+    lock_key(mark, body)
 }
 
 // Whether an insert finds a value.
@@ -105,15 +107,15 @@ fn named_minimum(lock: &LockHead) -> Ts
 }
 
 // The answer of a free key, and the lock that is put.
-fn lock_key(max_read: Ts, body: &Prewrite) -> Planned
+fn lock_key(mark: Ts, body: &Prewrite) -> Planned
     requires room { body.now.start < u64.MAX }
-    requires above { max_read < u64.MAX }
-    ensures answers { (info : Option LockInfo) → AnswersLock (λ m. m ≡ least_minimum max_read body.now) body.now (answer_with info result.answer) }
+    requires above { mark < u64.MAX }
+    ensures answers { (info : Option LockInfo) → AnswersLock (λ m. m ≡ least_minimum mark body.now) body.now (answer_with info result.answer) }
     ensures leaves { (cells : Cells) → cells.lock ≡ None → after_put cells body.now (new_lock result.change) ≡ leaves_prewrite cells body.now (answer_with (info_on cells body.now.key) result.answer) }
     ensures minimum { IfSome (new_lock result.change) (λ new. body.now.start < new.min) }
     ensures read { (cells : Cells) → cells.lock ≡ None → result.read ≡ read_by_prewrite (answer_with (info_on cells body.now.key) result.answer) cells.lock body.now }
 {
-    let above = max_read.get().max(body.start.get()) + 1;
+    let above = mark.get().max(body.start.get()) + 1;
     let min = Ts::new(above.max(body.floor.get()));
     if body.mode == Mode::Async && is_within(body.max_commit, min) {
         return Planned {

@@ -9,8 +9,8 @@ use tx_plan::Body;
 use tx_types::{Fault, Ts};
 
 impl<F: Families> Records<F> {
-    /// Answers a request of any command, by a seat that loaded `loaded`, with minimums above `mark`. `OutOfMemory` leaves the region as it was; a
-    /// RaiseSafe takes no memory.
+    /// Answers a request of any command, by a seat that loaded `loaded`, with minimums above
+    /// `mark`. `OutOfMemory` leaves the region as it was; a RaiseSafe takes no memory.
     pub fn answer(&mut self, loaded: Ts, mark: Ts, body: &Body) -> Result<Executed, Fault>
         requires room { (loaded < u64.MAX) × (mark < u64.MAX) }
         ensures ok { IfOk result (λ r. Executes mark (region_of F.content self.old) loaded body.now r.answer r.read (region_of F.content self.new)) }

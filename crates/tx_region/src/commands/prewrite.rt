@@ -14,7 +14,8 @@ use tx_plan::{KeyChange, Planned, Prewrite, plan_prewrite};
 use tx_types::{Fault, Key, Mutation, Ts};
 
 impl<F: Families> Records<F> {
-    /// Answers a Prewrite, by a seat that loaded `loaded`: an async lock's minimum lies above `mark`. `OutOfMemory` leaves the region as it was.
+    /// Answers a Prewrite, by a seat that loaded `loaded`: an async lock's minimum lies above
+    /// `mark`. `OutOfMemory` leaves the region as it was.
     #[inline(never)]
     pub fn prewrite(&mut self, loaded: Ts, mark: Ts, body: &Prewrite) -> Result<Executed, Fault>
         requires room { (loaded < u64.MAX) × (mark < u64.MAX) }
