@@ -16,7 +16,7 @@ use Rattle.tx_client.specs.declared.resolved.Status.TheVariants as status
 use Rattle.tx_client.specs.declared.resolved.WaitCause.{WaitCause}
 use Rattle.tx_client.specs.declared.resolved.WaitCause.TheVariants as wait
 use Rattle.tx_lines.specs.declared.reply.Reply.{Reply}
-use Rattle.tx_lines.specs.declared.reply.Reply.TheVariants.{Regions, Start, Fine, Done, Drawn, Ended, Answered, Lost, Last, Status, Versions, Collected, OracleSpent, OutOfMemory, KeyLength, ValueLength, TooManyKeys}
+use Rattle.tx_lines.specs.declared.reply.Reply.TheVariants.{Regions, Start, Fine, Done, Drawn, Ended, Answered, Lost, Last, Status, Versions, Collected, OracleSpent, OutOfMemory, KeyLength, ValueLength, TooManyKeys, AlreadyExists}
 use Rattle.tx_lines.specs.Texts.{line_text, text_of}
 use Rattle.tx_lines.specs.Words.{mode_word}
 use Rattle.tx_lines.specs.Versions.{copy_words}
@@ -118,6 +118,7 @@ reply_words OutOfMemory = alone (codes "E12")
 reply_words KeyLength = alone (codes "E13")
 reply_words ValueLength = alone (codes "E14")
 reply_words TooManyKeys = alone (codes "E15")
+reply_words AlreadyExists = alone (codes "E17")
 
 -- a reply line: the number of its line, and the words
 abbrev pub reply_text : ℕ × Items → List ℕ

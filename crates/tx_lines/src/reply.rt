@@ -43,6 +43,8 @@ pub enum Reply {
     KeyLength,
     ValueLength,
     TooManyKeys,
+    /// The buffer has a value of the key that is to be inserted.
+    AlreadyExists,
 }
 
 #[tactic(auto, unfolding(json::specs::Print::escape_byte))]
@@ -106,6 +108,7 @@ fn put_words(out: &mut Vec<u8>, reply: &Reply) -> Result<(), AllocError>
         Reply::KeyLength => out.extend_from_slice(b",\"E13\""),
         Reply::ValueLength => out.extend_from_slice(b",\"E14\""),
         Reply::TooManyKeys => out.extend_from_slice(b",\"E15\""),
+        Reply::AlreadyExists => out.extend_from_slice(b",\"E17\""),
     }
 }
 

@@ -10,7 +10,7 @@ use Rattle.tx_steps.specs.declared.program.Program.{Program}
 use Rattle.tx_steps.specs.declared.transfer.TheConstants.{MAX_AMOUNT}
 use Rattle.tx_steps.specs.declared.word.Word.{Word}
 use Rattle.tx_steps.specs.declared.word.Word.TheVariants as word
-use Rattle.tx_steps.specs.Steps.{Sent, Asked, Act, last_of, one_text, one_number, text_in, number_in, within, way_said, way_word, sends_said, get_said, range_said, scan_said, heartbeat_said, put_said, mode_said, max_said, declare_said, act_said, read_said, tick_said, seed_said, moved_said, transfer_said, acts_said, said, word_said, any_said, step_said}
+use Rattle.tx_steps.specs.Steps.{Sent, Asked, Act, last_of, one_text, one_number, text_in, number_in, within, way_said, way_word, sends_said, get_said, range_said, scan_said, heartbeat_said, put_said, insert_said, mode_said, max_said, declare_said, act_said, read_said, tick_said, seed_said, moved_said, transfer_said, acts_said, said, word_said, any_said, step_said}
 use Rattle.tx_steps.specs.Steps as steps
 use Rattle.tx_steps.specs.Lines.{step_in, bounds_in}
 use Rattle.tx_steps.specs.Bounds.{after_regions, list_said, bounds_said}
@@ -112,11 +112,15 @@ scan_more a b c d e g h r = text_then _ a _ (λ s. range_then _ b c d _ (λ x. a
 put_more : (a b c : Data) (r : Items) → put_said (item a (item b (item c r))) ≡ None
 put_more a b c r = text_then _ a _ (λ k. ap (option_map (steps.put k)) (one_text_more b c r))
 
+insert_more : (a b c : Data) (r : Items) → insert_said (item a (item b (item c r))) ≡ None
+insert_more a b c r = text_then _ a _ (λ k. ap (option_map (steps.insert k)) (one_text_more b c r))
+
 declare_more : (a b c d : Data) (r : Items) → declare_said (item a (item b (item c (item d r)))) ≡ None
 declare_more a b c d r = text_then _ a _ (λ w. none_of _ (mode_said w) (λ m. within_then 0 MAX_TTL _ b _ (λ n. ap (option_map (steps.declare m n)) (max_more m c d r))))
 
 act_more : (x : Word) (a b c d : Data) (r : Items) → act_said x (item a (item b (item c (item d r)))) ≡ None
 act_more word.Put a b c d r = put_more a b c (item d r)
+act_more word.Insert a b c d r = insert_more a b c (item d r)
 act_more word.Delete a b c d r = ap (option_map steps.delete) (one_text_more a b (item c (item d r)))
 act_more word.Lock a b c d r = ap (option_map steps.lock) (one_text_more a b (item c (item d r)))
 act_more word.Declare a b c d r = declare_more a b c d r
@@ -162,6 +166,7 @@ said_more word.Gc a b c d e g h r = ap (option_map steps.gc) (one_number_more a 
 said_more word.Seed a b c d e g h r = seed_more a b c _
 said_more word.Transfer a b c d e g h r = transfer_more a b c d e g _
 said_more word.Put a b c d e g h r = acts_more word.Put a b c d e _
+said_more word.Insert a b c d e g h r = acts_more word.Insert a b c d e _
 said_more word.Delete a b c d e g h r = acts_more word.Delete a b c d e _
 said_more word.Lock a b c d e g h r = acts_more word.Lock a b c d e _
 said_more word.Declare a b c d e g h r = acts_more word.Declare a b c d e _

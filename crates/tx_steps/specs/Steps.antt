@@ -42,6 +42,7 @@ pub data Sent : Type 0 where
 -- what a session does by itself
 pub data Act : Type 0 where
   put : (key value : List ℕ) → Act
+  insert : (key value : List ℕ) → Act
   delete : (key : List ℕ) → Act
   lock : (key : List ℕ) → Act
   declare : (mode : Mode) (ttl : ℕ) (max_commit : Option ℕ) → Act
@@ -88,6 +89,7 @@ sent (request.Heartbeat ttl) = heartbeat ttl
 
 abbrev pub acted : Action → Act
 acted (action.Put key value) = put key.now value.now
+acted (action.Insert key value) = insert key.now value.now
 acted (action.Delete key) = delete key.now
 acted (action.Lock key) = lock key.now
 acted (action.Declare mode ttl max_commit) = declare mode ttl max_commit
@@ -181,6 +183,10 @@ heartbeat_said ds = option_and_then (λ s. option_and_then (λ n. option_map (se
 abbrev pub put_said : Items → Option Act
 put_said ds = option_and_then (λ k. option_map (put k.0) (one_text k.1)) (text_in ds)
 
+-- `key,value`
+abbrev pub insert_said : Items → Option Act
+insert_said ds = option_and_then (λ k. option_map (insert k.0) (one_text k.1)) (text_in ds)
+
 -- a mode's word
 abbrev pub mode_said : List ℕ → Option Mode
 mode_said w = if bytes_eq w (codes "two-phase") then Some TwoPhase else (if bytes_eq w (codes "async") then Some Async else None)
@@ -198,6 +204,7 @@ declare_said ds = option_and_then (λ w. option_and_then (λ m. option_and_then 
 -- what a session does by itself, by its word
 abbrev pub act_said : Word → Items → Option Act
 act_said word.Put ds = put_said ds
+act_said word.Insert ds = insert_said ds
 act_said word.Delete ds = option_map delete (one_text ds)
 act_said word.Lock ds = option_map lock (one_text ds)
 act_said word.Declare ds = declare_said ds
@@ -272,7 +279,8 @@ session_word w = if bytes_eq w (codes "delete") then Some word.Delete
     else (if bytes_eq w (codes "abort") then Some word.Abort
     else (if bytes_eq w (codes "heartbeat") then Some word.Heartbeat
     else (if bytes_eq w (codes "stop") then Some word.Stop
-    else (if bytes_eq w (codes "resolve") then Some word.Resolve else None))))))
+    else (if bytes_eq w (codes "resolve") then Some word.Resolve
+    else (if bytes_eq w (codes "insert") then Some word.Insert else None)))))))
 
 -- the words of no session
 abbrev pub world_word : List ℕ → Option Word

@@ -1,7 +1,7 @@
 //! What a session does by itself.
 ghost use Rattle.std.specs.Prelude.{◌≡◌, option_map};
 ghost use Rattle.tx_lines.specs.Parts.{parts_items};
-ghost use Rattle.tx_steps.specs.Steps.{acted, act_said, put_said, mode_said, max_said, declare_said, last_of};
+ghost use Rattle.tx_steps.specs.Steps.{acted, act_said, put_said, insert_said, mode_said, max_said, declare_said, last_of};
 
 use crate::members::{last_number, last_text, none_left, text, within};
 use crate::word::Word;
@@ -14,6 +14,8 @@ use tx_types::limits::MAX_TTL;
 pub enum Action<'a> {
     /// A put of a key and its value enters the buffer.
     Put(&'a str, &'a str),
+    /// An insert of a key and its value enters it, unless it puts or inserts the key already.
+    Insert(&'a str, &'a str),
     /// A delete of a key enters it.
     Delete(&'a str),
     /// A lock of a key enters it.
@@ -33,6 +35,13 @@ fn put<'a>(members: &[Part<'a>]) -> Option<Action<'a>>
 {
     let (key, rest) = text(members)?;
     Some(Action::Put(key, last_text(rest)?))
+}
+
+fn insert<'a>(members: &[Part<'a>]) -> Option<Action<'a>>
+    ensures { option_map acted result ≡ insert_said (parts_items members.now) }
+{
+    let (key, rest) = text(members)?;
+    Some(Action::Insert(key, last_text(rest)?))
 }
 
 pub(crate) fn mode_of(word: &str) -> Option<Mode>
@@ -87,6 +96,7 @@ pub(crate) fn action_of<'a>(word: Word, members: &[Part<'a>]) -> Option<Action<'
 {
     match word {
         Word::Put => put(members),
+        Word::Insert => insert(members),
         Word::Delete => Some(Action::Delete(last_text(members)?)),
         Word::Lock => Some(Action::Lock(last_text(members)?)),
         Word::Declare => declare(members),

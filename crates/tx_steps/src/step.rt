@@ -161,6 +161,7 @@ fn said_by<'a>(word: Word, members: &[Part<'a>], place: &mut Step<'a>) -> Option
         Word::Declare => acts(Word::Declare, members, place),
         Word::Draw => acts(Word::Draw, members, place),
         Word::Finish => acts(Word::Finish, members, place),
+        Word::Insert => acts_seldom(Word::Insert, members, place),
         Word::Delete => acts_seldom(Word::Delete, members, place),
         Word::Lock => acts_seldom(Word::Lock, members, place),
         Word::Stop => acts_seldom(Word::Stop, members, place),

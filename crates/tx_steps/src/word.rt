@@ -7,6 +7,7 @@ ghost use Rattle.tx_steps.specs.Steps.{life_word as life_in, session_word as ses
 pub(crate) enum Word {
     Begin,
     Put,
+    Insert,
     Delete,
     Lock,
     Get,
@@ -80,6 +81,8 @@ fn session_word(text: &str) -> Option<Word>
         Some(Word::Stop)
     } else if is(text, "resolve") {
         Some(Word::Resolve)
+    } else if is(text, "insert") {
+        Some(Word::Insert)
     } else {
         None
     }
