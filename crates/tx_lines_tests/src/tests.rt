@@ -32,6 +32,14 @@ fn replies_without_lists(rt: HostRuntime) {
     assert!(rt; says(&rt, 3, &Reply::OracleSpent, "[3,\"E11\"]\n"));
 }
 
+// A session refuses an insert over its own buffer, and a region one over a value: both print alone.
+#[test]
+fn refused_inserts(rt: HostRuntime) {
+    assert!(rt; says(&rt, 18, &Reply::AlreadyExists, "[18,\"E17\"]\n"));
+    let refused = Reply::Answered(Answer::AlreadyExists);
+    assert!(rt; says(&rt, 10, &refused, "[10,\"E17\"]\n"));
+}
+
 #[test]
 fn statuses(rt: HostRuntime) {
     for (status, line) in [
@@ -240,6 +248,8 @@ fn declared(rt: &HostRuntime) -> Result<Step, Fault> {
     let mut changes = Changes::new(rt.alloc());
     let put = Mutation::Put(Value::new(rt.alloc(), b"x")?);
     changes.push(change(rt, b"a", put)?)?;
+    let insert = Mutation::Insert(Value::new(rt.alloc(), b"")?);
+    changes.push(change(rt, b"d", insert)?)?;
     changes.push(change(rt, b"b", Mutation::Delete)?)?;
     changes.push(change(rt, b"c", Mutation::Lock)?)?;
     Ok(Step::Declare(Ts::new(1), changes))
@@ -274,7 +284,8 @@ fn says_made(rt: &HostRuntime, step: Result<Step, Fault>, line: &str) -> bool {
 
 #[test]
 fn steps(rt: HostRuntime) {
-    let declare = "[\"declare\",1,[[\"a\",\"put\",\"x\"],[\"b\",\"delete\"],[\"c\",\"lock\"]]]\n";
+    let declare =
+        "[\"declare\",1,[[\"a\",\"put\",\"x\"],[\"d\",\"insert\",\"\"],[\"b\",\"delete\"],[\"c\",\"lock\"]]]\n";
     assert!(rt; says_made(&rt, declared(&rt), declare));
     let scan = "[\"scan\",4,\"a\",\"m\",9,[[\"a\",\"x\"]]]\n";
     assert!(rt; says_made(&rt, scanned(&rt), scan));

@@ -6,9 +6,11 @@ use tx_steps::{Line, Program};
 use tx_types::{Cause, Key};
 
 // Steps of simulations.
-static STEPS: [&str; 43] = [
+static STEPS: [&str; 45] = [
     r#"["begin","A"]"#,
     r#"["put","A","a","x"]"#,
+    r#"["insert","A","a","x"]"#,
+    r#"["insert","B","b",""]"#,
     r#"["delete","B","a"]"#,
     r#"["lock","A","a"]"#,
     r#"["get","B","a"]"#,
@@ -53,7 +55,7 @@ static STEPS: [&str; 43] = [
 ];
 
 // JSON values that are no steps of simulations.
-static NO_STEPS: [&str; 32] = [
+static NO_STEPS: [&str; 38] = [
     "{}",
     "[]",
     "7",
@@ -67,7 +69,13 @@ static NO_STEPS: [&str; 32] = [
     r#"["begin",1]"#,
     r#"["begin","A","B"]"#,
     r#"["Begin","A"]"#,
-    r#"["insert","A","a","x"]"#,
+    r#"["Insert","A","a","x"]"#,
+    r#"["inserts","A","a","x"]"#,
+    r#"["insert","A","a"]"#,
+    r#"["insert","A","a",1]"#,
+    r#"["insert","A","a","x","y"]"#,
+    r#"["insert","A","a","x","lose"]"#,
+    r#"["insert","A","a","x","y","z","u","v"]"#,
     r#"["seed","a","1"]"#,
     r#"["transfer","S","a","b",1,"async"]"#,
     r#"["put","A","a"]"#,
@@ -89,7 +97,7 @@ static NO_STEPS: [&str; 32] = [
 ];
 
 // Steps of runs: whether simulations have them too.
-static RUNS: [(&str, bool); 17] = [
+static RUNS: [(&str, bool); 18] = [
     (r#"["seed","a","1"]"#, false),
     (r#"["transfer","S","a","b",1,"async"]"#, false),
     (
@@ -98,6 +106,7 @@ static RUNS: [(&str, bool); 17] = [
     ),
     (r#"["begin","A"]"#, true),
     (r#"["put","A","a","x"]"#, true),
+    (r#"["insert","A","a","x"]"#, true),
     (r#"["delete","A","a"]"#, true),
     (r#"["lock","A","a"]"#, true),
     (r#"["get","A","a"]"#, true),
@@ -113,7 +122,8 @@ static RUNS: [(&str, bool); 17] = [
 ];
 
 // JSON values that are no steps of runs.
-static NO_RUNS: [&str; 14] = [
+static NO_RUNS: [&str; 15] = [
+    r#"["insert","A","a"]"#,
     r#"["get","A","a","lose"]"#,
     r#"["prewrite","A","hold","h"]"#,
     r#"["deliver","h"]"#,
