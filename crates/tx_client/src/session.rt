@@ -1,5 +1,5 @@
 //! Sessions: one transaction each, run over a way to the regions.
-ghost use Rattle.std.specs.Prelude.{◌≡◌, ℕ, ◌<◌, ◌⊎◌, is_some, length, true, false, Some, IfOk, IfErr, IfSome, OnOk, OnErr};
+ghost use Rattle.std.specs.Prelude.{◌≡◌, ℕ, ◌<◌, ◌⊎◌, is_some, length, true, false, Some, None, IfOk, IfErr, IfSome, OnOk, OnErr};
 ghost use Rattle.tx_types.specs.declared.fault.Fault.TheVariants as fault;
 ghost use Rattle.tx_core.specs.declared.event.Event.TheVariants.{Began, Declared};
 ghost use Rattle.tx_core.specs.Allowed.{Allowed};
@@ -7,7 +7,7 @@ ghost use Rattle.tx_core.specs.Histories.{History};
 ghost use Rattle.tx_core.specs.Recording.{MayRecord};
 ghost use Rattle.tx_journal.specs.Known.{HasDrawn};
 ghost use Rattle.tx_transaction.specs.declared.state.Phase.TheVariants as phase;
-ghost use Rattle.tx_transaction.specs.Buffers.{touched, put_over, locked, buffered, not_empty, is_full, is_known};
+ghost use Rattle.tx_transaction.specs.Buffers.{touched, put_over, inserted, locked, buffered, not_empty, is_full, is_known};
 ghost use Rattle.tx_transaction.specs.Sessions.{begun, is_declared, has_primary, declaration, declaration_of, exceeds, due_prewrite, due_commit, due_abort, can_draw, can_commit, can_abort};
 ghost use Rattle.tx_client.specs.Senders.{IsHeld, IsWay};
 ghost use Rattle.tx_client.specs.Walks.{Sends, due_walk, heartbeat_walk};
@@ -221,6 +221,18 @@ impl<J: Naming> Session<J> {
         ensures err { IfErr result (λ e. (e ≡ fault.OutOfMemory) ⊎ ((e ≡ fault.TooManyKeys) × (is_full self.old.state.buffer key ≡ true))) }
     {
         self.transaction.put(key, value)
+    }
+
+    /// Enters an insert into the buffer, and over a delete a put. A key that is there keeps its
+    /// place. `AlreadyExists` where the buffer has a put or an insert of the key. A refusal leaves
+    /// the session as it was.
+    pub fn insert(&mut self, key: Key, value: Value) -> Result<(), Fault>
+        requires { is_declared self.old.state ≡ false }
+        ensures ok { OnOk result ((is_full self.old.state.buffer key ≡ false) × (inserted self.old.state.buffer key value ≡ Some self.new.state.buffer) × (self.new ≡ seated (record self.old.state { buffer = self.new.state.buffer }) self.old.seat)) }
+        ensures same { OnErr result (self.new ≡ self.old) }
+        ensures err { IfErr result (λ e. ((e ≡ fault.OutOfMemory) × (is_some (inserted self.old.state.buffer key value) ≡ true)) ⊎ ((e ≡ fault.TooManyKeys) × (is_full self.old.state.buffer key ≡ true)) ⊎ ((e ≡ fault.AlreadyExists) × (inserted self.old.state.buffer key value ≡ None))) }
+    {
+        self.transaction.insert(key, value)
     }
 
     /// Enters a delete into the buffer. A key that is there keeps its place. A refusal leaves the session as it was.

@@ -1,6 +1,6 @@
 -- A session's write buffer: its keys in the order in which they were first touched, each with what is done to it, and what was sent and
 -- answered for it.
-use Rattle.std.specs.Prelude.{ℕ, ◌+◌, zero, suc, max, nat_lt, ◌||◌, ◌&&◌, Bool, true, false, not, cond, List, [], ◌∷◌, length, Option, Some, None, is_some, bytes_eq}
+use Rattle.std.specs.Prelude.{ℕ, ◌+◌, zero, suc, max, nat_lt, ◌||◌, ◌&&◌, Bool, true, false, not, cond, List, [], ◌∷◌, length, Option, Some, None, is_some, option_map, bytes_eq}
 use Rattle.indexmap.specs.IndexMap.{insert_entry}
 use Rattle.tx_types.specs.declared.limits.TheConstants.{MAX_KEYS}
 use Rattle.tx_types.specs.declared.key.Key.{Key}
@@ -46,9 +46,22 @@ abbrev pub put_over : Option Mutation → Value → Mutation
 put_over (Some (mutation.Insert w)) v = mutation.Insert v
 put_over _ v = mutation.Put v
 
+-- what an insert enters: an insert, and over a delete a put; nothing over a put or an insert, where
+-- the key has a value
+abbrev pub insert_over : Option Mutation → Value → Option Mutation
+insert_over None v = Some (mutation.Insert v)
+insert_over (Some mutation.Lock) v = Some (mutation.Insert v)
+insert_over (Some mutation.Delete) v = Some (mutation.Put v)
+insert_over (Some (mutation.Put w)) v = None
+insert_over (Some (mutation.Insert w)) v = None
+
 -- the buffer after a put, an insert or a delete: a key that is there keeps its place
 abbrev pub touched : Entries → Key → Mutation → Entries
 touched es k m = insert_entry bytes_eq es k (fresh m)
+
+-- the buffer after an insert; none where the key has a value there
+abbrev pub inserted : Entries → Key → Value → Option Entries
+inserted es k v = option_map (touched es k) (insert_over (buffered es k) v)
 
 -- the buffer after a lock: a mutation that is there stays
 abbrev pub locked : Entries → Key → Entries

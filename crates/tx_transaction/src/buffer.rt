@@ -2,7 +2,7 @@
 ghost use Rattle.std.specs.Prelude.{◌≡◌, ◌<◌, ◌≤◌, length, IfOk, IfErr, IfSome, OnOk, OnErr, max, option_map, bytes_eq};
 ghost use Rattle.tx_machine.specs.Keys.{IsDistinct};
 ghost use Rattle.tx_types.specs.declared.mutation.Mode.TheVariants.{Async};
-ghost use Rattle.tx_transaction.specs.Buffers.{key_at, mutation_in, progress_at, with_progress, first_place, wants, is_full, is_change, is_known, not_empty, changes_of, touched, buffered, put_over, has_two_phase_lock, async_minimum, promised, is_zero};
+ghost use Rattle.tx_transaction.specs.Buffers.{key_at, mutation_in, progress_at, with_progress, first_place, wants, is_full, is_change, is_known, not_empty, changes_of, touched, buffered, put_over, insert_over, has_two_phase_lock, async_minimum, promised, is_zero};
 ghost use Rattle.tx_transaction.specs.Sessions.{others_at, sent_by, marked_by};
 
 use crate::answers::{mark, mark_sent};
@@ -55,6 +55,18 @@ pub(crate) fn put_over(buffer: &Buffer, key: &Key, value: Value) -> Mutation
     match find(buffer, key) {
         Some(Mutation::Insert(_)) => Mutation::Insert(value),
         _ => Mutation::Put(value),
+    }
+}
+
+/// What an insert of a key enters: an insert, and over a delete a put; nothing over a put or an
+/// insert.
+pub(crate) fn insert_over(buffer: &Buffer, key: &Key, value: Value) -> Option<Mutation>
+    ensures { result ≡ insert_over (buffered buffer.now.entries key.now) value }
+{
+    match find(buffer, key) {
+        None | Some(Mutation::Lock) => Some(Mutation::Insert(value)),
+        Some(Mutation::Delete) => Some(Mutation::Put(value)),
+        Some(Mutation::Put(_) | Mutation::Insert(_)) => None,
     }
 }
 

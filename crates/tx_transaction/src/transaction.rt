@@ -1,6 +1,6 @@
 //! One transaction, as its client knows it: the rules of a session, without its seat.
-ghost use Rattle.std.specs.Prelude.{◌≡◌, ◌<◌, ◌⊎◌, true, false, Ok, Err, IfOk, IfErr, OnOk, OnErr};
-ghost use Rattle.tx_transaction.specs.Buffers.{touched, put_over, locked, buffered, is_full, is_known, not_empty};
+ghost use Rattle.std.specs.Prelude.{◌≡◌, ◌<◌, ◌⊎◌, true, false, Some, None, is_some, Ok, Err, IfOk, IfErr, OnOk, OnErr};
+ghost use Rattle.tx_transaction.specs.Buffers.{touched, put_over, inserted, locked, buffered, is_full, is_known, not_empty};
 ghost use Rattle.tx_transaction.specs.Sessions.{begun, is_declared, has_primary, declaration, exceeds};
 ghost use Rattle.tx_transaction.specs.declared.state.Miss.TheVariants.{NoMemory};
 ghost use Rattle.tx_transaction.specs.Returns.{IsBuffered};
@@ -9,7 +9,9 @@ mod fate;
 mod hearing;
 mod requests;
 
-use crate::buffer::{Buffer, changes_in, find, has_keys, is_full, is_known, put_over, touch};
+use crate::buffer::{
+    Buffer, changes_in, find, has_keys, insert_over, is_full, is_known, put_over, touch,
+};
 use crate::state::{Miss, Terms};
 use indexmap::IndexMap;
 use std::alloc::Global;
@@ -133,6 +135,20 @@ impl Transaction {
         ensures err { IfErr result (λ e. (e ≡ Fault.OutOfMemory) ⊎ ((e ≡ Fault.TooManyKeys) × (is_full self.old.buffer key ≡ true))) }
     {
         let mutation = put_over(&self.buffer, &key, value);
+        self.touch(key, mutation)
+    }
+
+    /// Enters an insert of a key into the buffer, and over a delete a put. A key with a value there
+    /// is refused.
+    pub fn insert(&mut self, key: Key, value: Value) -> Result<(), Fault>
+        requires { is_declared self.old ≡ false }
+        ensures ok { OnOk result ((is_full self.old.buffer key ≡ false) × (inserted self.old.buffer key value ≡ Some self.new.buffer) × (self.new ≡ record self.old { buffer = self.new.buffer })) }
+        ensures same { OnErr result (self.new ≡ self.old) }
+        ensures err { IfErr result (λ e. ((e ≡ Fault.OutOfMemory) × (is_some (inserted self.old.buffer key value) ≡ true)) ⊎ ((e ≡ Fault.TooManyKeys) × (is_full self.old.buffer key ≡ true)) ⊎ ((e ≡ Fault.AlreadyExists) × (inserted self.old.buffer key value ≡ None))) }
+    {
+        let Some(mutation) = insert_over(&self.buffer, &key, value) else {
+            return Err(Fault::AlreadyExists);
+        };
         self.touch(key, mutation)
     }
 
