@@ -11,7 +11,7 @@ use std::marker::Brand;
 use std::process::Abort;
 use std::test::Fail;
 use std::thread::{Threads, join, map_vec};
-use tx_core::{Answer, Body, Event, RaiseSafe, RegionNo, Taken};
+use tx_core::{Answer, Body, Event, Get, RaiseSafe, RegionNo, Starts, Taken};
 use tx_journal::{Journal, Naming, Opened, Reply, Request, Seat, Told, Unnamed};
 use tx_types::{Key, Ts};
 
@@ -301,5 +301,56 @@ fn region_replies(rt: HostRuntime) -> Result<(), Fail> {
     let opened = Opened::new(rt.alloc(), bounds, 1)?;
     let seen = reply_to_one::<Brand>(rt.alloc(), opened);
     assert!(rt; matches!(seen, Some((true, _))));
+    Ok(())
+}
+
+// A region that has taken nothing reads a key, of which it has nothing, at the last number drawn.
+fn read<J: Naming>(region: &mut Seat<J>, alloc: Global, key: Key)
+    requires region { (region.old.seat ≡ 0) × (region.old.events ≡ []) }
+    requires one { J.bounds ≡ [] }
+{
+    let loaded = region.last();
+    let number = RegionNo::new(0);
+    let body = Body::Get(Get {
+        key,
+        at: loaded,
+        bypass: Starts::new(alloc),
+    });
+    let event = Event::Took(Taken {
+        region: number,
+        body,
+        loaded,
+        answer: Answer::Nothing,
+    });
+    region.raise_read(&event, loaded);
+    drop(event);
+}
+
+// What the first region and a session load of the greatest timestamp read, before and after the region
+// reads at 3.
+fn read_once<J: Naming>(alloc: Global, opened: Opened, key: Key) -> [u64; 3]
+    requires name { (opened.table ≡ J.table) × (opened.bounds ≡ J.bounds) × (opened.seats ≡ J.seats) }
+    requires two { J.seats ≡ 2 }
+    requires one { J.bounds ≡ [] }
+{
+    let Ok((journal, mut seats)) = opened.named::<J>(alloc) else {
+        return [0; 3];
+    };
+    drop(journal);
+    let mut region = seats.swap_remove(0);
+    let mut session = seats.swap_remove(0);
+    draw(&mut session, 3);
+    let before = session.max_ts().get();
+    read(&mut region, alloc, key);
+    let after = session.max_ts().get();
+    [before, after, region.max_ts().get()]
+}
+
+#[test]
+fn read_raises_the_mark_of_all_seats(rt: HostRuntime) -> Result<(), Fail> {
+    let key = Key::new(rt.alloc(), b"a")?;
+    let opened = Opened::new(rt.alloc(), Vec::new(rt.alloc()), 1)?;
+    let marks = read_once::<Brand>(rt.alloc(), opened, key);
+    assert!(rt; marks == [0, 3, 3]);
     Ok(())
 }

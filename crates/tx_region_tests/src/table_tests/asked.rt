@@ -14,6 +14,8 @@ use tx_types::{Fate, Fault, Key, Mode, Mutation, RegionNo, Secondaries, Ts, Valu
 pub enum What {
     /// Puts a value of so many bytes.
     Put(usize),
+    /// Inserts a value of one byte.
+    Insert,
     Delete,
     Lock,
 }
@@ -94,6 +96,7 @@ fn mutation(alloc: Global, what: What) -> Result<Mutation, Fault> {
             let bytes = [b'x'; 300];
             Ok(Mutation::Put(Value::new(alloc, &bytes[..length.min(300)])?))
         }
+        What::Insert => Ok(Mutation::Insert(Value::new(alloc, b"y")?)),
         What::Delete => Ok(Mutation::Delete),
         What::Lock => Ok(Mutation::Lock),
     }

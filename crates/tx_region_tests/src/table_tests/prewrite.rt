@@ -1,9 +1,9 @@
 //! The rows of Prewrite.
-use crate::table_tests::asked::Ask::{self, Async, Get, Prewrite};
+use crate::table_tests::asked::Ask::{self, Async, BatchRollback, Commit, Get, Prewrite};
 use crate::table_tests::asked::What::*;
-use crate::table_tests::rows::{Row, first_wrong};
+use crate::table_tests::rows::{RegionRow, Row, first_wrong, first_wrong_in_region};
 use crate::table_tests::shown::Word::*;
-use crate::table_tests::shown::{ALREADY_ROLLED_BACK, BARE, FUTURE, Short};
+use crate::table_tests::shown::{ALREADY_ROLLED_BACK, BARE, EXISTS, FUTURE, Short};
 use crate::table_tests::states::*;
 
 // In two phases, and async.
@@ -50,4 +50,45 @@ const ROWS: [Row; 18] = [
 #[test]
 fn rows_of_prewrite(rt: HostRuntime) {
     assert_eq!(rt; first_wrong(rt.alloc(), &ROWS), None);
+}
+
+const INSERT: Ask = Prewrite(b'k', 5, Insert);
+
+// A value from 2 on: short or long, locked since, or deleted at 4 with a rollback at 3.
+const VALUE: &[Ask] = &[Prewrite(b'k', 1, Put(1)), Commit(b'k', 1, 2)];
+
+const LONG_VALUE: &[Ask] = &[Prewrite(b'k', 1, Put(300)), Commit(b'k', 1, 2)];
+
+const LOCKED_SINCE: &[Ask] = &[
+    Prewrite(b'k', 1, Put(1)),
+    Commit(b'k', 1, 2),
+    Prewrite(b'k', 3, Lock),
+    Commit(b'k', 3, 4),
+];
+
+const DELETED: &[Ask] = &[
+    Prewrite(b'k', 1, Put(1)),
+    Commit(b'k', 1, 2),
+    BatchRollback(b'k', 3),
+    Prewrite(b'k', 2, Delete),
+    Commit(b'k', 2, 4),
+];
+
+// An insert reads at its start, 5, where it finds a value, and where its lock is put.
+const INSERTS: [RegionRow; 10] = [
+    (FREE, INSERT, LOCKED, [5, 0, 0]),
+    (READ, INSERT, LOCKED, [11, 0, 0]),
+    (VALUE, INSERT, EXISTS, [5, 0, 0]),
+    (LONG_VALUE, INSERT, EXISTS, [5, 0, 0]),
+    (LOCKED_SINCE, INSERT, EXISTS, [5, 0, 0]),
+    (DELETED, INSERT, LOCKED, [5, 0, 0]),
+    (OWN, INSERT, LOCKED, [0, 0, 0]),
+    (OTHERS, INSERT, (KeyIsLocked, 4, 5), [0, 0, 0]),
+    (NEWER, INSERT, (WriteConflict, 8, 10), [0, 0, 0]),
+    (UNDONE, INSERT, ALREADY_ROLLED_BACK, [0, 0, 0]),
+];
+
+#[test]
+fn rows_of_inserts(rt: HostRuntime) {
+    assert_eq!(rt; first_wrong_in_region(rt.alloc(), &INSERTS), None);
 }

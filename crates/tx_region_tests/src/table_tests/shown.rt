@@ -39,6 +39,7 @@ pub enum Word {
     /// The lock's start and minimum.
     LocksRemain,
     TxnNotFound,
+    AlreadyExists,
 }
 
 /// A word and two numbers.
@@ -60,6 +61,8 @@ pub const ALREADY_ROLLED_BACK: Short = (Word::AlreadyRolledBack, 0, 0);
 pub const LOCK_NOT_FOUND: Short = (Word::TxnLockNotFound, 0, 0);
 
 pub const NOT_FOUND: Short = (Word::TxnNotFound, 0, 0);
+
+pub const EXISTS: Short = (Word::AlreadyExists, 0, 0);
 
 /// Below the last collection.
 pub const BELOW: Short = (Word::BelowSafePoint, 6, 0);
@@ -110,6 +113,7 @@ fn refusal(answer: &Answer) -> Short {
         Answer::BelowSafePoint { safe } => (Word::BelowSafePoint, safe.get(), 0),
         Answer::FutureTimestamp { last } => (Word::FutureTimestamp, last.get(), 0),
         Answer::TxnNotFound => (Word::TxnNotFound, 0, 0),
+        Answer::AlreadyExists => (Word::AlreadyExists, 0, 0),
         _ => (Word::Refused, 0, 0),
     }
 }
