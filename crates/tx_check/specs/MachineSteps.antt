@@ -49,9 +49,10 @@ abbrev pub plain_of : Data → Option Mutation
 plain_of d = option_and_then (λ word. if bytes_eq word (codes "delete") then Some mutation.Delete
     else (if bytes_eq word (codes "lock") then Some mutation.Lock else None)) (as_str d)
 
--- the mutation that takes one
-abbrev pub put_of : Data → Data → Option Mutation
-put_of d value = option_and_then (λ word. if bytes_eq word (codes "put") then option_map mutation.Put (value_of value) else None) (as_str d)
+-- the mutations that take one
+unfoldable pub put_of : Data → Data → Option Mutation
+put_of d value = option_and_then (λ word. if bytes_eq word (codes "put") then option_map mutation.Put (value_of value)
+    else (if bytes_eq word (codes "insert") then option_map mutation.Insert (value_of value) else None)) (as_str d)
 
 -- the change of a key
 abbrev pub change_to : Data → Option Mutation → Option Change
@@ -63,7 +64,7 @@ change_of_items (item key (item word no_items)) = change_to key (plain_of word)
 change_of_items (item key (item word (item value no_items))) = change_to key (put_of word value)
 change_of_items _ = None
 
--- an entry of a write set: `[key,"delete"]`, `[key,"lock"]` or `[key,"put",value]`
+-- an entry of a write set: `[key,"put",value]`, `[key,"insert",value]`, `[key,"delete"]` or `[key,"lock"]`
 abbrev pub change_of : Data → Option Change
 change_of d = option_and_then change_of_items (as_array d)
 

@@ -266,12 +266,16 @@ pub(crate) fn plain(word: &Part<'_>) -> Result<Mutation, Unread>
     }
 }
 
+#[tactic(auto, unfolding(crate::specs::MachineSteps::put_of))]
 pub(crate) fn put(alloc: Global, word: &Part<'_>, value: &Part<'_>) -> Result<Mutation, Unread>
     ensures { MatchResult result (λ m. put_of (part_data word.now) (part_data value.now) ≡ Some m)
         (λ e. e ≡ Unread.Form → put_of (part_data word.now) (part_data value.now) ≡ None) }
 {
-    if text(word)? == "put" {
+    let word = text(word)?;
+    if word == "put" {
         Ok(Mutation::Put(plain_value(alloc, value)?))
+    } else if word == "insert" {
+        Ok(Mutation::Insert(plain_value(alloc, value)?))
     } else {
         Err(Unread::Form)
     }

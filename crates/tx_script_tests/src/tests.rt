@@ -42,7 +42,7 @@ fn commit_then_read(rt: HostRuntime) -> Result<(), Fail> {
 #[test]
 fn every_step_is_read(rt: HostRuntime) -> Result<(), Fail> {
     let trace =
-        " [ \"draw\" , 1 ]\r\n[\"begin\",1]\n[\"declare\",1,[[\"\\u00e9\",\"put\",\"\"],[\"b\",\"delete\"],[\"c\",\"lock\"]]]\n[\"commit\",1,2]\n[\"answer\",1,\"committed\",2]\n[\"draw\",5]\n[\"begin\",5]\n[\"abort\",5]\n[\"answer\",5,\"aborted\"]\n[\"scan\",5,\"a\",\"\u{ff}\",1024,[[\"é\",\"\"]]]";
+        " [ \"draw\" , 1 ]\r\n[\"begin\",1]\n[\"declare\",1,[[\"\\u00e9\",\"put\",\"\"],[\"b\",\"delete\"],[\"c\",\"lock\"],[\"d\",\"insert\",\"y\"]]]\n[\"commit\",1,2]\n[\"answer\",1,\"committed\",2]\n[\"draw\",5]\n[\"begin\",5]\n[\"abort\",5]\n[\"answer\",5,\"aborted\"]\n[\"scan\",5,\"a\",\"\u{ff}\",1024,[[\"d\",\"y\"],[\"é\",\"\"]]]";
     says(&rt, trace.as_bytes(), End::Well, "[\"check\",\"yes\"]\n")
 }
 
@@ -85,6 +85,137 @@ fn spacing_changes_no_verdict(rt: HostRuntime) -> Result<(), Fail> {
     ] {
         let trace = format!(in rt.alloc(); "{declared}{last}")?;
         says(&rt, trace.as_bytes(), end, text)?;
+    }
+    Ok(())
+}
+
+static FIRST_PUT: &str = r#"["draw",1]
+["begin",1]
+["declare",1,[["a","put","x"]]]
+["commit",1,2]
+["draw",2]
+"#;
+
+// An insert commits where a read at its start finds no value, and is a put to every read.
+#[test]
+fn insert_is_a_put_of_a_key_without_a_value(rt: HostRuntime) -> Result<(), Fail> {
+    for trace in [
+        // of a new key
+        r#"["draw",1]
+["begin",1]
+["declare",1,[["a","insert","x"]]]
+["draw",2]
+["commit",1,2]
+["read",2,"a","x"]"#,
+        // the same, in another spelling
+        r#"["draw",1]
+["begin",1]
+[ "declare" , 1 , [ [ "\u0061" , "in\u0073ert" , "x" ] ] ]
+["draw",2]
+["commit",1,2]
+["read",2,"a","x"]"#,
+        // of a key that is only locked
+        r#"["draw",1]
+["begin",1]
+["declare",1,[["a","lock"]]]
+["commit",1,2]
+["draw",3]
+["begin",3]
+["declare",3,[["a","insert","x"],["b","insert",""]]]
+["commit",3,4]
+["draw",4]
+["scan",4,"a","c",9,[["a","x"],["b",""]]]"#,
+        // of a key that was deleted
+        r#"["draw",1]
+["begin",1]
+["declare",1,[["a","insert","x"]]]
+["commit",1,2]
+["draw",3]
+["begin",3]
+["declare",3,[["a","delete"]]]
+["commit",3,4]
+["draw",5]
+["begin",5]
+["declare",5,[["a","insert","y"]]]
+["commit",5,6]
+["draw",6]
+["read",6,"a","y"]"#,
+        // above a read of the key
+        r#"["draw",1]
+["begin",1]
+["draw",2]
+["declare",1,[["a","insert","x"]]]
+["read",2,"a",null]
+["commit",1,3]"#,
+    ] {
+        says(&rt, trace.as_bytes(), End::Well, "[\"check\",\"yes\"]\n")?;
+    }
+    Ok(())
+}
+
+// What a put may do, an insert may not over a value that a read at its start finds.
+#[test]
+fn insert_over_a_value_is_refused(rt: HostRuntime) -> Result<(), Fail> {
+    for (word, end, text) in [
+        ("put", End::Well, "[\"check\",\"yes\"]\n"),
+        ("insert", End::No, "[\"check\",\"no\",9]\n"),
+    ] {
+        let trace = format!(in rt.alloc();
+            "{FIRST_PUT}[\"draw\",3]\n[\"begin\",3]\n[\"declare\",3,[[\"b\",\"lock\"],[\"a\",\"{word}\",\"y\"]]]\n[\"commit\",3,4]\n"
+        )?;
+        says(&rt, trace.as_bytes(), end, text)?;
+    }
+    Ok(())
+}
+
+// As a put, an insert does not commit at or below a read of its key, nor over an overlapping commit.
+#[test]
+fn insert_conflicts_as_a_put(rt: HostRuntime) -> Result<(), Fail> {
+    for (trace, text) in [
+        (
+            r#"["draw",1]
+["begin",1]
+["draw",2]
+["declare",1,[["a","insert","x"]]]
+["read",2,"a",null]
+["commit",1,2]"#,
+            "[\"check\",\"no\",6]\n",
+        ),
+        (
+            r#"["draw",1]
+["begin",1]
+["draw",2]
+["begin",2]
+["declare",2,[["a","insert","x"]]]
+["declare",1,[["a","insert","y"]]]
+["commit",2,3]
+["commit",1,3]"#,
+            "[\"check\",\"no\",8]\n",
+        ),
+    ] {
+        says(&rt, trace.as_bytes(), End::No, text)?;
+    }
+    Ok(())
+}
+
+#[test]
+fn insert_has_a_word_and_a_value(rt: HostRuntime) -> Result<(), Fail> {
+    for change in [
+        r#"["a","insert"]"#,
+        r#"["a","insert",1]"#,
+        r#"["a","insert",null]"#,
+        r#"["a","insert","x","y"]"#,
+        r#"["","insert","x"]"#,
+        r#"["a","Insert","x"]"#,
+        r#"["a","inserts","x"]"#,
+    ] {
+        let trace = format!(in rt.alloc(); "{FIRST_PUT}[\"declare\",2,[{change}]]")?;
+        says(
+            &rt,
+            trace.as_bytes(),
+            End::Faulted,
+            "[6,\"E16\",\"form\"]\n",
+        )?;
     }
     Ok(())
 }
