@@ -234,6 +234,7 @@ impl<J: Naming, L: Source> Moving<J, L> {
                 self.stage = Stage::Prewrite;
                 After::Goes
             }
+            Err(Fault::OracleSpent) => After::Spent,
             Err(_) => After::NoMemory,
         }
     }
