@@ -1,5 +1,5 @@
 //! Sessions: one transaction each, run over a way to the regions.
-ghost use Rattle.std.specs.Prelude.{◌≡◌, ℕ, ◌<◌, ◌⊎◌, is_some, length, true, false, Some, None, IfOk, IfErr, IfSome, OnOk, OnErr};
+ghost use Rattle.std.specs.Prelude.{◌≡◌, ℕ, ◌<◌, ◌⊎◌, is_some, length, true, false, not, Some, None, IfOk, IfErr, IfSome, OnOk, OnErr};
 ghost use Rattle.tx_types.specs.declared.fault.Fault.TheVariants as fault;
 ghost use Rattle.tx_core.specs.declared.event.Event.TheVariants.{Began, Declared};
 ghost use Rattle.tx_core.specs.Allowed.{Allowed};
@@ -172,6 +172,20 @@ impl<J: Naming> Session<J> {
         ensures { result ≡ is_known (buffered self.now.state.buffer key.now) }
     {
         self.transaction.is_known(key)
+    }
+
+    /// Whether the key of these bytes is in the buffer or would not be one too many there.
+    pub fn has_room(&self, key: &[u8]) -> bool
+        ensures { result ≡ not (is_full self.now.state.buffer key.now) }
+    {
+        self.transaction.has_room(key)
+    }
+
+    /// Whether the buffer has no value of the key of these bytes, so that it may be inserted.
+    pub fn can_insert(&self, key: &[u8]) -> bool
+        ensures { (value : Value) → result ≡ is_some (inserted self.now.state.buffer key.now value) }
+    {
+        self.transaction.can_insert(key)
     }
 
     /// Whether a prewrite is due.

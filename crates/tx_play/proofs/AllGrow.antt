@@ -4,6 +4,7 @@ use Rattle.tx_types.specs.declared.fault.Cause.{Cause}
 use Rattle.tx_types.specs.declared.fault.Cause.TheVariants as cause
 use Rattle.tx_types.specs.declared.key.Key.{Key}
 use Rattle.tx_types.specs.declared.lock.LockInfo.{LockInfo}
+use Rattle.tx_types.specs.declared.mutation.Mutation.TheVariants as mutation
 use Rattle.tx_plan.specs.declared.body.Body.{Body}
 use Rattle.tx_plan.specs.declared.body.Body.TheVariants as request
 use Rattle.tx_plan.specs.declared.answer.Answer.{Answer}
@@ -14,7 +15,7 @@ use Rattle.tx_core.specs.Histories.{History, last, Begins}
 use Rattle.tx_core.proofs.seats.Beginnings.{begins_all, begins_more}
 use Rattle.tx_transaction.specs.declared.state.Came.{Came}
 use Rattle.tx_transaction.specs.declared.state.Came.TheVariants as came
-use Rattle.tx_transaction.specs.Buffers.{Entries, is_full}
+use Rattle.tx_transaction.specs.Buffers.{Entries, touched, put_over, inserted, buffered, locked, is_full}
 use Rattle.tx_transaction.specs.Sessions.{State, is_declared, has_primary, exceeds, declaration, can_draw, can_commit, can_abort, finish_of}
 use Rattle.tx_transaction.specs.declared.state.Terms.{Terms}
 use Rattle.tx_client.specs.Walks.{Walk, asks, grows, ends, get_walk, scan_walk, heartbeat_walk}
@@ -25,8 +26,8 @@ use Rattle.tx_lines.specs.declared.reply.Reply.{Reply}
 use Rattle.tx_lines.specs.declared.reply.Reply.TheVariants as reply
 use Rattle.tx_types.specs.Names.{is_name}
 use Rattle.tx_post.specs.Posts.{Course, taken, holding, may_go}
-use Rattle.tx_play.specs.Steps.{Deed, put, delete, lock, get, scan, declare, prewrite, draw, commit, abort, heartbeat, course_of, Call, begin, acts, finish, stop, deliver, read, versions, tick, resolve, gc}
-use Rattle.tx_play.specs.Scenes.{Scene, Turn, goes, inquires, shows, stops, is_refused, later_of, calls, is_key, is_value, at_stage, at_history, with_session, began, declared_in, placed_in, placed, seat_at, read_by, said_by, asked, sent, runs, runs_to, first_free, live_at, enters, is_too_many, deeds_by, deeds, delivered_by, delivers, finishes_by, begins_at, in_session, turn, learns, resolves_by, collected_as}
+use Rattle.tx_play.specs.Steps.{Deed, put, insert, delete, lock, get, scan, declare, prewrite, draw, commit, abort, heartbeat, course_of, Call, begin, acts, finish, stop, deliver, read, versions, tick, resolve, gc}
+use Rattle.tx_play.specs.Scenes.{Scene, Turn, goes, inquires, shows, stops, is_refused, later_of, calls, is_key, is_value, at_stage, at_history, with_session, began, declared_in, placed_in, placed, seat_at, read_by, said_by, asked, sent, runs, runs_to, first_free, live_at, changes, enters, inserts_by, is_too_many, deeds_by, deeds, delivered_by, delivers, finishes_by, begins_at, in_session, turn, learns, resolves_by, collected_as}
 use Rattle.tx_play.specs.Plays.{Leads}
 
 -- Whatever a turn leads to, and wherever it asks a region, h has happened there; it stops at most where `from` has happened.
@@ -87,25 +88,33 @@ module _ (bounds : List Key) where
     calls_grow : (refused : List Bool) (more : List Bool → Turn) → ((left : List Bool) → AllGrow h h (more left)) → AllGrow h h (calls refused scene more)
     calls_grow refused more grow = either h h (is_refused refused) _ _ (begins_all h) (grow (later_of refused))
 
-    enters_grow : (refused : List Bool) (k : ℕ) (s : State) (buffer : Entries) (key : List ℕ) (left : List Bool) → AllGrow h h (enters refused scene k s buffer key left)
-    enters_grow refused k s buffer key left = either h h (is_full s.buffer key) _ _ (begins_all h) (begins_all h)
+    enters_grow : (refused : List Bool) (k : ℕ) (s : State) (buffer : Entries) → AllGrow h h (enters refused scene k s buffer)
+    enters_grow refused k s buffer = calls_grow refused (λ left. goes (with_session scene k (record s { buffer = buffer })) reply.Fine left) (λ left. begins_all h)
+
+    inserts_grow : (refused : List Bool) (k : ℕ) (s : State) (o : Option Entries) → AllGrow h h (inserts_by refused scene k s o)
+    inserts_grow refused k s None = begins_all h
+    inserts_grow refused k s (Some buffer) = enters_grow refused k s buffer
+
+    change_grows : (refused : List Bool) (k : ℕ) (s : State) (key : List ℕ) (fits : Bool) (more : Turn) → AllGrow h h more → AllGrow h h (changes refused scene k s key fits more)
+    change_grows refused k s key fits more grow =
+        either h h (is_declared s) _ _ (begins_all h) (either h h (not (is_key key)) _ _ (begins_all h) (either h h (not fits) _ _ (begins_all h) (either h h (is_full s.buffer key) _ _ (begins_all h) grow)))
 
     declared_grows : (seat : ℕ) (o : Option Declaration) → Begins h (declared_in seat h o)
     declared_grows seat None = begins_all h
     declared_grows seat (Some d) = inr (inr (begins_all h))
 
     deed_by_grows : (refused : List Bool) (k : ℕ) (s : State) (deed : Deed) → AllGrow h h (deeds_by refused scene k s bounds deed)
-    deed_by_grows refused k s (put key value) =
-        either h h (is_declared s) _ _ (begins_all h) (either h h (not (is_key key)) _ _ (begins_all h) (either h h (not (is_value value)) _ _ (begins_all h) (calls_grow refused _ (enters_grow refused k s _ key))))
-    deed_by_grows refused k s (delete key) = either h h (is_declared s) _ _ (begins_all h) (either h h (not (is_key key)) _ _ (begins_all h) (calls_grow refused _ (enters_grow refused k s _ key)))
-    deed_by_grows refused k s (lock key) = either h h (is_declared s) _ _ (begins_all h) (either h h (not (is_key key)) _ _ (begins_all h) (calls_grow refused _ (enters_grow refused k s _ key)))
+    deed_by_grows refused k s (put key value) = change_grows refused k s key (is_value value) _ (enters_grow refused k s (touched s.buffer key (put_over (buffered s.buffer key) value)))
+    deed_by_grows refused k s (insert key value) = change_grows refused k s key (is_value value) _ (inserts_grow refused k s (inserted s.buffer key value))
+    deed_by_grows refused k s (delete key) = change_grows refused k s key true _ (enters_grow refused k s (touched s.buffer key mutation.Delete))
+    deed_by_grows refused k s (lock key) = change_grows refused k s key true _ (enters_grow refused k s (locked s.buffer key))
     deed_by_grows refused k s (get key way) = either h h (not (is_key key)) _ _ (begins_all h) (calls_grow refused (λ left. runs_to bounds read_by k way left scene (get_walk s key)) (λ left. sends_grow read_by k way left scene (get_walk s key)))
     deed_by_grows refused k s (scan a b limit way) =
         either h h (not (is_key a && is_key b)) (goes scene reply.KeyLength refused) (calls refused scene (λ left. runs_to bounds read_by k way left scene (scan_walk s bounds a b limit))) (begins_all h)
         (calls_grow refused (λ left. runs_to bounds read_by k way left scene (scan_walk s bounds a b limit)) (λ left. sends_grow read_by k way left scene (scan_walk s bounds a b limit)))
     deed_by_grows refused k s (declare mode ttl max_commit) =
         (let terms : Terms = record { mode = mode; ttl = ttl; max_commit = max_commit } in
-        either h h (is_declared s) _ _ (begins_all h) (calls_grow refused (λ left. cond (exceeds s.buffer terms) (goes scene reply.TooManyKeys left) (goes (placed refused scene k s bounds terms) reply.Fine left)) (λ left. either h h (exceeds s.buffer terms) (goes scene reply.TooManyKeys left) (goes (placed refused scene k s bounds terms) reply.Fine left) (begins_all h) (declared_grows (seat_at bounds k) (declaration s.start (placed_in h s.buffer) s.buffer terms)))))
+        either h h (is_declared s) _ _ (begins_all h) (either h h (exceeds s.buffer terms) (goes scene reply.TooManyKeys refused) (goes (placed refused scene k s bounds terms) reply.Fine refused) (begins_all h) (declared_grows (seat_at bounds k) (declaration s.start (placed_in h s.buffer) s.buffer terms))))
     deed_by_grows refused k s (prewrite way) = either h h (is_declared s) _ _ (sends_grow _ k way refused scene _) (begins_all h)
     deed_by_grows refused k s draw = either h h (can_draw s) _ _ (inr (begins_all h)) (begins_all h)
     deed_by_grows refused k s (commit way) = either h h (can_commit s) _ _ (sends_grow _ k way refused scene _) (begins_all h)

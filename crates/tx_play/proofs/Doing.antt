@@ -43,25 +43,20 @@ module _ (bounds : List Key) (turn : Deeds) where
 
   -- ---- the buffer
 
-  module _ (old new : Seated) (desk : Desk) (buffer : Entries) (key : List ℕ) (is : (refused : List Bool) (scene : Scene) (k : ℕ) → turn refused scene k old.state ≡ calls refused scene (enters refused scene k old.state buffer key)) where
-    entered_ok : is_full old.state.buffer key ≡ false → new ≡ seated (record old.state { buffer = buffer }) old.seat → Did bounds turn (Ok reply.Fine) old new desk desk
-    entered_ok room now =
+  module _ (old new : Seated) (desk : Desk) (buffer : Entries) (is : (refused : List Bool) (scene : Scene) (k : ℕ) → turn refused scene k old.state ≡ enters refused scene k old.state buffer) where
+    entered_ok : new ≡ seated (record old.state { buffer = buffer }) old.seat → Did bounds turn (Ok reply.Fine) old new desk desk
+    entered_ok now =
         did_change bounds turn old new desk reply.Fine (ap (λ (s : Seated). s.seat) now)
-        (session_goes bounds turn old.seat.seat old.state new.state (stage_of desk) (stage_of desk) reply.Fine reply.Fine (false ∷ []) (record old.state { buffer = buffer }) (λ scene k. scene.stage)
-        (λ later scene k. is (false ∷ later) scene k ∙ ap (λ b. cond b (goes scene reply.TooManyKeys later) (goes (with_session scene k (record old.state { buffer = buffer })) reply.Fine later)) room)
+        (session_goes bounds turn old.seat.seat old.state new.state (stage_of desk) (stage_of desk) reply.Fine reply.Fine (false ∷ []) (record old.state { buffer = buffer }) (λ scene k. scene.stage) (λ later scene k. is (false ∷ later) scene k)
         (λ scene k at number. at) (ap (λ (s : Seated). s.state) (sym now)) refl)
 
-    entered_err : new ≡ old → (e : Fault) → (e ≡ fault.OutOfMemory) ⊎ ((e ≡ fault.TooManyKeys) × (is_full old.state.buffer key ≡ true)) → Did bounds turn (Ok (entered_by {T = Unit {0}} (Err e))) old new desk desk
-    entered_err same e (inl short) =
+    entered_err : new ≡ old → (e : Fault) → e ≡ fault.OutOfMemory → Did bounds turn (Ok (entered_by {T = Unit {0}} (Err e))) old new desk desk
+    entered_err same e short =
         subst (λ (x : Seated × Fault). Did bounds turn (Ok (entered_by {T = Unit {0}} (Err x.1))) old x.0 desk desk) (λ i. (sym same i, sym short i))
         (rests old desk (true ∷ []) reply.OutOfMemory (λ later scene k. is (true ∷ later) scene k))
-    entered_err same e (inr (many, full)) =
-        subst (λ (x : Seated × Fault). Did bounds turn (Ok (entered_by {T = Unit {0}} (Err x.1))) old x.0 desk desk) (λ i. (sym same i, sym many i))
-        (rests old desk (false ∷ []) reply.TooManyKeys (λ later scene k. is (false ∷ later) scene k ∙ ap (λ b. cond b (goes scene reply.TooManyKeys later) (goes (with_session scene k (record old.state { buffer = buffer })) reply.Fine later)) full))
 
-    pub entered : (r : Result (Unit {0}) Fault) → OnOk r ((is_full old.state.buffer key ≡ false) × (new ≡ seated (record old.state { buffer = buffer }) old.seat)) → OnErr r (new ≡ old)
-        → IfErr r (λ e. (e ≡ fault.OutOfMemory) ⊎ ((e ≡ fault.TooManyKeys) × (is_full old.state.buffer key ≡ true))) → (said : Reply) → said ≡ entered_by r → Did bounds turn (Ok said) old new desk desk
-    entered (Ok x) ok same err said also = subst (λ s. Did bounds turn (Ok s) old new desk desk) (sym also) (entered_ok ok.0 ok.1)
+    pub entered : (r : Result (Unit {0}) Fault) → OnOk r (new ≡ seated (record old.state { buffer = buffer }) old.seat) → OnErr r (new ≡ old) → IfErr r (λ e. e ≡ fault.OutOfMemory) → (said : Reply) → said ≡ entered_by r → Did bounds turn (Ok said) old new desk desk
+    entered (Ok x) ok same err said also = subst (λ s. Did bounds turn (Ok s) old new desk desk) (sym also) (entered_ok ok)
     entered (Err e) ok same err said also = subst (λ s. Did bounds turn (Ok s) old new desk desk) (sym also) (entered_err same e err)
 
   -- ---- requests
@@ -83,11 +78,11 @@ module _ (bounds : List Key) (old new : Seated) (from to : Desk) where
     abbrev Exactly : Type 0
     Exactly = (new.state ≡ record old.state { declared = Some terms; placed = placed_in from.newest old.state.buffer }) × (stage_of to ≡ with_events (stage_of from) (declared_in old.seat.seat from.newest (declaration old.state.start (placed_in from.newest old.state.buffer) old.state.buffer terms)))
 
-    abbrev inner : List Bool → Scene → ℕ → List Bool → Turn
-    inner refused scene k left = cond (exceeds old.state.buffer terms) (goes scene reply.TooManyKeys left) (goes (placed refused scene k old.state bounds terms) reply.Fine left)
+    abbrev inner : Bool → List Bool → Scene → ℕ → Turn
+    inner many refused scene k = cond many (goes scene reply.TooManyKeys refused) (goes (placed refused scene k old.state bounds terms) reply.Fine refused)
 
-    declares_is : (refused : List Bool) (scene : Scene) (k : ℕ) → declaring refused scene k old.state ≡ calls refused scene (inner refused scene k)
-    declares_is refused scene k = ap (λ b. cond b (stops cause.Order) (calls refused scene (inner refused scene k))) free
+    declares_is : (many : Bool) → exceeds old.state.buffer terms ≡ many → (refused : List Bool) (scene : Scene) (k : ℕ) → declaring refused scene k old.state ≡ inner many refused scene k
+    declares_is many is refused scene k = λ i. cond (free i) (stops cause.Order) (inner (is i) refused scene k)
 
     declared_ok : exceeds old.state.buffer terms ≡ false → Acts old.seat new.seat from to Exactly → Did bounds declaring (Ok reply.Fine) old new from to
     declared_ok few act =
@@ -96,29 +91,22 @@ module _ (bounds : List Key) (old new : Seated) (from to : Desk) where
         let scene = scene_with (stage_of from) ticks names places in
         let d = declaration old.state.start (placed_in from.newest old.state.buffer) old.state.buffer terms in
         let events : stage_of to ≡ with_events (stage_of from) (declared_in (seat_at bounds k) from.newest d) = x.1 ∙ ap (λ n. with_events (stage_of from) (declared_in n from.newest d)) number in
-        goes_at bounds (λ refused. declaring refused scene k old.state) (false ∷ []) reply.Fine reply.Fine (placed [] scene k old.state bounds terms) (scene_with (stage_of to) ticks names (slice_set places k (session new.state)))
-        (λ later. declares_is (false ∷ later) scene k ∙ ap (λ b. cond b (goes scene reply.TooManyKeys later) (goes (placed [] scene k old.state bounds terms) reply.Fine later)) few)
+        goes_at bounds (λ refused. declaring refused scene k old.state) [] reply.Fine reply.Fine (placed [] scene k old.state bounds terms) (scene_with (stage_of to) ticks names (slice_set places k (session new.state)))
+        (λ later. declares_is false few later scene k)
         (λ i. scene_with (sym events i) ticks names (slice_set places k (session (sym x.0 i))))
         refl)
 
-    declared_err : (e : Fault) → (e ≡ fault.OutOfMemory) ⊎ ((e ≡ fault.TooManyKeys) × (exceeds old.state.buffer terms ≡ true)) → new.state ≡ old.state → Acts old.seat new.seat from to (stage_of to ≡ stage_of from) → Did bounds declaring (Ok (entered_by {T = Unit {0}} (Err e))) old new from to
-    declared_err e (inl short) same act =
-        subst (λ f. Did bounds declaring (Ok (entered_by {T = Unit {0}} (Err f))) old new from to) (sym short)
+    declared_err : (e : Fault) → e ≡ fault.TooManyKeys → exceeds old.state.buffer terms ≡ true → new.state ≡ old.state → Acts old.seat new.seat from to (stage_of to ≡ stage_of from) → Did bounds declaring (Ok (entered_by {T = Unit {0}} (Err e))) old new from to
+    declared_err e is many same act =
+        subst (λ f. Did bounds declaring (Ok (entered_by {T = Unit {0}} (Err f))) old new from to) (sym is)
         (acts_so old.seat new.seat from to _ _ act
-        (λ x. session_rests bounds declaring old.seat.seat old.state new.state (stage_of from) (stage_of to) reply.OutOfMemory reply.OutOfMemory (true ∷ [])
-        (λ later scene k. declares_is (true ∷ later) scene k) x same refl))
-    declared_err e (inr (many, full)) same act =
-        subst (λ f. Did bounds declaring (Ok (entered_by {T = Unit {0}} (Err f))) old new from to) (sym many)
-        (acts_so old.seat new.seat from to _ _ act
-        (λ x. session_rests bounds declaring old.seat.seat old.state new.state (stage_of from) (stage_of to) reply.TooManyKeys reply.TooManyKeys (false ∷ [])
-        (λ later scene k. declares_is (false ∷ later) scene k ∙ ap (λ b. cond b (goes scene reply.TooManyKeys later) (goes (placed [] scene k old.state bounds terms) reply.Fine later)) full)
-        x same refl))
+        (λ x. session_rests bounds declaring old.seat.seat old.state new.state (stage_of from) (stage_of to) reply.TooManyKeys reply.TooManyKeys [] (λ later scene k. declares_is true many later scene k) x same refl))
 
     pub declared : (r : Result (Unit {0}) Fault) → OnOk r ((exceeds old.state.buffer terms ≡ false) × Acts old.seat new.seat from to Exactly)
-        → IfErr r (λ e. ((e ≡ fault.OutOfMemory) ⊎ ((e ≡ fault.TooManyKeys) × (exceeds old.state.buffer terms ≡ true))) × (new.state ≡ old.state) × Acts old.seat new.seat from to (stage_of to ≡ stage_of from))
+        → IfErr r (λ e. (e ≡ fault.TooManyKeys) × (exceeds old.state.buffer terms ≡ true) × (new.state ≡ old.state) × Acts old.seat new.seat from to (stage_of to ≡ stage_of from))
         → (said : Reply) → said ≡ entered_by r → Did bounds declaring (Ok said) old new from to
     declared (Ok x) ok err said also = subst (λ s. Did bounds declaring (Ok s) old new from to) (sym also) (declared_ok ok.0 ok.1)
-    declared (Err e) ok err said also = subst (λ s. Did bounds declaring (Ok s) old new from to) (sym also) (declared_err e err.0 err.1 err.2)
+    declared (Err e) ok err said also = subst (λ s. Did bounds declaring (Ok s) old new from to) (sym also) (declared_err e err.0 err.1 err.2 err.3)
 
   -- a draw
   pub drew_did : (t : ℕ) → can_draw old.state ≡ true → new.state ≡ record old.state { drawn = Some t } → Acts old.seat new.seat from to ((t ≡ last from.newest + 1) × (stage_of to ≡ with_events (stage_of from) (Drawn old.seat.seat (last from.newest + 1) ∷ from.newest)))
@@ -140,7 +128,7 @@ module _ (bounds : List Key) (old : Seated) (desk : Desk) where
   pub declare_late : (terms : Terms) → is_declared old.state ≡ true → Did bounds (λ refused scene k s. declares refused scene k s bounds terms) (Err cause.Order) old old desk desk
   declare_late terms late =
       stops_at bounds (λ refused scene k s. declares refused scene k s bounds terms) old desk (is_declared old.state)
-      (λ refused scene k. calls refused scene (λ left. cond (exceeds old.state.buffer terms) (goes scene reply.TooManyKeys left) (goes (placed refused scene k old.state bounds terms) reply.Fine left))) cause.Order
+      (λ refused scene k. cond (exceeds old.state.buffer terms) (goes scene reply.TooManyKeys refused) (goes (placed refused scene k old.state bounds terms) reply.Fine refused)) cause.Order
       (λ refused scene k. refl) late
 
   pub draw_early : can_draw old.state ≡ false → Did bounds (λ refused scene k s. draws refused scene k s bounds) (Err cause.Order) old old desk desk

@@ -1,6 +1,6 @@
 -- What each step of a script does, in one thread in which nobody else acts: the events that it makes, what it changes of its session, and
 -- its reply.
-use Rattle.std.specs.Prelude.{ℕ, ◌+◌, ◌-◌, ◌&&◌, not, Bool, false, List, [], ◌∷◌, length, replicate, nat_eq, nat_le, slice_get, slice_set, Option, Some, None, option_map, is_some, if◌then◌else◌, Result, Ok, Err, bytes_eq}
+use Rattle.std.specs.Prelude.{ℕ, ◌+◌, ◌-◌, ◌&&◌, not, Bool, true, false, List, [], ◌∷◌, length, replicate, nat_eq, nat_le, slice_get, slice_set, Option, Some, None, option_map, is_some, if◌then◌else◌, Result, Ok, Err, bytes_eq}
 use Rattle.std.specs.Map.{update}
 use Rattle.tx_types.specs.declared.limits.TheConstants.{MAX_KEY_BYTES, MAX_VALUE_BYTES, MIN_KEY_BYTES}
 use Rattle.tx_types.specs.declared.fault.Fault.{Fault}
@@ -27,7 +27,7 @@ use Rattle.tx_transaction.specs.declared.state.Came.TheVariants as came
 use Rattle.tx_client.specs.declared.resolved.Status.{Status}
 use Rattle.tx_transaction.specs.declared.state.Miss.{Miss}
 use Rattle.tx_transaction.specs.declared.state.Miss.TheVariants as miss
-use Rattle.tx_transaction.specs.Buffers.{Entries, touched, put_over, locked, buffered, is_full, is_known}
+use Rattle.tx_transaction.specs.Buffers.{Entries, touched, put_over, inserted, locked, buffered, is_full, is_known}
 use Rattle.tx_transaction.specs.Sessions.{State, begun, is_declared, has_primary, exceeds, declaration, due_prewrite, due_commit, due_abort, can_draw, can_commit, can_abort, finish_of, with_passed}
 use Rattle.tx_client.specs.Statuses.{lies_above}
 use Rattle.tx_client.specs.Walks.{Walk, asks, grows, ends, due_walk, heartbeat_walk, get_walk, scan_walk}
@@ -39,7 +39,7 @@ use Rattle.tx_lines.specs.declared.reply.Reply.{Reply}
 use Rattle.tx_lines.specs.declared.reply.Reply.TheVariants as reply
 use Rattle.tx_types.specs.Names.{is_name}
 use Rattle.tx_post.specs.Posts.{Course, Stage, with_events, taken, holding, may_go, is_crowded}
-use Rattle.tx_play.specs.Steps.{Deed, put, delete, lock, get, scan, declare, prewrite, draw, commit, abort, heartbeat, course_of, Call, begin, acts, finish, stop, resolve, deliver, read, versions, tick, gc}
+use Rattle.tx_play.specs.Steps.{Deed, put, insert, delete, lock, get, scan, declare, prewrite, draw, commit, abort, heartbeat, course_of, Call, begin, acts, finish, stop, resolve, deliver, read, versions, tick, gc}
 
 -- a place: free, or with a live session
 pub data Place : Type 0 where
@@ -234,28 +234,35 @@ live_at scene name = at_place scene.places (scene.names name)
 -- ---- the steps of a session
 
 module _ (refused : List Bool) (scene : Scene) (k : ℕ) (s : State) where
-  -- a change before declare enters the buffer
-  abbrev pub enters : Entries → List ℕ → List Bool → Turn
-  enters buffer key left = if is_full s.buffer key then goes scene reply.TooManyKeys left else goes (with_session scene k (record s { buffer = buffer })) reply.Fine left
+  -- a buffer takes the place of the session's
+  abbrev pub enters : Entries → Turn
+  enters buffer = calls refused scene (λ left. goes (with_session scene k (record s { buffer = buffer })) reply.Fine left)
+
+  -- a change of a key before declare: what is refused of its key and value, and that the key is one too many, comes before want of memory
+  abbrev pub changes : List ℕ → Bool → Turn → Turn
+  changes key fits more =
+      if is_declared s then stops Order
+      else (if not (is_key key) then goes scene reply.KeyLength refused
+      else (if not fits then goes scene reply.ValueLength refused
+      else (if is_full s.buffer key then goes scene reply.TooManyKeys refused
+      else more)))
 
   abbrev pub puts : List ℕ → List ℕ → Turn
-  puts key value =
-      if is_declared s then stops Order
-      else (if not (is_key key) then goes scene reply.KeyLength refused
-      else (if not (is_value value) then goes scene reply.ValueLength refused
-      else calls refused scene (enters (touched s.buffer key (put_over (buffered s.buffer key) value)) key)))
+  puts key value = changes key (is_value value) (enters (touched s.buffer key (put_over (buffered s.buffer key) value)))
+
+  -- an insert is refused where the buffer has a value of the key
+  abbrev pub inserts_by : Option Entries → Turn
+  inserts_by None = goes scene reply.AlreadyExists refused
+  inserts_by (Some buffer) = enters buffer
+
+  abbrev pub inserts : List ℕ → List ℕ → Turn
+  inserts key value = changes key (is_value value) (inserts_by (inserted s.buffer key value))
 
   abbrev pub deletes : List ℕ → Turn
-  deletes key =
-      if is_declared s then stops Order
-      else (if not (is_key key) then goes scene reply.KeyLength refused
-      else calls refused scene (enters (touched s.buffer key mutation.Delete) key))
+  deletes key = changes key true (enters (touched s.buffer key mutation.Delete))
 
   abbrev pub locks : List ℕ → Turn
-  locks key =
-      if is_declared s then stops Order
-      else (if not (is_key key) then goes scene reply.KeyLength refused
-      else calls refused scene (enters (locked s.buffer key) key))
+  locks key = changes key true (enters (locked s.buffer key))
 
   module _ (bounds : List Key) where
     -- the scene after it declared
@@ -264,13 +271,12 @@ module _ (refused : List Bool) (scene : Scene) (k : ℕ) (s : State) where
         with_session (at_history scene (declared_in (seat_at bounds k) scene.stage.history (declaration s.start (placed_in scene.stage.history s.buffer) s.buffer terms))) k
         (record s { declared = Some terms; placed = placed_in scene.stage.history s.buffer })
 
-    -- a session declares once: an empty buffer is no event
+    -- a session declares once, and takes no memory for it: an empty buffer is no event
     abbrev pub declares : Terms → Turn
     declares terms =
         if is_declared s then stops Order
-        else calls refused scene (λ left.
-        if exceeds s.buffer terms then goes scene reply.TooManyKeys left
-        else goes (placed terms) reply.Fine left)
+        else (if exceeds s.buffer terms then goes scene reply.TooManyKeys refused
+        else goes (placed terms) reply.Fine refused)
 
     abbrev pub draws : Turn
     draws = if can_draw s then goes (drew bounds scene k s) (reply.Drawn (last scene.stage.history + 1)) refused else stops Order
@@ -300,6 +306,7 @@ module _ (refused : List Bool) (scene : Scene) (k : ℕ) (s : State) where
     -- what a live session does, by what it is
     abbrev pub deeds_by : Deed → Turn
     deeds_by (put key value) = puts key value
+    deeds_by (insert key value) = inserts key value
     deeds_by (delete key) = deletes key
     deeds_by (lock key) = locks key
     deeds_by (get key way) = gets key way

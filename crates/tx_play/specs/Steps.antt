@@ -3,7 +3,7 @@ use Rattle.std.specs.Prelude.{ℕ, List, Option}
 use Rattle.tx_types.specs.declared.mutation.Mode.{Mode}
 use Rattle.tx_post.specs.declared.way.Way.TheVariants.{Plain}
 use Rattle.tx_play.specs.declared.step.Act.{Act}
-use Rattle.tx_play.specs.declared.step.Act.TheVariants.{Put, Delete, Lock, Get, Scan, Declare, Prewrite, Draw, Commit, Abort, Heartbeat}
+use Rattle.tx_play.specs.declared.step.Act.TheVariants.{Put, Insert, Delete, Lock, Get, Scan, Declare, Prewrite, Draw, Commit, Abort, Heartbeat}
 use Rattle.tx_play.specs.declared.step.Step.{Step}
 use Rattle.tx_play.specs.declared.step.Step.TheVariants.{Begin, Finish, Stop, Resolve, Deliver, Read, Versions, Tick, Gc}
 use Rattle.tx_play.specs.declared.step.Step.TheVariants as steps
@@ -12,6 +12,7 @@ use Rattle.tx_post.specs.Posts.{Course, by_name}
 -- what a live session does: with the bytes of its keys and value, and what becomes of its request
 pub data Deed : Type 0 where
   put : (key value : List ℕ) → Deed
+  insert : (key value : List ℕ) → Deed
   delete : (key : List ℕ) → Deed
   lock : (key : List ℕ) → Deed
   get : (key : List ℕ) (way : Course) → Deed
@@ -51,6 +52,7 @@ course_of _ = Plain
 -- what the program's value says
 abbrev pub deed_of : Act → Deed
 deed_of (Put k v) = put k.now v.now
+deed_of (Insert k v) = insert k.now v.now
 deed_of (Delete k) = delete k.now
 deed_of (Lock k) = lock k.now
 deed_of (Get k way) = get k.now (by_name (λ n. n.now) way)

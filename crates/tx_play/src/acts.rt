@@ -1,5 +1,5 @@
 //! What a session does in one thread: it knows what is newest before it acts, and what it knows after is the newest.
-ghost use Rattle.std.specs.Prelude.{◌≡◌, ◌<◌, ◌+◌, [], ◌∷◌, ◌⊎◌, Option, Some, None, true, false, IfOk, IfErr, OnOk, IfSome, IfNone};
+ghost use Rattle.std.specs.Prelude.{◌≡◌, ◌<◌, ◌+◌, [], ◌∷◌, Option, Some, None, true, false, IfOk, IfErr, OnOk, IfSome, IfNone};
 ghost use Rattle.tx_core.specs.declared.event.Event.TheVariants as events;
 ghost use Rattle.tx_core.specs.Histories.{last};
 ghost use Rattle.tx_transaction.specs.Sessions.{begun, can_draw, declaration, exceeds, finish_of, is_declared};
@@ -97,7 +97,7 @@ pub(crate) fn declare_at<J: Naming, F: Families>(
     requires undeclared { is_declared session.old.state ≡ false }
     requires ticks { 0 < session.old.seat.ticks }
     ensures ok { OnOk result ((exceeds session.old.state.buffer terms ≡ false) × Acts session.old.seat session.new.seat post.old post.new ((session.new.state ≡ record session.old.state { declared = Some terms; placed = placed_in post.old.newest session.old.state.buffer }) × (stage_of post.new ≡ with_events (stage_of post.old) (declared_in session.old.seat.seat post.old.newest (declaration session.old.state.start (placed_in post.old.newest session.old.state.buffer) session.old.state.buffer terms))))) }
-    ensures err { IfErr result (λ e. ((e ≡ Fault.OutOfMemory) ⊎ ((e ≡ Fault.TooManyKeys) × (exceeds session.old.state.buffer terms ≡ true))) × (session.new.state ≡ session.old.state) × Acts session.old.seat session.new.seat post.old post.new (stage_of post.new ≡ stage_of post.old)) }
+    ensures err { IfErr result (λ e. (e ≡ Fault.TooManyKeys) × (exceeds session.old.state.buffer terms ≡ true) × (session.new.state ≡ session.old.state) × Acts session.old.seat session.new.seat post.old post.new (stage_of post.new ≡ stage_of post.old)) }
 {
     session.hear_of(post.newest());
     match session.declare(terms) {

@@ -11,7 +11,7 @@ mod delivery;
 mod sending;
 mod versions;
 
-use crate::deeds::buffer::{declare, delete, lock, put};
+use crate::deeds::buffer::{declare, delete, insert, lock, put};
 pub(crate) use crate::deeds::delivery::deliver;
 use crate::deeds::sending::{abort, commit, draw, get, heartbeat, prewrite, scan};
 pub(crate) use crate::deeds::versions::versions;
@@ -89,6 +89,7 @@ fn perform<J: Naming, F: Families>(
 {
     match *act {
         Act::Put(key, value) => put(alloc, session, key, value),
+        Act::Insert(key, value) => insert(alloc, session, key, value),
         Act::Delete(key) => delete(alloc, session, key),
         Act::Lock(key) => lock(alloc, session, key),
         Act::Get(key, way) => get(alloc, session, post, key, way),

@@ -8,6 +8,7 @@ use tx_types::{Mode, Ts};
 #[derive(Clone, Copy, Debug)]
 pub enum Act<'a> {
     Put(&'a str, &'a str),
+    Insert(&'a str, &'a str),
     Delete(&'a str),
     Lock(&'a str),
     Get(&'a str, Way<&'a str>),

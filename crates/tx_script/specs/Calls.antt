@@ -27,6 +27,7 @@ sending (form.heartbeat ttl) way = deed.heartbeat ttl way
 -- what a session does by itself
 abbrev pub acting : List ℕ → Act → Option Call
 acting name (form.put key value) = Some (acts name (deed.put key value))
+acting name (form.insert key value) = Some (acts name (deed.insert key value))
 acting name (form.delete key) = Some (acts name (deed.delete key))
 acting name (form.lock key) = Some (acts name (deed.lock key))
 acting name (form.declare mode ttl max_commit) = Some (acts name (deed.declare mode ttl max_commit))

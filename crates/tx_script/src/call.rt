@@ -56,6 +56,7 @@ fn action<'a>(name: &'a str, what: Action<'a>) -> Option<tx_play::Step<'a>>
         Action::Stop => return Some(tx_play::Step::Stop(name)),
         Action::Resolve(now) => return Some(tx_play::Step::Resolve(name, Ts::new(now))),
         Action::Put(key, value) => Act::Put(key, value),
+        Action::Insert(key, value) => Act::Insert(key, value),
         Action::Delete(key) => Act::Delete(key),
         Action::Lock(key) => Act::Lock(key),
         Action::Declare(mode, ttl, max_commit) => Act::Declare(mode, ttl, stamp(max_commit)),

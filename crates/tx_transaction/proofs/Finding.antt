@@ -4,7 +4,7 @@ use Rattle.std.specs.Map.{lookup}
 use Rattle.tx_types.specs.declared.key.Key.{Key}
 use Rattle.tx_core.proofs.Basics.{key_test, key_same}
 use Rattle.tx_transaction.specs.declared.state.Entry.{Entry}
-use Rattle.tx_transaction.specs.Buffers.{Entries, key_at, mutation_in, buffered, is_change, is_known}
+use Rattle.tx_transaction.specs.Buffers.{Entries, key_at, mutation_in, buffered}
 
 -- a key is the same either way round
 pub turned : (j k : Key) → bytes_eq j k ≡ bytes_eq k j
@@ -22,17 +22,11 @@ found (e ∷ es) k = elim (key_test e.0 k) [
 ]
 
 -- the first place of a key is where it is found
-first_there : (es : Entries) (k : Key) (i : ℕ) → i < length es → ((j : ℕ) → j < i → bytes_eq (key_at es j) k ≡ false) → bytes_eq (key_at es i) k ≡ true → buffered es k ≡ Some (mutation_in es i)
+pub first_there : (es : Entries) (k : Key) (i : ℕ) → i < length es → ((j : ℕ) → j < i → bytes_eq (key_at es j) k ≡ false) → bytes_eq (key_at es i) k ≡ true → buffered es k ≡ Some (mutation_in es i)
 first_there [] k i lt below here = absurd (omega arith)
 first_there (e ∷ es) k zero lt below here = rw here refl
 first_there (e ∷ es) k (suc i) lt below here = rw (below 0 (omega arith)) (first_there es k i (omega arith) (λ j l. below (suc j) (omega arith)) here)
 
-nowhere : (es : Entries) (k : Key) → ((j : ℕ) → j < length es → bytes_eq (key_at es j) k ≡ false) → buffered es k ≡ None
+pub nowhere : (es : Entries) (k : Key) → ((j : ℕ) → j < length es → bytes_eq (key_at es j) k ≡ false) → buffered es k ≡ None
 nowhere [] k below = refl
 nowhere (e ∷ es) k below = rw (below 0 (omega arith)) (nowhere es k (λ j l. below (suc j) (omega arith)))
-
-pub known_at : (es : Entries) (k : Key) (i : ℕ) → i < length es → ((j : ℕ) → j < i → bytes_eq (key_at es j) k ≡ false) → bytes_eq (key_at es i) k ≡ true → is_change (mutation_in es i) ≡ is_known (buffered es k)
-known_at es k i lt below here = sym (ap is_known (first_there es k i lt below here))
-
-pub unknown : (es : Entries) (k : Key) → ((j : ℕ) → j < length es → bytes_eq (key_at es j) k ≡ false) → false ≡ is_known (buffered es k)
-unknown es k below = sym (ap is_known (nowhere es k below))

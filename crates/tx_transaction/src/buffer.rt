@@ -1,8 +1,8 @@
 //! The write buffer: keys in the order in which they were first touched.
-ghost use Rattle.std.specs.Prelude.{◌≡◌, ◌<◌, ◌≤◌, length, IfOk, IfErr, IfSome, OnOk, OnErr, max, option_map, bytes_eq};
+ghost use Rattle.std.specs.Prelude.{◌≡◌, ◌<◌, ◌≤◌, not, length, is_some, IfOk, IfErr, IfSome, OnOk, OnErr, max, option_map, bytes_eq};
 ghost use Rattle.tx_machine.specs.Keys.{IsDistinct};
 ghost use Rattle.tx_types.specs.declared.mutation.Mode.TheVariants.{Async};
-ghost use Rattle.tx_transaction.specs.Buffers.{key_at, mutation_in, progress_at, with_progress, first_place, wants, is_full, is_change, is_known, not_empty, changes_of, touched, buffered, put_over, insert_over, has_two_phase_lock, async_minimum, promised, is_zero};
+ghost use Rattle.tx_transaction.specs.Buffers.{key_at, mutation_in, progress_at, with_progress, first_place, wants, is_full, is_change, is_known, not_empty, changes_of, touched, buffered, put_over, insert_over, inserted, has_two_phase_lock, async_minimum, promised, is_zero};
 ghost use Rattle.tx_transaction.specs.Sessions.{others_at, sent_by, marked_by};
 
 use crate::answers::{mark, mark_sent};
@@ -91,27 +91,54 @@ fn is_change(mutation: &Mutation) -> bool
     }
 }
 
-// Whether the key at a place is put or deleted.
-fn is_changed(buffer: &Buffer, i: usize) -> bool
+// What is done to the key at a place.
+fn mutation_at(buffer: &Buffer, i: usize) -> &Mutation
     requires { i < length buffer.now.entries }
-    ensures { result ≡ is_change (mutation_in buffer.now.entries i) }
+    ensures { result.now ≡ mutation_in buffer.now.entries i }
 {
     match buffer.get_index(i) {
-        Some((_, entry)) => is_change(&entry.mutation),
+        Some((_, entry)) => &entry.mutation,
         None => unreachable!(),
     }
+}
+
+// What is done to the key of these bytes, where it is in the buffer.
+fn seek<'a>(buffer: &'a Buffer, key: &[u8]) -> Option<&'a Mutation>
+    ensures { option_map (λ m. m.now) result ≡ buffered buffer.now.entries key.now }
+{
+    for i in 0..buffer.len() {
+        if is_at(buffer, i, key) {
+            return Some(mutation_at(buffer, i));
+        }
+    }
+    None
 }
 
 /// Whether a read of the key of these bytes is answered from the buffer.
 pub(crate) fn is_known(buffer: &Buffer, key: &[u8]) -> bool
     ensures { result ≡ is_known (buffered buffer.now.entries key.now) }
 {
-    for i in 0..buffer.len() {
-        if is_at(buffer, i, key) {
-            return is_changed(buffer, i);
-        }
+    match seek(buffer, key) {
+        Some(mutation) => is_change(mutation),
+        None => false,
     }
-    false
+}
+
+/// Whether the key of these bytes is there or would not be one too many.
+pub(crate) fn has_room(buffer: &Buffer, key: &[u8]) -> bool
+    ensures { result ≡ not (is_full buffer.now.entries key.now) }
+{
+    buffer.len() < MAX_KEYS || seek(buffer, key).is_some()
+}
+
+/// Whether the buffer has no value of the key of these bytes, so that it may be inserted.
+pub(crate) fn can_insert(buffer: &Buffer, key: &[u8]) -> bool
+    ensures { (value : Value) → result ≡ is_some (inserted buffer.now.entries key.now value) }
+{
+    match seek(buffer, key) {
+        Some(Mutation::Put(_) | Mutation::Insert(_)) => false,
+        _ => true,
+    }
 }
 
 fn wants_more(phase: Phase, progress: Progress) -> bool

@@ -1,5 +1,5 @@
 //! One transaction, as its client knows it: the rules of a session, without its seat.
-ghost use Rattle.std.specs.Prelude.{◌≡◌, ◌<◌, ◌⊎◌, true, false, Some, None, is_some, Ok, Err, IfOk, IfErr, OnOk, OnErr};
+ghost use Rattle.std.specs.Prelude.{◌≡◌, ◌<◌, ◌⊎◌, true, false, not, Some, None, is_some, Ok, Err, IfOk, IfErr, OnOk, OnErr};
 ghost use Rattle.tx_transaction.specs.Buffers.{touched, put_over, inserted, locked, buffered, is_full, is_known, not_empty};
 ghost use Rattle.tx_transaction.specs.Sessions.{begun, is_declared, has_primary, declaration, exceeds};
 ghost use Rattle.tx_transaction.specs.declared.state.Miss.TheVariants.{NoMemory};
@@ -10,7 +10,8 @@ mod hearing;
 mod requests;
 
 use crate::buffer::{
-    Buffer, changes_in, find, has_keys, insert_over, is_full, is_known, put_over, touch,
+    Buffer, can_insert, changes_in, find, has_keys, has_room, insert_over, is_full, is_known,
+    put_over, touch,
 };
 use crate::state::{Miss, Terms};
 use indexmap::IndexMap;
@@ -112,6 +113,20 @@ impl Transaction {
         ensures { result ≡ is_known (buffered self.now.buffer key.now) }
     {
         is_known(&self.buffer, key)
+    }
+
+    /// Whether the key of these bytes is in the buffer or would not be one too many there.
+    pub fn has_room(&self, key: &[u8]) -> bool
+        ensures { result ≡ not (is_full self.now.buffer key.now) }
+    {
+        has_room(&self.buffer, key)
+    }
+
+    /// Whether the buffer has no value of the key of these bytes, so that it may be inserted.
+    pub fn can_insert(&self, key: &[u8]) -> bool
+        ensures { (value : Value) → result ≡ is_some (inserted self.now.buffer key.now value) }
+    {
+        can_insert(&self.buffer, key)
     }
 
     /// Enters a change of a key into the buffer. A key that is there keeps its place.

@@ -1,12 +1,12 @@
-//! What a session does in its buffer: it puts, deletes and locks keys, and declares them.
-ghost use Rattle.std.specs.Prelude.{◌≡◌, ◌<◌, ◌⊎◌, true, false, IfErr, OnOk, OnErr};
+//! What a session does in its buffer: it puts, inserts, deletes and locks keys, and declares them.
+ghost use Rattle.std.specs.Prelude.{◌≡◌, ◌<◌, Some, true, false, is_some, IfErr, OnOk, OnErr};
 ghost use Rattle.tx_types.specs.declared.mutation.Mutation.TheVariants as mutation;
-ghost use Rattle.tx_transaction.specs.Buffers.{touched, put_over, buffered, locked, is_full};
+ghost use Rattle.tx_transaction.specs.Buffers.{touched, put_over, inserted, buffered, locked, is_full};
 ghost use Rattle.tx_client.specs.Calls.{seated};
 ghost use Rattle.tx_transaction.specs.Sessions.{is_declared};
 ghost use Rattle.tx_post.specs.Posts.{Desk};
 ghost use Rattle.tx_play.specs.Places.{Did};
-ghost use Rattle.tx_play.specs.Scenes.{is_key as key_test, is_value as value_test, puts, deletes, locks, declares, entered_by};
+ghost use Rattle.tx_play.specs.Scenes.{is_key as key_test, is_value as value_test, puts, inserts, deletes, locks, declares, entered_by};
 
 use crate::acts::declare_at;
 use crate::deeds::{is_key, is_value};
@@ -27,22 +27,44 @@ fn enter_put<J: Naming>(
 ) -> Result<(), Fault>
     requires undeclared { is_declared session.old.state ≡ false }
     requires fits { (key_test key.now ≡ true) × (value_test value.now ≡ true) }
-    ensures ok { OnOk result ((is_full session.old.state.buffer key.now ≡ false) × (session.new ≡ seated (record session.old.state { buffer = touched session.old.state.buffer key.now (put_over (buffered session.old.state.buffer key.now) value.now) }) session.old.seat)) }
+    requires room { is_full session.old.state.buffer key.now ≡ false }
+    ensures ok { OnOk result (session.new ≡ seated (record session.old.state { buffer = touched session.old.state.buffer key.now (put_over (buffered session.old.state.buffer key.now) value.now) }) session.old.seat) }
     ensures same { OnErr result (session.new ≡ session.old) }
-    ensures err { IfErr result (λ e. (e ≡ Fault.OutOfMemory) ⊎ ((e ≡ Fault.TooManyKeys) × (is_full session.old.state.buffer key.now ≡ true))) }
+    ensures err { IfErr result (λ e. e ≡ Fault.OutOfMemory) }
 {
     let key = Key::new(alloc, key.as_bytes())?;
     let value = Value::new(alloc, value.as_bytes())?;
     session.put(key, value)
 }
 
+// Enters an insert into the buffer, which has no value of the key.
+fn enter_insert<J: Naming>(
+    alloc: Global,
+    session: &mut Session<J>,
+    key: &str,
+    value: &str,
+) -> Result<(), Fault>
+    requires undeclared { is_declared session.old.state ≡ false }
+    requires fits { (key_test key.now ≡ true) × (value_test value.now ≡ true) }
+    requires room { is_full session.old.state.buffer key.now ≡ false }
+    requires free { is_some (inserted session.old.state.buffer key.now value.now) ≡ true }
+    ensures ok { OnOk result ((inserted session.old.state.buffer key.now value.now ≡ Some session.new.state.buffer) × (session.new ≡ seated (record session.old.state { buffer = session.new.state.buffer }) session.old.seat)) }
+    ensures same { OnErr result (session.new ≡ session.old) }
+    ensures err { IfErr result (λ e. e ≡ Fault.OutOfMemory) }
+{
+    let key = Key::new(alloc, key.as_bytes())?;
+    let value = Value::new(alloc, value.as_bytes())?;
+    session.insert(key, value)
+}
+
 // Enters a delete into the buffer.
 fn enter_delete<J: Naming>(alloc: Global, session: &mut Session<J>, key: &str) -> Result<(), Fault>
     requires undeclared { is_declared session.old.state ≡ false }
     requires fits { key_test key.now ≡ true }
-    ensures ok { OnOk result ((is_full session.old.state.buffer key.now ≡ false) × (session.new ≡ seated (record session.old.state { buffer = touched session.old.state.buffer key.now mutation.Delete }) session.old.seat)) }
+    requires room { is_full session.old.state.buffer key.now ≡ false }
+    ensures ok { OnOk result (session.new ≡ seated (record session.old.state { buffer = touched session.old.state.buffer key.now mutation.Delete }) session.old.seat) }
     ensures same { OnErr result (session.new ≡ session.old) }
-    ensures err { IfErr result (λ e. (e ≡ Fault.OutOfMemory) ⊎ ((e ≡ Fault.TooManyKeys) × (is_full session.old.state.buffer key.now ≡ true))) }
+    ensures err { IfErr result (λ e. e ≡ Fault.OutOfMemory) }
 {
     let key = Key::new(alloc, key.as_bytes())?;
     session.delete(key)
@@ -52,9 +74,10 @@ fn enter_delete<J: Naming>(alloc: Global, session: &mut Session<J>, key: &str) -
 fn enter_lock<J: Naming>(alloc: Global, session: &mut Session<J>, key: &str) -> Result<(), Fault>
     requires undeclared { is_declared session.old.state ≡ false }
     requires fits { key_test key.now ≡ true }
-    ensures ok { OnOk result ((is_full session.old.state.buffer key.now ≡ false) × (session.new ≡ seated (record session.old.state { buffer = locked session.old.state.buffer key.now }) session.old.seat)) }
+    requires room { is_full session.old.state.buffer key.now ≡ false }
+    ensures ok { OnOk result (session.new ≡ seated (record session.old.state { buffer = locked session.old.state.buffer key.now }) session.old.seat) }
     ensures same { OnErr result (session.new ≡ session.old) }
-    ensures err { IfErr result (λ e. (e ≡ Fault.OutOfMemory) ⊎ ((e ≡ Fault.TooManyKeys) × (is_full session.old.state.buffer key.now ≡ true))) }
+    ensures err { IfErr result (λ e. e ≡ Fault.OutOfMemory) }
 {
     let key = Key::new(alloc, key.as_bytes())?;
     session.lock(key)
@@ -90,7 +113,39 @@ pub(crate) fn put<J: Naming>(
     if !is_value(value) {
         return Ok(Reply::ValueLength);
     }
+    if !session.has_room(key.as_bytes()) {
+        return Ok(Reply::TooManyKeys);
+    }
     let entered = enter_put(alloc, session, key, value);
+    Ok(reply_to(entered))
+}
+
+/// It enters an insert, where its buffer has no value of the key. `Order` after it declared.
+#[inline(never)]
+pub(crate) fn insert<J: Naming>(
+    alloc: Global,
+    session: &mut Session<J>,
+    key: &str,
+    value: &str,
+) -> Result<Reply, Cause>
+    ensures { (desk : Desk) → Did J.bounds (λ refused scene k s. inserts refused scene k s key.now value.now) result session.old session.new desk desk }
+{
+    if session.is_declared() {
+        return Err(Cause::Order);
+    }
+    if !is_key(key) {
+        return Ok(Reply::KeyLength);
+    }
+    if !is_value(value) {
+        return Ok(Reply::ValueLength);
+    }
+    if !session.has_room(key.as_bytes()) {
+        return Ok(Reply::TooManyKeys);
+    }
+    if !session.can_insert(key.as_bytes()) {
+        return Ok(Reply::AlreadyExists);
+    }
+    let entered = enter_insert(alloc, session, key, value);
     Ok(reply_to(entered))
 }
 
@@ -108,6 +163,9 @@ pub(crate) fn delete<J: Naming>(
     }
     if !is_key(key) {
         return Ok(Reply::KeyLength);
+    }
+    if !session.has_room(key.as_bytes()) {
+        return Ok(Reply::TooManyKeys);
     }
     let entered = enter_delete(alloc, session, key);
     Ok(reply_to(entered))
@@ -127,6 +185,9 @@ pub(crate) fn lock<J: Naming>(
     }
     if !is_key(key) {
         return Ok(Reply::KeyLength);
+    }
+    if !session.has_room(key.as_bytes()) {
+        return Ok(Reply::TooManyKeys);
     }
     let entered = enter_lock(alloc, session, key);
     Ok(reply_to(entered))

@@ -58,8 +58,11 @@ returns-in-Err-clause-err g c =
     let terms = c.args.terms in
     let e = c.in-Err.fault in
     let same = c.in-Err.ensures.same in
-    let heard : HasHeard bounds old.seat from.newest l = subst (λ (h : History). HasHeard bounds old.seat h l) c.newest.ensures.told c.hear_of.ensures.heard in (
-      subst (λ (s : State). (e ≡ fault.OutOfMemory) ⊎ ((e ≡ fault.TooManyKeys) × (exceeds s.buffer terms ≡ true))) c.hear_of.ensures.state (inr (elim c.in-Err.ensures.err [ inl y ↦ y | inr y ↦ (let few = y.1 in let ticks = heard.ticks in let some = c.requires.ticks in absurd (omega (arith, few, ticks, some))) ])),
+    let heard : HasHeard bounds old.seat from.newest l = subst (λ (h : History). HasHeard bounds old.seat h l) c.newest.ensures.told c.hear_of.ensures.heard in
+    let many : (e ≡ fault.TooManyKeys) × (exceeds c.hear_of.new.self.state.buffer terms ≡ true) =
+    elim c.in-Err.ensures.err [ inl y ↦ y | inr y ↦ (let few = y.1 in let ticks = heard.ticks in let some = c.requires.ticks in absurd (omega (arith, few, ticks, some))) ] in (
+      many.0,
+      subst (λ (s : State). exceeds s.buffer terms ≡ true) c.hear_of.ensures.state many.1,
       ap (λ (z : Seated). z.state) (c.tell-in-Err.ensures.same ∙ same) ∙ c.hear_of.ensures.state,
       subst (λ (z : Seated). Acts old.seat z.seat from to (stage_of to ≡ stage_of from)) (sym c.tell-in-Err.ensures.same)
           (heard_acts bounds from to old.seat l m.seat heard

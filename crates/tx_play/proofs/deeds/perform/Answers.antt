@@ -19,6 +19,10 @@ pub returns-in-Put : goal.returns-in-Put
 returns-in-Put g c =
     is_act g.J.Naming.bounds c.args.act.now _ c.put.result c.args.session.now c.put.new.session c.args.post.now c.args.post.now c.in-Put.is (c.put.ensures c.args.post.now)
 
+pub returns-in-Insert : goal.returns-in-Insert
+returns-in-Insert g c =
+    is_act g.J.Naming.bounds c.args.act.now _ c.insert.result c.args.session.now c.insert.new.session c.args.post.now c.args.post.now c.in-Insert.is (c.insert.ensures c.args.post.now)
+
 pub returns-in-Delete : goal.returns-in-Delete
 returns-in-Delete g c =
     is_act g.J.Naming.bounds c.args.act.now _ c.delete.result c.args.session.now c.delete.new.session c.args.post.now c.args.post.now c.in-Delete.is (c.delete.ensures c.args.post.now)

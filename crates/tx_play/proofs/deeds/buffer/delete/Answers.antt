@@ -1,5 +1,5 @@
 use Rattle.std.proofs.Common.{sym}
-use Rattle.tx_play.proofs.Entering.{delete_late, delete_key, delete_entered}
+use Rattle.tx_play.proofs.Entering.{delete_late, delete_key, delete_full, delete_entered, is_crowded, has_room}
 use Rattle.tx_play.proofs.deeds.buffer.delete.Goals as goal
 
 pub returns-then-is_declared : goal.returns-then-is_declared
@@ -8,7 +8,16 @@ returns-then-is_declared g c = λ desk. delete_late g.J.Naming.bounds c.args.ses
 pub returns-then-not-is_key : goal.returns-then-not-is_key
 returns-then-not-is_key g c = λ desk. delete_key g.J.Naming.bounds c.args.session.now desk c.args.key.now (sym c.if-is_declared.ensures) (sym c.if-not-is_key.ensures)
 
+pub returns-then-not-has_room : goal.returns-then-not-has_room
+returns-then-not-has_room g c = λ desk.
+    delete_full g.J.Naming.bounds c.args.session.now desk c.args.key.now (sym c.if-is_declared.ensures) (sym c.if-not-is_key.ensures)
+    (is_crowded c.args.session.now.state.buffer c.as_bytes.result.now c.args.key.now c.as_bytes.ensures.value c.if-not-has_room.ensures)
+
+pub enter_delete-requires-clause-room : goal.enter_delete-requires-clause-room
+enter_delete-requires-clause-room g c = has_room c.args.session.now.state.buffer c.as_bytes.result.now c.args.key.now c.as_bytes.ensures.value c.if-not-has_room.ensures
+
 pub returns : goal.returns
 returns g c = λ desk.
-    delete_entered g.J.Naming.bounds c.args.session.now desk c.args.key.now (sym c.if-is_declared.ensures) (sym c.if-not-is_key.ensures) c.enter_delete-entered.new.session
-    c.enter_delete-entered.result (c.enter_delete-entered.ensures.ok, c.enter_delete-entered.ensures.same, c.enter_delete-entered.ensures.err) c.reply_to.result c.reply_to.ensures
+    delete_entered g.J.Naming.bounds c.args.session.now desk c.args.key.now (sym c.if-is_declared.ensures) (sym c.if-not-is_key.ensures)
+    (has_room c.args.session.now.state.buffer c.as_bytes.result.now c.args.key.now c.as_bytes.ensures.value c.if-not-has_room.ensures)
+    c.enter_delete-entered.new.session c.enter_delete-entered.result (c.enter_delete-entered.ensures.ok, c.enter_delete-entered.ensures.same, c.enter_delete-entered.ensures.err) c.reply_to.result c.reply_to.ensures

@@ -1,5 +1,5 @@
 use Rattle.std.proofs.Common.{sym}
-use Rattle.tx_play.proofs.Entering.{put_late, put_key, put_value, put_entered}
+use Rattle.tx_play.proofs.Entering.{put_late, put_key, put_value, put_full, put_entered, is_crowded, has_room}
 use Rattle.tx_play.proofs.deeds.buffer.put.Goals as goal
 
 pub returns-then-is_declared : goal.returns-then-is_declared
@@ -11,7 +11,16 @@ returns-then-not-is_key g c = λ desk. put_key g.J.Naming.bounds c.args.session.
 pub returns-then-not-is_value : goal.returns-then-not-is_value
 returns-then-not-is_value g c = λ desk. put_value g.J.Naming.bounds c.args.session.now desk c.args.key.now c.args.value.now (sym c.if-is_declared.ensures) (sym c.if-not-is_key.ensures) (sym c.if-not-is_value.ensures)
 
+pub returns-then-not-has_room : goal.returns-then-not-has_room
+returns-then-not-has_room g c = λ desk.
+    put_full g.J.Naming.bounds c.args.session.now desk c.args.key.now c.args.value.now (sym c.if-is_declared.ensures) (sym c.if-not-is_key.ensures) (sym c.if-not-is_value.ensures)
+    (is_crowded c.args.session.now.state.buffer c.as_bytes.result.now c.args.key.now c.as_bytes.ensures.value c.if-not-has_room.ensures)
+
+pub enter_put-requires-clause-room : goal.enter_put-requires-clause-room
+enter_put-requires-clause-room g c = has_room c.args.session.now.state.buffer c.as_bytes.result.now c.args.key.now c.as_bytes.ensures.value c.if-not-has_room.ensures
+
 pub returns : goal.returns
 returns g c = λ desk.
-    put_entered g.J.Naming.bounds c.args.session.now desk c.args.key.now c.args.value.now (sym c.if-is_declared.ensures) (sym c.if-not-is_key.ensures) (sym c.if-not-is_value.ensures) c.enter_put-entered.new.session
-    c.enter_put-entered.result (c.enter_put-entered.ensures.ok, c.enter_put-entered.ensures.same, c.enter_put-entered.ensures.err) c.reply_to.result c.reply_to.ensures
+    put_entered g.J.Naming.bounds c.args.session.now desk c.args.key.now c.args.value.now (sym c.if-is_declared.ensures) (sym c.if-not-is_key.ensures) (sym c.if-not-is_value.ensures)
+    (has_room c.args.session.now.state.buffer c.as_bytes.result.now c.args.key.now c.as_bytes.ensures.value c.if-not-has_room.ensures)
+    c.enter_put-entered.new.session c.enter_put-entered.result (c.enter_put-entered.ensures.ok, c.enter_put-entered.ensures.same, c.enter_put-entered.ensures.err) c.reply_to.result c.reply_to.ensures

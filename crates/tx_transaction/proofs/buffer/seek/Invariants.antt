@@ -1,6 +1,6 @@
 use Rattle.std.proofs.Common.{◌≡◌, ◌<◌, ℕ, false, bytes_eq}
 use Rattle.tx_transaction.specs.Buffers.{key_at}
-use Rattle.tx_transaction.proofs.buffer.is_known.Given as goal
+use Rattle.tx_transaction.proofs.buffer.seek.Given as goal
 
 abbrev pub invariant-loop-i : goal.invariant-loop-i
 invariant-loop-i l = (k : ℕ) → k < l.i → bytes_eq (key_at l.buffer.entries k) l.key ≡ false

@@ -1,5 +1,0 @@
-use Rattle.tx_transaction.proofs.Places.{pair_at}
-use Rattle.tx_transaction.proofs.buffer.is_changed.Goals as goal
-
-pub returns : goal.returns
-returns c = rw ((pair_at c.args.buffer.now.entries c.args.i (c.in-Some.field-0-0.now, c.in-Some.entry.now) c.in-Some.ensures.entry).1) c.is_change.ensures
