@@ -12,29 +12,20 @@ pub fn key(alloc: Global, digit: u8) -> Option<Key> {
     Key::new(alloc, &[b'0'.wrapping_add(digit)]).ok()
 }
 
-// The value of a digit.
-fn value(alloc: Global, digit: u8) -> Option<Value> {
-    Value::new(alloc, &[b'0'.wrapping_add(digit)]).ok()
-}
-
 // A session's own buffer.
-fn put<J: Naming>(alloc: Global, session: &mut Session<J>, digit: u8, of: u8) -> Said {
+fn put<J: Naming>(alloc: Global, session: &mut Session<J>, digit: u8, value: u8) -> Said {
     if session.is_declared() {
         return ORDER;
     }
-    match (key(alloc, digit), value(alloc, of)) {
-        (Some(key), Some(value)) => by_change(session.put(key, value)),
-        _ => ORDER,
-    }
-}
-
-fn insert<J: Naming>(alloc: Global, session: &mut Session<J>, digit: u8, of: u8) -> Said {
-    if session.is_declared() {
+    let Some(key) = key(alloc, digit) else {
         return ORDER;
-    }
-    match (key(alloc, digit), value(alloc, of)) {
-        (Some(key), Some(value)) => by_change(session.insert(key, value)),
-        _ => ORDER,
+    };
+    match Value::new(alloc, &[b'0'.wrapping_add(value)]) {
+        Ok(value) => by_change(session.put(key, value)),
+        Err(fault) => {
+            drop(key);
+            by_fault(fault)
+        }
     }
 }
 
@@ -158,7 +149,6 @@ pub fn acts<J: Naming>(
 ) -> Said {
     match act {
         Act::Put(key, value) => put(alloc, session, key, value),
-        Act::Insert(key, value) => insert(alloc, session, key, value),
         Act::Delete(key) => delete(alloc, session, key),
         Act::Lock(key) => lock(alloc, session, key),
         Act::Declare(mode, most) => declare(session, mode, most),
