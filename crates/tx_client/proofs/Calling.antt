@@ -3,6 +3,7 @@ use Rattle.std.proofs.Common.{◌≡◌, ◌≤◌, ℕ, inl, inr, Bool, true, f
 use borrow.Author.Tests.{ltb-true}
 use Rattle.std.proofs.lemmas.List.Sums.{count_by-le-length}
 use Rattle.tx_types.specs.declared.key.Key.{Key}
+use Rattle.tx_types.specs.declared.value.Value.{Value}
 use Rattle.tx_plan.specs.declared.body.Body.{Body}
 use Rattle.tx_plan.specs.declared.answer.Answer.{Answer}
 use Rattle.tx_types.specs.Keys.{key_le}
@@ -30,12 +31,13 @@ use Rattle.tx_transaction.specs.declared.state.Came.{Came}
 use Rattle.tx_transaction.specs.declared.state.Phase.{Phase}
 use Rattle.tx_transaction.specs.declared.state.Phase.TheVariants as phase
 use Rattle.tx_transaction.specs.declared.state.Due.{Due}
+use Rattle.tx_transaction.specs.Buffers.{is_full, inserted}
 use Rattle.tx_transaction.specs.Sessions.{State, begun, is_declared, has_primary, can_draw, declaration, with_passed, unknown_by, undecided, finish_by, finish_of}
 use Rattle.tx_client.specs.Senders.{IsHeld, Reached, came_by, came_of, Learns}
 use Rattle.tx_client.specs.Facts.{CameSo, IsFor, IsSession, IsSeated}
 use Rattle.tx_client.specs.Calls.{Records, RecordsDeclared, Asks, IsDecidedSo}
 use Rattle.tx_client.proofs.Kept.{others_act}
-use Rattle.tx_client.proofs.Events.{began_ok, declared_none, drawn_is, may_declare_buffer, declared_ok, drew_ok, may_finish, passed_ok}
+use Rattle.tx_client.proofs.Events.{began_ok, inserted_ok, declared_none, drawn_is, may_declare_buffer, declared_ok, drew_ok, may_finish, passed_ok}
 use Rattle.tx_client.proofs.Due.{known_decided}
 
 -- ---- some region holds what is asked
@@ -71,6 +73,11 @@ came_reached bounds (Ok g) body old new learns given same = came_told bounds g b
 pub either : {A E : Type 0} (r : Result A E) (F : Type 0) (P : State → Type 0) (old good new : State) → OnOk r (F × (new ≡ good)) → OnErr r (new ≡ old) → P old → P good → P new
 either (Ok x) F P old good new ok same was now = subst P (sym ok.1) now
 either (Err e) F P old good new ok same was now = subst P (sym same) was
+
+-- a key was inserted into the buffer, or nothing was changed
+pub inserted_seated : {E : Type 0} (bounds : List Key) (k : Known) (old new : State) (key : Key) (value : Value) (r : Result (Unit {0}) E) → IsSeated bounds k old → is_declared old ≡ false → OnOk r ((is_full old.buffer key ≡ false) × (inserted old.buffer key value ≡ Some new.buffer) × (new ≡ record old { buffer = new.buffer })) → OnErr r (new ≡ old) → IsSeated bounds k new
+inserted_seated bounds k old new key value (Ok x) is not_yet ok same = subst (λ (s : State). IsSeated bounds k s) (sym ok.2) (is.0, inserted_ok k.events k.seat old is.1 key value new.buffer ok.1 not_yet)
+inserted_seated bounds k old new key value (Err e) is not_yet ok same = subst (λ (s : State). IsSeated bounds k s) (sym same) is
 
 -- the seat has seen more, and made no event
 pub seen_seated : (bounds : List Key) (k new : Known) (s : State) → IsSeated bounds k s → new.seat ≡ k.seat → HasSeen bounds k.seat k.events new.events → IsSeated bounds new s

@@ -1,8 +1,10 @@
 -- A session's own events may come, and keep what holds of its state: its begin, its puts, its declaration, its draw, and its end.
-use Rattle.std.proofs.Common.{◌≡◌, ◌≢◌, ℕ, ◌+◌, ◌==◌, ◌&&◌, ◌||◌, inl, inr, zero, suc, not, Bool, true, false, cond, List, [], ◌∷◌, Option, Some, None, is_some as some_test, bytes_eq, refl, sym, ap, subst, ◌∙◌, arith}
+use Rattle.std.proofs.Common.{◌≡◌, ◌≢◌, ℕ, ◌+◌, ◌++◌, ◌==◌, nat_eq, ◌&&◌, ◌||◌, inl, inr, zero, suc, not, Bool, true, false, cond, List, [], ◌∷◌, Option, Some, None, option_map, is_some as some_test, bytes_eq, refl, sym, ap, subst, ◌∙◌, arith}
+use Rattle.std.specs.List.{list_any}
 use Rattle.std.proofs.lemmas.Bool.{and_parts}
 use Rattle.std.proofs.lemmas.List.Elements.{Contains-push_cases}
 use Rattle.tx_types.specs.declared.key.Key.{Key}
+use Rattle.tx_types.specs.declared.value.Value.{Value}
 use Rattle.tx_types.specs.declared.mutation.Mutation.{Mutation}
 use Rattle.tx_types.specs.declared.mutation.Mutation.TheVariants as mutation
 use Rattle.tx_types.specs.declared.mutation.Fate.{Fate}
@@ -27,7 +29,7 @@ use Rattle.tx_core.proofs.runs.Consequences.{undeclared, unanswered, accepted_up
 use Rattle.tx_journal.specs.Known.{HasRecorded, HasDrawn}
 use Rattle.tx_transaction.specs.declared.state.Terms.{Terms}
 use Rattle.tx_transaction.specs.declared.state.Phase.TheVariants as phase
-use Rattle.tx_transaction.specs.Buffers.{Entries, fresh, buffered, touched, locked, not_empty, changes_of, place_from, first_place, is_zero, has_two_phase_lock}
+use Rattle.tx_transaction.specs.Buffers.{Entries, fresh, buffered, touched, insert_over, inserted, locked, not_empty, changes_of, place_from, first_place, is_zero, has_two_phase_lock}
 use Rattle.tx_transaction.specs.Sessions.{State, begun, is_declared, has_primary, declaration_of, declaration, is_open, can_draw, with_passed, outcome_of, unknown_by, undecided, finish_by, finish_of}
 use Rattle.tx_client.specs.Facts.{standing, Mark, Marks, IsReady, IsSession}
 use Rattle.tx_transaction.proofs.Entries.{distinct_touched}
@@ -95,6 +97,14 @@ module _ (h : History) (i : ℕ) (s : State) (is : IsSession h i s) where
   pub touched_ok : (k : Key) (m : Mutation) → is_declared s ≡ false → IsSession h i (record s { buffer = touched s.buffer k m })
   touched_ok k m not_yet = rebuffered (touched s.buffer k m) not_yet (distinct_touched s.buffer k m is.distinct) (marks_touched h s.start s.buffer k m is.marks)
 
+  -- an insert touches the key
+  pub inserted_ok : (k : Key) (v : Value) (es : Entries) → inserted s.buffer k v ≡ Some es → is_declared s ≡ false → IsSession h i (record s { buffer = es })
+  inserted_ok k v es is_so not_yet = go (insert_over (buffered s.buffer k) v) is_so
+    where
+      go : (m : Option Mutation) → option_map (touched s.buffer k) m ≡ Some es → IsSession h i (record s { buffer = es })
+      go None e = absurd (cc (e))
+      go (Some m) e = (let same : touched s.buffer k m ≡ es = cc (e) in subst (λ x. IsSession h i (record s { buffer = x })) same (touched_ok k m not_yet))
+
   pub locked_ok : (k : Key) → is_declared s ≡ false → IsSession h i (record s { buffer = locked s.buffer k })
   locked_ok k not_yet = go (some_test (buffered s.buffer k))
     where
@@ -105,19 +115,23 @@ module _ (h : History) (i : ℕ) (s : State) (is : IsSession h i s) where
   -- it may pass by one more transaction
   pub passed_ok : (t : ℕ) (b : Bool) → (b ≡ true → MayPass h s.start t) → IsSession h i (with_passed s t b)
   passed_ok t false may = is
-  passed_ok t true may =
-      record {
-        drew_start = is.drew_start;
-        begun = is.begun;
-        unanswered = is.unanswered;
-        stands = is.stands;
-        distinct = is.distinct;
-        marks = is.marks;
-        passes = λ u named. elim (Contains-push_cases s.bypass t u named) [ inl old ↦ is.passes u old | inr new ↦ subst (MayPass h s.start) new (may refl) ];
-        met = is.met;
-        ready = is.ready;
-        settled = is.settled;
-      }
+  passed_ok t true may = go (list_any (λ start. nat_eq start t) s.bypass)
+    where
+      go : (b : Bool) → IsSession h i (record s { bypass = cond b s.bypass (s.bypass ++ t ∷ []) })
+      go true = is
+      go false =
+          record {
+            drew_start = is.drew_start;
+            begun = is.begun;
+            unanswered = is.unanswered;
+            stands = is.stands;
+            distinct = is.distinct;
+            marks = is.marks;
+            passes = λ u named. elim (Contains-push_cases s.bypass t u named) [ inl old ↦ is.passes u old | inr new ↦ subst (MayPass h s.start) new (may refl) ];
+            met = is.met;
+            ready = is.ready;
+            settled = is.settled;
+          }
 
 -- ---- it declares
 

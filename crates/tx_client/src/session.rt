@@ -13,6 +13,7 @@ ghost use Rattle.tx_client.specs.Senders.{IsHeld, IsWay};
 ghost use Rattle.tx_client.specs.Walks.{Sends, due_walk, heartbeat_walk};
 ghost use Rattle.tx_client.specs.Facts.{CameSo, IsFor};
 ghost use Rattle.tx_client.specs.Calls.{seated, HasHeard, BeganAt, Records, Draws, RecordsDeclared, Asks};
+ghost use Rattle.tx_client.specs.Order.{IsDrawnAfter};
 
 mod ends;
 mod reads;
@@ -282,13 +283,15 @@ impl<J: Naming> Session<J> {
         self.transaction.declaration(alloc, placed, terms)
     }
 
-    /// Fixes the write set, and, where it is not empty, draws a number for it and records it. `TooManyKeys` where it is to commit
-    /// asynchronously and has more than 256 keys, `OracleSpent` where the ticks of its seat are spent: the session is then as it was.
-    /// It takes no memory.
+    /// Fixes the write set, and, where it is not empty, draws a number for it and records it. It
+    /// commits above each commit whose answer its seat knew of before. `TooManyKeys` where it is to
+    /// commit asynchronously and has more than 256 keys, `OracleSpent` where the ticks of its seat
+    /// are spent: the session is then as it was. It takes no memory.
     pub fn declare(&mut self, terms: Terms) -> Result<(), Fault>
         requires { is_declared self.old.state ≡ false }
         ensures ok { OnOk result ((exceeds self.old.state.buffer terms ≡ false) × (self.new.state ≡ record self.old.state { declared = Some terms; placed = self.new.state.placed }) × RecordsDeclared J.bounds self.old.seat (declaration self.old.state.start self.new.state.placed self.old.state.buffer terms) self.new.seat) }
         ensures none { OnOk result (not_empty self.old.state.buffer ≡ false → self.new.state.placed ≡ 0) }
+        ensures after_told { OnOk result (not_empty self.old.state.buffer ≡ true → IsDrawnAfter self.old.seat.events self.new.seat.events self.new.state.placed) }
         ensures same { OnErr result (self.new ≡ self.old) }
         ensures err { IfErr result (λ e. ((e ≡ fault.TooManyKeys) × (exceeds self.old.state.buffer terms ≡ true)) ⊎ ((e ≡ fault.OracleSpent) × (self.old.seat.ticks < 1))) }
     {

@@ -2,6 +2,7 @@
 use tx_stage::Step;
 
 mod asynchronous;
+mod inserts;
 mod limits;
 mod reads;
 mod two_phases;

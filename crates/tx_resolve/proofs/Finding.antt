@@ -155,5 +155,5 @@ ends_so h t fate.Aborted e = e
 pub settled_ok : (h : History) (t : ℕ) (end : Fate) (c : Came) → decided h t ≡ Done end → Ends h t (settled_by end c)
 settled_ok h t end came.Lost e = tt
 settled_ok h t end came.Unsaid e = tt
-settled_ok h t end (came.Said (answer.BelowSafePoint safe)) e = tt
-settled_ok h t end (came.Said _) e = ends_so h t end e
+settled_ok h t end (came.Said answer.Resolved) e = ends_so h t end e
+settled_ok h t end (came.Said _) e = tt

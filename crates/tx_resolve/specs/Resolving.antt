@@ -115,12 +115,11 @@ abbrev pub status_of : Fate → Status
 status_of (fate.Committed c) = status.Committed c
 status_of fate.Aborted = status.Aborted
 
--- a fate is the status, but where the lock that was met may stand yet
+-- a fate is the status once the lock that was met is answered resolved; any other answer says why to
+-- wait
 abbrev pub settled_by : Fate → Came → Status
-settled_by end came.Lost = status.Waiting cause.Reply
-settled_by end came.Unsaid = status.Waiting cause.OutOfMemory
-settled_by end (came.Said (answer.BelowSafePoint safe)) = status.Waiting cause.BelowSafePoint
-settled_by end (came.Said a) = status_of end
+settled_by end (came.Said answer.Resolved) = status_of end
+settled_by end c = status.Waiting (waiting_by c)
 
 -- ---- the walk
 

@@ -180,9 +180,7 @@ pub(crate) fn settled_by(fate: &Fate, came: &Came) -> Status
     ensures { result ≡ settled_by fate.now came.now }
 {
     match came {
-        Came::Lost => Status::Waiting(WaitCause::Reply),
-        Came::Unsaid => Status::Waiting(WaitCause::OutOfMemory),
-        Came::Said(Answer::BelowSafePoint { .. }) => Status::Waiting(WaitCause::BelowSafePoint),
-        Came::Said(_) => status_of(fate),
+        Came::Said(Answer::Resolved) => status_of(fate),
+        other => Status::Waiting(waiting_by(other)),
     }
 }

@@ -31,6 +31,7 @@ pub enum Act {
     /// Begins on a seat that may draw so few ticks, 0, 1 or 2.
     BeginShort(u32),
     Put(u8, u8),
+    Insert(u8, u8),
     Delete(u8),
     Lock(u8),
     /// In this mode, where no async lock may promise more than this.

@@ -52,6 +52,7 @@ pub fn by_answer(answer: &Answer) -> Said {
         Answer::CommitTsExpired { min } => ("E5", min.get()),
         Answer::TxnLockNotFound => ("E6", 0),
         Answer::BelowSafePoint { safe } => ("E7", safe.get()),
+        Answer::AlreadyExists => ("E17", 0),
         _ => ("other", 0),
     }
 }
@@ -106,6 +107,7 @@ pub fn by_came(came: Came) -> Said {
 pub fn by_fault(fault: Fault) -> Said {
     match fault {
         Fault::TooManyKeys => ("E15", 0),
+        Fault::AlreadyExists => ("E17", 0),
         Fault::OutOfMemory => ("E12", 0),
         Fault::OracleSpent => ("E11", 0),
         Fault::BelowSafePoint { safe } => ("E7", safe.get()),

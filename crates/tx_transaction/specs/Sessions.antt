@@ -1,5 +1,6 @@
 -- The rules of a session: what is due of it, and how what came of a request changes it. All of them are functions of its state.
-use Rattle.std.specs.Prelude.{◌≡◌, ℕ, nat_lt, zero, suc, ◌&&◌, ◌||◌, not, Bool, true, false, List, [], ◌∷◌, ◌++◌, length, Option, Some, None, is_some}
+use Rattle.std.specs.Prelude.{◌≡◌, ℕ, nat_lt, nat_eq, zero, suc, ◌&&◌, ◌||◌, not, Bool, true, false, cond, List, [], ◌∷◌, ◌++◌, length, Option, Some, None, is_some}
+use Rattle.std.specs.List.{list_any}
 use Rattle.tx_types.specs.declared.limits.TheConstants.{MAX_ASYNC_KEYS}
 use Rattle.tx_types.specs.declared.key.Key.{Key}
 use Rattle.tx_types.specs.declared.lock.LockInfo.{LockInfo}
@@ -293,10 +294,14 @@ after_read s (came.Said a) = record s { met = met_by a s.met }
 
 -- ---- what a resolver found
 
--- its reads may pass by a transaction that is aborted, or commits above its start
+-- these transactions and one more, where it is not among them
+abbrev pub with_one : List ℕ → ℕ → List ℕ
+with_one starts t = cond (list_any (λ start. nat_eq start t) starts) starts (starts ++ t ∷ [])
+
+-- its reads may pass by a transaction that is aborted, or commits above its start; each is named once
 abbrev pub with_passed : State → ℕ → Bool → State
 with_passed s t false = s
-with_passed s t true = record s { bypass = s.bypass ++ t ∷ [] }
+with_passed s t true = record s { bypass = with_one s.bypass t }
 
 -- ---- how it ends
 

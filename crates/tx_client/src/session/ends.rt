@@ -9,6 +9,7 @@ ghost use Rattle.tx_transaction.specs.Sessions.{with_passed, finish_of};
 ghost use Rattle.tx_client.specs.Statuses.{lies_above};
 ghost use Rattle.tx_client.specs.Calls.{HasHeard, Records, IsDecidedSo};
 ghost use Rattle.tx_client.specs.Facts.{standing};
+ghost use Rattle.tx_client.specs.Order.{CommitsAbove};
 
 use super::Session;
 use crate::resolved::{Decision, Met, Resolved};
@@ -124,11 +125,13 @@ impl<J: Naming> Session<J> {
         seat
     }
 
-    /// Ends the transaction with its outcome: the fate where it is known, read-only where nothing was declared, unknown where
-    /// there is a cause. Where there is none, the session comes back.
+    /// Ends the transaction with its outcome: the fate where it is known, read-only where nothing was
+    /// declared, unknown where there is a cause. A commit lies above each that was answered before
+    /// the number of its declaration was drawn. Where there is no outcome, the session comes back.
     #[inline(always)]
     pub fn finish(self) -> Result<(Outcome, Seat<J>), Session<J>>
         ensures ended { IfOk result (λ r. (finish_of self.state ≡ Some r.0) × Records J.bounds self.seat (Answered self.state.start r.0) r.1 × IsDecidedSo self.seat.events self.state.start r.0) }
+        ensures in_order { IfOk result (λ r. CommitsAbove self.seat.events self.state.placed r.0) }
         ensures open_yet { IfErr result (λ s. (finish_of self.state ≡ None) × (s ≡ self)) }
     {
         match self.outcome() {

@@ -29,6 +29,22 @@ fn put<J: Naming>(alloc: Global, session: &mut Session<J>, digit: u8, value: u8)
     }
 }
 
+fn insert<J: Naming>(alloc: Global, session: &mut Session<J>, digit: u8, value: u8) -> Said {
+    if session.is_declared() {
+        return ORDER;
+    }
+    let Some(key) = key(alloc, digit) else {
+        return ORDER;
+    };
+    match Value::new(alloc, &[b'0'.wrapping_add(value)]) {
+        Ok(value) => by_change(session.insert(key, value)),
+        Err(fault) => {
+            drop(key);
+            by_fault(fault)
+        }
+    }
+}
+
 fn delete<J: Naming>(alloc: Global, session: &mut Session<J>, digit: u8) -> Said {
     if session.is_declared() {
         return ORDER;
@@ -149,6 +165,7 @@ pub fn acts<J: Naming>(
 ) -> Said {
     match act {
         Act::Put(key, value) => put(alloc, session, key, value),
+        Act::Insert(key, value) => insert(alloc, session, key, value),
         Act::Delete(key) => delete(alloc, session, key),
         Act::Lock(key) => lock(alloc, session, key),
         Act::Declare(mode, most) => declare(session, mode, most),

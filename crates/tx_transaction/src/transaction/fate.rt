@@ -111,13 +111,14 @@ impl Transaction {
         }
     }
 
-    /// Its reads pass by one more transaction, where they may.
+    /// Its reads pass by one more transaction, where they may. It is named once, however often it is
+    /// passed.
     pub fn pass(&mut self, start: Ts, may: bool) -> Result<(), Fault>
         ensures ok { OnOk result (self.new ≡ with_passed self.old start may) }
         ensures same { OnErr result (self.new ≡ self.old) }
         ensures err { IfErr result (λ e. e ≡ Fault.OutOfMemory) }
     {
-        if may {
+        if may && !self.bypass.as_slice().contains(&start) {
             self.bypass.push(start)?;
         }
         Ok(())
