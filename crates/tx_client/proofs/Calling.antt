@@ -115,7 +115,7 @@ drew_seated bounds k new s c is can number drew = (drew.run, subst (λ i. IsSess
 
 -- ---- it ends
 
-decided_so : (bounds : List Key) (k : Known) (s : State) (o : Outcome) → IsSeated bounds k s → finish_of s ≡ Some o → IsDecidedSo k.events s.start o
+pub decided_so : (bounds : List Key) (k : Known) (s : State) (o : Outcome) → IsSeated bounds k s → finish_of s ≡ Some o → IsDecidedSo k.events s.start o
 decided_so bounds k s o is e = by_decision s.decision refl e
   where
     by_cause : (c : Option UnknownCause) → unknown_by c ≡ Some o → IsDecidedSo k.events s.start o

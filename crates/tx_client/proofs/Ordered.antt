@@ -40,9 +40,9 @@ declared_after bounds old new t p (e ∷ es) terms r some = drawn_after_known bo
 
 -- what a session answers is in order
 pub answers_in_order : (bounds : List Key) (k : Known) (s : State) (o : Outcome) → IsSeated bounds k s → IsDecidedSo k.events s.start o → CommitsAbove k.events s.placed o
-answers_in_order bounds k s (outcome.Committed c) is end u d before =
+answers_in_order bounds k s (outcome.Committed c) is end =
     let stands = stands_some bounds k.events is.0 k.seat s is.1 (decided_declared bounds k.events is.0 s.start (fate.Committed c) end) in
-    commits_in_order bounds k.events s.start u d c (declaration_of s.start s.placed s.buffer stands.0) is.0 stands.2 before end
+    λ u d before. commits_in_order bounds k.events s.start u d c (declaration_of s.start s.placed s.buffer stands.0) is.0 stands.2 before end
 answers_in_order bounds k s outcome.Aborted is end = tt
 answers_in_order bounds k s (outcome.Unknown why) is end = tt
 answers_in_order bounds k s outcome.ReadOnly is end = tt
