@@ -19,6 +19,7 @@ pub fn refused(fault: Fault) -> Words {
         Fault::KeyLength => Words::new(Reply::KeyLength),
         Fault::ValueLength => Words::new(Reply::ValueLength),
         Fault::TooManyKeys => Words::new(Reply::TooManyKeys),
+        Fault::AlreadyExists => Words::new(Reply::AlreadyExists),
         Fault::OracleSpent => Words::new(Reply::OracleSpent),
         _ => Words::new(Reply::OutOfMemory),
     }
@@ -60,6 +61,19 @@ fn put<J: Naming, F: Families + Drop, R: Wait + Drop>(
     session.put(key, value)
 }
 
+fn insert<J: Naming, F: Families + Drop, R: Wait + Drop>(
+    session: &mut Session<J>,
+    access: &Access<J, F, R>,
+    key: &str,
+    value: &str,
+) -> Result<(), Fault>
+    requires { is_declared session.old.state ≡ false }
+{
+    let key = Key::new(access.alloc, key.as_bytes())?;
+    let value = Value::new(access.alloc, value.as_bytes())?;
+    session.insert(key, value)
+}
+
 fn delete<J: Naming, F: Families + Drop, R: Wait + Drop>(
     session: &mut Session<J>,
     access: &Access<J, F, R>,
@@ -93,6 +107,7 @@ fn edits<J: Naming, F: Families + Drop, R: Wait + Drop>(
     }
     match action {
         Action::Put(key, value) => Ok(done(put(session, access, key, value))),
+        Action::Insert(key, value) => Ok(done(insert(session, access, key, value))),
         Action::Delete(key) => Ok(done(delete(session, access, key))),
         Action::Lock(key) => Ok(done(lock(session, access, key))),
         Action::Declare(mode, ttl, max) => {

@@ -73,7 +73,10 @@ impl<J: Naming, L: Source, F: Families + Drop, R: Wait + Drop> ScriptJob<J, L, F
         ensures { StaysSame self.old self.new }
     {
         match action {
-            Action::Put(key, _) | Action::Delete(key) | Action::Lock(key) => {
+            Action::Put(key, _)
+            | Action::Insert(key, _)
+            | Action::Delete(key)
+            | Action::Lock(key) => {
                 let key = Key::new(self.access.alloc, key.as_bytes())?;
                 self.touched.push(slot_of(&key))?;
                 Ok(())
