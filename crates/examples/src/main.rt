@@ -21,7 +21,7 @@ use tx_run::{Plain, Settings, run_script};
 use tx_sched::Open;
 use tx_script::{simulate, simulate_checked, simulate_checked_with, simulate_with};
 
-const SCRIPTS: [&str; 16] = [
+const SCRIPTS: [&str; 17] = [
     "abandoned_async.script",
     "collection.script",
     "commit_then_read.script",
@@ -36,6 +36,7 @@ const SCRIPTS: [&str; 16] = [
     "rollback_shares_a_record.script",
     "ticks_run_out.script",
     "truncated_script.script",
+    "two_inserts.script",
     "two_regions.script",
     "write_conflict.script",
 ];

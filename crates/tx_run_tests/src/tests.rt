@@ -49,7 +49,7 @@ fn writes<R: Threads + Wait + Sync + Send + Clone + Drop>(
     Ok(same)
 }
 
-static ALONE: [(&str, &str); 14] = [
+static ALONE: [(&str, &str); 15] = [
     ("", "[\"outcomes\",0,0,0,0]\n[\"total\",0]\n"),
     ("[\"begin\",\"A\"]\n[", "[2,\"E16\",\"json\"]\n"),
     ("[\"tick\",1]\n", "[1,\"E16\",\"form\"]\n"),
@@ -63,7 +63,7 @@ static ALONE: [(&str, &str); 14] = [
     ),
     (
         "[\"seed\",\"a\",\"30\"]\n[\"transfer\",\"A\",\"a\",\"b\",31,\"async\"]\n[\"transfer\",\"A\",\"a\",\"b\",30,\"async\"]\n",
-        "[1,\"ok\"]\n[2,\"outcome\",\"read-only\"]\n[3,\"outcome\",\"committed\",5]\n[\"outcomes\",1,0,0,1]\n[\"total\",30]\n",
+        "[1,\"ok\"]\n[2,\"outcome\",\"read-only\"]\n[3,\"outcome\",\"committed\",7]\n[\"outcomes\",1,0,0,1]\n[\"total\",30]\n",
     ),
     (
         "[\"seed\",\"a\",\"999999999999999\"]\n[\"seed\",\"b\",\"1\"]\n[\"transfer\",\"A\",\"b\",\"a\",1,\"two-phase\"]\n",
@@ -91,11 +91,15 @@ static ALONE: [(&str, &str); 14] = [
     ),
     (
         "[\"begin\",\"A\"]\n[\"put\",\"A\",\"a\",\"5\"]\n[\"declare\",\"A\",\"two-phase\",10]\n[\"prewrite\",\"A\"]\n[\"draw\",\"A\"]\n[\"commit\",\"A\"]\n[\"finish\",\"A\"]\n[\"begin\",\"A\"]\n[\"scan\",\"A\",\"a\",\"z\",10]\n[\"stop\",\"A\"]\n",
-        "[1,\"start\",1]\n[2,\"ok\"]\n[3,\"ok\"]\n[4,\"prewritten\",0]\n[5,\"drawn\",2]\n[6,\"committed\",2]\n[7,\"outcome\",\"committed\",2]\n[8,\"start\",3]\n[9,\"rows\",[[\"a\",\"5\"]]]\n[10,\"ok\"]\n[\"outcomes\",1,0,0,0]\n[\"total\",5]\n",
+        "[1,\"start\",1]\n[2,\"ok\"]\n[3,\"ok\"]\n[4,\"prewritten\",0]\n[5,\"drawn\",3]\n[6,\"committed\",3]\n[7,\"outcome\",\"committed\",3]\n[8,\"start\",4]\n[9,\"rows\",[[\"a\",\"5\"]]]\n[10,\"ok\"]\n[\"outcomes\",1,0,0,0]\n[\"total\",5]\n",
     ),
     (
         "[\"begin\",\"A\"]\n[\"put\",\"A\",\"a\",\"5\"]\n[\"put\",\"A\",\"b\",\"6\"]\n[\"declare\",\"A\",\"async\",10]\n[\"prewrite\",\"A\"]\n[\"stop\",\"A\"]\n[\"begin\",\"A\"]\n[\"get\",\"A\",\"a\"]\n[\"resolve\",\"A\",100]\n[\"get\",\"A\",\"a\"]\n",
-        "[1,\"start\",1]\n[2,\"ok\"]\n[3,\"ok\"]\n[4,\"ok\"]\n[5,\"prewritten\",2]\n[6,\"ok\"]\n[7,\"start\",2]\n[8,\"E1\",\"a\",1,\"a\",2,\"async\"]\n[9,\"status\",\"aborted\"]\n[10,\"none\"]\n[\"outcomes\",0,0,0,0]\n[\"total\",0]\n",
+        "[1,\"start\",1]\n[2,\"ok\"]\n[3,\"ok\"]\n[4,\"ok\"]\n[5,\"prewritten\",3]\n[6,\"ok\"]\n[7,\"start\",3]\n[8,\"E1\",\"a\",1,\"a\",3,\"async\"]\n[9,\"status\",\"aborted\"]\n[10,\"none\"]\n[\"outcomes\",0,0,0,0]\n[\"total\",0]\n",
+    ),
+    (
+        "[\"begin\",\"A\"]\n[\"insert\",\"A\",\"a\",\"7\"]\n[\"insert\",\"A\",\"a\",\"8\"]\n[\"declare\",\"A\",\"two-phase\",10]\n[\"prewrite\",\"A\"]\n[\"draw\",\"A\"]\n[\"commit\",\"A\"]\n[\"finish\",\"A\"]\n[\"begin\",\"A\"]\n[\"insert\",\"A\",\"a\",\"9\"]\n[\"declare\",\"A\",\"two-phase\",10]\n[\"prewrite\",\"A\"]\n[\"abort\",\"A\"]\n[\"abort\",\"A\"]\n[\"finish\",\"A\"]\n[\"begin\",\"A\"]\n[\"delete\",\"A\",\"a\"]\n[\"insert\",\"A\",\"a\",\"6\"]\n[\"get\",\"A\",\"a\"]\n[\"stop\",\"A\"]\n",
+        "[1,\"start\",1]\n[2,\"ok\"]\n[3,\"E17\"]\n[4,\"ok\"]\n[5,\"prewritten\",0]\n[6,\"drawn\",3]\n[7,\"committed\",3]\n[8,\"outcome\",\"committed\",3]\n[9,\"start\",4]\n[10,\"ok\"]\n[11,\"ok\"]\n[12,\"E17\"]\n[13,\"rolled-back\"]\n[14,\"done\"]\n[15,\"outcome\",\"aborted\"]\n[16,\"start\",6]\n[17,\"ok\"]\n[18,\"ok\"]\n[19,\"value\",\"6\"]\n[20,\"ok\"]\n[\"outcomes\",1,1,0,0]\n[\"total\",7]\n",
     ),
 ];
 
