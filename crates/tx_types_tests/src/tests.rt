@@ -168,6 +168,17 @@ fn lists_copy(rt: HostRuntime) {
     assert!(rt; matches!(changes_copied(&rt, b"a"), Ok(1)));
 }
 
+// The kind of lock that a copy of an insert takes.
+fn kind_of_an_insert(rt: &HostRuntime) -> Result<LockKind, Fault> {
+    let insert = Mutation::Insert(Value::new(rt.alloc(), b"x")?);
+    Ok(insert.clone()?.kind())
+}
+
+#[test]
+fn inserts_lock_as_puts(rt: HostRuntime) {
+    assert!(rt; matches!(kind_of_an_insert(&rt), Ok(LockKind::Put)));
+}
+
 fn text_of(rt: &HostRuntime, fault: Fault) -> String {
     match format!(in rt.alloc(); "{fault}") {
         Ok(text) => text,
@@ -203,6 +214,10 @@ fn refusals_say_what_to_do(rt: HostRuntime) -> Result<(), Fail> {
     assert_eq!(rt;
         text.as_str(),
         "key \"b\\\"\\x0a\" is locked by the transaction that started at 1 with the primary \"a\": resolve the lock, or try again when it is gone"
+    );
+    assert_eq!(rt;
+        text_of(&rt, Fault::AlreadyExists).as_str(),
+        "the key that is to be inserted has a value"
     );
     Ok(())
 }

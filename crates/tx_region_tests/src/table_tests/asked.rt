@@ -14,8 +14,8 @@ use tx_types::{Fate, Fault, Key, Mode, Mutation, RegionNo, Secondaries, Ts, Valu
 pub enum What {
     /// Puts a value of so many bytes.
     Put(usize),
-    /// Inserts a value of one byte.
-    Insert,
+    /// Inserts such a value.
+    Insert(usize),
     Delete,
     Lock,
 }
@@ -90,13 +90,15 @@ fn scan(alloc: Global, from: u8, to: u8, at: u64, limit: u32, bypass: u64) -> Re
     Ok(Body::Scan(BoxedScan::new(alloc, body)?))
 }
 
+fn value(alloc: Global, length: usize) -> Result<Value, Fault> {
+    let bytes = [b'x'; 300];
+    Value::new(alloc, &bytes[..length.min(300)])
+}
+
 fn mutation(alloc: Global, what: What) -> Result<Mutation, Fault> {
     match what {
-        What::Put(length) => {
-            let bytes = [b'x'; 300];
-            Ok(Mutation::Put(Value::new(alloc, &bytes[..length.min(300)])?))
-        }
-        What::Insert => Ok(Mutation::Insert(Value::new(alloc, b"y")?)),
+        What::Put(length) => Ok(Mutation::Put(value(alloc, length)?)),
+        What::Insert(length) => Ok(Mutation::Insert(value(alloc, length)?)),
         What::Delete => Ok(Mutation::Delete),
         What::Lock => Ok(Mutation::Lock),
     }

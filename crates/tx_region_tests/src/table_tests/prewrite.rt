@@ -26,7 +26,7 @@ const LOCK_ON_5: [u64; 6] = [6, 10, 1, 5, 0, 0];
 
 const AT_10: [u64; 6] = [0, 0, 1, 10, 0, 0];
 
-const ROWS: [Row; 18] = [
+const ROWS: [Row; 20] = [
     (SAFE, Prewrite(b'k', 2, Lock), (BelowSafePoint, 3, 0), BARE),
     (FREE, Prewrite(b'k', 21, Lock), FUTURE, BARE),
     (OWN, PLAIN, LOCKED, LOCK_6),
@@ -39,6 +39,8 @@ const ROWS: [Row; 18] = [
     (SHARED, PLAIN, LOCKED, LOCK_ON_5),
     (FREE, Prewrite(b'k', 5, Put(255)), LOCKED, LOCK_6),
     (FREE, Prewrite(b'k', 5, Put(256)), LOCKED, LOCK_AND_LONG),
+    (FREE, Prewrite(b'k', 5, Insert(255)), LOCKED, LOCK_6),
+    (FREE, Prewrite(b'k', 5, Insert(256)), LOCKED, LOCK_AND_LONG),
     (FREE, Prewrite(b'k', 5, Delete), LOCKED, LOCK_6),
     (FREE, Prewrite(b'k', 5, Lock), LOCKED, LOCK_6),
     (READ, PROMISING, (Prewritten, 12, 0), LOCK_12),
@@ -52,7 +54,7 @@ fn rows_of_prewrite(rt: HostRuntime) {
     assert_eq!(rt; first_wrong(rt.alloc(), &ROWS), None);
 }
 
-const INSERT: Ask = Prewrite(b'k', 5, Insert);
+const INSERT: Ask = Prewrite(b'k', 5, Insert(1));
 
 // A value from 2 on: short or long, locked since, or deleted at 4 with a rollback at 3.
 const VALUE: &[Ask] = &[Prewrite(b'k', 1, Put(1)), Commit(b'k', 1, 2)];
