@@ -28,3 +28,5 @@ pub mod Taken
 pub mod Lone
 -- The places once the empty ones are dropped.
 pub mod Compact
+-- No two granted commands share a slot.
+pub mod Apart

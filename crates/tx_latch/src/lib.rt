@@ -5,9 +5,11 @@
 mod asked;
 mod cid;
 mod latches;
+mod laws;
 mod queues;
 mod slot;
 
 pub use cid::Cid;
 pub use latches::Latches;
+pub use laws::latches_keep_apart;
 pub use slot::{Slot, slot_of};
