@@ -4,3 +4,5 @@ pub mod Places
 pub mod Finding
 -- The buffer by places: what it declares, and what stands in it.
 pub mod Entries
+-- What is known of a fate stays, and which rollbacks are due.
+pub mod Turns

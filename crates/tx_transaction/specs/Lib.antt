@@ -1,3 +1,4 @@
 pub mod Buffers
 pub mod Sessions
 pub mod Returns
+pub mod Turns

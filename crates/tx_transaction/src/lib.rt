@@ -4,8 +4,10 @@
 
 mod answers;
 mod buffer;
+mod laws;
 mod state;
 mod transaction;
 
+pub use laws::{decision_stays, rollback_once_aborted};
 pub use state::{Came, Due, Entry, Miss, Phase, Progress, Terms};
 pub use transaction::Transaction;
