@@ -9,6 +9,7 @@ use Rattle.tx_plan.specs.declared.body.Body.TheVariants as request
 use Rattle.tx_plan.specs.declared.body.BatchRollback.{BatchRollback}
 use Rattle.tx_plan.specs.declared.answer.Answer.{Answer}
 use Rattle.tx_core.specs.Decisions.{fate_in}
+use Rattle.tx_core.proofs.Basics.{some_same}
 use Rattle.tx_transaction.specs.declared.state.Terms.{Terms}
 use Rattle.tx_transaction.specs.declared.state.Phase.{Phase}
 use Rattle.tx_transaction.specs.declared.state.Phase.TheVariants as phase
@@ -72,15 +73,15 @@ key_in (request.BatchRollback b) = Some b.key
 key_in _ = None
 
 body_same : (d e : Due) → Some d ≡ Some e → d.body ≡ e.body
-body_same d e is = ap (λ (x : Due). x.body) (cc (is))
+body_same d e is = ap (λ (x : Due). x.body) (some_same d e is)
 
 module _ (s : State) (due : Due) (b : BatchRollback) (asks : due.body ≡ request.BatchRollback b) where
   -- what is due is none that is no rollback
   another : (d : Due) → is_rollback d.body ≡ false → Some d ≡ Some due → ⊥
-  another d no is =
+  another d other is =
       let same : d.body ≡ request.BatchRollback b = body_same d due is ∙ asks in
-      let yes : is_rollback d.body ≡ true = ap is_rollback same in
-      cc (yes, no)
+      let rolls : is_rollback d.body ≡ true = ap is_rollback same in
+      cc (rolls, other)
 
   no_prewrite : (o : Option Terms) (place : Option ℕ) → prewrite_at s o place ≡ Some due → ⊥
   no_prewrite None place is = cc (is)
