@@ -13,8 +13,8 @@ returns-then-not-has_room g c = λ desk.
     delete_full g.J.Naming.bounds c.args.session.now desk c.args.key.now (sym c.if-is_declared.ensures) (sym c.if-not-is_key.ensures)
     (is_crowded c.args.session.now.state.buffer c.as_bytes.result.now c.args.key.now c.as_bytes.ensures.value c.if-not-has_room.ensures)
 
-pub enter_delete-requires-clause-room : goal.enter_delete-requires-clause-room
-enter_delete-requires-clause-room g c = has_room c.args.session.now.state.buffer c.as_bytes.result.now c.args.key.now c.as_bytes.ensures.value c.if-not-has_room.ensures
+pub enter_delete-entered-requires-clause-room : goal.enter_delete-entered-requires-clause-room
+enter_delete-entered-requires-clause-room g c = has_room c.args.session.now.state.buffer c.as_bytes.result.now c.args.key.now c.as_bytes.ensures.value c.if-not-has_room.ensures
 
 pub returns : goal.returns
 returns g c = λ desk.

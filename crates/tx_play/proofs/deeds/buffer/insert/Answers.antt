@@ -22,8 +22,8 @@ returns-then-not-can_insert g c = λ desk.
     (has_room c.args.session.now.state.buffer c.as_bytes.result.now c.args.key.now c.as_bytes.ensures.value c.if-not-has_room.ensures)
     (is_free c.args.session.now.state.buffer c.as_bytes-2.result.now c.args.key.now c.as_bytes-2.ensures.value false c.args.value.now c.if-not-can_insert.ensures)
 
-pub enter_insert-requires-clause-room : goal.enter_insert-requires-clause-room
-enter_insert-requires-clause-room g c = has_room c.args.session.now.state.buffer c.as_bytes.result.now c.args.key.now c.as_bytes.ensures.value c.if-not-has_room.ensures
+pub enter_insert-entered-requires-clause-room : goal.enter_insert-entered-requires-clause-room
+enter_insert-entered-requires-clause-room g c = has_room c.args.session.now.state.buffer c.as_bytes.result.now c.args.key.now c.as_bytes.ensures.value c.if-not-has_room.ensures
 
 pub returns : goal.returns
 returns g c = λ desk.

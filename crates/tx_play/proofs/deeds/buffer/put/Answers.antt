@@ -16,8 +16,8 @@ returns-then-not-has_room g c = λ desk.
     put_full g.J.Naming.bounds c.args.session.now desk c.args.key.now c.args.value.now (sym c.if-is_declared.ensures) (sym c.if-not-is_key.ensures) (sym c.if-not-is_value.ensures)
     (is_crowded c.args.session.now.state.buffer c.as_bytes.result.now c.args.key.now c.as_bytes.ensures.value c.if-not-has_room.ensures)
 
-pub enter_put-requires-clause-room : goal.enter_put-requires-clause-room
-enter_put-requires-clause-room g c = has_room c.args.session.now.state.buffer c.as_bytes.result.now c.args.key.now c.as_bytes.ensures.value c.if-not-has_room.ensures
+pub enter_put-entered-requires-clause-room : goal.enter_put-entered-requires-clause-room
+enter_put-entered-requires-clause-room g c = has_room c.args.session.now.state.buffer c.as_bytes.result.now c.args.key.now c.as_bytes.ensures.value c.if-not-has_room.ensures
 
 pub returns : goal.returns
 returns g c = λ desk.
