@@ -6,7 +6,8 @@ mod FlatChanges
 mod FlatRows
 -- What the first entry from a version on says of the versions of its key.
 mod Nearest
--- The order of versions, and what the last entry before a version says of the newer versions of its key.
+-- The order of versions, and what the last entry before a version says of the newer versions of its
+-- key.
 mod Above
 -- A walk from the start of a value up its key's records finds whether the value is outdated.
 mod Outdating
@@ -20,9 +21,12 @@ mod SieveCounts
 mod FlatDrops
 -- The keys of which flat maps hold something, in order, and the rows of a walk over them.
 mod HeldKeys
--- What is known where a walk over flat maps keeps its place, and what of their entries is behind a key.
+-- What is known where a walk over flat maps keeps its place, and what of their entries is behind a
+-- key.
 mod Places
 -- What a walk over flat maps sees of the key that it passes, and where it stands then.
 mod Passing
 -- No write record is above the ceiling of its key, whatever changes.
 mod FlatBounds
+-- What changes of the map of numbers make of the numbers of keys.
+pub mod FlatNumbers

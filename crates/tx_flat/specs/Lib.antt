@@ -3,3 +3,4 @@ pub mod NextKeys
 pub mod Sieves
 pub mod Places
 pub mod Ceilings
+pub mod Numbered

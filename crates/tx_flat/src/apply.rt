@@ -18,7 +18,8 @@ use tx_encoded::{
 use tx_plan::{KeyChange, Left};
 use tx_types::{Fault, Key, Ts};
 
-/// Leaves the rollback of the transaction that started then. `OutOfMemory` leaves the records as they were.
+/// Leaves the rollback of the transaction that started then. `OutOfMemory` leaves the records as
+/// they were.
 fn leave(
     writes: &mut BTreeMap<VersionBytes, WriteBytes>,
     alloc: Global,
@@ -59,6 +60,7 @@ impl FlatCells {
         requires { Applies (cells_of (flat_content self.old key.now)) (change.Ttl ttl) }
         ensures content { OnOk result (OnlyOn key.now (after (flat_content self.old key.now) (change.Ttl ttl)) (flat_content self.old) (flat_content self.new)) }
         ensures same { OnErr result (flat_content self.new ≡ flat_content self.old) }
+        ensures numbers { self.new.numbers ≡ self.old.numbers }
         ensures err { IfErr result (λ e. e ≡ Fault.OutOfMemory) }
     {
         let spelt = KeyBytes::new(alloc, key)?;
@@ -75,6 +77,7 @@ impl FlatCells {
         requires { Applies (cells_of (flat_content self.old key.now)) (change.Minimum min) }
         ensures content { OnOk result (OnlyOn key.now (after (flat_content self.old key.now) (change.Minimum min)) (flat_content self.old) (flat_content self.new)) }
         ensures same { OnErr result (flat_content self.new ≡ flat_content self.old) }
+        ensures numbers { self.new.numbers ≡ self.old.numbers }
         ensures err { IfErr result (λ e. e ≡ Fault.OutOfMemory) }
     {
         let spelt = KeyBytes::new(alloc, key)?;
@@ -97,6 +100,7 @@ impl FlatCells {
         requires { Applies (cells_of (flat_content self.old key.now)) (change.Commit commit overlapped_rollback) }
         ensures content { OnOk result (OnlyOn key.now (after (flat_content self.old key.now) (change.Commit commit overlapped_rollback)) (flat_content self.old) (flat_content self.new)) }
         ensures same { OnErr result (flat_content self.new ≡ flat_content self.old) }
+        ensures numbers { self.new.numbers ≡ self.old.numbers }
         ensures err { IfErr result (λ e. e ≡ Fault.OutOfMemory) }
     {
         let _ticks = commit.get();
@@ -124,6 +128,7 @@ impl FlatCells {
         requires { Applies (cells_of (flat_content self.old key.now)) (change.RollBack start removes_lock left) }
         ensures content { OnOk result (OnlyOn key.now (after (flat_content self.old key.now) (change.RollBack start removes_lock left)) (flat_content self.old) (flat_content self.new)) }
         ensures same { OnErr result (flat_content self.new ≡ flat_content self.old) }
+        ensures numbers { self.new.numbers ≡ self.old.numbers }
         ensures err { IfErr result (λ e. e ≡ Fault.OutOfMemory) }
     {
         let _ticks = start.get();
@@ -150,6 +155,7 @@ impl FlatCells {
         ensures content { OnOk result (OnlyOn key.now (after (flat_content self.old key.now) change) (flat_content self.old) (flat_content self.new)) }
         ensures cells { OnOk result (cells_of (flat_content self.new key.now) ≡ changed (cells_of (flat_content self.old key.now)) change) }
         ensures same { OnErr result (flat_content self.new ≡ flat_content self.old) }
+        ensures numbers { self.new.numbers ≡ self.old.numbers }
         ensures err { IfErr result (λ e. e ≡ Fault.OutOfMemory) }
     {
         match change {

@@ -1,5 +1,5 @@
 //! Records that go.
-ghost use Rattle.std.specs.Prelude.{◌≡◌, ◌≢◌, ◌↔◌, ℕ, ◌==◌, ◌<◌, ◌&&◌, ◌||◌, not, cond, nat_lt, IsTrue, Option, None, Some, IfSome, IfNone};
+ghost use Rattle.std.specs.Prelude.{◌≡◌, ◌≢◌, ◌≤◌, ◌↔◌, ℕ, ◌==◌, ◌<◌, ◌&&◌, ◌||◌, not, cond, nat_lt, IsTrue, Option, None, Some, IfSome, IfNone};
 ghost use Rattle.std.specs.BTreeMap as tree;
 ghost use Rattle.tx_types.specs.declared.key.Key.{Key};
 ghost use Rattle.tx_plan.specs.cases.Collect.{keeps, kept};
@@ -47,7 +47,8 @@ fn commits(rec: &WriteBytes, start: Ts) -> bool
     !rec.is_rollback() && rec.start() == start
 }
 
-/// Whether the transaction that put this value committed it, and a put or delete follows at the safe point or below.
+/// Whether the transaction that put this value committed it, and a put or delete follows at the
+/// safe point or below.
 fn is_outdated(
     writes: &BTreeMap<VersionBytes, WriteBytes>,
     version: &VersionBytes,
@@ -112,13 +113,16 @@ fn drop_records(writes: &mut BTreeMap<VersionBytes, WriteBytes>, safe: Ts)
 
 impl FlatCells {
     ghost use Rattle.tx_flat.specs.Flats.{flat_content};
+    ghost use Rattle.tx_flat.specs.Numbered.{flat_numbers};
 
-    /// Drops what no read at this safe point or above needs any more.
+    /// Drops what no read at this safe point or above needs any more, and forgets the numbers.
     pub(crate) fn drop_of(&mut self, safe: Ts)
         ensures content { (k : Key) → Collected safe (flat_content self.old k) (flat_content self.new k) }
         ensures cells { (k : Key) → cells_of (flat_content self.new k) ≡ kept (cells_of (flat_content self.old k)) safe }
+        ensures numbers { (k : Key) → flat_numbers self.new k ≤ flat_numbers self.old k }
     {
         drop_values(&mut self.values, &self.writes, safe);
         drop_records(&mut self.writes, safe);
+        self.numbers.clear();
     }
 }

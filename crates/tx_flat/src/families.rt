@@ -7,8 +7,11 @@ use tx_types::{Fault, Key, LockInfo, Ts};
 
 impl Families for FlatCells {
     ghost use Rattle.tx_flat.specs.Flats.{flat_content};
+    ghost use Rattle.tx_flat.specs.Numbered.{flat_numbers};
 
     ghost content = { flat_content };
+
+    ghost numbers = { flat_numbers };
 
     fn view(&self, alloc: Global, key: &Key, start: Ts, commit: Ts) -> Result<TxnView, Fault> {
         self.view_of(alloc, key, start, commit)
@@ -43,12 +46,33 @@ impl Families for FlatCells {
         self.copy_of(alloc, key)
     }
 
-    fn put_lock(&mut self, alloc: Global, body: &Prewrite, new: NewLock) -> Result<(), Fault> {
-        self.put_lock_of(alloc, body, new)
+    fn number(&self, alloc: Global, key: &Key) -> Result<u64, Fault> {
+        self.number_of(alloc, key)
     }
 
-    fn apply(&mut self, alloc: Global, key: &Key, change: KeyChange) -> Result<(), Fault> {
-        self.apply_to(alloc, key, change)
+    fn forget_numbers(&mut self, alloc: Global) {
+        let _ = alloc;
+        self.numbers.clear();
+    }
+
+    fn put_lock(
+        &mut self,
+        alloc: Global,
+        body: &Prewrite,
+        new: NewLock,
+        number: u64,
+    ) -> Result<(), Fault> {
+        self.put_lock_noted(alloc, body, new, number)
+    }
+
+    fn apply(
+        &mut self,
+        alloc: Global,
+        key: &Key,
+        change: KeyChange,
+        number: u64,
+    ) -> Result<(), Fault> {
+        self.apply_noted(alloc, key, change, number)
     }
 
     fn drop_below(&mut self, safe: Ts) {

@@ -24,6 +24,7 @@ mod families;
 mod front;
 mod lock_info;
 mod next_key;
+mod numbers;
 mod put_lock;
 mod read;
 mod scan;
@@ -32,13 +33,16 @@ mod sieve;
 mod view;
 mod walks;
 
-/// The families of a region, flat. No write record of a key is above its ceiling, so a request that is later searches for none.
+/// The families of a region, flat, and the numbers of the keys that were changed since the last
+/// collection. No write record of a key is above its ceiling, so a request that is later searches
+/// for none.
 #[derive(Drop)]
 pub struct FlatCells {
     locks: BTreeMap<KeyBytes, LockBytes>,
     writes: BTreeMap<VersionBytes, WriteBytes>,
     values: BTreeMap<VersionBytes, Value>,
     ceilings: Ceilings,
+    numbers: BTreeMap<KeyBytes, u64>,
     ghost whole: { ∥ ((key : List ℕ) → IsWhole (record { lock = tree.get (slice_cmp nat_cmp) locks key; write = λ c. tree.get version_cmp writes (key, c); value = λ t. tree.get version_cmp values (key, t) })) ∥₁ },
     ghost bounded: { ∥ ((key : List ℕ) (q : ℕ) → ceiling_of ceilings key < q → tree.get version_cmp writes (key, q) ≡ None) ∥₁ },
 }
@@ -56,6 +60,7 @@ impl FlatCells {
             writes: BTreeMap::new(alloc),
             values: BTreeMap::new(alloc),
             ceilings: Ceilings::new(),
+            numbers: BTreeMap::new(alloc),
         }
     }
 }

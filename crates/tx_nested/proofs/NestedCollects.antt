@@ -1,5 +1,5 @@
 -- Collection of all keys of nested maps.
-use Rattle.std.proofs.Common.{◌≡◌, ℕ, inl, inr, Bool, true, false, cond, [], ◌∷◌, Option, Some, None, bytes_eq, refl, sym, ap, subst, ◌∙◌}
+use Rattle.std.proofs.Common.{◌≡◌, ◌≤◌, ℕ, inl, inr, Bool, true, false, cond, [], ◌∷◌, Option, Some, None, bytes_eq, refl, sym, ap, subst, ◌∙◌, arith}
 use Rattle.std.specs.List.Sorted.{IsStrictlySortedBy}
 use Rattle.std.specs.Map.Calls.{RetainsPairs}
 use Rattle.std.proofs.lemmas.Bool.{cases_Bool}
@@ -9,7 +9,7 @@ use Rattle.tx_plan.specs.cases.Collect.{keeps, kept}
 use Rattle.tx_nested.specs.declared.key.KeyFamilies.{KeyFamilies}
 use Rattle.tx_cells.specs.Contents.{OnKey, cells_of, nothing_held}
 use Rattle.tx_cells.specs.Afterwards.{Collected}
-use Rattle.tx_nested.specs.Nested.{held, held_on}
+use Rattle.tx_nested.specs.Nested.{held, held_on, number_on}
 use Rattle.tx_cells.proofs.CellsAfter.{cells_same}
 use Rattle.tx_nested.proofs.NestedRows.{Entries, InOrder, IsAfter, find, at_is, apart}
 
@@ -70,4 +70,25 @@ module _ {F : Type 0} (T : F → Key → KeyFamilies → Bool → KeyFamilies �
         | inl same ↦ subst (λ (o : Option KeyFamilies). CollectsOn safe (held_on o) (held_on (find k r.3))) (sym (with_first e.1 es true same))
             (subst (λ (y : OnKey). CollectsOn safe (held e.1) y) (here.1 is ∙ sym (ap held_on (ap (λ (j : Key). find j r.3) (sym ((bytes_eq-Decides e.0 k).0 same)) ∙ none_after e.0 r.3 after))) here.0)
         | inr other ↦ subst (λ (o : Option KeyFamilies). CollectsOn safe (held_on o) (held_on (find k r.3))) (sym (with_first e.1 es false other)) later
+      ]
+
+  -- a key that goes has no number any more
+  pub numbers_all : ((f : F) (k : Key) (v : KeyFamilies) (b : Bool) (w : KeyFamilies) (g : F) → I f → T f k v b w g → w.number ≡ v.number) → (f : F) (es fs : Entries) → I f → InOrder es → RetainsPairs T f es fs → (k : Key) → number_on (find k fs) ≤ number_on (find k es)
+  unfolding IsStrictlySortedBy
+  numbers_all same f [] fs i s r k = subst (λ (gs : Entries). number_on (find k gs) ≤ 0) (sym r) (omega arith)
+  numbers_all same f (e ∷ es) fs i s r k =
+      subst (λ (gs : Entries). number_on (find k gs) ≤ number_on (find k (e ∷ es))) (sym r.6)
+      (go r.0 (same f e.0 e.1 r.0 r.1 r.2 i r.4) (still_after e.0 r.2 es r.3 r.5 s.0) (numbers_all same r.2 es r.3 (step f e.0 e.1 r.0 r.1 r.2 i r.4).2 s.1 r.5 k))
+    where
+      with_first : (v : KeyFamilies) (gs : Entries) (b : Bool) → bytes_eq e.0 k ≡ b → number_on (find k ((e.0, v) ∷ gs)) ≡ number_on (cond b (Some v) (find k gs))
+      with_first v gs b is = ap (λ c. number_on (cond c (Some v) (find k gs))) (at_is k e.0 ∙ is)
+
+      go : (b : Bool) → r.1.number ≡ e.1.number → IsAfter e.0 r.3 → number_on (find k r.3) ≤ number_on (find k es) → number_on (find k (cond b ((e.0, r.1) ∷ r.3) r.3)) ≤ number_on (find k (e ∷ es))
+      go true one after later = elim (cases_Bool (bytes_eq e.0 k)) [
+        | inl is ↦ (let new = with_first r.1 r.3 true is in let old = with_first e.1 es true is in omega (arith, new, old, one))
+        | inr other ↦ (let new = with_first r.1 r.3 false other in let old = with_first e.1 es false other in omega (arith, new, old, later))
+      ]
+      go false one after later = elim (cases_Bool (bytes_eq e.0 k)) [
+        | inl is ↦ (let gone : number_on (find k r.3) ≡ 0 = ap number_on (ap (λ (j : Key). find j r.3) (sym ((bytes_eq-Decides e.0 k).0 is)) ∙ none_after e.0 r.3 after) in omega (arith, gone))
+        | inr other ↦ (let old = with_first e.1 es false other in omega (arith, old, later))
       ]

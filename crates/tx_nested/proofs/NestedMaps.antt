@@ -1,5 +1,5 @@
 -- What changes of nested maps make of what is held.
-use Rattle.std.proofs.Common.{◌≡◌, ℕ, cond, Option, Some, None, sym, ap, ◌∙◌, inl, inr}
+use Rattle.std.proofs.Common.{◌≡◌, ℕ, cond, bytes_eq, Option, Some, None, sym, ap, ◌∙◌, inl, inr}
 use Rattle.std.proofs.lemmas.Bool.{cases_Bool}
 use Rattle.std.proofs.lemmas.Slice.Eq.{bytes_eq-Decides}
 use Rattle.std.specs.Map.{lookup}
@@ -16,7 +16,7 @@ use Rattle.tx_plan.specs.declared.key_change.NewLock.{NewLock}
 use Rattle.tx_nested.specs.declared.key.KeyFamilies.{KeyFamilies}
 use Rattle.tx_cells.specs.Contents.{OnKey}
 use Rattle.tx_cells.specs.Afterwards.{OnlyOn, put_on, lock_put, with_value, apart_of}
-use Rattle.tx_nested.specs.Nested.{held_on}
+use Rattle.tx_nested.specs.Nested.{held_on, number_on}
 use Rattle.tx_cells.proofs.Maps.{key_here, key_elsewhere, key_is, with_at, same_maps}
 
 abbrev pub on_key : Option LockRec → (ℕ → Option WriteRec) → (ℕ → Option Value) → OnKey
@@ -77,3 +77,22 @@ first_placed old there new j key o y same is put e =
 -- maps that hold the same
 pub same_content : (m n : BTreeMap Key KeyFamilies) → n.entries ≡ m.entries → ◌≡◌ {A = Key → OnKey} (λ k. held_on (tree.get (slice_cmp nat_cmp) n k)) (λ k. held_on (tree.get (slice_cmp nat_cmp) m k))
 same_content m n e = λ i k. held_on (lookup (tree.is_at (slice_cmp nat_cmp k)) (e i))
+
+-- ---- numbers
+
+module _ (old new : Key → Option KeyFamilies) where
+  -- one key has this number
+  pub numbered : (key : Key) (w : KeyFamilies) (number : ℕ) → ((k : Key) → new k ≡ cond (is_eq (slice_cmp nat_cmp key k)) (Some w) (old k)) → w.number ≡ number → (k : Key) → number_on (new k) ≡ cond (bytes_eq key k) number (number_on (old k))
+  numbered key w number is e k =
+      elim (cases_Bool (is_eq (slice_cmp nat_cmp key k))) [
+        | inl same ↦ ap number_on (is k ∙ ap (λ b. cond b (Some w) (old k)) same) ∙ e ∙ ap (λ b. cond b number (number_on (old k))) (sym (sym (key_is key k) ∙ same))
+        | inr other ↦ ap number_on (is k ∙ ap (λ b. cond b (Some w) (old k)) other) ∙ ap (λ b. cond b number (number_on (old k))) (sym (sym (key_is key k) ∙ other))
+      ]
+
+  -- one key has the number that it had
+  pub unnumbered : (key : Key) (o : Option KeyFamilies) → ((k : Key) → new k ≡ cond (is_eq (slice_cmp nat_cmp key k)) o (old k)) → number_on o ≡ number_on (old key) → (k : Key) → number_on (new k) ≡ number_on (old k)
+  unnumbered key o is e k =
+      elim (cases_Bool (is_eq (slice_cmp nat_cmp key k))) [
+        | inl same ↦ (let one : key ≡ k = (bytes_eq-Decides key k).0 (sym (key_is key k) ∙ same) in ap number_on (is k ∙ ap (λ b. cond b o (old k)) same) ∙ e ∙ ap (λ j. number_on (old j)) one)
+        | inr other ↦ ap number_on (is k ∙ ap (λ b. cond b o (old k)) other)
+      ]

@@ -1,5 +1,5 @@
 -- What nested maps hold of each key.
-use Rattle.std.specs.Prelude.{List, [], ◌∷◌, Option, Some, None}
+use Rattle.std.specs.Prelude.{ℕ, List, [], ◌∷◌, Option, Some, None}
 use Rattle.tx_types.specs.declared.key.Key.{Key}
 use Rattle.tx_types.specs.declared.lock.LockRec.{LockRec}
 use Rattle.tx_plan.specs.Walks.{KeyRow, LockRow}
@@ -33,3 +33,11 @@ before_row key on_key (Some rec) rows = (record { key = key; lock = lock_of (hel
 abbrev pub lock_rows : List (Key × KeyFamilies) → List LockRow
 lock_rows [] = []
 lock_rows (e ∷ es) = before_row e.0 e.1 e.1.lock (lock_rows es)
+
+-- the number that is noted of each key, 0 of one of which nothing is held
+abbrev pub number_on : Option KeyFamilies → ℕ
+number_on None = 0
+number_on (Some key) = key.number
+
+abbrev pub nested_numbers : NestedCells → Key → ℕ
+nested_numbers nested key = number_on (tree.get (slice_cmp nat_cmp) nested.keys key)

@@ -6,6 +6,8 @@ ghost use Rattle.tx_plan.specs.Changes.{Applies, SomeLock, RaisesMinimum, Commit
 ghost use Rattle.tx_plan.specs.declared.key_change.KeyChange.TheVariants as change;
 ghost use Rattle.tx_cells.specs.Contents.{cells_of};
 ghost use Rattle.tx_cells.specs.Afterwards.{OnlyOn, after, after_left};
+ghost use Rattle.tx_cells.specs.Numbers.{noted_by};
+ghost use Rattle.tx_types.specs.declared.key.Key.{Key};
 
 use crate::NestedCells;
 use crate::key::KeyFamilies;
@@ -18,7 +20,8 @@ use tx_plan::{KeyChange, Left};
 use tx_timeline::Timeline;
 use tx_types::{Fault, Key, Ts};
 
-/// Leaves the rollback of the transaction that started then. `OutOfMemory` leaves the records as they were.
+/// Leaves the rollback of the transaction that started then. `OutOfMemory` leaves the records as
+/// they were.
 fn leave(
     writes: &mut Timeline<WriteBytes>,
     alloc: Global,
@@ -55,6 +58,7 @@ impl KeyFamilies {
         requires { SomeLock (cells_of (held self.old)).lock }
         ensures ok { OnOk result (held self.new ≡ after (held self.old) (change.Ttl ttl)) }
         ensures same { OnErr result (held self.new ≡ held self.old) }
+        ensures number { self.new.number ≡ self.old.number }
         ensures err { IfErr result (λ e. e ≡ Fault.OutOfMemory) }
     {
         let Some(lock) = &self.lock else {
@@ -70,6 +74,7 @@ impl KeyFamilies {
         requires { RaisesMinimum (cells_of (held self.old)).lock min }
         ensures ok { OnOk result (held self.new ≡ after (held self.old) (change.Minimum min)) }
         ensures same { OnErr result (held self.new ≡ held self.old) }
+        ensures number { self.new.number ≡ self.old.number }
         ensures err { IfErr result (λ e. e ≡ Fault.OutOfMemory) }
     {
         let Some(lock) = &self.lock else {
@@ -85,6 +90,7 @@ impl KeyFamilies {
         requires { CommitsAt (cells_of (held self.old)) commit overlapped_rollback }
         ensures ok { OnOk result (held self.new ≡ after (held self.old) (change.Commit commit overlapped_rollback)) }
         ensures same { OnErr result (held self.new ≡ held self.old) }
+        ensures number { self.new.number ≡ self.old.number }
         ensures err { IfErr result (λ e. e ≡ Fault.OutOfMemory) }
     {
         let _ticks = commit.get();
@@ -108,6 +114,7 @@ impl KeyFamilies {
         requires { Applies (cells_of (held self.old)) (change.RollBack start removes_lock left) }
         ensures ok { OnOk result (held self.new ≡ after (held self.old) (change.RollBack start removes_lock left)) }
         ensures same { OnErr result (held self.new ≡ held self.old) }
+        ensures number { self.new.number ≡ self.old.number }
         ensures err { IfErr result (λ e. e ≡ Fault.OutOfMemory) }
     {
         let _ticks = start.get();
@@ -121,11 +128,12 @@ impl KeyFamilies {
     }
 
     // Makes a change. `OutOfMemory` leaves the key as it was.
-    fn apply(&mut self, alloc: Global, change: KeyChange) -> Result<(), Fault>
+    fn make(&mut self, alloc: Global, change: KeyChange) -> Result<(), Fault>
         requires { Applies (cells_of (held self.old)) change }
         ensures ok { OnOk result (held self.new ≡ after (held self.old) change) }
         ensures cells { OnOk result (cells_of (held self.new) ≡ changed (cells_of (held self.old)) change) }
         ensures same { OnErr result (held self.new ≡ held self.old) }
+        ensures number { self.new.number ≡ self.old.number }
         ensures err { IfErr result (λ e. e ≡ Fault.OutOfMemory) }
     {
         match change {
@@ -144,22 +152,41 @@ impl KeyFamilies {
             } => self.roll_back(alloc, start, removes_lock, left),
         }
     }
+
+    // Makes a change, and notes the number where it is one. `OutOfMemory` leaves the key as it was.
+    fn apply(&mut self, alloc: Global, change: KeyChange, number: u64) -> Result<(), Fault>
+        requires { Applies (cells_of (held self.old)) change }
+        ensures ok { OnOk result (held self.new ≡ after (held self.old) change) }
+        ensures cells { OnOk result (cells_of (held self.new) ≡ changed (cells_of (held self.old)) change) }
+        ensures number { OnOk result (self.new.number ≡ number) }
+        ensures same { OnErr result (held self.new ≡ held self.old) }
+        ensures kept { OnErr result (self.new.number ≡ self.old.number) }
+        ensures err { IfErr result (λ e. e ≡ Fault.OutOfMemory) }
+    {
+        self.make(alloc, change)?;
+        self.number = number;
+        Ok(())
+    }
 }
 
 impl NestedCells {
-    ghost use Rattle.tx_nested.specs.Nested.{nested_content};
+    ghost use Rattle.tx_nested.specs.Nested.{nested_content, nested_numbers};
 
-    /// Makes a change on a key. Only a rollback can be left on a key of which nothing is held.
+    /// Makes a change on a key, and notes the number where it is one. Only a rollback can be left
+    /// on a key of which nothing is held.
     pub(crate) fn apply_to(
         &mut self,
         alloc: Global,
         key: &Key,
         change: KeyChange,
+        number: u64,
     ) -> Result<(), Fault>
         requires { Applies (cells_of (nested_content self.old key.now)) change }
         ensures content { OnOk result (OnlyOn key.now (after (nested_content self.old key.now) change) (nested_content self.old) (nested_content self.new)) }
         ensures cells { OnOk result (cells_of (nested_content self.new key.now) ≡ changed (cells_of (nested_content self.old key.now)) change) }
+        ensures noted { OnOk result ((k : Key) → nested_numbers self.new k ≡ noted_by change (nested_numbers self.old) key.now number k) }
         ensures same { OnErr result (nested_content self.new ≡ nested_content self.old) }
+        ensures same_numbers { OnErr result ((k : Key) → nested_numbers self.new k ≡ nested_numbers self.old k) }
         ensures err { IfErr result (λ e. e ≡ Fault.OutOfMemory) }
     {
         if let KeyChange::Nothing = change {
@@ -167,10 +194,10 @@ impl NestedCells {
         }
         let key = KeyBytes::new(alloc, key)?;
         if let Some(on_key) = self.keys.get_mut(&key) {
-            return on_key.apply(alloc, change);
+            return on_key.apply(alloc, change, number);
         }
         let mut on_key = KeyFamilies::new(alloc);
-        on_key.apply(alloc, change)?;
+        on_key.apply(alloc, change, number)?;
         self.keys.insert(key, on_key)?;
         Ok(())
     }

@@ -1,5 +1,5 @@
 //! Records that go.
-ghost use Rattle.std.specs.Prelude.{◌≡◌, ℕ, true, false, cond, None};
+ghost use Rattle.std.specs.Prelude.{◌≡◌, ◌≤◌, ℕ, true, false, cond, None};
 ghost use Rattle.std.specs.BTreeMap as tree;
 ghost use Rattle.std.specs.Ordering.{nat_cmp};
 ghost use Rattle.tx_types.specs.declared.key.Key.{Key};
@@ -28,7 +28,8 @@ fn drop_value(writes: &Timeline<WriteBytes>, values: &mut BTreeMap<Ts, Value>, a
     }
 }
 
-/// Drops the values that the records below the safe point keep apart, but for the one that stays, if one does.
+/// Drops the values that the records below the safe point keep apart, but for the one that stays,
+/// if one does.
 fn drop_values(
     writes: &Timeline<WriteBytes>,
     values: &mut BTreeMap<Ts, Value>,
@@ -46,7 +47,8 @@ fn drop_values(
     }
 }
 
-/// Drops all records below the safe point but the one that stays, if one does, with the values that they keep apart.
+/// Drops all records below the safe point but the one that stays, if one does, with the values that
+/// they keep apart.
 fn drop_records(
     writes: &mut Timeline<WriteBytes>,
     values: &mut BTreeMap<Ts, Value>,
@@ -68,6 +70,7 @@ impl KeyFamilies {
     fn drop_below(&mut self, safe: Ts)
         ensures content { Collected safe (held self.old) (held self.new) }
         ensures cells { cells_of (held self.new) ≡ kept (cells_of (held self.old)) safe }
+        ensures number { self.new.number ≡ self.old.number }
     {
         let KeyCollection { kept, .. } = self.collection(safe);
         drop_records(&mut self.writes, &mut self.values, safe, kept);
@@ -84,6 +87,7 @@ impl KeyFamilies {
     fn collect(&mut self, safe: Ts) -> bool
         ensures content { Collected safe (held self.old) (held self.new) }
         ensures cells { cells_of (held self.new) ≡ kept (cells_of (held self.old)) safe }
+        ensures number { self.new.number ≡ self.old.number }
         ensures empty { result ≡ false → held self.new ≡ nothing_held }
     {
         self.drop_below(safe);
@@ -92,18 +96,21 @@ impl KeyFamilies {
 }
 
 impl NestedCells {
-    ghost use Rattle.tx_nested.specs.Nested.{held, nested_content};
+    ghost use Rattle.tx_nested.specs.Nested.{held, nested_content, nested_numbers};
 
-    /// Drops what no read at this safe point or above needs any more, and the keys of which nothing is held then.
+    /// Drops what no read at this safe point or above needs any more, and the keys of which nothing
+    /// is held then.
     pub(crate) fn drop_of(&mut self, safe: Ts)
         ensures content { (k : Key) → Collected safe (nested_content self.old k) (nested_content self.new k) }
         ensures cells { (k : Key) → cells_of (nested_content self.new k) ≡ kept (cells_of (nested_content self.old k)) safe }
+        ensures numbers { (k : Key) → nested_numbers self.new k ≤ nested_numbers self.old k }
     {
         self.keys.retain(
             |_, on_key: &mut KeyFamilies| -> bool
                 ensures content { Collected safe (held on_key.old) (held on_key.new) }
                 ensures cells { cells_of (held on_key.new) ≡ kept (cells_of (held on_key.old)) safe }
                 ensures empty { result ≡ false → held on_key.new ≡ nothing_held }
+                ensures number { on_key.new.number ≡ on_key.old.number }
             { on_key.collect(safe) },
         );
     }

@@ -1,14 +1,17 @@
 //! Nested maps as the families of a region.
 use crate::NestedCells;
 use std::alloc::Global;
+use std::collections::BTreeMap;
 use tx_cells::{Families, Fresh, KeyCopy};
 use tx_plan::{Answer, Dropped, Infos, KeyChange, NewLock, Prewrite, ReadView, Scan, TxnView};
 use tx_types::{Fault, Key, LockInfo, Ts};
 
 impl Families for NestedCells {
-    ghost use Rattle.tx_nested.specs.Nested.{nested_content};
+    ghost use Rattle.tx_nested.specs.Nested.{nested_content, nested_numbers};
 
     ghost content = { nested_content };
+
+    ghost numbers = { nested_numbers };
 
     fn view(&self, alloc: Global, key: &Key, start: Ts, commit: Ts) -> Result<TxnView, Fault> {
         self.view_of(alloc, key, start, commit)
@@ -43,12 +46,32 @@ impl Families for NestedCells {
         self.copy_of(alloc, key)
     }
 
-    fn put_lock(&mut self, alloc: Global, body: &Prewrite, new: NewLock) -> Result<(), Fault> {
-        self.put_lock_of(alloc, body, new)
+    fn number(&self, alloc: Global, key: &Key) -> Result<u64, Fault> {
+        self.number_of(alloc, key)
     }
 
-    fn apply(&mut self, alloc: Global, key: &Key, change: KeyChange) -> Result<(), Fault> {
-        self.apply_to(alloc, key, change)
+    fn forget_numbers(&mut self, alloc: Global) {
+        self.keys = BTreeMap::new(alloc);
+    }
+
+    fn put_lock(
+        &mut self,
+        alloc: Global,
+        body: &Prewrite,
+        new: NewLock,
+        number: u64,
+    ) -> Result<(), Fault> {
+        self.put_lock_of(alloc, body, new, number)
+    }
+
+    fn apply(
+        &mut self,
+        alloc: Global,
+        key: &Key,
+        change: KeyChange,
+        number: u64,
+    ) -> Result<(), Fault> {
+        self.apply_to(alloc, key, change, number)
     }
 
     fn drop_below(&mut self, safe: Ts) {

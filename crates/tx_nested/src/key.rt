@@ -9,13 +9,15 @@ use tx_encoded::{LockBytes, WriteBytes};
 use tx_timeline::Timeline;
 use tx_types::{Ts, Value};
 
-/// The lock record of a key, its write records by timestamp, which mostly come in that order, and its long values by the start of
-/// the transaction that put them.
+/// The lock record of a key, its write records by timestamp, which mostly come in that order, and
+/// its long values by the start of the transaction that put them.
 #[derive(Drop)]
 pub(crate) struct KeyFamilies {
     pub lock: Option<LockBytes>,
     pub writes: Timeline<WriteBytes>,
     pub values: BTreeMap<Ts, Value>,
+    /// The number of the request that changed the key last.
+    pub number: u64,
     ghost whole: { ∥ IsWhole (record { lock = lock; write = tree.get nat_cmp writes; value = tree.get nat_cmp values }) ∥₁ },
 }
 
@@ -32,6 +34,7 @@ impl KeyFamilies {
             lock: None,
             writes: Timeline::new(alloc),
             values: BTreeMap::new(alloc),
+            number: 0,
         }
     }
 }

@@ -14,6 +14,7 @@ mod drop_below;
 mod families;
 mod key;
 mod lock_info;
+mod number;
 mod put_lock;
 mod read;
 mod scan;
@@ -30,7 +31,7 @@ pub struct NestedCells {
 impl NestedCells {
     ghost use Rattle.std.specs.Prelude.{◌≡◌};
     ghost use Rattle.tx_cells.specs.Contents.{nothing_held};
-    ghost use Rattle.tx_nested.specs.Nested.{nested_content};
+    ghost use Rattle.tx_nested.specs.Nested.{nested_content, nested_numbers};
 
     /// Families that hold nothing.
     pub fn new(alloc: Global) -> NestedCells

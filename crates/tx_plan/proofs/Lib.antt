@@ -26,3 +26,5 @@ pub mod Counting
 pub mod Sound
 -- The pictures of docs/PROTOCOL.md: what each request there leaves, by computation.
 mod Pictures
+-- What a transaction's lock that is there, or not, makes of a rollback.
+pub mod OwnLocks

@@ -14,3 +14,4 @@ pub mod Refusals
 pub mod Locking
 pub mod Whole
 pub mod Collecting
+pub mod Making

@@ -14,7 +14,7 @@ use Rattle.tx_core.specs.ReadMarks.{max_ts}
 use Rattle.tx_core.specs.Recording.{part}
 use Rattle.tx_core.proofs.Basics.{some_same}
 use Rattle.tx_core.proofs.seats.Answering.{left_on}
-use Rattle.tx_core.proofs.seats.Beginnings.{begins_more, extends_begins, extends_more}
+use Rattle.tx_core.proofs.seats.Beginnings.{begins_more, extends_begins}
 use Rattle.tx_core.proofs.seats.Parts.{part_extends}
 use Rattle.tx_journal.specs.Known.{Known, HasSeen}
 use Rattle.tx_journal.specs.Replies.{Asked, Given}
@@ -37,17 +37,17 @@ module _ (bounds : List Key) (k k1 k2 : Known) (n : History) (q : Asked) (g : Gi
       before = x.tells.before;
       point = x.tells.point;
       is = told ∙ (x.tells.ends ∙ (λ i. Took (record { region = number i; body = (asked i).body; loaded = last x.tells.point; answer = a }) ∷ x.tells.before));
-      later = begins_more n k1.events x.tells.point knows (extends_begins k1.seat k1.events x.tells.point x.tells.region);
+      later = begins_more n k1.events x.tells.point knows (extends_begins k1.seat k1.events x.tells.point x.loads);
       marked = x.marked;
       marks = x.later;
       ends = x.ends;
       least = subst (λ (p : ℕ × Body). AnswersFrom (max_ts x.marked) (left x.tells.before p.0) (last x.tells.point) p.1 a) (λ i. (number i, (asked i).body))
-          (subst (λ r. AnswersFrom (max_ts x.marked) r (last x.tells.point) g.request.body a) (sym (left_on k1.seat k1.events x.tells.before (extends_more k1.seat k1.events x.tells.point x.tells.before x.tells.region x.tells.began))) x.least);
+          (subst (λ r. AnswersFrom (max_ts x.marked) r (last x.tells.point) g.request.body a) (sym (left_on k1.seat k1.events x.tells.before x.tells.region)) x.least);
     },
     made_upto 1
         (let events = ap (λ h. length (part k.seat h)) (told ∙ x.tells.ends) in
         let one = part_upto k.seat (Took (record { region = k1.seat; body = g.request.body; loaded = last x.tells.point; answer = a })) x.tells.before in
-        let rest : part k.seat x.tells.before ≡ part k.seat k1.events = subst (λ i. part i x.tells.before ≡ part i k1.events) number (part_extends k1.seat k1.events x.tells.before (extends_more k1.seat k1.events x.tells.point x.tells.before x.tells.region x.tells.began)) in
+        let rest : part k.seat x.tells.before ≡ part k.seat k1.events = subst (λ i. part i x.tells.before ≡ part i k1.events) number (part_extends k1.seat k1.events x.tells.before x.tells.region) in
         omega (arith, events, one, ap length rest)),
   )
 

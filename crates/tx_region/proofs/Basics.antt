@@ -29,3 +29,8 @@ if_ok (Err e) P Q step p = tt
 pub on_ok_both : {T E : Type 0} (r : Result T E) (P Q R : Type 0) → (P → Q → R) → OnOk r P → OnOk r Q → OnOk r R
 on_ok_both (Ok x) P Q R step p q = step p q
 on_ok_both (Err e) P Q R step p q = tt
+
+-- by three
+pub on_ok_three : {T E : Type 0} (r : Result T E) (P Q R S : Type 0) → (P → Q → R → S) → OnOk r P → OnOk r Q → OnOk r R → OnOk r S
+on_ok_three (Ok x) P Q R S step p q o = step p q o
+on_ok_three (Err e) P Q R S step p q o = tt

@@ -1,15 +1,9 @@
 -- What carrying out a plan makes of a region.
-use Rattle.std.proofs.Common.{◌≡◌, ℕ, inl, inr, cond, bytes_eq, Option, None, sym, ap, subst, ◌∙◌}
+use Rattle.std.proofs.Common.{◌≡◌, ℕ, inl, inr, cond, bytes_eq, sym, ap, ◌∙◌}
 use Rattle.tx_types.specs.declared.key.Key.{Key}
-use Rattle.tx_plan.specs.declared.answer.Answer.{Answer}
-use Rattle.tx_plan.specs.declared.planned.Planned.{Planned}
 use Rattle.tx_plan.specs.Cells.{Cells, Region, with_cells}
-use Rattle.tx_plan.specs.Changes.{changed}
-use Rattle.tx_plan.specs.Plans.{answer_with, read_upto}
-use Rattle.tx_plan.specs.Views.{info_on}
 use Rattle.tx_cells.specs.Contents.{OnKey, Content, cells_of, cells_in}
 use Rattle.tx_cells.specs.Afterwards.{OnlyOn}
-use Rattle.tx_region.specs.Calls.{CarriesOut}
 use Rattle.tx_region.proofs.Basics.{key_test, cond_true, cond_false}
 
 -- the region of a content
@@ -45,16 +39,3 @@ with_same region key = λ i. record { cells = λ q. at q i; max_read = region.ma
           | inl t ↦ cond_true _ _ _ t.0 ∙ ap region.cells t.1
           | inr t ↦ cond_false _ _ _ t.0
         ]
-
--- ---- a command that changes one key, by its table and what its answers leave of the cells
-
--- a plan that reads nothing is carried out as its table has it, whatever was read before
-pub on_key : (before after : ℕ → Region) (key : Key) (planned : Planned) (a : Answer) (read : Option ℕ) (Table : Cells → Answer → Type 0) (left : Cells → Answer → Cells)
-    → ((n : ℕ) → CarriesOut (before n) key planned a read (after n)) → planned.read ≡ None
-    → ((n : ℕ) → Table ((before n).cells key) (answer_with (info_on ((before n).cells key) key) planned.answer))
-    → ((n : ℕ) → changed ((before n).cells key) planned.change ≡ left ((before n).cells key) (answer_with (info_on ((before n).cells key) key) planned.answer))
-    → ((n : ℕ) → Table ((before n).cells key) a) × ((n : ℕ) → after (read_upto read n) ≡ with_cells (before n) key (left ((before n).cells key) a))
-on_key before after key planned a read Table left out unread answers leaves = (
-  λ n. subst (λ x. Table ((before n).cells key) x) (sym (out n).answer) (answers n),
-  λ n. ap (λ r. after (read_upto r n)) ((out n).reads ∙ unread) ∙ ((out n).leaves ∙ ap (λ x. with_cells (before n) key x) (leaves n ∙ ap (λ x. left ((before n).cells key) x) (sym (out n).answer))),
-)

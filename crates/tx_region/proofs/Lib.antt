@@ -1,9 +1,15 @@
 -- Small facts on options, tests, results and keys.
-mod Basics
+pub mod Basics
 -- What carrying out a plan makes of a region.
-mod Carrying
+pub mod Carrying
+-- Copies of what a request sees of its key, and plans that were made of them.
+pub mod Copies
+-- What a command makes of the numbers of the keys.
+pub mod Notes
 -- How a region comes to its answer.
-mod Taking
+pub mod Taking
+-- What comes of a plan.
+pub mod Applying
 -- How many of the keys between the regions lie at a key or below it.
 pub mod Routes
 -- The first eight bytes of keys, as numbers, order keys as the keys are ordered.

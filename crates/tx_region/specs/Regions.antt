@@ -1,5 +1,6 @@
 -- The region of the case tables that records stand for.
-use Rattle.std.specs.Prelude.{ℕ}
+use Rattle.std.specs.Prelude.{◌≡◌, ℕ}
+use Rattle.tx_types.specs.declared.key.Key.{Key}
 use Rattle.tx_plan.specs.Cells.{Region}
 use Rattle.tx_cells.specs.Contents.{Content, cells_in}
 use Rattle.tx_region.specs.declared.records.Records.{Records}
@@ -13,3 +14,7 @@ region_of content records max_read = record {
   safe = records.safe;
   collected = records.collected;
 }
+
+-- records that counted the same, and whose keys have the same numbers
+abbrev pub HasSameNumbers : {F : Type 0} → (F → Key → ℕ) → Records F → Records F → Type 0
+HasSameNumbers numbers before after = (after.taken ≡ before.taken) × ((k : Key) → numbers after.families k ≡ numbers before.families k)

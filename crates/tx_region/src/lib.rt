@@ -1,12 +1,21 @@
-//! One region. Its records answer each request by its case table, over any families. `Region` joins them with a seat of the journal:
-//! each answer is one event of its seat.
+//! One region. Its records answer each request by its case table, over any families. `Region` joins
+//! them with a seat of the journal: each answer is one event of its seat. A request of one key may
+//! also be planned outside the region, of a copy of what it sees: the plan is applied where the key
+//! is as it was copied.
 #![tactic(auto)]
 
+mod applied;
+mod calls;
 mod commands;
+mod copy;
+mod planning;
 mod records;
 mod region;
 mod routing;
 
+pub use applied::Applied;
+pub use copy::{KeyView, Loaded, Numbers};
+pub use planning::is_of_key;
 pub use records::{Executed, Records};
-pub use region::Region;
+pub use region::{KeyCopy, Planned, Region};
 pub use routing::{fronts, route, route_by};

@@ -2,25 +2,38 @@
 //! last collection. The greatest timestamp that was read is not kept here: it is one word for all
 //! regions, which the seat raises and loads.
 //!
-//! Each command is a method (`commands`, one file a command) with the same contract: the answer is
-//! the one of the case table, with the least minimum above a mark for an async lock, and the region
-//! is as that answer leaves it, whatever was read in it before. `OutOfMemory` leaves it as it was:
-//! whatever can be refused is asked for before the first change.
-ghost use Rattle.std.specs.Prelude.{◌≡◌, ℕ, None, IfOk, IfErr, OnErr};
+//! A command that is not of one key is a method (`commands`, one file a command). A request of one
+//! key is answered in three steps, which need not follow at once: what it sees of its key (`view`),
+//! the plan (`planning`), and the plan carried out (`make`). All have the same contract: the answer
+//! is the one of the case table, with the least minimum above a mark for an async lock, and the
+//! region is as that answer leaves it, whatever was read in it before. `OutOfMemory` leaves it as
+//! it was: whatever can be refused is asked for before the first change.
+//!
+//! Requests that may change a key are counted, and of each key the number of the one that changed
+//! it last is noted: so it is known whether the key is as it was at an earlier moment, however long
+//! its history is.
+ghost use Rattle.std.specs.Prelude.{◌≡◌, ◌<◌, ◌≤◌, ◌+◌, ◌↔◌, ℕ, None, IfOk, IfErr, IfSome, IsTrue, OnOk, OnErr};
 ghost use Rattle.tx_types.specs.declared.key.Key.{Key};
-ghost use Rattle.tx_plan.specs.Cells.{new_region};
-ghost use Rattle.tx_plan.specs.Changes.{Applies};
+ghost use Rattle.tx_types.specs.Keys.{IsInsert};
+ghost use Rattle.tx_plan.specs.Cells.{new_region, with_cells};
+ghost use Rattle.tx_plan.specs.Changes.{changed, Applies, new_lock, after_put, CanPut};
+ghost use Rattle.tx_plan.specs.Making.{Makes};
 ghost use Rattle.tx_plan.specs.Plans.{answer_with};
 ghost use Rattle.tx_plan.specs.Views.{info_on};
+ghost use Rattle.tx_plan.specs.cases.Prewrite.{HasValue};
 ghost use Rattle.tx_cells.specs.Contents.{nothing_held};
 ghost use Rattle.tx_cells.specs.Copies.{Copies};
-ghost use Rattle.tx_region.specs.Regions.{region_of};
-ghost use Rattle.tx_region.specs.Calls.{CarriesOut};
+ghost use Rattle.tx_later.specs.Noting.{NotesAll};
+ghost use Rattle.tx_region.specs.Regions.{region_of, HasSameNumbers};
+ghost use Rattle.tx_region.specs.Calls.{CarriesOut, Counts};
+ghost use Rattle.tx_region.specs.Copies.{IsOfKey, key_in, Sees, SeesTxn, SeesPrewrite, made, MayMake};
+ghost use Rattle.tx_region.specs.Planning.{StayedKey};
 
+use crate::copy::{KeyView, Numbers};
 use std::alloc::Global;
 use tx_cells::{Families, Shown};
-use tx_plan::{Answer, Planned, PlannedAnswer};
-use tx_types::{Fault, Key, Ts};
+use tx_plan::{Answer, Body, KeyChange, Planned, PlannedAnswer, Prewrite};
+use tx_types::{Fault, Key, Mutation, Ts};
 
 /// What a command answered, and the timestamp that it read, if it read one.
 #[derive(Debug, Drop)]
@@ -38,28 +51,44 @@ impl Executed {
     }
 }
 
-/// What is on the keys of a region, its safe point, and the safe point of the last collection.
-/// Contracts see the region of the case tables by `region_of`, for each greatest timestamp that may
-/// have been read in it.
+/// What is on the keys of a region, its safe point, the safe point of the last collection, and how
+/// many requests it counted. Contracts see the region of the case tables by `region_of`, for each
+/// greatest timestamp that may have been read in it.
 #[derive(Drop)]
 pub struct Records<F> {
     pub(crate) alloc: Global,
     pub(crate) families: F,
     pub(crate) safe: Ts,
     pub(crate) collected: Ts,
+    pub(crate) taken: u64,
 }
 
 impl<F: Families> Records<F> {
     /// The records of a region in which nothing happened.
     pub fn new(alloc: Global, families: F) -> Records<F>
         requires { F.content families ≡ (λ k. nothing_held) }
-        ensures { region_of F.content result 0 ≡ new_region }
+        ensures region { region_of F.content result 0 ≡ new_region }
+        ensures count { result.taken ≡ 0 }
+        ensures numbers { (k : Key) → F.numbers result.families k ≡ 0 }
     {
+        let mut families = families;
+        families.forget_numbers(alloc);
         Records {
             alloc,
             families,
             safe: Ts::ZERO,
             collected: Ts::ZERO,
+            taken: 0,
+        }
+    }
+
+    /// Its safe point, and the safe point of its last collection.
+    pub(crate) fn numbers(&self) -> Numbers
+        ensures { (result.safe ≡ self.now.safe) × (result.collected ≡ self.now.collected) }
+    {
+        Numbers {
+            safe: self.safe,
+            collected: self.collected,
         }
     }
 
@@ -86,7 +115,91 @@ impl<F: Families> Records<F> {
         Shown::new(self.alloc, copy)
     }
 
-    /// The answer of a plan for this key, with what is told of the lock on it where the answer names that.
+    // What a request of a transaction sees of its key.
+    fn txn_view(&self, key: &Key, start: Ts, commit: Ts) -> Result<KeyView, Fault>
+        ensures ok { IfOk result (λ view. SeesTxn ((region_of F.content self.now 0).cells key.now) start commit view) }
+        ensures err { IfErr result (λ e. e ≡ Fault.OutOfMemory) }
+    {
+        let view = self.families.view(self.alloc, key, start, commit)?;
+        Ok(KeyView::Txn(view))
+    }
+
+    // What a prewrite sees of its key.
+    fn prewrite_view(&self, body: &Prewrite) -> Result<KeyView, Fault>
+        ensures ok { IfOk result (λ view. SeesPrewrite ((region_of F.content self.now 0).cells body.now.key) body.now view) }
+        ensures err { IfErr result (λ e. e ≡ Fault.OutOfMemory) }
+    {
+        let view = self
+            .families
+            .view(self.alloc, &body.key, body.start, body.start)?;
+        let has_value = self.has_value(body)?;
+        Ok(KeyView::Prewrite { view, has_value })
+    }
+
+    // Whether a read at its start finds a value, where it inserts.
+    fn has_value(&self, body: &Prewrite) -> Result<bool, Fault>
+        ensures ok { IfOk result (λ has. IsInsert body.now.mutation → IsTrue has ↔ HasValue ((region_of F.content self.now 0).cells body.now.key).write body.now.start) }
+        ensures err { IfErr result (λ e. e ≡ Fault.OutOfMemory) }
+    {
+        match body.mutation {
+            Mutation::Insert(_) => self.finds_value(&body.key, body.start),
+            Mutation::Put(_) | Mutation::Delete | Mutation::Lock => Ok(false),
+        }
+    }
+
+    // Whether a read of the key at this timestamp finds a value.
+    fn finds_value(&self, key: &Key, at: Ts) -> Result<bool, Fault>
+        ensures ok { IfOk result (λ has. IsTrue has ↔ HasValue ((region_of F.content self.now 0).cells key.now).write at) }
+        ensures err { IfErr result (λ e. e ≡ Fault.OutOfMemory) }
+    {
+        let view = self.families.read(self.alloc, key, at)?;
+        Ok(view.value.is_some())
+    }
+
+    /// What a request of one key sees of it.
+    #[inline(never)]
+    pub(crate) fn view(&self, body: &Body) -> Result<KeyView, Fault>
+        requires { IsOfKey body.now }
+        ensures ok { IfOk result (λ view. Sees (region_of F.content self.now 0).cells body.now view) }
+        ensures err { IfErr result (λ e. e ≡ Fault.OutOfMemory) }
+    {
+        match body {
+            Body::Get(body) => {
+                let view = self.families.read(self.alloc, &body.key, body.at)?;
+                Ok(KeyView::Read(view))
+            }
+            Body::Prewrite(body) => self.prewrite_view(body.asked()),
+            Body::Commit(body) => self.txn_view(&body.key, body.start, body.commit),
+            Body::BatchRollback(body) => self.txn_view(&body.key, body.start, body.start),
+            Body::TxnHeartBeat(body) => self.txn_view(&body.key, body.start, body.start),
+            Body::CheckTxnStatus(body) => self.txn_view(&body.key, body.start, body.start),
+            Body::CheckSecondaryLocks(body) => self.txn_view(&body.key, body.start, body.start),
+            Body::ResolveLock(body) => self.txn_view(&body.key, body.start, body.commit()),
+            Body::Scan(_) | Body::RaiseSafe(_) | Body::LocksBelow(_) | Body::Collect(_) => {
+                unreachable!()
+            }
+        }
+    }
+
+    /// Whether a key, the safe point and the last collection stayed since these numbers were
+    /// copied, when so many requests were counted.
+    pub(crate) fn has_stayed(&self, key: &Key, copied: &Numbers, taken: u64) -> Result<bool, Fault>
+        requires { F.numbers self.now.families key.now ≤ self.now.taken }
+        ensures stayed { IfOk result (λ stayed. IsTrue stayed ↔ StayedKey (region_of F.content self.now 0) (F.numbers self.now.families key.now) copied.now taken) }
+        ensures err { IfErr result (λ e. e ≡ Fault.OutOfMemory) }
+    {
+        if copied.safe != self.safe || copied.collected != self.collected {
+            return Ok(false);
+        }
+        if self.taken <= taken {
+            return Ok(true);
+        }
+        let number = self.families.number(self.alloc, key)?;
+        Ok(number <= taken)
+    }
+
+    /// The answer of a plan for this key, with what is told of the lock on it where the answer
+    /// names that.
     pub(crate) fn fill_in(&self, key: &Key, answer: PlannedAnswer) -> Result<Answer, Fault>
         ensures answer { IfOk result (λ a. a ≡ answer_with (info_on ((region_of F.content self.now 0).cells key.now) key.now) answer) }
         ensures err { IfErr result (λ e. e ≡ Fault.OutOfMemory) }
@@ -98,11 +211,55 @@ impl<F: Families> Records<F> {
         Ok(answer.with_lock(info))
     }
 
-    /// Carries a plan out on its key. `OutOfMemory` leaves all as it was.
-    pub(crate) fn carry_out(&mut self, key: &Key, planned: Planned) -> Result<Executed, Fault>
-        requires { Applies ((region_of F.content self.old 0).cells key.now) planned.change }
-        ensures ok { IfOk result (λ r. (n : ℕ) → CarriesOut (region_of F.content self.old n) key.now planned r.answer r.read (region_of F.content self.new n)) }
+    // The number of the next request that is counted. `OutOfMemory` after the greatest number,
+    // which is never reached.
+    fn next_number(&self) -> Result<u64, Fault>
+        ensures ok { IfOk result (λ number. number ≡ self.now.taken + 1) }
+        ensures err { IfErr result (λ e. e ≡ Fault.OutOfMemory) }
+    {
+        match self.taken.checked_add(1) {
+            Some(number) => Ok(number),
+            None => Err(Fault::OutOfMemory),
+        }
+    }
+
+    // Carries out the plan of a read.
+    fn make_read(&self, key: &Key, planned: Planned) -> Result<Executed, Fault>
+        requires { planned.change ≡ KeyChange.Nothing }
+        ensures ok { IfOk result (λ r. (n : ℕ) → CarriesOut (region_of F.content self.now n) key.now (changed ((region_of F.content self.now n).cells key.now) planned.change) planned r.answer r.read (region_of F.content self.now n)) }
+        ensures err { IfErr result (λ e. e ≡ Fault.OutOfMemory) }
+    {
+        let Planned { answer, read, .. } = planned;
+        Ok(Executed {
+            answer: self.fill_in(key, answer)?,
+            read,
+        })
+    }
+
+    // Puts the lock that the plan of a prewrite puts, if it puts one.
+    fn put(&mut self, body: &Prewrite, change: KeyChange, number: u64) -> Result<(), Fault>
+        requires { IfSome (new_lock change) (λ new. CanPut ((region_of F.content self.old 0).cells body.now.key) body.now new) }
+        ensures ok { OnOk result ((n : ℕ) → region_of F.content self.new n ≡ with_cells (region_of F.content self.old n) body.now.key (after_put ((region_of F.content self.old n).cells body.now.key) body.now (new_lock change))) }
+        ensures notes { OnOk result (self.old.taken < number → NotesAll self.old.taken number (region_of F.content self.old 0).cells (F.numbers self.old.families) (region_of F.content self.new 0).cells (F.numbers self.new.families)) }
+        ensures taken { self.new.taken ≡ self.old.taken }
         ensures same { OnErr result (region_of F.content self.new ≡ region_of F.content self.old) }
+        ensures same_numbers { OnErr result (HasSameNumbers F.numbers self.old self.new) }
+        ensures err { IfErr result (λ e. e ≡ Fault.OutOfMemory) }
+    {
+        match change {
+            KeyChange::Lock(new) => self.families.put_lock(self.alloc, body, new, number),
+            _ => Ok(()),
+        }
+    }
+
+    // Carries out the plan of a prewrite. `OutOfMemory` leaves all as it was.
+    fn make_prewrite(&mut self, body: &Prewrite, planned: Planned) -> Result<Executed, Fault>
+        requires { IfSome (new_lock planned.change) (λ new. CanPut ((region_of F.content self.old 0).cells body.now.key) body.now new) }
+        ensures ok { IfOk result (λ r. (n : ℕ) → CarriesOut (region_of F.content self.old n) body.now.key (after_put ((region_of F.content self.old n).cells body.now.key) body.now (new_lock planned.change)) planned r.answer r.read (region_of F.content self.new n)) }
+        ensures taken { OnOk result (self.new.taken ≡ self.old.taken + 1) }
+        ensures notes { OnOk result (NotesAll self.old.taken self.new.taken (region_of F.content self.old 0).cells (F.numbers self.old.families) (region_of F.content self.new 0).cells (F.numbers self.new.families)) }
+        ensures same { OnErr result (region_of F.content self.new ≡ region_of F.content self.old) }
+        ensures same_numbers { OnErr result (HasSameNumbers F.numbers self.old self.new) }
         ensures err { IfErr result (λ e. e ≡ Fault.OutOfMemory) }
     {
         let Planned {
@@ -110,8 +267,60 @@ impl<F: Families> Records<F> {
             change,
             read,
         } = planned;
-        let answer = self.fill_in(key, answer)?;
-        self.families.apply(self.alloc, key, change)?;
+        let number = self.next_number()?;
+        let answer = self.fill_in(&body.key, answer)?;
+        self.put(body, change, number)?;
+        self.taken = number;
         Ok(Executed { answer, read })
+    }
+
+    // Carries out the plan of another request on its key. `OutOfMemory` leaves all as it was.
+    fn carry_out(&mut self, key: &Key, planned: Planned) -> Result<Executed, Fault>
+        requires applies { Applies ((region_of F.content self.old 0).cells key.now) planned.change }
+        requires makes { Makes ((region_of F.content self.old 0).cells key.now) planned.change }
+        ensures ok { IfOk result (λ r. (n : ℕ) → CarriesOut (region_of F.content self.old n) key.now (changed ((region_of F.content self.old n).cells key.now) planned.change) planned r.answer r.read (region_of F.content self.new n)) }
+        ensures taken { OnOk result (self.new.taken ≡ self.old.taken + 1) }
+        ensures notes { OnOk result (NotesAll self.old.taken self.new.taken (region_of F.content self.old 0).cells (F.numbers self.old.families) (region_of F.content self.new 0).cells (F.numbers self.new.families)) }
+        ensures same { OnErr result (region_of F.content self.new ≡ region_of F.content self.old) }
+        ensures same_numbers { OnErr result (HasSameNumbers F.numbers self.old self.new) }
+        ensures err { IfErr result (λ e. e ≡ Fault.OutOfMemory) }
+    {
+        let Planned {
+            answer,
+            change,
+            read,
+        } = planned;
+        let number = self.next_number()?;
+        let answer = self.fill_in(key, answer)?;
+        self.families.apply(self.alloc, key, change, number)?;
+        self.taken = number;
+        Ok(Executed { answer, read })
+    }
+
+    /// Carries out a plan for a request of a region that is as the plan takes for granted.
+    /// `OutOfMemory` leaves all as it was.
+    #[inline(never)]
+    pub(crate) fn make(&mut self, body: &Body, planned: Planned) -> Result<Executed, Fault>
+        requires of_key { IsOfKey body.now }
+        requires may { MayMake body.now ((region_of F.content self.old 0).cells (key_in body.now)) planned.change }
+        ensures ok { IfOk result (λ r. (n : ℕ) → CarriesOut (region_of F.content self.old n) (key_in body.now) (made body.now ((region_of F.content self.old n).cells (key_in body.now)) planned.change) planned r.answer r.read (region_of F.content self.new n)) }
+        ensures counts { IfOk result (λ r. Counts body.now self.old.taken (region_of F.content self.old 0).cells (F.numbers self.old.families) self.new.taken (region_of F.content self.new 0).cells (F.numbers self.new.families)) }
+        ensures same { OnErr result (region_of F.content self.new ≡ region_of F.content self.old) }
+        ensures same_numbers { OnErr result (HasSameNumbers F.numbers self.old self.new) }
+        ensures err { IfErr result (λ e. e ≡ Fault.OutOfMemory) }
+    {
+        match body {
+            Body::Get(body) => self.make_read(&body.key, planned),
+            Body::Prewrite(body) => self.make_prewrite(body.asked(), planned),
+            Body::Commit(body) => self.carry_out(&body.key, planned),
+            Body::BatchRollback(body) => self.carry_out(&body.key, planned),
+            Body::TxnHeartBeat(body) => self.carry_out(&body.key, planned),
+            Body::CheckTxnStatus(body) => self.carry_out(&body.key, planned),
+            Body::CheckSecondaryLocks(body) => self.carry_out(&body.key, planned),
+            Body::ResolveLock(body) => self.carry_out(&body.key, planned),
+            Body::Scan(_) | Body::RaiseSafe(_) | Body::LocksBelow(_) | Body::Collect(_) => {
+                unreachable!()
+            }
+        }
     }
 }

@@ -1,6 +1,7 @@
 //! A region: a seat and records, which are what the seat's own events left.
-ghost use Rattle.std.specs.Prelude.{◌≡◌, ◌≤◌, ◌↔◌, [], ◌∷◌, max, length, IsTrue, IfOk, IfErr, IfSome, IfNone, IsSome};
+ghost use Rattle.std.specs.Prelude.{◌≡◌, ◌≤◌, ◌<◌, ◌↔◌, [], ◌∷◌, max, length, Some, IsTrue, IfOk, IfErr, IfSome, IfNone, IsSome};
 ghost use Rattle.tx_types.specs.declared.key.Key.{Key};
+ghost use Rattle.tx_plan.specs.Plans.{read_upto};
 ghost use Rattle.tx_cells.specs.Contents.{nothing_held};
 ghost use Rattle.tx_cells.specs.Copies.{Copies};
 ghost use Rattle.tx_core.specs.declared.event.Event.TheVariants as events;
@@ -10,19 +11,97 @@ ghost use Rattle.tx_core.specs.Recording.{MayRecord, part};
 ghost use Rattle.tx_core.specs.Worlds.{Holds};
 ghost use Rattle.tx_journal.specs.Known.{greatest_ts, DrawsNothing, HasSeen, HasRecorded};
 ghost use Rattle.tx_region.specs.Calls.{TakesNoMemory};
-ghost use Rattle.tx_region.specs.Taking.{NeedsMark, IsMark, Loads, Answered};
-ghost use Rattle.tx_plan.specs.Plans.{read_upto};
+ghost use Rattle.tx_region.specs.Copies.{IsOfKey, IsPlan, IsAbove, promised};
+ghost use Rattle.tx_region.specs.Planning.{IsCopyFor, IsPlanFor, CarriesPlan, ComesOf};
+ghost use Rattle.tx_region.specs.Taking.{NeedsMark, IsMark, Loads, Knows, Answered};
 
-use crate::records::Records;
+use crate::applied::Applied;
+use crate::copy::{KeyView, Loaded, Numbers};
+use crate::planning::{key_of, plan};
+use crate::records::{Executed, Records};
 use crate::routing::holds;
 use std::alloc::Global;
 use std::marker::{Brand, Model};
 use tx_cells::{Families, Shown};
 use tx_core::{Answer, Body, SeatNo};
 use tx_journal::{Journal, Naming, Reply, Request, Said, Seat, Told};
+use tx_plan::KeyChange;
 use tx_types::{Fault, Key, Mode, Ts};
 
-/// A region of the journal `J`. Contracts see its seat: its number, its ticks and the events that it knows.
+/// A copy of what a request sees of its key in a region, which stays so long as the key is not
+/// changed: the answer can be planned of it while others have the region. It is known to be of that
+/// region, as it was after the events that it tells of.
+#[derive(Drop)]
+pub struct KeyCopy<J: Naming> {
+    region: SeatNo,
+    told: Told<J>,
+    view: KeyView,
+    numbers: Numbers,
+    taken: u64,
+    loaded: Loaded,
+}
+
+impl<J: Naming> Model for KeyCopy<J> {
+    ghost use Rattle.tx_region.specs.Planning.{Copied, AreOf};
+
+    ghost Value = { Copied };
+
+    ghost view = { λ c. record { region = c.region; events = c.told; view = c.view; numbers = c.numbers; loaded = c.loaded } };
+
+    ghost invariant = { λ c. AreOf c.told c.region c.numbers c.taken c.loaded };
+}
+
+/// What was planned of such a copy: the answer and the change of the case tables, for the copy and
+/// its request.
+#[derive(Drop)]
+pub struct Planned<J: Naming> {
+    region: SeatNo,
+    told: Told<J>,
+    planned: tx_plan::Planned,
+    numbers: Numbers,
+    taken: u64,
+    loaded: Loaded,
+}
+
+impl<J: Naming> Model for Planned<J> {
+    ghost use Rattle.tx_region.specs.Planning.{PlanOf, AreOf, IsSomePlan};
+
+    ghost Value = { PlanOf };
+
+    ghost view = { λ p. record { region = p.region; events = p.told; loaded = p.loaded; planned = p.planned } };
+
+    ghost invariant = { λ p. AreOf p.told p.region p.numbers p.taken p.loaded × IsSomePlan (record { region = p.region; events = p.told; loaded = p.loaded; planned = p.planned }) };
+}
+
+impl<J: Naming> KeyCopy<J> {
+    /// What the region makes of the request for which the copy was made.
+    pub fn plan(self, request: &Request<J>) -> Planned<J>
+        requires { IsCopyFor request.now self }
+        ensures plan { IsPlanFor request.now result }
+        ensures same { (result.region ≡ self.region) × (result.events ≡ self.events) }
+    {
+        let KeyCopy {
+            region,
+            told,
+            view,
+            numbers,
+            taken,
+            loaded,
+        } = self;
+        let planned = plan(view, &numbers, &loaded, request.body());
+        Planned {
+            region,
+            told,
+            planned,
+            numbers,
+            taken,
+            loaded,
+        }
+    }
+}
+
+/// A region of the journal `J`. Contracts see its seat: its number, its ticks and the events that
+/// it knows.
 pub struct Region<J: Naming, F: Families> {
     journal: Journal<J>,
     seat: Seat<J>,
@@ -30,24 +109,15 @@ pub struct Region<J: Naming, F: Families> {
 }
 
 impl<J: Naming, F: Families> Model for Region<J, F> {
-    ghost use Rattle.std.specs.Prelude.{◌≡◌, ◌≤◌, length};
-    ghost use Rattle.tx_core.specs.Histories.{left};
     ghost use Rattle.tx_journal.specs.Known.{Known};
     ghost use Rattle.tx_region.specs.Regions.{region_of};
+    ghost use Rattle.tx_region.specs.Taking.{Keeps};
 
     ghost Value = { Known };
 
     ghost view = { λ r. r.seat };
 
-    ghost invariant = { λ r. (region_of F.content r.records (left r.seat.events r.seat.seat).max_read ≡ left r.seat.events r.seat.seat) × (r.seat.seat ≤ length J.bounds) };
-}
-
-// What a region loads before it answers: the last number that was drawn, and the greatest timestamp
-// that was read, or 0 where the answer does not look at that.
-#[derive(Clone, Copy)]
-struct Loaded {
-    last: Ts,
-    mark: Ts,
+    ghost invariant = { λ r. Keeps J.bounds r.seat (region_of F.content r.records) r.records.taken (F.numbers r.records.families) };
 }
 
 // Whether the answer to a request may look at the greatest timestamp that was read.
@@ -83,6 +153,37 @@ fn load_mark<J: Naming>(seat: &mut Seat<J>, body: &Body) -> Ts
     }
     let _ = seat.number();
     Ts::ZERO
+}
+
+// The minimum that a change promises, if it does.
+fn promised(change: &KeyChange) -> Option<Ts>
+    ensures { result ≡ promised change.now }
+{
+    match change {
+        KeyChange::Lock(new) => match new.mode {
+            Mode::TwoPhase => None,
+            Mode::Async => Some(new.min),
+        },
+        KeyChange::Nothing
+        | KeyChange::Ttl(_)
+        | KeyChange::Minimum(_)
+        | KeyChange::Commit { .. }
+        | KeyChange::RollBack { .. } => None,
+    }
+}
+
+// Whether the minimum that a change promises lies above each read: where it promises one, the seat
+// then knows the whole history.
+fn lies_above<J: Naming>(seat: &mut Seat<J>, change: &KeyChange) -> bool
+    ensures same { (seat.new.seat ≡ seat.old.seat) × (seat.new.ticks ≡ seat.old.ticks) }
+    ensures seen { HasSeen J.bounds seat.old.seat seat.old.events seat.new.events }
+    ensures above { IsTrue result ↔ IsAbove change.now seat.new.events }
+{
+    let _ = seat.number();
+    match promised(change) {
+        Some(min) => seat.max_ts() < min,
+        None => true,
+    }
 }
 
 // Records the event that the call picks, which reads at `at`. Where nothing above that was read
@@ -144,6 +245,29 @@ fn record_taken<J: Naming>(
     record_event::<J, Brand>(seat, loaded, body, answer, read);
 }
 
+// Records that the region of this seat, which loaded `loaded`, answered a request so, and replies
+// it.
+fn reply_done<J: Naming>(
+    seat: &mut Seat<J>,
+    request: Request<J>,
+    loaded: Ts,
+    done: Executed,
+) -> Reply<J>
+    requires right { MayRecord J.bounds seat.old.seat seat.old.events (events.Took record { region = seat.old.seat; body = request.body; loaded = loaded; answer = done.answer }) }
+    requires read { max_ts (events.Took record { region = seat.old.seat; body = request.body; loaded = loaded; answer = done.answer } ∷ seat.old.events) ≡ read_upto done.read (max_ts seat.old.events) }
+    requires knows { Knows request.by seat.old.events loaded }
+    ensures request { result.request ≡ request }
+    ensures same { (seat.new.seat ≡ seat.old.seat) × (seat.new.ticks ≡ seat.old.ticks) }
+    ensures told { seat.new.events ≡ result.events }
+    ensures answer { result.answer ≡ Some done.answer }
+    ensures added { HasRecorded J.bounds seat.old.seat seat.old.events (events.Took record { region = seat.old.seat; body = request.body; loaded = loaded; answer = done.answer }) seat.new.events }
+{
+    let Executed { answer, read } = done;
+    record_taken(seat, loaded, request.body(), &answer, read);
+    let told = seat.tell();
+    Reply::new(request, Some(answer), told)
+}
+
 impl<J: Naming, F: Families> Region<J, F> {
     /// A region in which nothing happened, with the next seat of its journal.
     pub fn new(alloc: Global, journal: Journal<J>, seat: Seat<J>, families: F) -> Region<J, F>
@@ -165,7 +289,8 @@ impl<J: Naming, F: Families> Region<J, F> {
         self.seat.number()
     }
 
-    /// Whether it holds what a request speaks of: its key, or the whole range of a scan, or the request names it.
+    /// Whether it holds what a request speaks of: its key, or the whole range of a scan, or the
+    /// request names it.
     pub fn holds(&self, body: &Body) -> bool
         ensures { IsTrue result ↔ Holds J.bounds self.now.seat body.now }
     {
@@ -230,9 +355,9 @@ impl<J: Naming, F: Families> Region<J, F> {
         Loaded { last, mark }
     }
 
-    /// Answers a request that it holds, and records that it did, by one event; where memory is refused it does neither.
-    /// RaiseSafe takes none.
-    pub fn take(&mut self, mut request: Request<J>) -> Reply<J>
+    // Answers a request that it holds, and records that it did, by one event; where memory is
+    // refused it does neither. RaiseSafe takes none.
+    pub(crate) fn answer(&mut self, mut request: Request<J>) -> Reply<J>
         requires holds { Holds J.bounds self.old.seat request.body }
         ensures request { result.request ≡ request }
         ensures same { (self.new.seat ≡ self.old.seat) × (self.new.ticks ≡ self.old.ticks) }
@@ -242,17 +367,106 @@ impl<J: Naming, F: Families> Region<J, F> {
         ensures refused { IfNone result.answer (HasSeen J.bounds self.old.seat self.old.events self.new.events) }
     {
         let loaded = self.load(&mut request);
-        let asked = request.body();
-        match self.records.answer(loaded.last, loaded.mark, asked) {
+        match self
+            .records
+            .answer(loaded.last, loaded.mark, request.body())
+        {
             Err(_) => {
                 let told = self.seat.tell();
                 Reply::new(request, None, told)
             }
-            Ok(done) => {
-                record_taken(&mut self.seat, loaded.last, asked, &done.answer, done.read);
+            Ok(done) => reply_done(&mut self.seat, request, loaded.last, done),
+        }
+    }
+
+    /// Copies what a request of one key sees of it, and records nothing.
+    pub fn copy_key(&mut self, request: &mut Request<J>) -> Result<KeyCopy<J>, Fault>
+        requires { IsOfKey request.old.body }
+        ensures request { request.new ≡ request.old }
+        ensures same { (self.new.seat ≡ self.old.seat) × (self.new.ticks ≡ self.old.ticks) }
+        ensures seen { HasSeen J.bounds self.old.seat self.old.events self.new.events }
+        ensures copy { IfOk result (λ copy. IsCopyFor request.old copy × (copy.region ≡ self.new.seat) × (copy.events ≡ self.new.events)) }
+        ensures err { IfErr result (λ e. e ≡ Fault.OutOfMemory) }
+    {
+        let loaded = self.load(request);
+        let view = self.records.view(request.body())?;
+        let told = self.seat.tell();
+        Ok(KeyCopy {
+            region: self.seat.number(),
+            told,
+            view,
+            numbers: self.records.numbers(),
+            taken: self.records.taken,
+            loaded,
+        })
+    }
+
+    // Whether the minimum that a change promises lies above each read, as the whole history then
+    // has it.
+    fn is_above(&mut self, change: &KeyChange) -> bool
+        ensures same { (self.new.seat ≡ self.old.seat) × (self.new.ticks ≡ self.old.ticks) }
+        ensures seen { HasSeen J.bounds self.old.seat self.old.events self.new.events }
+        ensures above { IsTrue result ↔ IsAbove change.now self.new.events }
+    {
+        lies_above(&mut self.seat, change)
+    }
+
+    // Answers a request with a plan that is right for the records, where no read has passed the
+    // minimum that it promises.
+    fn carry_plan(
+        &mut self,
+        request: Request<J>,
+        planned: tx_plan::Planned,
+        loaded: &Loaded,
+    ) -> Applied<J>
+        requires holds { Holds J.bounds self.old.seat request.body }
+        requires of_key { IsOfKey request.body }
+        requires knows { Knows request.by self.old.events loaded.now.last }
+        requires mark { NeedsMark request.body → loaded.now.mark ≤ max_ts self.old.events }
+        requires plan { IsPlan loaded.now.mark (left self.old.events self.old.seat) loaded.now.last request.body planned }
+        ensures same { (self.new.seat ≡ self.old.seat) × (self.new.ticks ≡ self.old.ticks) }
+        ensures comes { CarriesPlan J.bounds self.old.seat self.old.events self.new.events request loaded.now.last planned result }
+    {
+        if !self.is_above(&planned.change) {
+            return Applied::Stale(request);
+        }
+        match self.records.make(request.body(), planned) {
+            Err(_) => {
                 let told = self.seat.tell();
-                Reply::new(request, Some(done.answer), told)
+                Applied::Done(Reply::new(request, None, told))
             }
+            Ok(done) => Applied::Done(reply_done(&mut self.seat, request, loaded.last, done)),
+        }
+    }
+
+    /// Answers a request with what was planned for it, and records that it did, where its key is as
+    /// it was copied and no read has passed the minimum that the plan promises. Else it records
+    /// nothing, and gives the request back.
+    pub fn apply(&mut self, request: Request<J>, plan: Planned<J>) -> Applied<J>
+        requires holds { Holds J.bounds self.old.seat request.body }
+        requires of { IsPlanFor request plan × (plan.region ≡ self.old.seat) }
+        ensures same { (self.new.seat ≡ self.old.seat) × (self.new.ticks ≡ self.old.ticks) }
+        ensures comes { ComesOf J.bounds self.old.seat self.old.events self.new.events request plan result }
+    {
+        let Planned {
+            region: _,
+            told,
+            planned,
+            numbers,
+            taken,
+            loaded,
+        } = plan;
+        self.learn(told);
+        match self
+            .records
+            .has_stayed(key_of(request.body()), &numbers, taken)
+        {
+            Err(_) => {
+                let told = self.seat.tell();
+                Applied::Done(Reply::new(request, None, told))
+            }
+            Ok(false) => Applied::Stale(request),
+            Ok(true) => self.carry_plan(request, planned, &loaded),
         }
     }
 }

@@ -1,7 +1,9 @@
--- What the way to a store makes of a request.
+-- What a store, and the way to it, make of a request.
 use Rattle.std.specs.Prelude.{◌≡◌, List, Ok, Err}
 use Rattle.tx_types.specs.declared.key.Key.{Key}
 use Rattle.tx_journal.specs.Replies.{Asked}
+use Rattle.tx_region.specs.declared.applied.Applied.{Applied}
+use Rattle.tx_region.specs.declared.applied.Applied.TheVariants.{Done, Stale}
 use Rattle.tx_client.specs.Senders.{Reached, IsHeld}
 
 -- it takes what one of the regions holds
@@ -12,3 +14,8 @@ TakesHeld bounds a q = IsHeld bounds q.body
 abbrev pub Replies : {S : Type 0} → S → Asked → Reached → S → Type 0
 Replies a q (Ok g) b = g.request ≡ q
 Replies a q (Err l) b = ⊥
+
+-- what comes of a plan is a reply to the request, or the request again
+abbrev pub GivesBack : {J : Type 0} → Asked → Applied J → Type 0
+GivesBack q (Done g) = g.request ≡ q
+GivesBack q (Stale again) = again ≡ q

@@ -1,12 +1,15 @@
 //! Regions, each behind a lock of its own.
-ghost use Rattle.std.specs.Prelude.{◌≡◌, ℕ, ◌+◌, ◌<◌, ◌≤◌, [], All, Some, IfErr, IfOk, length, slice_get, vec_len};
+ghost use Rattle.std.specs.Prelude.{◌≡◌, ◌↔◌, IsTrue, ℕ, ◌+◌, ◌<◌, ◌≤◌, [], All, Some, IfErr, IfOk, length, slice_get, vec_len};
 ghost use Rattle.tx_types.specs.declared.key.Key.{Key};
 ghost use Rattle.tx_types.specs.declared.fault.Fault.TheVariants.{OutOfMemory};
 ghost use Rattle.tx_cells.specs.Contents.{nothing_held};
 ghost use Rattle.tx_core.specs.Worlds.{Holds, route};
 ghost use Rattle.tx_journal.specs.Known.{Known, AreRising};
 ghost use Rattle.tx_region.specs.KeyFronts.{AreFronts};
+ghost use Rattle.tx_region.specs.Copies.{IsOfKey};
+ghost use Rattle.tx_region.specs.Planning.{IsCopyFor, IsPlanFor};
 ghost use Rattle.tx_client.specs.Senders.{IsHeld};
+ghost use Rattle.tx_store.specs.Stores.{GivesBack};
 
 use crate::seats::split_seats;
 use std::alloc::Global;
@@ -15,26 +18,31 @@ use std::sync::{Mutex, MutexGuard, Wait};
 use tx_cells::Families;
 use tx_core::{Body, RegionNo};
 use tx_journal::{Journal, Naming, Opened, Reply, Request, Seat};
-use tx_region::{Region, fronts, route_by};
+use tx_region::{Applied, KeyCopy, Planned, Region, fronts, is_of_key, route_by};
 use tx_types::{Fault, Key};
 
-/// How often a call looks whether the lock of a region is free before it sleeps. A region has its lock for about a microsecond at a time, and
-/// a thread that sleeps wakes far later.
+/// How often a call looks whether the lock of a region is free before it sleeps. A region has its
+/// lock for about a microsecond at a time, and a thread that sleeps wakes far later.
 const LOOKS: u32 = 256;
 
-/// A region behind its lock. Two locks lie in different lines of memory, so that threads in two regions do not write the same
-/// line.
+/// How often a request is planned outside the lock of its region.
+const TRIES: u32 = 3;
+
+/// A region behind its lock. Two locks lie in different lines of memory, so that threads in two
+/// regions do not write the same line.
 #[derive(Drop)]
 struct Locked<J: Naming, F: Families> {
     region: Mutex<Region<J, F>>,
     apart: [u64; 16],
 }
 
-/// The regions of a journal. What lies under a lock is known by its type alone, and not by its place.
+/// The regions of a journal. What lies under a lock is known by its type alone, and not by its
+/// place.
 #[derive(Drop)]
 pub struct Store<J: Naming, F: Families> {
     journal: Journal<J>,
-    /// The fronts of the keys between the regions, by which the region of a key is mostly found with no look at these keys.
+    /// The fronts of the keys between the regions, by which the region of a key is mostly found
+    /// with no look at these keys.
     fronts: Vec<u64>,
     regions: Vec<Locked<J, F>>,
     ghost few: { length J.bounds < 1024 },
@@ -42,9 +50,16 @@ pub struct Store<J: Naming, F: Families> {
     ghost each: { vec_len regions ≡ length J.bounds + 1 },
 }
 
+// Whether a region is the one of this place.
+fn is_at<J: Naming, F: Families>(region: &Region<J, F>, place: usize) -> bool
+    ensures { IsTrue result ↔ (region.now.seat ≡ place) }
+{
+    region.number().get() as usize == place
+}
+
 impl<J: Naming, F: Families + Drop> Store<J, F> {
-    /// A store over the regions of a journal, of which nothing has happened: with the seat of each, in their order, and
-    /// families that hold nothing. `OutOfMemory` drops what was handed in.
+    /// A store over the regions of a journal, of which nothing has happened: with the seat of each,
+    /// in their order, and families that hold nothing. `OutOfMemory` drops what was handed in.
     pub fn new(
         alloc: Global,
         journal: &Journal<J>,
@@ -76,8 +91,8 @@ impl<J: Naming, F: Families + Drop> Store<J, F> {
         })
     }
 
-    /// A store over the regions of a journal that was just opened, with families that hold nothing, and the seats for sessions.
-    /// `OutOfMemory` drops what was handed in.
+    /// A store over the regions of a journal that was just opened, with families that hold nothing,
+    /// and the seats for sessions. `OutOfMemory` drops what was handed in.
     pub fn open(
         alloc: Global,
         opened: Opened,
@@ -164,19 +179,101 @@ impl<J: Naming, F: Families + Drop> Store<J, F> {
         region.lock(rt)
     }
 
-    /// Hands a request to the region that holds what it speaks of, once no other call has that region. The reply tells who
-    /// answered, and after what.
+    // Copies what a request of one key sees of it in the region that holds it.
+    #[inline(never)]
+    fn copy_at<R: Wait>(
+        &self,
+        rt: &R,
+        place: usize,
+        request: &mut Request<J>,
+    ) -> Result<KeyCopy<J>, Fault>
+        requires place { place ≤ length J.bounds }
+        requires of_key { IsOfKey request.old.body }
+        ensures same { request.new ≡ request.old }
+        ensures copy { IfOk result (λ copy. IsCopyFor request.old copy × (copy.region ≡ place)) }
+    {
+        for _ in rt.forever() {
+            let mut region = self.locked(rt, place);
+            if is_at(&*region, place) {
+                return region.copy_key(request);
+            }
+        }
+        unreachable!()
+    }
+
+    // Applies a plan in the region that holds the request.
+    #[inline(never)]
+    fn apply_at<R: Wait>(
+        &self,
+        rt: &R,
+        place: usize,
+        request: Request<J>,
+        plan: Planned<J>,
+    ) -> Applied<J>
+        requires place { place ≤ length J.bounds }
+        requires holds { Holds J.bounds place request.body }
+        requires of { IsPlanFor request plan × (plan.region ≡ place) }
+        ensures { GivesBack request result }
+    {
+        for _ in rt.forever() {
+            let mut region = self.locked(rt, place);
+            if is_at(&*region, place) {
+                return region.apply(request, plan);
+            }
+        }
+        unreachable!()
+    }
+
+    // Answers a request in the region that holds it, which plans it while no other call has the
+    // region.
+    #[inline(never)]
+    fn take_at<R: Wait>(&self, rt: &R, place: usize, request: Request<J>) -> Reply<J>
+        requires place { place ≤ length J.bounds }
+        requires holds { Holds J.bounds place request.body }
+        ensures { result.request ≡ request }
+    {
+        for _ in rt.forever() {
+            let mut region = self.locked(rt, place);
+            if is_at(&*region, place) {
+                return region.take(request);
+            }
+        }
+        unreachable!()
+    }
+
+    // Answers a request of one key in the region that holds it. It is planned of a copy, while
+    // other calls may have the region; where the plan is no longer right, three times, the request
+    // is planned while no other call has it.
+    fn run_at<R: Wait>(&self, rt: &R, place: usize, mut request: Request<J>) -> Reply<J>
+        requires place { place ≤ length J.bounds }
+        requires holds { Holds J.bounds place request.body }
+        requires of_key { IsOfKey request.body }
+        ensures { result.request ≡ request }
+    {
+        for _try in 0..TRIES {
+            let Ok(copy) = self.copy_at(rt, place, &mut request) else {
+                break;
+            };
+            let plan = copy.plan(&request);
+            match self.apply_at(rt, place, request, plan) {
+                Applied::Done(reply) => return reply,
+                Applied::Stale(again) => request = again,
+            }
+        }
+        self.take_at(rt, place, request)
+    }
+
+    /// Hands a request to the region that holds what it speaks of, once no other call has that
+    /// region. The reply tells who answered, and after what.
     pub fn run<R: Wait>(&self, rt: &R, request: Request<J>) -> Reply<J>
         requires { IsHeld J.bounds request.body }
         ensures { result.request ≡ request }
     {
         let place = self.place_of(request.body());
-        for _ in rt.forever() {
-            let mut region = self.locked(rt, place);
-            if region.number().get() as usize == place {
-                return region.take(request);
-            }
+        if is_of_key(request.body()) {
+            self.run_at(rt, place, request)
+        } else {
+            self.take_at(rt, place, request)
         }
-        unreachable!()
     }
 }

@@ -1,4 +1,5 @@
-//! Changes, made as the commands of a region make them: what is seen of the key, the plan, and the change.
+//! Changes, made as the commands of a region make them: what is seen of the key, the plan, and the
+//! change.
 ghost use Rattle.std.specs.Prelude.{◌≡◌, IfSome};
 ghost use Rattle.tx_plan.specs.Changes.{new_lock, CanPut};
 ghost use Rattle.tx_cells.specs.Contents.{cells_of};
@@ -42,7 +43,7 @@ fn put_lock<F: Families>(
 {
     match change {
         KeyChange::Lock(new) => {
-            families.put_lock(alloc, body, new)?;
+            families.put_lock(alloc, body, new, 1)?;
             Ok(true)
         }
         _ => Ok(false),
@@ -96,7 +97,7 @@ pub fn put<F: Families>(
 fn settles<F: Families>(alloc: Global, families: &mut F, body: &Commit) -> Result<bool, Fault> {
     let view = families.view(alloc, &body.key, body.start, body.commit)?;
     let change = change_of(plan_commit(&view, Ts::ZERO, body));
-    families.apply(alloc, &body.key, change)?;
+    families.apply(alloc, &body.key, change, 1)?;
     Ok(matches!(change, KeyChange::Commit { .. }))
 }
 
@@ -116,19 +117,23 @@ pub fn commit<F: Families>(
     right
 }
 
+// Whether the plan of an abort rolls back, and whether it changes nothing.
 fn aborts<F: Families>(
     alloc: Global,
     families: &mut F,
     body: &BatchRollback,
-) -> Result<bool, Fault> {
+) -> Result<(bool, bool), Fault> {
     let view = families.view(alloc, &body.key, body.start, body.start)?;
     let change = change_of(plan_batch_rollback(&view, Ts::ZERO, body));
-    families.apply(alloc, &body.key, change)?;
-    Ok(matches!(change, KeyChange::RollBack { .. }))
+    families.apply(alloc, &body.key, change, 1)?;
+    Ok((
+        matches!(change, KeyChange::RollBack { .. }),
+        matches!(change, KeyChange::Nothing),
+    ))
 }
 
-/// Rolls the transaction back that started then. No where the plan does not.
-pub fn roll_back<F: Families>(alloc: Global, families: &mut F, at: At) -> Result<bool, Fault> {
+// The same of the transaction that started then.
+fn abort<F: Families>(alloc: Global, families: &mut F, at: At) -> Result<(bool, bool), Fault> {
     let key = Key::new(alloc, &[at.0])?;
     let start = Ts::new(at.1);
     let body = BatchRollback { key, start };
@@ -137,7 +142,18 @@ pub fn roll_back<F: Families>(alloc: Global, families: &mut F, at: At) -> Result
     right
 }
 
-/// Collects at a safe point. Whether no lock started below it, and so many records and long values go.
+/// Rolls the transaction back that started then. No where the plan does not.
+pub fn roll_back<F: Families>(alloc: Global, families: &mut F, at: At) -> Result<bool, Fault> {
+    Ok(abort(alloc, families, at)?.0)
+}
+
+/// Whether rolling the transaction back that started then changes nothing.
+pub fn stays<F: Families>(alloc: Global, families: &mut F, at: At) -> Result<bool, Fault> {
+    Ok(abort(alloc, families, at)?.1)
+}
+
+/// Collects at a safe point. Whether no lock started below it, and so many records and long values
+/// go.
 pub fn collect<F: Families>(
     alloc: Global,
     families: &mut F,

@@ -58,10 +58,10 @@ pub const MARKS: [Step; 25] = [
     Stands((b'b', 0), 1, 1),
     Sees((b'b', 7), 300),
     // a rollback that stands stays
-    RollBack((b'a', 7)),
+    Stays((b'a', 7)),
     Has((b'a', 7), Marked),
     RollBack((b'c', 7)),
-    RollBack((b'c', 7)),
+    Stays((b'c', 7)),
     Has((b'c', 7), Rollback),
     Has((b'c', 6), Absent),
     Stands((b'c', 0), 1, 0),

@@ -1,6 +1,6 @@
 //! The steps of a scenario: what is asked of the families, and what the rules say to it. A key is one byte, and a value is known by
 //! its length.
-use crate::tests::asks::{collect, commit, prewrite, put, roll_back};
+use crate::tests::asks::{collect, commit, prewrite, put, roll_back, stays};
 use crate::tests::finds::{blocked, ends, met, read, remain, rows, stands, told};
 use std::alloc::Global;
 use tx_cells::Families;
@@ -35,6 +35,8 @@ pub enum Step {
     Commit(At, u64),
     /// The transaction that started then is rolled back.
     RollBack(At),
+    /// It is rolled back already, and rolling it back changes nothing.
+    Stays(At),
     /// No lock started below the safe point; so many records and long values go.
     Collect(u64, u64, u64),
     /// A read then sees a value of so many bytes.
@@ -81,6 +83,7 @@ fn try_step<F: Families>(alloc: Global, families: &mut F, step: Step) -> Result<
         Step::Lock(at) => prewrite(alloc, families, at, Mutation::Lock),
         Step::Commit(at, to) => commit(alloc, families, at, to),
         Step::RollBack(at) => roll_back(alloc, families, at),
+        Step::Stays(at) => stays(alloc, families, at),
         Step::Collect(safe, records, values) => collect(alloc, families, safe, (records, values)),
         found => finds(alloc, families, found),
     }

@@ -5,14 +5,14 @@ use std::test::Fail;
 use tx_stage::Act::{
     Abort, Begin, Commit, Declare, Delete, Draw, Finish, Get, Insert, Lock, Prewrite, Put,
 };
-use tx_stage::Way::{Plain, Repeats};
+use tx_stage::Way::{Loses, Plain, Repeats};
 use tx_stage::Who::{A, B};
 use tx_stage::{Step, played};
 use tx_types::Mode::{Async, TwoPhase};
 
-// A key with no value is inserted. Over its value an insert is refused, however often it is asked;
-// that decides nothing, and the abort does.
-const OVER_A_VALUE: [Step; 16] = [
+// A key with no value is inserted. Over its value an insert is refused, however often it is asked,
+// and also where the first request was lost; that decides nothing, and the abort does.
+const OVER_A_VALUE: [Step; 18] = [
     (A, Begin, Plain, "start", 1),
     (A, Insert(1, 5), Plain, "ok", 0),
     (A, Declare(TwoPhase, None), Plain, "ok", 0),
@@ -24,9 +24,11 @@ const OVER_A_VALUE: [Step; 16] = [
     (B, Get(1), Plain, "value", 5),
     (B, Insert(1, 6), Plain, "ok", 0),
     (B, Declare(TwoPhase, None), Plain, "ok", 0),
+    (B, Prewrite, Loses, "lost", 0),
     (B, Prewrite, Plain, "E17", 0),
-    (B, Prewrite, Repeats, "E17", 0),
     (B, Finish, Plain, "not yet", 0),
+    (B, Prewrite, Repeats, "E17", 0),
+    (B, Commit, Plain, "order", 0),
     (B, Abort, Plain, "rolled-back", 0),
     (B, Finish, Plain, "ended aborted", 0),
 ];
@@ -55,8 +57,8 @@ const AFTER_A_DELETE: [Step; 20] = [
     (B, Finish, Plain, "ended committed", 9),
 ];
 
-// In the buffer an insert over a delete is a put, which no value stops; over a put it is refused, and
-// the buffer stays.
+// In the buffer an insert over a delete is a put, which no value stops; over a put it is refused,
+// and the buffer stays.
 const OVER_A_DELETE: [Step; 17] = [
     (A, Begin, Plain, "start", 1),
     (A, Put(1, 5), Plain, "ok", 0),
@@ -77,8 +79,8 @@ const OVER_A_DELETE: [Step; 17] = [
     (B, Finish, Plain, "ended committed", 6),
 ];
 
-// An insert over a lock is an insert; a later put leaves it one, with the new value, and a lock leaves
-// it as it is: over a value it is refused.
+// An insert over a lock is an insert; a later put leaves it one, with the new value, and a lock
+// leaves it as it is: over a value it is refused.
 const STAYS_AN_INSERT: [Step; 17] = [
     (A, Begin, Plain, "start", 1),
     (A, Put(1, 5), Plain, "ok", 0),

@@ -2,6 +2,7 @@
 ghost use Rattle.std.specs.Prelude.{◌≡◌, ◌+◌, ◌<◌, ◌↔◌, ℕ, IsTrue, None};
 ghost use Rattle.tx_plan.specs.Cells.{Cells};
 ghost use Rattle.tx_plan.specs.Changes.{changed, Applies};
+ghost use Rattle.tx_plan.specs.Making.{Makes};
 ghost use Rattle.tx_plan.specs.Plans.{answer_with};
 ghost use Rattle.tx_plan.specs.Views.{Shows, HasOwnHead, info_on};
 ghost use Rattle.tx_plan.specs.cases.CheckTxnStatus.{ChecksLock, AnswersCheckTxnStatus, leaves_check_txn_status};
@@ -15,10 +16,11 @@ use crate::planned::{Planned, PlannedAnswer};
 use crate::view::{LockHead, TxnView};
 use tx_types::{Mode, Ts};
 
-/// The answer to a CheckTxnStatus that sees this of its key, in a region that collected up to `collected` and whose seat
-/// loaded `loaded`, and the change: an expired lock is rolled back, and a live one that the caller's read could not pass
-/// has a minimum above it. `BelowSafePoint` where the transaction started below `collected`, `FutureTimestamp` where the
-/// caller's timestamp lies above `loaded`, `TxnNotFound` where there is nothing of the transaction and no rollback was
+/// The answer to a CheckTxnStatus that sees this of its key, in a region that collected up to
+/// `collected` and whose seat loaded `loaded`, and the change: an expired lock is rolled back, and
+/// a live one that the caller's read could not pass has a minimum above it. `BelowSafePoint` where
+/// the transaction started below `collected`, `FutureTimestamp` where the caller's timestamp lies
+/// above `loaded`, `TxnNotFound` where there is nothing of the transaction and no rollback was
 /// wanted.
 pub fn plan_check_txn_status(
     view: &TxnView,
@@ -30,6 +32,7 @@ pub fn plan_check_txn_status(
     ensures answers { (cells : Cells) (commit : ℕ) → Shows cells body.now.start commit view.now → AnswersCheckTxnStatus cells collected loaded body.now (answer_with (info_on cells body.now.key) result.answer) }
     ensures leaves { (cells : Cells) (commit : ℕ) → Shows cells body.now.start commit view.now → changed cells result.change ≡ leaves_check_txn_status cells body.now (answer_with (info_on cells body.now.key) result.answer) }
     ensures applies { (cells : Cells) (commit : ℕ) → Shows cells body.now.start commit view.now → Applies cells result.change }
+    ensures makes { (cells : Cells) (commit : ℕ) → Shows cells body.now.start commit view.now → Makes cells result.change }
     ensures unread { result.read ≡ None }
 {
     if body.start < collected {
@@ -56,6 +59,7 @@ fn check_lock(view: &TxnView, lock: &LockHead, body: &CheckTxnStatus) -> Planned
     ensures answers { (cells : Cells) (commit : ℕ) → Shows cells body.now.start commit view.now → (own : HasOwnHead cells.lock body.now.start lock.now) → ChecksLock body.now own.lock (answer_with (info_on cells body.now.key) result.answer) }
     ensures leaves { (cells : Cells) (commit : ℕ) → Shows cells body.now.start commit view.now → HasOwnHead cells.lock body.now.start lock.now → changed cells result.change ≡ leaves_check_txn_status cells body.now (answer_with (info_on cells body.now.key) result.answer) }
     ensures applies { (cells : Cells) (commit : ℕ) → Shows cells body.now.start commit view.now → HasOwnHead cells.lock body.now.start lock.now → Applies cells result.change }
+    ensures makes { (cells : Cells) (commit : ℕ) → Shows cells body.now.start commit view.now → HasOwnHead cells.lock body.now.start lock.now → Makes cells result.change }
     ensures unread { result.read ≡ None }
 {
     if lock.mode == Mode::Async && !body.force_sync_commit {

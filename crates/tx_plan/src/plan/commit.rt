@@ -2,6 +2,7 @@
 ghost use Rattle.std.specs.Prelude.{◌≡◌, None};
 ghost use Rattle.tx_plan.specs.Cells.{Cells};
 ghost use Rattle.tx_plan.specs.Changes.{changed, Applies};
+ghost use Rattle.tx_plan.specs.Making.{Makes};
 ghost use Rattle.tx_plan.specs.Plans.{answer_with};
 ghost use Rattle.tx_plan.specs.Views.{Shows, info_on};
 ghost use Rattle.tx_plan.specs.cases.Commit.{AnswersCommit, leaves_commit};
@@ -19,6 +20,7 @@ pub fn plan_commit(view: &TxnView, collected: Ts, body: &Commit) -> Planned
     ensures answers { (cells : Cells) → Shows cells body.now.start body.now.commit view.now → AnswersCommit cells collected body.now (answer_with (info_on cells body.now.key) result.answer) }
     ensures leaves { (cells : Cells) → Shows cells body.now.start body.now.commit view.now → changed cells result.change ≡ leaves_commit cells body.now (answer_with (info_on cells body.now.key) result.answer) }
     ensures applies { (cells : Cells) → Shows cells body.now.start body.now.commit view.now → Applies cells result.change }
+    ensures makes { (cells : Cells) → Shows cells body.now.start body.now.commit view.now → Makes cells result.change }
     ensures unread { result.read ≡ None }
 {
     if body.start < collected {

@@ -3,6 +3,7 @@ ghost use Rattle.std.specs.Prelude.{◌≡◌, None};
 ghost use Rattle.tx_plan.specs.Cells.{Cells};
 ghost use Rattle.tx_plan.specs.Changes.{changed, Applies};
 ghost use Rattle.tx_plan.specs.Committing.{commit_in};
+ghost use Rattle.tx_plan.specs.Making.{Makes};
 ghost use Rattle.tx_plan.specs.Plans.{answer_with};
 ghost use Rattle.tx_plan.specs.Views.{Shows, info_on};
 ghost use Rattle.tx_plan.specs.cases.ResolveLock.{AnswersResolveLock, leaves_resolve_lock};
@@ -16,14 +17,16 @@ use crate::planned::Planned;
 use crate::view::TxnView;
 use tx_types::{Fate, Ts};
 
-/// The answer to a ResolveLock that sees this of its key, in a region that collected up to `collected`, and the change.
-/// `BelowSafePoint` where the transaction started below that. Where it is committed and has its lock on the key:
-/// `CommitTsExpired` below the lock's minimum, `WriteConflict` where another transaction committed at the commit
-/// timestamp. Where it has no lock there is nothing to do.
+/// The answer to a ResolveLock that sees this of its key, in a region that collected up to
+/// `collected`, and the change. `BelowSafePoint` where the transaction started below that. Where it
+/// is committed and has its lock on the key: `CommitTsExpired` below the lock's minimum,
+/// `WriteConflict` where another transaction committed at the commit timestamp. Where it has no
+/// lock there is nothing to do.
 pub fn plan_resolve_lock(view: &TxnView, collected: Ts, body: &ResolveLock) -> Planned
     ensures answers { (cells : Cells) → Shows cells body.now.start (commit_in body.now.fate) view.now → AnswersResolveLock cells collected body.now (answer_with (info_on cells body.now.key) result.answer) }
     ensures leaves { (cells : Cells) → Shows cells body.now.start (commit_in body.now.fate) view.now → changed cells result.change ≡ leaves_resolve_lock cells body.now (answer_with (info_on cells body.now.key) result.answer) }
     ensures applies { (cells : Cells) → Shows cells body.now.start (commit_in body.now.fate) view.now → Applies cells result.change }
+    ensures makes { (cells : Cells) → Shows cells body.now.start (commit_in body.now.fate) view.now → Makes cells result.change }
     ensures unread { result.read ≡ None }
 {
     if body.start < collected {

@@ -16,8 +16,8 @@ const ROWS: [Row; 8] = [
     (5, Own, DONE, (Rollback, 5, 1)),
     (5, OwnAndStart, DONE, (Mark, 5, 1)),
     (5, Done, (AlreadyCommitted, 8, 0), SAME),
-    (5, Undone, DONE, (Stays, 5, 0)),
-    (5, Marked, DONE, (Stays, 5, 0)),
+    (5, Undone, DONE, SAME),
+    (5, Marked, DONE, SAME),
     (5, Free, DONE, (Rollback, 5, 0)),
     (5, Others, DONE, (Rollback, 5, 0)),
 ];

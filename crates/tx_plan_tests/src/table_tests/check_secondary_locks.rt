@@ -15,7 +15,7 @@ const ROWS: [Row; 6] = [
     (2, Free, BELOW, SAME),
     (5, OwnAsync, (Locked, 7, 0), SAME),
     (5, Done, (Committed, 8, 0), SAME),
-    (5, Undone, NONE, (Stays, 5, 0)),
+    (5, Undone, NONE, SAME),
     (5, Shared, NONE, (Mark, 5, 0)),
     (5, Others, NONE, (Rollback, 5, 0)),
 ];

@@ -41,8 +41,8 @@ const ROWS: [Row; 15] = [
     (PUSHING, NO, YES, OwnAsync, PUSHED, (Minimum, 8, 0)),
     (EXPIRED, NO, YES, OwnAsync, DONE, (Rollback, 5, 1)),
     (LIVE, NO, NO, Done, (Committed, 8, 0), SAME),
-    (LIVE, NO, NO, Undone, DONE, (Stays, 5, 0)),
-    (LIVE, NO, NO, Marked, DONE, (Stays, 5, 0)),
+    (LIVE, NO, NO, Undone, DONE, SAME),
+    (LIVE, NO, NO, Marked, DONE, SAME),
     (LIVE, YES, NO, Others, DONE, (Rollback, 5, 0)),
     (LIVE, NO, NO, Others, (TxnNotFound, 0, 0), SAME),
 ];

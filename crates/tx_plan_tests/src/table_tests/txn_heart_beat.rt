@@ -14,7 +14,7 @@ type Row = (u64, u32, Seen, Short, Short);
 const ROWS: [Row; 5] = [
     (2, 20, Own, BELOW, SAME),
     (5, 20, Own, (Lives, 20, 0), (Ttl, 20, 0)),
-    (5, 4, Own, (Lives, 10, 0), (Ttl, 10, 0)),
+    (5, 4, Own, (Lives, 10, 0), SAME),
     (5, 20, Others, NOT_FOUND, SAME),
     (5, 20, Done, NOT_FOUND, SAME),
 ];

@@ -1,14 +1,13 @@
-use Rattle.std.proofs.Common.{◌≡◌, ◌≤◌, ℕ, length, sym, ap, subst, ◌∙◌}
+use Rattle.std.proofs.Common.{◌≡◌, ◌≤◌, ℕ, sym, ap, subst, ◌∙◌}
 use Rattle.tx_plan.specs.declared.body.Body.{Body}
-use Rattle.tx_plan.specs.Cells.{Region}
-use Rattle.tx_core.specs.Histories.{left, Begins}
-use Rattle.tx_core.proofs.seats.Answering.{left_on}
+use Rattle.tx_core.specs.Histories.{Begins}
 use Rattle.tx_core.proofs.seats.Beginnings.{begins_more, extends_begins}
 use Rattle.tx_journal.specs.Known.{Known, HasSeen}
 use Rattle.tx_journal.specs.Replies.{Asked}
 use Rattle.tx_journal.proofs.Calls.{seen_more}
 use Rattle.tx_region.specs.Regions.{region_of}
 use Rattle.tx_region.specs.Taking.{IsMark, Loads}
+use Rattle.tx_region.proofs.Taking.{keeps_seen}
 use Rattle.tx_region.proofs.region.Region.load.Goals as goal
 
 pub invariant_of-self : goal.invariant_of-self
@@ -24,10 +23,7 @@ invariant_of-self g c =
     let number = c.load_mark-mark.ensures.same.0 ∙ two in
     let here = seen_more bounds n s.seat.events learnt point c.learn.ensures.seen (subst (λ m. HasSeen bounds m learnt point) one c.last-last.ensures.seen) in
     let there = seen_more bounds n s.seat.events point marked here (subst (λ m. HasSeen bounds m point marked) two c.load_mark-mark.ensures.seen) in
-    let still = left_on n s.seat.events marked there.extends in (
-      subst (λ (r : Region). region_of g.F.Families.content s.records r.max_read ≡ r) (sym still ∙ ap (λ m. left marked m) (sym number)) c.self.invariant.0,
-      subst (λ m. m ≤ length bounds) (sym number) c.self.invariant.1,
-    )
+    keeps_seen bounds s.seat c.load_mark-mark.new.seat (region_of g.F.Families.content s.records) s.records.taken (g.F.Families.numbers s.records.families) c.self.invariant number there.extends
 
 pub returns-clause-seen : goal.returns-clause-seen
 returns-clause-seen g c =

@@ -1,0 +1,74 @@
+use Rattle.std.proofs.Common.{◌≡◌, ℕ, sym, ap, subst, ◌∙◌}
+use Rattle.tx_plan.specs.declared.body.Body.{Body}
+use Rattle.tx_plan.specs.Cells.{Region}
+use Rattle.tx_core.specs.Histories.{History, left}
+use Rattle.tx_journal.specs.Known.{Known}
+use Rattle.tx_journal.specs.Replies.{Asked}
+use Rattle.tx_region.specs.Copies.{IsOfKey, key_in, SameKey, Sees, LooksLike}
+use Rattle.tx_region.specs.Planning.{Copied, AreOf, IsCopyFor}
+use Rattle.tx_region.specs.Regions.{region_of}
+use Rattle.tx_region.specs.Taking.{IsMark, Loads, Knows}
+use Rattle.tx_region.proofs.Copies.{looks_same}
+use Rattle.tx_region.proofs.Taking.{knows_loads}
+use Rattle.tx_region.proofs.region.Region.copy_key.Goals as goal
+
+pub view-requires : goal.view-requires
+view-requires g c = subst IsOfKey (sym (c.body.ensures.body ∙ ap (λ (r : Asked). r.body) c.load-loaded.ensures.request)) c.requires
+
+pub returns-clause-copy : goal.returns-clause-copy
+returns-clause-copy g c =
+    let bounds = g.J.Naming.bounds in
+    let content = g.F.Families.content in
+    let old = c.args.self.now in
+    let s = c.self.inside in
+    let n = s.seat.seat in
+    let load = c.load-loaded.ensures in
+    let q = c.load-loaded.new.request in
+    let last = c.load-loaded.result.last in
+    let mark = c.load-loaded.result.mark in
+    let was : q ≡ c.args.request.now = load.request in
+    let told : c.tell-told.result ≡ s.seat.events = c.tell-told.ensures.told in
+    let loads : Loads bounds old.seat old.events q.by q.body last mark s.seat.events = subst (λ (k : Known). Loads bounds old.seat old.events q.by q.body last mark k.events) (sym c.self.view_is) load.loads in
+    let knows : Knows q.by s.seat.events last = knows_loads bounds old.seat old.events q.by q.body last mark s.seat.events loads in
+    let here = left s.seat.events n in
+    let looks : LooksLike here q.body c.in_ok-view.view c.numbers.result = record {
+      sees = subst (λ (r : Region). Sees r.cells q.body c.in_ok-view.view) c.self.invariant.left (subst (λ (b : Body). Sees (region_of content s.records 0).cells b c.in_ok-view.view) c.body.ensures.body c.in_ok-view.ensures.ok);
+      safe = c.numbers.ensures.0 ∙ ap (λ (r : Region). r.safe) c.self.invariant.left;
+      collected = c.numbers.ensures.1 ∙ ap (λ (r : Region). r.collected) c.self.invariant.left;
+    } in
+    let copy : Copied = record { region = n; events = s.seat.events; view = c.in_ok-view.view; numbers = c.numbers.result; loaded = c.load-loaded.result } in
+    let so : IsCopyFor q copy = record {
+      of_key = subst (λ (r : Asked). IsOfKey r.body) (sym was) c.requires;
+      knows = knows;
+      is_mark = loads.is_mark;
+      looks = λ region same. looks_same q.body here region c.in_ok-view.view c.numbers.result same looks;
+    } in
+    let same = c.tell-told.ensures.same in
+    let number : c.number.result ≡ n = c.number.ensures.number ∙ ap (λ (k : Known). k.seat) same in (
+      subst (λ (x : Asked × ℕ × History). IsCopyFor x.0 (record { region = x.1; events = x.2; view = c.in_ok-view.view; numbers = c.numbers.result; loaded = c.load-loaded.result })) (λ i. (was i, sym number i, sym told i)) so,
+      c.number.ensures.number,
+      told ∙ ap (λ (k : Known). k.events) (sym same),
+    )
+
+pub invariant_of-result : goal.invariant_of-result
+invariant_of-result g c =
+    let bounds = g.J.Naming.bounds in
+    let old = c.args.self.now in
+    let s = c.self.inside in
+    let n = s.seat.seat in
+    let load = c.load-loaded.ensures in
+    let q = c.load-loaded.new.request in
+    let last = c.load-loaded.result.last in
+    let mark = c.load-loaded.result.mark in
+    let told : c.tell-told.result ≡ s.seat.events = c.tell-told.ensures.told in
+    let number : c.number.result ≡ n = c.number.ensures.number ∙ ap (λ (k : Known). k.seat) c.tell-told.ensures.same in
+    let loads : Loads bounds old.seat old.events q.by q.body last mark s.seat.events = subst (λ (k : Known). Loads bounds old.seat old.events q.by q.body last mark k.events) (sym c.self.view_is) load.loads in
+    let knows : Knows q.by s.seat.events last = knows_loads bounds old.seat old.events q.by q.body last mark s.seat.events loads in
+    let are : AreOf s.seat.events n c.numbers.result s.records.taken c.load-loaded.result = record {
+      safe = c.numbers.ensures.0 ∙ ap (λ (r : Region). r.safe) c.self.invariant.left;
+      collected = c.numbers.ensures.1 ∙ ap (λ (r : Region). r.collected) c.self.invariant.left;
+      count = c.self.invariant.count;
+      was = (knows.point, knows.upto, knows.is_last);
+      low = load.loads.low;
+    } in
+    subst (λ (x : History × ℕ). AreOf x.0 x.1 c.numbers.result s.records.taken c.load-loaded.result) (λ i. (sym told i, sym number i)) are

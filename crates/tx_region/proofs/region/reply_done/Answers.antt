@@ -1,0 +1,16 @@
+use Rattle.std.proofs.Common.{◌≡◌, Some, sym, ap, subst, ◌∙◌}
+use Rattle.tx_plan.specs.declared.body.Body.{Body}
+use Rattle.tx_core.specs.declared.event.Event.TheVariants.{Took}
+use Rattle.tx_core.specs.Histories.{History}
+use Rattle.tx_journal.specs.Known.{HasRecorded}
+use Rattle.tx_region.proofs.Taking.{given_by}
+use Rattle.tx_region.proofs.region.reply_done.Goals as goal
+
+pub new-requires : goal.new-requires
+new-requires g c =
+    let bounds = g.J.Naming.bounds in
+    let old = c.args.seat.now in
+    let a = c.args.done.answer in
+    let q = c.args.request in
+    let added = subst (λ (b : Body). HasRecorded bounds old.seat old.events (Took record { region = old.seat; body = b; loaded = c.args.loaded; answer = a }) c.record_taken.new.seat.events) c.body.ensures.body c.record_taken.ensures.added in
+    given_by bounds old.seat old.events c.args.loaded q a c.tell-told.result c.requires.knows (subst (λ (h : History). HasRecorded bounds old.seat old.events (Took record { region = old.seat; body = q.body; loaded = c.args.loaded; answer = a }) h) (sym c.tell-told.ensures.told) added)

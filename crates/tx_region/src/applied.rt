@@ -1,0 +1,10 @@
+//! What comes of a plan.
+use tx_journal::{Naming, Reply, Request};
+
+/// What comes of a plan that is applied: a reply, or the request again, where what was planned is
+/// no longer right.
+#[derive(Drop)]
+pub enum Applied<J: Naming> {
+    Done(Reply<J>),
+    Stale(Request<J>),
+}

@@ -1,0 +1,198 @@
+//! The calls of a region by name, and the call that picks one by what is asked.
+ghost use Rattle.std.specs.Prelude.{◌≡◌, IfSome, IfNone, IsSome};
+ghost use Rattle.tx_core.specs.Worlds.{Holds};
+ghost use Rattle.tx_journal.specs.Known.{HasSeen};
+ghost use Rattle.tx_region.specs.Calls.{TakesNoMemory};
+ghost use Rattle.tx_region.specs.Commands.{IsGet, IsScan, IsPrewrite, IsCommit, IsBatchRollback, IsTxnHeartBeat, IsCheckTxnStatus, IsCheckSecondaryLocks, IsResolveLock, IsRaiseSafe, IsLocksBelow, IsCollect};
+ghost use Rattle.tx_region.specs.Taking.{Answered};
+
+use crate::region::Region;
+use tx_cells::Families;
+use tx_core::Body;
+use tx_journal::{Naming, Reply, Request};
+
+impl<J: Naming, F: Families> Region<J, F> {
+    /// Answers a Get.
+    pub fn get(&mut self, request: Request<J>) -> Reply<J>
+        requires is { IsGet request.body }
+        requires holds { Holds J.bounds self.old.seat request.body }
+        ensures request { result.request ≡ request }
+        ensures same { (self.new.seat ≡ self.old.seat) × (self.new.ticks ≡ self.old.ticks) }
+        ensures told { self.new.events ≡ result.events }
+        ensures answered { IfSome result.answer (Answered J.bounds self.old.seat self.old.events result) }
+        ensures refused { IfNone result.answer (HasSeen J.bounds self.old.seat self.old.events self.new.events) }
+    {
+        self.answer(request)
+    }
+
+    /// Answers a Scan.
+    pub fn scan(&mut self, request: Request<J>) -> Reply<J>
+        requires is { IsScan request.body }
+        requires holds { Holds J.bounds self.old.seat request.body }
+        ensures request { result.request ≡ request }
+        ensures same { (self.new.seat ≡ self.old.seat) × (self.new.ticks ≡ self.old.ticks) }
+        ensures told { self.new.events ≡ result.events }
+        ensures answered { IfSome result.answer (Answered J.bounds self.old.seat self.old.events result) }
+        ensures refused { IfNone result.answer (HasSeen J.bounds self.old.seat self.old.events self.new.events) }
+    {
+        self.answer(request)
+    }
+
+    /// Answers a Prewrite.
+    pub fn prewrite(&mut self, request: Request<J>) -> Reply<J>
+        requires is { IsPrewrite request.body }
+        requires holds { Holds J.bounds self.old.seat request.body }
+        ensures request { result.request ≡ request }
+        ensures same { (self.new.seat ≡ self.old.seat) × (self.new.ticks ≡ self.old.ticks) }
+        ensures told { self.new.events ≡ result.events }
+        ensures answered { IfSome result.answer (Answered J.bounds self.old.seat self.old.events result) }
+        ensures refused { IfNone result.answer (HasSeen J.bounds self.old.seat self.old.events self.new.events) }
+    {
+        self.answer(request)
+    }
+
+    /// Answers a Commit.
+    pub fn commit(&mut self, request: Request<J>) -> Reply<J>
+        requires is { IsCommit request.body }
+        requires holds { Holds J.bounds self.old.seat request.body }
+        ensures request { result.request ≡ request }
+        ensures same { (self.new.seat ≡ self.old.seat) × (self.new.ticks ≡ self.old.ticks) }
+        ensures told { self.new.events ≡ result.events }
+        ensures answered { IfSome result.answer (Answered J.bounds self.old.seat self.old.events result) }
+        ensures refused { IfNone result.answer (HasSeen J.bounds self.old.seat self.old.events self.new.events) }
+    {
+        self.answer(request)
+    }
+
+    /// Answers a BatchRollback.
+    pub fn batch_rollback(&mut self, request: Request<J>) -> Reply<J>
+        requires is { IsBatchRollback request.body }
+        requires holds { Holds J.bounds self.old.seat request.body }
+        ensures request { result.request ≡ request }
+        ensures same { (self.new.seat ≡ self.old.seat) × (self.new.ticks ≡ self.old.ticks) }
+        ensures told { self.new.events ≡ result.events }
+        ensures answered { IfSome result.answer (Answered J.bounds self.old.seat self.old.events result) }
+        ensures refused { IfNone result.answer (HasSeen J.bounds self.old.seat self.old.events self.new.events) }
+    {
+        self.answer(request)
+    }
+
+    /// Answers a TxnHeartBeat.
+    pub fn txn_heart_beat(&mut self, request: Request<J>) -> Reply<J>
+        requires is { IsTxnHeartBeat request.body }
+        requires holds { Holds J.bounds self.old.seat request.body }
+        ensures request { result.request ≡ request }
+        ensures same { (self.new.seat ≡ self.old.seat) × (self.new.ticks ≡ self.old.ticks) }
+        ensures told { self.new.events ≡ result.events }
+        ensures answered { IfSome result.answer (Answered J.bounds self.old.seat self.old.events result) }
+        ensures refused { IfNone result.answer (HasSeen J.bounds self.old.seat self.old.events self.new.events) }
+    {
+        self.answer(request)
+    }
+
+    /// Answers a CheckTxnStatus.
+    pub fn check_txn_status(&mut self, request: Request<J>) -> Reply<J>
+        requires is { IsCheckTxnStatus request.body }
+        requires holds { Holds J.bounds self.old.seat request.body }
+        ensures request { result.request ≡ request }
+        ensures same { (self.new.seat ≡ self.old.seat) × (self.new.ticks ≡ self.old.ticks) }
+        ensures told { self.new.events ≡ result.events }
+        ensures answered { IfSome result.answer (Answered J.bounds self.old.seat self.old.events result) }
+        ensures refused { IfNone result.answer (HasSeen J.bounds self.old.seat self.old.events self.new.events) }
+    {
+        self.answer(request)
+    }
+
+    /// Answers a CheckSecondaryLocks.
+    pub fn check_secondary_locks(&mut self, request: Request<J>) -> Reply<J>
+        requires is { IsCheckSecondaryLocks request.body }
+        requires holds { Holds J.bounds self.old.seat request.body }
+        ensures request { result.request ≡ request }
+        ensures same { (self.new.seat ≡ self.old.seat) × (self.new.ticks ≡ self.old.ticks) }
+        ensures told { self.new.events ≡ result.events }
+        ensures answered { IfSome result.answer (Answered J.bounds self.old.seat self.old.events result) }
+        ensures refused { IfNone result.answer (HasSeen J.bounds self.old.seat self.old.events self.new.events) }
+    {
+        self.answer(request)
+    }
+
+    /// Answers a ResolveLock.
+    pub fn resolve_lock(&mut self, request: Request<J>) -> Reply<J>
+        requires is { IsResolveLock request.body }
+        requires holds { Holds J.bounds self.old.seat request.body }
+        ensures request { result.request ≡ request }
+        ensures same { (self.new.seat ≡ self.old.seat) × (self.new.ticks ≡ self.old.ticks) }
+        ensures told { self.new.events ≡ result.events }
+        ensures answered { IfSome result.answer (Answered J.bounds self.old.seat self.old.events result) }
+        ensures refused { IfNone result.answer (HasSeen J.bounds self.old.seat self.old.events self.new.events) }
+    {
+        self.answer(request)
+    }
+
+    /// Answers a RaiseSafe, which takes no memory.
+    pub fn raise_safe(&mut self, request: Request<J>) -> Reply<J>
+        requires is { IsRaiseSafe request.body }
+        requires holds { Holds J.bounds self.old.seat request.body }
+        ensures request { result.request ≡ request }
+        ensures same { (self.new.seat ≡ self.old.seat) × (self.new.ticks ≡ self.old.ticks) }
+        ensures told { self.new.events ≡ result.events }
+        ensures answered { IfSome result.answer (Answered J.bounds self.old.seat self.old.events result) }
+        ensures always { IsSome result.answer }
+        ensures refused { IfNone result.answer (HasSeen J.bounds self.old.seat self.old.events self.new.events) }
+    {
+        self.answer(request)
+    }
+
+    /// Answers a LocksBelow.
+    pub fn locks_below(&mut self, request: Request<J>) -> Reply<J>
+        requires is { IsLocksBelow request.body }
+        requires holds { Holds J.bounds self.old.seat request.body }
+        ensures request { result.request ≡ request }
+        ensures same { (self.new.seat ≡ self.old.seat) × (self.new.ticks ≡ self.old.ticks) }
+        ensures told { self.new.events ≡ result.events }
+        ensures answered { IfSome result.answer (Answered J.bounds self.old.seat self.old.events result) }
+        ensures refused { IfNone result.answer (HasSeen J.bounds self.old.seat self.old.events self.new.events) }
+    {
+        self.answer(request)
+    }
+
+    /// Answers a Collect.
+    pub fn collect(&mut self, request: Request<J>) -> Reply<J>
+        requires is { IsCollect request.body }
+        requires holds { Holds J.bounds self.old.seat request.body }
+        ensures request { result.request ≡ request }
+        ensures same { (self.new.seat ≡ self.old.seat) × (self.new.ticks ≡ self.old.ticks) }
+        ensures told { self.new.events ≡ result.events }
+        ensures answered { IfSome result.answer (Answered J.bounds self.old.seat self.old.events result) }
+        ensures refused { IfNone result.answer (HasSeen J.bounds self.old.seat self.old.events self.new.events) }
+    {
+        self.answer(request)
+    }
+
+    /// Answers a request that it holds, and records that it did, by one event; where memory is
+    /// refused it does neither. RaiseSafe takes none.
+    pub fn take(&mut self, request: Request<J>) -> Reply<J>
+        requires holds { Holds J.bounds self.old.seat request.body }
+        ensures request { result.request ≡ request }
+        ensures same { (self.new.seat ≡ self.old.seat) × (self.new.ticks ≡ self.old.ticks) }
+        ensures told { self.new.events ≡ result.events }
+        ensures answered { IfSome result.answer (Answered J.bounds self.old.seat self.old.events result) }
+        ensures always { TakesNoMemory request.body → IsSome result.answer }
+        ensures refused { IfNone result.answer (HasSeen J.bounds self.old.seat self.old.events self.new.events) }
+    {
+        match request.body() {
+            Body::Get(_) => self.get(request),
+            Body::Scan(_) => self.scan(request),
+            Body::Prewrite(_) => self.prewrite(request),
+            Body::Commit(_) => self.commit(request),
+            Body::BatchRollback(_) => self.batch_rollback(request),
+            Body::TxnHeartBeat(_) => self.txn_heart_beat(request),
+            Body::CheckTxnStatus(_) => self.check_txn_status(request),
+            Body::CheckSecondaryLocks(_) => self.check_secondary_locks(request),
+            Body::ResolveLock(_) => self.resolve_lock(request),
+            Body::RaiseSafe(_) => self.raise_safe(request),
+            Body::LocksBelow(_) => self.locks_below(request),
+            Body::Collect(_) => self.collect(request),
+        }
+    }
+}

@@ -1,0 +1,87 @@
+//! Any plan of a copy.
+ghost use Rattle.std.specs.Prelude.{◌≡◌, ◌<◌, ◌↔◌, IsTrue};
+ghost use Rattle.tx_plan.specs.Cells.{Region};
+ghost use Rattle.tx_region.specs.Copies.{IsOfKey, key_in, LooksLike, IsPlan};
+
+use crate::copy::{KeyView, Loaded, Numbers};
+use tx_plan::{
+    Body, Planned, plan_batch_rollback, plan_check_secondary_locks, plan_check_txn_status,
+    plan_commit, plan_get, plan_prewrite, plan_resolve_lock, plan_txn_heart_beat,
+};
+use tx_types::Key;
+
+/// Whether a request is of one key: whether its answer can be planned of a copy.
+pub fn is_of_key(body: &Body) -> bool
+    ensures { IsTrue result ↔ IsOfKey body.now }
+{
+    match body {
+        Body::Get(_)
+        | Body::Prewrite(_)
+        | Body::Commit(_)
+        | Body::BatchRollback(_)
+        | Body::TxnHeartBeat(_)
+        | Body::CheckTxnStatus(_)
+        | Body::CheckSecondaryLocks(_)
+        | Body::ResolveLock(_) => true,
+        Body::Scan(_) | Body::RaiseSafe(_) | Body::LocksBelow(_) | Body::Collect(_) => false,
+    }
+}
+
+/// The key of a request of one key.
+pub(crate) fn key_of(body: &Body) -> &Key
+    requires { IsOfKey body.now }
+    ensures { result.now ≡ key_in body.now }
+{
+    match body {
+        Body::Get(body) => &body.key,
+        Body::Prewrite(body) => &body.asked().key,
+        Body::Commit(body) => &body.key,
+        Body::BatchRollback(body) => &body.key,
+        Body::TxnHeartBeat(body) => &body.key,
+        Body::CheckTxnStatus(body) => &body.key,
+        Body::CheckSecondaryLocks(body) => &body.key,
+        Body::ResolveLock(body) => &body.key,
+        Body::Scan(_) | Body::RaiseSafe(_) | Body::LocksBelow(_) | Body::Collect(_) => {
+            unreachable!()
+        }
+    }
+}
+
+/// What a region that looks like this copy makes of a request of one key, where its seat loaded
+/// this.
+#[inline(never)]
+pub(crate) fn plan(view: KeyView, numbers: &Numbers, loaded: &Loaded, body: &Body) -> Planned
+    requires room { (loaded.now.last < u64.MAX) × (loaded.now.mark < u64.MAX) }
+    requires seen { (region : Region) × LooksLike region body.now view numbers.now }
+    ensures { (region : Region) → LooksLike region body.now view numbers.now → IsPlan loaded.now.mark region loaded.now.last body.now result }
+{
+    let collected = numbers.collected;
+    match (view, body) {
+        (KeyView::Read(view), Body::Get(body)) => {
+            plan_get(view, numbers.safe, loaded.last, body)
+        }
+        (KeyView::Prewrite { view, has_value }, Body::Prewrite(body)) => plan_prewrite(
+            &view,
+            has_value,
+            numbers.safe,
+            loaded.last,
+            loaded.mark,
+            body.asked(),
+        ),
+        (KeyView::Txn(view), Body::Commit(body)) => plan_commit(&view, collected, body),
+        (KeyView::Txn(view), Body::BatchRollback(body)) => {
+            plan_batch_rollback(&view, collected, body)
+        }
+        (KeyView::Txn(view), Body::TxnHeartBeat(body)) => {
+            plan_txn_heart_beat(&view, collected, body)
+        }
+        (KeyView::Txn(view), Body::CheckTxnStatus(body)) => {
+            plan_check_txn_status(&view, collected, loaded.last, body)
+        }
+        (KeyView::Txn(view), Body::CheckSecondaryLocks(body)) => {
+            plan_check_secondary_locks(&view, collected, body)
+        }
+        (KeyView::Txn(view), Body::ResolveLock(body)) => plan_resolve_lock(&view, collected, body),
+        _ => unreachable!(),
+    }
+}
