@@ -66,7 +66,7 @@ module _ (bounds : List Key) (e : Held) (came : length e.desk.newest ≤ own e) 
   -- the steps that were kept are those of the run
   module _ (trace : Option Noted) (its : trace ≡ e.desk.trace) (traced : length e.desk.newest ≤ own e → IsTraced e.desk) where
     pub are_of : AreOf e.desk.newest trace
-    are_of = if_some (λ t. (bounds : List Key) → IsWorldRun bounds e.desk.newest → Traces e.desk.newest t) (λ t. t.steps ≡ shadow e.desk.newest) trace (λ t traces. (traces bounds run).shadows)
+    are_of = if_some (λ t. (bounds : List Key) → IsWorldRun bounds e.desk.newest → Traces e.desk.newest t) (λ t. t.steps ≡ shadow e.desk.newest) trace (λ t traces. (traces bounds run).0.shadows)
         (subst (λ o. IfSome o (λ t. (bounds : List Key) → IsWorldRun bounds e.desk.newest → Traces e.desk.newest t)) (sym its) (traced came))
 
     -- and so a run of the machine

@@ -168,7 +168,7 @@ fn insert_over_a_value_is_refused(rt: HostRuntime) -> Result<(), Fail> {
     Ok(())
 }
 
-// As a put, an insert does not commit at or below a read of its key, nor over an overlapping commit.
+// As a put, an insert does not commit at or below a read of its key, nor beside an overlap.
 #[test]
 fn insert_conflicts_as_a_put(rt: HostRuntime) -> Result<(), Fail> {
     for (trace, text) in [
