@@ -1,13 +1,14 @@
 -- The answers of several sessions in one list.
-use Rattle.std.proofs.Common.{◌≡◌, inl, inr, ℕ, suc, ◌∷◌, ◌+◌, ◌-◌, ◌<◌, ◌≤◌, List, ◌++◌, All, length-append, None, length, get_or, Option, Some, refl, ap, subst, ◌∙◌, arith}
+use Rattle.std.proofs.Common.{◌≡◌, inl, inr, ℕ, suc, [], ◌∷◌, ◌+◌, ◌-◌, ◌<◌, ◌≤◌, List, ◌++◌, All, length-append, None, length, get_or, Option, Some, refl, sym, ap, subst, ◌∙◌, append_assoc, append-nil, arith}
 use Rattle.std.specs.List.{AllPairs}
-use Rattle.std.proofs.lemmas.List.Elements.{All-append}
-use Rattle.std.proofs.lemmas.List.{get_or_append_left, get_or-append-add}
+use Rattle.std.proofs.lemmas.List.Elements.{All-append, All-push}
+use Rattle.std.proofs.lemmas.List.{get_or_append_left, get_or-append-add, flat_map_more}
 use Rattle.std.proofs.lemmas.Bool.{cases_lt}
 use Rattle.tx_types.specs.declared.key.Key.{Key}
 use Rattle.tx_core.specs.Histories.{History, Begins, drawer}
 use Rattle.tx_core.specs.declared.event.Event.TheVariants.{Answered}
 use Rattle.tx_core.specs.Worlds.{IsWorldRun}
+use Rattle.tx_core.proofs.seats.Beginnings.{begins_more}
 use Rattle.tx_core.proofs.seats.Staying.{drawer_on, among_on}
 use Rattle.tx_ledger.specs.declared.reply.Reply.{Reply}
 use Rattle.tx_ledger.specs.declared.reply.Reply.TheVariants.{Said, Ended}
@@ -16,7 +17,7 @@ use Rattle.tx_ledger.specs.Outcomes.{IsTold, start_of, AreApart, TellsOutcomes}
 use Rattle.tx_ledger.specs.Sources.{TellsPair}
 use Rattle.tx_ledger.proofs.Transferring.{between_on}
 use Rattle.tx_ledger.specs.Logs.{StandsBy, TellsBy}
-use Rattle.tx_run.specs.Jobs.{IsAbove, Working, AreFalling}
+use Rattle.tx_run.specs.Jobs.{IsAbove, Working, AreFalling, Came, IsHeard, Joins, AreJoined}
 
 pairs_append : {X : Type 0} (R : X → X → Type 0) (xs ys : List X) → AllPairs R xs → AllPairs R ys → ((i j : ℕ) (d : X) → i < length xs → j < length ys → R (get_or xs i d) (get_or ys j d)) → AllPairs R (xs ++ ys)
 pairs_append R xs ys a b cross i j d lt bound =
@@ -144,3 +145,22 @@ module _ (source : Option (List ℕ)) (h : History) (replies : List Spoken) (out
     where
       lower_than : AreFalling (out ∷ rest) → (k : ℕ) (d : Working) → k < length rest → (get_or rest k d).log.seat + 1 ≤ out.log.seat
       lower_than fall k d lt = let less : (get_or rest k d).log.seat < out.log.seat = fall 0 (suc k) d (omega arith) (omega (arith, length-cons out rest)) in omega arith
+
+-- ---- what was heard of sessions
+
+pub joined_none : (before : List Spoken) (h : History) → AreJoined before h before []
+joined_none before h = record { heard = λ k d lt. absurd (omega (arith, lt)); all = sym (append-nil before) }
+
+pub joined_more : (before : List Spoken) (old new : History) (replies after : List Spoken) (jobs : List Came) (came : Came) → AreJoined before old replies jobs → Joins old replies came new after → AreJoined before new after (jobs ++ came ∷ [])
+joined_more before old new replies after jobs came are joins = record {
+  heard = All-push (IsHeard new) jobs came (λ k d lt. let was = are.heard k d lt in record { tells = was.tells; knows = begins_more (get_or jobs k d).log.told old new was.knows joins.grew }) joins.heard;
+  all = joins.all ∙ ap (λ (l : List Spoken). l ++ came.log.replies) are.all ∙ flat_map_more (λ (c : Came). c.log.replies) before jobs came;
+}
+
+-- the first of those that are left goes behind those that went
+pub one_goes : (all went left rest : List Working) (out : Working) → all ≡ went ++ left → left ≡ out ∷ rest → all ≡ (went ++ out ∷ []) ++ rest
+one_goes all went left rest out split is = split ∙ ap (λ (l : List Working). went ++ l) is ∙ sym (append_assoc went (out ∷ []) rest)
+
+pub all_went : (all went left : List Working) (n : ℕ) → all ≡ went ++ left → n ≡ length left → n ≡ 0 → went ≡ all
+all_went all went [] n split count none = sym (split ∙ append-nil went)
+all_went all went (x ∷ left) n split count none = absurd (omega (arith, count, none))

@@ -1,3 +1,7 @@
 -- Why a run tells what it promises.
+pub mod Counting
 pub mod Gathering
+pub mod LineOrder
 pub mod Seating
+pub mod Sums
+pub mod Writing

@@ -3,6 +3,7 @@
 //! between the balances of two keys.
 #![tactic(auto)]
 
+mod counts;
 mod families;
 mod job;
 mod out;

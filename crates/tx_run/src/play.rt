@@ -1,7 +1,7 @@
 //! Playing a script: its seeds, and then its sessions side by side, by workers.
 ghost use Rattle.std.specs.Prelude.{◌≡◌, ◌<◌, ◌+◌, ◌*◌, ◌≤◌, All, IfOk, IfSome, OnOk, None, length, vec_len};
 ghost use Rattle.tx_ledger.specs.Outcomes.{TellsOutcomes, start_of};
-ghost use Rattle.tx_run.specs.Jobs.{IsAbove, AreFalling, AreFrom, HaveOwnSeats};
+ghost use Rattle.tx_run.specs.Jobs.{IsAbove, AreFalling, AreFrom, HaveOwnSeats, Joins, ComesOf};
 ghost use Rattle.tx_ledger.specs.Scripts.{IsWithin};
 ghost use Rattle.tx_ledger.specs.Sources.{TellsPair};
 
@@ -92,6 +92,7 @@ fn join<J: Naming, L: Source>(
     ensures told { OnOk result (TellsOutcomes seat.new.events replies.new) }
     ensures pairs { OnOk result (All (TellsPair L.text) replies.new) }
     ensures above { OnOk result (All (λ s. IsAbove seat.new.events out.log.seat s.reply) replies.new) }
+    ensures joins { OnOk result (Joins seat.old.events replies.old out seat.new.events replies.new) }
 {
     let Out {
         number: _,
@@ -118,6 +119,7 @@ fn gather<J: Naming, L: Source>(
     requires none { All (λ s. start_of s.reply ≡ None) replies.old }
     ensures told { OnOk result (TellsOutcomes seat.new.events replies.new) }
     ensures pairs { OnOk result (All (TellsPair L.text) replies.new) }
+    ensures comes { OnOk result (ComesOf seat.new.events replies.new) }
 {
     let mut faulted = false;
     for out in outs {
@@ -247,6 +249,7 @@ where
     requires few { vec_len script.sessions ≤ 256 }
     ensures told { IfOk result (λ played. TellsOutcomes played.seen.events played.replies) }
     ensures pairs { IfOk result (λ played. All (TellsPair L.text) played.replies) }
+    ensures comes { IfOk result (λ played. ComesOf played.seen.events played.replies) }
 {
     let Lines {
         regions,
@@ -299,6 +302,7 @@ where
     requires { IsWithin script.bounds.items (vec_len script.sessions) }
     ensures told { IfOk result (λ played. TellsOutcomes played.seen.events played.replies) }
     ensures pairs { IfOk result (λ played. All (TellsPair L.text) played.replies) }
+    ensures comes { IfOk result (λ played. ComesOf played.seen.events played.replies) }
 {
     let Script {
         bounds,

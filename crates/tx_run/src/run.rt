@@ -1,7 +1,9 @@
 //! A run, from the first byte of its script to the last of its answers.
-ghost use Rattle.std.specs.Prelude.{◌≡◌, All, IfOk, IfSome};
+ghost use Rattle.std.specs.Prelude.{◌≡◌, All, IfOk, IfSome, OnErr};
 ghost use Rattle.tx_ledger.specs.Outcomes.{TellsOutcomes};
 ghost use Rattle.tx_ledger.specs.Sources.{TellsPair};
+ghost use Rattle.tx_run.specs.Jobs.{ComesOf};
+ghost use Rattle.tx_run.specs.Texts.{IsRunText, IsTextFrom, Writes, WritesPart};
 
 use crate::families::Makes;
 use crate::play::{Played, play_script};
@@ -38,6 +40,9 @@ where
     requires { L.text ≡ B.remaining reader.old }
     ensures told { IfOk result (λ r. IfSome r.1 (λ played. TellsOutcomes played.seen.events played.replies)) }
     ensures pairs { IfOk result (λ r. IfSome r.1 (λ played. All (TellsPair L.text) played.replies)) }
+    ensures comes { IfOk result (λ r. IfSome r.1 (λ played. ComesOf played.seen.events played.replies)) }
+    ensures wrote { IfOk result (λ r. Writes (W.contents writer.old) (W.contents writer.new) (IsRunText r.1)) }
+    ensures broken { OnErr result (WritesPart (W.contents writer.old) (W.contents writer.new) (IsTextFrom L.text)) }
 {
     let script = match read_script::<L, B>(alloc, reader)? {
         Ok(script) => script,
@@ -47,6 +52,7 @@ where
         }
     };
     let played = play_script::<L, F, M, G, R>(rt, alloc, settings, make, gate, script)?;
+    played.seen.show();
     write_all(alloc, writer, &played)?;
     let end = if played.faulted {
         End::Faulted
@@ -82,6 +88,9 @@ where
     W: Write,
     ensures told { IfOk result (λ r. IfSome r.1 (λ played. TellsOutcomes played.seen.events played.replies)) }
     ensures pairs { IfOk result (λ r. IfSome r.1 (λ played. All (TellsPair (B.remaining reader.old)) played.replies)) }
+    ensures comes { IfOk result (λ r. IfSome r.1 (λ played. ComesOf played.seen.events played.replies)) }
+    ensures wrote { IfOk result (λ r. Writes (W.contents writer.old) (W.contents writer.new) (IsRunText r.1)) }
+    ensures broken { OnErr result (WritesPart (W.contents writer.old) (W.contents writer.new) (IsTextFrom (B.remaining reader.old))) }
 {
     run::<Brand, F, M, G, R, B, W>(rt, alloc, settings, make, gate, reader, writer)
 }

@@ -1,61 +1,28 @@
 //! Writing what was played.
+ghost use Rattle.std.specs.Prelude.{◌≡◌, ◌++◌, map, All, IfOk, OnOk, OnErr};
+ghost use Rattle.std.specs.List.{flat_map};
+ghost use Rattle.std.specs.Io.KnownBytes.{Appends};
+ghost use Rattle.tx_lines.specs.Faults.{fault_words};
+ghost use Rattle.tx_lines.specs.Output.{AppendsPart};
+ghost use Rattle.tx_lines.specs.Replies.{reply_text};
+ghost use Rattle.tx_ledger.specs.Lines.{line_of};
+ghost use Rattle.tx_run.specs.Texts.{AreInOrder, IsTextOf, Writes, WritesPart, outcomes_text, total_text};
+
+use crate::counts::{Counts, counts_of, put_outcomes, put_total};
 use crate::play::Played;
 use std::alloc::{AllocError, Global};
 use std::io::Write;
-use tx_core::Outcome;
-use tx_ledger::{Reply, Spoken, put_line};
-use tx_lines::{Broken, finish, put_fault, put_number, send};
+use tx_ledger::{Replies, Spoken, put_line};
+use tx_lines::{Broken, finish, put_fault, send};
 use tx_types::Cause;
 use tx_work::Total;
 
-// Adds the outcomes among these answers: committed, aborted, unknown, read-only.
-fn count(counts: &mut [u64; 4], replies: &[Spoken]) {
-    for spoken in replies {
-        let place = match &spoken.reply {
-            Reply::Ended(_, Outcome::Committed(_), _) => 0,
-            Reply::Ended(_, Outcome::Aborted, _) => 1,
-            Reply::Ended(_, Outcome::Unknown(_), _) => 2,
-            Reply::Ended(_, Outcome::ReadOnly, _) => 3,
-            _ => continue,
-        };
-        counts[place] = counts[place].saturating_add(1);
-    }
-}
-
-// The counts of all outcomes.
-fn counts(parts: &[Vec<Spoken>]) -> [u64; 4] {
-    let mut counts = [0; 4];
-    for part in parts {
-        count(&mut counts, part.as_slice());
-    }
-    counts
-}
-
-// Appends a line of a word and numbers.
-fn put_sum(out: &mut Vec<u8>, word: &str, numbers: &[u64]) -> Result<(), AllocError> {
-    out.extend_from_slice(b"[\"")?;
-    out.extend_from_slice(word.as_bytes())?;
-    out.extend_from_slice(b"\"")?;
-    for number in numbers {
-        put_number(out, *number)?;
-    }
-    out.extend_from_slice(b"]\n")
-}
-
-// Appends the line `["total",n]`.
-fn put_total(alloc: Global, out: &mut Vec<u8>, total: Total) -> Result<(), Broken> {
-    if total.high == 0 {
-        put_sum(out, "total", &[total.low])?;
-        return Ok(());
-    }
-    let Total { high, low } = total;
-    let text = format!(in alloc; "[\"total\",{high}{low:015}]\n")?;
-    out.extend_from_slice(text.as_bytes())?;
-    Ok(())
-}
-
 // Adds these answers, each with the number of its line.
-fn enter<'a>(lines: &mut Vec<(u64, &'a Spoken)>, replies: &'a [Spoken]) -> Result<(), AllocError> {
+fn enter<'a>(lines: &mut Vec<(u64, &'a Spoken)>, replies: &'a [Spoken]) -> Result<(), AllocError>
+    requires { All (λ line. line.0 ≡ line.1.now.number) lines.old.items }
+    ensures numbers { OnOk result (All (λ line. line.0 ≡ line.1.now.number) lines.new.items) }
+    ensures lines { OnOk result (map (λ line. line.1.now) lines.new.items ≡ map (λ line. line.1.now) lines.old.items ++ replies.now) }
+{
     for spoken in replies {
         lines.push((spoken.number, spoken))?;
     }
@@ -63,13 +30,50 @@ fn enter<'a>(lines: &mut Vec<(u64, &'a Spoken)>, replies: &'a [Spoken]) -> Resul
 }
 
 // The answers in the order of their lines.
-fn in_order(alloc: Global, parts: &[Vec<Spoken>]) -> Result<Vec<(u64, &Spoken)>, AllocError> {
+fn in_order(alloc: Global, replies: &Replies) -> Result<Vec<(u64, &Spoken)>, AllocError>
+    ensures { IfOk result (λ lines. AreInOrder replies.now (map (λ line. line.1.now) lines.items)) }
+{
     let mut lines = Vec::new(alloc);
-    for part in parts {
+    for part in replies.parts() {
         enter(&mut lines, part.as_slice())?;
     }
     lines.sort_by_key(|line| line.0)?;
     Ok(lines)
+}
+
+// Writes the lines of these answers.
+fn write_lines<W: Write>(
+    alloc: Global,
+    writer: &mut W,
+    lines: &[(u64, &Spoken)],
+) -> Result<(), Broken>
+    ensures all { OnOk result (Appends (W.contents writer.old) (W.contents writer.new) (flat_map line_of (map (λ line. line.1.now) lines.now))) }
+    ensures part { OnErr result (AppendsPart (W.contents writer.old) (W.contents writer.new) (flat_map line_of (map (λ line. line.1.now) lines.now))) }
+{
+    let mut text = Vec::new(alloc);
+    'lines: for (_, spoken) in lines {
+        text.clear();
+        put_line(&mut text, spoken)?;
+        send(writer, text.as_slice())?;
+    }
+    Ok(())
+}
+
+// Writes the two lines of sums, and hands on what the writer holds back.
+fn write_sums<W: Write>(
+    alloc: Global,
+    writer: &mut W,
+    counts: Counts,
+    total: Total,
+) -> Result<(), Broken>
+    ensures all { OnOk result (Appends (W.contents writer.old) (W.contents writer.new) (outcomes_text counts ++ total_text total)) }
+    ensures part { OnErr result (AppendsPart (W.contents writer.old) (W.contents writer.new) (outcomes_text counts ++ total_text total)) }
+{
+    let mut text = Vec::new(alloc);
+    put_outcomes(&mut text, counts)?;
+    put_total(&mut text, total)?;
+    send(writer, text.as_slice())?;
+    finish(writer)
 }
 
 /// Writes the answers in the order of their lines, then the counts of the outcomes, and the sum of all balances.
@@ -77,20 +81,13 @@ pub(crate) fn write_all<W: Write>(
     alloc: Global,
     writer: &mut W,
     played: &Played,
-) -> Result<(), Broken> {
-    let parts = played.replies.parts();
-    let lines = in_order(alloc, parts)?;
-    let mut text = Vec::new(alloc);
-    for (_, spoken) in &lines {
-        text.clear();
-        put_line(&mut text, *spoken)?;
-        send(writer, text.as_slice())?;
-    }
-    text.clear();
-    put_sum(&mut text, "outcomes", &counts(parts))?;
-    put_total(alloc, &mut text, played.total)?;
-    send(writer, text.as_slice())?;
-    finish(writer)
+) -> Result<(), Broken>
+    ensures all { OnOk result (Writes (W.contents writer.old) (W.contents writer.new) (IsTextOf played.now.replies played.now.total)) }
+    ensures part { OnErr result (WritesPart (W.contents writer.old) (W.contents writer.new) (IsTextOf played.now.replies played.now.total)) }
+{
+    let lines = in_order(alloc, &played.replies)?;
+    write_lines(alloc, writer, lines.as_slice())?;
+    write_sums(alloc, writer, counts_of(lines.as_slice()), played.total)
 }
 
 /// Tells the fault of a script that was not played.
@@ -99,7 +96,10 @@ pub(crate) fn tell_fault<W: Write>(
     writer: &mut W,
     number: u64,
     cause: Cause,
-) -> Result<(), Broken> {
+) -> Result<(), Broken>
+    ensures all { OnOk result (Appends (W.contents writer.old) (W.contents writer.new) (reply_text (number, fault_words cause))) }
+    ensures part { OnErr result (AppendsPart (W.contents writer.old) (W.contents writer.new) (reply_text (number, fault_words cause))) }
+{
     let mut text = Vec::new(alloc);
     put_fault(&mut text, number, cause)?;
     send(writer, text.as_slice())?;

@@ -79,9 +79,11 @@ impl Makes<Meeting> for Arc<Place> {
 }
 
 impl Families for Meeting {
-    ghost use Rattle.tx_nested.specs.Nested.{nested_content};
+    ghost use Rattle.tx_nested.specs.Nested.{nested_content, nested_numbers};
 
     ghost content = { λ m. nested_content m.cells };
+
+    ghost numbers = { λ m. nested_numbers m.cells };
 
     fn view(&self, alloc: Global, key: &Key, start: Ts, commit: Ts) -> Result<TxnView, Fault> {
         if self.looked.fetch_add(1, Ordering::SeqCst) == 0 {
@@ -118,12 +120,32 @@ impl Families for Meeting {
         self.cells.cells(alloc, key)
     }
 
-    fn put_lock(&mut self, alloc: Global, body: &Prewrite, new: NewLock) -> Result<(), Fault> {
-        self.cells.put_lock(alloc, body, new)
+    fn number(&self, alloc: Global, key: &Key) -> Result<u64, Fault> {
+        self.cells.number(alloc, key)
     }
 
-    fn apply(&mut self, alloc: Global, key: &Key, change: KeyChange) -> Result<(), Fault> {
-        self.cells.apply(alloc, key, change)
+    fn forget_numbers(&mut self, alloc: Global) {
+        self.cells.forget_numbers(alloc);
+    }
+
+    fn put_lock(
+        &mut self,
+        alloc: Global,
+        body: &Prewrite,
+        new: NewLock,
+        number: u64,
+    ) -> Result<(), Fault> {
+        self.cells.put_lock(alloc, body, new, number)
+    }
+
+    fn apply(
+        &mut self,
+        alloc: Global,
+        key: &Key,
+        change: KeyChange,
+        number: u64,
+    ) -> Result<(), Fault> {
+        self.cells.apply(alloc, key, change, number)
     }
 
     fn drop_below(&mut self, safe: Ts) {

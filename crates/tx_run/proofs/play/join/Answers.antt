@@ -6,7 +6,7 @@ use Rattle.std.proofs.lemmas.List.Elements.{All-append}
 use Rattle.tx_ledger.specs.Outcomes.{TellsOutcomes}
 use Rattle.tx_ledger.specs.Sources.{TellsPair}
 use Rattle.tx_ledger.specs.Logs.{TellsBy}
-use Rattle.tx_run.specs.Jobs.{IsAbove, Working}
+use Rattle.tx_run.specs.Jobs.{IsAbove, Working, Joins}
 use Rattle.tx_ledger.proofs.Answering.{tells_on}
 use Rattle.tx_run.proofs.Gathering.{joined, joined_above, outcomes_on, all_above_on}
 use Rattle.tx_run.proofs.play.join.Goals as goal
@@ -52,3 +52,16 @@ returns-clause-pairs g c =
     let all = c.in_ok-add.ensures ∙ ap (λ (l : List Spoken). xs ++ l) c.into_parts-told.ensures.parts.1 in
     subst (λ (l : List Spoken). All (TellsPair g.L.Source.text) l) (sym all)
     (All-append (TellsPair g.L.Source.text) xs log.replies c.requires.pairs c.into_parts-told.ensures.pairs)
+
+pub returns-clause-joins : goal.returns-clause-joins
+returns-clause-joins g c =
+    let old = c.args.seat.now.events in
+    let now = c.learn.new.self.events in
+    let log = c.out.inside.log in
+    let xs = c.args.replies.now in
+    let came : Working = record { number = c.out.inside.number; log = log } in
+    subst (λ (o : Working). Joins old xs o now c.add.new.self) c.out.view_is (record {
+      heard = record { tells = c.into_parts-told.ensures.tells; knows = subst (λ (h : History). Begins h now) c.into_parts-told.ensures.parts.0 c.learn.ensures.told };
+      grew = extends_begins c.args.seat.now.seat old now c.learn.ensures.seen.extends;
+      all = c.in_ok-add.ensures ∙ ap (λ (l : List Spoken). xs ++ l) c.into_parts-told.ensures.parts.1;
+    })

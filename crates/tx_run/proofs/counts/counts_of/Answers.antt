@@ -1,0 +1,22 @@
+use Rattle.std.proofs.Common.{◌≡◌, ◌<◌, ◌+◌, ◌^◌, length, map, take, get_or, sym, ap, subst, ◌∙◌, arith}
+use Rattle.std.proofs.lemmas.List.{length-map, length-take-le, get_or-map}
+use Rattle.tx_run.specs.Texts.{IsRoomy, counts_of, counted}
+use Rattle.tx_run.proofs.Counting.{counted_more, roomy}
+use Rattle.tx_run.proofs.counts.counts_of.Goals as goal
+
+pub add-requires : goal.add-requires
+add-requires c =
+    let i = c.loop-spoken.spoken-index in
+    let lines = map (λ p. p.1.now) c.args.lines.now in
+    let len = length-map c.args.lines.now (λ p. p.1.now) in
+    let short = length-take-le i lines (omega (arith, len)) in
+    subst IsRoomy (sym c.loop-spoken.invariant) (roomy (take i lines) (omega (arith, short)))
+
+pub loop-spoken-preserved : goal.loop-spoken-preserved
+loop-spoken-preserved c =
+    let i = c.loop-spoken.spoken-index in
+    let lines = map (λ p. p.1.now) c.args.lines.now in
+    let d = c.loop-spoken-item.result.1.now in
+    let len = length-map c.args.lines.now (λ p. p.1.now) in
+    let at : get_or lines i d ≡ d = get_or-map (λ p. p.1.now) c.args.lines.now i c.loop-spoken-item.result d c.loop-spoken-test.true ∙ ap (λ p. p.1.now) (sym c.loop-spoken-item.is) in
+    c.add.ensures ∙ ap (λ counts. counted counts d.reply) c.loop-spoken.invariant ∙ ap (λ s. counted (counts_of (take i lines)) s.reply) (sym at) ∙ sym (counted_more lines i d (omega (arith, len)))

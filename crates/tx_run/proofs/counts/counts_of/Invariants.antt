@@ -1,0 +1,6 @@
+use Rattle.std.proofs.Common.{◌≡◌, map, take}
+use Rattle.tx_run.specs.Texts.{counts_of}
+use Rattle.tx_run.proofs.counts.counts_of.Given as goal
+
+abbrev pub invariant-loop-spoken : goal.invariant-loop-spoken
+invariant-loop-spoken l = l.counts ≡ counts_of (take l.spoken-index (map (λ p. p.1.now) l.lines))

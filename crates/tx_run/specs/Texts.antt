@@ -1,0 +1,111 @@
+-- What a run writes.
+use Rattle.std.specs.Prelude.{◌≡◌, ◌⊎◌, ℕ, ◌+◌, ◌*◌, ◌<◌, ◌^◌, ◌++◌, List, All, Bool, true, false, codes, Option, Some, None}
+use Rattle.std.specs.List.{flat_map, count_by}
+use Rattle.std.specs.List.Sorted.{IsPermutation, IsNonDecreasingBy}
+use Rattle.std.specs.Io.KnownBytes.{Appends, Keeps}
+use Rattle.serde_json.specs.Data.{no_items, item, number, unsigned, string}
+use Rattle.tx_types.specs.declared.fault.Cause.{Cause}
+use Rattle.tx_core.specs.declared.event.Outcome.TheVariants as outcome
+use Rattle.tx_core.specs.Worlds.{IsWorldRun}
+use Rattle.tx_journal.specs.Known.{Seen}
+use Rattle.tx_lines.specs.Faults.{fault_words}
+use Rattle.tx_lines.specs.Output.{AppendsPart}
+use Rattle.tx_lines.specs.Replies.{reply_text}
+use Rattle.tx_lines.specs.Texts.{line_text}
+use Rattle.tx_ledger.specs.declared.balance.TheConstants.{BALANCES}
+use Rattle.tx_ledger.specs.declared.reply.Reply.{Reply}
+use Rattle.tx_ledger.specs.declared.reply.Reply.TheVariants.{Said, Ended}
+use Rattle.tx_ledger.specs.declared.reply.Spoken.{Spoken}
+use Rattle.tx_ledger.specs.Lines.{line_of}
+use Rattle.tx_ledger.specs.Outcomes.{TellsOutcomes}
+use Rattle.tx_ledger.specs.Sources.{TellsPair}
+use Rattle.tx_work.specs.declared.seeds.Total.{Total}
+use Rattle.tx_run.specs.declared.counts.Counts.{Counts}
+use Rattle.tx_run.specs.declared.play.Played.{Played}
+
+-- ---- how many lines are told each outcome
+
+abbrev pub is_committed : Reply → Bool
+is_committed (Ended start (outcome.Committed c) keys) = true
+is_committed _ = false
+
+abbrev pub is_aborted : Reply → Bool
+is_aborted (Ended start outcome.Aborted keys) = true
+is_aborted _ = false
+
+abbrev pub is_unknown : Reply → Bool
+is_unknown (Ended start (outcome.Unknown why) keys) = true
+is_unknown _ = false
+
+abbrev pub is_read_only : Reply → Bool
+is_read_only (Ended start outcome.ReadOnly keys) = true
+is_read_only _ = false
+
+abbrev pub counts_of : List Spoken → Counts
+counts_of lines = record {
+  committed = count_by (λ s. is_committed s.reply) lines;
+  aborted = count_by (λ s. is_aborted s.reply) lines;
+  unknown = count_by (λ s. is_unknown s.reply) lines;
+  read_only = count_by (λ s. is_read_only s.reply) lines;
+}
+
+-- the counts, with the outcome that one more line is told, if it is told one
+abbrev pub counted : Counts → Reply → Counts
+counted counts (Ended start (outcome.Committed c) keys) = record counts { committed = counts.committed + 1 }
+counted counts (Ended start outcome.Aborted keys) = record counts { aborted = counts.aborted + 1 }
+counted counts (Ended start (outcome.Unknown why) keys) = record counts { unknown = counts.unknown + 1 }
+counted counts (Ended start outcome.ReadOnly keys) = record counts { read_only = counts.read_only + 1 }
+counted counts (Said said) = counts
+
+-- one more of each fits
+pub record IsRoomy (counts : Counts) : Type 0 where
+  pub committed : counts.committed + 1 < 2 ^ 64
+  pub aborted : counts.aborted + 1 < 2 ^ 64
+  pub unknown : counts.unknown + 1 < 2 ^ 64
+  pub read_only : counts.read_only + 1 < 2 ^ 64
+
+-- ---- the two lines of sums
+
+unfoldable pub outcomes_text : Counts → List ℕ
+outcomes_text counts = line_text (item (string (codes "outcomes")) (item (number (unsigned counts.committed)) (item (number (unsigned counts.aborted))
+    (item (number (unsigned counts.unknown)) (item (number (unsigned counts.read_only)) no_items)))))
+
+-- the sum of all balances in one number
+unfoldable pub total_text : Total → List ℕ
+total_text total = line_text (item (string (codes "total")) (item (number (unsigned (total.high * BALANCES + total.low))) no_items))
+
+-- ---- the whole text
+
+-- these answers, in the order of their lines
+pub record AreInOrder (replies lines : List Spoken) : Type 0 where
+  pub same : IsPermutation replies lines
+  pub rising : IsNonDecreasingBy (λ s. s.number) lines
+
+-- a line for each of the answers and for no other, in the order of the script, and then the sums
+abbrev pub IsTextOf : List Spoken → Total → List ℕ → Type 0
+IsTextOf replies total text = (lines : List Spoken) × AreInOrder replies lines × (text ≡ flat_map line_of lines ++ (outcomes_text (counts_of lines) ++ total_text total))
+
+-- the line of a fault, by the number of the line that has it
+abbrev pub IsFaultText : List ℕ → Type 0
+IsFaultText text = (n : ℕ) × (cause : Cause) × (text ≡ reply_text (n, fault_words cause))
+
+-- the text of a run: of what it hands back, or of the fault for which nothing was played
+abbrev pub IsRunText : Option Played → List ℕ → Type 0
+IsRunText None text = IsFaultText text
+IsRunText (Some played) text = IsTextOf played.replies played.total text
+
+-- the text of some run of this script: each outcome that it tells was answered in what its sessions had seen
+abbrev pub IsTextFrom : Option (List ℕ) → List ℕ → Type 0
+IsTextFrom source text = IsFaultText text
+    ⊎ ((seen : Seen) × (replies : List Spoken) × (total : Total) × IsWorldRun seen.bounds seen.events × TellsOutcomes seen.events replies
+    × All (TellsPair source) replies × IsTextOf replies total text)
+
+-- ---- what is written
+
+-- such a text, and nothing else
+abbrev pub Writes : Option (List ℕ) → Option (List ℕ) → (List ℕ → Type 0) → Type 0
+Writes old new IsText = (text : List ℕ) × IsText text × Appends old new text
+
+-- a beginning of such a text, or nothing
+abbrev pub WritesPart : Option (List ℕ) → Option (List ℕ) → (List ℕ → Type 0) → Type 0
+WritesPart old new IsText = Keeps old new ⊎ ((text : List ℕ) × IsText text × AppendsPart old new text)
