@@ -6,3 +6,5 @@ pub mod Standing
 pub mod Told
 -- The rows of the parts of a range, one behind the other, are the rows of the whole range.
 pub mod Joining
+-- What the walk of a scan comes to, part by part.
+pub mod Scanned

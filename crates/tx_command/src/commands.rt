@@ -1,0 +1,139 @@
+//! The commands of the program, and what a command line asks for.
+use crate::help;
+use clap::builder::ValueParser;
+use clap::{Arg, ArgAction, ArgMatches, Command, Error};
+use std::alloc::Global;
+use tx_types::limits::MAX_WORKERS;
+
+/// The longest that a version may be kept, in ticks: as long as all timestamps last.
+const MAX_LIFE_TIME: u64 = 4_398_046_511_104;
+
+/// What is done with the input.
+#[derive(Clone, Copy, Debug, PartialEq, Eq)]
+pub enum Task {
+    Simulate,
+    /// Simulate, and tell the machine's steps of the run.
+    SimulateChecked,
+    /// Simulate, and tell the machine's steps alone.
+    SimulateSteps,
+    /// By so many workers; what is out of date for so many ticks is collected meanwhile.
+    Run(usize, Option<u64>),
+    Check,
+}
+
+/// What the command line asks for: a task, and the file that it reads. Where there is none it reads
+/// standard input.
+#[derive(Clone, Copy, Debug, PartialEq, Eq)]
+pub struct Job<'a> {
+    pub task: Task,
+    pub file: Option<&'a str>,
+}
+
+/// The job of a command line that was read.
+pub fn job_of<'a>(matches: &ArgMatches<'a>) -> Job<'a> {
+    match matches.subcommand() {
+        Some(("run", asked)) => Job {
+            task: Task::Run(
+                asked.get_one::<usize>("workers").unwrap_or(1),
+                asked.get_one::<u64>("gc-life-time"),
+            ),
+            file: file_of(asked),
+        },
+        Some(("simulate", asked)) if asked.get_flag("check") => Job {
+            task: Task::SimulateChecked,
+            file: file_of(asked),
+        },
+        Some(("simulate", asked)) if asked.get_flag("steps") => Job {
+            task: Task::SimulateSteps,
+            file: file_of(asked),
+        },
+        Some(("simulate", asked)) => Job {
+            task: Task::Simulate,
+            file: file_of(asked),
+        },
+        Some((_, asked)) => Job {
+            task: Task::Check,
+            file: file_of(asked),
+        },
+        None => Job {
+            task: Task::Check,
+            file: None,
+        },
+    }
+}
+
+// The file that is named: `-` names none.
+fn file_of<'a>(asked: &ArgMatches<'a>) -> Option<&'a str> {
+    asked.get_str("file").filter(|name| *name != "-")
+}
+
+// The file that a command reads.
+fn file<'a>(alloc: Global) -> Arg<'a> {
+    Arg::new(alloc, "file")
+        .value_name("FILE")
+        .help("The file to read; - or nothing is standard input")
+}
+
+fn check<'a>(alloc: Global) -> Result<Command<'a>, Error> {
+    let command = Command::new(alloc, "check")
+        .about(help::CHECK_ABOUT)
+        .after_help(help::CHECK_HELP)
+        .arg(file(alloc))?;
+    Ok(command)
+}
+
+fn simulate<'a>(alloc: Global) -> Result<Command<'a>, Error> {
+    let checked = Arg::new(alloc, "check")
+        .long("check")
+        .action(ArgAction::SetTrue)
+        .help("Writes the machine's steps of the run after its replies, and that they are one");
+    let steps = Arg::new(alloc, "steps")
+        .long("steps")
+        .action(ArgAction::SetTrue)
+        .help("Writes the machine's steps of the run alone, as a trace for txkv check")
+        .conflicts_with("check")?;
+    let command = Command::new(alloc, "simulate")
+        .about(help::SIMULATE_ABOUT)
+        .after_help(help::SIMULATE_HELP)
+        .arg(checked)?
+        .arg(steps)?
+        .arg(file(alloc))?;
+    Ok(command)
+}
+
+fn run<'a>(alloc: Global) -> Result<Command<'a>, Error> {
+    let workers = Arg::new(alloc, "workers")
+        .long("workers")
+        .value_name("N")
+        .help("How many threads make steps, 1 to 64")
+        .required(true)
+        .value_parser(ValueParser::Unsigned(1, MAX_WORKERS as u64));
+    let life_time = Arg::new(alloc, "gc-life-time")
+        .long("gc-life-time")
+        .value_name("TICKS")
+        .help(
+            "Collects meanwhile what is out of date for so many ticks; without it nothing is collected",
+        )
+        .value_parser(ValueParser::Unsigned(1, MAX_LIFE_TIME));
+    let command = Command::new(alloc, "run")
+        .about(help::RUN_ABOUT)
+        .after_help(help::RUN_HELP)
+        .arg(workers)?
+        .arg(life_time)?
+        .arg(file(alloc))?;
+    Ok(command)
+}
+
+/// The command that the words ask for, the first of which is the program; `Err` also where they ask
+/// for help or the version.
+pub fn parse<'a>(alloc: Global, words: &'a [String]) -> Result<ArgMatches<'a>, Error> {
+    let command = Command::new(alloc, "txkv")
+        .about(help::ABOUT)
+        .version("0.1.0")
+        .after_help(help::EXAMPLES)
+        .subcommand_required(true)
+        .subcommand(simulate(alloc)?)?
+        .subcommand(run(alloc)?)?
+        .subcommand(check(alloc)?)?;
+    command.try_get_matches_from(words)
+}

@@ -1,0 +1,103 @@
+//! The faults among the lines that are written.
+ghost use Rattle.std.specs.Prelude.{◌≡◌};
+
+use memchr::memchr;
+use std::alloc::Global;
+use std::io;
+use std::io::Write;
+use tx_types::Cause;
+
+/// How many faults are noted at most.
+pub const MAX_NOTED: usize = 16;
+
+// A fault's line is no longer: a number, two words and what stands between.
+const MAX_FAULT_BYTES: usize = 48;
+
+/// A fault: the number of its line, and its cause.
+#[derive(Clone, Copy, Debug, PartialEq, Eq)]
+pub struct Noted {
+    pub number: u64,
+    pub cause: Cause,
+}
+
+/// A writer that notes the first faults among the lines that it is given, one at each call.
+#[derive(Drop)]
+pub struct Noting<W> {
+    writer: W,
+    faults: Vec<Noted>,
+}
+
+fn cause_of(word: &str) -> Option<Cause> {
+    match word {
+        "json" => Some(Cause::Json),
+        "form" => Some(Cause::Form),
+        "name" => Some(Cause::Name),
+        "order" => Some(Cause::Order),
+        "long" => Some(Cause::Long),
+        "lines" => Some(Cause::Lines),
+        "sessions" => Some(Cause::Sessions),
+        _ => None,
+    }
+}
+
+/// The fault that a line tells: `[number,"E16","cause"]`.
+pub fn fault_in(line: &[u8]) -> Option<Noted> {
+    if line.len() > MAX_FAULT_BYTES {
+        return None;
+    }
+    let comma = memchr(b',', line)?;
+    if !line[comma..].starts_with(b",\"E16\",\"") {
+        return None;
+    }
+    let (number, rest) = str::from_utf8(line).ok()?.split_once(",\"E16\",\"")?;
+    let (word, _) = rest.split_once('"')?;
+    let number = number.strip_prefix('[')?.parse::<u64>().ok()?;
+    Some(Noted {
+        number,
+        cause: cause_of(word)?,
+    })
+}
+
+impl<W> Noting<W> {
+    pub fn new(alloc: Global, writer: W) -> Noting<W> {
+        Noting {
+            writer,
+            faults: Vec::new(alloc),
+        }
+    }
+
+    /// The faults that were noted, in the order in which they were written.
+    pub fn faults(&self) -> &[Noted]
+        ensures { result.now ≡ self.now.faults.items }
+    {
+        self.faults.as_slice()
+    }
+
+    // Notes a fault, if there is room.
+    fn note(&mut self, line: &[u8])
+        ensures { self.new.writer ≡ self.old.writer }
+    {
+        if self.faults.len() >= MAX_NOTED {
+            return;
+        }
+        if let Some(fault) = fault_in(line) {
+            // With no room for it the sentence is left out, and the line of the fault is written
+            // all the same.
+            let _ = self.faults.push(fault);
+        }
+    }
+}
+
+// What is written is what the writer below is given.
+impl<W: Write> Write for Noting<W> {
+    ghost contents = { λ w. W.contents w.writer };
+
+    fn write(&mut self, buf: &[u8]) -> io::Result<usize> {
+        self.note(buf);
+        self.writer.write(buf)
+    }
+
+    fn flush(&mut self) -> io::Result<()> {
+        self.writer.flush()
+    }
+}

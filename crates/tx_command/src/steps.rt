@@ -1,0 +1,47 @@
+//! The machine's steps among the lines that a checked script writes.
+use crate::faults::fault_in;
+use std::io;
+use std::io::Write;
+
+/// A writer that hands on, of the lines that it is given, the machine's steps and the line of a
+/// fault.
+#[derive(Drop)]
+pub struct Steps<W> {
+    writer: W,
+    /// Whether the line that is being written is handed on; None between two lines.
+    hands_on: Option<bool>,
+}
+
+impl<W> Steps<W> {
+    pub fn new(writer: W) -> Steps<W> {
+        Steps {
+            writer,
+            hands_on: None,
+        }
+    }
+}
+
+// Whether a line is handed on, by how it begins: replies begin with a number, steps with a word,
+// and so does a verdict.
+fn is_handed_on(line: &[u8]) -> bool {
+    let is_step = line.starts_with(b"[\"") && !line.starts_with(b"[\"check\"");
+    is_step || fault_in(line).is_some()
+}
+
+impl<W: Write> Write for Steps<W> {
+    fn write(&mut self, buf: &[u8]) -> io::Result<usize> {
+        let hands_on = self.hands_on.unwrap_or_else(|| is_handed_on(buf));
+        let len = if hands_on {
+            self.writer.write(buf)?
+        } else {
+            buf.len()
+        };
+        let is_ended = buf[..len].last() == Some(&b'\n');
+        self.hands_on = if is_ended { None } else { Some(hands_on) };
+        Ok(len)
+    }
+
+    fn flush(&mut self) -> io::Result<()> {
+        self.writer.flush()
+    }
+}

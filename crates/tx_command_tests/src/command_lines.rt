@@ -1,0 +1,280 @@
+//! Command lines as a user writes them, and what they come to.
+use clap::error::ErrorKind;
+use std::alloc::Global;
+use std::test::Fail;
+use tx_command::{Job, Task, job_of, message_of, parse, status_of};
+use tx_lines::{Broken, End};
+
+// The words of a command line, the first of which is the program as a shell names it.
+fn words_of(alloc: Global, line: &str) -> Result<Vec<String>, Fail> {
+    let mut words = Vec::new(alloc);
+    words.push("/usr/local/bin/txkv".to_string(alloc)?)?;
+    for word in line.split(' ') {
+        if !word.is_empty() {
+            words.push(word.to_string(alloc)?)?;
+        }
+    }
+    Ok(words)
+}
+
+// Command lines, the tasks that they ask for, and the files that those read.
+static JOBS: [(&str, Task, Option<&str>); 13] = [
+    ("simulate", Task::Simulate, None),
+    ("simulate -", Task::Simulate, None),
+    ("simulate a.script", Task::Simulate, Some("a.script")),
+    ("simulate --check", Task::SimulateChecked, None),
+    ("simulate a --check", Task::SimulateChecked, Some("a")),
+    ("simulate --steps a", Task::SimulateSteps, Some("a")),
+    ("simulate -- --check", Task::Simulate, Some("--check")),
+    ("check", Task::Check, None),
+    ("check dir/a.trace", Task::Check, Some("dir/a.trace")),
+    ("run --workers 1", Task::Run(1, None), None),
+    ("run --workers=64 a", Task::Run(64, None), Some("a")),
+    (
+        "run - --gc-life-time 1 --workers 4",
+        Task::Run(4, Some(1)),
+        None,
+    ),
+    (
+        "run --workers 2 --gc-life-time 4398046511104",
+        Task::Run(2, Some(4_398_046_511_104)),
+        None,
+    ),
+];
+
+#[test]
+fn command_lines_say_jobs(rt: HostRuntime) -> Result<(), Fail> {
+    for (line, task, file) in JOBS {
+        let words = words_of(rt.alloc(), line)?;
+        let matches = parse(rt.alloc(), words.as_slice())?;
+        assert_eq!(rt; job_of(&matches), Job { task, file }, "{line}");
+    }
+    Ok(())
+}
+
+const TRY_HELP: &str = "\n\nFor more information, try '--help'.\n";
+
+// Faults of the command line, and what is told of them before that last line.
+static FAULTS: [(&str, &str); 17] = [
+    (
+        "",
+        "error: 'txkv' requires a subcommand but one was not provided\n  [subcommands: simulate, run, check, help]\n\nUsage: txkv <COMMAND>",
+    ),
+    (
+        "simulat",
+        "error: unrecognized subcommand 'simulat'\n\n  tip: a similar subcommand exists: 'simulate'\n\nUsage: txkv <COMMAND>",
+    ),
+    (
+        "bench",
+        "error: unrecognized subcommand 'bench'\n\nUsage: txkv <COMMAND>",
+    ),
+    (
+        "--frob",
+        "error: unexpected argument '--frob' found\n\nUsage: txkv <COMMAND>",
+    ),
+    (
+        "simulate --chek",
+        "error: unexpected argument '--chek' found\n\n  tip: a similar argument exists: '--check'\n\nUsage: txkv simulate --check [FILE]",
+    ),
+    (
+        "simulate --check --check",
+        "error: the argument '--check' cannot be used multiple times\n\nUsage: txkv simulate [OPTIONS] [FILE]",
+    ),
+    (
+        "simulate --check --steps",
+        "error: the argument '--check' cannot be used with '--steps'\n\nUsage: txkv simulate --check [FILE]",
+    ),
+    (
+        "check a b",
+        "error: unexpected argument 'b' found\n\nUsage: txkv check [FILE]",
+    ),
+    (
+        "run",
+        "error: the following required arguments were not provided:\n  --workers <N>\n\nUsage: txkv run --workers <N> [FILE]",
+    ),
+    (
+        "run --workers",
+        "error: a value is required for '--workers <N>' but none was supplied",
+    ),
+    (
+        "run --workers 0",
+        "error: invalid value '0' for '--workers <N>': 0 is not in 1..=64",
+    ),
+    (
+        "run --workers 65",
+        "error: invalid value '65' for '--workers <N>': 65 is not in 1..=64",
+    ),
+    (
+        "run --workers abc",
+        "error: invalid value 'abc' for '--workers <N>': invalid digit found in string",
+    ),
+    (
+        "run --workers 18446744073709551616",
+        "error: invalid value '18446744073709551616' for '--workers <N>': number too large to fit in target type",
+    ),
+    (
+        "run --workers 4 --workers 5",
+        "error: the argument '--workers <N>' cannot be used multiple times\n\nUsage: txkv run [OPTIONS] --workers <N> [FILE]",
+    ),
+    (
+        "run --workers 4 --gc-life-time 0",
+        "error: invalid value '0' for '--gc-life-time <TICKS>': 0 is not in 1..=4398046511104",
+    ),
+    (
+        "run --workers 4 --gc-life-time 4398046511105",
+        "error: invalid value '4398046511105' for '--gc-life-time <TICKS>': 4398046511105 is not in 1..=4398046511104",
+    ),
+];
+
+#[test]
+fn faults_of_the_command_line_are_told(rt: HostRuntime) -> Result<(), Fail> {
+    for (line, text) in FAULTS {
+        let words = words_of(rt.alloc(), line)?;
+        match parse(rt.alloc(), words.as_slice()) {
+            Ok(_) => assert!(rt; false, "{line}: taken"),
+            Err(error) => {
+                let told = format!(in rt.alloc(); "{error}")?;
+                let wanted = format!(in rt.alloc(); "{text}{TRY_HELP}")?;
+                assert_eq!(rt; told.as_str(), wanted.as_str());
+                assert!(rt; error.use_stderr(), "{line}");
+            }
+        }
+    }
+    Ok(())
+}
+
+const TOP: &str = "The transaction layer of a key-value store, in one process
+
+Usage: txkv <COMMAND>
+
+Commands:
+  simulate  Run a script of sessions in one thread, and write one reply line a step
+  run       Run the sessions of a script side by side, on several threads
+  check     Check a trace: is it a run of the machine that commits each transaction in one step?
+  help      Print this message or the help of the given subcommand(s)
+
+Options:
+  -h, --help     Print help
+  -V, --version  Print version
+
+Examples:
+";
+
+const SIMULATE: &str = "Run a script of sessions in one thread, and write one reply line a step
+
+Usage: txkv simulate [OPTIONS] [FILE]
+
+Arguments:
+  [FILE]  The file to read; - or nothing is standard input
+
+Options:
+      --check  Writes the machine's steps of the run after its replies, and that they are one
+      --steps  Writes the machine's steps of the run alone, as a trace for txkv check
+  -h, --help   Print help
+
+A script has one step a line, each a JSON array; s names a session, D is a delivery:
+";
+
+const RUN: &str = "Run the sessions of a script side by side, on several threads
+
+Usage: txkv run [OPTIONS] --workers <N> [FILE]
+
+Arguments:
+  [FILE]  The file to read; - or nothing is standard input
+
+Options:
+      --workers <N>           How many threads make steps, 1 to 64
+      --gc-life-time <TICKS>  Collects meanwhile what is out of date for so many ticks; without it nothing is collected
+  -h, --help                  Print help
+
+The script is read whole. Its seeds run in the order of their lines, and then the lines of each session in theirs,
+";
+
+const CHECK: &str =
+    "Check a trace: is it a run of the machine that commits each transaction in one step?
+
+Usage: txkv check [FILE]
+
+Arguments:
+  [FILE]  The file to read; - or nothing is standard input
+
+Options:
+  -h, --help  Print help
+
+A trace has one step a line, each a JSON array:
+";
+
+// Requests for help, how the text begins, and how it ends.
+static HELPS: [(&str, &str, &str); 8] = [
+    (
+        "--help",
+        TOP,
+        "Status: 0 well, 2 a fault of the input or the command line, 3 the verdict no, 4 a read, a write or a growth failed.\n",
+    ),
+    ("help", TOP, "failed.\n"),
+    ("-h", TOP, "failed.\n"),
+    (
+        "simulate --help",
+        SIMULATE,
+        "  echo '[\"get\",\"A\",\"a\"]' | txkv simulate        [1,\"E16\",\"name\"], no session is live, status 2\n",
+    ),
+    ("help simulate", SIMULATE, "status 2\n"),
+    (
+        "run --help",
+        RUN,
+        "  echo '[\"get\",\"A\",\"a\"]' | txkv run --workers 1            [1,\"E16\",\"name\"] and both sums, status 2\n",
+    ),
+    (
+        "check --help",
+        CHECK,
+        "  echo '[\"draw\"]' | txkv check        [1,\"E16\",\"form\"], the first line that is no step, status 2\n",
+    ),
+    ("check a.trace -h", CHECK, "status 2\n"),
+];
+
+#[test]
+fn help_is_told(rt: HostRuntime) -> Result<(), Fail> {
+    for (line, beginning, ending) in HELPS {
+        let words = words_of(rt.alloc(), line)?;
+        match parse(rt.alloc(), words.as_slice()) {
+            Ok(_) => assert!(rt; false, "{line}: taken"),
+            Err(error) => {
+                let told = format!(in rt.alloc(); "{error}")?;
+                assert!(rt; told.starts_with(beginning), "{line}: {told}");
+                assert!(rt; told.ends_with(ending), "{line}: {told}");
+                assert_eq!(rt; error.kind(), ErrorKind::DisplayHelp);
+                assert!(rt; !error.use_stderr(), "{line}");
+            }
+        }
+    }
+    Ok(())
+}
+
+#[test]
+fn version_is_told(rt: HostRuntime) -> Result<(), Fail> {
+    let words = words_of(rt.alloc(), "--version")?;
+    match parse(rt.alloc(), words.as_slice()) {
+        Ok(_) => assert!(rt; false),
+        Err(error) => {
+            let told = format!(in rt.alloc(); "{error}")?;
+            assert_eq!(rt; told.as_str(), "txkv 0.1.0\n");
+            assert_eq!(rt; error.kind(), ErrorKind::DisplayVersion);
+        }
+    }
+    Ok(())
+}
+
+#[test]
+fn ends_have_statuses(rt: HostRuntime) {
+    assert_eq!(rt; status_of(Ok(End::Well)), 0);
+    assert_eq!(rt; status_of(Ok(End::Faulted)), 2);
+    assert_eq!(rt; status_of(Ok(End::No)), 3);
+    for (broken, message) in [
+        (Broken::Input, "the input failed"),
+        (Broken::Output, "the output failed"),
+        (Broken::Memory, "out of memory"),
+    ] {
+        assert_eq!(rt; status_of(Err(broken)), 4);
+        assert_eq!(rt; message_of(broken), message);
+    }
+}

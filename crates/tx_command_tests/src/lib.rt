@@ -1,0 +1,9 @@
+//! What a user of `txkv` meets beside its output.
+#![tactic(auto)]
+
+#[cfg(test)]
+mod command_lines;
+#[cfg(test)]
+mod sentences;
+#[cfg(test)]
+mod streams;

@@ -1,0 +1,400 @@
+//! Lines that are faults, and the sentences that say why.
+use std::alloc::Global;
+use std::test::Fail;
+use tx_check::check;
+use tx_command::{Noted, Task, reason, why};
+use tx_lines::{End, Parts};
+use tx_steps::{Line, Program};
+use tx_types::Cause;
+
+// Lines of scripts that are faults, and why.
+static SCRIPTS: [(&str, Cause, &str); 33] = [
+    (
+        r#"["commit","A","loose"]"#,
+        Cause::Form,
+        r#"form: "loose" is no delivery (lose, lose-reply, repeat, hold)"#,
+    ),
+    (
+        r#"["prewrite","A","hold"]"#,
+        Cause::Form,
+        r#"form: "hold" wants a name behind it"#,
+    ),
+    (
+        r#"["get","A","a","hold",7]"#,
+        Cause::Form,
+        "form: 7 is no held request's name (a string)",
+    ),
+    (
+        r#"["abort","A","lose","lose"]"#,
+        Cause::Form,
+        r#"form: "lose" stands behind the last member of the step"#,
+    ),
+    (
+        r#"["putt","A","a","x"]"#,
+        Cause::Form,
+        r#"form: "putt" is no step of txkv simulate"#,
+    ),
+    (
+        r#"["seed","a","1"]"#,
+        Cause::Form,
+        r#"form: "seed" is no step of txkv simulate"#,
+    ),
+    (
+        r#"["regions",["m"]]"#,
+        Cause::Form,
+        "form: only line 1 may say the regions",
+    ),
+    (
+        r#"["put","A","a"]"#,
+        Cause::Form,
+        r#"form: "put" wants behind it: session's name, key, value"#,
+    ),
+    (
+        r#"["put","A","a",7]"#,
+        Cause::Form,
+        "form: 7 is no value (a string)",
+    ),
+    (
+        r#"["put","A","a","x","y"]"#,
+        Cause::Form,
+        r#"form: "y" stands behind the last member of the step"#,
+    ),
+    (
+        r#"["begin",null]"#,
+        Cause::Form,
+        "form: null is no session's name (a string)",
+    ),
+    (
+        r#"["scan","A","a","z",0]"#,
+        Cause::Form,
+        "form: 0 is no limit (1 to 1024 rows)",
+    ),
+    (
+        r#"["scan","A","a","z",1025]"#,
+        Cause::Form,
+        "form: 1025 is no limit (1 to 1024 rows)",
+    ),
+    (
+        r#"["declare","A","three-phase",9]"#,
+        Cause::Form,
+        r#"form: "three-phase" is no mode (two-phase, async)"#,
+    ),
+    (
+        r#"["declare","A","async",4294967296]"#,
+        Cause::Form,
+        "form: 4294967296 is no time to live (0 to 4294967295 ticks)",
+    ),
+    (
+        r#"["declare","A","async",9,"x"]"#,
+        Cause::Form,
+        r#"form: "x" is no timestamp (a whole number below 2^64)"#,
+    ),
+    (
+        r#"["declare","A","two-phase",9,2]"#,
+        Cause::Form,
+        "form: 2 stands behind the last member of the step",
+    ),
+    (
+        r#"["tick",0]"#,
+        Cause::Form,
+        "form: 0 is no number of ticks (1 to 4294967295)",
+    ),
+    (
+        r#"["read","a",1.5]"#,
+        Cause::Form,
+        "form: 1.5 is no timestamp (a whole number below 2^64)",
+    ),
+    (
+        r#"["gc",-1]"#,
+        Cause::Form,
+        "form: -1 is no timestamp (a whole number below 2^64)",
+    ),
+    (
+        r#"[{"k":1},"A"]"#,
+        Cause::Form,
+        r#"form: {"k":1} is no step's word (a string)"#,
+    ),
+    ("7", Cause::Form, "form: the line is no array"),
+    (
+        "[]",
+        Cause::Form,
+        "form: the array is empty: a step begins with its word",
+    ),
+    (
+        r#"["get","A""#,
+        Cause::Json,
+        "json: the line is no JSON value: EOF while parsing at line 1 column 10",
+    ),
+    (
+        r#"["get","A","a"]"#,
+        Cause::Name,
+        r#"name: no session "A" is live"#,
+    ),
+    (
+        r#"["begin","A"]"#,
+        Cause::Name,
+        r#"name: a session "A" is live already"#,
+    ),
+    (
+        r#"["begin",""]"#,
+        Cause::Name,
+        r#"name: "" is no name (1 to 64 bytes)"#,
+    ),
+    (
+        r#"["deliver","h"]"#,
+        Cause::Name,
+        r#"name: no request is held under "h""#,
+    ),
+    (
+        r#"["commit","A","hold","h"]"#,
+        Cause::Name,
+        r#"name: no session "A" is live, or a request is held under "h" already"#,
+    ),
+    (
+        r#"["put","A","a","x"]"#,
+        Cause::Order,
+        r#"order: session "A" has declared its write set already"#,
+    ),
+    (
+        r#"["finish","A"]"#,
+        Cause::Order,
+        r#"order: session "A" has no outcome yet: nothing is known of its commit"#,
+    ),
+    (
+        r#"["begin","A"]"#,
+        Cause::Sessions,
+        "sessions: 256 sessions are live already",
+    ),
+    (
+        r#"["get","A","a","hold","h"]"#,
+        Cause::Sessions,
+        "sessions: 1024 requests are held already",
+    ),
+];
+
+// Lines of runs and of traces that are faults, and why.
+static OTHERS: [(Task, &str, Cause, &str); 11] = [
+    (
+        Task::Run(1, None),
+        r#"["get","A","a","lose"]"#,
+        Cause::Form,
+        r#"form: "lose" stands behind the last member of the step"#,
+    ),
+    (
+        Task::Run(1, None),
+        r#"["tick",1]"#,
+        Cause::Form,
+        r#"form: "tick" is no step of txkv run"#,
+    ),
+    (
+        Task::Run(1, None),
+        r#"["transfer","A","a","a",5,"async"]"#,
+        Cause::Form,
+        "form: a transfer moves between two different keys",
+    ),
+    (
+        Task::Run(1, None),
+        r#"["transfer","A","a","b",0,"async"]"#,
+        Cause::Form,
+        "form: 0 is no amount (1 to 1000000000000)",
+    ),
+    (
+        Task::Check,
+        r#"["regions",["m"]]"#,
+        Cause::Form,
+        r#"form: "regions" is no step of txkv check"#,
+    ),
+    (
+        Task::Check,
+        r#"["draw"]"#,
+        Cause::Form,
+        r#"form: "draw" wants behind it: timestamp"#,
+    ),
+    (
+        Task::Check,
+        r#"["declare",3,[["a","put"]]]"#,
+        Cause::Form,
+        r#"form: [["a","put"]] is no write set ([[key,"put",value],[key,"insert",value],[key,"delete"],[key,"lock"],..])"#,
+    ),
+    (
+        Task::Check,
+        r#"["read",3,"","x"]"#,
+        Cause::Form,
+        r#"form: "" is no key (a string of 1 to 512 bytes)"#,
+    ),
+    (
+        Task::Check,
+        r#"["scan",3,"a","c",9,[["a"]]]"#,
+        Cause::Form,
+        r#"form: [["a"]] is no list of rows ([[key,value],..])"#,
+    ),
+    (
+        Task::Check,
+        r#"["answer",3,"committed"]"#,
+        Cause::Form,
+        r#"form: "committed" wants its timestamp behind it"#,
+    ),
+    (
+        Task::Check,
+        r#"["answer",3,"aborted",4]"#,
+        Cause::Form,
+        "form: 4 stands behind the last member of the step",
+    ),
+];
+
+// The sentence for a line, which is the fourth.
+fn sentence_of(alloc: Global, task: Task, cause: Cause, line: &[u8]) -> Result<String, Fail> {
+    let fault = Noted { number: 4, cause };
+    Ok(reason(alloc, task, fault, Some(line))?)
+}
+
+#[test]
+fn sentences_name_line_member_and_rule(rt: HostRuntime) -> Result<(), Fail> {
+    for (line, cause, sentence) in SCRIPTS {
+        let told = sentence_of(rt.alloc(), Task::Simulate, cause, line.as_bytes())?;
+        let wanted = format!(in rt.alloc(); "line 4: {sentence}")?;
+        assert_eq!(rt; told.as_str(), wanted.as_str());
+    }
+    for (task, line, cause, sentence) in OTHERS {
+        let told = sentence_of(rt.alloc(), task, cause, line.as_bytes())?;
+        let wanted = format!(in rt.alloc(); "line 4: {sentence}")?;
+        assert_eq!(rt; told.as_str(), wanted.as_str());
+    }
+    Ok(())
+}
+
+#[test]
+fn lines_that_cannot_be_shown_have_a_sentence(rt: HostRuntime) -> Result<(), Fail> {
+    let told = sentence_of(rt.alloc(), Task::Check, Cause::Json, b"[\"draw\",\"\xff\"]")?;
+    assert_eq!(rt; told.as_str(), "line 4: json: the line is not UTF-8");
+    let told = sentence_of(rt.alloc(), Task::Check, Cause::Long, b"[\"draw\"")?;
+    assert_eq!(rt;
+        told.as_str(),
+        "line 4: long: the line is longer than 524288 bytes"
+    );
+    let fault = Noted {
+        number: 1_000_001,
+        cause: Cause::Lines,
+    };
+    let told = reason(rt.alloc(), Task::Run(2, None), fault, None)?;
+    assert_eq!(rt;
+        told.as_str(),
+        "line 1000001: lines: the script has more than 1000000 lines"
+    );
+    Ok(())
+}
+
+#[test]
+fn long_members_are_cut(rt: HostRuntime) -> Result<(), Fail> {
+    let value = "é".repeat(rt.alloc(), 400)?;
+    let line = format!(in rt.alloc(); r#"["begin",["{value}"]]"#)?;
+    let told = sentence_of(rt.alloc(), Task::Simulate, Cause::Form, line.as_bytes())?;
+    let beginning = "é".repeat(rt.alloc(), 29)?;
+    let wanted = format!(in rt.alloc();
+        r#"line 4: form: ["{beginning}.. is no session's name (a string)"#
+    )?;
+    assert_eq!(rt; told.as_str(), wanted.as_str());
+    Ok(())
+}
+
+// Lines of scripts, each a step of one program or of none.
+static LINES: [&str; 38] = [
+    r#"["begin","A"]"#,
+    r#"["put","A","a","x"]"#,
+    r#"["put","A","a"]"#,
+    r#"["insert","A","a","x"]"#,
+    r#"["insert","A","a"]"#,
+    r#"["delete","B","a"]"#,
+    r#"["lock","A","a"]"#,
+    r#"["get","B","a"]"#,
+    r#"["get","A","a","lose"]"#,
+    r#"["get","A","b","lose-reply"]"#,
+    r#"["get","A","a","repeat"]"#,
+    r#"["get","A","a","hold","h0"]"#,
+    r#"["get","A","a","hold","h0",1]"#,
+    r#"["scan","B","a","z",1024]"#,
+    r#"["scan","B","a","z",9,"hold","h"]"#,
+    r#"["declare","A","two-phase",0]"#,
+    r#"["declare","A","two-phase",0,1]"#,
+    r#"["declare","A","async",10,2]"#,
+    r#"["declare","A","async",10,2,3]"#,
+    r#"["prewrite","B","lose-reply"]"#,
+    r#"["draw","A"]"#,
+    r#"["draw","A","lose"]"#,
+    r#"["commit","A","hold","h"]"#,
+    r#"["abort","B","repeat"]"#,
+    r#"["heartbeat","A",20,"hold","h"]"#,
+    r#"["finish","A"]"#,
+    r#"["stop","A"]"#,
+    r#"["resolve","B",100]"#,
+    r#"["deliver","h"]"#,
+    r#"["read","a",18446744073709551615]"#,
+    r#"["versions","a"]"#,
+    r#"["tick",4294967295]"#,
+    r#"["tick",4294967296]"#,
+    r#"["gc",18446744073709551616]"#,
+    r#"["seed","a","5"]"#,
+    r#"["transfer","A","a","b",5,"async"]"#,
+    r#"["transfer","A","a","b",1000000000001,"async"]"#,
+    r#"["transfer","A","a","a",5,"async"]"#,
+];
+
+// Steps of the machine, and lines that are none.
+static TRACES: [&str; 18] = [
+    r#"["draw",3]"#,
+    r#"["draw",3,4]"#,
+    r#"["begin",3]"#,
+    r#"["declare",3,[["a","put","x"],["b","delete"],["c","lock"]]]"#,
+    r#"["declare",3,[["a","put","x"],["b","erase"]]]"#,
+    r#"["declare",3,[["d","insert","x"]]]"#,
+    r#"["declare",3,[["d","insert"]]]"#,
+    r#"["declare",3,{}]"#,
+    r#"["commit",3,4]"#,
+    r#"["commit",3,-4]"#,
+    r#"["abort",3]"#,
+    r#"["read",4,"a","x"]"#,
+    r#"["read",4,"a",null]"#,
+    r#"["read",4,"a",false]"#,
+    r#"["scan",4,"a","m",9,[["a","x"]]]"#,
+    r#"["scan",4,"a","m",9,[["a","x","y"]]]"#,
+    r#"["answer",3,"committed",4]"#,
+    r#"["answer",3,"aborted"]"#,
+];
+
+// Whether a line of a script is a step of a program.
+fn is_step(alloc: Global, program: Program, line: &str) -> Result<bool, Fail> {
+    let mut parts = Parts::new();
+    match Line::read(alloc, 2, line.as_bytes(), &mut parts)? {
+        Ok(said) => Ok(said.step(program).is_some()),
+        Err(_) => Ok(false),
+    }
+}
+
+// Whether something is found to be wrong with a line.
+fn is_faulted(alloc: Global, task: Task, line: &str) -> Result<bool, Fail> {
+    let fault = Noted {
+        number: 2,
+        cause: Cause::Form,
+    };
+    Ok(why(alloc, task, fault, line.as_bytes())?.is_some())
+}
+
+// Something is wrong with just the lines that are no steps.
+#[test]
+fn sentences_agree_with_the_readers_of_lines(rt: HostRuntime) -> Result<(), Fail> {
+    for line in LINES {
+        let simulated = is_step(rt.alloc(), Program::Simulate, line)?;
+        let is_wrong = is_faulted(rt.alloc(), Task::Simulate, line)?;
+        assert_eq!(rt; is_wrong, !simulated, "simulate: {line}");
+        let run = is_step(rt.alloc(), Program::Run, line)?;
+        let is_wrong = is_faulted(rt.alloc(), Task::Run(4, None), line)?;
+        assert_eq!(rt; is_wrong, !run, "run: {line}");
+    }
+    for line in TRACES {
+        let mut written = Vec::new(rt.alloc());
+        let end = check(rt.alloc(), &mut line.as_bytes(), &mut written)?;
+        let is_wrong = is_faulted(rt.alloc(), Task::Check, line)?;
+        assert_eq!(rt; is_wrong, end == End::Faulted, "check: {line}");
+    }
+    Ok(())
+}

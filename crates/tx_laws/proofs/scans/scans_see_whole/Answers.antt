@@ -1,0 +1,5 @@
+use Rattle.tx_laws.proofs.Scanned.{sees_whole}
+use Rattle.tx_laws.proofs.scans.scans_see_whole.Goals as goal
+
+pub returns : goal.returns
+returns g c = sees_whole g.J.Naming.bounds g.S.Sender.sends
