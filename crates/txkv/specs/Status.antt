@@ -1,0 +1,19 @@
+-- The status and the warning that an end gives.
+use Rattle.std.specs.Prelude.{ℕ, List, Result, Ok, Err, codes}
+use Rattle.tx_lines.specs.declared.end.End.{End}
+use Rattle.tx_lines.specs.declared.end.End.TheVariants.{Well, Faulted, No}
+use Rattle.tx_lines.specs.declared.end.Broken.{Broken}
+use Rattle.tx_lines.specs.declared.end.Broken.TheVariants.{Input, Output, Memory}
+
+-- the status that an end gives
+abbrev pub status : Result End Broken → ℕ
+status (Ok Well) = 0
+status (Ok Faulted) = 2
+status (Ok No) = 3
+status (Err broken) = 4
+
+-- the warning that goes before status 4
+abbrev pub message : Broken → List ℕ
+message Input = codes "the input failed"
+message Output = codes "the output failed"
+message Memory = codes "out of memory"

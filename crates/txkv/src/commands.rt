@@ -1,0 +1,173 @@
+//! The commands of the program, and their help.
+use clap::builder::ValueParser;
+use clap::{Arg, ArgAction, ArgMatches, Command, Error};
+use std::alloc::Global;
+use std::env::Env;
+use std::{env, io};
+use tx_run::Settings;
+use tx_types::limits::MAX_WORKERS;
+
+/// The longest that a version may be kept, in ticks: as long as all timestamps last.
+const MAX_LIFE_TIME: u64 = 4_398_046_511_104;
+
+static ABOUT: &str = "The transaction layer of a key-value store, in one process";
+
+static EXAMPLES: &str = "Examples:
+  txkv simulate < commit_then_read.script   Run a script of sessions
+  txkv run --workers 4 < transfers.run      Run the sessions of a script side by side, on threads
+  txkv check < commit_then_read.trace       Check a trace of machine steps
+  txkv simulate --help                      Show the steps of a script
+  txkv run --help                           Show the steps of a run
+  txkv check --help                         Show the steps of a trace
+
+Status: 0 well, 2 a fault of the input or the command line, 3 the verdict no, 4 a read, a write or a growth failed.";
+
+static SIMULATE_ABOUT: &str =
+    "Run a script of sessions in one thread, and write one reply line a step";
+
+static SIMULATE_HELP: &str =
+    "A script has one step a line, each a JSON array; s names a session, D is a delivery:
+  [\"regions\",[key,..]]            Line 1 alone: the keys between the regions
+  [\"begin\",s]                     Begins a transaction at a new timestamp
+  [\"put\",s,key,value]             Enters a put into its write buffer, also [\"delete\",s,key], [\"lock\",s,key]
+  [\"get\",s,key] D                 Reads a key, from its buffer or at its start
+  [\"scan\",s,from,to,limit] D      Reads a range at its start
+  [\"declare\",s,\"two-phase\",ttl]   Fixes its write set; its locks live ttl ticks. Also \"async\", and a greatest commit
+  [\"prewrite\",s] D                Locks the next key
+  [\"draw\",s]                      Draws its commit timestamp
+  [\"commit\",s] D                  Commits the primary, and then each other key
+  [\"abort\",s] D                   Rolls the next key back
+  [\"heartbeat\",s,ttl] D           Lets the primary's lock live longer
+  [\"finish\",s], [\"stop\",s]      Tells its outcome; leaves its transaction as it is. The session is gone
+  [\"resolve\",s,now]               Looks into the last lock that stood in its way
+  [\"deliver\",name]                Takes a request that is held
+  [\"gc\",ts]                       Resolves what is below ts, and drops old versions
+  [\"read\",key,ts], [\"tick\",n]    Reads a key at a timestamp; draws n ticks
+  [\"versions\",key]                Shows what stands on a key: its lock, its write records, its long values
+A delivery is nothing, or \"lose\", \"lose-reply\", \"repeat\", or \"hold\",name
+
+Each reply is the number of the line and the step's words; docs/SCRIPT.md has all replies, refusals and causes.
+With --check, a script that ended without a fault is followed by the machine's steps of its run, in the form of txkv check.
+
+Examples:
+  txkv simulate < commit_then_read.script     One transaction and a reader
+  txkv simulate --check < push.script         The same of any script, and what it was for the machine
+  echo '[\"begin\",\"A\"]' | txkv simulate           [1,\"start\",1], status 0
+  echo '[\"get\",\"A\",\"a\"]' | txkv simulate         [1,\"E16\",\"name\"], no session is live, status 2";
+
+static RUN_ABOUT: &str = "Run the sessions of a script side by side, on several threads";
+
+static RUN_HELP: &str =
+    "The script is read whole. Its seeds run in the order of their lines, and then the lines of each session in theirs,
+the sessions side by side. s names a session; mode is \"two-phase\" or \"async\":
+  [\"regions\",[key,..]]                 Line 1 alone: the keys between the regions
+  [\"seed\",key,value]                   Puts a value on a key, in a transaction of its own
+  [\"transfer\",s,from,to,amount,mode]   Moves an amount between the balances of two keys, in one transaction
+and the steps of sessions as txkv simulate --help has them, with no delivery: begin, put, delete, lock, get, scan, declare,
+prewrite, draw, commit, abort, heartbeat, finish, stop, resolve
+
+A balance is a text of 1 to 15 decimal digits; any other text, or none, is a balance of 0.
+The replies come in the order of the lines. Then [\"outcomes\",committed,aborted,unknown,read-only] counts the outcomes that
+were told, and [\"total\",n] is the sum of all balances.
+
+Examples:
+  txkv run --workers 4 < transfers.run                    Two accounts, and transfers between them and a third
+  txkv run --workers 4 --gc-life-time 50000 < transfers.run  Old versions are collected beside them; a transaction that is
+                                                          open for more than 50,000 ticks may be told E7
+  echo '[\"seed\",\"a\",\"5\"]' | txkv run --workers 1          [1,\"ok\"], [\"outcomes\",0,0,0,0], [\"total\",5], status 0
+  echo '[\"get\",\"A\",\"a\"]' | txkv run --workers 1           [1,\"E16\",\"name\"] and both sums, status 2";
+
+static CHECK_ABOUT: &str =
+    "Check a trace: is it a run of the machine that commits each transaction in one step?";
+
+static CHECK_HELP: &str = "A trace has one step a line, each a JSON array:
+  [\"draw\",3]                         The oracle gives the number 3, above all before
+  [\"begin\",3]                        A transaction starts at 3
+  [\"declare\",3,[[\"a\",\"put\",\"x\"]]]    It fixes its write set, also by [\"b\",\"delete\"] and [\"c\",\"lock\"]
+  [\"commit\",3,4]                     It commits at 4
+  [\"abort\",3]                        It is aborted
+  [\"read\",4,\"a\",\"x\"]                 A read of a at 4 finds x, or null for nothing
+  [\"scan\",4,\"a\",\"m\",9,[[\"a\",\"x\"]]]   A read of the keys from a up to m, of at most 9 rows
+  [\"answer\",3,\"committed\",4]         It is told what became of it, also by [\"answer\",3,\"aborted\"]
+
+Examples:
+  txkv check < commit_then_read.trace   [\"check\",\"yes\"], status 0
+  txkv check < lost_update.trace        [\"check\",\"no\",10], the first line refused, status 3
+  echo '[\"draw\"]' | txkv check                   [1,\"E16\",\"form\"], the first line that is no step, status 2";
+
+/// What the command line asks for.
+#[derive(Clone, Copy, Debug, PartialEq, Eq)]
+pub enum Job {
+    Simulate,
+    /// By workers, as is set.
+    Run(Settings),
+    /// Simulate, and tell the machine's steps of the run.
+    SimulateChecked,
+    Check,
+}
+
+/// The job of a command line that was read.
+pub fn job_of(matches: &ArgMatches<'_>) -> Job {
+    if let Some(run) = matches.subcommand_matches("run") {
+        return Job::Run(Settings {
+            workers: run.get_one::<usize>("workers").unwrap_or(1),
+            life_time: run.get_one::<u64>("gc-life-time"),
+        });
+    }
+    match matches.subcommand() {
+        Some(("simulate", asked)) if asked.get_flag("check") => Job::SimulateChecked,
+        Some(("simulate", _)) => Job::Simulate,
+        _ => Job::Check,
+    }
+}
+
+/// The words of the command line.
+pub fn words<R: Env + AllocGlobal>(rt: &R) -> io::Result<Vec<String>> {
+    let mut words = Vec::new(rt.alloc());
+    for word in env::args(rt)? {
+        words.push(word)?;
+    }
+    Ok(words)
+}
+
+/// The command that the words ask for; `Err` also where they ask for help or the version.
+pub fn parse<'a>(alloc: Global, words: &'a [String]) -> Result<ArgMatches<'a>, Error> {
+    let check = Command::new(alloc, "check")
+        .about(CHECK_ABOUT)
+        .after_help(CHECK_HELP);
+    let check_flag = Arg::new(alloc, "check")
+        .long("check")
+        .action(ArgAction::SetTrue)
+        .help("Writes the machine's steps of the run after its replies, and that they are one");
+    let simulate = Command::new(alloc, "simulate")
+        .about(SIMULATE_ABOUT)
+        .after_help(SIMULATE_HELP)
+        .arg(check_flag)?;
+    let workers = Arg::new(alloc, "workers")
+        .long("workers")
+        .value_name("N")
+        .help("How many threads make steps, 1 to 64")
+        .required(true)
+        .value_parser(ValueParser::Unsigned(1, MAX_WORKERS as u64));
+    let life_time = Arg::new(alloc, "gc-life-time")
+        .long("gc-life-time")
+        .value_name("TICKS")
+        .help(
+            "Collects meanwhile what is out of date for so many ticks; without it nothing is collected",
+        )
+        .value_parser(ValueParser::Unsigned(1, MAX_LIFE_TIME));
+    let run = Command::new(alloc, "run")
+        .about(RUN_ABOUT)
+        .after_help(RUN_HELP)
+        .arg(workers)?
+        .arg(life_time)?;
+    let command = Command::new(alloc, "txkv")
+        .about(ABOUT)
+        .version("0.1.0")
+        .after_help(EXAMPLES)
+        .subcommand_required(true)
+        .subcommand(simulate)?
+        .subcommand(run)?
+        .subcommand(check)?;
+    command.try_get_matches_from(words)
+}
