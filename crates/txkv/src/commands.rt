@@ -30,6 +30,7 @@ static SIMULATE_HELP: &str =
   [\"regions\",[key,..]]            Line 1 alone: the keys between the regions
   [\"begin\",s]                     Begins a transaction at a new timestamp
   [\"put\",s,key,value]             Enters a put into its write buffer, also [\"delete\",s,key], [\"lock\",s,key]
+  [\"insert\",s,key,value]          Enters a put of a key that must have no value; E17 where it has one
   [\"get\",s,key] D                 Reads a key, from its buffer or at its start
   [\"scan\",s,from,to,limit] D      Reads a range at its start
   [\"declare\",s,\"two-phase\",ttl]   Fixes its write set; its locks live ttl ticks. Also \"async\", and a greatest commit
@@ -63,7 +64,7 @@ the sessions side by side. s names a session; mode is \"two-phase\" or \"async\"
   [\"regions\",[key,..]]                 Line 1 alone: the keys between the regions
   [\"seed\",key,value]                   Puts a value on a key, in a transaction of its own
   [\"transfer\",s,from,to,amount,mode]   Moves an amount between the balances of two keys, in one transaction
-and the steps of sessions as txkv simulate --help has them, with no delivery: begin, put, delete, lock, get, scan, declare,
+and the steps of sessions as txkv simulate --help has them, with no delivery: begin, put, insert, delete, lock, get, scan, declare,
 prewrite, draw, commit, abort, heartbeat, finish, stop, resolve
 
 A balance is a text of 1 to 15 decimal digits; any other text, or none, is a balance of 0.
@@ -83,7 +84,7 @@ static CHECK_ABOUT: &str =
 static CHECK_HELP: &str = "A trace has one step a line, each a JSON array:
   [\"draw\",3]                         The oracle gives the number 3, above all before
   [\"begin\",3]                        A transaction starts at 3
-  [\"declare\",3,[[\"a\",\"put\",\"x\"]]]    It fixes its write set, also by [\"b\",\"delete\"] and [\"c\",\"lock\"]
+  [\"declare\",3,[[\"a\",\"put\",\"x\"]]]    It fixes its write set, also by [\"b\",\"delete\"], [\"c\",\"lock\"] and [\"d\",\"insert\",\"y\"]
   [\"commit\",3,4]                     It commits at 4
   [\"abort\",3]                        It is aborted
   [\"read\",4,\"a\",\"x\"]                 A read of a at 4 finds x, or null for nothing
