@@ -103,6 +103,7 @@ impl<'a, J: Naming, R: Print + Wait> Side<'a, J, R> {
     fn scan(&self, session: &mut Session<J>, from: &str, to: &str, call: &str) -> Result<()> {
         let from = Key::new(self.alloc, from.as_bytes())?;
         let to = Key::new(self.alloc, to.as_bytes())?;
+        // For proofs: the keys between the regions rise.
         let _ = self.store.bounds();
         let came = session.scan(self.alloc, &from, &to, 10, &mut self.wire());
         line_read(self.rt, self.who, call, came)
@@ -133,7 +134,8 @@ impl<'a, J: Naming, R: Print + Wait> Side<'a, J, R> {
         self.commit(session)
     }
 
-    // Both are read, and one is deleted by a transaction that commits asynchronously: with its lock it is committed.
+    // Both are read, and one is deleted by a transaction that commits asynchronously: with its lock
+    // it is committed.
     fn delete_one(&self, session: &mut Session<J>) -> Result<()> {
         self.scan(session, "a", "z", "scan a to z")?;
         self.delete(session, "pear", "delete pear")?;
@@ -210,8 +212,8 @@ impl<'a, J: Naming, R: Print + Wait> Side<'a, J, R> {
     }
 }
 
-/// Both sessions, turn by turn. A writes two keys, one in each region, in two phases; B reads beside it, and then, begun again,
-/// sees what A committed, and deletes a key asynchronously.
+/// Both sessions, turn by turn. A writes two keys, one in each region, in two phases; B reads
+/// beside it, and then, begun again, sees what A committed, and deletes a key asynchronously.
 pub fn tell<J: Naming, R: Print + Wait>(
     rt: &R,
     alloc: Global,

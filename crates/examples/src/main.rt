@@ -1,8 +1,9 @@
-//! Runs each example and compares what it writes with the file beside it that shows it. An example is a script
-//! (`NAME.script`, played as `txkv simulate` does), a script for workers (`NAME.run`, played as `txkv run --workers 2` does) or a
-//! trace (`NAME.trace`, checked as `txkv check` does); what it writes is shown in the file of its name with `.out` added. Scripts are
-//! played over both families. Many small ones stand in `scripts.rows`, `checked.rows` (played as `txkv simulate --check` does) and
-//! `traces.rows`, each with what it writes.
+//! Runs each example and compares what it writes with the file beside it that shows it. An example
+//! is a script (`NAME.script`, played as `txkv simulate` does), a script for workers (`NAME.run`,
+//! played as `txkv run --workers 2` does) or a trace (`NAME.trace`, checked as `txkv check` does);
+//! what it writes is shown in the file of its name with `.out` added. Scripts are played over both
+//! families. Many small ones stand in `scripts.rows`, `checked.rows` (played as
+//! `txkv simulate --check` does) and `traces.rows`, each with what it writes.
 #![tactic(auto)]
 
 mod rows;

@@ -1,5 +1,6 @@
-//! Scripts in one file, one below another: a line with a title, then each step with the reply that it gets, a tab between them. A trace
-//! has its verdict behind its last step, and a checked script has what follows its replies on lines with no step.
+//! Scripts in one file, one below another: a line with a title, then each step with the reply that
+//! it gets, a tab between them. A trace has its verdict behind its last step, and a checked script
+//! has what follows its replies on lines with no step.
 use crate::Kind;
 use anyhow::Result;
 use std::fs;

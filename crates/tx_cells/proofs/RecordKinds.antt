@@ -89,7 +89,8 @@ past_nearest write bound c near q lt le = go (write q) refl
     go None e = e
     go (Some rec) e = absurd (let n = near q le (ap is_some e) in omega (arith, n, lt))
 
--- a record that is found so is the newest at the bound or below, and where none is found there is none
+-- a record that is found so is the newest at the bound or below, and where none is
+-- found there is none
 pub next_found : (x : OnKey) → ∥ IsWhole x ∥₁ → (bound : ℕ) (o : Option (ℕ × RecordKind)) → IfSome o (λ p. (p.0 ≤ bound) × (option_map record_kind (x.write p.0) ≡ Some p.1)) → IfSome o (λ p. (q : ℕ) → q ≤ bound → IsSome (x.write q) → q ≤ p.0)
     → IfNone o ((q : ℕ) → q ≤ bound → x.write q ≡ None) → MatchOption o (NoneUpto (cells_of x).write bound) (λ p. IsNext (cells_of x).write bound p.0 p.1)
 next_found x t bound None found near none = λ q le. ap (option_map (write_of x.value)) (none q le)

@@ -111,8 +111,8 @@ after_left write t left.Already = write
 after_left write t left.Record = with_record write t (Rollback t)
 after_left write t left.Mark = λ q. cond (t == q) (marked (write q)) (write q)
 
--- What a change makes of a key. A lock is put by `put_on`, with the prewrite that asks for it. With a lock that is rolled back goes
--- the value that it keeps apart.
+-- What a change makes of a key. A lock is put by `put_on`, with the prewrite that asks for it. With
+-- a lock that is rolled back goes the value that it keeps apart.
 abbrev pub after : OnKey → KeyChange → OnKey
 after x change.Nothing = x
 after x (change.Lock new) = x
@@ -127,7 +127,8 @@ after x (change.RollBack t removes_lock left) = record {
 
 -- ---- collection
 
--- Below the safe point the records go that no read needs any more, and with each the value that it keeps apart.
+-- Below the safe point the records go that no read needs any more, and with each the value
+-- that it keeps apart.
 pub record Collected (safe : ℕ) (before after : OnKey) : Type 0 where
   pub lock : after.lock ≡ before.lock
   pub write : (q : ℕ) → after.write q ≡ cond (keeps (cells_of before).write safe q) (before.write q) None

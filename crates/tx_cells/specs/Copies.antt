@@ -18,12 +18,14 @@ abbrev pub times_of : List RecordAt → List ℕ
 times_of [] = []
 times_of (x ∷ xs) = x.at ∷ times_of xs
 
--- the lock or a commit record of the transaction that started at t puts a long value, which families keep apart
+-- the lock or a commit record of the transaction that started at t puts a long value, which
+-- families keep apart
 abbrev pub HasLongValue : Cells → ℕ → Type 0
 HasLongValue cells t = ((lock : Lock) × OwnLock cells.lock t lock × (is_long lock.mutation ≡ true)) ⊎ ((c : ℕ) × (own : OwnCommit cells.write t c) × (is_long own.rec.mutation ≡ true))
 
--- It shows the head of the lock, the write records from the newest on, and the starts of the transactions whose values are kept apart,
--- from the newest on: of those that have a long value, whichever record puts it.
+-- It shows the head of the lock, the write records from the newest on, and the starts of the
+-- transactions whose values are kept apart, from the newest on: of those that have a long value,
+-- whichever record puts it.
 pub record Copies (cells : Cells) (copy : KeyCopy) : Type 0 where
   pub lock : copy.lock ≡ option_map lock_head_of cells.lock
   pub records_fall : AreFalling (times_of copy.records)

@@ -1,4 +1,5 @@
 -- Records of a key that go one after the other, and the values that they keep apart.
+-- Only private clauses of the two families cite it.
 use Rattle.std.specs.Prelude.{◌≡◌, ◌≢◌, ℕ, Bool, true, Option, Some, None}
 use Rattle.tx_types.specs.declared.value.Value.{Value}
 use Rattle.tx_types.specs.declared.write.CommitRec.{CommitRec}

@@ -30,7 +30,8 @@ pub struct KeyCopy {
     pub values: Items<Ts>,
 }
 
-/// The same in memory of its own, so that a reply that may show a key is small. Contracts see what is shown.
+/// Such a copy in memory of its own, so that a reply that may show a key is small. Contracts see
+/// what is shown.
 #[derive(Debug, Drop)]
 pub struct Shown {
     copy: Box<KeyCopy>,

@@ -30,7 +30,8 @@ abbrev pub step_of_json : Option Data → Result Step Cause
 step_of_json None = Err Json
 step_of_json (Some d) = step_of_form (step_of d)
 
--- the step that the line of this number says, or why it says none: the causes are looked for in this order
+-- the step that the line of this number says, or why it says none: the causes are looked
+-- for in this order
 abbrev pub step_in : ℕ → List ℕ → Result Step Cause
 step_in number line =
     if nat_lt max_line (length line) then Err Long
@@ -52,8 +53,8 @@ pub record Reaches (lines : List (List ℕ)) (number : ℕ) (line : List ℕ) (s
   pub says : Says 1 before steps
   pub run : IsRun (reverse steps)
 
--- what a check says of lines: yes where they say a run; no at the first line whose step the machine does not make; a fault at
--- the first line that says no step
+-- what a check says of lines: yes where they say a run; no at the first line whose step the machine
+-- does not make; a fault at the first line that says no step
 abbrev pub Decides : List (List ℕ) → Verdict → Type 0
 Decides lines Yes = (steps : List Step) × Says 1 lines steps × IsRun (reverse steps)
 Decides lines (No number) = (line : List ℕ) × (steps : List Step) × (step : Step) × Reaches lines number line steps

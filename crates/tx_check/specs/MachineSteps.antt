@@ -1,4 +1,5 @@
--- The step of the one-step machine that a line says, over the line's JSON value. Strings stand for their UTF-8 bytes.
+-- The step of the one-step machine that a line says, over the line's JSON value. Strings stand for
+-- their UTF-8 bytes.
 use Rattle.std.specs.Prelude.{ℕ, ◌&&◌, List, [], ◌∷◌, length, nat_le, Option, Some, None, option_map, option_and_then, is_some, if◌then◌else◌, bytes_eq, codes}
 use Rattle.serde_json.specs.Data.{Data, Items, no_items, item}
 use Rattle.serde_json.specs.Find.{as_array, as_null, as_str, as_number, as_u64}
@@ -64,7 +65,8 @@ change_of_items (item key (item word no_items)) = change_to key (plain_of word)
 change_of_items (item key (item word (item value no_items))) = change_to key (put_of word value)
 change_of_items _ = None
 
--- an entry of a write set: `[key,"put",value]`, `[key,"insert",value]`, `[key,"delete"]` or `[key,"lock"]`
+-- an entry of a write set: `[key,"put",value]`, `[key,"insert",value]`, `[key,"delete"]`
+-- or `[key,"lock"]`
 abbrev pub change_of : Data → Option Change
 change_of d = option_and_then change_of_items (as_array d)
 

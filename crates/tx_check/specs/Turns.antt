@@ -1,4 +1,4 @@
--- What a machine makes of the next line of a trace.
+-- What a machine makes of the next line of a trace. Only this crate's own clauses cite it.
 use Rattle.std.specs.Prelude.{◌≡◌, ℕ, List, [], ◌∷◌, Option, Some, Ok, Err}
 use Rattle.tx_machine.specs.declared.machine.Machine.{Machine}
 use Rattle.tx_machine.specs.declared.step.Step.{Step}

@@ -1,4 +1,5 @@
-//! Checking a trace: each line is read as a step and made by the machine, and one line is written, with the verdict.
+//! Checking a trace: each line is read as a step and made by the machine, and one line is written,
+//! with the verdict.
 ghost use Rattle.std.specs.Prelude.{◌≡◌, ◌≤◌, length, IfOk, IfErr, IfSome};
 ghost use Rattle.serde_json.specs.View.{view};
 ghost use Rattle.tx_lines.specs.Parts.{parts_items};
@@ -21,10 +22,12 @@ use tx_machine::{Machine, Refused, Step};
 use tx_types::Cause;
 use tx_types::limits::{MAX_LINE_BYTES, MAX_LINES};
 
-/// Checks a trace, and writes `["check","yes"]`, or `["check","no",n]` with the first line whose step the machine does not
-/// make, or `[n,"E16",cause]` with the first line that is no step. Nothing is written before all of it is known.
+/// Checks a trace, and writes `["check","yes"]`, or `["check","no",n]` with the first line whose
+/// step the machine does not make, or `[n,"E16",cause]` with the first line that is no step.
+/// Nothing is written before all of it is known.
 ///
-/// `Input` where a read failed, `Output` where a write or the flush failed, `Memory` where a growth was refused.
+/// `Input` where a read failed, `Output` where a write or the flush failed, `Memory` where a
+/// growth was refused.
 pub fn check<R: BufRead, W: Write>(
     alloc: Global,
     reader: &mut R,
@@ -131,8 +134,8 @@ fn value_step(alloc: Global, value: &Value) -> Result<Result<Step, Cause>, Broke
     }
 }
 
-/// The step that the line of this number says, or why it says none: a plain line, also one with a list of rows, is read straight
-/// from its bytes, any other by its JSON value.
+/// The step that the line of this number says, or why it says none: a plain line, also one with a
+/// list of rows, is read straight from its bytes, any other by its JSON value.
 pub(crate) fn line_step(
     alloc: Global,
     number: u64,

@@ -1,4 +1,5 @@
-//! Steps of the one-step machine whose last member is a list of rows, read from a line that was scanned.
+//! Steps of the one-step machine whose last member is a list of rows, read from a line
+//! that was scanned.
 ghost use Rattle.std.specs.Prelude.{◌≡◌, Some, map, IfOk};
 ghost use Rattle.serde_json.specs.Data.{array};
 ghost use Rattle.serde_json.specs.View.{items_of};
@@ -11,7 +12,7 @@ use tx_lines::{Part, Row};
 use tx_machine::{ScanRead, Step};
 use tx_types::{Change, Changes, KeyValue, KeyValues};
 
-/// The step that a line's members say, the last of which is the list of these rows. An error says nothing of the line.
+/// The step of a line whose last member is a list of rows. `Err`: not known; ask the JSON reader.
 pub(crate) fn listed_step(
     alloc: Global,
     members: &[Part<'_>],

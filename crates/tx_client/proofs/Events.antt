@@ -1,4 +1,5 @@
--- A session's own events may come, and keep what holds of its state: its begin, its puts, its declaration, its draw, and its end.
+-- A session's own events may come, and keep what holds of its state: its begin, its puts, its
+-- declaration, its draw, and its end.
 use Rattle.std.proofs.Common.{◌≡◌, ◌≢◌, ℕ, ◌+◌, ◌++◌, ◌==◌, nat_eq, ◌&&◌, ◌||◌, inl, inr, zero, suc, not, Bool, true, false, cond, List, [], ◌∷◌, Option, Some, None, option_map, is_some as some_test, bytes_eq, refl, sym, ap, subst, ◌∙◌, arith}
 use Rattle.std.specs.List.{list_any}
 use Rattle.std.proofs.lemmas.Bool.{and_parts}
@@ -151,7 +152,8 @@ declared_none h i s p terms is not_yet empty =
       settled = is.settled;
     }
 
--- what a buffer declares is of this start and is its write set, which is not empty, with this number
+-- what a buffer declares is of this start and is its write set, which is not empty,
+-- with this number
 declaration_is : (t p : ℕ) (es : Entries) (terms : Terms) (d : Declaration) → declaration t p es terms ≡ Some d → (d.start ≡ t) × (d.changes ≡ changes_of es) × (d.changes ≢ []) × (d.drawn ≡ p)
 declaration_is t p [] terms d e = absurd (cc (e))
 declaration_is t p (x ∷ es) terms d e =

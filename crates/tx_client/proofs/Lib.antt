@@ -4,11 +4,13 @@ pub mod Kept
 pub mod Due
 -- What an answer says of a key's lock is so.
 pub mod Marking
--- Where each key of a buffer has an async lock, its transaction is committed at the greatest of their minimums.
+-- Where each key of a buffer has an async lock, its transaction is committed at the greatest
+-- of their minimums.
 pub mod Promising
 -- What an answer to a session's request tells, its state may keep.
 pub mod Heard
--- A session's own events may come, and keep what holds of its state: its begin, its puts, its declaration, its draw, and its end.
+-- A session's own events may come, and keep what holds of its state: its begin, its puts, its
+-- declaration, its draw, and its end.
 pub mod Events
 -- What the calls of a session ask of its state and of its seat, and keep.
 pub mod Calling

@@ -1,4 +1,5 @@
--- Where each key of a buffer has an async lock, its transaction is committed at the greatest of their minimums.
+-- Where each key of a buffer has an async lock, its transaction is committed at the greatest
+-- of their minimums.
 use Rattle.std.proofs.Common.{◌≡◌, ◌≢◌, ℕ, zero, suc, max, false, cond, List, [], ◌∷◌, Option, Some, None, bytes_eq, inl, inr, refl, sym, ap, subst, ◌∙◌, arith}
 use Rattle.tx_types.specs.declared.key.Key.{Key}
 use Rattle.tx_machine.specs.Keys.{mutation_at, IsDistinct}

@@ -69,7 +69,8 @@ RecordsDeclared bounds old None new = new ≡ old
 RecordsDeclared bounds old (Some d) new = DeclaredWith bounds old d new
 
 module _ {S : Type 0} (sends : S → Asked → Reached → S → Type 0) (bounds : List Key) where
-  -- this one request was sent, by one who had seen just what the seat knew, and the seat learnt what was told
+  -- this one request was sent, by one who had seen just what the seat knew, and the seat
+  -- learnt what was told
   pub record Asks (old : Known) (body : Body) (from to : S) (c : Came) (new : Known) : Type 0 where
     pub reached : Reached
     pub sent : sends from (record { by = old.events; body = body }) reached to

@@ -47,7 +47,8 @@ pub record HasFallenBack (h : History) (t : ℕ) (k : Key) : Type 0 where
   pub accepted : accepted h t k ≢ None
   pub two_phase : HasTwoPhaseLock h t
 
--- a key that is marked accepted with a minimum had an async lock with that minimum; with 0, a key of its transaction has a two-phase lock
+-- a key that is marked accepted with a minimum had an async lock with that minimum; with 0, a key
+-- of its transaction has a two-phase lock
 abbrev pub Mark : History → ℕ → Key → Option ℕ → Type 0
 Mark h t k None = Unit {0}
 Mark h t k (Some zero) = HasFallenBack h t k
@@ -64,9 +65,10 @@ pub record IsReady (h : History) (t c : ℕ) : Type 0 where
   pub two_phase : HasTwoPhaseLock h t
   pub drew : DrewAfterAll h t c
 
--- What ties a session's state to what its seat, number i, has seen: its seat drew its start, at which it began, and has not answered; its
--- buffer is what it declared, each key once; its reads may pass by those that they name; what it met was told of; and what it knows of
--- its keys, of its drawn timestamp and of its fate is so.
+-- What ties a session's state to what its seat, number i, has seen: its seat drew its start, at
+-- which it began, and has not answered; its buffer is what it declared, each key once; its reads
+-- may pass by those that they name; what it met was told of; and what it knows of its keys, of its
+-- drawn timestamp and of its fate is so.
 pub record IsSession (h : History) (i : ℕ) (s : State) : Type 0 where
   pub drew_start : drawer h s.start ≡ Some i
   pub begun : began h s.start ≡ true

@@ -9,7 +9,8 @@ use Rattle.tx_types.specs.declared.lock.LockInfo.{LockInfo}
 use Rattle.tx_client.specs.declared.resolved.Status.{Status}
 use Rattle.tx_client.specs.declared.resolved.Status.TheVariants as status
 
--- It is decided so; a pushed one has shown its own lock on its primary with this minimum; of a waiting one nothing is said.
+-- It is decided so; a pushed one has shown its own lock on its primary with this minimum; of a
+-- waiting one nothing is said.
 abbrev pub Ends : History → ℕ → Status → Type 0
 Ends h t (status.Committed c) = decided h t ≡ Done (fate.Committed c)
 Ends h t status.Aborted = decided h t ≡ Done fate.Aborted

@@ -23,8 +23,8 @@ use Rattle.tx_transaction.specs.Sessions.{State, heartbeat_of, read_of, scan_of,
 use Rattle.tx_transaction.specs.Returns.{returned, read}
 use Rattle.tx_client.specs.Senders.{Reached, came_of, Learns}
 
--- What a caller sends next by what came so far: a request, and what follows by what comes of it; a growth of its own, and what follows where
--- that is refused; or the end.
+-- What a caller sends next by what came so far: a request, and what follows by what comes of it; a
+-- growth of its own, and what follows where that is refused; or the end.
 pub data Walk (R : Type 0) : Type 0 where
   asks : (body : Body) (more : Came → Walk R) → Walk R
   grows : (more short : Walk R) → Walk R
@@ -37,7 +37,8 @@ then_walk (grows more short) next = grows (then_walk more next) (then_walk short
 then_walk (ends r) next = next r
 
 module _ {S R : Type 0} (sends : S → Asked → Reached → S → Type 0) (bounds : List Key) where
-  -- The Sender's values are joined by just these sends, each by one who had seen what the seat then knew, and the seat learns what is told.
+  -- The Sender's values are joined by just these sends, each by one who had seen what the seat then
+  -- knew, and the seat learns what is told.
   abbrev pub Sends : Known → S → Walk R → R → S → Known → Type 0
   Sends k from (ends r) result to new = (result ≡ r) × (to ≡ from) × (new ≡ k)
   Sends k from (grows more short) result to new = Sends k from short result to new ⊎ Sends k from more result to new
@@ -89,7 +90,8 @@ lesser j k = cond (key_lt k j) k j
 abbrev pub greater : Key → Key → Key
 greater j k = cond (key_lt j k) k j
 
--- where the region n begins, where a range that begins at `from` begins in the region 0, and where it ends at most
+-- where the region n begins, where a range that begins at `from` begins in the region 0, and
+-- where it ends at most
 abbrev pub low_of : Key → List Key → ℕ → Key
 low_of from bounds zero = from
 low_of from [] (suc n) = from
@@ -125,7 +127,8 @@ abbrev pub IsPart : ℕ → List KeyValue → Result Answer Miss → Part → Ty
 IsPart limit rows (Ok (answer.Rows found)) p = (p ≡ part.Done (Err NoMemory)) ⊎ (p ≡ enough limit (rows ++ found))
 IsPart limit rows r p = p ≡ part.Done r
 
--- the part of a range that lies in one region, where it is not empty, with the limit less the rows so far
+-- the part of a range that lies in one region, where it is not empty, with the limit
+-- less the rows so far
 abbrev pub part_walk : State → Key → Key → ℕ → List KeyValue → Walk (State × Part)
 part_walk s from to limit rows =
     grows
@@ -137,11 +140,13 @@ abbrev pub scan_after : State → Part → (State → List KeyValue → Walk (St
 scan_after s (part.More rows) on = on s rows
 scan_after s (part.Done r) on = ends (s, r)
 
--- the regions' parts of a range in order, from the region that lies at or above `low` on, with the bounds above that
+-- the regions' parts of a range in order, from the region that lies at or above `low` on, with the
+-- bounds above that
 abbrev pub scan_from : Key → Key → ℕ → Key → List Key → State → List KeyValue → Walk (State × Result Answer Miss)
 scan_from from to limit low [] s rows = then_walk (part_walk s (greater from low) to limit rows) (λ x. scan_after x.0 x.1 (λ t all. ends (t, Ok (answer.Rows all))))
 scan_from from to limit low (bound ∷ bounds) s rows = then_walk (part_walk s (greater from low) (lesser to bound) limit rows) (λ x. scan_after x.0 x.1 (scan_from from to limit bound bounds))
 
--- The rows of a range: the regions' parts are read in order, until the rows are enough or one is not answered by rows.
+-- The rows of a range: the regions' parts are read in order, until the rows are enough or one is
+-- not answered by rows.
 abbrev pub scan_walk : State → List Key → Key → Key → ℕ → Walk (State × Result Answer Miss)
 scan_walk s bounds from to limit = scan_from from to limit from bounds s []

@@ -1,4 +1,5 @@
-//! Sessions: a client with its seat, which runs one transaction over a store by the rules of tx_transaction.
+//! Sessions: a client with its seat, which runs one transaction over a store by the rules
+//! of tx_transaction.
 #![tactic(auto)]
 
 mod asking;

@@ -49,8 +49,8 @@ impl Status {
     }
 }
 
-/// What a resolver found of the transaction that started here. In the history that it has seen that is so: a fate is decided, a
-/// pushed lock was shown.
+/// What a resolver found of the transaction that started here. In the history that it has seen that
+/// is so: a fate is decided, a pushed lock was shown.
 #[derive(Drop)]
 pub struct Resolved<J: Naming> {
     start: Ts,
@@ -109,7 +109,8 @@ impl<J: Naming> Resolved<J> {
     }
 }
 
-/// The fate of the transaction that started here, which is decided in the history that goes with it.
+/// The fate of the transaction that started here, which is decided in the history
+/// that goes with it.
 #[derive(Drop)]
 pub struct Decision<J: Naming> {
     start: Ts,

@@ -4,7 +4,8 @@
 #[derive(Clone, Copy, Debug, Drop)]
 pub struct Lost;
 
-/// A way to the regions. It may lose, hold or repeat a request. `Q` is the journal's `Request`, `R` its `Reply`.
+/// A way to the regions. It may lose, hold or repeat a request. `Q` is the journal's `Request`,
+/// `R` its `Reply`.
 pub trait Sender<Q, R> {
     ghost use Rattle.std.specs.Prelude.{◌≡◌, Result, List};
     ghost use Rattle.tx_types.specs.declared.key.Key.{Key};

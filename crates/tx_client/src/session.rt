@@ -27,11 +27,13 @@ use tx_journal::{Naming, Reply, Request, Said, Seat, Told};
 use tx_transaction::{Came, Due, Miss, Phase, Terms, Transaction};
 use tx_types::{Fault, Key, Mutation, Ts, Value};
 
-/// A session: one transaction, and the seat that it was begun with. Contracts see its state and what its seat knows. What it
-/// knows of its transaction is so in what its seat has seen.
+/// A session: one transaction, and the seat that it was begun with. Contracts see its state and
+/// what its seat knows. What it knows of its transaction is so in what its seat has seen.
 #[derive(Drop)]
 pub struct Session<J: Naming> {
+    /// Draws its timestamps, records its events, and learns what the regions tell.
     seat: Seat<J>,
+    /// What it knows of its transaction: the rules of tx_transaction are functions of that.
     transaction: Transaction,
 }
 
@@ -81,7 +83,8 @@ fn record_began<J: Naming>(seat: &mut Seat<J>, start: Ts)
     record_start::<J, Brand>(seat, start);
 }
 
-// Draws a number for what a transaction declares under these terms, and records it, if there is anything to declare.
+// Draws a number for what a transaction declares under these terms, and records it, if there is
+// anything to declare.
 fn record_declared<J: Naming>(
     seat: &mut Seat<J>,
     transaction: &Transaction,
@@ -102,7 +105,8 @@ fn record_declared<J: Naming>(
 }
 
 impl<J: Naming> Session<J> {
-    /// Begins a transaction at a timestamp that its seat draws. It takes no memory. A seat whose ticks are spent is handed back.
+    /// Begins a transaction at a timestamp that its seat draws. It takes no memory. A seat whose
+    /// ticks are spent is handed back.
     pub fn begin(alloc: Global, mut seat: Seat<J>) -> Result<Session<J>, Seat<J>>
         ensures ok { IfOk result (λ s. (s.state ≡ begun s.state.start) × BeganAt J.bounds seat s.state.start s.seat) }
         ensures spent { IfErr result (λ s. (s ≡ seat) × (seat.ticks < 1)) }
@@ -145,30 +149,32 @@ impl<J: Naming> Session<J> {
         self.transaction.placed()
     }
 
-    /// Whether a commit timestamp may be drawn: each key of a declared set is locked, some in two phases, nothing is decided,
-    /// and none is drawn.
+    /// Whether a commit timestamp may be drawn: each key of a declared set is locked, some in two
+    /// phases, nothing is decided, and none is drawn.
     pub fn can_draw(&self) -> bool
         ensures { result ≡ can_draw self.now.state }
     {
         self.transaction.can_draw()
     }
 
-    /// Whether a commit may be asked: the transaction is committed, or a timestamp is drawn; of nothing declared, always.
+    /// Whether a commit may be asked: the transaction is committed, or a timestamp is drawn; of
+    /// nothing declared, always.
     pub fn can_commit(&self) -> bool
         ensures { result ≡ can_commit self.now.state }
     {
         self.transaction.can_commit()
     }
 
-    /// Whether an abort may be asked: the transaction is aborted, or undecided, and then of an async one some key has no
-    /// accepted lock; of nothing declared, always.
+    /// Whether an abort may be asked: the transaction is aborted, or undecided, and then of an
+    /// async one some key has no accepted lock; of nothing declared, always.
     pub fn can_abort(&self) -> bool
         ensures { result ≡ can_abort self.now.state }
     {
         self.transaction.can_abort()
     }
 
-    /// Whether its buffer answers a read of the key of these bytes: where it does, the read sends nothing.
+    /// Whether its buffer answers a read of the key of these bytes: where it does, the
+    /// read sends nothing.
     pub fn is_known(&self, key: &[u8]) -> bool
         ensures { result ≡ is_known (buffered self.now.state.buffer key.now) }
     {
@@ -228,7 +234,8 @@ impl<J: Naming> Session<J> {
 }
 
 impl<J: Naming> Session<J> {
-    /// Enters a put into the buffer. A key that is there keeps its place. A refusal leaves the session as it was.
+    /// Enters a put into the buffer. A key that is there keeps its place. A refusal leaves the
+    /// session as it was.
     pub fn put(&mut self, key: Key, value: Value) -> Result<(), Fault>
         requires { is_declared self.old.state ≡ false }
         ensures ok { OnOk result ((is_full self.old.state.buffer key ≡ false) × (self.new ≡ seated (record self.old.state { buffer = touched self.old.state.buffer key (put_over (buffered self.old.state.buffer key) value) }) self.old.seat)) }
@@ -250,7 +257,8 @@ impl<J: Naming> Session<J> {
         self.transaction.insert(key, value)
     }
 
-    /// Enters a delete into the buffer. A key that is there keeps its place. A refusal leaves the session as it was.
+    /// Enters a delete into the buffer. A key that is there keeps its place. A refusal leaves the
+    /// session as it was.
     pub fn delete(&mut self, key: Key) -> Result<(), Fault>
         requires { is_declared self.old.state ≡ false }
         ensures ok { OnOk result ((is_full self.old.state.buffer key ≡ false) × (self.new ≡ seated (record self.old.state { buffer = touched self.old.state.buffer key Mutation.Delete }) self.old.seat)) }
@@ -260,7 +268,8 @@ impl<J: Naming> Session<J> {
         self.transaction.touch(key, Mutation::Delete)
     }
 
-    /// Enters a lock into the buffer, where the key is not there. A refusal leaves the session as it was.
+    /// Enters a lock into the buffer, where the key is not there. A refusal leaves the
+    /// session as it was.
     pub fn lock(&mut self, key: Key) -> Result<(), Fault>
         requires { is_declared self.old.state ≡ false }
         ensures ok { OnOk result ((is_full self.old.state.buffer key ≡ false) × (self.new ≡ seated (record self.old.state { buffer = locked self.old.state.buffer key }) self.old.seat)) }
@@ -270,7 +279,8 @@ impl<J: Naming> Session<J> {
         self.transaction.lock(key)
     }
 
-    /// What its buffer declares under these terms with a number that is drawn for it, which is nothing where it is empty.
+    /// What its buffer declares under these terms with a number that is drawn for it, which is
+    /// nothing where it is empty.
     pub fn declaration(
         &self,
         alloc: Global,
@@ -339,7 +349,8 @@ impl<J: Naming> Session<J> {
         self.transaction.after(phase, place, came)
     }
 
-    /// Sends the prewrite that is due: of the first key in buffer order that has no accepted lock. None where there is none.
+    /// Sends the prewrite that is due: of the first key in buffer order that has no accepted lock.
+    /// None where there is none.
     pub fn prewrite_next<S: Sender<Request<J>, Reply<J>>>(
         &mut self,
         alloc: Global,
@@ -356,7 +367,8 @@ impl<J: Naming> Session<J> {
         }
     }
 
-    /// Draws the commit timestamp. `OracleSpent` where the seat's ticks are spent; the session is then as it was.
+    /// Draws the commit timestamp. `OracleSpent` where the seat's ticks are spent; the session
+    /// is then as it was.
     pub fn draw_commit(&mut self) -> Result<Ts, Fault>
         requires { can_draw self.old.state ≡ true }
         ensures ok { IfOk result (λ c. (self.new.state ≡ record self.old.state { drawn = Some c }) × Draws J.bounds self.old.seat c self.new.seat) }
@@ -367,8 +379,8 @@ impl<J: Naming> Session<J> {
         Ok(commit)
     }
 
-    /// Sends the commit that is due: of the primary at the drawn timestamp, and once the transaction is committed of each key
-    /// in buffer order. None where there is none.
+    /// Sends the commit that is due: of the primary at the drawn timestamp, and once the
+    /// transaction is committed of each key in buffer order. None where there is none.
     pub fn commit_next<S: Sender<Request<J>, Reply<J>>>(
         &mut self,
         sender: &mut S,
@@ -384,8 +396,8 @@ impl<J: Naming> Session<J> {
         }
     }
 
-    /// Sends the request of an abort that is due: what may decide, and once the transaction is aborted a rollback of each key
-    /// that was sent a prewrite. None where there is none.
+    /// Sends the request of an abort that is due: what may decide, and once the transaction is
+    /// aborted a rollback of each key that was sent a prewrite. None where there is none.
     pub fn abort_next<S: Sender<Request<J>, Reply<J>>>(
         &mut self,
         sender: &mut S,
@@ -401,7 +413,8 @@ impl<J: Naming> Session<J> {
         }
     }
 
-    /// Asks that the primary's lock live so long after the start, in ticks. It changes nothing of the session.
+    /// Asks that the primary's lock live so long after the start, in ticks. It changes
+    /// nothing of the session.
     pub fn heartbeat<S: Sender<Request<J>, Reply<J>>>(
         &mut self,
         ttl: u32,

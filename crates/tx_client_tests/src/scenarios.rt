@@ -1,4 +1,5 @@
-//! Every rule of the sessions as a small scenario. What comes of each step is told by the rules and the case tables.
+//! Every rule of the sessions as a small scenario. What comes of each step is told by the rules and
+//! the case tables.
 use tx_stage::Step;
 
 mod asynchronous;

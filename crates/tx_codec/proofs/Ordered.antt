@@ -17,7 +17,8 @@ compare = slice_cmp nat_cmp
 abbrev pads : ℕ → ℕ → List ℕ
 pads n marker = replicate n 0 ++ marker ∷ []
 
--- what ends an encoded key whose last group has room for n bytes: where that is none, the group is whole, and one of pads follows it
+-- what ends an encoded key whose last group has room for n bytes: where that is none, the group is
+-- whole, and one of pads follows it
 abbrev ending : ℕ → List ℕ
 ending zero = 255 ∷ pads 8 247
 ending (suc n) = pads (suc n) (255 - suc n)

@@ -5,7 +5,8 @@ use Rattle.tx_codec.specs.declared.reading.Unread.{Unread}
 use Rattle.tx_codec.specs.declared.reading.Unread.TheVariants.{Malformed, OutOfMemory}
 use Rattle.tx_codec.specs.Readers.{Fails, Takes}
 
--- Of a record that is spelled at the front of the bytes, the parts that were read are those that `pick` takes from it, and the tail of its spelling is spelled at the front of the rest.
+-- Of a record that is spelled at the front of the bytes, the parts that were read are those that
+-- `pick` takes from it, and the tail of its spelling is spelled at the front of the rest.
 pub record Agrees {Z A : Type 0} (Is : Z → Type 0) (spelling : Z → List ℕ) (bytes : List ℕ) (pick : Z → A) (parts : A) (tail : Z → List ℕ) (rest : List ℕ) : Type 0 where
   pub made : (z : Z) (after : List ℕ) → pick z ≡ parts → rest ≡ tail z ++ after → bytes ≡ spelling z ++ after
   pub only : (z : Z) (after : List ℕ) → Is z → bytes ≡ spelling z ++ after → (pick z ≡ parts) × (rest ≡ tail z ++ after)

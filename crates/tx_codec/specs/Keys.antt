@@ -9,11 +9,13 @@ use Rattle.tx_types.specs.declared.limits.TheConstants.{MIN_KEY_BYTES, MAX_KEY_B
 abbrev pub IsKey : List ℕ → Type 0
 IsKey key = (MIN_KEY_BYTES ≤ length key) × (length key ≤ MAX_KEY_BYTES)
 
--- the last group of a key, of fewer than 8 bytes: they, zeros up to 8 bytes, and 255 minus the number of the zeros
+-- the last group of a key, of fewer than 8 bytes: they, zeros up to 8 bytes, and 255 minus the
+-- number of the zeros
 abbrev pub last_group : List ℕ → List ℕ
 last_group part = part ++ replicate (8 - length part) 0 ++ (255 - (8 - length part)) ∷ []
 
--- An encoded key: each whole group of 8 bytes and 255, then the last group, of what is left of the key.
+-- An encoded key: each whole group of 8 bytes and 255, then the last group, of what is
+-- left of the key.
 unfoldable pub encoded_key : List ℕ → List ℕ
 encoded_key (a ∷ b ∷ c ∷ d ∷ e ∷ f ∷ g ∷ h ∷ rest) = a ∷ b ∷ c ∷ d ∷ e ∷ f ∷ g ∷ h ∷ 255 ∷ encoded_key rest
 encoded_key part = last_group part

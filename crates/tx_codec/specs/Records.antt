@@ -50,7 +50,8 @@ abbrev pub others_bytes : LockMode → List ℕ
 others_bytes TwoPhase = []
 others_bytes (Async others) = keys_bytes others
 
--- what a put keeps of its value: 1, one byte of length and the value, or 0 where the value stands elsewhere
+-- what a put keeps of its value: 1, one byte of length and the value, or 0 where the value
+-- stands elsewhere
 abbrev pub value_bytes : StoredMutation → List ℕ
 value_bytes (Put (Inline value)) = 1 ∷ length value ∷ value
 value_bytes (Put InDefault) = 0 ∷ []
@@ -87,7 +88,8 @@ abbrev pub IsMode : LockMode → Type 0
 IsMode TwoPhase = Unit {0}
 IsMode (Async others) = AreOthers others
 
--- what every lock record meets: numbers, values, keys and lists are within the limits of their types
+-- what every lock record meets: numbers, values, keys and lists are within the
+-- limits of their types
 pub record IsLock (lock : LockRec) : Type 0 where
   pub start : lock.start < 2 ^ 64
   pub min : lock.min < 2 ^ 64

@@ -58,8 +58,8 @@ fn append_key(out: &mut Vec<u8>, key: &[u8]) -> Result<(), AllocError>
     Ok(())
 }
 
-/// What is left of a key, encoded: at most `MAX_KEY_BYTES`, or nothing behind whole groups. An error where there is no room
-/// for it.
+/// What is left of a key, encoded: at most `MAX_KEY_BYTES`, or nothing behind whole groups. An
+/// error where there is no room for it.
 pub fn encode_rest(alloc: Global, rest: &[u8]) -> Result<Vec<u8>, AllocError>
     requires { length rest.now ≤ MAX_KEY_BYTES }
     ensures { IfOk result (λ bytes. bytes.items ≡ encoded_key rest.now) }
@@ -130,7 +130,8 @@ fn read_key(bytes: &[u8], key: &mut [u8]) -> Option<usize>
     Some(len + part.len())
 }
 
-/// The key that these bytes spell: `None` where no key is spelled so. `OutOfMemory` where there is no room for it.
+/// The key that these bytes spell: `None` where no key is spelled so. `OutOfMemory` where there
+/// is no room for it.
 pub fn decode_key(alloc: Global, bytes: &[u8]) -> Result<Option<Key>, Fault>
     ensures found { IfOk result (λ found. IfSome found (λ key. IsKey key × (bytes.now ≡ encoded_key key))) }
     ensures only { IfOk result (λ found. (key : List ℕ) → IsKey key → bytes.now ≡ encoded_key key → found ≡ Some key) }
@@ -146,8 +147,8 @@ pub fn decode_key(alloc: Global, bytes: &[u8]) -> Result<Option<Key>, Fault>
     Ok(Some(Key::new(alloc, &key[..len])?))
 }
 
-/// The key and the timestamp that these bytes spell: `None` where no version is spelled so. `OutOfMemory` where there is
-/// no room for the key.
+/// The key and the timestamp that these bytes spell: `None` where no version is spelled so.
+/// `OutOfMemory` where there is no room for the key.
 pub fn decode_version(alloc: Global, bytes: &[u8]) -> Result<Option<(Key, Ts)>, Fault>
     ensures found { IfOk result (λ found. IfSome found (λ v. IsKey v.0 × (bytes.now ≡ encoded_version v.0 v.1))) }
     ensures only { IfOk result (λ found. (key : List ℕ) (ts : ℕ) → IsKey key → ts < 2 ^ 64 →

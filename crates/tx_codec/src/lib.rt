@@ -1,6 +1,7 @@
-//! The bytes under which keys, versions and records are kept: one spelling for each. Keys are spelled so that the order of
-//! their bytes is the order of the keys, and versions so that the versions of a key stand from the newest to the oldest.
-//! Bytes that spell nothing are refused by `None`.
+//! The bytes under which keys, versions and records are kept: one spelling for each. Keys are
+//! spelled so that the order of their bytes is the order of the keys, and versions so that
+//! the versions of a key stand from the newest to the oldest. Bytes that spell nothing are
+//! refused by `None`.
 #![tactic(auto)]
 
 mod key;

@@ -1,4 +1,5 @@
-//! The parts of lock records and write records, read from bytes: each function takes one from the front.
+//! The parts of lock records and write records, read from bytes: each function takes
+//! one from the front.
 ghost use Rattle.std.specs.Prelude.{◌≡◌, ◌^◌, ◌<◌, ◌∷◌, [], ⊤};
 ghost use Rattle.std.specs.Int.{w16, w32, w64, to_be_bytes};
 ghost use Rattle.tx_types.specs.Kinds.{stored_kind};

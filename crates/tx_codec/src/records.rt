@@ -1,4 +1,5 @@
-//! Lock records and write records as bytes: each record has one spelling, and other bytes are refused.
+//! Lock records and write records as bytes: each record has one spelling, and other
+//! bytes are refused.
 ghost use Rattle.std.specs.Prelude.{◌≡◌, IfOk, IfErr, IfSome};
 ghost use Rattle.tx_types.specs.declared.lock.LockRec.{LockRec};
 ghost use Rattle.tx_types.specs.declared.write.WriteRec.{WriteRec};
@@ -60,7 +61,8 @@ fn take_lock(alloc: Global, bytes: &[u8]) -> Result<(LockRec, &[u8]), Unread>
     Ok((lock, rest))
 }
 
-/// The lock record that these bytes spell: `None` where none is spelled so. `OutOfMemory` where there is no room for it.
+/// The lock record that these bytes spell: `None` where none is spelled so. `OutOfMemory` where
+/// there is no room for it.
 pub fn decode_lock(alloc: Global, bytes: &[u8]) -> Result<Option<LockRec>, Fault>
     ensures found { IfOk result (λ found. IfSome found (λ lock. IsLock lock × (bytes.now ≡ lock_bytes lock))) }
     ensures only { IfOk result (λ found. (lock : LockRec) → IsLock lock → bytes.now ≡ lock_bytes lock → found ≡ Some lock) }
@@ -129,7 +131,8 @@ fn take_write(alloc: Global, bytes: &[u8]) -> Result<(WriteRec, &[u8]), Unread>
     Ok((WriteRec::Commit(rec), rest))
 }
 
-/// The write record that these bytes spell: `None` where none is spelled so. `OutOfMemory` where there is no room for it.
+/// The write record that these bytes spell: `None` where none is spelled so. `OutOfMemory` where
+/// there is no room for it.
 pub fn decode_write(alloc: Global, bytes: &[u8]) -> Result<Option<WriteRec>, Fault>
     ensures found { IfOk result (λ found. IfSome found (λ rec. IsWrite rec × (bytes.now ≡ write_bytes rec))) }
     ensures only { IfOk result (λ found. (rec : WriteRec) → IsWrite rec → bytes.now ≡ write_bytes rec → found ≡ Some rec) }

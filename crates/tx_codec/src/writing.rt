@@ -1,4 +1,5 @@
-//! The parts of lock records and write records, written as bytes: each function adds one at the end.
+//! The parts of lock records and write records, written as bytes: each function
+//! adds one at the end.
 ghost use Rattle.std.specs.Prelude.{◌≡◌, ◌++◌, ◌-◌, ◌<◌, ◌^◌, length, min, OnOk};
 ghost use Rattle.tx_types.specs.Kinds.{stored_kind};
 ghost use Rattle.tx_codec.specs.Records.{kind_byte, key_bytes, keys_bytes, value_bytes};
@@ -57,7 +58,8 @@ pub(crate) fn append_key(out: &mut Vec<u8>, key: &Key) -> Result<(), AllocError>
     Ok(())
 }
 
-/// The bytes that the number of the keys, and they, take, or the greatest number where they take more.
+/// The bytes that the number of the keys, and they, take, or the greatest number
+/// where they take more.
 pub(crate) fn keys_len(keys: &Secondaries) -> usize
     ensures { result ≡ min (length (keys_bytes keys.now)) (2 ^ 64 - 1) }
 {

@@ -1,4 +1,5 @@
--- World runs that there are, with what is decided in them and the machine's steps that are read off.
+-- World runs that there are, with what is decided in them and the machine's steps
+-- that are read off.
 mod Words
 mod RaisedMinimum
 mod CommitThenRead

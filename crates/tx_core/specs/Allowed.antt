@@ -18,8 +18,8 @@ use Rattle.tx_core.specs.declared.event.Declaration.{Declaration}
 use Rattle.tx_core.specs.Histories.{History, drawer, declared, set_at, is_first}
 use Rattle.tx_core.specs.Decisions.{Acceptance, accepted, AllAccepted, HasTwoPhaseLock, decided, Shows}
 
--- A read may pass by the locks of a transaction that is decided as aborted, or as committed above the read, or whose own lock on its
--- primary was shown with a minimum above the read.
+-- A read may pass by the locks of a transaction that is decided as aborted, or as committed above
+-- the read, or whose own lock on its primary was shown with a minimum above the read.
 abbrev pub MayPass : History → ℕ → ℕ → Type 0
 MayPass h r t = (decided h t ≡ Done Aborted) ⊎ ((c : ℕ) × (decided h t ≡ Done (Committed c)) × (r < c)) ⊎ ((m : ℕ) × Shows h t m × (r < m))
 
@@ -32,7 +32,8 @@ abbrev pub other_keys : List Change → List Key
 other_keys [] = []
 other_keys (c ∷ cs) = map (λ d. d.key) cs
 
--- the other keys that a prewrite of k lists: all of them on the primary of an async transaction, in buffer order, elsewhere none
+-- the other keys that a prewrite of k lists: all of them on the primary of an async transaction, in
+-- buffer order, elsewhere none
 abbrev pub listed_on : Declaration → Key → List Key
 listed_on d k = elim d.mode [ TwoPhase ↦ [] | Async ↦ cond (is_first d.changes k) (other_keys d.changes) [] ]
 
@@ -53,16 +54,16 @@ pub record AllowsPrewrite (h : History) (b : Prewrite) : Type 0 where
   pub ttl : b.ttl ≡ of.ttl
   pub others : b.others ≡ listed_on of b.key
 
--- c was drawn by the seat that drew t, after each key of the set was accepted. Numbers rise, so that is: c lies above the number that
--- was the last one at each acceptance.
+-- c was drawn by the seat that drew t, after each key of the set was accepted. Numbers rise, so
+-- that is: c lies above the number that was the last one at each acceptance.
 pub record DrewAfterAll (h : History) (t c : ℕ) : Type 0 where
   pub seat : ℕ
   pub of_start : drawer h t ≡ Some seat
   pub of_commit : drawer h c ≡ Some seat
   pub after : (k : Key) (by : Acceptance) → mutation_at (set_at h t) k ≢ None → accepted h t k ≡ Some by → by.at < c
 
--- The commit that decides a transaction: of its primary, once every key is accepted and some key two-phase, at a timestamp that its
--- seat drew after that.
+-- The commit that decides a transaction: of its primary, once every key is accepted and some key
+-- two-phase, at a timestamp that its seat drew after that.
 pub record MayDecide (h : History) (set : List Change) (b : Commit) : Type 0 where
   pub primary : is_first set b.key ≡ true
   pub accepted : AllAccepted h b.start
@@ -75,7 +76,8 @@ pub record AllowsCommit (h : History) (b : Commit) : Type 0 where
   pub stands : declared h b.start ≡ Some of
   pub may : (decided h b.start ≡ Done (Committed b.commit)) ⊎ MayDecide h of.changes b
 
--- A rollback is of a transaction that is decided as aborted, or of the primary of one that was declared two-phase.
+-- A rollback is of a transaction that is decided as aborted, or of the primary of one that was
+-- declared two-phase.
 pub record AllowsBatchRollback (h : History) (b : BatchRollback) : Type 0 where
   pub of : Declaration
   pub stands : declared h b.start ≡ Some of
@@ -100,7 +102,8 @@ pub record AllowsResolveLock (h : History) (b : ResolveLock) : Type 0 where
   pub stands : declared h b.start ≢ None
   pub decision : decided h b.start ≡ Done b.fate
 
--- The requests that may be made after a history. What is allowed stays so, however the history grows.
+-- The requests that may be made after a history. What is allowed stays so, however
+-- the history grows.
 abbrev pub Allowed : History → Body → Type 0
 Allowed h (body.Get b) = AllowsRead h b.at b.bypass
 Allowed h (body.Scan b) = AllowsRead h b.at b.bypass

@@ -20,8 +20,9 @@ use Rattle.tx_core.specs.Histories.{History, last, set_at, is_first, left, Among
 
 -- ---- what an event does
 
--- What an answer did to the cells, beyond what it said. A repeated answer says the same and does nothing, so acceptances and decisions
--- are read off what was done: a lock put, the lock of the transaction that started at t settled at c, a rollback left for it, or none.
+-- What an answer did to the cells, beyond what it said. A repeated answer says the same and does
+-- nothing, so acceptances and decisions are read off what was done: a lock put, the lock of the
+-- transaction that started at t settled at c, a rollback left for it, or none.
 pub data Effect : Type 0 where
   Puts : (key : Key) (lock : Lock) → Effect
   Settles : (key : Key) (t c : ℕ) → Effect
@@ -37,7 +38,8 @@ abbrev pub effect_of_fate : Key → ℕ → Fate → Effect
 effect_of_fate key t (fate.Committed c) = Settles key t c
 effect_of_fate key t fate.Aborted = RollsBack t
 
--- the effect of a request that was answered so, where the cells were these: a repeated answer has none
+-- the effect of a request that was answered so, where the cells were these: a
+-- repeated answer has none
 abbrev pub effect : (Key → Cells) → Body → Answer → Effect
 effect cells (Prewrite b) (Prewritten m) = cond (is_own (cells b.key).lock b.start) NoEffect (Puts b.key (lock_of b m))
 effect cells (Commit b) (Committed c) = cond (is_own (cells b.key).lock b.start) (Settles b.key b.start b.commit) NoEffect
@@ -97,7 +99,8 @@ abbrev pub greater : Option ℕ → Option ℕ → Option ℕ
 greater (Some m) (Some n) = Some (max m n)
 greater _ _ = None
 
--- the greatest minimum of the keys of a set, where each is accepted async (an empty set is never declared)
+-- the greatest minimum of the keys of a set, where each is accepted async (an empty set
+-- is never declared)
 abbrev pub greatest : (Key → Option Acceptance) → List Change → Option ℕ
 greatest acceptance [] = None
 greatest acceptance (c ∷ []) = async_minimum (acceptance c.key)
@@ -107,8 +110,9 @@ abbrev pub committed_at : Option ℕ → State
 committed_at None = Open
 committed_at (Some c) = Done (fate.Committed c)
 
--- what an effect decides of the transaction that started at t, with this set, and these acceptances after it: a lock put decides
--- where each key is now accepted async, a lock settled where its key is the primary, a rollback left always
+-- what an effect decides of the transaction that started at t, with this set, and these acceptances
+-- after it: a lock put decides where each key is now accepted async, a lock settled where its key
+-- is the primary, a rollback left always
 abbrev pub decision : List Change → (Key → Option Acceptance) → Effect → ℕ → State
 decision set acceptance (Puts key lock) t = cond (lock.start == t) (committed_at (greatest acceptance set)) Open
 decision set acceptance (Settles key u c) t = cond ((u == t) && is_first set key) (Done (fate.Committed c)) Open
@@ -148,7 +152,8 @@ infos_in (Locked info) = info ∷ []
 infos_in (Locks infos) = infos
 infos_in _ = []
 
--- an answer showed the lock of the transaction that started at t on its own primary, with the minimum m
+-- an answer showed the lock of the transaction that started at t on its own primary,
+-- with the minimum m
 pub record Shows (h : History) (t m : ℕ) : Type 0 where
   pub by : Taken
   pub among : Among h (Took by)

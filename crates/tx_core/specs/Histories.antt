@@ -1,5 +1,5 @@
--- What stands in a history: a list of events, newest first, so that `e ∷ h` is the history h and then e. A beginning of a history
--- is a tail of it.
+-- What stands in a history: a list of events, newest first, so that `e ∷ h` is the history h and
+-- then e. A beginning of a history is a tail of it.
 use Rattle.std.specs.Prelude.{◌≡◌, ◌⊎◌, ℕ, ◌==◌, Bool, true, false, cond, List, [], ◌∷◌, Option, Some, None, bytes_eq}
 use Rattle.tx_types.specs.declared.key.Key.{Key}
 use Rattle.tx_types.specs.declared.mutation.Change.{Change}
@@ -80,7 +80,7 @@ abbrev pub Among : History → Event → Type 0
 Among [] e = ⊥
 Among (x ∷ h) e = (x ≡ e) ⊎ Among h e
 
--- one history is a beginning of another
+-- h begins with l: l is a beginning of h
 abbrev pub Begins : History → History → Type 0
 Begins l [] = l ≡ []
 Begins l (e ∷ h) = (l ≡ e ∷ h) ⊎ Begins l h

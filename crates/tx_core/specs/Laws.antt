@@ -1,4 +1,5 @@
--- What a lock that was told of says, and what many such locks say together: what async sessions, resolvers and collectors rely on.
+-- What a lock that was told of says, and what many such locks say together: what async sessions,
+-- resolvers and collectors rely on.
 use Rattle.std.specs.Prelude.{◌≡◌, ◌≢◌, ◌⊎◌, ℕ, max, true, false, List, [], ◌∷◌, Some, None, Contains}
 use Rattle.tx_types.specs.declared.key.Key.{Key}
 use Rattle.tx_types.specs.declared.mutation.Change.{Change}
@@ -26,9 +27,10 @@ pub record WasToldOf (h : History) (info : LockInfo) : Type 0 where
   pub among : Among h (Took by)
   pub told : Contains (infos_in by.answer) info
 
--- It is a lock of a transaction that declared its key; its primary is that transaction's, and where it is async, so is the transaction,
--- and on the primary it lists the other keys. Its key was accepted with its mode, and with its minimum too, unless the key is the
--- primary and some key of the transaction was accepted two-phase: then it may have been pushed.
+-- It is a lock of a transaction that declared its key; its primary is that transaction's, and where
+-- it is async, so is the transaction, and on the primary it lists the other keys. Its key was
+-- accepted with its mode, and with its minimum too, unless the key is the primary and some key of
+-- the transaction was accepted two-phase: then it may have been pushed.
 pub record IsLockOf (h : History) (info : LockInfo) : Type 0 where
   pub of : Declaration
   pub declares : declared h info.start ≡ Some of
@@ -48,7 +50,8 @@ pub record WasPrewritten (h : History) (b : Prewrite) (m : ℕ) : Type 0 where
   pub asked : by.body ≡ body.Prewrite b
   pub told : by.answer ≡ Prewritten m
 
--- the lock that it was accepted for: one of its transaction on its key, whose minimum is m where it is async; else m is 0
+-- the lock that it was accepted for: one of its transaction on its key, whose minimum is m where it
+-- is async; else m is 0
 pub record HasPrewritten (h : History) (b : Prewrite) (m : ℕ) : Type 0 where
   pub lock : Lock
   pub is : IsLockOf h (info_of b.key lock)

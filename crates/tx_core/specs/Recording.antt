@@ -6,7 +6,8 @@ use Rattle.tx_core.specs.declared.event.Event.TheVariants.{Drawn, Began, Declare
 use Rattle.tx_core.specs.Histories.{History, drawer}
 use Rattle.tx_core.specs.Worlds.{MayCome, IsWorldRun}
 
--- the seat that makes an event after a history: who drew the start, for a transaction's events, and the region's, for what it takes
+-- the seat that makes an event after a history: who drew the start, for a transaction's events, and
+-- the region's, for what it takes
 abbrev pub owner : History → Event → Option ℕ
 owner h (Drawn seat n) = Some seat
 owner h (Began t) = drawer h t
@@ -15,13 +16,13 @@ owner h (Answered t outcome) = drawer h t
 owner h (Stopped seat) = Some seat
 owner h (Took x) = Some x.region
 
--- one history extends another, with no event of a seat after it
+-- h goes on from l with no event of the seat
 abbrev pub Extends : ℕ → History → History → Type 0
 Extends seat l [] = l ≡ []
 Extends seat l (e ∷ h) = (l ≡ e ∷ h) ⊎ (Extends seat l h × (owner h e ≢ Some seat))
 
--- An event may be recorded by a seat that has seen l: after each world run that extends l with no event of this seat it may come, and
--- it is this seat's.
+-- An event may be recorded by a seat that has seen l: after each world run that extends l with no
+-- event of this seat it may come, and it is this seat's.
 abbrev pub MayRecord : List Key → ℕ → History → Event → Type 0
 MayRecord bounds i l e = (h : History) → IsWorldRun bounds h → Extends i l h → MayCome bounds h e × (owner h e ≡ Some i)
 

@@ -27,8 +27,9 @@ EndsBy table t None = Unit {0}
 EndsBy table None (Some end) = ⊥
 EndsBy table (Some t) (Some end) = HasEnded table t end
 
--- A region's answer: a value, none and rows are what the machine sees at that timestamp; an answer that tells a fate means that the
--- machine's transaction has ended so; the others say nothing of values or fates.
+-- A region's answer: a value, none and rows are what the machine sees at that timestamp; an answer
+-- that tells a fate means that the machine's transaction has ended so; the others say nothing of
+-- values or fates.
 abbrev pub IsTrueAnswer : Table → Body → Answer → Type 0
 IsTrueAnswer table (body.Get b) (Found v) = Sees table.row b.key b.at (Some v)
 IsTrueAnswer table (body.Get b) Nothing = Sees table.row b.key b.at None

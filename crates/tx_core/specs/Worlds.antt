@@ -21,11 +21,13 @@ use Rattle.tx_core.specs.Allowed.{Allowed}
 
 -- ---- where requests go
 
--- the region of a key, where these are the bounds between the regions: as many bounds as lie at or below it
+-- the region of a key, where these are the bounds between the regions: as many bounds as
+-- lie at or below it
 abbrev pub route : List Key → Key → ℕ
 route bounds k = count_by (λ bound. key_le bound k) bounds
 
--- the region n holds what a request speaks of: its key, or the whole range of a scan, or the request names it
+-- the region n holds what a request speaks of: its key, or the whole range of a scan, or the
+-- request names it
 abbrev pub Holds : List Key → ℕ → Body → Type 0
 Holds bounds n (Get b) = route bounds b.key ≡ n
 Holds bounds n (Scan b) = (k : Key) → IsTrue (in_range b k) → route bounds k ≡ n
@@ -49,7 +51,8 @@ pub record WasTold (h : History) (t : ℕ) (end : Fate) : Type 0 where
   pub of : start_in by.body ≡ Some t
   pub tells : fate_in by.answer ≡ Some end
 
--- A fate that is answered was told; a commit may also be known from the acceptances of all keys, at the greatest minimum.
+-- A fate that is answered was told; a commit may also be known from the acceptances of all keys, at
+-- the greatest minimum.
 abbrev pub MayAnswer : History → ℕ → Outcome → Type 0
 MayAnswer h t (outcome.Committed c) = WasTold h t (fate.Committed c) ⊎ (greatest (accepted h t) (set_at h t) ≡ Some c)
 MayAnswer h t outcome.Aborted = WasTold h t fate.Aborted
@@ -66,8 +69,8 @@ pub record MayDeclare (h : History) (d : Declaration) : Type 0 where
   pub distinct : IsDistinct d.changes
   pub drew : DrewSince h d.start d.drawn
 
--- A region takes a request that is allowed and that it holds, having loaded the last number of some beginning, and answers by the
--- case tables from what its own events left.
+-- A region takes a request that is allowed and that it holds, having loaded the last number of some
+-- beginning, and answers by the case tables from what its own events left.
 pub record MayTake (bounds : List Key) (h : History) (x : Taken) : Type 0 where
   pub region : x.region ≤ length bounds
   pub allowed : Allowed h x.body
@@ -75,9 +78,11 @@ pub record MayTake (bounds : List Key) (h : History) (x : Taken) : Type 0 where
   pub loaded : WasLast h x.loaded
   pub answers : Answers (left h x.region) x.loaded (last h) x.body x.answer
 
--- What may come after a history, over regions with these bounds. A draw gives a number above the last; a transaction begins once, at
--- a number that was drawn; it declares once and its session answers once, after it began. These events name no seat: they are those of
--- the seat that drew the start (`owner`), which alone may record them (`MayRecord`); what a region takes is its own seat's.
+-- What may come after a history, over regions with these bounds. A draw gives a number above
+-- the last; a transaction begins once, at a number that was drawn; it declares once and its
+-- session answers once, after it began. These events name no seat: they are those of the seat
+-- that drew the start (`owner`), which alone may record them (`MayRecord`); what a region takes
+-- is its own seat's.
 abbrev pub MayCome : List Key → History → Event → Type 0
 MayCome bounds h (Drawn seat n) = last h < n
 MayCome bounds h (Began t) = (drawer h t ≢ None) × (began h t ≡ false)

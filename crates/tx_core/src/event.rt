@@ -1,5 +1,5 @@
-//! Events: the atomic steps of which every history is made. Sending is no event, and a request that is lost is an event
-//! that never comes; one that is repeated or late is an event again, or later.
+//! Events: the atomic steps of which every history is made. Sending is no event, and a request that
+//! is lost is an event that never comes; one that is repeated or late is an event again, or later.
 use tx_plan::{Answer, Body};
 use tx_types::{Changes, Mode, RegionNo, SeatNo, Ts};
 
@@ -20,7 +20,8 @@ pub struct Declaration {
     pub drawn: Ts,
 }
 
-/// Why a session does not know how its transaction ended: what became of the last request that could have told.
+/// Why a session does not know how its transaction ended: what became of the last request that
+/// could have told.
 #[derive(Clone, Copy, Debug, PartialEq, Eq)]
 pub enum UnknownCause {
     /// No reply came.

@@ -15,26 +15,28 @@ ghost use Rattle.tx_types.specs.declared.key.Key.{Key};
 ghost use Rattle.tx_types.specs.declared.lock.LockInfo.{LockInfo};
 ghost use Rattle.tx_types.specs.declared.mutation.Fate.TheVariants.{Committed};
 
-/// What is allowed after a history is allowed after each world run that begins with it: so a request that was allowed when
-/// it was sent is allowed whenever it is taken, however late.
+/// What is allowed after a history is allowed after each world run that begins with it: so a
+/// request that was allowed when it was sent is allowed whenever it is taken, however late.
 pub fn allowed_stays()
     ensures { (bounds : List Key) (more h : History) (body : Body) → IsWorldRun bounds (more ++ h) → Allowed h body → Allowed (more ++ h) body }
 {}
 
-/// Each lock that an answer told of is what `IsLockOf` says, from then on: its transaction is declared, its primary and
-/// its list are the declared ones, and its mode and minimum are those that were accepted. That stays so.
+/// Each lock that an answer told of is what `IsLockOf` says, from then on: its transaction is
+/// declared, its primary and its list are the declared ones, and its mode and minimum are those
+/// that were accepted. That stays so.
 pub fn told_lock()
     ensures is { (bounds : List Key) (h : History) (info : LockInfo) → IsWorldRun bounds h → WasToldOf h info → IsLockOf h info }
     ensures stays { (bounds : List Key) (l h : History) (info : LockInfo) → IsWorldRun bounds h → Begins l h → IsLockOf l info → IsLockOf h info }
 {}
 
-/// So is the lock of each prewrite that was accepted, and its minimum is the one that the answer named.
+/// So is the lock of each prewrite that was accepted, and its minimum is the one that
+/// the answer named.
 pub fn prewritten_lock()
     ensures { (bounds : List Key) (h : History) (b : Prewrite) (m : ℕ) → IsWorldRun bounds h → WasPrewritten h b m → HasPrewritten h b m }
 {}
 
-/// Where each key of a transaction had an async lock, whenever that was, the transaction is committed at the greatest of
-/// their minimums, and its session may answer so.
+/// Where each key of a transaction had an async lock, whenever that was, the transaction is
+/// committed at the greatest of their minimums, and its session may answer so.
 pub fn decided_async()
     ensures decided { (bounds : List Key) (h : History) (t : ℕ) (min : Key → ℕ) → IsWorldRun bounds h → set_at h t ≢ []
         → ((k : Key) → mutation_at (set_at h t) k ≢ None → HadAsyncLock h t k (min k))
@@ -50,7 +52,8 @@ pub fn commits_in_order()
     ensures { (bounds : List Key) (h : History) (t u c e : ℕ) (d : Declaration) → IsWorldRun bounds h → declared h t ≡ Some d → AnsweredBefore h d.drawn u c → decided h t ≡ Done (Committed e) → c < e }
 {}
 
-/// Where each event of a history is of a seat below n, the history is as long as the parts of these seats together.
+/// Where each event of a history is of a seat below n, the history is as long as the parts of
+/// these seats together.
 pub fn parts_make_the_whole()
     ensures { (n : ℕ) (h : History) → AllOfSeats n h → length h ≡ events_of n h }
 {}

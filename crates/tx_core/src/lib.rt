@@ -1,6 +1,6 @@
-//! The events of the whole protocol: what seats and regions do, one atomic step each. Over lists of them stand the
-//! definitions of what has happened, what may happen and what each answer means (specs/), which docs/PROTOCOL.md tells in
-//! words.
+//! The events of the whole protocol: what seats and regions do, one atomic step each. Over lists of
+//! them stand the definitions of what has happened, what may happen and what each answer means
+//! (specs/), which docs/PROTOCOL.md tells in words.
 #![tactic(auto)]
 
 mod answers;

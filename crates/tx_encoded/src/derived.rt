@@ -22,6 +22,7 @@ pub fn lock_with_min(alloc: Global, lock: &LockBytes, min: Ts) -> Result<LockByt
     ensures ok { IfOk result (λ new. new ≡ with_min lock.now min) }
     ensures err { IfErr result (λ e. e ≡ Fault.OutOfMemory) }
 {
+    // For proofs: it is a number of 64 bits.
     let _ticks = min.get();
     let rec = lock.read(alloc)?;
     let rec = LockRec { min, ..rec };
@@ -44,6 +45,7 @@ pub fn rollback_record(alloc: Global, start: Ts) -> Result<WriteBytes, Fault>
     ensures ok { IfOk result (λ rec. rec ≡ stored.Rollback start) }
     ensures err { IfErr result (λ e. e ≡ Fault.OutOfMemory) }
 {
+    // For proofs: it is a number of 64 bits.
     let _ticks = start.get();
     WriteBytes::new(alloc, &WriteRec::Rollback(start))
 }

@@ -1,5 +1,6 @@
-//! Keys, versions, locks and write records that are kept as their encoded bytes; what requests, reads and collection ask of a record, read
-//! from its bytes; and the records that changes leave. Contracts see keys and records.
+//! Keys, versions, locks and write records that are kept as their encoded bytes; what requests,
+//! reads and collection ask of a record, read from its bytes; and the records that changes leave.
+//! Contracts see keys and records.
 #![tactic(auto)]
 
 mod byte_order;

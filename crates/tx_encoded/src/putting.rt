@@ -71,7 +71,7 @@ fn lock_record(body: &Prewrite, new: NewLock) -> Result<LockRec, Fault>
     })
 }
 
-/// The other keys of a transaction are as few and as long as its lock may list.
+/// For proofs: the other keys of a transaction are as few and as long as its lock may list.
 fn others_fit(others: &Secondaries)
     ensures { AreOthers others.now }
 {
@@ -81,7 +81,7 @@ fn others_fit(others: &Secondaries)
     }
 }
 
-/// So are those of a lock's mode.
+/// For proofs: so are those of a lock's mode.
 fn mode_fits(mode: &LockMode)
     ensures { IsMode mode.now }
 {
@@ -90,7 +90,7 @@ fn mode_fits(mode: &LockMode)
     }
 }
 
-/// An inline value is short.
+/// For proofs: an inline value is short.
 fn mutation_fits(mutation: &StoredMutation)
     ensures { IsStorable mutation.now }
 {
@@ -99,7 +99,7 @@ fn mutation_fits(mutation: &StoredMutation)
     }
 }
 
-/// A lock record is within the limits of its types.
+/// For proofs: a lock record is within the limits of its types.
 fn fits(rec: &LockRec)
     ensures { IsLock rec.now }
 {

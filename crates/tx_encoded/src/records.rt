@@ -1,5 +1,5 @@
-//! Records that are kept as their bytes. Contracts see the records. What a request asks of a record is read from the bytes
-//! without memory.
+//! Records that are kept as their bytes. Contracts see the records. What a request asks of a record
+//! is read from the bytes without memory.
 ghost use Rattle.std.specs.Prelude.{◌≡◌, IfOk, IfErr};
 ghost use Rattle.tx_types.specs.declared.lock.LockRec.{LockRec};
 ghost use Rattle.tx_types.specs.declared.write.WriteRec.{WriteRec};
@@ -31,7 +31,8 @@ const TWO_PHASE: u8 = 0;
 /// The byte of a value that is kept apart.
 const APART: u8 = 0;
 
-/// The bytes of a commit record before what it keeps of its value: its kind, its mark and its start.
+/// The bytes of a commit record before what it keeps of its value: its kind, its
+/// mark and its start.
 const FRONT: usize = 10;
 
 /// A write record, as its bytes.
@@ -153,7 +154,8 @@ impl LockBytes {
         Ok(LockBytes { bytes, value })
     }
 
-    /// The commit record that it becomes: its kind, the mark, its start, and what it keeps of its value.
+    /// The commit record that it becomes: its kind, the mark, its start, and what it
+    /// keeps of its value.
     pub fn commit_record(
         &self,
         alloc: Global,

@@ -1,5 +1,6 @@
-//! Keys that are kept as their bytes: the first group of an encoded key as a number, so that most keys are told apart where they lie,
-//! and behind it its marker, one group more, or the groups in memory of their own. Contracts see the key.
+//! Keys that are kept as their bytes: the first group of an encoded key as a number, so that most
+//! keys are told apart where they lie, and behind it its marker, one group more, or the groups in
+//! memory of their own. Contracts see the key.
 ghost use Rattle.std.specs.Int.{w64, to_be_bytes};
 ghost use Rattle.std.specs.Prelude.{◌≡◌, ◌++◌, ◌-◌, ◌*◌, ◌^◌, ◌<◌, ◌≤◌, length, replicate, take, ◌+◌, ℕ, List, Some, refl, IfOk, IfErr};
 ghost use Rattle.std.specs.Ordering.{nat_cmp, eq_by_cmp, ordering_then};
@@ -142,7 +143,7 @@ impl Behind {
         }
     }
 
-    // The same where not both are nothing.
+    // The order of what stands behind equal groups, where not both are nothing.
     #[inline(never)]
     fn order_groups(&self, other: &Behind) -> Ordering
         ensures { result ≡ ordering_then (nat_cmp (marker_of self.now) (marker_of other.now)) (slice_cmp nat_cmp (rest_of self.now) (rest_of other.now)) }
@@ -250,7 +251,7 @@ impl KeyBytes {
         }
     }
 
-    // The same of any key.
+    // The key that was spelt, however long it is.
     fn read_long(&self, alloc: Global) -> Result<Key, Fault>
         ensures ok { IfOk result (λ key. key ≡ self.now) }
         ensures err { IfErr result (λ e. e ≡ Fault.OutOfMemory) }
@@ -267,7 +268,8 @@ impl KeyBytes {
         }
     }
 
-    /// Its first group as a number, that group's marker, and the groups behind it, which are put into `room` where they are one.
+    /// Its first group as a number, that group's marker, and the groups behind it, which are put
+    /// into `room` where they are one.
     pub fn parts<'a>(&'a self, room: &'a mut [u8; ROOM]) -> (u64, u8, &'a [u8])
         ensures parts { spelt result.0 result.1 result.2.now ≡ encoded_key self.now }
         ensures within { (result.0 < 2 ^ 64) × (length result.2.now ≤ MAX_ENCODED_REST) }

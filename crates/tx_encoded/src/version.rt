@@ -1,4 +1,5 @@
-//! Versions that are kept as the bytes of their key, and a timestamp. Contracts see the key and the timestamp.
+//! Versions that are kept as the bytes of their key, and a timestamp. Contracts see the key
+//! and the timestamp.
 ghost use Rattle.std.specs.Prelude.{◌≡◌, ◌↔◌, ℕ, List, Some, refl, IfOk, IfErr, IsTrue};
 ghost use Rattle.std.specs.Ordering.{eq_by_cmp};
 ghost use Rattle.std.specs.Cmp.{partial_equiv_from_equiv, eq_by_cmp_equiv, po};

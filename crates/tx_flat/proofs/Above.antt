@@ -1,4 +1,5 @@
--- The order of versions, and what the last entry before a version says of the newer versions of its key.
+-- The order of versions, and what the last entry before a version says of the newer
+-- versions of its key.
 use Rattle.std.proofs.Common.{◌≡◌, ◌⊎◌, inl, inr, ℕ, ◌<◌, List, [], ◌∷◌, ◌++◌, Option, Some, None, refl, sym, ap, ◌∙◌}
 use Rattle.std.specs.Prelude.{is_some}
 use Rattle.std.specs.declared.cmp.Ordering.{Ordering}

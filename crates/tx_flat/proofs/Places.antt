@@ -1,4 +1,5 @@
--- What is known where a walk over flat maps keeps its place, and what of their entries is behind a key.
+-- What is known where a walk over flat maps keeps its place, and what of their entries
+-- is behind a key.
 use Rattle.std.proofs.Common.{◌≡◌, ◌⊎◌, inl, inr, ℕ, ◌-◌, ◌<◌, ◌≤◌, ◌^◌, ◌&&◌, Bool, true, false, cond, List, [], ◌∷◌, Option, Some, None, map, refl, sym, ap, subst, ◌∙◌, arith}
 use Rattle.std.specs.Prelude.{IsTrue, IsSome, is_some}
 use Rattle.std.specs.List.{filter, AllByRecursion}

@@ -111,7 +111,8 @@ module _ (W : Version → Option WriteRec) (V : List ℕ → ℕ → Option Valu
   abbrev visible : List ℕ → ℕ → Bool
   visible k q = commit_is is_visible (writes_of (on k) (V k) q)
 
-  -- behind a version, a pass has its key, and tells whether something visible stands from it up to the safe point
+  -- behind a version, a pass has its key, and tells whether something visible stands from it up
+  -- to the safe point
   abbrev KnowsAt : Sieve → Place → Type 0
   KnowsAt s None = s.followed ≡ false
   KnowsAt s (Some v) = (s.key ≡ encoded_key v.0) × (s.followed ≡ true → SeenFrom (writes_of (on v.0) (V v.0)) v.1 safe)

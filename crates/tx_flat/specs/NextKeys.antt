@@ -1,4 +1,4 @@
--- The keys of which something is held, one after the other.
+-- The keys of which something is held, one after the other. Only this crate's own clauses cite it.
 use Rattle.std.specs.Prelude.{◌≢◌, ◌⊎◌, ℕ, Bool, cond, Option, Some, None, IsTrue}
 use Rattle.tx_types.specs.declared.key.Key.{Key}
 use Rattle.tx_types.specs.Keys.{key_lt, key_le}

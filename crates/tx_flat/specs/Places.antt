@@ -1,4 +1,5 @@
 -- Where a walk over flat maps stands: which of their locks and write records are still to come.
+-- Only this crate's own clauses cite it.
 use Rattle.std.specs.Prelude.{◌≡◌, ℕ, Bool, true, false, cond, List, [], ◌∷◌, Option, None, Some}
 use Rattle.std.specs.List.{filter}
 use Rattle.std.specs.List.Sorted.{IsStrictlySortedBy}

@@ -1,4 +1,5 @@
 -- What a pass over write records, from version to version, tells of the next.
+-- Only this crate's own clauses cite it.
 use Rattle.std.specs.Prelude.{option_map, ◌≡◌, ℕ, ◌<◌, ◌≤◌, true, Option, Some, ◌&&◌, ◌||◌, not, nat_lt, Bool, List, bytes_eq}
 use Rattle.tx_types.specs.declared.write.WriteRec.{WriteRec}
 use Rattle.tx_types.specs.declared.write.CommitRec.{CommitRec}
@@ -18,7 +19,8 @@ is_followed sieve v = sieve.followed && bytes_eq sieve.key (encoded_key v.0)
 abbrev pub is_kept : Sieve → List ℕ × ℕ → WriteRec → Bool
 is_kept sieve v rec = not (nat_lt v.1 sieve.safe) || (record_kind rec).puts && not (is_followed sieve v)
 
--- the transaction that started at t has its commit record below the safe point, and a put or delete follows it up to there
+-- the transaction that started at t has its commit record below the safe point, and a put or delete
+-- follows it up to there
 pub record Outdated (write : ℕ → Option WriteRec) (safe t : ℕ) : Type 0 where
   pub at : ℕ
   pub rec : CommitRec

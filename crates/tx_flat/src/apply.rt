@@ -103,6 +103,7 @@ impl FlatCells {
         ensures numbers { self.new.numbers ≡ self.old.numbers }
         ensures err { IfErr result (λ e. e ≡ Fault.OutOfMemory) }
     {
+        // For proofs: it is a number of 64 bits.
         let _ticks = commit.get();
         let spelt = KeyBytes::new(alloc, key)?;
         let rec = match self.locks.get(&spelt) {
@@ -131,6 +132,7 @@ impl FlatCells {
         ensures numbers { self.new.numbers ≡ self.old.numbers }
         ensures err { IfErr result (λ e. e ≡ Fault.OutOfMemory) }
     {
+        // For proofs: it is a number of 64 bits.
         let _ticks = start.get();
         self.ceilings.raise(key, start);
         if !removes_lock {

@@ -54,7 +54,7 @@ fn starts_down(
     }
 }
 
-/// The start of a lock fits.
+/// For proofs: the start of a lock is a timestamp.
 fn start_fits(lock: &Option<LockHead>)
     ensures { IfSome lock.now (λ (head : LockHead). head.start < 2 ^ 64) }
 {

@@ -20,8 +20,9 @@ const STEPS: usize = 4;
 /// A version and its write record, in the maps.
 pub(crate) type Record<'a> = (&'a VersionBytes, &'a WriteBytes);
 
-/// The first record behind those of a key, by its newest. `rest` is what lies behind that, of which mostly the first is of
-/// another key. Where more than a few are of this one, a search finds what lies behind the last version that a key may have.
+/// The first record behind those of a key, by its newest. `rest` is what lies behind that, of which
+/// mostly the first is of another key. Where more than a few are of this one, a search finds what
+/// lies behind the last version that a key may have.
 pub(crate) fn next_front<'a>(
     writes: &'a BTreeMap<VersionBytes, WriteBytes>,
     rest: &mut Range<'a, VersionBytes, WriteBytes>,

@@ -16,7 +16,8 @@ use tx_types::{Fault, Key, Ts, Value};
 impl FlatCells {
     ghost use Rattle.tx_flat.specs.Flats.{flat_content};
 
-    // The value that a read at this timestamp sees by this record of the key, the newest put or delete.
+    // The value that a read at this timestamp sees by this record of the key, the
+    // newest put or delete.
     fn value_in(
         &self,
         alloc: Global,
@@ -68,7 +69,8 @@ impl FlatCells {
         }
     }
 
-    // The value that a read at this version's timestamp sees of its key, by a search. Mostly the newest record is a put or a delete.
+    // The value that a read at this version's timestamp sees of its key, by a search. Mostly the
+    // newest record is a put or a delete.
     fn value_searched(
         &self,
         alloc: Global,
@@ -95,8 +97,8 @@ impl FlatCells {
         self.value_searched(alloc, key, version, at)
     }
 
-    /// The same, by the newest record of the key. Mostly that is a put or a delete at the timestamp or below, which takes no
-    /// search.
+    /// What a read at `at` sees of the key, begun with its newest record. Mostly that is a put or a
+    /// delete at the timestamp or below, which takes no search.
     pub(crate) fn value_by(
         &self,
         alloc: Global,
@@ -120,8 +122,9 @@ impl FlatCells {
         }
     }
 
-    // The value that a read at this version's timestamp sees of its key. Mostly the key's ceiling is the timestamp of its newest record,
-    // which is then found without a search of the records around it.
+    // The value that a read at this version's timestamp sees of its key. Mostly the key's
+    // ceiling is the timestamp of its newest record, which is then found without a search of the
+    // records around it.
     fn value_seen(
         &self,
         alloc: Global,

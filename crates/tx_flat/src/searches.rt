@@ -1,4 +1,5 @@
-//! Look-ups in what is held under keys and versions. The versions of a key are from the newest to the oldest.
+//! Look-ups in what is held under keys and versions. The versions of a key are from the
+//! newest to the oldest.
 ghost use Rattle.std.specs.Prelude.{◌≡◌, ◌≤◌, ℕ, None, Some, IfSome, IfNone, IsSome, IsTrue, option_map};
 ghost use Rattle.std.specs.BTreeMap as tree;
 ghost use Rattle.std.specs.Ordering.{nat_cmp};
@@ -52,8 +53,8 @@ pub(crate) fn record_upto<'a>(
     Some((version.at(), bytes))
 }
 
-/// Whether each record of a key is older than a start and a commit, by the greatest version that the key may have. None of the
-/// records is read.
+/// Whether each record of a key is older than a start and a commit, by the greatest version that
+/// the key may have. None of the records is read.
 pub(crate) fn are_past(
     writes: &BTreeMap<VersionBytes, WriteBytes>,
     greatest: &VersionBytes,
@@ -86,7 +87,8 @@ fn head_upto(
     Some((at, head_of(bytes)))
 }
 
-/// The record nearest to a version of its key, at its timestamp or below, where it is a put or a delete.
+/// The record nearest to a version of its key, at its timestamp or below, where it is a
+/// put or a delete.
 pub(crate) fn newest_seen<'a>(
     writes: &'a BTreeMap<VersionBytes, WriteBytes>,
     bound: &VersionBytes,

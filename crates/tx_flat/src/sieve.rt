@@ -1,4 +1,5 @@
-//! A pass over the write records, from version to version, that tells which of them collection keeps. It takes no memory.
+//! A pass over the write records, from version to version, that tells which of them collection
+//! keeps. It takes no memory.
 ghost use Rattle.std.specs.Prelude.{◌≡◌, ◌&&◌, ◌||◌, not, nat_lt, [], false};
 ghost use Rattle.tx_codec.specs.Keys.{encoded_key};
 ghost use Rattle.tx_cells.specs.Heads.{record_kind};
@@ -8,8 +9,8 @@ use crate::front::Front;
 use tx_encoded::{VersionBytes, WriteBytes, kind_of};
 use tx_types::Ts;
 
-/// What the records so far say of the next: the key of the last, and whether a put or delete of it stands at the safe point
-/// or below.
+/// What the records so far say of the next: the key of the last, and whether a put or delete of it
+/// stands at the safe point or below.
 #[derive(Drop)]
 pub(crate) struct Sieve {
     pub safe: Ts,

@@ -53,8 +53,8 @@ impl FlatCells {
         }
     }
 
-    // Whether each record of a key is older than a start and a commit, by the greatest version that it may have. Mostly its
-    // ceiling tells, and else one search.
+    // Whether each record of a key is older than a start and a commit, by the greatest version that
+    // it may have. Mostly its ceiling tells, and else one search.
     fn is_past(&self, key: &Key, greatest: &VersionBytes, start: Ts, commit: Ts) -> bool
         requires { greatest.now ≡ (key.now, u64.MAX) }
         ensures start { IsTrue result → (q : ℕ) → start ≤ q → (flat_content self.now key.now).write q ≡ None }
@@ -66,8 +66,8 @@ impl FlatCells {
         are_past(&self.writes, greatest, start, commit)
     }
 
-    /// What a request of the transaction that started then sees of its key, and of the record at `commit`. Mostly all records
-    /// are older.
+    /// What a request of the transaction that started then sees of its key, and of the record at
+    /// `commit`. Mostly all records are older.
     pub(crate) fn view_of(
         &self,
         alloc: Global,

@@ -20,8 +20,8 @@ use tx_types::{Fault, Key, LockInfo, Ts};
 /// A key and its lock, in the maps.
 type Held<'a> = (&'a KeyBytes, &'a LockBytes);
 
-/// A walk over keys, rising. It keeps its place in the locks and in the write records: of both the first that is to come is at
-/// hand, and the others are behind it.
+/// A walk over keys, rising. It keeps its place in the locks and in the write records: of both the
+/// first that is to come is at hand, and the others are behind it.
 #[derive(Drop)]
 pub(crate) struct FlatReads<'a> {
     cells: &'a FlatCells,
@@ -32,7 +32,7 @@ pub(crate) struct FlatReads<'a> {
     ghost place: { IsPlace cells.now (coming lock locks) (coming write writes) } by { Prim.hlevel props },
 }
 
-/// Whether a lock that comes next is on a key before that of the record that does.
+/// Whether the next lock's key lies below the next record's.
 fn comes_first(held: Held<'_>, write: &Option<Record<'_>>) -> bool
     ensures { result ≡ comes_before held.entry.0.now (option_map (λ x. x.0.now.0) write.now) }
 {
@@ -42,7 +42,8 @@ fn comes_first(held: Held<'_>, write: &Option<Record<'_>>) -> bool
     }
 }
 
-/// Of the lock that comes next its head, where it is on this version's key, and the first lock behind that key.
+/// Of the lock that comes next its head, where it is on this version's key, and the first lock
+/// behind that key.
 fn lock_behind<'a>(
     lock: Option<Held<'a>>,
     locks: &mut Range<'a, KeyBytes, LockBytes>,
@@ -171,7 +172,8 @@ impl FlatCells {
     ghost use Rattle.tx_cells.specs.Contents.{cells_in};
     ghost use Rattle.tx_flat.specs.Flats.{flat_content, rows_from, lock_rows_in};
 
-    /// A walk over the keys from this one on. One search of the locks and one of the write records find its start.
+    /// A walk over the keys from this one on. One search of the locks and one of the write
+    /// records find its start.
     pub(crate) fn reads_from(&self, alloc: Global, from: &Key) -> Result<FlatReads<'_>, Fault>
         ensures same { IfOk result (λ walk. walk.cells.now ≡ self.now) }
         ensures walk { IfOk result (λ walk. IsWalk (cells_in (flat_content self.now)) (key_le from.now) (rows_from self.now (next_key (coming walk.lock walk.locks) (coming walk.write walk.writes)))) }

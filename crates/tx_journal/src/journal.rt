@@ -1,5 +1,5 @@
-//! A journal is made in two calls: the first opens it, the second gives it the name that all its seats have in their type, and
-//! deals the seats.
+//! A journal is made in two calls: the first opens it, the second gives it the name that all its
+//! seats have in their type, and deals the seats.
 ghost use Rattle.std.specs.Prelude.{◌≡◌, ℕ, ◌+◌, ◌<◌, ◌≤◌, [], IfOk, IfErr, OnOk, vec_len, slice_get, Some, length};
 ghost use Rattle.tx_types.specs.declared.fault.Fault.TheVariants as fault;
 ghost use Rattle.tx_journal.specs.Known.{known, AreRising};
@@ -13,8 +13,8 @@ use std::sync::Arc;
 use tx_core::SeatNo;
 use tx_types::{Fault, Key};
 
-/// A journal with no event, which has no name yet. Contracts see its table, the keys between its regions, and how many seats it
-/// has.
+/// A journal with no event, which has no name yet. Contracts see its table, the keys between its
+/// regions, and how many seats it has.
 #[derive(Drop)]
 pub struct Opened {
     bounds: Arc<Vec<Key>>,
@@ -36,8 +36,8 @@ impl Model for Opened {
 }
 
 impl Opened {
-    /// Opens a journal over regions with these keys between them: it has a seat for each region, and so many for sessions.
-    /// `OutOfMemory` drops what was handed in.
+    /// Opens a journal over regions with these keys between them: it has a seat for each region,
+    /// and so many for sessions. `OutOfMemory` drops what was handed in.
     pub fn new(alloc: Global, bounds: Vec<Key>, sessions: usize) -> Result<Opened, Fault>
         requires rising { AreRising bounds.items }
         requires few { length bounds.items + 1 + sessions ≤ 1024 }
@@ -114,7 +114,8 @@ impl<J: Naming> Dealer<J> {
     }
 }
 
-/// The journal `J`, whose seats are dealt. Contracts see the keys between its regions. Its copies share these keys.
+/// The journal `J`, whose seats are dealt. Contracts see the keys between its regions. Its copies
+/// share these keys.
 #[derive(Drop)]
 pub struct Journal<J: Naming> {
     bounds: Arc<Vec<Key>>,
@@ -143,7 +144,7 @@ impl<J: Naming> Journal<J> {
         self.bounds.as_slice()
     }
 
-    /// The same journal.
+    /// Another handle of this journal.
     pub fn clone(&self) -> Result<Journal<J>, Fault>
         ensures ok { IfOk result (λ copy. copy ≡ self.now) }
         ensures err { IfErr result (λ e. e ≡ fault.OutOfMemory) }
@@ -157,8 +158,8 @@ impl<J: Naming> Journal<J> {
 }
 
 impl Opened {
-    /// The journal under its name, and its seats: those of the regions first, in their order, then those for sessions. Each
-    /// knows of no event, and may draw 2^32 ticks.
+    /// The journal under its name, and its seats: those of the regions first, in their order, then
+    /// those for sessions. Each knows of no event, and may draw 2^32 ticks.
     pub fn named<J: Naming>(self, alloc: Global) -> Result<(Journal<J>, Vec<Seat<J>>), Fault>
         requires { (self.table ≡ J.table) × (self.bounds ≡ J.bounds) × (self.seats ≡ J.seats) }
         ensures count { IfOk result (λ r. vec_len r.1 ≡ J.seats) }

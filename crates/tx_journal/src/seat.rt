@@ -1,6 +1,7 @@
 //! Seats of a journal. Who makes events has a seat: it draws timestamps and records events with it,
-//! each by one atomic add, and the event of a read by one atomic maximum; and it knows a beginning of
-//! the one history that has all of its own events. None of a seat's calls waits, allocates or loops.
+//! each by one atomic add, and the event of a read by one atomic maximum; and it knows a
+//! beginning of the one history that has all of its own events. None of a seat's calls waits,
+//! allocates or loops.
 ghost use Rattle.std.specs.Prelude.{◌≡◌, ℕ, ◌+◌, ◌<◌, ◌≤◌, ◌⊎◌, ◌∷◌, max, IfOk, IfErr};
 ghost use Rattle.std.specs.Arc.{arc_value};
 ghost use mathlib.Core.Option.{none};
@@ -23,8 +24,9 @@ use std::sync::Arc;
 use tx_core::{Event, SeatNo};
 use tx_types::{Fault, Ts};
 
-/// A seat of the journal `J`. Contracts see its number, the ticks that it may still draw, and the events that it knows: these
-/// are a world run, newest first, and have just the events of this seat that it has recorded. No list is kept.
+/// A seat of the journal `J`. Contracts see its number, the ticks that it may still draw, and the
+/// events that it knows: these are a world run, newest first, and have just the events of this seat
+/// that it has recorded. No list is kept.
 #[derive(Drop)]
 pub struct Seat<J: Naming> {
     number: SeatNo,
@@ -128,8 +130,9 @@ impl<J: Naming> Seat<J> {
         self.number
     }
 
-    /// Draws a timestamp, so many ticks above the last one of the whole history, by one atomic add. `OracleSpent` where this
-    /// seat would then have drawn more than 2^32 ticks: nothing is drawn then, and the seat is as it was.
+    /// Draws a timestamp, so many ticks above the last one of the whole history, by one atomic add.
+    /// `OracleSpent` where this seat would then have drawn more than 2^32 ticks: nothing is drawn
+    /// then, and the seat is as it was.
     pub fn draw(&mut self, ticks: u32) -> Result<Ts, Fault>
         requires { 0 < ticks }
         ensures seat { self.new.seat ≡ self.old.seat }
@@ -170,10 +173,10 @@ impl<J: Naming> Seat<J> {
         Ts::new(self.words.shared.load::<LookRead>(&mut self.token, MAX_TS))
     }
 
-    /// Records the event that the call picks, of which no value is made: one of this seat that is
-    /// right after whatever other seats may have done since, and that reads at `at`, or nothing
-    /// above what was read. It is one atomic maximum: the greatest timestamp that was read rises
-    /// with the event, so that it is what the events of the history say whenever it is loaded.
+    /// Records event `E`, which exists in proofs only, by one atomic maximum. It has to be one of
+    /// this seat that may follow whatever other seats did since, and that reads at `at`, or nothing
+    /// above what was read. The greatest timestamp that was read rises with the event, so that it
+    /// is what the events of the history say whenever it is loaded.
     pub fn raise_read_as<E: Said>(&mut self, at: Ts)
         requires quiet { DrawsNothing E.event }
         requires right { MayRecord J.bounds self.old.seat self.old.events E.event }
@@ -199,9 +202,9 @@ impl<J: Naming> Seat<J> {
         raise_by_this::<J, Brand>(self, event, at);
     }
 
-    /// Records the event that the call picks, of which no value is made: one of this seat that is
-    /// right after whatever other seats may have done since, and that reads nothing above what was
-    /// read, by one atomic add.
+    /// Records event `E`, which exists in proofs only, by one atomic add. It has to be one of this
+    /// seat that may follow whatever other seats did since, and that reads nothing above what was
+    /// read.
     pub fn record_as<E: Said>(&mut self)
         requires quiet { DrawsNothing E.event }
         requires right { MayRecord J.bounds self.old.seat self.old.events E.event }
@@ -258,8 +261,8 @@ impl<J: Naming> Seat<J> {
         told.again(&self.words.shared)
     }
 
-    /// Knows the longer of two lists, what this seat knows and what was told, one of which is a beginning of the other. Its own
-    /// events stay what they are.
+    /// Knows the longer of two lists, what this seat knows and what was told, one of which is a
+    /// beginning of the other. Its own events stay what they are.
     pub fn learn(&mut self, told: Told<J>)
         ensures same { (self.new.seat ≡ self.old.seat) × (self.new.ticks ≡ self.old.ticks) }
         ensures seen { HasSeen J.bounds self.old.seat self.old.events self.new.events }

@@ -10,8 +10,8 @@ use crate::view::{Home, Naming, Tell, Token, Words};
 use std::marker::{Model, PhantomData};
 use std::sync::Arc;
 
-/// Stands for a list of events of the journal `J` that its holder has seen, a world run. It stores none of them, and no memory.
-/// Any seat of the journal makes a copy of it (`Seat::copy`).
+/// Stands for a list of events of the journal `J` that its holder has seen, a world run. It stores
+/// none of them, and no memory. Any seat of the journal makes a copy of it (`Seat::copy`).
 #[derive(Drop)]
 pub struct Told<J: Naming> {
     token: Token,
@@ -49,14 +49,14 @@ impl<J: Naming> Told<J> {
         token
     }
 
-    /// Shows that it is a world run of the journal's seats.
+    /// For proofs: it is a world run of the journal's seats. It does nothing when it runs.
     pub fn show(&self)
         ensures { IsWorldRun J.bounds self.now × AllOfSeats J.seats self.now }
     {
         let _ = &self.token;
     }
 
-    // The same once more, by the journal's words.
+    // A copy, made by the journal's words.
     pub(crate) fn again(&mut self, words: &Words) -> Told<J>
         requires table { words.now.table_id ≡ J.table }
         ensures same { self.new ≡ self.old }
@@ -67,7 +67,7 @@ impl<J: Naming> Told<J> {
         Told::of(token)
     }
 
-    /// The same list, of a journal that has no name here, by a seat of the journal.
+    /// What it stands for, of a journal that has no name here, by a seat of the journal.
     pub fn unnamed(self, by: Seat<J>) -> Unnamed
         ensures { (result.bounds ≡ J.bounds) × (result.events ≡ self) }
     {
@@ -77,8 +77,8 @@ impl<J: Naming> Told<J> {
     }
 }
 
-/// What a `Told` stands for, of a journal that has no name here. Who names a journal gives out nothing that bears the name; what
-/// was seen in it leaves the place in this form.
+/// What a `Told` stands for, of a journal that has no name here. Who names a journal gives out
+/// nothing that bears the name; what was seen in it leaves the place in this form.
 #[derive(Drop)]
 pub struct Unnamed {
     words: Arc<Home>,
@@ -98,7 +98,7 @@ impl Model for Unnamed {
 }
 
 impl Unnamed {
-    /// Shows that it is a world run.
+    /// For proofs: it is a world run. It does nothing when it runs.
     pub fn show(&self)
         ensures { IsWorldRun self.now.bounds self.now.events }
     {

@@ -9,7 +9,8 @@ use std::marker::{Brand, PhantomData};
 use tx_core::Event;
 use tx_types::Key;
 
-/// How far apart two words lie that threads write: in different lines of memory, also where a processor fetches lines by twos.
+/// How far apart two words lie that threads write: in different lines of memory, also where a
+/// processor fetches lines by twos.
 pub const APART: usize = 16;
 
 /// How many words count events. So seats that work side by side mostly write different lines.
@@ -28,8 +29,9 @@ pub struct Layout {
     pub seats: u32,
 }
 
-/// What a token knows: the journal's bounds and number of seats, its own seats (from `from` on and before `to`), the ticks that
-/// these may still draw, and the beginnings of the history that it has seen and heard. No value of it is made.
+/// What a token knows: the journal's bounds and number of seats, its own seats (from `from` on and
+/// before `to`), the ticks that these may still draw, and the beginnings of the history that it has
+/// seen and heard. No value of it is made.
 pub struct View {
     pub bounds: LinkedList<Key>,
     pub seats: u64,
@@ -49,8 +51,9 @@ pub type Home = Table<u8, View, Layout, Law, Global>;
 /// The words that all threads share.
 pub type Words = Shared<u8, View, Layout, Law>;
 
-/// Which journal it is, the keys between its regions, and how many seats it has. The seats, `Told`s, requests and replies of one
-/// journal have one such parameter. A program picks it once, where it names the journal that it has opened.
+/// Which journal it is, the keys between its regions, and how many seats it has. The seats,
+/// `Told`s, requests and replies of one journal have one such parameter. A program picks it once,
+/// where it names the journal that it has opened.
 pub trait Naming {
     ghost use Rattle.std.specs.Prelude.{List, ℕ};
     ghost use Rattle.atomic_table.specs.Seated.{TableId};

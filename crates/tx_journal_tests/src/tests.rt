@@ -65,7 +65,8 @@ fn draw_after<J: Naming>(mut seat: Seat<J>, told: Told<J>) -> u64 {
     draw(&mut seat, 1)
 }
 
-// One thread begins and hands what it has seen by its join to another: whether that one draws a greater number.
+// One thread begins and hands what it has seen by its join to another: whether that one draws
+// a greater number.
 fn tell_across<J: Naming + Send + Sync, R: Threads + Sync>(
     rt: &R,
     first: Seat<J>,
@@ -141,8 +142,8 @@ fn is_exact(drawn: &[(u64, u64)]) -> bool {
     true
 }
 
-// Eight threads draw, each from its own seat. How many numbers it were, if those of all, in order, follow each other by just their
-// ticks.
+// Eight threads draw, each from its own seat. How many numbers it were, if those of all, in order,
+// follow each other by just their ticks.
 fn draw_at_once<J: Naming + Send + Sync, R: Threads + Sync>(
     rt: &R,
     alloc: Global,
@@ -263,7 +264,8 @@ fn bounds_of<J: Naming>(journal: &Journal<J>) -> usize {
     }
 }
 
-// Of the seats the first is a region's, and the next a session's: whether it has an answer, and what it then knows.
+// Of the seats the first is a region's, and the next a session's: whether it has an answer, and
+// what it then knows.
 fn reply_to_one<J: Naming>(alloc: Global, opened: Opened) -> Option<(bool, Unnamed)>
     requires name { (opened.table ≡ J.table) × (opened.bounds ≡ J.bounds) × (opened.seats ≡ J.seats) }
     requires three { J.seats ≡ 3 }
@@ -326,8 +328,8 @@ fn read<J: Naming>(region: &mut Seat<J>, alloc: Global, key: Key)
     drop(event);
 }
 
-// What the first region and a session load of the greatest timestamp read, before and after the region
-// reads at 3.
+// What the first region and a session load of the greatest timestamp read, before and after the
+// region reads at 3.
 fn read_once<J: Naming>(alloc: Global, opened: Opened, key: Key) -> [u64; 3]
     requires name { (opened.table ≡ J.table) × (opened.bounds ≡ J.bounds) × (opened.seats ≡ J.seats) }
     requires two { J.seats ≡ 2 }

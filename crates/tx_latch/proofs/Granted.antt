@@ -28,7 +28,8 @@ granted_behind_is earlier (c ∷ cs) =
     ∙ sym ih in
     first_step c (blocked earlier c) (granted_behind (earlier ++ c ∷ []) cs) (filter (λ d. not (blocked earlier d)) (granted_behind (c ∷ []) cs)) both
 
--- the first of a list is granted, and of the later ones those that are granted there and share no slot with it
+-- the first of a list is granted, and of the later ones those that are granted there and
+-- share no slot with it
 pub granted-cons : (c : Command) (cs : List Command) → granted (c ∷ cs) ≡ c ∷ filter (λ d. not (meets c.slots d.slots)) (granted cs)
 granted-cons c cs =
     ap (λ t. c ∷ t) (granted_behind_is (c ∷ []) cs
@@ -96,7 +97,8 @@ without-around bs p xs h =
     filter-append (λ c. not (eqb p.cid c.cid)) bs (p ∷ xs)
     ∙ rw (without-Lacks p.cid bs parts.0, eqb_self p.cid, without-Lacks p.cid xs parts.1) refl
 
--- where a granted command leaves, the others that were granted are those that are granted now and share no slot with it
+-- where a granted command leaves, the others that were granted are those that are granted now and
+-- share no slot with it
 pub granted-around : (bs : List Command) (p : Command) (xs : List Command) → Distinct (bs ++ p ∷ xs) → blocked bs p ≡ false → without p.cid (granted (bs ++ p ∷ xs)) ≡ filter (λ c. not (meets p.slots c.slots)) (granted (bs ++ xs))
 granted-around [] p xs h free =
     let q : Command → Bool = λ c. not (meets p.slots c.slots) in
@@ -148,7 +150,8 @@ member-filter q (c ∷ cs) h =
     (λ d apart same. member_step c d (q c) (filter q cs) apart ∙ same) cs (Each-Lacks c.cid cs h.0) (member-filter q cs h.1) in
     (head, tail)
 
--- where a granted command leaves, those become granted that are granted now and share a slot with it
+-- where a granted command leaves, those become granted that are granted now and
+-- share a slot with it
 pub newly-around : (bs : List Command) (p : Command) (xs : List Command) → Distinct (bs ++ p ∷ xs) → blocked bs p ≡ false → newly_granted (bs ++ p ∷ xs) (bs ++ xs) ≡ cids (filter (λ c. meets p.slots c.slots) (granted (bs ++ xs)))
 newly-around bs p xs h free =
     let parts = Distinct-around bs p xs h in

@@ -108,7 +108,8 @@ last-meets ls last slots i l e d h small =
     (λ s lt. ap (is_number l.cid) (h s lt ∙ ap (λ t. last_in t s) whole) ∙ sym (last_in-at (commands (take i ls)) (command_of l) (commands (drop (suc i) ls)) s (subst Distinct whole d))) slots small)
     ∙ meets_mutual slots rest
 
--- what is true of the places of a list that ends in an empty one, once a command has joined and stands there
+-- what is true of the places of a list that ends in an empty one, once a command has joined
+-- and stands there
 pub joins : (ls : List (Option Link)) (at last : ℕ → Option ℕ) (room wide : ℕ → ℕ) (cid : ℕ) (slots : List ℕ)
     → Chained (ls ++ None ∷ []) at last room → Lacks cid (commands ls) → at cid ≡ Some (length ls) → ((c : ℕ) → at c ≡ Some (length ls) → cid ≡ c)
     → Each (λ s. s < 256) slots → ((i : ℕ) → i < length ls → room i ≤ wide i) → length slots ≤ wide (length ls)

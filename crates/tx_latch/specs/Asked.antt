@@ -19,7 +19,8 @@ meets xs ys = list_any (λ s. contains s ys) xs
 abbrev pub blocked : List Command → Command → Bool
 blocked earlier c = list_any (λ e. meets e.slots c.slots) earlier
 
--- the granted ones of the commands that stand behind the earlier ones: each that shares a slot with no earlier one
+-- the granted ones of the commands that stand behind the earlier ones: each that shares a slot
+-- with no earlier one
 abbrev pub granted_behind : List Command → List Command → List Command
 granted_behind earlier [] = []
 granted_behind earlier (c ∷ later) =

@@ -1,4 +1,5 @@
--- Commands that need no queue: each asks for one slot, for which no command before it asks. They stand behind those in the queues.
+-- Commands that need no queue: each asks for one slot, for which no command before it asks. They
+-- stand behind those in the queues. Only this crate's own clauses cite it.
 use Rattle.std.specs.Prelude.{List, [], ◌∷◌, ◌++◌, map}
 use Rattle.tx_latch.specs.Asked.{Command, Distinct, AreFree}
 use Rattle.tx_latch.specs.Queues.{Kept, asked_of}

@@ -1,5 +1,6 @@
--- The queues of the slots, as the latches keep them: for each slot the last command in it, and with each command how many
--- stand directly before it and which stand directly behind it in one of its slots.
+-- The queues of the slots, as the latches keep them: for each slot the last command in it, and
+-- with each command how many stand directly before it and which stand directly behind it in
+-- one of its slots. Only this crate's own clauses cite it.
 use Rattle.std.specs.Prelude.{ℕ, suc, ◌+◌, ◌-◌, ◌≤◌, ◌<◌, ◌≡◌, Bool, true, false, cond, not, ◌&&◌, nat_eq, List, [], ◌∷◌, ◌++◌, length, map, drop, Option, None, Some, slice_index_or, slice_set}
 use Rattle.std.specs.List.{filter, slice_get, list_any}
 use Rattle.std.specs.Option.{option_map, is_some}
@@ -74,7 +75,8 @@ abbrev pub room_of : Option Entry → ℕ
 room_of None = 0
 room_of (Some e) = vec_capacity e.behind
 
--- what holds of links by place, the places by number, the last number by slot, and the room by place
+-- what holds of links by place, the places by number, the last number by slot, and
+-- the room by place
 pub record Chained (ls : List (Option Link)) (at : ℕ → Option ℕ) (last : ℕ → Option ℕ) (room : ℕ → ℕ) : Type 0 where
   -- each command is found
   pub listed : (i : ℕ) (l : Link) → slice_index_or ls i None ≡ Some l → at l.cid ≡ Some i
@@ -181,7 +183,8 @@ abbrev pub adds_slot : Option ℕ → (ℕ → Option ℕ) → ℕ → List (Opt
 adds_slot None at cid ls = false
 adds_slot (Some b) at cid ls = adds cid (link_at (at b) ls)
 
--- the place of a number that has one, once each of these links, from this place on, is given its own
+-- the place of a number that has one, once each of these links, from this place on,
+-- is given its own
 abbrev pub replaced : List (Option Link) → ℕ → ℕ → Option ℕ → Option ℕ
 replaced [] from c o = o
 replaced (None ∷ ls) from c o = replaced ls (suc from) c o

@@ -2,7 +2,8 @@
 use Rattle.std.specs.Prelude.{ℕ, ◌+◌, ◌*◌, ◌%◌, List, [], ◌∷◌}
 use Rattle.tx_types.specs.declared.limits.TheConstants.{LATCH_SLOTS}
 
--- the slot that these further bytes lead to from a slot: each byte makes h the last eight bits of 31 h + byte
+-- the slot that these further bytes lead to from a slot: each byte makes h the last eight
+-- bits of 31 h + byte
 abbrev pub hash_from : ℕ → List ℕ → ℕ
 hash_from h [] = h
 hash_from h (byte ∷ bytes) = hash_from ((31 * h + byte) % LATCH_SLOTS) bytes

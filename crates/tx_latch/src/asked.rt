@@ -1,9 +1,10 @@
-//! The commands that were asked: those in the queues of the slots, and behind them a few that need none, since each asks for one slot
-//! that no command before it asks for. Mostly all commands are of these, and then a call looks at a few numbers that lie together, and
-//! takes no memory.
+//! The commands that were asked: those in the queues of the slots, and behind them a few that need
+//! none, since each asks for one slot that no command before it asks for. Mostly all commands are
+//! of these, and then a call looks at a few numbers that lie together, and takes no memory.
 //!
-//! A command that has to wait, or that asks for more slots than one, goes to the queues, and those that stood there without one go
-//! before it, in their order. So the list is the same whether one of them was moved or not.
+//! A command that has to wait, or that asks for more slots than one, goes to the queues, and those
+//! that stood there without one go before it, in their order. So the list is the same whether one
+//! of them was moved or not.
 ghost use Rattle.std.specs.Prelude.{◌≡◌, ◌-◌, ◌<◌, ◌≤◌, nat_eq, ◌++◌, ◌∷◌, [], true, false, length, IfOk, IfErr, OnOk, OnErr, IsTrue};
 ghost use Rattle.std.specs.List.{list_any, position};
 ghost use Rattle.tx_latch.specs.Asked.{blocked, is_asked, is_granted, newly_granted, without};
@@ -125,7 +126,7 @@ impl Asked {
         self.queue_few()
     }
 
-    // The same, one after the other.
+    // Puts the few commands beside the queues into them, one after the other.
     #[inline(never)]
     fn queue_few(&mut self) -> Result<(), Fault>
         requires { KeptAll self.old }
@@ -190,7 +191,8 @@ impl Asked {
         }
     }
 
-    /// Takes a granted command out of the list. Gives those that become granted by it, in asking order: none where it needed no queue.
+    /// Takes a granted command out of the list. Gives those that become granted by it, in asking
+    /// order: none where it needed no queue.
     pub fn remove(&mut self, cid: Cid) -> Vec<Cid>
         requires kept { KeptAll self.old }
         requires granted { is_granted (all_asked self.old) cid ≡ true }

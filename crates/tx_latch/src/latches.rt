@@ -9,8 +9,8 @@ use std::alloc::Global;
 use std::marker::Model;
 use tx_types::Fault;
 
-/// The commands that were asked, in asking order, each with its slots. A command is granted where no earlier one shares a
-/// slot with it. Contracts see the list of the commands.
+/// The commands that were asked, in asking order, each with its slots. A command is granted where
+/// no earlier one shares a slot with it. Contracts see the list of the commands.
 #[derive(Debug, Drop)]
 pub struct Latches {
     asked: Asked,
@@ -52,8 +52,9 @@ impl Latches {
         self.asked.is_granted(cid)
     }
 
-    /// Asks for a command, whose number must not stand in the list, at its end; `is_asked` tells. Repeated slots count
-    /// once. True where it is granted at once, as a command with no slots is. `OutOfMemory` leaves the list as it was.
+    /// Asks for a command, whose number must not stand in the list, at its end; `is_asked` tells.
+    /// Repeated slots count once. True where it is granted at once, as a command with no slots is.
+    /// `OutOfMemory` leaves the list as it was.
     pub fn acquire(&mut self, cid: Cid, slots: &[Slot]) -> Result<bool, Fault>
         requires { is_asked self.old cid ≡ false }
         ensures joined { IfOk result (λ now. self.new ≡ self.old ++ record { cid = cid; slots = slots.now } ∷ []) }
@@ -64,8 +65,8 @@ impl Latches {
         self.asked.add(cid, slots)
     }
 
-    /// Takes a granted command out of the list; `is_granted` tells. Gives the numbers of those that become granted by it,
-    /// in asking order. It takes no memory, and is never refused.
+    /// Takes a granted command out of the list; `is_granted` tells. Gives the numbers of those that
+    /// become granted by it, in asking order. It takes no memory, and is never refused.
     pub fn release(&mut self, cid: Cid) -> Result<Vec<Cid>, Fault>
         requires { is_granted self.old cid ≡ true }
         ensures left { self.new ≡ without cid self.old }

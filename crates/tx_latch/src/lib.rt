@@ -1,5 +1,6 @@
-//! Latches keep two workers off one key, so that they do not fight. Safety does not rest on them, but on the locks of
-//! the regions. A command asks for the slots of its keys and is granted once no earlier one shares a slot with it.
+//! Latches keep two workers off one key, so that they do not fight. Safety does not rest on them,
+//! but on the locks of the regions. A command asks for the slots of its keys and is granted once no
+//! earlier one shares a slot with it.
 #![tactic(auto)]
 
 mod asked;

@@ -1,17 +1,20 @@
-//! The queues of the slots, linked through the commands: each slot knows the last command in it, and each command knows
-//! those that stand directly behind it in one of its slots, and how many it stands directly behind.
+//! The queues of the slots, linked through the commands: each slot knows the last command in it,
+//! and each command knows those that stand directly behind it in one of its slots, and how many it
+//! stands directly behind.
 //!
-//! A command is granted exactly where it stands directly behind none: an earlier one that shares a slot with it has,
-//! at the end of the way through that slot's queue, one directly before it. So the release of a command can grant only
-//! those directly behind it, and they stand in its list in asking order, since each was added as it was asked.
+//! A command is granted exactly where it stands directly behind none: an earlier one that shares a
+//! slot with it has, at the end of the way through that slot's queue, one directly before it. So
+//! the release of a command can grant only those directly behind it, and they stand in its list in
+//! asking order, since each was added as it was asked.
 //!
-//! At most one command stands directly behind another in each of its slots. So a command takes, before it joins, the room
-//! for one number a slot in its own list, and no later one needs memory of it: a release hands out that list, and takes
-//! none.
+//! At most one command stands directly behind another in each of its slots. So a command takes,
+//! before it joins, the room for one number a slot in its own list, and no later one needs memory
+//! of it: a release hands out that list, and takes none.
 //!
-//! A call looks at the commands directly before or behind one in its slots, each by its number, and never at the others
-//! that wait. The places of those that left are dropped once they are more than those that are taken, which costs each
-//! command that left a constant share. So `add` and `remove` cost O(slots of the command), amortised.
+//! A call looks at the commands directly before or behind one in its slots, each by its number, and
+//! never at the others that wait. The places of those that left are dropped once they are more than
+//! those that are taken, which costs each command that left a constant share. So `add` and `remove`
+//! cost O(slots of the command), amortised.
 ghost use Rattle.std.specs.Prelude.{◌≡◌, ℕ, ◌+◌, ◌-◌, ◌<◌, ◌≤◌, ◌++◌, ◌∷◌, [], ◌&&◌, true, false, IsTrue, IfOk, IfErr, OnErr, map, cond, length, Option, None, Some, slice_index_or, nat_eq};
 ghost use Rattle.std.specs.Option.{option_map, is_some};
 ghost use Rattle.std.specs.List.{list_any, All, slice_get, filter};
@@ -95,7 +98,8 @@ impl Queues {
         }
     }
 
-    /// Puts a command directly behind another, unless it was put there just now. Says whether it did.
+    /// Puts a command directly behind another, unless it was put there just now.
+    /// Says whether it did.
     #[inline(always)]
     fn stand_behind(&mut self, before: Cid, cid: Cid) -> bool
         requires { (i : ℕ) → place_of self.old before ≡ Some i → HasRoom cid (slice_index_or (links self.old.asked.items) i None) (room_at self.old.asked.items i) }
@@ -128,7 +132,8 @@ impl Queues {
         self.last[usize::from(slot.get())] = Some(cid);
     }
 
-    /// Puts a command at the end of the queue of a slot. Says whether it then stands directly behind one more.
+    /// Puts a command at the end of the queue of a slot. Says whether it then stands directly
+    /// behind one more.
     #[inline(always)]
     fn join_slot(&mut self, slot: Slot, cid: Cid) -> bool
         requires { (b i : ℕ) → last_of self.old slot ≡ Some b → place_of self.old b ≡ Some i → HasRoom cid (slice_index_or (links self.old.asked.items) i None) (room_at self.old.asked.items i) }
@@ -146,7 +151,8 @@ impl Queues {
         joined
     }
 
-    /// Puts a command at the end of the queue of each of its slots. Says how many it then stands directly behind.
+    /// Puts a command at the end of the queue of each of its slots. Says how many it then stands
+    /// directly behind.
     #[inline(always)]
     fn join(&mut self, cid: Cid, slots: &[Slot]) -> usize
         requires joinable { Joinable self.old }
@@ -253,7 +259,8 @@ impl Queues {
         entry.behind
     }
 
-    /// Takes a granted command out of the list. Gives those that become granted by it, in asking order.
+    /// Takes a granted command out of the list. Gives those that become granted by it,
+    /// in asking order.
     pub fn remove(&mut self, cid: Cid) -> Vec<Cid>
         requires kept { Kept self.old }
         requires granted { is_granted (asked_of self.old) cid ≡ true }
@@ -267,8 +274,8 @@ impl Queues {
         freed
     }
 
-    /// Drops the empty places where they are more than the others, or nothing else is there: as many commands have left since the
-    /// last time, so that each leaves for a constant cost.
+    /// Drops the empty places where they are more than the others, or nothing else is there: as
+    /// many commands have left since the last time, so that each leaves for a constant cost.
     fn compact_when_sparse(&mut self)
         requires { Kept self.old }
         ensures kept { Kept self.new }
@@ -354,7 +361,8 @@ fn is_first(place: &Option<Entry>) -> bool
     }
 }
 
-/// Puts a command directly behind that in this place, unless it was put there just now. Says whether it did.
+/// Puts a command directly behind that in this place, unless it was put there just now.
+/// Says whether it did.
 fn follow(place: &mut Option<Entry>, cid: Cid) -> bool
     requires { HasRoom cid (option_map link_of place.old) (room_of place.old) }
     ensures followed { option_map link_of place.new ≡ option_map (followed cid) (option_map link_of place.old) }
@@ -393,7 +401,7 @@ fn ends_with(cids: &[Cid], cid: Cid) -> bool
     }
 }
 
-/// That each number of a slot is below `LATCH_SLOTS`.
+/// For proofs: each number of a slot is below `LATCH_SLOTS`.
 fn know_small(slots: &[Slot])
     ensures { All (λ s. s < LATCH_SLOTS) slots.now }
 {

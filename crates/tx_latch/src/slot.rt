@@ -38,8 +38,8 @@ impl Slot {
     }
 }
 
-/// The slot of a key: h starts at 0, each byte of the key makes h the last eight bits of 31 h + byte, and the last h is
-/// the slot.
+/// The slot of a key: h starts at 0, each byte of the key makes h the last eight bits of 31 h +
+/// byte, and the last h is the slot.
 pub fn slot_of(key: &Key) -> Slot
     ensures { result ≡ slot_of_key key.now }
 {

@@ -19,8 +19,9 @@ fn all_said(latches: &Latches) -> [(bool, bool); 4] {
     ]
 }
 
-// Asks for a command that must not stand in the list. Where memory was refused, no command has joined and no grant has
-// changed, and it is asked for once more. So the tests pass whichever of their allocations is refused.
+// Asks for a command that must not stand in the list. Where memory was refused, no command has
+// joined and no grant has changed, and it is asked for once more. So the tests pass whichever of
+// their allocations is refused.
 fn acquire(rt: &impl Abort, latches: &mut Latches, cid: u64, slots: &[Slot]) -> Result<bool, Fail> {
     let cid = Cid::new(cid);
     assert!(rt; !latches.is_asked(cid));

@@ -141,7 +141,8 @@ module _ (rows_of : Rows) (from to : Key) (at limit : ℕ) where
     each = λ k inside here. h.each k inside (back k inside here);
   }
 
-  -- the next part, from `low` up to `high`, whose rows are these, with the limit less the rows so far
+  -- the next part, from `low` up to `high`, whose rows are these, with the limit
+  -- less the rows so far
   module _ (border low high : Key) (rows found : List KeyValue) (so_far : SoFar (λ k. IsTrue (key_lt k border)) rows)
       (part : SeesRows rows_of record { from = low; to = high; at = at; limit = limit - length rows; rows = found })
       (above : (k : Key) → IsTrue (is_between low high k) → IsTrue (is_between from to k) × IsTrue (key_le border k)) where

@@ -1,5 +1,5 @@
-//! Laws of the whole protocol in the words of those who use it: what is read once a commit was told, and
-//! what the rows of a scan over all regions are.
+//! Laws of the whole protocol in the words of those who use it: what is read once a commit was
+//! told, and what the rows of a scan over all regions are.
 #![tactic(auto)]
 
 mod reads;

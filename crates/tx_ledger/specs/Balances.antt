@@ -13,6 +13,7 @@ is_balance text = nat_lt 0 (length text) && nat_le (length text) MAX_DIGITS && l
 abbrev pub balance_of : List ℕ → ℕ
 balance_of text = if is_balance text then digits_value 10 text else 0
 
--- the amount goes from the first to the second, where the first has it and the second's sum has at most 15 digits
+-- the amount goes from the first to the second, where the first has it and the second's sum has
+-- at most 15 digits
 abbrev pub after_transfer : ℕ → ℕ → ℕ → Option (ℕ × ℕ)
 after_transfer from to amount = if nat_le amount from && nat_lt (to + amount) BALANCES then Some (from - amount, to + amount) else None

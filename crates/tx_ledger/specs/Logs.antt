@@ -17,7 +17,8 @@ pub record Logged : Type 0 where
   pub told : History
   pub replies : List Spoken
 
--- a session of this seat began at the start, and its transaction was answered so; a transfer declared just its two keys
+-- a session of this seat began at the start, and its transaction was answered so; a transfer
+-- declared just its two keys
 pub record IsAnswered (h : History) (seat start : ℕ) (o : Outcome) (keys : Option (Key × Key)) : Type 0 where
   pub drew : drawer h start ≡ Some seat
   pub among : Among h (Answered start o)
@@ -37,7 +38,8 @@ pub record TellsBy (h : History) (seat : ℕ) (replies : List Spoken) : Type 0 w
 abbrev pub TellsNone : ℕ → List Spoken → Type 0
 TellsNone start replies = All (λ s. start_of s.reply ≢ Some start) replies
 
--- a seat knows what a log was told, and an outcome that the log may tell of next: its own, which no line was told yet
+-- a seat knows what a log was told, and an outcome that the log may tell of next: its own, which no
+-- line was told yet
 pub record CanTell (l : Logged) (start : ℕ) (o : Outcome) (keys : Option (Key × Key)) (k : Known) : Type 0 where
   pub knows : Begins l.told k.events
   pub answered : IsAnswered k.events l.seat start o keys

@@ -21,7 +21,8 @@ IsBetween h start (outcome.Committed c) (Some keys) = DeclaresJust h start keys.
 IsBetween h start outcome.Aborted (Some keys) = DeclaresJust h start keys.0 keys.1
 IsBetween h start _ _ = Unit {0}
 
--- the outcome that a line is told was answered, of the transaction that started there; a transfer's, with just its two keys
+-- the outcome that a line is told was answered, of the transaction that started there; a
+-- transfer's, with just its two keys
 abbrev pub IsTold : History → Reply → Type 0
 IsTold h (Ended start o keys) = Among h (Answered start o) × IsBetween h start o keys
 IsTold h (Said said) = Unit {0}

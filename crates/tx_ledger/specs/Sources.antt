@@ -33,7 +33,8 @@ HasLine source number line = IfSome source (λ text. slice_get (lines_of text) (
 abbrev pub pair_at : List ℕ → ℕ → Option (Option (Key × Key))
 pair_at text number = option_map (pair_said number) (slice_get (lines_of text) (number - 1))
 
--- a text has a line of this number, and it says a transfer between these keys, or none; where the text is known
+-- a text has a line of this number, and it says a transfer between these keys, or none; where
+-- the text is known
 abbrev pub HasPair : Option (List ℕ) → ℕ → Option (Key × Key) → Type 0
 HasPair source number keys = IfSome source (λ text. pair_at text number ≡ Some keys)
 

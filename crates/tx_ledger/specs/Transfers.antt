@@ -9,7 +9,8 @@ use Rattle.tx_transaction.specs.Sessions.{State}
 abbrev pub HasEntered : State → Key → State → Type 0
 HasEntered old key new = (m : Mutation) × (new ≡ record old { buffer = touched old.buffer key m })
 
--- it writes these two keys, in this order; as long as it has not declared it may not have come to both
+-- it writes these two keys, in this order; as long as it has not declared it may not
+-- have come to both
 abbrev pub Moves : Key → Key → State → Type 0
 Moves from to s = (keys_of s.buffer ≡ from ∷ to ∷ []) ⊎ ((s.declared ≡ None) × ((keys_of s.buffer ≡ []) ⊎ (keys_of s.buffer ≡ from ∷ [])))
 

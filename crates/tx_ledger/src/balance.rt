@@ -44,7 +44,8 @@ fn number_of(text: &[u8]) -> u64
     number
 }
 
-/// The balance that a value says: a text of 1 to 15 decimal digits says its number, and anything else 0.
+/// The balance that a value says: a text of 1 to 15 decimal digits says its number, and
+/// anything else 0.
 pub fn balance_of(value: &[u8]) -> u64
     ensures value { result ≡ balance_of value.now }
     ensures most { result < BALANCES }
@@ -56,8 +57,8 @@ pub fn balance_of(value: &[u8]) -> u64
     }
 }
 
-/// What a transfer leaves of the balances of its two keys. None where the first has less than the amount, or the second would
-/// have more than 15 digits.
+/// What a transfer leaves of the balances of its two keys. None where the first has less than the
+/// amount, or the second would have more than 15 digits.
 pub fn after_transfer(from: u64, to: u64, amount: u64) -> Option<(u64, u64)>
     requires { (from < BALANCES) × (to < BALANCES) }
     ensures value { result ≡ after_transfer from to amount }

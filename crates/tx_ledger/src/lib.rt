@@ -1,5 +1,5 @@
-//! The books of a run: its script read whole, the log in which a session keeps the answers of its lines, the orders of transfers,
-//! and the balances that they move.
+//! The books of a run: its script read whole, the log in which a session keeps the answers of its
+//! lines, the orders of transfers, and the balances that they move.
 #![tactic(auto)]
 
 mod balance;

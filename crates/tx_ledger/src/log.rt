@@ -15,8 +15,9 @@ use tx_core::{Outcome, SeatNo};
 use tx_journal::{Naming, Seat, Told};
 use tx_types::{Cause, Key, Ts};
 
-/// The answers of a session's lines. Each outcome among them was answered by the session's seat in what the log was told, no two
-/// are of one transaction, and each comes with the keys of the transfer that its line says.
+/// The answers of a session's lines. Each outcome among them was answered by the session's seat in
+/// what the log was told, no two are of one transaction, and each comes with the keys of the
+/// transfer that its line says.
 #[derive(Drop)]
 pub struct Log<J: Naming, L: Source> {
     seat: SeatNo,
@@ -111,9 +112,10 @@ impl<J: Naming, L: Source> Log<J, L> {
         self.end(number, start, &outcome, keys);
     }
 
-    /// Ends a transaction, and keeps its outcome: its seat is then free. Where it has no outcome, the session comes back. `keys` are
-    /// those that a transfer moves between. A session of another seat than the log's is not told of: the log has no such
-    /// session. `by` is a seat of the journal.
+    /// Ends a transaction, and keeps its outcome: its seat is then free. Where it has no
+    /// outcome, the session comes back. `keys` are those that a transfer moves between. A
+    /// session of another seat than the log's is not told of: the log has no such session. `by`
+    /// is a seat of the journal.
     pub fn finish(
         &mut self,
         by: &Seat<J>,
@@ -141,8 +143,8 @@ impl<J: Naming, L: Source> Log<J, L> {
         }
     }
 
-    /// What the lines were answered, with what the log was told and whether an answer was lost; the log is then empty. `by` is a seat of the
-    /// journal.
+    /// What the lines were answered, with what the log was told and whether an answer was lost; the
+    /// log is then empty. `by` is a seat of the journal.
     pub fn take(&mut self, by: &Seat<J>, empty: Vec<Spoken>) -> Log<J, L>
         requires { empty.items ≡ [] }
         ensures same { (self.new.seat ≡ self.old.seat) × (self.new.told ≡ self.old.told) }

@@ -9,7 +9,8 @@ use std::marker::PhantomData;
 use tx_steps::Transfer;
 use tx_types::{Fault, Key, Mode};
 
-/// What the line of a number orders a transfer to move between two keys, and how its transaction commits.
+/// What the line of a number orders a transfer to move between two keys, and how its
+/// transaction commits.
 #[derive(Drop)]
 pub struct Order<L: Source> {
     pub number: u64,

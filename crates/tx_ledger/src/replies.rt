@@ -6,7 +6,8 @@ use crate::reply::Spoken;
 use std::alloc::{AllocError, Global};
 use std::marker::Model;
 
-/// Answers, part behind part; no answer is moved to join them. Contracts see all of them in one list.
+/// Answers, part behind part; no answer is moved to join them. Contracts see all of
+/// them in one list.
 #[derive(Drop)]
 pub struct Replies {
     parts: Vec<Vec<Spoken>>,

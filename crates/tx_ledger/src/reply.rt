@@ -13,7 +13,8 @@ use tx_types::{Cause, Key, Ts};
 pub enum Reply {
     /// What says no outcome: a reply, or a fault of the script, which ends its session.
     Said(Result<Words, Cause>),
-    /// The outcome of the transaction that started there; of a transfer, with the keys that it moves between.
+    /// The outcome of the transaction that started there; of a transfer, with the keys that
+    /// it moves between.
     Ended(Ts, Outcome, Option<(Key, Key)>),
 }
 

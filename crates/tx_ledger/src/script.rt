@@ -27,7 +27,8 @@ pub enum Asks {
     Met,
 }
 
-/// A line that says a step, with its number. Where the text of the script is known, it has this line.
+/// A line that says a step, with its number. Where the text of the script is known,
+/// it has this line.
 #[derive(Drop)]
 pub struct Said<L: Source> {
     pub number: u64,
@@ -42,7 +43,8 @@ pub struct Said<L: Source> {
 pub enum Entry<L: Source> {
     /// A transfer, of a session whose name is one.
     Transfer(Box<Order<L>>),
-    /// Any other, which is read again when it is played. It lies apart too, so that a list of transfers is small.
+    /// Any other, which is read again when it is played. It lies apart too, so that a list of
+    /// transfers is small.
     Line(Box<Said<L>>),
 }
 
@@ -114,7 +116,8 @@ fn said_of<L: Source>(
     })
 }
 
-// The same, of a session. A transfer that is refused a key or memory is read again when it is played.
+// A line of a session, under its number. A transfer that is refused a key or memory is read again
+// when it is played.
 fn entry_of<L: Source>(
     alloc: Global,
     number: u64,
@@ -150,8 +153,8 @@ impl<L: Source> Reading<L> {
         }
     }
 
-    // The place of the session of this name, which is made where it is the first line of it. `Sessions` where there are too
-    // many.
+    // The place of the session of this name, which is made where it is the first line of it.
+    // `Sessions` where there are too many.
     fn place(&mut self, name: &str) -> Result<Result<usize, Cause>, Broken>
         requires { IsWithin self.old.script.bounds.items (vec_len self.old.script.sessions) }
         ensures { OnOk result (IsWithin self.new.script.bounds.items (vec_len self.new.script.sessions)) }

@@ -6,7 +6,7 @@ pub mod Lexemes
 pub mod Digits
 -- The value of an array of strings, numbers and nulls, by its lexemes.
 pub mod Leaves
--- The same, with a list of rows at its end.
+-- What is scanned of a line with a list of rows at its end.
 pub mod ListedRows
 -- The text of a line, part by part.
 pub mod Texts

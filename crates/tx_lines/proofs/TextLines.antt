@@ -18,7 +18,8 @@ lines_of-line (x ∷ line) rest none =
     let tail = lines_of-line line rest (All-tail (λ y. y ≢ 10) x line none) in
     rw (ne_eqb x 10 (All-head (λ y. y ≢ 10) x line none), tail) refl
 
--- whatever follows, a text with some byte in front has a first line, which begins with what stands before its first newline
+-- whatever follows, a text with some byte in front has a first line, which begins with what stands
+-- before its first newline
 pub lines_of-long : (line rest : List ℕ) → NoNewline line → 0 < length line → (first : List ℕ) × (more : List (List ℕ)) × (length line ≤ length first) × (lines_of (line ++ rest) ≡ first ∷ more)
 lines_of-long [] rest none some = absurd (omega arith)
 lines_of-long (x ∷ line) rest none some = begin_with (lines_of (line ++ rest)) line x (within line rest (All-tail (λ y. y ≢ 10) x line none)) (ne_eqb x 10 (All-head (λ y. y ≢ 10) x line none)) refl

@@ -1,4 +1,5 @@
--- Bytes that do not stand for themselves in a string of JSON. Only the crate's private clauses cite it.
+-- Bytes that do not stand for themselves in a string of JSON.
+-- Only this crate's own clauses cite it.
 use Rattle.std.specs.Prelude.{ℕ, Bool, ◌||◌, ◌==◌, nat_lt, nat_le}
 
 -- a quote, a backslash or a control byte

@@ -45,7 +45,8 @@ told_minimum info = elim info.mode [ TwoPhase ↦ 0 | Async ↦ info.min ]
 abbrev pub row_data : KeyValue → Data
 row_data row = array (item (text_of row.key) (item (text_of row.value) no_items))
 
--- the words of a store's answer: what was found or done, or the refusal's number and fields. What no step asks for has none
+-- the words of a store's answer: what was found or done, or the refusal's number and fields. What
+-- no step asks for has none
 abbrev pub answer_words : Answer → Items
 answer_words (answer.Found v) = item (string (codes "value")) (item (text_of v) no_items)
 answer_words answer.Nothing = alone (codes "none")

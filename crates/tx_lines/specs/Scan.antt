@@ -1,4 +1,4 @@
--- How a scan of a line stands to its lexemes. For private clauses.
+-- How a scan of a line stands to its lexemes. Only this crate's own clauses cite it.
 use Rattle.std.specs.Prelude.{◌≡◌, ◌⊎◌, ℕ, List, [], ◌∷◌, map, Some}
 use Rattle.serde_json.specs.Data.{Data, string, number, unsigned, null}
 use Rattle.serde_json.specs.Read.{number_of}

@@ -27,7 +27,8 @@ abbrev pub marks : Bool → Items
 marks true = item (string (codes "marked")) no_items
 marks false = no_items
 
--- a write record at a timestamp: its kind and its start. A rollback stands at its transaction's start
+-- a write record at a timestamp: its kind and its start. A rollback stands at its
+-- transaction's start
 abbrev pub record_words : ℕ → RecordHead → Items
 record_words at (head.Commit kind start overlapped) = item (string (kind_word kind)) (item (stamp_data start) (marks overlapped))
 record_words at head.Rollback = item (string (codes "rollback")) (item (stamp_data at) no_items)
@@ -36,7 +37,8 @@ record_words at head.Rollback = item (string (codes "rollback")) (item (stamp_da
 abbrev pub record_data : RecordAt → Data
 record_data rec = array (item (stamp_data rec.at) (record_words rec.at rec.head))
 
--- the lock, the write records from the newest on, and the starts of the values that are kept apart, from the newest on
+-- the lock, the write records from the newest on, and the starts of the values that are kept apart,
+-- from the newest on
 abbrev pub copy_words : KeyCopy → Items
 copy_words copy = item (lock_data copy.lock)
     (item (array (items_of (map record_data copy.records)))

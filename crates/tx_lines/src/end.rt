@@ -1,4 +1,5 @@
-//! How a text's reading ends: by its input, by a fault of its own, or broken off by what stands around it.
+//! How a text's reading ends: by its input, by a fault of its own, or broken off by what
+//! stands around it.
 ghost use Rattle.std.specs.Prelude.{◌≡◌};
 ghost use Rattle.tx_lines.specs.declared.end.Broken.TheVariants.{Memory};
 

@@ -1,8 +1,9 @@
-//! Text line by line. A line is read from what is at hand, taken apart into the members of its JSON array, and bytes are
-//! written so that it is known what a failure leaves.
+//! Text line by line. A line is read from what is at hand, taken apart into the members of its JSON
+//! array, and bytes are written so that it is known what a failure leaves.
 //!
-//! A line that is an array of plain strings, whole numbers and nulls is scanned straight from its bytes, and one with a list of
-//! rows at its end; of any other `serde_json` is the judge. Nothing is allocated for a line without rows.
+//! A line that is an array of plain strings, whole numbers and nulls is scanned straight from its
+//! bytes, and one with a list of rows at its end; of any other `serde_json` is the judge. Nothing
+//! is allocated for a line without rows.
 #![tactic(auto)]
 
 mod answer;

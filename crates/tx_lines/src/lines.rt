@@ -1,5 +1,5 @@
-//! Reading a text line by line, what is at hand at a time. A line is ended by a newline or by the end of the input; the last
-//! newline begins no line.
+//! Reading a text line by line, what is at hand at a time. A line is ended by a newline or by the
+//! end of the input; the last newline begins no line.
 ghost use Rattle.std.specs.Prelude.{◌≡◌, ◌≢◌, ◌<◌, ◌≤◌, length, take, slice_index, All, IfOk, IfSome, true, false};
 ghost use Rattle.tx_lines.specs.Lines.{Reads, Takes};
 
@@ -16,7 +16,8 @@ pub enum Found {
     End,
 }
 
-// What was at hand: nothing since the input is at its end, a part of a line, or the rest of a line with its newline.
+// What was at hand: nothing since the input is at its end, a part of a line, or the rest of a line
+// with its newline.
 #[derive(Clone, Copy, Debug, PartialEq, Eq)]
 enum Took {
     Nothing,
@@ -67,9 +68,9 @@ fn take_some<R: BufRead>(reader: &mut R, line: &mut Vec<u8>) -> Result<Took, Bro
     }
 }
 
-/// Reads the next line into `line`, without its newline, and tells what was found. A line is too long where it has more than
-/// `MAX_LINE_BYTES`; of such a one no more is read than was at hand where it grew too long. A read that was interrupted is
-/// made again.
+/// Reads the next line into `line`, without its newline, and tells what was found. A line is too
+/// long where it has more than `MAX_LINE_BYTES`; of such a one no more is read than was at hand
+/// where it grew too long. A read that was interrupted is made again.
 ///
 /// `Input` where a read failed, `Memory` where a growth of `line` was refused.
 pub fn read_line<R: BufRead>(reader: &mut R, line: &mut Vec<u8>) -> Result<Found, Broken>

@@ -1,4 +1,5 @@
-//! A line that is an array whose last member is a list of rows, as the machine's steps have it, by a scan of its bytes.
+//! A line that is an array whose last member is a list of rows, as the machine's steps have it, by
+//! a scan of its bytes.
 ghost use Rattle.std.specs.Prelude.{◌≡◌, ◌≤◌, length, drop, Some, IfSome};
 ghost use Rattle.serde_json.specs.Data.{array};
 ghost use Rattle.tx_lines.specs.Parts.{json_of, scanned_items};
@@ -43,7 +44,8 @@ fn row_at(line: &str, from: usize) -> Option<(Row<'_>, usize)>
     Some((Row::Triple(first, second, third), end))
 }
 
-// The list of rows from here on, with what comes after it. Where there is no room for them it says nothing.
+// The list of rows from here on, with what comes after it. Where there is no room for them
+// it says nothing.
 fn rows_at(alloc: Global, line: &str, from: usize) -> Option<(Vec<Row<'_>>, usize)>
     requires { from ≤ length line.now }
     ensures range { IfSome result (λ found. found.1 ≤ length line.now) }
@@ -67,9 +69,10 @@ fn rows_at(alloc: Global, line: &str, from: usize) -> Option<(Vec<Row<'_>>, usiz
     None
 }
 
-/// The members of a line that is an array of at most `MAX_PARTS` strings with no escape, whole numbers that do not begin with
-/// 0, and nulls, which it puts into `parts` in place of what was there, and then of a list of rows where there is one. Of any other
-/// line it says nothing, nor where a growth was refused.
+/// The members of a line that is an array of at most `MAX_PARTS` strings with no escape, whole
+/// numbers that do not begin with 0, and nulls, which it puts into `parts` in place of what was
+/// there, and then of a list of rows where there is one. Of any other line it says nothing, nor
+/// where a growth was refused.
 pub fn scanned_with_rows<'a>(
     alloc: Global,
     line: &'a [u8],

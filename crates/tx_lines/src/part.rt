@@ -11,7 +11,8 @@ use serde_json::Value;
 /// The most members that a step has.
 pub const MAX_PARTS: usize = 7;
 
-/// A member: a whole number from 0 to 2^64 - 1, null, a string, or what else a value may be. What it is by default is all zeros.
+/// A member: a whole number from 0 to 2^64 - 1, null, a string, or what else a value may be. What
+/// it is by default is all zeros.
 #[derive(Clone, Copy, Debug, Drop)]
 pub enum Part<'a> {
     Number(u64),

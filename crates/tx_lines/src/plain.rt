@@ -19,7 +19,7 @@ fn stops(lanes: u8x8) -> u64
         | lanes.simd_lt(u8x8::splat(32))).to_bitmask()
 }
 
-// The same, or that is no ASCII.
+// A bit for each lane that does not stand for itself, or that is no ASCII.
 #[inline(always)]
 fn foreign(lanes: u8x8) -> u64
     ensures { result ≡ mask_l (map is_foreign lanes) }

@@ -35,7 +35,8 @@ pub enum Reply {
     Status(Status),
     /// What is shown of a key.
     Versions(Shown),
-    /// How many write records, and how many values of the `default` family, a collection of all regions dropped.
+    /// How many write records, and how many values of the `default` family, a collection of all
+    /// regions dropped.
     Collected { records: u64, values: u64 },
     /// The seat's ticks are spent.
     OracleSpent,
@@ -112,7 +113,8 @@ fn put_words(out: &mut Vec<u8>, reply: &Reply) -> Result<(), AllocError>
     }
 }
 
-/// The bytes that the line of E12 takes at most, with any number. Where they are kept, it is told without a growth.
+/// The bytes that the line of E12 takes at most, with any number. Where they are kept, it is told
+/// without a growth.
 pub const REFUSAL_BYTES: usize = 32;
 
 /// Appends the line that tells a reply, with its newline.

@@ -1,5 +1,5 @@
-//! A line that is an array of strings, numbers and nulls, by a scan of its bytes. A line with an escape, or of another shape, is
-//! left to others.
+//! A line that is an array of strings, numbers and nulls, by a scan of its bytes. A line with an
+//! escape, or of another shape, is left to others.
 ghost use Rattle.std.specs.Prelude.{◌≡◌, ◌≢◌, ◌<◌, ◌≤◌, ◌-◌, ◌∷◌, ℕ, [], length, get_or, drop, slice_range, false, Some, IsTrue, IfSome, MatchOption};
 ghost use Rattle.tx_lines.specs.Plain.{is_stop};
 ghost use Rattle.json.specs.Token.{string as string_token, null as null_token, end_array};
@@ -205,7 +205,8 @@ fn member(line: &str, from: usize) -> Option<(Part<'_>, usize)>
     Some((Part::Null, after))
 }
 
-/// Puts the plain members of a line's array into `parts`, up to its end, or up to the place of the first that is none.
+/// Puts the plain members of a line's array into `parts`, up to its end, or up to the place of the
+/// first that is none.
 pub(crate) fn leading<'a>(line: &'a str, parts: &mut Parts<'a>) -> Option<Option<usize>>
     requires { parts.old.items ≡ [] }
     ensures { IfSome result (λ place. MatchOption place
@@ -230,9 +231,10 @@ pub(crate) fn leading<'a>(line: &'a str, parts: &mut Parts<'a>) -> Option<Option
     None
 }
 
-/// Puts the members of a line into `parts`, in place of what was there, where it is an array of one to `MAX_PARTS` strings with no escape,
-/// whole numbers that do not begin with 0, and nulls, with spaces between them at most. Of any other line it says nothing: it may
-/// be the same array in another spelling.
+/// Puts the members of a line into `parts`, in place of what was there, where it is an array of one
+/// to `MAX_PARTS` strings with no escape, whole numbers that do not begin with 0, and nulls, with
+/// spaces between them at most. Of any other line it says nothing: it may be the same array in
+/// another spelling.
 pub fn scanned<'a>(line: &'a [u8], parts: &mut Parts<'a>) -> bool
     ensures { IsTrue result → json_of line.now ≡ Some (array (parts_items parts.new.items)) }
 {

@@ -1,4 +1,5 @@
-//! The text of a line's parts, appended to bytes that are kept from line to line: a kept buffer allocates only where it grows.
+//! The text of a line's parts, appended to bytes that are kept from line to line: a kept buffer
+//! allocates only where it grows.
 ghost use Rattle.std.specs.Prelude.{◌≡◌, ℕ, [], ◌∷◌, ◌++◌, ◌<◌, ◌≤◌, decimal, length, get_or, false, OnOk, IsTrue, IsAscii};
 ghost use Rattle.tx_lines.specs.declared.plain.TheConstants.{BLOCK};
 ghost use Rattle.tx_lines.specs.Plain.{is_foreign};
@@ -43,7 +44,8 @@ fn put_long(out: &mut Vec<u8>, n: u64) -> Result<(), AllocError>
     out.extend_from_slice(buffer.format(n).as_bytes())
 }
 
-/// Appends a number in decimal digits. Up to eight of them are copied as a block, of which the line then keeps as many as there are.
+/// Appends a number in decimal digits. Up to eight of them are copied as a block, of which the line
+/// then keeps as many as there are.
 pub(crate) fn put_digits(out: &mut Vec<u8>, n: u64) -> Result<(), AllocError>
     ensures { OnOk result (out.new.items ≡ out.old.items ++ decimal n) }
 {

@@ -1,4 +1,5 @@
--- How a commit ends: refused in the middle it leaves what the table says, done it leaves the table after.
+-- How a commit ends: refused in the middle it leaves what the table says, done it leaves
+-- the table after.
 use Rattle.std.proofs.Common.{◌≡◌, ℕ, ◌+◌, ◌<◌, ◌≤◌, cond, List, take, Option, Some, None, sym, ap, subst, ◌∙◌}
 use Rattle.std.specs.Ordering.{nat_cmp, is_eq}
 use Rattle.std.specs.BTreeMap as tree

@@ -12,7 +12,8 @@ pub mod Spans
 pub mod Steps
 -- A commit: what is free is what the table allows, and what is listed is what the table then says.
 pub mod CommitSteps
--- How a commit ends: refused in the middle it leaves what the table says, done it leaves the table after.
+-- How a commit ends: refused in the middle it leaves what the table says, done it leaves
+-- the table after.
 pub mod CommitEnds
 -- The walk over the rows of a scan says what the scan sees.
 pub mod Scans

@@ -1,5 +1,5 @@
--- What every run of the machine says: what has ended stays so, no two overlapping transactions commit one key, and what a read has
--- seen is what it would see at any later moment.
+-- What every run of the machine says: what has ended stays so, no two overlapping transactions
+-- commit one key, and what a read has seen is what it would see at any later moment.
 use Rattle.std.proofs.Common.{◌≡◌, ◌≢◌, ℕ, ◌≤◌, ◌==◌, ◌++◌, ◌⊎◌, inl, inr, List, [], ◌∷◌, Option, Some, None, refl, sym, ap, subst, ◌∙◌, arith}
 use Rattle.std.proofs.lemmas.Bool.{eq-eqb}
 use Rattle.tx_types.specs.declared.key.Key.{Key}

@@ -1,9 +1,11 @@
--- Snapshot isolation, with timestamps in the open. A transaction is named by the number at which it starts, and commits at one
--- number in one step. Whoever reads at r sees what is committed at or below r; to keep that so for ever, no later commit may come at
--- or below r on a key that was read there (`unread`). An insert commits only where its transaction, reading at its start, would have
--- seen no value there (`fresh`). Two transactions overlap where each starts below the other's commit; of two
--- that share a key only one commits (`apart`). An async commit takes a number that nobody need have drawn, at most one above the
--- last: a transaction that starts at that number sees it. Lists of steps are newest first.
+-- Snapshot isolation, with timestamps in the open. A transaction is named by the number at which it
+-- starts, and commits at one number in one step. Whoever reads at r sees what is committed at or
+-- below r; to keep that so for ever, no later commit may come at or below r on a key that was read
+-- there (`unread`). An insert commits only where its transaction, reading at its start, would have
+-- seen no value there (`fresh`). Two transactions overlap where each starts below the other's
+-- commit; of two that share a key only one commits (`apart`). An async commit takes a number that
+-- nobody need have drawn, at most one above the last: a transaction that starts at that number sees
+-- it. Lists of steps are newest first.
 use Rattle.std.specs.Prelude.{◌≡◌, ◌≢◌, ℕ, ◌+◌, ◌<◌, ◌≤◌, ◌==◌, ◌⊎◌, Bool, true, false, cond, List, [], ◌∷◌, length, Option, Some, None, bytes_eq, IsTrue}
 use Rattle.tx_types.specs.declared.key.Key.{Key}
 use Rattle.tx_types.specs.declared.value.Value.{Value}
@@ -66,7 +68,8 @@ pub record Newest (rows : Rows) (k : Key) (r : ℕ) (m : Mutation) : Type 0 wher
   pub upto : at ≤ r
   pub newest : NoneBetween rows k at r
 
--- what a read of k at r sees: the value that the newest commit leaves, or none where it leaves none or there is none
+-- what a read of k at r sees: the value that the newest commit leaves, or none where it leaves none
+-- or there is none
 abbrev pub Sees : Rows → Key → ℕ → Option Value → Type 0
 Sees rows k r (Some v) = (m : Mutation) × Newest rows k r m × (put_by m ≡ Some v)
 Sees rows k r None = (m : Mutation) (v : Value) → Newest rows k r m → put_by m ≡ Some v → ⊥
@@ -87,9 +90,10 @@ IsRead (x ∷ xs) k r = (IsTrue (x.covers k) × (x.at ≡ r)) ⊎ IsRead xs k r
 abbrev pub Overlap : ℕ → ℕ → ℕ → ℕ → Type 0
 Overlap t c u d = (t < d) × (u < c)
 
--- when the transaction that started at t may be committed at c: it is open and declared, c lies above its start and at most
--- one above the last number, no read at or above c covers a key that it puts or deletes, a read at its start sees no value of what it
--- inserts, and no committed transaction that shares a key with it would overlap it
+-- when the transaction that started at t may be committed at c: it is open and declared, c lies
+-- above its start and at most one above the last number, no read at or above c covers a key that it
+-- puts or deletes, a read at its start sees no value of what it inserts, and no committed
+-- transaction that shares a key with it would overlap it
 pub record MayCommit (table : Table) (t c : ℕ) : Type 0 where
   pub set : List Change
   pub opened : table.row t ≡ Some record { changes = Some set; state = Open }

@@ -26,7 +26,8 @@ KeptAt points spans k r = (points k ≡ Some r) ⊎ ((xs : List Span) × (spans 
 abbrev pub IsNoted : Reads → Key → ℕ → Type 0
 IsNoted reads k r = KeptAt (tree.get (slice_cmp nat_cmp) reads.points) (tree.get nat_cmp reads.spans) k r
 
--- a read at r of the keys that pass the test is kept beside those before: of each key the greatest timestamp remains
+-- a read at r of the keys that pass the test is kept beside those before: of each key the greatest
+-- timestamp remains
 pub record Grows (old new : Key → ℕ → Type 0) (covers : Key → Bool) (r : ℕ) : Type 0 where
   pub kept : (k : Key) (s : ℕ) → old k s → (u : ℕ) × (s ≤ u) × new k u
   pub added : (k : Key) → IsTrue (covers k) → (u : ℕ) × (r ≤ u) × new k u

@@ -39,7 +39,8 @@ version_in (Some versions) c = tree.get nat_cmp versions c
 abbrev pub version_of : Index → Key → ℕ → Option Version
 version_of index k c = version_in (versions_of index k) c
 
--- each commit is listed, each version listed is what its transaction declared, and no two commits overlap
+-- each commit is listed, each version listed is what its transaction declared, and no
+-- two commits overlap
 pub record ListsCommits (rows : Rows) (versions : Key → ℕ → Option Version) : Type 0 where
   pub listed : (k : Key) (u c : ℕ) (m : Mutation) → Commits rows k u c m → versions k c ≡ Some record { start = u; mutation = m }
   pub declared : (k : Key) (c : ℕ) (v : Version) → versions k c ≡ Some v
@@ -90,15 +91,15 @@ abbrev pub ListedOn : Option Versions → Fates → ℕ → ℕ → Mutation →
 ListedOn None fates u c m = ⊥
 ListedOn (Some versions) fates u c m = Listed versions fates u c m
 
--- nothing forbids that a change is committed: no listed commit would overlap, no read at or above covers what it puts or deletes, and of
--- what it inserts a read at the start sees no value
+-- nothing forbids that a change is committed: no listed commit would overlap, no read at or above
+-- covers what it puts or deletes, and of what it inserts a read at the start sees no value
 pub record IsFree (index : Index) (fates : Fates) (reads : Reads) (t c : ℕ) (change : Change) : Type 0 where
   pub apart : (u d : ℕ) (m : Mutation) → ListedOn (versions_of index change.key) fates u d m → Overlap t c u d → ⊥
   pub unread : IsVisible change.mutation → (r : ℕ) → IsNoted reads change.key r → r < c
   pub fresh : IsInsert change.mutation → Shows index fates change.key t None
 
--- a listed commit would overlap, or a read at or above covers what it puts or deletes, or a read at the start sees a value of what it
--- inserts
+-- a listed commit would overlap, or a read at or above covers what it puts or deletes, or a read at
+-- the start sees a value of what it inserts
 abbrev pub IsBlocked : Index → Fates → Reads → ℕ → ℕ → Change → Type 0
 IsBlocked index fates reads t c change =
     ((u : ℕ) × (d : ℕ) × (m : Mutation) × ListedOn (versions_of index change.key) fates u d m × Overlap t c u d)

@@ -1,4 +1,5 @@
 -- What the rows of a scan are checked against, one after the other.
+-- Only this crate's own clauses cite it.
 use Rattle.std.specs.Prelude.{ℕ, Some, None}
 use Rattle.std.specs.Cmp.Lexicographic.{slice_cmp}
 use Rattle.std.specs.Ordering.{nat_cmp}
@@ -19,7 +20,8 @@ IsKeyWithin from to k = IsInRange (slice_cmp nat_cmp) from (Excluded to) k
 abbrev pub IsBare : Index → Fates → Bound Key → Key → ℕ → Type 0
 IsBare index fates from to r = (k : Key) → IsKeyWithin from to k → Shows index fates k r None
 
--- from a bound on, the row's key is the first of the scan's range that shows a value, and it shows the row's
+-- from a bound on, the row's key is the first of the scan's range that shows a value, and
+-- it shows the row's
 pub record IsNextRow (index : Index) (fates : Fates) (s : ScanRead) (from : Bound Key) (row : KeyValue) : Type 0 where
   pub within : IsKeyWithin from s.to row.key
   pub bare : IsBare index fates from row.key s.at

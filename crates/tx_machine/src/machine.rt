@@ -1,9 +1,10 @@
 //! The machine that commits each transaction in one step.
 //!
-//! It keeps of each number that was drawn how far its transaction has come, and of each transaction that ended how. Commits
-//! are listed by key and commit timestamp, reads by key and by timestamp, so that a step costs about the logarithm of what was
-//! before. A commit lists its versions first and ends the transaction last: where memory is refused in between, the versions
-//! say nothing, since their transaction is not committed.
+//! It keeps of each number that was drawn how far its transaction has come, and of each transaction
+//! that ended how. Commits are listed by key and commit timestamp, reads by key and by timestamp,
+//! so that a step costs about the logarithm of what was before. A commit lists its versions first
+//! and ends the transaction last: where memory is refused in between, the versions say nothing,
+//! since their transaction is not committed.
 ghost use Rattle.std.specs.Prelude.{◌≡◌, ◌↔◌, true, false, List, Option, Some, None, IsTrue, IfOk, IfErr, OnOk, OnErr, IsErrOf};
 ghost use Rattle.std.specs.Ordering.{nat_cmp};
 ghost use Rattle.std.specs.BTreeMap as tree;
@@ -89,9 +90,9 @@ impl Machine {
         }
     }
 
-    /// Makes a step. `Refused::Step` where the machine's table does not admit it, `Refused::Memory` where there is no room;
-    /// either way the machine is as it was. A step costs about the logarithm of the steps before it, for each key that it
-    /// names or finds in its range.
+    /// Makes a step. `Refused::Step` where the machine's table does not admit it, `Refused::Memory`
+    /// where there is no room; either way the machine is as it was. A step costs about the
+    /// logarithm of the steps before it, for each key that it names or finds in its range.
     pub fn step(&mut self, step: &Step) -> Result<(), Refused>
         ensures ok { OnOk result (Makes self.old self.new step.now) }
         ensures refused { IsErrOf result Refused.Step → Refuses self.old step.now }

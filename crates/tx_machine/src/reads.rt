@@ -1,7 +1,7 @@
 //! Which keys were read, and up to which timestamp: what a commit has to lie above.
 //!
-//! Of a key that was read alone only the greatest timestamp is kept. Ranges are kept by timestamp, since a commit asks only
-//! for those at its own timestamp or above, which are few.
+//! Of a key that was read alone only the greatest timestamp is kept. Ranges are kept by timestamp,
+//! since a commit asks only for those at its own timestamp or above, which are few.
 ghost use Rattle.std.specs.Prelude.{◌≡◌, ℕ, ◌<◌, ◌≤◌, List, [], ◌∷◌, ◌++◌, true, false, ◌↔◌, Some, IsTrue, cond, ◌==◌, unwrap_or, OnOk, OnErr, IfErr};
 ghost use Rattle.std.specs.List.{list_any};
 ghost use Rattle.std.specs.Cmp.Lexicographic.{slice_cmp};

@@ -1,7 +1,8 @@
 //! Whether the rows that a scan was answered with are those that a read at its timestamp sees.
 //!
-//! The rows are walked in order. Between one row and the next no key may show a value, and each row's key has to show the
-//! row's value. So only keys of the range are looked at, and where the limit ended the scan none beyond the last row.
+//! The rows are walked in order. Between one row and the next no key may show a value, and each
+//! row's key has to show the row's value. So only keys of the range are looked at, and where the
+//! limit ended the scan none beyond the last row.
 ghost use Rattle.std.specs.Prelude.{◌↔◌, option_map, IsTrue};
 ghost use Rattle.std.specs.Cmp.Lexicographic.{slice_cmp};
 ghost use Rattle.std.specs.Ordering.{nat_cmp};
@@ -49,10 +50,10 @@ fn is_next(index: &Index, fates: &Fates, scan: &ScanRead, from: Bound<&Key>, row
         && shown(index, fates, &row.key, scan.at).is_some_and(|value| *value == row.value)
 }
 
-/// Whether a scan at its timestamp sees its rows: the first keys of its range that show a value, in order and with what
-/// they show, at most as many as its limit. It costs O(log n) for each row among n keys, and O(log m) for each key from the
-/// start of the range up to the last row, or up to the end where the rows are fewer than the limit, among the m versions
-/// of that key.
+/// Whether a scan at its timestamp sees its rows: the first keys of its range that show a value, in
+/// order and with what they show, at most as many as its limit. It costs O(log n) for each row
+/// among n keys, and O(log m) for each key from the start of the range up to the last row, or up to
+/// the end where the rows are fewer than the limit, among the m versions of that key.
 pub(crate) fn sees_rows(index: &Index, fates: &Fates, scan: &ScanRead) -> bool
     ensures { IsTrue result ↔ ShowsRows index.now fates.now scan.now }
 {

@@ -17,7 +17,7 @@ fn has_key(set: &[Change], key: &Key) -> bool
     set.iter().any(|change| change.key == *key)
 }
 
-// Whether each key stands once, where each change is compared with those before it.
+// Whether no key comes twice, by comparing all pairs: for short lists.
 fn are_apart(set: &[Change]) -> bool
     ensures { IsTrue result ↔ IsDistinct set.now }
 {
@@ -29,7 +29,7 @@ fn are_apart(set: &[Change]) -> bool
     true
 }
 
-// The same, where each is looked up among those before it.
+// Whether no key comes twice, by a set of those before: for long lists.
 fn are_found_once(alloc: Global, set: &[Change]) -> Result<bool, Fault>
     ensures ok { IfOk result (λ distinct. IsTrue distinct ↔ IsDistinct set.now) }
     ensures err { IfErr result (λ e. e ≡ Fault.OutOfMemory) }

@@ -1,7 +1,8 @@
 //! The steps of the one-step machine, as a trace of them is kept.
 use tx_types::{Changes, Fate, Key, KeyValues, Ts, Value};
 
-/// A scan that was answered: the rows that were seen from `from` up to but not including `to`, at most `limit` of them.
+/// A scan that was answered: the rows that were seen from `from` up to but not including `to`, at
+/// most `limit` of them.
 #[derive(Debug, Drop)]
 pub struct ScanRead {
     pub from: Key,

@@ -23,7 +23,8 @@ impl<'a> Checked<'a> {
     }
 }
 
-/// The steps as a run. `Refused::Step` where they are none, `Refused::Memory` where there was no room to find out.
+/// The steps as a run. `Refused::Step` where they are none, `Refused::Memory` where there was no
+/// room to find out.
 pub fn check_steps(alloc: Global, steps: &[Step]) -> Result<Checked<'_>, Refused>
     ensures ok { IfOk result (λ checked. checked.steps.now ≡ steps.now) }
     ensures refused { IsErrOf result Refused.Step → IsRun (reverse steps.now) → ⊥ }
@@ -37,8 +38,8 @@ pub fn check_steps(alloc: Global, steps: &[Step]) -> Result<Checked<'_>, Refused
     Ok(Checked { steps })
 }
 
-/// The steps as a run, or none where they are no run or where there was no room to find out. A trace of n steps over many
-/// keys costs about n log n.
+/// The steps as a run, or none where they are no run or where there was no room to find out. A
+/// trace of n steps over many keys costs about n log n.
 pub fn check_trace(alloc: Global, steps: &[Step]) -> Option<Checked<'_>>
     ensures { IfSome result (λ checked. checked.steps.now ≡ steps.now) }
 {

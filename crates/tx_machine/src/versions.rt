@@ -1,7 +1,8 @@
-//! The versions of one key, by commit timestamp: what a read sees of them, and which of them a commit would overlap.
+//! The versions of one key, by commit timestamp: what a read sees of them, and which of them a
+//! commit would overlap.
 //!
-//! A version counts only where its transaction is committed at the version's timestamp. One that was listed before memory
-//! was refused in the middle of a commit says nothing.
+//! A version counts only where its transaction is committed at the version's timestamp. One that
+//! was listed before memory was refused in the middle of a commit says nothing.
 ghost use Rattle.std.specs.Prelude.{◌≡◌, ℕ, ◌<◌, ◌≤◌, ◌↔◌, option_map, true, false, IsTrue, IfSome, IfNone, IsSome};
 ghost use Rattle.std.specs.Ordering.{nat_cmp};
 ghost use Rattle.std.specs.BTreeMap as tree;
@@ -109,8 +110,8 @@ pub(crate) fn seen<'a>(versions: &'a Versions, fates: &Fates, at: Ts) -> Option<
     }
 }
 
-/// Whether a committed version overlaps a transaction from `start` to `commit`. The first above `start` tells: those
-/// above it started later still.
+/// Whether a committed version overlaps a transaction from `start` to `commit`. The first above
+/// `start` tells: those above it started later still.
 pub(crate) fn overlaps(versions: &Versions, fates: &Fates, start: Ts, commit: Ts) -> bool
     ensures some { result ≡ true → (u : ℕ) × (d : ℕ) × (m : Mutation) × Listed versions.now fates.now u d m × Overlap start commit u d }
     ensures none { result ≡ false → IsOrderly versions.now fates.now

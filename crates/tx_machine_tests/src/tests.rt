@@ -156,7 +156,8 @@ fn inserts_from(rt: &HostRuntime, start: u64) -> Result<bool, Fail> {
     Ok(check_trace(rt.alloc(), steps.as_slice()).is_some())
 }
 
-// An insert of a key without a value commits, and is read as a put; its own read at its start does not stand in its way.
+// An insert of a key without a value commits, and is read as a put; its own read at its start does
+// not stand in its way.
 #[test]
 fn an_insert_is_read(rt: HostRuntime) -> Result<(), Fail> {
     let mut steps = Vec::new(rt.alloc());

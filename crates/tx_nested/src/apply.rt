@@ -93,6 +93,7 @@ impl KeyFamilies {
         ensures number { self.new.number ≡ self.old.number }
         ensures err { IfErr result (λ e. e ≡ Fault.OutOfMemory) }
     {
+        // For proofs: it is a number of 64 bits.
         let _ticks = commit.get();
         let Some(lock) = &self.lock else {
             return Ok(());
@@ -117,6 +118,7 @@ impl KeyFamilies {
         ensures number { self.new.number ≡ self.old.number }
         ensures err { IfErr result (λ e. e ≡ Fault.OutOfMemory) }
     {
+        // For proofs: it is a number of 64 bits.
         let _ticks = start.get();
         leave(&mut self.writes, alloc, start, left)?;
         if !removes_lock {

@@ -40,7 +40,7 @@ impl KeyFamilies {
         }
     }
 
-    // The same, by a search for that record.
+    // What a read at `at` sees of the key, by a search for the record.
     fn value_searched(&self, alloc: Global, at: Ts) -> Result<Option<Value>, Fault>
         ensures value { IfOk result (λ value. Reads (cells_of (held self.now)).write at value) }
         ensures err { IfErr result (λ e. e ≡ Fault.OutOfMemory) }
@@ -57,7 +57,7 @@ impl KeyFamilies {
         }
     }
 
-    // The same. Mostly the newest record is the one.
+    // What a read at `at` sees of the key: mostly what its newest record leaves, without a search.
     fn value_at(&self, alloc: Global, at: Ts) -> Result<Option<Value>, Fault>
         ensures value { IfOk result (λ value. Reads (cells_of (held self.now)).write at value) }
         ensures err { IfErr result (λ e. e ≡ Fault.OutOfMemory) }

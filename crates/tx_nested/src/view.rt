@@ -71,8 +71,8 @@ impl KeyFamilies {
         }
     }
 
-    // What a request of the transaction that started then sees of the key, and of the record at `commit`. Mostly all records are
-    // older.
+    // What a request of the transaction that started then sees of the key, and of the record at
+    // `commit`. Mostly all records are older.
     fn view(&self, start: Ts, commit: Ts) -> TxnView
         ensures { Shows (cells_of (held self.now)) start commit result }
     {
@@ -93,7 +93,8 @@ impl KeyFamilies {
 impl NestedCells {
     ghost use Rattle.tx_nested.specs.Nested.{nested_content};
 
-    /// What a request of the transaction that started then sees of its key, and of the record at `commit`.
+    /// What a request of the transaction that started then sees of its key, and of the
+    /// record at `commit`.
     pub(crate) fn view_of(
         &self,
         alloc: Global,

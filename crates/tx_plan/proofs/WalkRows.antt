@@ -12,7 +12,8 @@ abbrev pub comes_before : List KeyRow → Key → Bool
 comes_before [] k = true
 comes_before (x ∷ rows) k = key_lt k x.key
 
--- the rows that are still to come, in order, are what stands on each key of the part that does not come before them
+-- the rows that are still to come, in order, are what stands on each key of the part that does not
+-- come before them
 pub record AreLeft (cells : Key → Cells) (within : Key → Bool) (rows : List KeyRow) : Type 0 where
   pub rising : AreInOrder rows
   pub inside : KeysPass within rows

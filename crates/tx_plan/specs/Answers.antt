@@ -1,4 +1,5 @@
--- What a region may answer to a request, and what each answer leaves of it: the case tables of all commands.
+-- What a region may answer to a request, and what each answer leaves of it: the case tables
+-- of all commands.
 use Rattle.std.specs.Prelude.{◌≡◌, ℕ, Option, Some, None}
 use Rattle.tx_plan.specs.declared.body.Body.{Body}
 use Rattle.tx_plan.specs.declared.body.Body.TheVariants.{Get, Scan, Prewrite, Commit, BatchRollback, TxnHeartBeat, CheckTxnStatus, CheckSecondaryLocks, ResolveLock, RaiseSafe, LocksBelow, Collect}
@@ -51,7 +52,8 @@ AnswersBy Promise region loaded (RaiseSafe b) a = AnswersRaiseSafe region.safe l
 AnswersBy Promise region loaded (LocksBelow b) a = AnswersLocksBelow region.cells b a
 AnswersBy Promise region loaded (Collect b) a = AnswersCollect region.cells region.safe b a
 
--- What a region may answer, where `top` is the last number drawn when it does. One thing is free: the minimum of an async lock.
+-- What a region may answer, where `top` is the last number drawn when it does. One thing is free:
+-- the minimum of an async lock.
 abbrev pub Answers : Region → ℕ → ℕ → Body → Answer → Type 0
 Answers region loaded top = AnswersBy (MayPromise region.max_read top) region loaded
 

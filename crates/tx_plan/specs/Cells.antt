@@ -1,5 +1,5 @@
--- What a region holds: on each key a lock and write records, and three numbers. A record holds its whole value here; which
--- values a store keeps apart is `is_long`.
+-- What a region holds: on each key a lock and write records, and three numbers. A record holds its
+-- whole value here; which values a store keeps apart is `is_long`.
 use Rattle.std.specs.Prelude.{ℕ, ◌==◌, Bool, false, cond, List, Option, Some, None, bytes_eq, length, nat_lt}
 use Rattle.tx_types.specs.declared.limits.TheConstants.{MAX_INLINE_BYTES}
 use Rattle.tx_types.specs.declared.key.Key.{Key}
@@ -21,14 +21,16 @@ pub record Lock : Type 0 where
   pub ttl : ℕ
   pub primary : Key
 
--- that a transaction committed at the record's timestamp: what it did to the key, its start, and whether the transaction that
--- started at the record's own timestamp, another one, was rolled back here and shares the cell
+-- that a transaction committed at the record's timestamp: what it did to the key, its start, and
+-- whether the transaction that started at the record's own timestamp, another one, was rolled back
+-- here and shares the cell
 pub record CommitRecord : Type 0 where
   pub mutation : Mutation
   pub start : ℕ
   pub overlapped_rollback : Bool
 
--- a write record: a commit record, or the rollback of the transaction that started at the record's timestamp
+-- a write record: a commit record, or the rollback of the transaction that started at the
+-- record's timestamp
 pub data Write : Type 0 where
   CommitOf : (record_of : CommitRecord) → Write
   Rollback : Write
@@ -42,7 +44,8 @@ pub record Cells : Type 0 where
   pub lock : Option Lock
   pub write : Writes
 
--- a region: its cells by key, the greatest timestamp that was read in it, its safe point, and the safe point of the last collection
+-- a region: its cells by key, the greatest timestamp that was read in it, its safe point, and the
+-- safe point of the last collection
 pub record Region : Type 0 where
   pub cells : Key → Cells
   pub max_read : ℕ
@@ -56,8 +59,9 @@ no_cells = record { lock = None; write = λ c. None }
 abbrev pub new_region : Region
 new_region = record { cells = λ k. no_cells; max_read = 0; safe = 0; collected = 0 }
 
--- whether a mutation puts a value of more than 255 bytes: a store keeps such a value apart, in the `default` family, under the
--- key and the start of its transaction, as long as the lock or the commit record that puts it stands
+-- whether a mutation puts a value of more than 255 bytes: a store keeps such a value apart, in the
+-- `default` family, under the key and the start of its transaction, as long as the lock or the
+-- commit record that puts it stands
 abbrev pub is_long : Mutation → Bool
 is_long (mutation.Put v) = nat_lt MAX_INLINE_BYTES (length v)
 is_long (mutation.Insert v) = nat_lt MAX_INLINE_BYTES (length v)

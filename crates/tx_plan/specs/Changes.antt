@@ -33,7 +33,8 @@ after_left write t left.Already = write
 after_left write t left.Record = with_write write t Rollback
 after_left write t left.Mark = λ q. cond (t == q) (mark (write q)) (write q)
 
--- What a change makes of the cells. A lock is put by `after_put`, with the prewrite that asks for it.
+-- What a change makes of the cells. A lock is put by `after_put`, with the prewrite
+-- that asks for it.
 abbrev pub changed : Cells → KeyChange → Cells
 changed cells change.Nothing = cells
 changed cells (change.Lock new) = cells
@@ -54,8 +55,8 @@ pub record RaisesMinimum (found : Option Lock) (min : ℕ) : Type 0 where
   pub stands : found ≡ Some lock
   pub raises : lock.min ≤ min
 
--- a lock is committed at its minimum or above, where no other transaction committed, and it keeps the rollback of the transaction
--- that started there as the mark
+-- a lock is committed at its minimum or above, where no other transaction committed, and it keeps
+-- the rollback of the transaction that started there as the mark
 pub record CommitsAt (cells : Cells) (c : ℕ) (overlapped : Bool) : Type 0 where
   pub lock : Lock
   pub stands : cells.lock ≡ Some lock
@@ -68,7 +69,8 @@ abbrev pub IsRemoved : Option Lock → ℕ → Bool → Type 0
 IsRemoved found t true = (lock : Lock) × OwnLock found t lock
 IsRemoved found t false = Unit {0}
 
--- A rollback is its own record where no other transaction committed, and else the mark on that commit record.
+-- A rollback is its own record where no other transaction committed, and else the mark on
+-- that commit record.
 abbrev pub IsLeft : Writes → ℕ → Left → Type 0
 IsLeft write t left.Already = OwnRollback write t
 IsLeft write t left.Record = (rec : CommitRecord) → OthersCommit write t t rec → ⊥

@@ -8,7 +8,8 @@ use Rattle.tx_plan.specs.Cells.{Lock, CommitRecord, Writes}
 use Rattle.tx_plan.specs.Own.{OthersCommit}
 use Rattle.tx_plan.specs.cases.Commit.{CommitsLock}
 
--- a transaction's lock may be committed at c: not below its minimum, and not where another transaction committed
+-- a transaction's lock may be committed at c: not below its minimum, and not where another
+-- transaction committed
 pub record MayCommitAt (write : Writes) (start c : ℕ) (lock : Lock) : Type 0 where
   pub upto : lock.min ≤ c
   pub unconflicted : (rec : CommitRecord) → OthersCommit write start c rec → ⊥

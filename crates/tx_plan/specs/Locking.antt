@@ -7,7 +7,8 @@ use Rattle.tx_plan.specs.declared.answer.Answer.TheVariants.{Prewritten}
 use Rattle.tx_plan.specs.Tables.{Case}
 use Rattle.tx_plan.specs.cases.Prewrite.{IsWithin}
 
--- the last cases of the table: an async lock with a minimum of P, where that is asked for and allowed, else a two-phase one
+-- the last cases of the table: an async lock with a minimum of P, where that is asked for and
+-- allowed, else a two-phase one
 abbrev pub AnswersLock : (ℕ → Type 0) → Prewrite → Answer → Type 0
 AnswersLock P b a =
     Case (b.mode ≡ Async) ((m : ℕ) × P m × Case (IsWithin b.max_commit m) (a ≡ Prewritten m) (a ≡ Prewritten 0))

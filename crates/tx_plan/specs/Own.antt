@@ -1,4 +1,5 @@
--- What stands of a transaction on a key, and what may be done with it: a transaction is named by its start timestamp.
+-- What stands of a transaction on a key, and what may be done with it: a transaction is named by
+-- its start timestamp.
 use Rattle.std.specs.Prelude.{◌≡◌, ◌≢◌, ◌⊎◌, ℕ, ◌==◌, Bool, true, false, cond, Option, Some, None}
 use Rattle.tx_plan.specs.Cells.{Lock, CommitRecord, Write, CommitOf, Rollback, Writes, Cells, with_lock, with_write}
 
@@ -30,7 +31,8 @@ on_own_lock cells t f = elim cells.lock [ None ↦ cells | Some lock ↦ cond (l
 abbrev pub marked : CommitRecord → CommitRecord
 marked rec = record { mutation = rec.mutation; start = rec.start; overlapped_rollback = true }
 
--- what a rollback that is left makes of the record at its timestamp: another's commit record is marked, else a rollback stands there
+-- what a rollback that is left makes of the record at its timestamp: another's commit record is
+-- marked, else a rollback stands there
 abbrev pub rolled : ℕ → Option Write → Write
 rolled t None = Rollback
 rolled t (Some Rollback) = Rollback

@@ -10,7 +10,8 @@ use Rattle.tx_plan.specs.declared.answer.Answer.TheVariants.{Found, Nothing, Row
 use Rattle.tx_types.specs.Keys.{is_between, IsRising, value_in, is_scanned, IsVisible}
 use Rattle.tx_plan.specs.Cells.{Lock, CommitRecord, CommitOf, Writes, Cells}
 
--- a lock blocks a read at r where it puts or deletes, its minimum is at most r, and its transaction is not passed by
+-- a lock blocks a read at r where it puts or deletes, its minimum is at most r, and its transaction
+-- is not passed by
 pub record Blocks (standing : Option Lock) (r : ℕ) (bypass : List ℕ) (lock : Lock) : Type 0 where
   pub stands : standing ≡ Some lock
   pub visible : IsVisible lock.mutation
@@ -55,7 +56,8 @@ pub record Walked (cells : Key → Cells) (r : ℕ) (bypass : List ℕ) (within 
   pub free : (k : Key) (lock : Lock) → IsTrue (within k) → Blocks (cells k).lock r bypass lock → ⊥
   pub read : (k : Key) → IsTrue (within k) → Reads (cells k).write r (value_in rows k)
 
--- the greatest timestamp read, after an answer to a read at r: one that a lock stopped counts, one refused by its timestamp does not
+-- the greatest timestamp read, after an answer to a read at r: one that a lock stopped counts, one
+-- refused by its timestamp does not
 abbrev pub raised : Answer → ℕ → ℕ → ℕ
 raised (Found v) r max_read = max max_read r
 raised Nothing r max_read = max max_read r

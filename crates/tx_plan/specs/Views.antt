@@ -68,7 +68,8 @@ pub record OnlyOn (key : Key) (on_key : Cells) (before after : Key → Cells) : 
   pub here : after key ≡ on_key
   pub others : (k : Key) → k ≢ key → after k ≡ before k
 
--- the first row is of this key, of which a read at a timestamp sees this, and the others are still to come
+-- the first row is of this key, of which a read at a timestamp sees this, and the others
+-- are still to come
 pub record ComesNext (rows rest : List KeyRow) (at : ℕ) (key : Key) (view : ReadView) : Type 0 where
   pub cells : Cells
   pub first : rows ≡ (record { key = key; cells = cells }) ∷ rest

@@ -25,7 +25,8 @@ abbrev pub cells_by : List KeyRow → Key → Cells
 cells_by [] k = no_cells
 cells_by (x ∷ rows) k = cond (bytes_eq x.key k) x.cells (cells_by rows k)
 
--- a walk over a part of a region: in the order of the keys, each key of the part on which there is something, and no other
+-- a walk over a part of a region: in the order of the keys, each key of the part on which there is
+-- something, and no other
 pub record IsWalk (cells : Key → Cells) (within : Key → Bool) (rows : List KeyRow) : Type 0 where
   pub rising : AreInOrder rows
   pub inside : KeysPass within rows

@@ -17,7 +17,7 @@ pub struct Get {
 }
 
 impl Get {
-    /// The same.
+    /// A copy. `OutOfMemory` is its only fault.
     pub fn clone(&self) -> Result<Get, Fault>
         ensures ok { IfOk result (λ copy. copy ≡ self.now) }
         ensures err { IfErr result (λ e. e ≡ Fault.OutOfMemory) }
@@ -30,7 +30,8 @@ impl Get {
     }
 }
 
-/// Asks for the first `limit` keys with a value at a timestamp, from `from` up to but not including `to`.
+/// Asks for the first `limit` keys with a value at a timestamp, from `from` up to but
+/// not including `to`.
 #[derive(Debug, Drop)]
 pub struct Scan {
     pub from: Key,
@@ -42,7 +43,7 @@ pub struct Scan {
 }
 
 impl Scan {
-    /// The same.
+    /// A copy. `OutOfMemory` is its only fault.
     pub fn clone(&self) -> Result<Scan, Fault>
         ensures ok { IfOk result (λ copy. copy ≡ self.now) }
         ensures err { IfErr result (λ e. e ≡ Fault.OutOfMemory) }
@@ -57,7 +58,8 @@ impl Scan {
     }
 }
 
-/// The same in memory of its own, so that a request of any command is small. Contracts see what is asked.
+/// What a scan asks, in memory of its own, so that a request of any command is small. Contracts see
+/// what is asked.
 #[derive(Debug, Drop)]
 pub struct BoxedScan {
     body: Box<Scan>,
@@ -88,7 +90,7 @@ impl BoxedScan {
         &self.body
     }
 
-    /// The same.
+    /// A copy. `OutOfMemory` is its only fault.
     pub fn clone(&self) -> Result<BoxedScan, Fault>
         ensures ok { IfOk result (λ copy. copy ≡ self.now) }
         ensures err { IfErr result (λ e. e ≡ Fault.OutOfMemory) }
@@ -119,7 +121,7 @@ pub struct Prewrite {
 }
 
 impl Prewrite {
-    /// The same.
+    /// A copy. `OutOfMemory` is its only fault.
     pub fn clone(&self) -> Result<Prewrite, Fault>
         ensures ok { IfOk result (λ copy. copy ≡ self.now) }
         ensures err { IfErr result (λ e. e ≡ Fault.OutOfMemory) }
@@ -138,7 +140,8 @@ impl Prewrite {
     }
 }
 
-/// The same in memory of its own, so that a request of any command is small. Contracts see what is asked.
+/// What a prewrite asks, in memory of its own, so that a request of any command is small. Contracts
+/// see what is asked.
 #[derive(Debug, Drop)]
 pub struct BoxedPrewrite {
     body: Box<Prewrite>,
@@ -169,7 +172,7 @@ impl BoxedPrewrite {
         &self.body
     }
 
-    /// The same.
+    /// A copy. `OutOfMemory` is its only fault.
     pub fn clone(&self) -> Result<BoxedPrewrite, Fault>
         ensures ok { IfOk result (λ copy. copy ≡ self.now) }
         ensures err { IfErr result (λ e. e ≡ Fault.OutOfMemory) }
@@ -188,7 +191,7 @@ pub struct Commit {
 }
 
 impl Commit {
-    /// The same.
+    /// A copy. `OutOfMemory` is its only fault.
     pub fn clone(&self) -> Result<Commit, Fault>
         ensures ok { IfOk result (λ copy. copy ≡ self.now) }
         ensures err { IfErr result (λ e. e ≡ Fault.OutOfMemory) }
@@ -209,7 +212,7 @@ pub struct BatchRollback {
 }
 
 impl BatchRollback {
-    /// The same.
+    /// A copy. `OutOfMemory` is its only fault.
     pub fn clone(&self) -> Result<BatchRollback, Fault>
         ensures ok { IfOk result (λ copy. copy ≡ self.now) }
         ensures err { IfErr result (λ e. e ≡ Fault.OutOfMemory) }
@@ -231,7 +234,7 @@ pub struct TxnHeartBeat {
 }
 
 impl TxnHeartBeat {
-    /// The same.
+    /// A copy. `OutOfMemory` is its only fault.
     pub fn clone(&self) -> Result<TxnHeartBeat, Fault>
         ensures ok { IfOk result (λ copy. copy ≡ self.now) }
         ensures err { IfErr result (λ e. e ≡ Fault.OutOfMemory) }
@@ -244,7 +247,8 @@ impl TxnHeartBeat {
     }
 }
 
-/// Asks the primary what has become of its transaction, and pushes or rolls back its lock where that is due.
+/// Asks the primary what has become of its transaction, and pushes or rolls back its lock
+/// where that is due.
 #[derive(Debug, Drop)]
 pub struct CheckTxnStatus {
     pub key: Key,
@@ -260,7 +264,7 @@ pub struct CheckTxnStatus {
 }
 
 impl CheckTxnStatus {
-    /// The same.
+    /// A copy. `OutOfMemory` is its only fault.
     pub fn clone(&self) -> Result<CheckTxnStatus, Fault>
         ensures ok { IfOk result (λ copy. copy ≡ self.now) }
         ensures err { IfErr result (λ e. e ≡ Fault.OutOfMemory) }
@@ -284,7 +288,7 @@ pub struct CheckSecondaryLocks {
 }
 
 impl CheckSecondaryLocks {
-    /// The same.
+    /// A copy. `OutOfMemory` is its only fault.
     pub fn clone(&self) -> Result<CheckSecondaryLocks, Fault>
         ensures ok { IfOk result (λ copy. copy ≡ self.now) }
         ensures err { IfErr result (λ e. e ≡ Fault.OutOfMemory) }
@@ -315,7 +319,7 @@ impl ResolveLock {
         }
     }
 
-    /// The same.
+    /// A copy. `OutOfMemory` is its only fault.
     pub fn clone(&self) -> Result<ResolveLock, Fault>
         ensures ok { IfOk result (λ copy. copy ≡ self.now) }
         ensures err { IfErr result (λ e. e ≡ Fault.OutOfMemory) }
@@ -369,7 +373,7 @@ pub enum Body {
 }
 
 impl Body {
-    /// The same.
+    /// A copy. `OutOfMemory` is its only fault.
     pub fn clone(&self) -> Result<Body, Fault>
         ensures ok { IfOk result (λ copy. copy ≡ self.now) }
         ensures err { IfErr result (λ e. e ≡ Fault.OutOfMemory) }

@@ -1,4 +1,5 @@
-//! What a command changes on its key, told so that a store applies it to its families and looks up nothing.
+//! What a command changes on its key, told so that a store applies it to its families and
+//! looks up nothing.
 
 use tx_types::{Mode, Ts};
 
@@ -13,13 +14,14 @@ pub enum KeyChange {
     Ttl(u32),
     /// The lock has this minimum commit timestamp from now on.
     Minimum(Ts),
-    /// The lock goes, and its commit record is at `commit` in place of what was there. It keeps the lock's mutation,
-    /// whose value stays where it is.
+    /// The lock goes, and its commit record is at `commit` in place of what was there. It keeps the
+    /// lock's mutation, whose value stays where it is.
     Commit {
         commit: Ts,
         overlapped_rollback: bool,
     },
-    /// The transaction that started at `start` is rolled back. Its lock goes with the value that it puts.
+    /// The transaction that started at `start` is rolled back. Its lock goes with the
+    /// value that it puts.
     RollBack {
         start: Ts,
         removes_lock: bool,

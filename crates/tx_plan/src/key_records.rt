@@ -1,4 +1,5 @@
-//! Which write records of one key collection drops, and how many. Each store asks it of each of its keys.
+//! Which write records of one key collection drops, and how many. Each store asks it of
+//! each of its keys.
 ghost use Rattle.std.specs.Prelude.{◌≡◌, ◌≢◌, ◌↔◌, ℕ, ◌<◌, List, length, Some, true, MatchOption};
 ghost use Rattle.tx_plan.specs.Cells.{Writes};
 ghost use Rattle.tx_plan.specs.cases.Collect.{keeps};

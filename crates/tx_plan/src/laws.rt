@@ -32,7 +32,8 @@ pub fn check_leaves_the_minimum()
     ensures { (mark : ℕ) (body : Prewrite) → least_minimum (max mark body.start) body ≡ least_minimum mark body }
 {}
 
-/// What the cells of a key always meet stays so through each change that applies, each prewrite and each collection.
+/// What the cells of a key always meet stays so through each change that applies, each prewrite and
+/// each collection.
 pub fn cells_stay_sound()
     ensures change { (cells : Cells) (change : KeyChange) → IsSound cells → Applies cells change → IsSound (changed cells change) }
     ensures prewrite { (cells : Cells) (body : Prewrite) (new : NewLock) → IsSound cells → CanPut cells body new → IsSound (after_put cells body (Some new)) }

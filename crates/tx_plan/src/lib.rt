@@ -1,5 +1,6 @@
-//! The commands of a region: what is asked, what is answered, and the case tables that decide each answer and what it
-//! leaves. The tables stand in specs/cases, one file a command, and docs/PROTOCOL.md shows them side by side.
+//! The commands of a region: what is asked, what is answered, and the case tables that decide each
+//! answer and what it leaves. The tables stand in specs/cases, one file a command, and
+//! docs/PROTOCOL.md shows them side by side.
 #![tactic(auto)]
 
 mod answer;

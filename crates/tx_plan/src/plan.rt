@@ -1,5 +1,5 @@
-//! What a region makes of each command, one file a command: functions of what the request sees of its key. They take no
-//! memory.
+//! What a region makes of each command, one file a command: functions of what the request sees of
+//! its key. They take no memory.
 pub mod batch_rollback;
 pub mod check_secondary_locks;
 pub mod check_txn_status;

@@ -6,8 +6,8 @@ use crate::answer::Answer;
 use crate::key_change::KeyChange;
 use tx_types::{LockInfo, Ts};
 
-/// What is answered. Two answers name the lock on the key, which a plan sees no more of than its head: the store adds
-/// what is told of that lock.
+/// What is answered. Two answers name the lock on the key, which a plan sees no more of than its
+/// head: the store adds what is told of that lock.
 #[derive(Debug, Drop)]
 pub enum PlannedAnswer {
     /// This.
@@ -29,8 +29,9 @@ impl PlannedAnswer {
         }
     }
 
-    /// The whole answer, by what is told of the lock that was on the key before the change. An answer that names no lock
-    /// needs none. `TxnLockNotFound` where there is no lock to name: no plan names one that is not there.
+    /// The whole answer, by what is told of the lock that was on the key before the change. An
+    /// answer that names no lock needs none. `TxnLockNotFound` where there is no lock to name: no
+    /// plan names one that is not there.
     pub fn with_lock(self, info: Option<LockInfo>) -> Answer
         ensures { result ≡ answer_with info self }
     {
@@ -51,8 +52,8 @@ impl PlannedAnswer {
     }
 }
 
-/// What is answered to a command, what changes on its key, and which timestamp counts as read from then on: the greatest
-/// timestamp read rises to at least it.
+/// What is answered to a command, what changes on its key, and which timestamp counts as read from
+/// then on: the greatest timestamp read rises to at least it.
 #[derive(Debug, Drop)]
 pub struct Planned {
     pub answer: PlannedAnswer,

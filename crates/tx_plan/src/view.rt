@@ -1,5 +1,5 @@
-//! What a request sees of its key: plain values, which a store reads out of its families in a few look-ups. A plan is a
-//! function of them, so it can be made wherever they are carried.
+//! What a request sees of its key: plain values, which a store reads out of its families in a few
+//! look-ups. A plan is a function of them, so it can be made wherever they are carried.
 use tx_types::{LockKind, Mode, Ts, Value};
 
 /// What is asked of a write record.

@@ -1,5 +1,5 @@
-//! Walks over a region, keys rising, which each store makes over its own maps: a walk takes as many steps as it passes
-//! keys, after one search for its start.
+//! Walks over a region, keys rising, which each store makes over its own maps: a walk takes as many
+//! steps as it passes keys, after one search for its start.
 ghost use Rattle.std.specs.Prelude.{◌≡◌, [], List, IfOk, IfErr, MatchOption};
 ghost use Rattle.tx_types.specs.declared.key.Key.{Key};
 ghost use Rattle.tx_plan.specs.Cells.{Cells};
@@ -18,8 +18,8 @@ pub trait ReadWalk {
     /// The keys that are still to come, and what is on them.
     ghost rest: { Self → List KeyRow };
 
-    /// The next key, and what a read at this timestamp sees of it; none where the walk has ended. After `OutOfMemory` the
-    /// walk is of no more use.
+    /// The next key, and what a read at this timestamp sees of it; none where the walk has ended.
+    /// After `OutOfMemory` the walk is of no more use.
     fn next(&mut self, alloc: Global, at: Ts) -> Result<Option<(Key, ReadView)>, Fault>
         ensures next { IfOk result (λ found. MatchOption found (rest self.old ≡ []) (λ x. ComesNext (rest self.old) (rest self.new) at x.0 x.1)) }
         ensures same { cells self.new ≡ cells self.old }
@@ -39,8 +39,8 @@ pub trait LockWalk {
     /// The locks that are still to come, and their keys.
     ghost rest: { Self → List LockRow };
 
-    /// The key of the next lock, and what is asked of that lock; none where the walk has ended. After `OutOfMemory` the
-    /// walk is of no more use.
+    /// The key of the next lock, and what is asked of that lock; none where the walk has ended.
+    /// After `OutOfMemory` the walk is of no more use.
     fn next(&mut self, alloc: Global) -> Result<Option<(Key, LockHead)>, Fault>
         ensures next { IfOk result (λ found. MatchOption found (rest self.old ≡ []) (λ x. LockComesNext (rest self.old) (rest self.new) x.0 x.1)) }
         ensures same { cells self.new ≡ cells self.old }

@@ -30,7 +30,8 @@ use Rattle.tx_play.specs.Steps.{Deed, put, insert, delete, lock, get, scan, decl
 use Rattle.tx_play.specs.Scenes.{Scene, Turn, goes, inquires, shows, stops, is_refused, later_of, calls, is_key, is_value, at_stage, at_history, with_session, began, declared_in, placed_in, placed, seat_at, read_by, said_by, asked, sent, runs, runs_to, first_free, live_at, changes, enters, inserts_by, is_too_many, deeds_by, deeds, delivered_by, delivers, finishes_by, begins_at, in_session, turn, learns, resolves_by, collected_as}
 use Rattle.tx_play.specs.Plays.{Leads}
 
--- Whatever a turn leads to, and wherever it asks a region, h has happened there; it stops at most where `from` has happened.
+-- Whatever a turn leads to, and wherever it asks a region, h has happened there; it stops at most
+-- where `from` has happened.
 abbrev pub AllGrow : History → History → Turn → Type 0
 AllGrow from h (goes scene said refused) = Begins h scene.stage.history
 AllGrow from h (inquires stage body more) = Begins h stage.history × ((a : Answer) → AllGrow from stage.history (more a))

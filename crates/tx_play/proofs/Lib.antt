@@ -8,7 +8,8 @@ pub mod Keeping
 pub mod Turning
 -- The steps of the engine, by what its calls give.
 pub mod Engines
--- At the end each seat has learnt what is newest: so the history is no longer than what the seats have made.
+-- At the end each seat has learnt what is newest: so the history is no longer than what the
+-- seats have made.
 pub mod Settling
 -- Histories only grow in a turn.
 pub mod AllGrow

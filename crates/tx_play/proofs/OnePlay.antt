@@ -1,4 +1,5 @@
--- A turn leads to one thing where that is of a world run: wherever a region is asked, a beginning of it has happened.
+-- A turn leads to one thing where that is of a world run: wherever a region is asked, a beginning
+-- of it has happened.
 use Rattle.std.proofs.Common.{Bool, List, subst}
 use Rattle.tx_types.specs.declared.fault.Cause.{Cause}
 use Rattle.tx_types.specs.declared.key.Key.{Key}

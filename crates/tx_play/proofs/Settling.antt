@@ -1,4 +1,5 @@
--- At the end each seat has learnt what is newest: so the history is no longer than what the seats have made.
+-- At the end each seat has learnt what is newest: so the history is no longer than what the
+-- seats have made.
 use Rattle.std.proofs.Common.{◌≡◌, ◌≤◌, ◌+◌, ℕ, suc, List, [], ◌∷◌, length, Option, Some, None, Contains, refl, ap, subst, arith}
 use Rattle.std.specs.List.{sum_by}
 use Rattle.std.proofs.lemmas.List.Sums.{sum_by-cons}

@@ -83,8 +83,8 @@ abbrev pub AreSeated : ℕ → ℕ → List Kept → Type 0
 AreSeated i n [] = Unit {0}
 AreSeated i n (p ∷ places) = IsSeat i n (seat_in p) × AreSeated (suc i) n places
 
--- the seats of an engine are those of the regions, one for what no session does, and those of the places, each of which may draw so many
--- ticks; there are at most 1,023 regions
+-- the seats of an engine are those of the regions, one for what no session does, and those of the
+-- places, each of which may draw so many ticks; there are at most 1,023 regions
 pub record AllSeated (bounds : List Key) (n : ℕ) (e : Held) : Type 0 where
   pub clerk : e.clerk.seat ≡ length bounds + 1
   pub places : AreSeated (length bounds + 2) n e.places
@@ -95,7 +95,8 @@ abbrev pub NotesPlaced : Option Declaration → Option Noted → Option Noted �
 NotesPlaced None old new = KeptAs old new
 NotesPlaced (Some d) old new = (mid : Option Noted) × NotesDrawn d.drawn old mid × GoesOnWith mid (Declared d) new
 
--- Some events were made by a seat and the regions, at least so many came, and where no more came, it is exact.
+-- Some events were made by a seat and the regions, at least so many came, and where no more
+-- came, it is exact.
 pub record Acts (old new : Known) (from to : Desk) (Exact : Type 0) : Type 0 where
   pub made : ℕ
   pub counts : made_by new + at_regions to ≤ made_by old + at_regions from + made
@@ -156,7 +157,8 @@ abbrev pub Did : List Key → (List Bool → Scene → ℕ → State → Turn) �
 Did bounds turn (Ok reply) old new from to = Sent bounds turn reply old new from to
 Did bounds turn (Err cause) old new from to = (new ≡ old) × (to ≡ from) × ((refused : List Bool) (ticks : ℕ) (names : List ℕ → Option ℕ) (places : List Place) (k : ℕ) → turn refused (scene_with (stage_of from) ticks names places) k old.state ≡ stops cause)
 
--- what a step of a session does in a place: the live session there makes it; with none it is not allowed, and changes nothing
+-- what a step of a session does in a place: the live session there makes it; with none it is not
+-- allowed, and changes nothing
 abbrev pub ActsIn : List Key → Deed → Kept → Kept → Result Reply Cause → Desk → Desk → Type 0
 ActsIn bounds deed (Live s) new result from to = (t : Seated) × (new ≡ Live t) × Did bounds (λ refused scene k x. deeds refused scene k x bounds deed) result s t from to
 ActsIn bounds deed old new result from to = (result ≡ Err cause.Name) × (new ≡ old) × (to ≡ from)
@@ -170,8 +172,8 @@ abbrev pub Resolves : List Key → ℕ → Result Reply Cause → Seated → Sea
 Resolves bounds now (Ok reply) old new k m from to = Finds old.seat new.seat k m from to (SessionGoes bounds (λ refused scene j s. resolves bounds refused scene j s now) old.seat.seat old.state new.state (stage_of from) (stage_of to) reply)
 Resolves bounds now (Err cause) old new k m from to = (new ≡ old) × (m ≡ k) × (to ≡ from) × ((refused : List Bool) (scene : Scene) (j : ℕ) → resolves bounds refused scene j old.state now ≡ stops cause)
 
--- What a delivery gives: regions took a copy of a held request, so many events were made, at least so many came, and where no more came,
--- it is exact.
+-- What a delivery gives: regions took a copy of a held request, so many events were made, at least
+-- so many came, and where no more came, it is exact.
 pub record Handed (bounds : List Key) (name : List ℕ) (reply : Reply) (from to : Desk) : Type 0 where
   pub made : ℕ
   pub counts : at_regions to ≤ at_regions from + made

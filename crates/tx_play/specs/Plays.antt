@@ -9,8 +9,9 @@ use Rattle.tx_post.specs.Posts.{MayAnswerSo, MayShowSo}
 use Rattle.tx_play.specs.Scenes.{Scene, Turn, goes, inquires, shows, stops}
 
 module _ (bounds : List Key) where
-  -- a turn goes on so, or stops so: a region that is asked answers by the case tables from what its events left, with the least minimum
-  -- for an async lock, and what it shows of a key is what they left there
+  -- a turn goes on so, or stops so: a region that is asked answers by the case tables from what
+  -- its events left, with the least minimum for an async lock, and what it shows of a key is
+  -- what they left there
   abbrev pub Leads : (Scene → Reply → List Bool → Type 0) → (Cause → Type 0) → Turn → Type 0
   Leads Goes Stops (goes scene said refused) = Goes scene said refused
   Leads Goes Stops (inquires stage body more) = (a : Answer) × MayAnswerSo bounds stage body a × Leads Goes Stops (more a)

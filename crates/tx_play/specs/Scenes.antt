@@ -1,5 +1,5 @@
--- What each step of a script does, in one thread in which nobody else acts: the events that it makes, what it changes of its session, and
--- its reply.
+-- What each step of a script does, in one thread in which nobody else acts: the events that it
+-- makes, what it changes of its session, and its reply.
 use Rattle.std.specs.Prelude.{ℕ, ◌+◌, ◌-◌, ◌&&◌, not, Bool, true, false, List, [], ◌∷◌, length, replicate, nat_eq, nat_le, slice_get, slice_set, Option, Some, None, option_map, is_some, if◌then◌else◌, Result, Ok, Err, bytes_eq}
 use Rattle.std.specs.Map.{update}
 use Rattle.tx_types.specs.declared.limits.TheConstants.{MAX_KEY_BYTES, MAX_VALUE_BYTES, MIN_KEY_BYTES}
@@ -46,8 +46,8 @@ pub data Place : Type 0 where
   free : Place
   session : (state : State) → Place
 
--- where a script stands: what has happened, the ticks that the seat for no session may still draw, the places of the live sessions'
--- names, and the places, each of which has a seat
+-- where a script stands: what has happened, the ticks that the seat for no session may still draw,
+-- the places of the live sessions' names, and the places, each of which has a seat
 pub record Scene : Type 0 where
   pub stage : Stage
   pub ticks : ℕ
@@ -58,15 +58,16 @@ pub record Scene : Type 0 where
 abbrev pub opening : ℕ → Scene
 opening n = record { stage = record { history = []; held = λ q. None; kept = 0 }; ticks = 4294967296; names = λ q. None; places = replicate n free }
 
--- A step goes on with a scene, a reply and the refusals that are left; or a region is first asked, at this stage, and it goes on by the
--- answer; or a region shows what it keeps of a key, and it goes on by that; or it stops the script.
+-- A step goes on with a scene, a reply and the refusals that are left; or a region is first asked,
+-- at this stage, and it goes on by the answer; or a region shows what it keeps of a key, and it
+-- goes on by that; or it stops the script.
 pub data Turn : Type 0 where
   goes : (scene : Scene) (said : Reply) (refused : List Bool) → Turn
   inquires : (stage : Stage) (body : Body) (more : Answer → Turn) → Turn
   shows : (stage : Stage) (key : Key) (more : KeyCopy → Turn) → Turn
   stops : (cause : Cause) → Turn
 
--- ---- want of memory: the k-th call that may need memory is refused where the k-th of a list says so
+-- ---- want of memory: the k-th call that may need it is refused where the k-th of a list says so
 
 abbrev pub is_refused : List Bool → Bool
 is_refused [] = false
@@ -88,7 +89,8 @@ is_key key = nat_le MIN_KEY_BYTES (length key) && nat_le (length key) MAX_KEY_BY
 abbrev pub is_value : List ℕ → Bool
 is_value value = nat_le (length value) MAX_VALUE_BYTES
 
--- whether a session sends a request, by what it does: what its buffer answers is not sent, and neither is what its state does not allow
+-- whether a session sends a request, by what it does: what its buffer answers is not sent, and
+-- neither is what its state does not allow
 abbrev pub sends : State → Deed → Bool
 sends s (get key way) = not (is_known (buffered s.buffer key))
 sends s (scan from to limit way) = key_lt from to
@@ -123,7 +125,8 @@ abbrev pub declared_in : ℕ → History → Option Declaration → History
 declared_in seat h None = h
 declared_in seat h (Some d) = Declared d ∷ Drawn seat d.drawn ∷ h
 
--- the number that is drawn for what a buffer declares: the next one, and 0 where it declares nothing
+-- the number that is drawn for what a buffer declares: the next one, and 0 where it
+-- declares nothing
 abbrev pub placed_in : History → Entries → ℕ
 placed_in h [] = 0
 placed_in h (e ∷ es) = last h + 1
@@ -238,7 +241,8 @@ module _ (refused : List Bool) (scene : Scene) (k : ℕ) (s : State) where
   abbrev pub enters : Entries → Turn
   enters buffer = calls refused scene (λ left. goes (with_session scene k (record s { buffer = buffer })) reply.Fine left)
 
-  -- a change of a key before declare: what is refused of its key and value, and that the key is one too many, comes before want of memory
+  -- a change of a key before declare: what is refused of its key and value, and that the key is one
+  -- too many, comes before want of memory
   abbrev pub changes : List ℕ → Bool → Turn → Turn
   changes key fits more =
       if is_declared s then stops Order
@@ -318,7 +322,8 @@ module _ (refused : List Bool) (scene : Scene) (k : ℕ) (s : State) where
     deeds_by (abort way) = aborts way
     deeds_by (heartbeat ttl way) = beats ttl way
 
-    -- what a live session does, where its request may go as its step says, and is not held as one too many
+    -- what a live session does, where its request may go as its step says, and is not
+    -- held as one too many
     abbrev pub deeds : Deed → Turn
     deeds deed =
         if not (may_go scene.stage (course_of deed)) then stops Name

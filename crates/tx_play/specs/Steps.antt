@@ -24,9 +24,10 @@ pub data Deed : Type 0 where
   abort : (way : Course) → Deed
   heartbeat : (ttl : ℕ) (way : Course) → Deed
 
--- a step: a session begins under a name; a live session acts, answers its outcome, stops, or has the lock resolved that stood last in its
--- way, at a time; a held request is delivered; a key is read at a timestamp; what is kept of a key is shown; so many ticks are drawn; old
--- versions are collected at a safe point
+-- a step: a session begins under a name; a live session acts, answers its outcome, stops, or has
+-- the lock resolved that stood last in its way, at a time; a held request is delivered; a key is
+-- read at a timestamp; what is kept of a key is shown; so many ticks are drawn; old versions are
+-- collected at a safe point
 pub data Call : Type 0 where
   begin : (name : List ℕ) → Call
   acts : (name : List ℕ) (deed : Deed) → Call

@@ -1,4 +1,5 @@
-//! What a session does in one thread: it knows what is newest before it acts, and what it knows after is the newest.
+//! What a session does in one thread: it knows what is newest before it acts, and what it knows
+//! after is the newest.
 ghost use Rattle.std.specs.Prelude.{◌≡◌, ◌<◌, ◌+◌, [], ◌∷◌, Option, Some, None, true, false, IfOk, IfErr, OnOk, IfSome, IfNone};
 ghost use Rattle.tx_core.specs.declared.event.Event.TheVariants as events;
 ghost use Rattle.tx_core.specs.Histories.{last};
@@ -68,7 +69,8 @@ fn note_copy<J: Naming, F: Families>(
     }
 }
 
-// A session has declared its buffer under these terms: if there was anything to declare, it drew a number, and then declared with it.
+// A session has declared its buffer under these terms: if there was anything to declare, it drew a
+// number, and then declared with it.
 fn note_declared<J: Naming, F: Families>(
     alloc: Global,
     session: &Session<J>,

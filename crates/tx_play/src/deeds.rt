@@ -1,5 +1,5 @@
-//! What live sessions do. Each deed is its turn where nobody else acts: the same test of what the session's state allows, in the same
-//! order, the same calls that may meet want of memory, the same requests, and the same reply.
+//! What live sessions do. Each function makes the step that `Scenes.antt` defines: its tests in
+//! that order, its requests, its reply.
 ghost use Rattle.std.specs.Prelude.{◌≡◌, ◌<◌};
 ghost use Rattle.tx_play.specs.Places.{Did};
 ghost use Rattle.tx_play.specs.Scenes.{is_key as key_test, is_value as value_test, sends, is_too_many, deeds_by, deeds};
@@ -110,8 +110,8 @@ fn perform<J: Naming, F: Families>(
     }
 }
 
-/// What a live session does. `Name` where its request is to be held under a name that is in use, or not of 1 to 64 bytes;
-/// `Sessions` where it would be held as one more than 1,024.
+/// What a live session does. `Name` where its request is to be held under a name that is in use, or
+/// not of 1 to 64 bytes; `Sessions` where it would be held as one more than 1,024.
 pub(crate) fn act<J: Naming, F: Families>(
     alloc: Global,
     session: &mut Session<J>,

@@ -1,5 +1,5 @@
-//! An engine in one thread: places with seats and sessions, names that point to places, a seat for what no session does, and the way to
-//! the regions.
+//! An engine in one thread: places with seats and sessions, names that point to places, a seat for
+//! what no session does, and the way to the regions.
 ghost use Rattle.std.specs.Prelude.{◌≡◌, ◌<◌, ◌+◌, length, ℕ, List, [], Some, None, OnOk, OnErr, bytes_eq};
 ghost use Rattle.std.specs.Map.{update};
 ghost use Rattle.std.specs.BTreeMap.{get_by_text};
@@ -25,12 +25,17 @@ use tx_post::Post;
 use tx_trace::Trace;
 use tx_types::{Cause, Key, Ts, is_name};
 
-/// The engine.
+/// The engine of scripts in one thread: each step is its turn by `Scenes.antt`.
 pub struct Engine<J: Naming, F: Families> {
+    /// Where its names and keys take memory.
     alloc: Global,
+    /// The way to the regions, by which nothing is lost; sessions send by the `Post` in it.
     direct: Direct<J, F>,
+    /// The seat for what no session does: reads at a timestamp, ticks, resolving and collecting.
     clerk: Seat<J>,
+    /// The place of each live session, by its name.
     names: BTreeMap<String, usize>,
+    /// As many as sessions may live at once: each has a free seat or a live session.
     places: Vec<Slot<Seat<J>, Session<J>>>,
 }
 

@@ -56,8 +56,8 @@ fn regions_of<J: Naming, F: Families + Drop>(
 // A journal has at most so many seats.
 const MAX_SEATS: usize = 1024;
 
-/// An engine over these seats of a new journal: those of the regions come first, then one for what no session does, then those of the
-/// places. `AllocError` where a growth was refused.
+/// An engine over these seats of a new journal: those of the regions come first, then one for what
+/// no session does, then those of the places. `AllocError` where a growth was refused.
 pub fn engine_of<J: Naming, F: Families + Drop>(
     alloc: Global,
     journal: Journal<J>,

@@ -12,8 +12,11 @@ use tx_journal::{Naming, Seat};
 /// What a place has: a free seat, or a live session, or neither while one of them acts.
 #[derive(Drop)]
 pub enum Slot<F, L> {
+    /// A seat, for the next session that begins here.
     Free(F),
+    /// A session that has begun, and neither finished nor stopped.
     Live(L),
+    /// What was here acts, and comes back before the step ends.
     Lent,
 }
 

@@ -1,4 +1,5 @@
-//! What resolves locks and collects old versions: the seat for what no session does, by a way that loses nothing.
+//! What resolves locks and collects old versions: the seat for what no session does, by a way
+//! that loses nothing.
 ghost use Rattle.std.specs.Prelude.{◌≡◌, ◌<◌, length, Some};
 ghost use Rattle.tx_resolve.specs.Collecting.{gc_walk};
 ghost use Rattle.tx_resolve.specs.Reading.{read_walk};
@@ -86,8 +87,8 @@ fn learn<J: Naming>(session: &mut Session<J>, found: Resolved<J>) -> Reply
     }
 }
 
-/// The lock that a session met last is resolved for its reads, at a time, and the session learns what was found. `Order` where it
-/// met none.
+/// The lock that a session met last is resolved for its reads, at a time, and the session learns
+/// what was found. `Order` where it met none.
 pub(crate) fn resolve_at<J: Naming, F: Families>(
     clerk: &mut Seat<J>,
     session: &mut Session<J>,

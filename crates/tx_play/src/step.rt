@@ -3,8 +3,8 @@ pub use tx_lines::Reply;
 use tx_post::Way;
 use tx_types::{Mode, Ts};
 
-/// What a live session does, over the text of its line. Keys and values stand for their UTF-8 bytes. What becomes of the request
-/// that is sent stands last.
+/// What a live session does, over the text of its line. Keys and values stand for their UTF-8
+/// bytes. What becomes of the request that is sent stands last.
 #[derive(Clone, Copy, Debug)]
 pub enum Act<'a> {
     Put(&'a str, &'a str),
@@ -14,7 +14,8 @@ pub enum Act<'a> {
     Get(&'a str, Way<&'a str>),
     /// From a key, up to but not including another; so many rows at most.
     Scan(&'a str, &'a str, u32, Way<&'a str>),
-    /// The mode, the time to live in ticks, and the greatest commit timestamp that an async lock may promise.
+    /// The mode, the time to live in ticks, and the greatest commit timestamp that an async
+    /// lock may promise.
     Declare(Mode, u32, Option<Ts>),
     Prewrite(Way<&'a str>),
     Draw,
@@ -24,7 +25,8 @@ pub enum Act<'a> {
     Heartbeat(u32, Way<&'a str>),
 }
 
-/// A step, over the text of its line: the name of its session or of a held request first, if it has one.
+/// A step, over the text of its line: the name of its session or of a held request
+/// first, if it has one.
 #[derive(Clone, Copy, Debug)]
 pub enum Step<'a> {
     /// A session begins under the name.

@@ -36,7 +36,8 @@ is_way bounds = record { takes = λ a q held. held; answers = λ a b q g p. by_w
 
 -- ---- counting
 
--- what some sends come to: so many events of the regions, none of the sender's; at least so many came; where no more came, they are exact
+-- what some sends come to: so many events of the regions, none of the sender's; at least so many
+-- came; where no more came, they are exact
 pub record Comes (k : Known) (from : Desk) (to : Desk) (new : Known) (Exact : Type 0) : Type 0 where
   pub made : ℕ
   pub counts : sum_by made_by to.regions ≤ sum_by made_by from.regions + made

@@ -44,8 +44,9 @@ by_name f (Hold name) = Hold (f name)
 abbrev pub Course : Type 0
 Course = Way (List ℕ)
 
--- The regions in their order, the newest history that anyone here has seen, the requests that are held, by name, what becomes of the
--- next request: none where memory for the name of its hold was refused; and the machine's steps, where they are kept.
+-- The regions in their order, the newest history that anyone here has seen, the requests that are
+-- held, by name, what becomes of the next request: none where memory for the name of its hold was
+-- refused; and the machine's steps, where they are kept.
 pub record Desk : Type 0 where
   pub regions : List Known
   pub newest : History
@@ -70,7 +71,8 @@ abbrev pub AreNumbered : ℕ → List Known → Type 0
 AreNumbered i [] = Unit {0}
 AreNumbered i (k ∷ ks) = (k.seat ≡ i) × AreNumbered (suc i) ks
 
--- the region that a request is for: of its key, of the first key of its range, or the one that it names
+-- the region that a request is for: of its key, of the first key of its range, or the
+-- one that it names
 abbrev pub region_for : List Key → Body → ℕ
 region_for bounds (Get b) = route bounds b.key
 region_for bounds (Scan b) = route bounds b.from
@@ -137,8 +139,8 @@ IsTraced d = IfSome d.trace (λ t. (bounds : List Key) → IsWorldRun bounds d.n
 
 -- ---- what regions take
 
--- The region n took a request after `from`, and answered so: others may have acted before it loaded the last number, before it loaded
--- the greatest timestamp read, and after.
+-- The region n took a request after `from`, and answered so: others may have acted before it loaded
+-- the last number, before it loaded the greatest timestamp read, and after.
 pub record Tooks (n : ℕ) (from : History) (body : Body) (a : Answer) (to : History) : Type 0 where
   pub before : History
   pub point : History
@@ -172,7 +174,8 @@ pub record Hands (n : ℕ) (from to : Desk) (q : Asked) (g : Given) : Type 0 whe
 
 -- ---- what regions show
 
--- A region learnt what is newest, what it then knew is newest, and it showed a key; or memory for that was refused. It made no event.
+-- A region learnt what is newest, what it then knew is newest, and it showed a key; or memory for
+-- that was refused. It made no event.
 pub record Showed (k : Known) (from : History) (key : Key) (copied : Result KeyCopy Fault) (new : Known) (to : History) : Type 0 where
   pub begins : Begins from to
   pub number : new.seat ≡ k.seat
@@ -254,7 +257,8 @@ IsSet way from to = (to ≡ record from { way = Some way }) ⊎ (IsHold way × (
 
 -- ---- where nobody else acts
 
--- what requests change: what has happened, and what is held under names, of which so many are in use
+-- what requests change: what has happened, and what is held under names, of which
+-- so many are in use
 pub record Stage : Type 0 where
   pub history : History
   pub held : List ℕ → Option Body
@@ -297,7 +301,8 @@ MetHold name s body came.Unsaid next = next ≡ s
 MetHold name s body (came.Said a) next = ⊥
 
 module _ (bounds : List Key) where
-  -- the region answers by the case tables from what its events left, with the least minimum for an async lock
+  -- the region answers by the case tables from what its events left, with the least minimum
+  -- for an async lock
   abbrev pub MayAnswerSo : Stage → Body → Answer → Type 0
   MayAnswerSo s body a = AnswersNext s.history (region_for bounds body) (last s.history) body a
 

@@ -1,4 +1,5 @@
-//! The way to the regions in one thread: a request may be lost, taken twice, or held to be delivered later, and its reply may be lost.
+//! The way to the regions in one thread: a request may be lost, taken twice, or held to be
+//! delivered later, and its reply may be lost.
 ghost use Rattle.std.specs.Prelude.{◌≡◌, ◌≤◌, ◌⊎◌, ◌+◌, ℕ, [], List, length, Contains, Some, None, IfNone, IfSome, IfOk, IfErr, OnOk, ◌&&◌, not, cond, nat_le, is_some, option_map, string_bytes, bytes_eq};
 ghost use Rattle.std.specs.Map.{update};
 ghost use Rattle.std.specs.BTreeMap.{get_by_text};
@@ -29,15 +30,23 @@ use tx_trace::Trace;
 use tx_types::limits::MAX_HELD_REQUESTS;
 use tx_types::{Fault, Key, is_name};
 
-/// The regions in their order, the newest history that anyone here has seen, the requests that are held, and what becomes of the
-/// next request: none where there was no memory for the name of its hold.
+/// The network of a script: all regions, and what becomes of the requests on their way to them.
 pub struct Post<J: Naming, F: Families> {
+    /// Where copies of requests, their names and the machine's steps take memory.
     alloc: Global,
+    /// The keys between the regions.
     journal: Journal<J>,
+    /// In the order of their keys: the n-th holds the n-th range.
     regions: Vec<Region<J, F>>,
+    /// The newest history that anyone here has seen: who acts learns it first, and tells it after.
     newest: Told<J>,
+    /// By its name each request that is held. One that is delivered stays held.
     held: BTreeMap<String, Request<J>>,
+    /// What becomes of the next requests. None where there was no memory for the name of a hold:
+    /// then each is refused memory.
     way: Option<Way<String>>,
+    /// The machine's steps of what happened. None where they are not kept, or no more, since memory
+    /// for one was refused.
     trace: Option<Trace>,
 }
 
@@ -136,8 +145,8 @@ impl<J: Naming, F: Families> Post<J, F> {
         }
     }
 
-    /// The region that holds a request takes it, having learnt what is newest; what it then knows is the newest. What it answered is
-    /// noted.
+    /// The region that holds a request takes it, having learnt what is newest; what it then knows
+    /// is the newest. What it answered is noted.
     pub fn take(&mut self, request: Request<J>) -> Reply<J>
         requires { IsHeld J.bounds request.body }
         ensures { Hands (region_for J.bounds request.body) self.old self.new request result }
@@ -198,8 +207,8 @@ impl<J: Naming, F: Families> Post<J, F> {
         copy_held(&self.regions[0], &mut self.held, name)
     }
 
-    /// A copy of the request that is held under a name is taken by its region, and the request stays held. None where none is
-    /// held; no answer where memory was refused.
+    /// A copy of the request that is held under a name is taken by its region, and the request
+    /// stays held. None where none is held; no answer where memory was refused.
     pub fn deliver(&mut self, name: &str) -> Option<Option<Answer>>
         ensures none { IfNone result ((request_at self.old.held name.now ≡ None) × (self.new ≡ self.old)) }
         ensures some { IfSome result (λ answer. (q : Asked) × (request_at self.old.held name.now ≡ Some q) × (((answer ≡ None) × (self.new ≡ self.old)) ⊎ ((g : Given) × Hands (region_for J.bounds q.body) self.old self.new q g × (answer ≡ g.answer)))) }
@@ -252,7 +261,8 @@ impl<J: Naming, F: Families> Post<J, F> {
         self.regions.len()
     }
 
-    /// What becomes of the next requests. Where there is no memory for the name of a hold, each is refused memory.
+    /// What becomes of the next requests. Where there is no memory for the name of a hold, each
+    /// is refused memory.
     pub fn set_way(&mut self, way: Way<&str>)
         ensures { IsSet (by_name (λ n. n.now) way.entry) self.old self.new }
     {
@@ -295,7 +305,8 @@ impl<J: Naming, F: Families> Post<J, F> {
         }
     }
 
-    /// The keys between the regions.
+    /// For proofs: the regions are numbered in their order, one more than the keys between them,
+    /// which rise. It does nothing when it runs.
     pub fn show(&self)
         ensures numbers { AreNumbered 0 self.now.regions × (length self.now.regions ≡ length J.bounds + 1) }
         ensures rising { AreRising J.bounds }
@@ -305,7 +316,8 @@ impl<J: Naming, F: Families> Post<J, F> {
 }
 
 impl<J: Naming, F: Families + Drop> Post<J, F> {
-    /// Each region learns what is newest: no event of a region stands there that the region has not made.
+    /// Each region learns what is newest: no event of a region stands there that the
+    /// region has not made.
     pub fn settle(self, newest: &mut Told<J>, by: &Seat<J>)
         ensures same { newest.new ≡ newest.old }
         ensures settled { (k : Known) → Contains self.regions k → IsDone newest.old k }

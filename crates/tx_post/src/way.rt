@@ -19,7 +19,7 @@ pub enum Way<N> {
     Hold(N),
 }
 
-/// The same way by a name of its own; none where memory for that is refused.
+/// The way with a name of its own; none where memory for that is refused.
 pub(crate) fn own_way(alloc: Global, way: Way<&str>) -> Option<Way<String>>
     ensures some { IfSome result (λ own. by_name string_bytes own ≡ by_name (λ n. n.now) way.entry) }
     ensures none { IfNone result (IsHold (by_name (λ n. n.now) way.entry)) }

@@ -1,4 +1,5 @@
 -- The first eight bytes of keys, as numbers.
+-- Of public calls only `fronts` and `route_by` cite it, and a fact of `Store`.
 use Rattle.std.specs.Prelude.{◌≡◌, ℕ, ◌+◌, ◌*◌, ◌<◌, true, false, zero, suc, List, length, slice_index_or}
 use Rattle.tx_types.specs.declared.key.Key.{Key}
 use Rattle.tx_types.specs.Keys.{key_le}
@@ -16,7 +17,8 @@ front bytes = spelt 8 0 bytes 0
 abbrev pub AreBytes : List ℕ → Type 0
 AreBytes bytes = (i : ℕ) → slice_index_or bytes i 0 < 256
 
--- a number tells a key from those whose fronts differ from it: those of a smaller front come before it, and those of a greater one after it
+-- a number tells a key from those whose fronts differ from it: those of a smaller front come before
+-- it, and those of a greater one after it
 abbrev pub Tells : Key → ℕ → Type 0
 Tells bound f = (k : Key) → AreBytes k → (front k < f → key_le bound k ≡ false) × (f < front k → key_le bound k ≡ true)
 

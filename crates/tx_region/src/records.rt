@@ -57,9 +57,14 @@ impl Executed {
 #[derive(Drop)]
 pub struct Records<F> {
     pub(crate) alloc: Global,
+    /// What is on its keys.
     pub(crate) families: F,
+    /// Its safe point: no read below it is answered.
     pub(crate) safe: Ts,
+    /// The safe point of its last collection.
     pub(crate) collected: Ts,
+    /// How many requests that may change a key it counted. The families note it of each key that
+    /// one changes.
     pub(crate) taken: u64,
 }
 

@@ -33,11 +33,17 @@ use tx_types::{Fault, Key, Mode, Ts};
 /// region, as it was after the events that it tells of.
 #[derive(Drop)]
 pub struct KeyCopy<J: Naming> {
+    /// Whose key it is.
     region: SeatNo,
+    /// What the region had seen.
     told: Told<J>,
+    /// What the request sees of its key.
     view: KeyView,
+    /// The region's safe point and that of its last collection.
     numbers: Numbers,
+    /// How many requests the region had counted: a key whose number is greater was changed since.
     taken: u64,
+    /// The last number and the greatest timestamp read, as the region loaded them.
     loaded: Loaded,
 }
 
@@ -55,11 +61,17 @@ impl<J: Naming> Model for KeyCopy<J> {
 /// its request.
 #[derive(Drop)]
 pub struct Planned<J: Naming> {
+    /// Whose key the copy was of.
     region: SeatNo,
+    /// What the region had seen.
     told: Told<J>,
+    /// The answer, the change, and the timestamp that counts as read.
     planned: tx_plan::Planned,
+    /// The region's safe point and that of its last collection, as they were copied.
     numbers: Numbers,
+    /// How many requests the region had counted then.
     taken: u64,
+    /// What the region had loaded then.
     loaded: Loaded,
 }
 
@@ -103,8 +115,11 @@ impl<J: Naming> KeyCopy<J> {
 /// A region of the journal `J`. Contracts see its seat: its number, its ticks and the events that
 /// it knows.
 pub struct Region<J: Naming, F: Families> {
+    /// The keys between the regions, by which it tells what it holds.
     journal: Journal<J>,
+    /// Records each answer as an event. Its number is the region's.
     seat: Seat<J>,
+    /// What the events of its seat left on its keys, and its numbers.
     records: Records<F>,
 }
 
@@ -151,6 +166,7 @@ fn load_mark<J: Naming>(seat: &mut Seat<J>, body: &Body) -> Ts
     if needs_mark(body) {
         return seat.max_ts();
     }
+    // For proofs: what the seat has seen is a world run.
     let _ = seat.number();
     Ts::ZERO
 }
@@ -179,6 +195,7 @@ fn lies_above<J: Naming>(seat: &mut Seat<J>, change: &KeyChange) -> bool
     ensures seen { HasSeen J.bounds seat.old.seat seat.old.events seat.new.events }
     ensures above { IsTrue result ↔ IsAbove change.now seat.new.events }
 {
+    // For proofs: what the seat has seen is a world run.
     let _ = seat.number();
     match promised(change) {
         Some(min) => seat.max_ts() < min,
@@ -321,7 +338,7 @@ impl<J: Naming, F: Families> Region<J, F> {
         self.seat.copy(told)
     }
 
-    /// The same request once more.
+    /// A copy of a request.
     pub fn again(&self, request: &mut Request<J>) -> Result<Request<J>, Fault>
         ensures same { request.new ≡ request.old }
         ensures ok { IfOk result (λ copy. copy ≡ request.old) }

@@ -10,8 +10,8 @@ use std::alloc::Global;
 use tx_plan::{Body, Scan};
 use tx_types::{Fault, Key};
 
-/// The number of the region of a key, where these are the keys between the regions: so many of them lie at the key or below
-/// it. A binary search.
+/// The number of the region of a key, where these are the keys between the regions: so many of them
+/// lie at the key or below it. A binary search.
 pub fn route(bounds: &[Key], key: &Key) -> usize
     requires { AreRising bounds.now }
     ensures { result ≡ route bounds.now key.now }
@@ -19,7 +19,7 @@ pub fn route(bounds: &[Key], key: &Key) -> usize
     bounds.partition_point(|bound| *bound <= *key)
 }
 
-// That each number of a slice of bytes is a byte.
+// For proofs: each number of a slice of bytes is a byte.
 fn know_bytes(bytes: &[u8])
     ensures { AreBytes bytes.now }
 {
@@ -80,8 +80,8 @@ pub fn route_by(fronts: &[u64], bounds: &[Key], key: &Key) -> usize
     }
 }
 
-// Whether the whole range of a scan lies in the region of this number: so does its first key, and no region begins inside the
-// range.
+// Whether the whole range of a scan lies in the region of this number: so does its first key, and
+// no region begins inside the range.
 fn is_within(bounds: &[Key], number: usize, body: &Scan) -> bool
     requires { AreRising bounds.now }
     ensures { IsTrue result ↔ Holds bounds.now number (request.Scan body.now) }
@@ -98,8 +98,8 @@ fn is_within(bounds: &[Key], number: usize, body: &Scan) -> bool
     }
 }
 
-/// Whether the region of this number holds what a request speaks of: its key, or the whole range of a scan, or the request
-/// names it.
+/// Whether the region of this number holds what a request speaks of: its key, or the whole range of
+/// a scan, or the request names it.
 pub(crate) fn holds(bounds: &[Key], number: u32, body: &Body) -> bool
     requires { AreRising bounds.now }
     ensures { IsTrue result ↔ Holds bounds.now number body.now }

@@ -20,7 +20,8 @@ abbrev pub on_ok : {A B : Type 0} → (A → Walk (Result B Fault)) → Result A
 on_ok next (Ok a) = next a
 on_ok next (Err why) = ends (Err why)
 
--- so many regions from the region n on, in order, each by what those before it came to, until one refuses
+-- so many regions from the region n on, in order, each by what those before it came to,
+-- until one refuses
 abbrev pub in_regions : {A : Type 0} → (ℕ → A → Walk (Result A Fault)) → ℕ → ℕ → A → Walk (Result A Fault)
 in_regions each zero n a = ends (Ok a)
 in_regions each (suc count) n a = then_walk (each n a) (on_ok (in_regions each count (suc n)))
@@ -83,7 +84,7 @@ clears_walk bounds safe = in_regions (λ n u. clear_walk safe n) (length bounds 
 abbrev pub collects_walk : List Key → ℕ → Walk (Result Counts Fault)
 collects_walk bounds safe = in_regions (collect_walk safe) (length bounds + 1) 0 (record { records = 0; values = 0 })
 
--- The safe point rises in each region; then in each the locks that started below it are resolved; then each collects. The first refusal
--- ends it.
+-- The safe point rises in each region; then in each the locks that started below it are resolved;
+-- then each collects. The first refusal ends it.
 abbrev pub gc_walk : List Key → ℕ → Walk (Result Counts Fault)
 gc_walk bounds safe = then_walk (raises_walk bounds safe) (on_ok (λ u. then_walk (clears_walk bounds safe) (on_ok (λ v. collects_walk bounds safe))))

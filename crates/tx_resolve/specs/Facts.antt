@@ -50,7 +50,7 @@ abbrev pub HadLocks : History → ℕ → List Key → ℕ → ℕ → Type 0
 HadLocks h t [] least most = most ≡ least
 HadLocks h t (key ∷ keys) least most = (minimum : ℕ) × HadAsyncLock h t key minimum × HadLocks h t keys (max least minimum) most
 
--- ---- what may come of a collector's requests, where nothing is lost: an answer that the case tables have, or none
+-- ---- what may come of a collector's requests, none of them lost: an answer of the tables, or none
 
 abbrev pub IsToRaise : Came → Type 0
 IsToRaise came.Unsaid = Unit {0}

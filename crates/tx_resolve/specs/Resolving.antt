@@ -49,7 +49,8 @@ lets_pass Collector minimum = false
 
 -- ---- requests
 
--- the check of the primary of a lock that was met: it leaves a rollback where nothing stands and that lock's time is over
+-- the check of the primary of a lock that was met: it leaves a rollback where nothing stands and
+-- that lock's time is over
 abbrev pub check_of : LockInfo → For → Bool → Body
 check_of met who forced = body.CheckTxnStatus record {
   key = met.primary;
@@ -82,8 +83,8 @@ abbrev pub is_async : Mode → Bool
 is_async TwoPhase = false
 is_async Async = true
 
--- The lock of the primary: it is pushed where it lets the read pass; else, where it is async and its time is over, it tells nothing by
--- itself; else it lives.
+-- The lock of the primary: it is pushed where it lets the read pass; else, where it is async and
+-- its time is over, it tells nothing by itself; else it lives.
 abbrev pub rests_by : For → LockInfo → Option Status
 rests_by who info =
     cond (lets_pass who info.min) (Some (status.Pushed info.min))
@@ -104,7 +105,8 @@ abbrev pub primary_by : For → Came → Primary
 primary_by who (came.Said (answer.Locked info)) = standing_by info (rests_by who info)
 primary_by who c = unlocked_by c
 
--- another key: its async lock, with its minimum, leaves all open; a two-phase lock, a commit or that it is missing does not
+-- another key: its async lock, with its minimum, leaves all open; a two-phase lock, a commit or
+-- that it is missing does not
 abbrev pub other_by : Came → Other
 other_by (came.Said (answer.Locked info)) = elim info.mode [ TwoPhase ↦ other.Ends others.FellBack | Async ↦ other.Async info.min ]
 other_by (came.Said (answer.Committed c)) = other.Ends (others.Decided (fate.Committed c))
@@ -115,8 +117,8 @@ abbrev pub status_of : Fate → Status
 status_of (fate.Committed c) = status.Committed c
 status_of fate.Aborted = status.Aborted
 
--- a fate is the status once the lock that was met is answered resolved; any other answer says why to
--- wait
+-- a fate is the status once the lock that was met is answered resolved; any other answer
+-- says why to wait
 abbrev pub settled_by : Fate → Came → Status
 settled_by end (came.Said answer.Resolved) = status_of end
 settled_by end c = status.Waiting (waiting_by c)
@@ -137,8 +139,9 @@ abbrev pub further : ℕ → (ℕ → Walk Others) → Other → Walk Others
 further most more (other.Async minimum) = more (max most minimum)
 further most more (other.Ends found) = ends found
 
--- The other keys of an async transaction in order, up to the first answer that is no async lock. Where there is none, the transaction is
--- committed at the greatest minimum, its primary's among them.
+-- The other keys of an async transaction in order, up to the first answer that is no async
+-- lock. Where there is none, the transaction is committed at the greatest minimum, its
+-- primary's among them.
 abbrev pub others_walk : ℕ → List Key → ℕ → Walk Others
 others_walk t [] most = ends (others.Decided (fate.Committed most))
 others_walk t (key ∷ keys) most = then_walk (other_walk t key) (further most (others_walk t keys))
@@ -167,7 +170,8 @@ after_primary met who (primary.Rests found) = ends found
 after_primary met who (primary.Decided end) = settle_walk met end
 after_primary met who (primary.Expired info) = expired_walk met who info
 
--- The primary is asked. A fate that it tells is given to the lock that was met; of an async transaction whose time is over the other keys
--- are asked, and where one has fallen back, the primary again, as if it were two-phase.
+-- The primary is asked. A fate that it tells is given to the lock that was met; of an async
+-- transaction whose time is over the other keys are asked, and where one has fallen back, the
+-- primary again, as if it were two-phase.
 abbrev pub resolve_walk : LockInfo → For → Walk Status
 resolve_walk met who = then_walk (primary_walk met who false) (after_primary met who)

@@ -1,5 +1,5 @@
-//! The collector: what drops old versions. Whose session is gone, that is resolved first: here the lock on `a`, in two phases, gets a
-//! rollback, which is dropped with the older put on `b`.
+//! The collector: what drops old versions. Whose session is gone, that is resolved first: here the
+//! lock on `a`, in two phases, gets a rollback, which is dropped with the older put on `b`.
 //!
 //! ```text
 //! gc(6) -> 2 records, 0 values    before                            after
@@ -249,11 +249,13 @@ fn collect_all<J: Naming, S: Sender<Request<J>, Reply<J>>>(
     Ok(counts)
 }
 
-/// Collects at a safe point: raises it in each region, in order, then resolves in each region the locks that started below it, each
-/// taken as expired and with no read to let pass, then collects in each, and adds up what was dropped. The first refusal ends it:
-/// `BelowSafePoint` where a region's safe point lies above, `FutureTimestamp` where the one that is asked for was not drawn yet,
-/// `LocksRemain` where a lock is left that could not be resolved, and `OutOfMemory`. What was done stays, and it may be asked again.
-/// The sender loses nothing. The rule is docs/PROTOCOL.md's, "The resolver, and collection".
+/// Collects at a safe point: raises it in each region, in order, then resolves in each region the
+/// locks that started below it, each taken as expired and with no read to let pass, then collects
+/// in each, and adds up what was dropped. The first refusal ends it: `BelowSafePoint` where a
+/// region's safe point lies above, `FutureTimestamp` where the one that is asked for was not drawn
+/// yet, `LocksRemain` where a lock is left that could not be resolved, and `OutOfMemory`. What was
+/// done stays, and it may be asked again. The sender loses nothing. The rule is docs/PROTOCOL.md's,
+/// "The resolver, and collection".
 pub fn gc<J: Naming, S: Sender<Request<J>, Reply<J>>>(
     seat: &mut Seat<J>,
     safe: Ts,
@@ -264,6 +266,7 @@ pub fn gc<J: Naming, S: Sender<Request<J>, Reply<J>>>(
     requires few { length J.bounds < 1024 }
     ensures { Sends S.sends J.bounds seat.old sender.old (gc_walk J.bounds safe) result sender.new seat.new }
 {
+    // For proofs: what the seat has seen is a world run.
     let _ = seat.number();
     raise_all(seat, safe, sender)?;
     clear_all(seat, safe, sender)?;

@@ -1,5 +1,5 @@
-//! What finishes transactions whose sessions are gone, and what drops old versions: the resolver of a lock that was met, and the
-//! collector.
+//! What finishes transactions whose sessions are gone, and what drops old versions: the resolver of
+//! a lock that was met, and the collector.
 #![tactic(auto)]
 
 mod collector;

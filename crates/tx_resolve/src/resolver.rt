@@ -257,11 +257,13 @@ pub(crate) fn resolve_for<J: Naming, S: Sender<Request<J>, Reply<J>>>(
     after_primary(seat, met, who, &primary, sender)
 }
 
-/// Finds what became of the transaction of a lock that stopped a read at `reader`, at the time `now`, and gives the lock its fate,
-/// where it is decided. The seat has seen an answer that told of the lock. It asks the transaction's primary, which rolls a two-phase
-/// lock back whose time is over, and pushes one that lives; of an async transaction whose time is over it asks the other keys too.
-/// What was found is so in what the seat has then seen. Waiting says why: the lock lives, nothing of the transaction stands on its
-/// primary, or a reply was lost or refused below the safe point or for want of memory.
+/// Finds what became of the transaction of a lock that stopped a read at `reader`, at the time
+/// `now`, and gives the lock its fate, where it is decided. The seat has seen an answer that told
+/// of the lock. It asks the transaction's primary, which rolls a two-phase lock back whose time is
+/// over, and pushes one that lives; of an async transaction whose time is over it asks the other
+/// keys too. What was found is so in what the seat has then seen. Waiting says why: the lock lives,
+/// nothing of the transaction stands on its primary, or a reply was lost or refused below the safe
+/// point or for want of memory.
 pub fn resolve<J: Naming, S: Sender<Request<J>, Reply<J>>>(
     seat: &mut Seat<J>,
     met: &LockInfo,
@@ -275,6 +277,7 @@ pub fn resolve<J: Naming, S: Sender<Request<J>, Reply<J>>>(
     ensures sends { Sends S.sends J.bounds seat.old sender.old (resolve_walk met.now (For.Reader reader now)) result.status sender.new seat.new }
     ensures told { result.events ≡ seat.new.events }
 {
+    // For proofs: what the seat has seen is a world run.
     let _ = seat.number();
     let status = resolve_for(seat, met, &For::Reader { at: reader, now }, sender);
     let told = seat.tell();

@@ -122,7 +122,8 @@ weaker : (h : History) (m n : ℕ) (r : Reply) → m ≤ n → IsAbove h n r →
 weaker h m n (Ended t o keys) le is = (is.0, is.1, omega (arith, le, is.2))
 weaker h m n (Said said) le is = tt
 
--- what is told so far lies above the results that are left, of which each is of a lower seat than those before it
+-- what is told so far lies above the results that are left, of which each is of a lower seat
+-- than those before it
 pub record AreLeft (source : Option (List ℕ)) (h : History) (replies : List Spoken) (rest : List Working) : Type 0 where
   pub falling : AreFalling rest
   pub told : TellsOutcomes h replies

@@ -1,4 +1,4 @@
--- The jobs of a run, and their seats.
+-- The jobs of a run, and their seats. But for `ComesOf`, only this crate's own clauses cite it.
 use Rattle.std.specs.Prelude.{◌≡◌, ℕ, ◌+◌, ◌*◌, ◌<◌, ◌≤◌, ◌++◌, List, All, Some, None, slice_get}
 use Rattle.std.specs.List.{AllPairs, flat_map}
 use Rattle.tx_core.specs.Histories.{History, Begins, drawer}
@@ -40,7 +40,8 @@ HaveOwnSeats last jobs = (k : ℕ) (job : Working) → slice_get jobs k ≡ Some
 abbrev pub AreFrom : ℕ → List Known → Type 0
 AreFrom first seats = (k : ℕ) (s : Known) → slice_get seats k ≡ Some s → s.seat ≡ first + k
 
--- a job was heard of: this history begins with what the job was told, and there stands what its lines are told
+-- a job was heard of: this history begins with what the job was told, and there stands what
+-- its lines are told
 pub record IsHeard (h : History) (came : Came) : Type 0 where
   pub tells : TellsBy came.log.told came.log.seat came.log.replies
   pub knows : Begins came.log.told h
@@ -56,6 +57,7 @@ pub record AreJoined (before : List Spoken) (h : History) (replies : List Spoken
   pub heard : All (IsHeard h) jobs
   pub all : replies ≡ before ++ flat_map (λ came. came.log.replies) jobs
 
--- what a run came to: the answers before any session, and those of its sessions, of which each had seen a beginning of what is seen in the end
+-- what a run came to: the answers before any session, and those of its sessions, of which each had
+-- seen a beginning of what is seen in the end
 abbrev pub ComesOf : History → List Spoken → Type 0
 ComesOf h replies = (before : List Spoken) × (sessions : List Came) × All (λ s. start_of s.reply ≡ None) before × AreJoined before h replies sessions

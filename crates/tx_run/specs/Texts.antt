@@ -94,7 +94,8 @@ abbrev pub IsRunText : Option Played → List ℕ → Type 0
 IsRunText None text = IsFaultText text
 IsRunText (Some played) text = IsTextOf played.replies played.total text
 
--- the text of some run of this script: each outcome that it tells was answered in what its sessions had seen
+-- the text of some run of this script: each outcome that it tells was answered in what its
+-- sessions had seen
 abbrev pub IsTextFrom : Option (List ℕ) → List ℕ → Type 0
 IsTextFrom source text = IsFaultText text
     ⊎ ((seen : Seen) × (replies : List Spoken) × (total : Total) × IsWorldRun seen.bounds seen.events × TellsOutcomes seen.events replies

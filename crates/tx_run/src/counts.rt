@@ -1,4 +1,5 @@
-//! How many lines of a run are told each outcome, and the two lines of sums that follow its answers.
+//! How many lines of a run are told each outcome, and the two lines of sums that
+//! follow its answers.
 ghost use Rattle.std.specs.Prelude.{◌≡◌, ◌++◌, map, OnOk};
 ghost use Rattle.tx_run.specs.Texts.{IsRoomy, counted, counts_of, outcomes_text, total_text};
 

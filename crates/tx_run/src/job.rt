@@ -1,4 +1,5 @@
-//! A session of a run, as a job of the workers: each line is a step. A transfer is mostly two: its reads, and then its writes.
+//! A session of a run, as a job of the workers: each line is a step. A transfer is mostly two: its
+//! reads, and then its writes.
 ghost use Rattle.std.specs.Prelude.{◌≡◌, IfOk};
 ghost use Rattle.tx_run.specs.Jobs.{StaysSame};
 
@@ -21,7 +22,8 @@ use tx_sched::{Job, Turn};
 use tx_types::{Cause, Fault};
 use tx_work::{Access, After, Collector, Moving, slots_of};
 
-/// A session, the lines that are left of it, and what was answered. Contracts see its number and its log.
+/// A session, the lines that are left of it, and what was answered. Contracts see its
+/// number and its log.
 #[derive(Drop)]
 pub(crate) struct ScriptJob<J: Naming, L: Source, F: Families + Drop, R: Wait + Drop> {
     number: u32,
@@ -125,8 +127,8 @@ impl<J: Naming, L: Source, F: Families + Drop, R: Wait + Drop> ScriptJob<J, L, F
         }
     }
 
-    // Makes a line, unless a transfer is on its way, and the next requests of a transfer: where it has just begun, these ask for no
-    // latch.
+    // Makes a line, unless a transfer is on its way, and the next requests of a transfer: where it
+    // has just begun, these ask for no latch.
     fn advance(&mut self)
         ensures { StaysSame self.old self.new }
     {

@@ -1,6 +1,6 @@
-//! Scripts of sessions that run side by side. A script is read whole; its seeds run in the order of their lines, and then each
-//! session is a job of the workers, with its lines in their order. All of them send to one store, and a `transfer` moves an amount
-//! between the balances of two keys.
+//! Scripts of sessions that run side by side. A script is read whole; its seeds run in the order of
+//! their lines, and then each session is a job of the workers, with its lines in their order. All
+//! of them send to one store, and a `transfer` moves an amount between the balances of two keys.
 #![tactic(auto)]
 
 mod counts;

@@ -80,7 +80,8 @@ fn jobs<J: Naming, L: Source, F: Families + Drop, R: Wait + Clone + Drop>(
     Ok(jobs)
 }
 
-// Takes over what a session came to, of which others' answers are above: whether a fault ended it.
+// Adds a session's log to the replies. Sessions come by falling seats. Returns whether a script
+// fault ended it.
 fn join<J: Naming, L: Source>(
     out: Out<J, L>,
     seat: &mut Seat<J>,
@@ -141,8 +142,8 @@ struct Lines<L: Source> {
     sessions: Vec<Vec<Entry<L>>>,
 }
 
-/// What came of a script that was played. Each outcome among the answers was answered in what was seen, of a transaction of its
-/// own.
+/// What came of a script that was played. Each outcome among the answers was answered in what was
+/// seen, of a transaction of its own.
 #[derive(Drop)]
 pub struct Played {
     /// The answer of each line that was reached.
@@ -280,9 +281,9 @@ where
     })
 }
 
-/// Plays a script that was read, as is set: the seeds in the order of their lines, and then the lines of each session
-/// in their order, the sessions side by side. Each outcome that a line is told was answered in what was seen, and no two are of
-/// one transaction.
+/// Plays a script that was read, as is set: the seeds in the order of their lines, and then the
+/// lines of each session in their order, the sessions side by side. Each outcome that a line is
+/// told was answered in what was seen, and no two are of one transaction.
 ///
 /// `Memory` where a growth was refused outside of a session's calls.
 pub(crate) fn play_script<L, F, M, G, R>(

@@ -62,14 +62,15 @@ where
     Ok((end, Some(played)))
 }
 
-/// Reads a script, and plays it as is set, by 1 to 64 workers: the seeds in the order of their lines, and then the lines of each
-/// session in their order, the sessions side by side. Then it writes the answer of each line in the order of the lines, the
-/// counts of the outcomes, and the sum of all balances. A fault of the form of a line, or a 257th session, is told alone. `make` gives
-/// each region its families.
+/// Reads a script, and plays it as is set, by 1 to 64 workers: the seeds in the order of their
+/// lines, and then the lines of each session in their order, the sessions side by side. Then it
+/// writes the answer of each line in the order of the lines, the counts of the outcomes, and the
+/// sum of all balances. A fault of the form of a line, or a 257th session, is told alone. `make`
+/// gives each region its families.
 ///
-/// It hands back what was played, where the script was played: each outcome that a line is told was answered in what all
-/// sessions had seen, no two are of one transaction, and the transaction of a transfer that was committed or aborted declared
-/// changes of just the two keys that its line says.
+/// It hands back what was played, where the script was played: each outcome that a line is told was
+/// answered in what all sessions had seen, no two are of one transaction, and the transaction of a
+/// transfer that was committed or aborted declared changes of just the two keys that its line says.
 pub fn run_script<F, M, G, R, B, W>(
     rt: &R,
     alloc: Global,

@@ -6,9 +6,10 @@ ghost use Rattle.std.specs.Prelude.{◌≡◌, None};
 pub struct Settings {
     /// How many threads make steps, 1 to 64.
     pub workers: usize,
-    /// For how many ticks a version is kept that is out of date: each time so many were drawn, the first session of the script
-    /// collects at a safe point so many below the last timestamp, between two of its transactions. A transaction that is open for
-    /// longer may be told `E7`. None: nothing is collected.
+    /// For how many ticks a version is kept that is out of date: each time so many were drawn, the
+    /// first session of the script collects at a safe point so many below the last timestamp,
+    /// between two of its transactions. A transaction that is open for longer may be told `E7`.
+    /// None: nothing is collected.
     pub life_time: Option<u64>,
 }
 

@@ -76,7 +76,8 @@ fn write_sums<W: Write>(
     finish(writer)
 }
 
-/// Writes the answers in the order of their lines, then the counts of the outcomes, and the sum of all balances.
+/// Writes the answers in the order of their lines, then the counts of the outcomes, and the sum
+/// of all balances.
 pub(crate) fn write_all<W: Write>(
     alloc: Global,
     writer: &mut W,

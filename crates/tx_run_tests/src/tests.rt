@@ -111,7 +111,8 @@ fn one_session(rt: HostRuntime) -> Result<(), Fail> {
     Ok(())
 }
 
-// Ten accounts with 100 each, in four regions, and so many transfers of 1 by each of these sessions.
+// Ten accounts with 100 each, in four regions, and so many transfers of 1 by each
+// of these sessions.
 fn transfers(alloc: Global, sessions: u32, rounds: u32) -> Result<String, AllocError> {
     let mut text = String::from_str(alloc, "[\"regions\",[\"a3\",\"a5\",\"a8\"]]\n")?;
     for k in 0..10_u32 {

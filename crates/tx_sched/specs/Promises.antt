@@ -40,7 +40,8 @@ abbrev pub UnlessClosed : Bool → Type 0 → Type 0
 UnlessClosed true fact = Unit {0}
 UnlessClosed false fact = fact
 
--- what is told of a job on its way: its place among the jobs, its number, and how many steps it made
+-- what is told of a job on its way: its place among the jobs, its number, and how
+-- many steps it made
 pub record Ticket : Type 0 where
   pub place : ℕ
   pub number : ℕ

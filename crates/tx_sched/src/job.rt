@@ -19,14 +19,15 @@ pub trait Job: Drop {
     /// The number that a result tells.
     ghost tells: { Self.Out → ℕ };
 
-    /// What it promises of its result. A step may promise more than was promised before it, and never less.
+    /// What it promises of its result. A step may promise more than was promised before
+    /// it, and never less.
     ghost promised: { Self → Self.Out → Type 0 };
 
     /// Its number, which no other job of a run has.
     fn number(&self) -> u32
         ensures { result ≡ numbered self.now };
 
-    /// Puts the slots of the keys that its next step asks for behind those that are there, of which a worker hands in none.
+    /// Appends the latch slots of the next step's keys to `slots`, which a worker passes empty.
     /// `OutOfMemory` is the only refusal.
     fn slots(&self, slots: &mut Vec<Slot>) -> Result<(), Fault>
         ensures err { IfErr result (λ e. e ≡ OutOfMemory) };

@@ -21,11 +21,12 @@ use std::thread::Threads;
 use tx_latch::{Cid, Slot};
 use tx_types::Fault;
 
-/// How many steps of a job a worker makes in a row while other jobs are ready. A queue that each step went through would cost
-/// more than the step.
+/// How many steps of a job a worker makes in a row while other jobs are ready. A queue that each
+/// step went through would cost more than the step.
 const SHARE: u32 = 16;
 
-/// How many benches the latches lie on. One lock for all latches would make four workers slower than one.
+/// How many benches the latches lie on. One lock for all latches would make four workers
+/// slower than one.
 const BENCHES: u8 = 16;
 
 /// What workers tell one another.
@@ -46,7 +47,8 @@ where
     /// The ready queue, with room for each job and for one `Stop`.
     queue: Sender<Message<J, N>>,
     ready: Receiver<Message<J, N>>,
-    /// The latches, those of a slot on the bench of its number modulo their count. A step asks them in rising order.
+    /// The latches, those of a slot on the bench of its number modulo their count. A step asks them
+    /// in rising order.
     benches: Vec<Mutex<Bench<J, N>>>,
     alloc: Global,
     results: Mutex<Results<J, N>>,
@@ -54,7 +56,8 @@ where
     ended: Condvar,
     /// The place of each job, by its number.
     places: HashMap<u32, usize>,
-    /// Whether one worker makes all steps. Then no two are ever made at once, and none asks for its latches.
+    /// Whether one worker makes all steps. Then no two are ever made at once, and none asks
+    /// for its latches.
     alone: bool,
 }
 
@@ -108,8 +111,9 @@ where
         let _ = self.queue.send(rt, Message::Stop);
     }
 
-    /// Makes steps of a job, until it waits for its latches, gives its result, or was given its share while others wait. `slots` is
-    /// the room for those of a step, which one worker uses again and again.
+    /// Makes steps of a job, until it waits for its latches, gives its result, or was given its
+    /// share while others wait. `slots` is the room for those of a step, which one worker uses
+    /// again and again.
     fn advance<R: Wait, G: Gate>(&self, rt: &R, gate: &G, task: Task<J, N>, slots: &mut Vec<Slot>) {
         let mut task = task;
         for _ in rt.forever() {
@@ -126,7 +130,8 @@ where
         self.put(rt, task);
     }
 
-    /// Makes the next step of a job, if its latches are granted. Gives the job back where it has more steps.
+    /// Makes the next step of a job, if its latches are granted. Gives the job back where
+    /// it has more steps.
     fn turn<R: Wait, G: Gate>(
         &self,
         rt: &R,
@@ -150,7 +155,8 @@ where
         }
     }
 
-    /// Gives the latches of a command back, and puts the jobs that waited for them on the ready queue.
+    /// Gives the latches of a command back, and puts the jobs that waited for them on
+    /// the ready queue.
     fn release<R: Wait>(&self, rt: &R, cid: Cid, slots: &[Slot]) {
         for slot in slots {
             let Some(bench) = self.benches.get(usize::from(bench_of(*slot))) else {
@@ -296,16 +302,19 @@ where
     Ok(gather(there, outs))
 }
 
-/// Makes the steps of these jobs, each job's in its order and the jobs side by side: on this thread and on up to
-/// `workers - 1` further ones. A thread that cannot be started is left out; all are joined before it answers.
+/// Makes the steps of these jobs, each job's in its order and the jobs side by side: on this thread
+/// and on up to `workers - 1` further ones. A thread that cannot be started is left out; all are
+/// joined before it answers.
 ///
-/// A worker makes a step once its slots are its own, between `gate.before` and `gate.after`, and then lets the slots go; where it is the
-/// only one, they are its own with no look at the latches. It makes up to 16 steps of a job in a row while others are ready. The command of a step has the number of its job times 2^32, plus the
-/// number of the step from 0, modulo 2^32.
+/// A worker makes a step once its slots are its own, between `gate.before` and `gate.after`, and
+/// then lets the slots go; where it is the only one, they are its own with no look at the latches.
+/// It makes up to 16 steps of a job in a row while others are ready. The command of a step has the
+/// number of its job times 2^32, plus the number of the step from 0, modulo 2^32.
 ///
-/// It waits until each job has its result, and gives the results in the order of the jobs: each is what its job promised, and
-/// tells its number. No two jobs may have one number, since the latches could not tell their commands apart. `OutOfMemory`, also where
-/// a job is refused memory for its slots, is the only refusal: then the jobs and the results so far are dropped.
+/// It waits until each job has its result, and gives the results in the order of the jobs: each is
+/// what its job promised, and tells its number. No two jobs may have one number, since the latches
+/// could not tell their commands apart. `OutOfMemory`, also where a job is refused memory for its
+/// slots, is the only refusal: then the jobs and the results so far are dropped.
 pub fn run_sessions<J: Job + Send, G: Gate + Sync, R: Threads + Wait + Sync>(
     rt: &R,
     alloc: Global,

@@ -1,4 +1,5 @@
--- A script that is checked: the steps that were kept are those of its run, which are a run of the machine.
+-- A script that is checked: the steps that were kept are those of its run, which are a
+-- run of the machine.
 use Rattle.std.proofs.Common.{◌≡◌, ◌≤◌, inl, inr, ◌+◌, ℕ, Bool, true, false, List, [], length, Option, Some, None, IfSome, sym, ap, subst, ◌∙◌}
 use Rattle.std.specs.Io.KnownBytes.{Appends, Keeps}
 use Rattle.std.proofs.KnownBytes.{Appends-trans}

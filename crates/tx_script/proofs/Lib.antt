@@ -2,13 +2,15 @@
 pub mod OnePlay
 -- What a line of a script leads to, by what it says.
 pub mod LineTurns
--- The loop over the lines: under the condition that no more events came than the engine made, what is written is of a play.
+-- The loop over the lines: under the condition that no more events came than the engine made, what
+-- is written is of a play.
 pub mod Scripts
--- The same, by what was found of each line.
+-- The replies of a script, by what was found of each line.
 pub mod Lines
 -- When all has settled, the condition holds: nobody else acted.
 pub mod Ending
 -- Lines that are written one after another, up to where that was broken off.
 pub mod Begun
--- A script that is checked: the steps that were kept are those of its run, which are a run of the machine.
+-- A script that is checked: the steps that were kept are those of its run, which are a
+-- run of the machine.
 pub mod Checking

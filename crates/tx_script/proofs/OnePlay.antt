@@ -1,4 +1,5 @@
--- Lines have one play where its events are a world run: wherever a region is asked, a beginning of them has happened.
+-- Lines have one play where its events are a world run: wherever a region is asked, a beginning of
+-- them has happened.
 use Rattle.std.proofs.Common.{◌≡◌, ◌==◌, ◌&&◌, ℕ, ◌+◌, Bool, true, false, cond, List, [], ◌∷◌, length, Option, Some, None, is_some, option_and_then, Result, Ok, Err, sym, ap, subst, ◌∙◌}
 use Rattle.serde_json.specs.Data.{Data}
 use Rattle.tx_types.specs.declared.fault.Cause.{Cause}

@@ -1,4 +1,5 @@
--- What is written of a script that is checked: its replies, and where it ended well also the machine's steps of its run.
+-- What is written of a script that is checked: its replies, and where it ended well also the
+-- machine's steps of its run.
 use Rattle.std.specs.Prelude.{◌≡◌, ◌⊎◌, ℕ, List, [], ◌∷◌, ◌++◌, map, reverse, Bool, Option}
 use Rattle.std.specs.List.{concat}
 use Rattle.std.specs.Io.KnownBytes.{Appends}
@@ -17,7 +18,8 @@ use Rattle.tx_check.specs.declared.words.Verdict.TheVariants.{Yes}
 use Rattle.tx_check.specs.Words.{words}
 use Rattle.tx_script.specs.Play.{Played, render, IsPlay, BreaksLines, bounds_of}
 
--- the lines that follow the replies of a run: the machine's steps that are read off it, oldest first, and that they are a run
+-- the lines that follow the replies of a run: the machine's steps that are read off it, oldest
+-- first, and that they are a run
 abbrev pub step_lines : History → List (List ℕ)
 step_lines h = map step_text (reverse (shadow h)) ++ line_text (words Yes) ∷ []
 
@@ -33,11 +35,13 @@ IsBegun why lines written = ((first rest : List (List ℕ)) × (lines ≡ first 
     ⊎ ((more : List ℕ) × (concat lines ≡ written ++ more) × (why ≡ Output))
 
 module _ (bounds : List Key) where
-  -- lines that were played to their end: the replies of their only play were written, and what follows them
+  -- lines that were played to their end: the replies of their only play were written, and
+  -- what follows them
   abbrev pub EndsCheckedLines : List (List ℕ) → Option (List ℕ) → Option (List ℕ) → End → Type 0
   EndsCheckedLines lines old new ended = (refused : List Bool) × (p : Played) × IsPlay bounds refused lines p × Appends old new (render p.replies ++ steps_told p.ended p.history) × (ended ≡ p.ended)
 
-  -- lines that ended well, and then were broken off: their replies were written, and a beginning of what follows them
+  -- lines that ended well, and then were broken off: their replies were written, and a beginning of
+  -- what follows them
   abbrev pub BreaksSteps : Broken → List (List ℕ) → Option (List ℕ) → Option (List ℕ) → Type 0
   BreaksSteps why lines old new = (refused : List Bool) × (p : Played) × (written : List ℕ) × IsPlay bounds refused lines p × (p.ended ≡ Well)
       × IsBegun why (step_lines p.history) written × Appends old new (render p.replies ++ written)
@@ -46,10 +50,12 @@ module _ (bounds : List Key) where
   abbrev pub BreaksCheckedLines : Broken → List (List ℕ) → Option (List ℕ) → Option (List ℕ) → Type 0
   BreaksCheckedLines why lines old new = BreaksLines bounds why lines old new ⊎ BreaksSteps why lines old new
 
--- a checked script that ended has written the text of its replies and, where it ended well, of the machine's steps of its run, and nothing else
+-- a checked script that ended has written the text of its replies and, where it ended well, of the
+-- machine's steps of its run, and nothing else
 abbrev pub EndsChecked : List ℕ → Option (List ℕ) → Option (List ℕ) → End → Type 0
 EndsChecked input old new ended = EndsCheckedLines (bounds_of (lines_of input)) (lines_of input) old new ended
 
--- a checked script that was broken off has written a beginning of that: whole lines, unless a write failed
+-- a checked script that was broken off has written a beginning of that: whole lines,
+-- unless a write failed
 abbrev pub BreaksChecked : Broken → List ℕ → Option (List ℕ) → Option (List ℕ) → Type 0
 BreaksChecked why input old new = BreaksCheckedLines (bounds_of (lines_of input)) why (lines_of input) old new

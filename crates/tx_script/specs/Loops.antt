@@ -1,4 +1,4 @@
--- Where the loop over the lines stands.
+-- Where the loop over the lines stands. Only this crate's own clauses cite it.
 use Rattle.std.specs.Prelude.{◌≡◌, ◌⊎◌, ◌<◌, ◌≤◌, ℕ, List, [], ◌∷◌, ◌++◌, Bool, true, false, length, Option, Some, IfSome, Result, Ok, Err}
 use Rattle.std.specs.Io.KnownBytes.{Appends}
 use Rattle.tx_types.specs.declared.fault.Cause.{Cause}
@@ -67,7 +67,8 @@ module _ (bounds : List Key) (lines : List (List ℕ)) where
   abbrev pub EndsAt : History → Option (List ℕ) → Option (List ℕ) → End → Type 0
   EndsAt h old new ended = (refused : List Bool) × (p : Played) × Plays bounds (opening MAX_LIVE_SESSIONS) 0 refused lines p × (p.history ≡ h) × Appends old new (render p.replies) × (ended ≡ p.ended)
 
-  -- a beginning of the text of the replies of some play of the first lines was written, whose events are the first of these
+  -- a beginning of the text of the replies of some play of the first lines was written, whose
+  -- events are the first of these
   abbrev pub BreaksAt : Broken → History → Option (List ℕ) → Option (List ℕ) → Type 0
   BreaksAt why h old new = (refused : List Bool) × (first rest : List (List ℕ)) × (p : Played) × (written more : List ℕ)
       × (lines ≡ first ++ rest) × Plays bounds (opening MAX_LIVE_SESSIONS) 0 refused first p × Begins p.history h × Appends old new written

@@ -90,8 +90,8 @@ abbrev pub render : List (ℕ × Items) → List ℕ
 render replies = flat_map reply_text replies
 
 module _ (bounds : List Key) where
-  -- Lines are played from a scene on, the first with the number after this one: each leads to its reply and to the scene of the next; a
-  -- fault ends the script.
+  -- Lines are played from a scene on, the first with the number after this one: each leads to its
+  -- reply and to the scene of the next; a fault ends the script.
   abbrev pub Plays : Scene → ℕ → List Bool → List (List ℕ) → Played → Type 0
   Plays scene number refused [] p = p ≡ ending scene
   Plays scene number refused (line ∷ lines) p =
@@ -99,10 +99,10 @@ module _ (bounds : List Key) where
       (λ cause. p ≡ faulted scene (number + 1) cause)
       (line_turn bounds refused (number + 1) line scene)
 
-  -- What lines mean over regions with these bounds, where the calls that `refused` names met want of
-  -- memory: they mean nothing else, and their events are a run of the protocol. So the steps of the
-  -- machine that commits each transaction in one step, read off that run, are a run of that machine,
-  -- and each answer is true of its table where it was given.
+  -- What lines mean over regions with these bounds, where the calls that `refused` names met want
+  -- of memory: they mean nothing else, and their events are a run of the protocol. So the steps of
+  -- the machine that commits each transaction in one step, read off that run, are a run of that
+  -- machine, and each answer is true of its table where it was given.
   pub record IsPlay (refused : List Bool) (lines : List (List ℕ)) (p : Played) : Type 0 where
     pub plays : Plays (opening MAX_LIVE_SESSIONS) 0 refused lines p
     pub only : (q : Played) → Plays (opening MAX_LIVE_SESSIONS) 0 refused lines q → q ≡ p
@@ -114,7 +114,8 @@ module _ (bounds : List Key) where
   abbrev pub EndsLines : List (List ℕ) → Option (List ℕ) → Option (List ℕ) → End → Type 0
   EndsLines lines old new ended = (refused : List Bool) × (p : Played) × IsPlay refused lines p × Appends old new (render p.replies) × (ended ≡ p.ended)
 
-  -- lines that were broken off: a beginning of the text of the first of them was written, whole replies unless a write failed
+  -- lines that were broken off: a beginning of the text of the first of them was written, whole
+  -- replies unless a write failed
   abbrev pub BreaksLines : Broken → List (List ℕ) → Option (List ℕ) → Option (List ℕ) → Type 0
   BreaksLines why lines old new = (refused : List Bool) × (first rest : List (List ℕ)) × (p : Played) × (written more : List ℕ)
       × (lines ≡ first ++ rest) × IsPlay refused first p × Appends old new written × (render p.replies ≡ written ++ more)
@@ -124,6 +125,7 @@ module _ (bounds : List Key) where
 abbrev pub EndsScript : List ℕ → Option (List ℕ) → Option (List ℕ) → End → Type 0
 EndsScript input old new ended = EndsLines (bounds_of (lines_of input)) (lines_of input) old new ended
 
--- a script that was broken off has written a beginning of the text of its first lines: whole replies, unless a write failed
+-- a script that was broken off has written a beginning of the text of its first lines: whole
+-- replies, unless a write failed
 abbrev pub BreaksScript : Broken → List ℕ → Option (List ℕ) → Option (List ℕ) → Type 0
 BreaksScript why input old new = BreaksLines (bounds_of (lines_of input)) why (lines_of input) old new

@@ -65,7 +65,8 @@ fn tell_run<W: Write>(alloc: Global, writer: &mut W, steps: &[Step]) -> Result<(
     tell_verdict(alloc, writer, steps)
 }
 
-// Writes the steps of a run that were kept, and that they are one. `Memory` where they were not kept for want of it.
+// Writes the steps of a run that were kept, and that they are one. `Memory` where they were not
+// kept for want of it.
 fn tell_trace<W: Write>(alloc: Global, writer: &mut W, trace: Option<Trace>) -> Result<(), Broken>
     requires run { IfSome trace (λ t. IsRun t.steps) }
     ensures all { OnOk result ((h : History) → AreOf h trace → Appends (W.contents writer.old) (W.contents writer.new) (concat (step_lines h))) }
@@ -77,8 +78,8 @@ fn tell_trace<W: Write>(alloc: Global, writer: &mut W, trace: Option<Trace>) -> 
     tell_run(alloc, writer, trace.steps())
 }
 
-/// Writes what follows the replies of a script that ended so: where it ended well, the steps of its run that were kept, and that they are
-/// one. `Memory` where they were not kept for want of it.
+/// Writes what follows the replies of a script that ended so: where it ended well, the steps of its
+/// run that were kept, and that they are one. `Memory` where they were not kept for want of it.
 pub(crate) fn tell_rest<W: Write>(
     alloc: Global,
     writer: &mut W,

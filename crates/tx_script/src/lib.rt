@@ -1,8 +1,10 @@
-//! Text in, text out. `simulate` reads the steps of a script, plays them in one thread over regions in which nobody else acts, and
-//! writes a reply for each: what it has written is what the script means, which is its only play, whose events are a run of the
-//! protocol. `simulate_checked` also writes the machine's steps that are read off that run, and that they are a run of the machine.
+//! Text in, text out. `simulate` reads the steps of a script, plays them in one thread over regions
+//! in which nobody else acts, and writes a reply for each: what it has written is what the script
+//! means, which is its only play, whose events are a run of the protocol. `simulate_checked` also
+//! writes the machine's steps that are read off that run, and that they are a run of the machine.
 //!
-//! A line is one JSON array, which `tx_lines` reads and writes; `tx_steps` has the steps of scripts, and `tx_play` the engine.
+//! A line is one JSON array, which `tx_lines` reads and writes; `tx_steps` has the steps of
+//! scripts, and `tx_play` the engine.
 #![tactic(auto)]
 
 mod call;

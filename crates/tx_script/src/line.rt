@@ -119,7 +119,8 @@ pub(crate) fn play_found<J: Naming, F: Families>(
     }
 }
 
-/// Writes the line of a reply, or the first few bytes of it before a failure. It is made in `text`, which is kept from line to line.
+/// Writes the line of a reply, or the first few bytes of it before a failure. It is made in `text`,
+/// which is kept from line to line.
 pub(crate) fn tell<W: Write>(
     writer: &mut W,
     text: &mut Vec<u8>,

@@ -126,12 +126,13 @@ pub fn simulate_with<F: Fresh, R: BufRead, W: Write>(
     play::<F, R, W>(alloc, reader, writer, false)
 }
 
-/// Plays a script, in one thread: reads its steps line by line, and writes one reply line a step. Line 1 may say the keys between its
-/// regions; else there is one region. At most 256 sessions live at once. It ends well at the end of the input, and `Faulted` at the first
-/// line that is no step or that the script does not allow, whose reply names the cause.
+/// Plays a script, in one thread: reads its steps line by line, and writes one reply line a step.
+/// Line 1 may say the keys between its regions; else there is one region. At most 256 sessions live
+/// at once. It ends well at the end of the input, and `Faulted` at the first line that is no step
+/// or that the script does not allow, whose reply names the cause.
 ///
-/// `Input` where a read failed, `Output` where a write or the flush failed, `Memory` where a growth was refused outside of a step's own
-/// calls, for which the reply is E12.
+/// `Input` where a read failed, `Output` where a write or the flush failed, `Memory` where a growth
+/// was refused outside of a step's own calls, for which the reply is E12.
 pub fn simulate<R: BufRead, W: Write>(
     alloc: Global,
     reader: &mut R,
@@ -147,13 +148,15 @@ pub fn simulate<R: BufRead, W: Write>(
     simulate_with::<NestedCells, R, W>(alloc, reader, writer)
 }
 
-/// Plays and checks a script as `simulate_checked` does, over families of one's own choice, which begin with nothing.
+/// Plays and checks a script as `simulate_checked` does, over families of one's own choice, which
+/// begin with nothing.
 pub fn simulate_checked_with<F: Fresh, R: BufRead, W: Write>(
     alloc: Global,
     reader: &mut R,
     writer: &mut W,
 ) -> Result<End, Broken>
-    // Not broken off, it has written the replies of what the script means, where it ended well the machine's steps, and nothing else.
+    // Not broken off, it has written the replies of what the script means, where it ended well the
+    // machine's steps, and nothing else.
     ensures ends { IfOk result (λ end. IfSome (R.remaining reader.old)
         (λ input. EndsChecked input (W.contents writer.old) (W.contents writer.new) end)) }
     // Broken off, it has written a beginning of that: whole lines, unless a write failed.
@@ -163,17 +166,20 @@ pub fn simulate_checked_with<F: Fresh, R: BufRead, W: Write>(
     play::<F, R, W>(alloc, reader, writer, true)
 }
 
-/// Plays a script as `simulate` does, and checks it: where it ended well, the steps of the machine that commits each transaction in one step
-/// follow its replies, a line each, in the order in which they happened in its run; and then a line says that they are a run of the
-/// machine, as the machine's checker finds.
+/// Plays a script as `simulate` does, and checks it: where it ended well, the steps of the machine
+/// that commits each transaction in one step follow its replies, a line each, in the order in which
+/// they happened in its run; and then a line says that they are a run of the machine, as the
+/// machine's checker finds.
 ///
-/// It is broken off as `simulate` is, with `Memory` also where the steps could not be kept or checked for want of it.
+/// It is broken off as `simulate` is, with `Memory` also where the steps could not be kept or
+/// checked for want of it.
 pub fn simulate_checked<R: BufRead, W: Write>(
     alloc: Global,
     reader: &mut R,
     writer: &mut W,
 ) -> Result<End, Broken>
-    // Not broken off, it has written the replies of what the script means, where it ended well the machine's steps, and nothing else.
+    // Not broken off, it has written the replies of what the script means, where it ended well the
+    // machine's steps, and nothing else.
     ensures ends { IfOk result (λ end. IfSome (R.remaining reader.old)
         (λ input. EndsChecked input (W.contents writer.old) (W.contents writer.new) end)) }
     // Broken off, it has written a beginning of that: whole lines, unless a write failed.

@@ -62,8 +62,8 @@ fn play_lines<J: Naming, F: Families, R: BufRead, W: Write>(
     }
 }
 
-// Ends the play: nobody else acted, so that what is newest is no more than was made here, and a run of the protocol. The machine's steps
-// of it, where they were kept.
+// Ends the play: nobody else acted, so that what is newest is no more than was made here, and a run
+// of the protocol. The machine's steps of it, where they were kept.
 fn close<J: Naming, F: Families + Drop>(engine: Engine<J, F>) -> Option<Trace>
     requires kept { Kept J.bounds engine }
     requires seats { J.seats ≡ length J.bounds + 2 + limits.MAX_LIVE_SESSIONS }
@@ -78,9 +78,9 @@ fn close<J: Naming, F: Families + Drop>(engine: Engine<J, F>) -> Option<Trace>
     trace
 }
 
-/// Plays the lines that come next in one thread, the first of which is in `line`, as it was found. What it has then written is the text
-/// of the only play of the lines, whose history is a run of the protocol; broken off, it has written a beginning of the text of the first
-/// lines.
+/// Plays the lines that come next in one thread, the first of which is in `line`, as it was found.
+/// What it has then written is the text of the only play of the lines, whose history is a run of
+/// the protocol; broken off, it has written a beginning of the text of the first lines.
 pub(crate) fn simulate_over<J: Naming, F: Families + Drop, R: BufRead, W: Write>(
     alloc: Global,
     engine: Engine<J, F>,
@@ -104,7 +104,8 @@ pub(crate) fn simulate_over<J: Naming, F: Families + Drop, R: BufRead, W: Write>
     end
 }
 
-/// The same with a check: where the script ended well, the machine's steps of its run follow its replies, and that they are a run.
+/// Plays such lines with a check: where the script ended well, the machine's steps of its run
+/// follow its replies, and that they are a run.
 pub(crate) fn check_over<J: Naming, F: Families + Drop, R: BufRead, W: Write>(
     alloc: Global,
     engine: Engine<J, F>,

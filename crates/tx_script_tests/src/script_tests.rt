@@ -43,8 +43,8 @@ fn answers<R: Abort + AllocGlobal>(rt: &R, lines: &[(&str, &str)]) -> Result<(),
     replies(rt, script.as_str(), End::Well, text.as_str())
 }
 
-// Where the store has a value, the prewrite of an insert says so, each time anew, and decides nothing; where the buffer has one, the
-// insert itself does.
+// Where the store has a value, the prewrite of an insert says so, each time anew, and decides
+// nothing; where the buffer has one, the insert itself does.
 #[test]
 fn insert_refuses_a_value(rt: HostRuntime) -> Result<(), Fail> {
     answers(
@@ -72,7 +72,8 @@ fn insert_refuses_a_value(rt: HostRuntime) -> Result<(), Fail> {
     )
 }
 
-// The check of an insert is a read, also of one that is then rolled back: no later commit may lie at or below it.
+// The check of an insert is a read, also of one that is then rolled back: no later commit may
+// lie at or below it.
 #[test]
 fn checked_insert_raises_the_minimum(rt: HostRuntime) -> Result<(), Fail> {
     answers(

@@ -1,4 +1,5 @@
-//! Three regions in one thread, each request to the one that holds it. None is lost; a region may be refused memory.
+//! Three regions in one thread, each request to the one that holds it. None is lost; a region may
+//! be refused memory.
 ghost use Rattle.std.specs.Prelude.{◌≡◌, [], All, IfSome, IfNone};
 ghost use Rattle.tx_journal.specs.Known.{AreRising};
 ghost use Rattle.tx_client.specs.Senders.{IsHeld};
@@ -12,7 +13,8 @@ use tx_region::Region;
 use tx_resolve::{Counts, gc};
 use tx_types::{Fault, Key, Ts};
 
-/// The regions below, between and above two keys. It is itself a way to them, on which nothing is lost.
+/// The regions below, between and above two keys. It is itself a way to them, on which
+/// nothing is lost.
 pub struct Ground<J: Naming> {
     journal: Journal<J>,
     seat: Seat<J>,
@@ -67,7 +69,8 @@ fn region<J: Naming>(
 }
 
 impl<J: Naming> Ground<J> {
-    /// The regions of the last three seats, which are those of the numbers 0, 1 and 2, between two keys.
+    /// The regions of the last three seats, which are those of the numbers 0, 1 and 2,
+    /// between two keys.
     pub fn new(
         alloc: Global,
         journal: Journal<J>,
@@ -92,7 +95,7 @@ impl<J: Naming> Ground<J> {
         })
     }
 
-    /// Its keys rise.
+    /// For proofs: its keys rise.
     pub fn rise(&self)
         ensures { AreRising J.bounds }
     {
@@ -148,7 +151,8 @@ impl<J: Naming> Ground<J> {
         request.clone(&self.seat).ok()
     }
 
-    /// Collects at this safe point. The region of this one of its requests is refused memory, counted from 1; 0 is none.
+    /// Collects at this safe point. The region of this one of its requests is refused memory,
+    /// counted from 1; 0 is none.
     pub fn collect(
         &mut self,
         collector: &mut Seat<J>,

@@ -1,6 +1,7 @@
-//! What scenarios are played on: two sessions, a resolver and a collector, over three regions in one thread, by a way that loses,
-//! repeats, refuses and holds requests. A `Reply` is made of what a region has recorded, so such a way stands before real regions, in
-//! a crate above both. A scenario is a list of steps, each with what comes of it; the crates of scenarios are tests.
+//! What scenarios are played on: two sessions, a resolver and a collector, over three regions in
+//! one thread, by a way that loses, repeats, refuses and holds requests. A `Reply` is made of what
+//! a region has recorded, so such a way stands before real regions, in a crate above both. A
+//! scenario is a list of steps, each with what comes of it; the crates of scenarios are tests.
 #![tactic(auto)]
 
 mod ground;

@@ -1,5 +1,6 @@
-//! Sessions, a resolver and a collector over a way to three regions, with the keys 4 and 7 between them: a scenario is a list of steps,
-//! each with who acts, what it does, what becomes of the request that it sends, and what comes of it.
+//! Sessions, a resolver and a collector over a way to three regions, with the keys 4 and 7 between
+//! them: a scenario is a list of steps, each with who acts, what it does, what becomes of the
+//! request that it sends, and what comes of it.
 ghost use Rattle.std.specs.Prelude.{◌≡◌, [], All, IfSome, vec_len};
 ghost use Rattle.tx_journal.specs.Known.{AreRising};
 
@@ -43,7 +44,8 @@ pub enum Act {
     HeartBeat(u32),
     Get(u8),
     Scan(u8, u8, u32),
-    /// The resolver finds, at this time, what became of the transaction whose lock it met, and it learns that.
+    /// The resolver finds, at this time, what became of the transaction whose lock it met,
+    /// and it learns that.
     Resolve(u64),
     /// Learns the fate of the other session's transaction.
     Learn,
@@ -55,13 +57,15 @@ pub enum Act {
     RaiseSafe(u32, u64),
     /// The collector collects at this safe point.
     Collect(u64),
-    /// A transaction of no session begins, declares these two keys in two phases, and prewrites the second alone.
+    /// A transaction of no session begins, declares these two keys in two phases, and prewrites
+    /// the second alone.
     Stray(u8, u8),
     /// So many requests go plainly, before the one of which a later step says what becomes of it.
     Spare(u32),
 }
 
-/// A step: who acts, the act, what becomes of its request, and the word and the number that come of it.
+/// A step: who acts, the act, what becomes of its request, and the word and the number
+/// that come of it.
 pub type Step = (Who, Act, Way, &'static str, u64);
 
 // A seat with so few ticks left.
@@ -73,7 +77,8 @@ fn shortened<J: Naming>(mut seat: Seat<J>, left: u32) -> Seat<J> {
     seat
 }
 
-/// The way, the seats that are free, the seat of the resolver and of the collector, and the sessions.
+/// The way, the seats that are free, the seat of the resolver and of the collector,
+/// and the sessions.
 #[derive(Drop)]
 pub struct World<J: Naming> {
     alloc: Global,

@@ -28,7 +28,8 @@ pub enum Way {
     Holds,
 }
 
-/// The regions, how many of the next requests go plainly, what becomes of the one after them, and the request that is held.
+/// The regions, how many of the next requests go plainly, what becomes of the one after them, and
+/// the request that is held.
 #[derive(Drop)]
 pub struct Post<J: Naming> {
     ground: Ground<J>,
@@ -112,7 +113,8 @@ impl<J: Naming> Post<J> {
         self.lose_reply(request);
     }
 
-    /// A collector collects at this safe point. Nothing that it sends is lost, but a region may be refused memory.
+    /// A collector collects at this safe point. Nothing that it sends is lost, but a region may
+    /// be refused memory.
     pub fn collect(&mut self, collector: &mut Seat<J>, safe: u64) -> Result<Counts, Fault> {
         let spared = replace(&mut self.spared, 0);
         let refused = match self.way {

@@ -1,4 +1,5 @@
--- What a line says, by its bytes and its number. The causes why it says nothing are looked for in the order of this page.
+-- What a line says, by its bytes and its number. The causes why it says nothing are looked for in
+-- the order of this page.
 use Rattle.std.specs.Prelude.{ℕ, List, length, nat_lt, Option, option_and_then, Result, Err, ok_or, if◌then◌else◌}
 use Rattle.serde_json.specs.Data.{Data, array}
 use Rattle.serde_json.specs.Find.{as_array}

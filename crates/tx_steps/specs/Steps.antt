@@ -1,4 +1,5 @@
--- The step of a script that a line says, over the members of its array. Strings stand for their UTF-8 bytes.
+-- The step of a script that a line says, over the members of its array. Strings stand for
+-- their UTF-8 bytes.
 use Rattle.std.specs.Prelude.{ℕ, ◌&&◌, List, Bool, true, false, nat_le, Option, Some, None, option_map, option_and_then, if◌then◌else◌, bytes_eq, codes}
 use Rattle.serde_json.specs.Data.{Items, no_items, item}
 use Rattle.serde_json.specs.Find.{as_str, as_number, as_u64}
@@ -22,7 +23,8 @@ use Rattle.tx_steps.specs.declared.step.Step.TheVariants as step
 
 -- ---- steps, with the bytes of their names, keys and values
 
--- what becomes of a request: it is taken; never taken; taken, and its reply lost; taken twice; or kept under a name
+-- what becomes of a request: it is taken; never taken; taken, and its reply lost; taken twice; or
+-- kept under a name
 pub data Way : Type 0 where
   taken : Way
   lost : Way
@@ -314,8 +316,8 @@ abbrev pub is_taken : Way → Bool
 is_taken taken = true
 is_taken _ = false
 
--- Whether a program's scripts have a step. A simulation has no seeds and no transfers; a run has no words of delivery, and no step
--- of no session but seeds.
+-- Whether a program's scripts have a step. A simulation has no seeds and no transfers; a run has no
+-- words of delivery, and no step of no session but seeds.
 abbrev pub is_of : Program → Asked → Bool
 is_of Simulate (seed key value) = false
 is_of Simulate (transfer name what) = false

@@ -20,8 +20,8 @@ pub enum Action<'a> {
     Delete(&'a str),
     /// A lock of a key enters it.
     Lock(&'a str),
-    /// The buffer is fixed: how its transaction commits, how long its locks live, in ticks, and the greatest timestamp that an
-    /// async commit may take; none is no bound.
+    /// The buffer is fixed: how its transaction commits, how long its locks live, in ticks, and the
+    /// greatest timestamp that an async commit may take; none is no bound.
     Declare(Mode, u32, Option<u64>),
     Draw,
     Finish,

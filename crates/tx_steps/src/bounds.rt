@@ -88,8 +88,8 @@ fn list<'a>(members: &[Part<'a>]) -> Option<&'a [Value]>
     }
 }
 
-/// The keys between the regions that the members of line 1 say, where they say some: 1 to 63 keys, each above the one before.
-/// `OutOfMemory` where a growth was refused.
+/// The keys between the regions that the members of line 1 say, where they say some: 1 to 63 keys,
+/// each above the one before. `OutOfMemory` where a growth was refused.
 pub fn bounds_of(alloc: Global, members: &[Part<'_>]) -> Result<Option<Vec<Key>>, Fault>
     ensures ok { IfOk result (λ found. option_map (λ keys. keys.items) found ≡ bounds_said (parts_items members.now)) }
     ensures err { IfErr result (λ e. e ≡ fault.OutOfMemory) }

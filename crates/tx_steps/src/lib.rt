@@ -1,9 +1,10 @@
-//! The steps of a script, read from a line: a word, and what the word is told of. Here is the one place of their form, for every
-//! program that plays scripts.
+//! The steps of a script, read from a line: a word, and what the word is told of. Here is the one
+//! place of their form, for every program that plays scripts.
 //!
-//! A step is read over the text of its line, and a plain line allocates nothing. Only the form is looked at: the words, how many
-//! members there are, which of them are texts and numbers, and the ranges of numbers. Whether a name, a key or a value has too many
-//! bytes is looked for later, but for the keys of `regions`.
+//! A step is read over the text of its line, and a plain line allocates nothing. Only the form is
+//! looked at: the words, how many members there are, which of them are texts and numbers, and the
+//! ranges of numbers. Whether a name, a key or a value has too many bytes is looked for later, but
+//! for the keys of `regions`.
 #![tactic(auto)]
 
 mod action;

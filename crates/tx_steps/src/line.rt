@@ -1,4 +1,5 @@
-//! A line of a script, as it was read: what it says is a step, or there is a cause why it says none.
+//! A line of a script, as it was read: what it says is a step, or there is a cause
+//! why it says none.
 ghost use Rattle.std.specs.Prelude.{◌≡◌, option_map, Some, None, if◌then◌else◌, Ok, Err, IfOk, IfErr, MatchResult};
 ghost use Rattle.serde_json.specs.View.{view};
 ghost use Rattle.tx_types.specs.declared.fault.Fault.TheVariants as fault;
@@ -21,7 +22,8 @@ pub enum Line<'p, 'a> {
     Other(Value),
 }
 
-// Puts the step that a value says in a program's scripts into `place`, and tells whether it says one.
+// Puts the step that a value says in a program's scripts into `place`, and tells
+// whether it says one.
 #[cold]
 #[inline(never)]
 fn put_step_of_value<'s>(program: Program, value: &'s Value, place: &mut Step<'s>) -> bool
@@ -34,8 +36,8 @@ fn put_step_of_value<'s>(program: Program, value: &'s Value, place: &mut Step<'s
 }
 
 impl<'p, 'a> Line<'p, 'a> {
-    /// Reads the line of this number. Causes are looked for in the order `Long`, `Lines`, `Json`. The members of a plain line are
-    /// put into `parts`, in place of what was there.
+    /// Reads the line of this number. Causes are looked for in the order `Long`, `Lines`, `Json`.
+    /// The members of a plain line are put into `parts`, in place of what was there.
     ///
     /// `Memory` where a growth was refused.
     pub fn read(
@@ -61,7 +63,8 @@ impl<'p, 'a> Line<'p, 'a> {
         }
     }
 
-    // Puts the step that it says in a program's scripts into `place`, and tells whether it says one.
+    // Puts the step that it says in a program's scripts into `place`, and tells
+    // whether it says one.
     fn put_step<'s>(&'s self, program: Program, place: &mut Step<'s>) -> bool
         ensures { (if result then Some (asked place.new) else None) ≡ step_in program (data_of self.now) }
     {
@@ -71,8 +74,8 @@ impl<'p, 'a> Line<'p, 'a> {
         }
     }
 
-    /// The step that it says in a program's scripts, where it says one. Where it says none, and no bounds either, the cause
-    /// is `Form`.
+    /// The step that it says in a program's scripts, where it says one. Where it says none, and no
+    /// bounds either, the cause is `Form`.
     #[inline(always)]
     pub fn step(&self, program: Program) -> Option<Step<'_>>
         ensures { option_map asked result ≡ step_in program (data_of self.now) }

@@ -21,7 +21,7 @@ pub(crate) fn number<'m, 'a>(members: &'m [Part<'a>]) -> Option<(u64, &'m [Part<
     Some((first.as_u64()?, rest))
 }
 
-/// The same, where it lies from `low` to `high`.
+/// The number that comes first, where it lies from `low` to `high`, and the members after it.
 pub(crate) fn within<'m, 'a>(
     low: u64,
     high: u32,
@@ -37,7 +37,8 @@ pub(crate) fn within<'m, 'a>(
     }
 }
 
-/// The same of greater numbers.
+/// The number that comes first, where it lies between these, which may be of 64 bits, and the
+/// members after it.
 pub(crate) fn between<'m, 'a>(
     low: u64,
     high: u64,

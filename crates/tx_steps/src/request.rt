@@ -31,7 +31,7 @@ pub(crate) fn sends<'a>(what: Request<'a>, members: &[Part<'a>], place: &mut Ste
     Some(())
 }
 
-/// The same of `get`.
+/// Puts the step `get` into `place`.
 pub(crate) fn get<'a>(members: &[Part<'a>], place: &mut Step<'a>) -> Option<()>
     ensures { option_map (λ _. asked place.new) result ≡ get_said (parts_items members.now) }
 {
@@ -51,7 +51,7 @@ fn range<'m, 'a>(members: &'m [Part<'a>]) -> Option<(Request<'a>, &'m [Part<'a>]
     Some((Request::Scan(from, to, limit), rest))
 }
 
-/// The same of `scan`.
+/// Puts the step `scan` into `place`.
 #[inline(never)]
 pub(crate) fn scan<'a>(members: &[Part<'a>], place: &mut Step<'a>) -> Option<()>
     ensures { option_map (λ _. asked place.new) result ≡ scan_said (parts_items members.now) }
@@ -62,7 +62,7 @@ pub(crate) fn scan<'a>(members: &[Part<'a>], place: &mut Step<'a>) -> Option<()>
     Some(())
 }
 
-/// The same of `heartbeat`.
+/// Puts the step `heartbeat` into `place`.
 #[inline(never)]
 pub(crate) fn heartbeat<'a>(members: &[Part<'a>], place: &mut Step<'a>) -> Option<()>
     ensures { option_map (λ _. asked place.new) result ≡ heartbeat_said (parts_items members.now) }

@@ -16,8 +16,8 @@ use crate::word::{Word, word_of};
 use tx_lines::Part;
 use tx_types::limits::MAX_TICK;
 
-/// A step, over the text of its line. A session goes by its name. No name, key or value has been looked at yet: only that it
-/// is a text.
+/// A step, over the text of its line. A session goes by its name. No name, key or value has been
+/// looked at yet: only that it is a text.
 #[derive(Clone, Copy, Debug)]
 pub enum Step<'a> {
     /// A transaction begins under a name.
@@ -62,7 +62,8 @@ impl<'a> Step<'a> {
     }
 }
 
-// Puts the step `begin` into `place`. A step is large: a result that has it would be copied at each return.
+// Puts the step `begin` into `place`. A step is large: a result that has it would be
+// copied at each return.
 fn begin<'a>(members: &[Part<'a>], place: &mut Step<'a>) -> Option<()>
     ensures { option_map (λ _. asked place.new) result ≡ said word.Begin (parts_items members.now) }
 {
@@ -70,7 +71,7 @@ fn begin<'a>(members: &[Part<'a>], place: &mut Step<'a>) -> Option<()>
     Some(())
 }
 
-// The same of `deliver`.
+// Puts the step `deliver` into `place`.
 #[inline(never)]
 fn deliver<'a>(members: &[Part<'a>], place: &mut Step<'a>) -> Option<()>
     ensures { option_map (λ _. asked place.new) result ≡ said word.Deliver (parts_items members.now) }
@@ -79,7 +80,7 @@ fn deliver<'a>(members: &[Part<'a>], place: &mut Step<'a>) -> Option<()>
     Some(())
 }
 
-// The same of `read`.
+// Puts the step `read` into `place`.
 #[inline(never)]
 fn read<'a>(members: &[Part<'a>], place: &mut Step<'a>) -> Option<()>
     ensures { option_map (λ _. asked place.new) result ≡ read_said (parts_items members.now) }
@@ -89,7 +90,7 @@ fn read<'a>(members: &[Part<'a>], place: &mut Step<'a>) -> Option<()>
     Some(())
 }
 
-// The same of `versions`.
+// Puts the step `versions` into `place`.
 #[inline(never)]
 fn versions<'a>(members: &[Part<'a>], place: &mut Step<'a>) -> Option<()>
     ensures { option_map (λ _. asked place.new) result ≡ said word.Versions (parts_items members.now) }
@@ -98,7 +99,7 @@ fn versions<'a>(members: &[Part<'a>], place: &mut Step<'a>) -> Option<()>
     Some(())
 }
 
-// The same of `tick`.
+// Puts the step `tick` into `place`.
 #[inline(never)]
 fn tick(members: &[Part<'_>], place: &mut Step<'_>) -> Option<()>
     ensures { option_map (λ _. asked place.new) result ≡ tick_said (parts_items members.now) }
@@ -112,7 +113,7 @@ fn tick(members: &[Part<'_>], place: &mut Step<'_>) -> Option<()>
     }
 }
 
-// The same of `gc`.
+// Puts the step `gc` into `place`.
 #[inline(never)]
 fn gc(members: &[Part<'_>], place: &mut Step<'_>) -> Option<()>
     ensures { option_map (λ _. asked place.new) result ≡ said word.Gc (parts_items members.now) }
@@ -121,7 +122,7 @@ fn gc(members: &[Part<'_>], place: &mut Step<'_>) -> Option<()>
     Some(())
 }
 
-// The same of what a session does by itself.
+// Puts the step of what a session does by itself into `place`.
 fn acts<'a>(word: Word, members: &[Part<'a>], place: &mut Step<'a>) -> Option<()>
     ensures { option_map (λ _. asked place.new) result ≡ acts_said word (parts_items members.now) }
 {
@@ -130,7 +131,7 @@ fn acts<'a>(word: Word, members: &[Part<'a>], place: &mut Step<'a>) -> Option<()
     Some(())
 }
 
-// The same, of the words that few lines begin with.
+// That of the words with which few lines begin, so that it is not inlined.
 #[inline(never)]
 fn acts_seldom<'a>(word: Word, members: &[Part<'a>], place: &mut Step<'a>) -> Option<()>
     ensures { option_map (λ _. asked place.new) result ≡ acts_said word (parts_items members.now) }
@@ -138,7 +139,7 @@ fn acts_seldom<'a>(word: Word, members: &[Part<'a>], place: &mut Step<'a>) -> Op
     acts(word, members, place)
 }
 
-// The same of any word, by the members after it.
+// Puts the step of any word into `place`, by the members after the word.
 fn said_by<'a>(word: Word, members: &[Part<'a>], place: &mut Step<'a>) -> Option<()>
     ensures { option_map (λ _. asked place.new) result ≡ said word (parts_items members.now) }
 {
@@ -169,7 +170,7 @@ fn said_by<'a>(word: Word, members: &[Part<'a>], place: &mut Step<'a>) -> Option
     }
 }
 
-// The same of the step that the members say, of any program.
+// Puts the step that the members say, of any program, into `place`.
 fn any_step<'a>(members: &[Part<'a>], place: &mut Step<'a>) -> Option<()>
     ensures { option_map (λ _. asked place.new) result ≡ any_said (parts_items members.now) }
 {
@@ -177,7 +178,8 @@ fn any_step<'a>(members: &[Part<'a>], place: &mut Step<'a>) -> Option<()>
     said_by(word_of(text)?, rest, place)
 }
 
-/// Puts the step of a program's script that the members say into `place`, and tells whether they say one.
+/// Puts the step of a program's script that the members say into `place`, and tells
+/// whether they say one.
 #[inline(never)]
 pub(crate) fn put_step<'a>(program: Program, members: &[Part<'a>], place: &mut Step<'a>) -> bool
     ensures { (if result then Some (asked place.new) else None) ≡ step_said program (parts_items members.now) }
@@ -185,7 +187,8 @@ pub(crate) fn put_step<'a>(program: Program, members: &[Part<'a>], place: &mut S
     any_step(members, place).is_some() && place.is_of(program)
 }
 
-/// The step of a program's script that the members of a line say, where they say one. `regions` is none: `bounds_of` reads it.
+/// The step of a program's script that the members of a line say, where they say one. `regions` is
+/// none: `bounds_of` reads it.
 pub fn step_of<'a>(program: Program, members: &[Part<'a>]) -> Option<Step<'a>>
     ensures { option_map asked result ≡ step_said program (parts_items members.now) }
 {

@@ -1,5 +1,5 @@
-//! The store: regions, each behind a lock of its own. Nothing but one region is under a lock, and no request waits while it
-//! has one.
+//! The store: regions, each behind a lock of its own. Nothing but one region is under a lock, and
+//! no request waits while it has one.
 #![tactic(auto)]
 
 mod seats;

@@ -6,7 +6,8 @@ ghost use Rattle.tx_journal.specs.Known.{Known, known};
 use tx_journal::{Journal, Naming, Seat};
 use tx_types::Fault;
 
-/// The seats of the regions, in their order, and those that are left. `OutOfMemory` drops what was handed in.
+/// The seats of the regions, in their order, and those that are left. `OutOfMemory` drops
+/// what was handed in.
 pub fn split_seats<J: Naming>(
     journal: &Journal<J>,
     mut seats: Vec<Seat<J>>,

@@ -40,10 +40,12 @@ struct Locked<J: Naming, F: Families> {
 /// place.
 #[derive(Drop)]
 pub struct Store<J: Naming, F: Families> {
+    /// The keys between the regions.
     journal: Journal<J>,
     /// The fronts of the keys between the regions, by which the region of a key is mostly found
     /// with no look at these keys.
     fronts: Vec<u64>,
+    /// The regions in the order of their keys, each under its lock.
     regions: Vec<Locked<J, F>>,
     ghost few: { length J.bounds < 1024 },
     ghost tell: { AreFronts J.bounds fronts.items },

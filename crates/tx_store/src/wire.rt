@@ -8,8 +8,8 @@ use tx_client::{Lost, Sender};
 use tx_journal::{Naming, Reply, Request};
 use tx_types::Key;
 
-/// A way to the regions of a store. Each request waits until no other call has its region, and is taken there once: none is
-/// lost, and none comes late.
+/// A way to the regions of a store. Each request waits until no other call has its region, and is
+/// taken there once: none is lost, and none comes late.
 #[derive(Drop)]
 pub struct Wire<'a, J: Naming, F: Families + Drop, R: Wait> {
     rt: &'a R,
@@ -22,7 +22,8 @@ impl<'a, J: Naming, F: Families + Drop, R: Wait> Wire<'a, J, F, R> {
         Wire { rt, store }
     }
 
-    /// Shows that it takes what some region holds, that a reply is to the request that was sent, and that none is lost.
+    /// For proofs: it takes what some region holds, a reply is to the request that was sent, and
+    /// none is lost. It does nothing when it runs.
     pub fn show(&self)
         ensures way { IsWay J.bounds ⟦<Wire<'a, J, F, R> as Sender<Request<J>, Reply<J>>>⟧.fits ⟦<Wire<'a, J, F, R> as Sender<Request<J>, Reply<J>>>⟧.sends ⟦<Wire<'a, J, F, R> as Sender<Request<J>, Reply<J>>>⟧.keys_between }
         ensures loses { LosesNothing ⟦<Wire<'a, J, F, R> as Sender<Request<J>, Reply<J>>>⟧.sends }

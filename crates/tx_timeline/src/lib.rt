@@ -10,8 +10,8 @@ use std::alloc::Global;
 use std::marker::Model;
 use tx_types::{Fault, Ts};
 
-/// A map by timestamp. It is kept as a list in which the timestamps rise, so that a new last entry is pushed at the end,
-/// and the last is found at once. Contracts see a `BTreeMap`.
+/// A map by timestamp. It is kept as a list in which the timestamps rise, so that a new last entry
+/// is pushed at the end, and the last is found at once. Contracts see a `BTreeMap`.
 #[derive(Drop)]
 pub struct Timeline<X> {
     entries: Vec<(Ts, X)>,
@@ -60,7 +60,8 @@ impl<X> Timeline<X> {
         self.entries.is_empty()
     }
 
-    // How many entries are below a timestamp. Takes constant time if the last one is, or is at it, and else logarithmic.
+    // How many entries are below a timestamp. Takes constant time if the last one is, or is at it,
+    // and else logarithmic.
     fn place(&self, at: Ts) -> usize
         ensures place { IsPlace self.now.entries at result }
         ensures ordered { tree.IsOrdered nat_cmp self.now }
@@ -99,7 +100,8 @@ impl<X> Timeline<X> {
         Some((*at, x))
     }
 
-    /// What the map holds at a timestamp. Takes constant time at the last one or above, and else logarithmic.
+    /// What the map holds at a timestamp. Takes constant time at the last one or above, and
+    /// else logarithmic.
     pub fn get(&self, at: Ts) -> Option<&X>
         ensures { option_copied result ≡ tree.get nat_cmp self.now at }
     {
@@ -116,7 +118,8 @@ impl<X> Timeline<X> {
         Some((*at, x))
     }
 
-    /// The last entry at a timestamp or below. Takes constant time if that is the last of all, and else logarithmic.
+    /// The last entry at a timestamp or below. Takes constant time if that is the last of all, and
+    /// else logarithmic.
     pub fn upto(&self, bound: Ts) -> Option<(Ts, &X)>
         ensures found { IfSome result (λ x. (x.0 ≤ bound) × (tree.get nat_cmp self.now x.0 ≡ Some x.1.now)) }
         ensures nearest { IfSome result (λ x. (q : ℕ) → q ≤ bound → IsSome (tree.get nat_cmp self.now q) → q ≤ x.0) }
@@ -129,8 +132,8 @@ impl<X> Timeline<X> {
         }
     }
 
-    /// The timestamp of the last entry below another. Takes constant time if the last of all is at that or below, and else
-    /// logarithmic.
+    /// The timestamp of the last entry below another. Takes constant time if the last of all is at
+    /// that or below, and else logarithmic.
     pub fn below(&self, bound: Ts) -> Option<Ts>
         ensures found { IfSome result (λ at. (at < bound) × IsSome (tree.get nat_cmp self.now at)) }
         ensures newest { IfSome result (λ at. (q : ℕ) → at < q → q < bound → tree.get nat_cmp self.now q ≡ None) }
@@ -145,9 +148,9 @@ impl<X> Timeline<X> {
 }
 
 impl<X: Drop> Timeline<X> {
-    /// Puts a value at a timestamp, in the place of the one that may be there. Takes constant time at the last timestamp
-    /// or above, apart from a growth, and else moves the later entries up. `OutOfMemory` leaves the map as it was, and
-    /// comes only where nothing was at the timestamp.
+    /// Puts a value at a timestamp, in the place of the one that may be there. Takes constant time
+    /// at the last timestamp or above, apart from a growth, and else moves the later entries up.
+    /// `OutOfMemory` leaves the map as it was, and comes only where nothing was at the timestamp.
     pub fn insert(&mut self, at: Ts, x: X) -> Result<(), Fault>
         ensures updates { OnOk result ((q : ℕ) → tree.get nat_cmp self.new q ≡ cond (is_eq (nat_cmp at q)) (Some x) (tree.get nat_cmp self.old q)) }
         ensures same { OnErr result (self.new.entries ≡ self.old.entries) }

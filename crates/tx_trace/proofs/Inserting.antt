@@ -43,7 +43,7 @@ insert_of mutation.Lock t at e = absurd (cc e)
 check_of : (m : Mutation) (v : Value) (t : ℕ) → m ≡ mutation.Insert v → check_by m t ≡ Some t
 check_of m v t e = ap (λ x. check_by x t) e
 
--- ---- where the lock of its transaction does not stand, an accepted prewrite is the first of its key
+-- ---- without its transaction's lock, an accepted prewrite is the first of its key
 
 module _ (bounds : List Key) (h : History) (inv : Inv (view bounds h)) (b : Prewrite) (l m : ℕ) where
   abbrev at : ℕ

@@ -39,7 +39,8 @@ pub on_ok : {T E : Type 0} (r : Result T E) (A B : Type 0) → (A → B) → OnO
 on_ok (Ok x) A B f a = f a
 on_ok (Err e) A B f a = tt
 
--- the trace goes on with this request and answer, of whatever region and with whatever number loaded
+-- the trace goes on with this request and answer, of whatever region and with
+-- whatever number loaded
 abbrev pub Follow : Log → Body → Answer → Log → Type 0
 Follow old body a new = (x : Taken) → x.body ≡ body → x.answer ≡ a → GoesOn old (Took x) new
 

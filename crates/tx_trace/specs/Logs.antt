@@ -1,4 +1,5 @@
 -- What is kept of a history, and how each event changes it.
+-- Callers see of it what `Traces.antt` says.
 use Rattle.std.specs.Prelude.{◌≡◌, ◌≢◌, ◌⊎◌, ℕ, ◌==◌, ◌&&◌, Bool, true, false, cond, ◌++◌, List, [], ◌∷◌, reverse, Option, Some, None, bytes_eq}
 use Rattle.std.specs.BTreeMap as tree
 use Rattle.std.specs.BTreeSet as sorted
@@ -28,13 +29,15 @@ use Rattle.tx_trace.specs.declared.pending.Pending.{Pending}
 use Rattle.tx_trace.specs.declared.log.Log.{Log}
 use Rattle.tx_trace.specs.Pending.{Accepted, Awaits, Kept, IsFirst, AcceptsIn}
 
--- a declared transaction that is not decided is kept with what it waits for, one that is decided is not kept
+-- a declared transaction that is not decided is kept with what it waits for, one that is
+-- decided is not kept
 abbrev pub Stands : State → Declaration → Accepted → Option Pending → Type 0
 Stands (Done end) d accepted kept = kept ≡ None
 Stands Open d accepted None = ⊥
 Stands Open d accepted (Some pending) = Awaits d accepted pending
 
--- the steps are those of the machine that are read off the history, newest first, and each transaction stands as it does there
+-- the steps are those of the machine that are read off the history, newest first, and each
+-- transaction stands as it does there
 pub record Follows (h : History) (steps : List Step) (kept : Kept) : Type 0 where
   pub shadows : steps ≡ shadow h
   pub pending : (t : ℕ) (d : Declaration) → declared h t ≡ Some d → Stands (decided h t) d (accepted h t) (kept t)

@@ -1,4 +1,5 @@
 -- What a declared transaction that is not decided waits for.
+-- Callers see of it what `Traces.antt` says.
 use Rattle.std.specs.Prelude.{◌≡◌, ◌≢◌, ◌⊎◌, ℕ, ◌==◌, max, Bool, true, false, cond, List, [], ◌∷◌, Option, Some, None, is_some}
 use Rattle.std.specs.BTreeSet as sorted
 use Rattle.std.specs.BTreeSet.{BTreeSet}
@@ -42,8 +43,8 @@ pub record HasTwoPhase (set : List Change) (accepted : Accepted) : Type 0 where
   pub stands : accepted key ≡ Some by
   pub two_phase : by.lock.mode ≡ TwoPhase
 
--- Some key of the set is left; those that are left are those that are not accepted. Those that are accepted are async, and the
--- greatest of their minimums is known.
+-- Some key of the set is left; those that are left are those that are not accepted. Those that are
+-- accepted are async, and the greatest of their minimums is known.
 pub record AwaitsLocks (set : List Change) (accepted : Accepted) (locks : Locks) : Type 0 where
   pub some : (k : Key) × (has locks.left k ≡ true)
   pub within : (k : Key) → has locks.left k ≡ true → mutation_at set k ≢ None
@@ -52,8 +53,8 @@ pub record AwaitsLocks (set : List Change) (accepted : Accepted) (locks : Locks)
   pub async : (k : Key) (by : Acceptance) → mutation_at set k ≢ None → accepted k ≡ Some by → by.lock.mode ≡ Async
   pub min : locks.min ≡ greatest_in accepted set
 
--- A transaction that declared this waits for the commit of its primary alone where it is two-phase, or a key of it was accepted so; else it
--- waits for the locks that are left as well.
+-- A transaction that declared this waits for the commit of its primary alone where it is two-phase,
+-- or a key of it was accepted so; else it waits for the locks that are left as well.
 abbrev pub Awaits : Declaration → Accepted → Pending → Type 0
 Awaits d accepted pending.Primary = (d.mode ≡ TwoPhase) ⊎ HasTwoPhase d.changes accepted
 Awaits d accepted (pending.Locks locks) = AwaitsLocks d.changes accepted locks
@@ -83,8 +84,8 @@ abbrev pub Completes : Locks → Option ℕ → Type 0
 Completes locks None = (k : Key) × (has locks.left k ≡ true)
 Completes locks (Some commit) = ((k : Key) → has locks.left k ≡ false) × (commit ≡ locks.min)
 
--- The key k is accepted with the minimum m, 0 of a two-phase lock: after that no locks are waited for. A key that is not left changes
--- nothing. The last key completes the transaction.
+-- The key k is accepted with the minimum m, 0 of a two-phase lock: after that no locks are waited
+-- for. A key that is not left changes nothing. The last key completes the transaction.
 abbrev pub Accepts : Pending → Key → ℕ → Pending → Option ℕ → Type 0
 Accepts pending.Primary k m new commit = (new ≡ pending.Primary) × (commit ≡ None)
 Accepts (pending.Locks old) k m pending.Primary commit = (has old.left k ≡ true) × (m ≡ 0) × (commit ≡ None)

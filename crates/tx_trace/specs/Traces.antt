@@ -15,7 +15,8 @@ use Rattle.tx_trace.specs.declared.log.Log.{Log}
 use Rattle.tx_trace.specs.Pending.{Kept}
 use Rattle.tx_trace.specs.Logs.{Follows, Checked, Tracks, by_start}
 
--- what a transaction waits for: the keys that are left and the greatest minimum so far, or none where it waits for its primary alone
+-- what a transaction waits for: the keys that are left and the greatest minimum so far, or none
+-- where it waits for its primary alone
 abbrev pub Waits : Type 0
 Waits = Option (List Key × ℕ)
 

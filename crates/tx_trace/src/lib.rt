@@ -1,4 +1,5 @@
-//! The steps of the one-step machine, read off a run of the protocol as its events come: what a check of the run then looks at.
+//! The steps of the one-step machine, read off a run of the protocol as its events come: what a
+//! check of the run then looks at.
 #![tactic(auto)]
 
 mod log;

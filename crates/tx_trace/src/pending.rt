@@ -42,7 +42,8 @@ fn keys_of(alloc: Global, of: &Declaration) -> Result<BTreeSet<Key>, Fault>
 }
 
 impl Locks {
-    // A key is accepted that was left. The commit timestamp of the transaction, where no key is left.
+    // A key is accepted that was left. The commit timestamp of the transaction,
+    // where no key is left.
     fn take(&mut self, key: &Key, min: Ts) -> Option<Ts>
         requires left { has self.old.left key.now ≡ true }
         requires minimum { min ≢ 0 }
@@ -74,8 +75,8 @@ impl Pending {
         }
     }
 
-    /// The key is accepted with this minimum, 0 of a two-phase lock. Where it was accepted before, nothing changes. The commit timestamp
-    /// of the transaction, where that completes it.
+    /// The key is accepted with this minimum, 0 of a two-phase lock. Where it was accepted before,
+    /// nothing changes. The commit timestamp of the transaction, where that completes it.
     pub fn accept(&mut self, key: &Key, min: Ts) -> Option<Ts>
         ensures { Accepts self.old key.now min self.new result }
     {
@@ -93,7 +94,8 @@ impl Pending {
     }
 }
 
-/// A key of a transaction is accepted, if the transaction is kept. Its commit timestamp, where that completes it.
+/// A key of a transaction is accepted, if the transaction is kept. Its commit timestamp, where
+/// that completes it.
 pub(crate) fn accept_in(
     kept: &mut BTreeMap<Ts, Pending>,
     start: Ts,

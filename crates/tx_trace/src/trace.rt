@@ -11,9 +11,10 @@ use tx_core::{Answer, Body, Declaration, Event, Outcome};
 use tx_machine::Step;
 use tx_types::{Fault, Ts};
 
-/// The machine's steps of a run so far, as its events come. Where memory is refused for one, the trace is that of the events before it.
-/// An event costs about the logarithm of what is kept. Contracts see the steps, newest first, and what each transaction waits for that is
-/// declared and not decided.
+/// The machine's steps of a run so far, as its events come. Where memory is refused for one, the
+/// trace is that of the events before it. An event costs about the logarithm of what is kept.
+/// Contracts see the steps, newest first, and what each transaction waits for that is declared
+/// and not decided.
 #[derive(Drop)]
 pub struct Trace {
     log: Log,
@@ -37,7 +38,8 @@ impl Trace {
         }
     }
 
-    /// The steps, oldest first: by `Traces` those of the machine that are read off the history that this is the trace of.
+    /// The steps, oldest first: by `Traces` those of the machine that are read off the history that
+    /// this is the trace of.
     pub fn steps(&self) -> &[Step]
         ensures { reverse result.now ≡ self.now.steps }
     {

@@ -238,7 +238,8 @@ const TWO_PHASE: Run = (
     ],
 );
 
-// The prewrite that completes the set commits, at the greatest minimum; the commits that follow decide nothing.
+// The prewrite that completes the set commits, at the greatest minimum; the commits that
+// follow decide nothing.
 const ASYNC: Run = (
     &[
         Deed::Draws(1),
@@ -310,7 +311,8 @@ const ABANDONED: Run = (
     ],
 );
 
-// An insert's check is a read at its start, before the commit at the same event; a repeated prewrite makes none.
+// An insert's check is a read at its start, before the commit at the same event; a repeated
+// prewrite makes none.
 const INSERTED: Run = (
     &[
         Deed::Draws(1),

@@ -1,5 +1,5 @@
--- A session's write buffer: its keys in the order in which they were first touched, each with what is done to it, and what was sent and
--- answered for it.
+-- A session's write buffer: its keys in the order in which they were first touched, each with what
+-- is done to it, and what was sent and answered for it.
 use Rattle.std.specs.Prelude.{ℕ, ◌+◌, zero, suc, max, nat_lt, ◌||◌, ◌&&◌, Bool, true, false, not, cond, List, [], ◌∷◌, length, Option, Some, None, is_some, option_map, bytes_eq}
 use Rattle.indexmap.specs.IndexMap.{insert_entry}
 use Rattle.tx_types.specs.declared.limits.TheConstants.{MAX_KEYS}
@@ -106,8 +106,8 @@ with_progress [] i p = []
 with_progress (e ∷ es) zero p = (e.0, record { mutation = e.1.mutation; progress = p }) ∷ es
 with_progress (e ∷ es) (suc i) p = e ∷ with_progress es i p
 
--- whether the phase has something left to send of a key: a prewrite until one is accepted, a commit until one is answered as
--- committed, a rollback of what was sent until one is known to stand
+-- whether the phase has something left to send of a key: a prewrite until one is accepted, a commit
+-- until one is answered as committed, a rollback of what was sent until one is known to stand
 abbrev pub wants : Phase → Progress → Bool
 wants phase.Prewrite p = not (is_some p.accepted)
 wants phase.Commit p = not p.committed

@@ -1,4 +1,5 @@
--- The rules of a session: what is due of it, and how what came of a request changes it. All of them are functions of its state.
+-- The rules of a session: what is due of it, and how what came of a request changes it. All of them
+-- are functions of its state.
 use Rattle.std.specs.Prelude.{◌≡◌, ℕ, nat_lt, nat_eq, zero, suc, ◌&&◌, ◌||◌, not, Bool, true, false, cond, List, [], ◌∷◌, ◌++◌, length, Option, Some, None, is_some}
 use Rattle.std.specs.List.{list_any}
 use Rattle.tx_types.specs.declared.limits.TheConstants.{MAX_ASYNC_KEYS}
@@ -28,8 +29,10 @@ use Rattle.tx_transaction.specs.declared.state.Came.{Came}
 use Rattle.tx_transaction.specs.declared.state.Came.TheVariants as came
 use Rattle.tx_transaction.specs.Buffers.{Entries, changes_of, keys_of, not_empty, key_at, mutation_in, progress_at, with_progress, first_place, has_two_phase_lock, promised}
 
--- The state of a session: its start, its write buffer, the terms that it declared, the number that its declaration drew, the transactions that its reads pass by, the lock that
--- last stood in its way, its drawn commit timestamp, what it knows of the fate of its transaction, and why it may not know it.
+-- The state of a session: its start, its write buffer, the terms that it declared, the number
+-- that its declaration drew, the transactions that its reads pass by, the lock that last stood in
+-- its way, its drawn commit timestamp, what it knows of the fate of its transaction, and why it
+-- may not know it.
 pub record State : Type 0 where
   pub start : ℕ
   pub buffer : Entries
@@ -74,7 +77,8 @@ Few (Some terms) es = exceeds es terms ≡ false
 
 -- ---- what is due
 
--- the other keys that a prewrite lists: on the primary of an async transaction all of them, in buffer order
+-- the other keys that a prewrite lists: on the primary of an async transaction all of
+-- them, in buffer order
 abbrev pub others_at : Mode → Entries → ℕ → List Key
 others_at TwoPhase es i = []
 others_at Async [] i = []
@@ -126,7 +130,8 @@ abbrev pub commit_if : State → Bool → Option Due
 commit_if s false = None
 commit_if s true = commit_by s s.decision
 
--- the commit that is due: of the primary at the drawn timestamp, and once the transaction is committed of each key in buffer order
+-- the commit that is due: of the primary at the drawn timestamp, and once the transaction is
+-- committed of each key in buffer order
 abbrev pub due_commit : State → Option Due
 due_commit s = commit_if s (has_primary s)
 
@@ -144,8 +149,8 @@ abbrev pub check_at : State → Option ℕ → Option Due
 check_at s None = None
 check_at s (Some i) = Some (check_of s i)
 
--- a session that knows of no decision asks for one: a two-phase one rolls back its primary, an async one has the first key that has no
--- accepted lock checked, which may be locked all the same
+-- a session that knows of no decision asks for one: a two-phase one rolls back its primary, an
+-- async one has the first key that has no accepted lock checked, which may be locked all the same
 abbrev pub abort_of : State → Mode → Option Due
 abort_of s TwoPhase = Some (rollback_of s 0)
 abort_of s Async = check_at s (first_place phase.Prewrite s.buffer)
@@ -160,7 +165,8 @@ abort_by s None = abort_open s s.declared (not_empty s.buffer)
 abort_by s (Some (fate.Committed c)) = None
 abort_by s (Some fate.Aborted) = rollback_at s (first_place phase.Abort s.buffer)
 
--- the request of an abort that is due: what may decide, and once the transaction is aborted a rollback of each key that was sent
+-- the request of an abort that is due: what may decide, and once the transaction is aborted a
+-- rollback of each key that was sent
 abbrev pub due_abort : State → Option Due
 due_abort s = abort_by s s.decision
 
@@ -182,7 +188,8 @@ is_open None None = true
 is_open None (Some c) = false
 is_open (Some end) o = false
 
--- a commit timestamp may be drawn where each key of a declared set is locked, some in two phases, nothing is decided, and none is drawn
+-- a commit timestamp may be drawn where each key of a declared set is locked, some in two phases,
+-- nothing is decided, and none is drawn
 abbrev pub can_draw : State → Bool
 can_draw s = is_open s.decision s.drawn && (has_primary s && (not (is_some (first_place phase.Prewrite s.buffer)) && has_two_phase_lock s.buffer))
 
@@ -191,7 +198,8 @@ may_commit None o = is_some o
 may_commit (Some (fate.Committed c)) o = true
 may_commit (Some fate.Aborted) o = false
 
--- a commit may be asked where the transaction is committed, or a timestamp is drawn; of nothing declared, always
+-- a commit may be asked where the transaction is committed, or a timestamp is drawn; of nothing
+-- declared, always
 abbrev pub can_commit : State → Bool
 can_commit s = is_declared s && (not (not_empty s.buffer) || may_commit s.decision s.drawn)
 
@@ -208,8 +216,8 @@ abbrev pub can_abort_by : State → Option Terms → Bool
 can_abort_by s None = false
 can_abort_by s (Some terms) = not (not_empty s.buffer) || may_abort s.decision terms.mode (first_place phase.Prewrite s.buffer)
 
--- An abort may be asked where the transaction is aborted, or undecided: of an async one only as long as some key has no accepted lock;
--- of nothing declared, always.
+-- An abort may be asked where the transaction is aborted, or undecided: of an async one only as
+-- long as some key has no accepted lock; of nothing declared, always.
 abbrev pub can_abort : State → Bool
 can_abort s = can_abort_by s s.declared
 
@@ -270,7 +278,8 @@ missed s x i why = record s { buffer = with_sent s x i; cause = Some why }
 abbrev pub marked : State → Phase → ℕ → Answer → Entries
 marked s x i a = with_progress s.buffer i (marked_by x a (sent_by x (progress_at s.buffer i)))
 
--- The state after an answer: the first that tells the fate decides, or that each key has an async lock.
+-- The state after an answer: the first that tells the fate decides, or that each key
+-- has an async lock.
 abbrev pub heard : State → Phase → ℕ → Answer → State
 heard s x i a = record s {
   buffer = marked s x i a;
@@ -298,7 +307,8 @@ after_read s (came.Said a) = record s { met = met_by a s.met }
 abbrev pub with_one : List ℕ → ℕ → List ℕ
 with_one starts t = cond (list_any (λ start. nat_eq start t) starts) starts (starts ++ t ∷ [])
 
--- its reads may pass by a transaction that is aborted, or commits above its start; each is named once
+-- its reads may pass by a transaction that is aborted, or commits above its start;
+-- each is named once
 abbrev pub with_passed : State → ℕ → Bool → State
 with_passed s t false = s
 with_passed s t true = record s { bypass = with_one s.bypass t }
@@ -321,7 +331,7 @@ abbrev pub finish_by : State → Option Fate → Option Outcome
 finish_by s (Some end) = Some (outcome_of end)
 finish_by s None = undecided s (has_primary s)
 
--- the outcome that finish answers: the fate where it is known; read-only where nothing was declared; unknown where there is a cause;
--- else there is none yet
+-- the outcome that finish answers: the fate where it is known; read-only where nothing was
+-- declared; unknown where there is a cause; else there is none yet
 abbrev pub finish_of : State → Option Outcome
 finish_of s = finish_by s s.decision

@@ -22,7 +22,7 @@ pub(crate) fn is_full(buffer: &Buffer, key: &Key) -> bool
     buffer.len() >= MAX_KEYS && find(buffer, key).is_none()
 }
 
-/// Sets what is done to a key, of which then nothing was answered yet.
+/// Sets a key's mutation, and forgets what was answered for it.
 pub(crate) fn touch(buffer: &mut Buffer, key: Key, mutation: Mutation) -> Result<(), Fault>
     ensures ok { OnOk result (buffer.new.entries ≡ touched buffer.old.entries key mutation) }
     ensures same { OnErr result (buffer.new.entries ≡ buffer.old.entries) }

@@ -1,5 +1,5 @@
-//! A transaction as its client knows it: its write buffer, what is due of it, what came of its requests, and what is known of its fate. It
-//! sends nothing: sessions do.
+//! A transaction as its client knows it: its write buffer, what is due of it, what came of its
+//! requests, and what is known of its fate. It sends nothing: sessions do.
 #![tactic(auto)]
 
 mod answers;

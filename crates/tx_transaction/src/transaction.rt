@@ -31,17 +31,28 @@ fn found(value: &Value) -> Result<Answer, Miss>
     }
 }
 
-/// One transaction: its write buffer, what was sent and answered of each key, and what is known of its fate.
+/// One transaction: its write buffer, what was sent and answered of each key, and what is
+/// known of its fate.
 #[derive(Debug, Drop)]
 pub struct Transaction {
+    /// The timestamp at which it began, which names it.
     start: Ts,
+    /// What it does to each key, in the order in which keys were first touched, and what was sent
+    /// and answered of each. The first key is the primary.
     buffer: Buffer,
+    /// How it commits, once it has declared.
     declared: Option<Terms>,
+    /// The number that was drawn for its declaration, above which it commits; 0 before.
     placed: Ts,
+    /// The transactions whose locks do not stop its reads.
     bypass: Starts,
+    /// The lock that stood in its way last.
     met: Option<LockInfo>,
+    /// The commit timestamp that was drawn, until it is refused as too low.
     drawn: Option<Ts>,
+    /// Its fate, once that is known.
     decision: Option<Fate>,
+    /// Why its fate may stay unknown: what came of the last request that could have told it.
     cause: Option<UnknownCause>,
 }
 
@@ -142,7 +153,8 @@ impl Transaction {
         touch(&mut self.buffer, key, mutation)
     }
 
-    /// Enters a put of a key into the buffer. An insert that is there stays one, with the new value.
+    /// Enters a put of a key into the buffer. An insert that is there stays one,
+    /// with the new value.
     pub fn put(&mut self, key: Key, value: Value) -> Result<(), Fault>
         requires { is_declared self.old ≡ false }
         ensures ok { OnOk result ((is_full self.old.buffer key ≡ false) × (self.new ≡ record self.old { buffer = touched self.old.buffer key (put_over (buffered self.old.buffer key) value) })) }
@@ -187,7 +199,8 @@ impl Transaction {
         has_keys(&self.buffer)
     }
 
-    /// What the buffer declares under these terms with a number that was drawn for it, which is nothing where it is empty.
+    /// What the buffer declares under these terms with a number that was drawn for it, which is
+    /// nothing where it is empty.
     pub fn declaration(
         &self,
         alloc: Global,

@@ -1,4 +1,5 @@
--- Two parts, written one behind the other into zeros, and the first bytes of what has zeros behind it.
+-- Two parts, written one behind the other into zeros, and the first bytes of what has
+-- zeros behind it.
 use Rattle.std.proofs.Common.{◌≡◌, ℕ, suc, zero, ◌+◌, ◌-◌, ◌≤◌, List, [], ◌∷◌, ◌++◌, length, take, drop, replicate, min, append_assoc, refl, sym, ap, ◌∙◌, arith}
 use Rattle.std.proofs.lemmas.List.{drop-replicate, length-append, length-replicate, length-take, take-replicate, take-append-drop}
 use Rattle.std.proofs.Math.Seq.{take-append_seam, drop-append_seam}

@@ -35,7 +35,8 @@ abbrev pub reaches : List KeyValue → Key → Bool
 reaches [] k = false
 reaches (x ∷ xs) k = key_le k x.key || reaches xs k
 
--- the keys that a scan from one key up to another covers: its range, or where the limit ended it the part up to the last row
+-- the keys that a scan from one key up to another covers: its range, or where the limit ended it
+-- the part up to the last row
 abbrev pub is_scanned : Key → Key → ℕ → List KeyValue → Key → Bool
 is_scanned from to limit rows k = is_between from to k && (nat_lt (length rows) limit || reaches rows k)
 

@@ -84,7 +84,8 @@ pub enum Fault {
     /// E16: a script cannot go on.
     #[error("line {line}: {cause}")]
     ScriptFault { line: u64, cause: Cause },
-    /// E17: the key that is to be inserted has a value, in the buffer or at the transaction's start.
+    /// E17: the key that is to be inserted has a value, in the buffer or at the
+    /// transaction's start.
     #[error("the key that is to be inserted has a value")]
     AlreadyExists,
 }

@@ -18,7 +18,8 @@ use std::fmt;
 use std::hash::{Hash, Hasher};
 use std::marker::Model;
 
-/// A key of 1 to 512 bytes, ordered as its bytes are. A copy of a long one shares them. Contracts see the bytes.
+/// A key of 1 to 512 bytes, ordered as its bytes are. A copy of a long one shares them.
+/// Contracts see the bytes.
 #[derive(Clone, Debug, Drop)]
 pub struct Key {
     text: Text,
@@ -38,8 +39,8 @@ impl Model for Key {
 }
 
 impl Key {
-    /// The key of these bytes. `KeyLength` where they are fewer than 1 or more than 512, `OutOfMemory` where there is no
-    /// room for a copy of them.
+    /// The key of these bytes. `KeyLength` where they are fewer than 1 or more than 512,
+    /// `OutOfMemory` where there is no room for a copy of them.
     pub fn new(alloc: Global, bytes: &[u8]) -> Result<Key, Fault>
         ensures ok { IfOk result (λ key. key ≡ bytes.now) }
         ensures length { IsErrOf result Fault.KeyLength ↔ ((length bytes.now < MIN_KEY_BYTES) ⊎ (MAX_KEY_BYTES < length bytes.now)) }
@@ -67,7 +68,7 @@ impl Key {
         self.text.first_eight()
     }
 
-    /// The same key, which shares its bytes where they are many.
+    /// A copy, which shares its bytes where they are many.
     pub fn clone(&self) -> Result<Key, Fault>
         ensures ok { IfOk result (λ copy. copy ≡ self.now) }
         ensures err { IfErr result (λ e. e ≡ Fault.OutOfMemory) }

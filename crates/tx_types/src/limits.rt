@@ -9,7 +9,8 @@ pub const MAX_KEY_BYTES: usize = 512;
 /// The most bytes of a value.
 pub const MAX_VALUE_BYTES: usize = 65_536;
 
-/// The most bytes of a value that stands inline in a lock or write record. A longer one stands in the `default` family.
+/// The most bytes of a value that stands inline in a lock or write record. A longer one stands in
+/// the `default` family.
 pub const MAX_INLINE_BYTES: usize = 255;
 
 /// The most keys of a transaction.

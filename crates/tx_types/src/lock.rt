@@ -11,7 +11,8 @@ use std::alloc::Global;
 use std::fmt;
 use std::marker::Model;
 
-/// How a lock's transaction commits. The async lock of the primary lists the transaction's other keys.
+/// How a lock's transaction commits. The async lock of the primary lists the
+/// transaction's other keys.
 #[derive(Clone, Debug, Drop)]
 pub enum LockMode {
     TwoPhase,
@@ -73,7 +74,7 @@ impl LockRec {
         )
     }
 
-    /// The same.
+    /// A copy. `OutOfMemory` is its only fault.
     pub fn clone(&self) -> Result<LockRec, Fault>
         ensures ok { IfOk result (λ copy. copy ≡ self.now) }
         ensures err { IfErr result (λ e. e ≡ Fault.OutOfMemory) }
@@ -97,7 +98,7 @@ pub struct LockFacts {
 }
 
 impl LockFacts {
-    /// The same.
+    /// A copy. `OutOfMemory` is its only fault.
     pub fn clone(&self) -> Result<LockFacts, Fault>
         ensures ok { IfOk result (λ copy. copy ≡ self.now) }
         ensures err { IfErr result (λ e. e ≡ Fault.OutOfMemory) }
@@ -115,8 +116,8 @@ impl LockFacts {
     }
 }
 
-/// What is told of a lock. It lies in memory of its own, so that an answer or a refusal that may tell of a lock is small. Contracts see
-/// what the lock says.
+/// What is told of a lock. It lies in memory of its own, so that an answer or a refusal that may
+/// tell of a lock is small. Contracts see what the lock says.
 #[derive(Debug, Drop)]
 pub struct LockInfo {
     facts: Box<LockFacts>,
@@ -154,7 +155,7 @@ impl LockInfo {
         self.facts.min = min;
     }
 
-    /// The same.
+    /// A copy. `OutOfMemory` is its only fault.
     pub fn clone(&self) -> Result<LockInfo, Fault>
         ensures ok { IfOk result (λ copy. copy ≡ self.now) }
         ensures err { IfErr result (λ e. e ≡ Fault.OutOfMemory) }

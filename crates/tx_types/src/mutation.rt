@@ -32,7 +32,7 @@ impl Mutation {
         }
     }
 
-    /// The same.
+    /// A copy. `OutOfMemory` is its only fault.
     pub fn clone(&self) -> Result<Mutation, Fault>
         ensures ok { IfOk result (λ copy. copy ≡ self.now) }
         ensures err { IfErr result (λ e. e ≡ Fault.OutOfMemory) }

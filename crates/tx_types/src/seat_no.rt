@@ -4,8 +4,8 @@ ghost use Rattle.std.specs.Prelude.{◌≡◌};
 use std::fmt;
 use std::marker::Model;
 
-/// Who makes an event: each region, session and resolver has a seat of its own. A region's seat has the region's number.
-/// Contracts see the number.
+/// Who makes an event: each region, session and resolver has a seat of its own. A region's seat has
+/// the region's number. Contracts see the number.
 #[derive(Clone, Copy, Debug, PartialEq, Eq, PartialOrd, Ord, Hash)]
 pub struct SeatNo {
     index: u32,

@@ -1,4 +1,5 @@
-//! Bytes that stand in the value itself where they are few, and else in memory that its copies share.
+//! Bytes that stand in the value itself where they are few, and else in memory that
+//! its copies share.
 ghost use Rattle.std.specs.Prelude.{◌≡◌, ◌<◌, ◌≤◌, ◌+◌, ◌-◌, ◌++◌, length, replicate, take, nat_eq, IfOk};
 ghost use Rattle.std.specs.Cmp.Lexicographic.{pointwise, nat_list_eq_equiv};
 ghost use Rattle.std.specs.Cmp.{partial_equiv_from_equiv};
@@ -39,7 +40,7 @@ fn short_of(bytes: &[u8]) -> Short
     }
 }
 
-// The same of two parts, one behind the other.
+// The first bytes of an array that are these, of two parts one behind the other.
 fn short_of_two(front: &[u8], back: &[u8]) -> Short
     requires { length front.now + length back.now ≤ MAX_SHORT_BYTES }
     ensures len { result.len ≡ length front.now + length back.now }
@@ -55,7 +56,8 @@ fn short_of_two(front: &[u8], back: &[u8]) -> Short
     }
 }
 
-// Bytes, by how many they are. All but few lie behind one pointer, so that a text is three words large.
+// Bytes, by how many they are. All but few lie behind one pointer, so that a text is
+// three words large.
 #[derive(Drop)]
 enum Kept {
     Short(Short),
@@ -76,7 +78,8 @@ fn kept_of(bytes: Vec<u8>) -> Result<Kept, AllocError>
     Ok(Kept::Long(Arc::new(alloc, bytes)?))
 }
 
-/// Bytes. Up to 22 stand in the value itself, which is three words large; a copy of more shares them. Contracts see the bytes.
+/// Bytes. Up to 22 stand in the value itself, which is three words large; a copy of more shares
+/// them. Contracts see the bytes.
 pub struct Text {
     kept: Kept,
 }
@@ -111,7 +114,7 @@ impl Text {
         Ok(Text { kept })
     }
 
-    /// The same of bytes in memory of their own, which are not copied where they are many.
+    /// Bytes that have memory of their own, which are not copied where they are many.
     pub fn from_vec(bytes: Vec<u8>) -> Result<Text, AllocError>
         ensures ok { IfOk result (λ text. text ≡ bytes.items) }
     {

@@ -11,8 +11,8 @@ use std::fmt;
 use std::hash::{Hash, Hasher};
 use std::marker::Model;
 
-/// A timestamp: a whole number of ticks, as the oracle counts them. The oracle's first is 1; 0 comes before all of them.
-/// Contracts see the number.
+/// A timestamp: a whole number of ticks, as the oracle counts them. The oracle's first is 1; 0
+/// comes before all of them. Contracts see the number.
 #[derive(Clone, Copy, Debug)]
 pub struct Ts {
     ticks: u64,

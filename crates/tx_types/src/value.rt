@@ -28,8 +28,8 @@ impl Model for Value {
 }
 
 impl Value {
-    /// The value of these bytes. `ValueLength` where they are more than 65,536, `OutOfMemory` where there is no room for
-    /// a copy of them.
+    /// The value of these bytes. `ValueLength` where they are more than 65,536, `OutOfMemory` where
+    /// there is no room for a copy of them.
     pub fn new(alloc: Global, bytes: &[u8]) -> Result<Value, Fault>
         ensures ok { IfOk result (λ value. value ≡ bytes.now) }
         ensures length { IsErrOf result Fault.ValueLength ↔ (MAX_VALUE_BYTES < length bytes.now) }
@@ -50,7 +50,7 @@ impl Value {
         self.text.as_slice()
     }
 
-    /// The same value, which shares its bytes where they are many.
+    /// A copy, which shares its bytes where they are many.
     pub fn clone(&self) -> Result<Value, Fault>
         ensures ok { IfOk result (λ copy. copy ≡ self.now) }
         ensures err { IfErr result (λ e. e ≡ Fault.OutOfMemory) }
@@ -91,8 +91,8 @@ impl Model for InlineValue {
 }
 
 impl InlineValue {
-    /// The value of these bytes. `ValueLength` where they are more than 255, `OutOfMemory` where there is no room for a
-    /// copy of them.
+    /// The value of these bytes. `ValueLength` where they are more than 255, `OutOfMemory` where
+    /// there is no room for a copy of them.
     pub fn new(alloc: Global, bytes: &[u8]) -> Result<InlineValue, Fault>
         ensures ok { IfOk result (λ value. value ≡ bytes.now) }
         ensures length { IsErrOf result Fault.ValueLength ↔ (MAX_INLINE_BYTES < length bytes.now) }
@@ -119,6 +119,7 @@ impl InlineValue {
 pub enum StoredValue {
     /// The value itself.
     Inline(InlineValue),
-    /// The value is longer and stands in the `default` family, under the key and the start of its transaction.
+    /// The value is longer and stands in the `default` family, under the key and the start of
+    /// its transaction.
     InDefault,
 }

@@ -5,15 +5,16 @@ use crate::fault::Fault;
 use crate::mutation::StoredMutation;
 use crate::ts::Ts;
 
-/// That a transaction committed, as the `write` family keeps it under the key and the commit timestamp.
+/// That a transaction committed, as the `write` family keeps it under the key and the
+/// commit timestamp.
 #[derive(Clone, Debug, Drop, PartialEq, Eq)]
 pub struct CommitRec {
     /// What the transaction did to the key.
     pub mutation: StoredMutation,
     /// The start timestamp of the transaction.
     pub start: Ts,
-    /// Whether the transaction that started at this record's own timestamp was rolled back on this key: its rollback
-    /// and this record claim one cell, and share it.
+    /// Whether the transaction that started at this record's own timestamp was rolled back on this
+    /// key: its rollback and this record claim one cell, and share it.
     pub overlapped_rollback: bool,
 }
 
@@ -27,7 +28,7 @@ pub enum WriteRec {
 }
 
 impl WriteRec {
-    /// The same.
+    /// A copy. `OutOfMemory` is its only fault.
     pub fn clone(&self) -> Result<WriteRec, Fault>
         ensures ok { IfOk result (λ copy. copy ≡ self.now) }
         ensures err { IfErr result (λ e. e ≡ Fault.OutOfMemory) }

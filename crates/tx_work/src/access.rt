@@ -58,6 +58,7 @@ impl<J: Naming, F: Families + Drop, R: Wait + Drop> Access<J, F, R> {
         to: &Key,
         limit: u32,
     ) -> Result<Answer, Miss> {
+        // For proofs: the keys between the regions rise.
         let _ = self.store.bounds();
         let mut wire = Wire::new(&self.rt, &self.store);
         wire.show();
@@ -128,8 +129,8 @@ impl<J: Naming, F: Families + Drop, R: Wait + Drop> Access<J, F, R> {
         )
     }
 
-    /// Resolves the lock that last stood in the session's way, at this time or at the last timestamp that was drawn, and tells
-    /// the session. None where no lock stood in its way.
+    /// Resolves the lock that last stood in the session's way, at this time or at the last
+    /// timestamp that was drawn, and tells the session. None where no lock stood in its way.
     pub fn resolve(
         &mut self,
         session: &mut Session<J>,
@@ -152,8 +153,9 @@ impl<J: Naming, F: Families + Drop, R: Wait + Drop> Access<J, F, R> {
         self.resolver.last()
     }
 
-    /// Collects at this safe point in each region, and says how many write records that dropped: 0 where it was refused, though regions
-    /// before the refusal may have dropped some. It may be asked again.
+    /// Collects at this safe point in each region, and says how many write records that
+    /// dropped: 0 where it was refused, though regions before the refusal may have dropped
+    /// some. It may be asked again.
     pub fn collect(&mut self, safe: Ts) -> u64 {
         let mut wire = Wire::new(&self.rt, &self.store);
         wire.show();
@@ -163,8 +165,8 @@ impl<J: Naming, F: Families + Drop, R: Wait + Drop> Access<J, F, R> {
         }
     }
 
-    /// Ends a transaction, and keeps its outcome in the log: its seat is then free. Where it has no outcome, the session comes
-    /// back.
+    /// Ends a transaction, and keeps its outcome in the log: its seat is then free. Where it has no
+    /// outcome, the session comes back.
     pub fn finish<L: Source>(
         &self,
         log: &mut Log<J, L>,

@@ -32,7 +32,8 @@ impl Collector {
         self.dropped
     }
 
-    /// Collects what is out of date for longer than versions are kept, where that was not done for as long.
+    /// Collects what is out of date for longer than versions are kept, where that was not
+    /// done for as long.
     pub fn collect<J: Naming, F: Families + Drop, R: Wait + Drop>(
         &mut self,
         access: &mut Access<J, F, R>,

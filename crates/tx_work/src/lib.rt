@@ -1,5 +1,6 @@
-//! What the sessions of a run do, over one store: the lines of a script but those that begin and end a transaction, transfers, the seeds before
-//! them, the sum of all balances after them, and collections meanwhile.
+//! What the sessions of a run do, over one store: the lines of a script but those that begin and
+//! end a transaction, transfers, the seeds before them, the sum of all balances after them, and
+//! collections meanwhile.
 #![tactic(auto)]
 
 mod access;

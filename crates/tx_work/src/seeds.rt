@@ -219,8 +219,8 @@ fn read_all<J: Naming, F: Families + Drop, R: Wait + Drop>(
     Err(Fault::OutOfMemory)
 }
 
-/// The sum of the balances of all keys, read at a fresh timestamp. Locks that stand in the way are resolved as if their time were
-/// over.
+/// The sum of the balances of all keys, read at a fresh timestamp. Locks that stand in the way are
+/// resolved as if their time were over.
 pub fn read_total<J: Naming, F: Families + Drop, R: Wait + Drop>(
     seat: Seat<J>,
     access: &mut Access<J, F, R>,

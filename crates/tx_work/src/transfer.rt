@@ -1,6 +1,6 @@
-//! A transfer: a transaction that reads the balances of two keys and moves an amount from the first to the second. Its reads are
-//! one step, which asks for no latch, and its writes another, which asks for those of both keys. A lock in its way is resolved in
-//! a step of its own.
+//! A transfer: a transaction that reads the balances of two keys and moves an amount from the first
+//! to the second. Its reads are one step, which asks for no latch, and its writes another, which
+//! asks for those of both keys. A lock in its way is resolved in a step of its own.
 ghost use Rattle.std.specs.Prelude.{◌≡◌, ◌<◌, false, Some, IfErr, OnOk, OnErr};
 ghost use Rattle.tx_types.specs.declared.fault.Fault.TheVariants as fault;
 ghost use Rattle.tx_transaction.specs.Sessions.{begun, is_declared};
@@ -39,7 +39,8 @@ enum Stage {
     Abort,
 }
 
-// Which latches a request asks for: none, those of the two keys, or those of the lock that stands in the way.
+// Which latches a request asks for: none, those of the two keys, or those of the lock that
+// stands in the way.
 #[derive(Clone, Copy, Debug, PartialEq, Eq)]
 enum Asks {
     Nothing,
@@ -122,7 +123,7 @@ impl<J: Naming, L: Source> Moving<J, L> {
         (session, number, keys)
     }
 
-    /// Puts the slots of its next step behind those that are there.
+    /// Appends the latch slots of its next step's keys to `slots`.
     pub fn slots(&self, slots: &mut Vec<Slot>) -> Result<(), Fault>
         ensures { IfErr result (λ e. e ≡ fault.OutOfMemory) }
     {

@@ -1,5 +1,6 @@
-//! `txkv`, the transaction layer at a shell. The words of the command line are read by `clap`; what a command does stands in
-//! `tx_script` and `tx_run`, and this program gives it the standard streams and turns how it ended into a status.
+//! `txkv`, the transaction layer at a shell. The words of the command line are read by `clap`; what
+//! a command does stands in `tx_script` and `tx_run`, and this program gives it the standard
+//! streams and turns how it ended into a status.
 #![tactic(auto)]
 
 mod commands;
@@ -53,7 +54,8 @@ where
     }
 }
 
-// A request for help or the version ends well, on standard output; a fault of the command line is told on standard error.
+// A request for help or the version ends well, on standard output; a fault of the command line is
+// told on standard error.
 fn tell<R: Print + Eprint>(rt: &R, error: &clap::Error) -> Result<End, Broken> {
     if error.kind() == ErrorKind::OutOfMemory {
         Err(Broken::Memory)
@@ -66,7 +68,8 @@ fn tell<R: Print + Eprint>(rt: &R, error: &clap::Error) -> Result<End, Broken> {
     }
 }
 
-// The words of the command line could not be read: there was no room for them, or one of them is not UTF-8.
+// The words of the command line could not be read: there was no room for them, or one of
+// them is not UTF-8.
 fn unread<R: Eprint>(rt: &R, error: &io::Error) -> Result<End, Broken> {
     if error.kind() == io::ErrorKind::OutOfMemory {
         return Err(Broken::Memory);

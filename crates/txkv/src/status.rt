@@ -4,8 +4,8 @@ ghost use Rattle.txkv.specs.Status.{status, message};
 
 use tx_script::{Broken, End};
 
-/// 0 where all was well, 2 for a fault of the input or of the command line, 3 for a verdict of no, 4 where the command was
-/// broken off.
+/// 0 where all was well, 2 for a fault of the input or of the command line, 3 for a verdict of no,
+/// 4 where the command was broken off.
 pub fn status_of(end: Result<End, Broken>) -> u8
     ensures { result ≡ status end }
 {

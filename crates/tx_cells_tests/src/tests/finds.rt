@@ -38,7 +38,8 @@ fn is_copy(copy: &KeyCopy, start: u64, counts: (usize, usize)) -> bool {
         && (copy.records.as_slice().len(), copy.values.as_slice().len()) == counts
 }
 
-/// Whether a key has the lock that started then (0: none), and so many write records and values apart.
+/// Whether a key has the lock that started then (0: none), and so many write records
+/// and values apart.
 pub fn stands<F: Families>(
     alloc: Global,
     families: &F,
@@ -112,7 +113,8 @@ fn first<F: Families>(alloc: Global, families: &F, safe: Ts) -> Result<Option<u8
     }
 }
 
-/// Whether of the locks that started below a timestamp the first is on this key, and they are so many.
+/// Whether of the locks that started below a timestamp the first is on this key, and
+/// they are so many.
 pub fn remain<F: Families>(
     alloc: Global,
     families: &F,

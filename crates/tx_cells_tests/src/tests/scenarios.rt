@@ -103,8 +103,8 @@ pub const SCANS: [Step; 27] = [
     Remain(7, b'd', 2),
 ];
 
-/// Scans that pass keys of all kinds: with versions above the timestamp, several below it, a rollback or a lock record as the
-/// newest, a lock alone, and a lock beside a version.
+/// Scans that pass keys of all kinds: with versions above the timestamp, several below it, a
+/// rollback or a lock record as the newest, a lock alone, and a lock beside a version.
 pub const PASSED: [Step; 57] = [
     // two versions, of which the newer is above some of the reads
     Put((b'a', 1), 10),
@@ -175,7 +175,8 @@ pub const PASSED: [Step; 57] = [
     Ends((b'c', b'f', 10, 10), b'e', 54),
 ];
 
-/// What collection keeps: the put that a read at the safe point sees, what is above, and locks with their values.
+/// What collection keeps: the put that a read at the safe point sees, what is above, and locks
+/// with their values.
 pub const SURVIVORS: [Step; 23] = [
     Put((b'k', 1), 300),
     Commit((b'k', 1), 3),

@@ -1,5 +1,5 @@
-//! The steps of a scenario: what is asked of the families, and what the rules say to it. A key is one byte, and a value is known by
-//! its length.
+//! The steps of a scenario: what is asked of the families, and what the rules say to it. A key is
+//! one byte, and a value is known by its length.
 use crate::tests::asks::{collect, commit, prewrite, put, roll_back, stays};
 use crate::tests::finds::{blocked, ends, met, read, remain, rows, stands, told};
 use std::alloc::Global;
@@ -43,7 +43,8 @@ pub enum Step {
     Sees(At, usize),
     /// A read then sees no value.
     SeesNone(At),
-    /// The start of the key's lock, or 0; how many write records there are, and how many values apart.
+    /// The start of the key's lock, or 0; how many write records there are, and how
+    /// many values apart.
     Stands(At, usize, usize),
     /// What is at this timestamp.
     Has(At, Record),
@@ -89,7 +90,8 @@ fn try_step<F: Families>(alloc: Global, families: &mut F, step: Step) -> Result<
     }
 }
 
-/// Whether a step goes as the rules say. Where memory was refused, all is as it was, so that it goes so once it is asked again.
+/// Whether a step goes as the rules say. Where memory was refused, all is as it was, so that it
+/// goes so once it is asked again.
 pub fn goes<F: Families>(alloc: Global, families: &mut F, asked: Step) -> bool {
     match try_step(alloc, families, asked).ok() {
         Some(right) => right,

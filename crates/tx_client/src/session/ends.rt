@@ -72,7 +72,8 @@ impl<J: Naming> Session<J> {
         Some(Decision::new(self.transaction.start(), fate, told))
     }
 
-    /// Shows what its seat has seen declared of its transaction: its buffer under its terms, once it has declared, and else nothing.
+    /// For proofs: what its seat has seen declared of its transaction is its buffer under its
+    /// terms, once it has declared, and else nothing. It does nothing when it runs.
     pub fn show(&self)
         ensures run { IsWorldRun J.bounds self.now.seat.events }
         ensures stands { declared self.now.seat.events self.now.state.start ≡ standing self.now.state.start self.now.state.placed self.now.state.buffer self.now.state.declared }
@@ -100,8 +101,8 @@ impl<J: Naming> Session<J> {
         Ok(Some(Met::new(info, told)))
     }
 
-    /// Learns what a resolver found: its reads may then pass by a transaction that is aborted, or commits above its start.
-    /// `OutOfMemory` leaves the session as it was.
+    /// Learns what a resolver found: its reads may then pass by a transaction that is aborted, or
+    /// commits above its start. `OutOfMemory` leaves the session as it was.
     pub fn learn(&mut self, resolved: Resolved<J>) -> Result<(), Fault>
         ensures ok { OnOk result ((self.new.state ≡ with_passed self.old.state resolved.start (lies_above resolved.status self.old.state.start)) × HasHeard J.bounds self.old.seat resolved.events self.new.seat) }
         ensures same { OnErr result (self.new ≡ self.old) }
@@ -125,9 +126,10 @@ impl<J: Naming> Session<J> {
         seat
     }
 
-    /// Ends the transaction with its outcome: the fate where it is known, read-only where nothing was
-    /// declared, unknown where there is a cause. A commit lies above each that was answered before
-    /// the number of its declaration was drawn. Where there is no outcome, the session comes back.
+    /// Ends the transaction with its outcome: the fate where it is known, read-only where
+    /// nothing was declared, unknown where there is a cause. A commit lies above each that was
+    /// answered before the number of its declaration was drawn. Where there is no outcome, the
+    /// session comes back.
     #[inline(always)]
     pub fn finish(self) -> Result<(Outcome, Seat<J>), Session<J>>
         ensures ended { IfOk result (λ r. (finish_of self.state ≡ Some r.0) × Records J.bounds self.seat (Answered self.state.start r.0) r.1 × IsDecidedSo self.seat.events self.state.start r.0) }

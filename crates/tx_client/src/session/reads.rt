@@ -105,7 +105,8 @@ fn high_key(bounds: &[Key], n: usize, to: &Key) -> Result<Key, Fault>
     to.clone()
 }
 
-// The rows, with what was found after them. Where there are none so far, that is what was found as it is.
+// The rows, with what was found after them. Where there are none so far, that is what
+// was found as it is.
 fn append(mut rows: KeyValues, found: KeyValues) -> Result<KeyValues, Fault>
     ensures ok { IfOk result (λ all. all ≡ rows ++ found) }
     ensures err { IfErr result (λ e. e ≡ fault.OutOfMemory) }
@@ -219,8 +220,9 @@ impl<J: Naming> Session<J> {
         }
     }
 
-    /// Reads the first `limit` keys with a value at the session's start, from `from` up to but not including `to`: the regions'
-    /// parts in order, each with the limit less the rows so far. The buffer is not looked at.
+    /// Reads the first `limit` keys with a value at the session's start, from `from` up to but not
+    /// including `to`: the regions' parts in order, each with the limit less the rows so far. The
+    /// buffer is not looked at.
     pub fn scan<S: Sender<Request<J>, Reply<J>>>(
         &mut self,
         alloc: Global,

@@ -10,7 +10,8 @@ use tx_stage::Who::{A, B};
 use tx_stage::{Step, played};
 use tx_types::Mode::{Async, TwoPhase};
 
-// The last lock decides: a session may end before a commit is sent, and the commits that follow leave what is read.
+// The last lock decides: a session may end before a commit is sent, and the commits that follow
+// leave what is read.
 const COMMITTED_BY_THE_LAST_LOCK: [Step; 19] = [
     (A, Begin, Plain, "start", 1),
     (A, Put(1, 5), Plain, "ok", 0),
@@ -44,7 +45,8 @@ const ENDS_BEFORE_ITS_COMMITS: [Step; 7] = [
     (B, Get(1), Plain, "E1", 1),
 ];
 
-// A read in one region raises the minimum in another too: the transaction is committed at the greatest.
+// A read in one region raises the minimum in another too: the transaction is committed
+// at the greatest.
 const AT_THE_GREATEST_MINIMUM: [Step; 13] = [
     (A, Begin, Plain, "start", 1),
     (A, Put(4, 5), Plain, "ok", 0),
@@ -61,7 +63,8 @@ const AT_THE_GREATEST_MINIMUM: [Step; 13] = [
     (A, Finish, Plain, "ended committed", 4),
 ];
 
-// The reply to the last prewrite is lost: an abort finds the key locked, and the transaction is committed.
+// The reply to the last prewrite is lost: an abort finds the key locked, and the
+// transaction is committed.
 const ABORT_FINDS_THE_LOCK: [Step; 12] = [
     (A, Begin, Plain, "start", 1),
     (A, Put(1, 5), Plain, "ok", 0),
@@ -164,7 +167,8 @@ const FALLS_BACK: [Step; 10] = [
     (A, Finish, Plain, "ended committed", 4),
 ];
 
-// One key of two falls back: a timestamp is drawn, and the primary, whose lock is async, is committed there first.
+// One key of two falls back: a timestamp is drawn, and the primary, whose lock is async, is
+// committed there first.
 const ONE_KEY_FALLS_BACK: [Step; 17] = [
     (A, Begin, Plain, "start", 1),
     (A, Put(7, 5), Plain, "ok", 0),
@@ -203,7 +207,8 @@ const ABORT_FINDS_A_TWO_PHASE_LOCK: [Step; 14] = [
     (A, Finish, Plain, "ended committed", 4),
 ];
 
-// The reply to the last prewrite is lost, and a resolver commits both keys: the prewrite that is sent again is told so.
+// The reply to the last prewrite is lost, and a resolver commits both keys: the prewrite that is
+// sent again is told so.
 const COMMIT_TOLD_BY_A_PREWRITE: [Step; 11] = [
     (A, Begin, Plain, "start", 1),
     (A, Put(1, 5), Plain, "ok", 0),
@@ -235,7 +240,8 @@ const COMMIT_TOLD_BY_A_CHECK: [Step; 13] = [
     (A, Finish, Plain, "ended committed", 3),
 ];
 
-// A resolver finds the last key without a lock: its prewrite is told that the transaction is rolled back.
+// A resolver finds the last key without a lock: its prewrite is told that the
+// transaction is rolled back.
 const ROLLBACK_TOLD_BY_A_PREWRITE: [Step; 12] = [
     (A, Begin, Plain, "start", 1),
     (A, Put(1, 5), Plain, "ok", 0),

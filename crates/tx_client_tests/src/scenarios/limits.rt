@@ -48,8 +48,8 @@ fn declare<J: Naming>(session: &mut Session<J>, mode: Mode) -> Said {
     by_change(session.declare(terms))
 }
 
-// So many keys are put, the first one once more, and declared in this mode: what comes of the last put of a new key, of that one,
-// of the declaration, and of one in two phases after it.
+// So many keys are put, the first one once more, and declared in this mode: what comes of the last
+// put of a new key, of that one, of the declaration, and of one in two phases after it.
 fn tries<J: Naming>(alloc: Global, seat: Seat<J>, count: u16, mode: Mode) -> [&'static str; 4] {
     let Ok(mut session) = Session::begin(alloc, seat) else {
         return ["E11"; 4];

@@ -11,7 +11,8 @@ use tx_stage::Who::{A, B};
 use tx_stage::{Step, played};
 use tx_types::Mode::{Async, TwoPhase};
 
-// A session reads what its buffer puts and deletes, and asks for nothing; a key that it only locks, and a scan, are read from the store.
+// A session reads what its buffer puts and deletes, and asks for nothing; a key that it only locks,
+// and a scan, are read from the store.
 const OWN_BUFFER: [Step; 15] = [
     (B, Begin, Plain, "start", 1),
     (B, Put(3, 9), Plain, "ok", 0),
@@ -30,7 +31,8 @@ const OWN_BUFFER: [Step; 15] = [
     (A, Scan(1, 9, 10), Plain, "rows", 39),
 ];
 
-// A scan reads its regions in order, with the limit less the rows so far: the lock in the last is met only where it is reached.
+// A scan reads its regions in order, with the limit less the rows so far: the lock in the last is
+// met only where it is reached.
 const THREE_REGIONS: [Step; 24] = [
     (A, Begin, Plain, "start", 1),
     (A, Put(1, 2), Plain, "ok", 0),
@@ -58,7 +60,8 @@ const THREE_REGIONS: [Step; 24] = [
     (B, Scan(1, 9, 0), Plain, "rows", 0),
 ];
 
-// A scan whose second region is refused memory has no rows; the lost reply of the first ends it too.
+// A scan whose second region is refused memory has no rows; the lost reply of the
+// first ends it too.
 const SECOND_REGION_REFUSES: [Step; 16] = [
     (A, Begin, Plain, "start", 1),
     (A, Put(1, 2), Plain, "ok", 0),

@@ -24,7 +24,8 @@ const COMMIT_THEN_READ: [Step; 9] = [
     (B, Get(1), Plain, "value", 5),
 ];
 
-// A key that is put again keeps its place: the primary is 4, which alone is locked after one prewrite.
+// A key that is put again keeps its place: the primary is 4, which alone is locked
+// after one prewrite.
 const IN_BUFFER_ORDER: [Step; 22] = [
     (A, Begin, Plain, "start", 1),
     (A, Put(4, 5), Plain, "ok", 0),
@@ -67,7 +68,8 @@ const PRIMARY_COMMITS_FIRST: [Step; 13] = [
     (A, Finish, Plain, "ended committed", 3),
 ];
 
-// A reader pushes the primary and passes by the other key: the drawn timestamp is refused, and another is drawn.
+// A reader pushes the primary and passes by the other key: the drawn timestamp is refused, and
+// another is drawn.
 const SECOND_DRAW: [Step; 18] = [
     (A, Begin, Plain, "start", 1),
     (A, Put(1, 5), Plain, "ok", 0),
@@ -136,7 +138,8 @@ const ABORT_AT_ONCE: [Step; 8] = [
     (A, Finish, Plain, "ended aborted", 0),
 ];
 
-// The reply to the primary's commit is lost, and an abort finds the commit: it is committed, and the keys follow.
+// The reply to the primary's commit is lost, and an abort finds the commit: it is committed, and
+// the keys follow.
 const ABORT_FINDS_THE_COMMIT: [Step; 14] = [
     (A, Begin, Plain, "start", 1),
     (A, Put(1, 5), Plain, "ok", 0),
@@ -196,7 +199,8 @@ const PREWRITE_REPEATED: [Step; 8] = [
     (A, Finish, Plain, "ended committed", 3),
 ];
 
-// The reply to the abort is lost, and the prewrite that is asked again tells that it is rolled back.
+// The reply to the abort is lost, and the prewrite that is asked again tells that
+// it is rolled back.
 const ROLLBACK_TOLD_BY_A_PREWRITE: [Step; 7] = [
     (A, Begin, Plain, "start", 1),
     (A, Put(1, 5), Plain, "ok", 0),
@@ -306,7 +310,8 @@ const NO_TICK_TO_BEGIN: [Step; 3] = [
     (A, Begin, Plain, "start", 4294967297),
 ];
 
-// A session whose seat has no tick left declares nothing, and is as it was; of an empty buffer there is nothing to draw for.
+// A session whose seat has no tick left declares nothing, and is as it was; of an empty buffer
+// there is nothing to draw for.
 const NO_TICK_TO_DECLARE: [Step; 9] = [
     (A, BeginShort(1), Plain, "start", 4294967296),
     (A, Put(1, 5), Plain, "ok", 0),

@@ -1,4 +1,5 @@
--- The ends of transactions after a lock was settled or rolled back, or a rollback was left: of one that was decided before, or is by it.
+-- The ends of transactions after a lock was settled or rolled back, or a rollback was left: of one
+-- that was decided before, or is by it.
 use Rattle.std.proofs.Common.{◌≡◌, ◌≢◌, ℕ, ◌==◌, ◌⊎◌, inl, inr, Option, Some, None, refl, sym, ap, subst, ◌∙◌}
 use Rattle.tx_types.specs.declared.key.Key.{Key}
 use Rattle.tx_types.specs.declared.mutation.Fate.TheVariants.{Committed, Aborted}

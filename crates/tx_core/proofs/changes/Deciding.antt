@@ -18,8 +18,9 @@ use Rattle.tx_core.specs.Decisions.{Acceptance, async_minimum, greater, greatest
 use Rattle.tx_core.proofs.Basics.{nat_test, key_test, key_same, cond_true, cond_false, some_same, some_of, is_some}
 use Rattle.tx_core.proofs.view.View.{View, IsCommit, Inv, Does, IsPrimary, IsCommitted, IsAborted, Accepts, FellBack, bound, Held, first_within, does_declared, does_within, bound_async, later_by, gone_by}
 
--- An open transaction may be committed at c: each of its keys is accepted, with a bound of at most c; what was shown lies at or below c;
--- c lies above its start and at most one above the last number.
+-- An open transaction may be committed at c: each of its keys is accepted, with a bound of
+-- at most c; what was shown lies at or below c; c lies above its start and at most one above
+-- the last number.
 pub record CanDecide (w : View) (t c : ℕ) : Type 0 where
   pub opened : w.decided t ≡ Open
   pub declared : w.declared t ≢ None

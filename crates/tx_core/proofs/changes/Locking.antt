@@ -139,7 +139,8 @@ module _ (w : View) (k : Key) (lock : Lock) (i : Inv w) (may : MayLock w k lock)
         | inr x ↦ x
       ]
 
-  -- what is shown after it: the new minimum where the key is the primary, which was not accepted before, else what was shown
+  -- what is shown after it: the new minimum where the key is the primary, which was not accepted
+  -- before, else what was shown
   shown_cases : (t : ℕ) → ((lock.start ≡ t) × IsPrimary w.declared t k × ((locking w k lock).shown t ≡ lock.min)) ⊎ ((locking w k lock).shown t ≡ w.shown t)
   shown_cases t =
       elim (cases_Bool ((lock.start == t) && is_first (set_of (w.declared t)) k)) [
@@ -265,8 +266,8 @@ no_value w k r i fresh free none u d v end does low =
       ]
     ]
 
--- what the table of a prewrite asks gives all that the lock needs: nothing of the transaction stands on the key, which is free, no commit
--- record lies above its start, and no collection
+-- what the table of a prewrite asks gives all that the lock needs: nothing of the transaction
+-- stands on the key, which is free, no commit record lies above its start, and no collection
 pub may_lock : (w : View) (k : Key) (lock : Lock) → Inv w → w.collected k ≤ lock.start → ((c : ℕ) → OwnCommit (w.cells k).write lock.start c → ⊥) → (OwnRollback (w.cells k).write lock.start → ⊥) → ((other : Lock) → (w.cells k).lock ≡ Some other → ⊥) → ((at : ℕ) (rec : CommitRecord) → (w.cells k).write at ≡ Some (CommitOf rec) → at ≤ lock.start) → Does w.declared lock.start k lock.mutation → lock.start < lock.min → lock.min ≤ bound (accepting w lock) → bound (accepting w lock) ≤ w.last + 1 → (lock.mode ≡ Async → w.floor k < lock.min) → ((d : Declaration) → w.declared lock.start ≡ Some d → d.mode ≡ TwoPhase → lock.mode ≡ TwoPhase) → ((d : Declaration) → w.declared lock.start ≡ Some d → d.drawn < bound (accepting w lock)) → ((v : Value) → Inserts w.declared lock.start k v → Reads (w.cells k).write lock.start None) → MayLock w k lock
 may_lock w k lock i fresh uncommitted unrolled free low does above least upto after mode drawn checked =
     record {

@@ -1,4 +1,5 @@
--- The ends of transactions after a prewrite was accepted: as they were, or the transaction is committed by it.
+-- The ends of transactions after a prewrite was accepted: as they were, or the transaction is
+-- committed by it.
 use Rattle.std.proofs.Common.{◌≡◌, ◌≢◌, ℕ, ◌==◌, ◌⊎◌, ◌&&◌, inl, inr, Some, None, bytes_eq, refl, sym, ap, subst, ◌∙◌, arith}
 use Rattle.std.proofs.lemmas.Bool.{ne_eqb}
 use Rattle.tx_types.specs.declared.key.Key.{Key}

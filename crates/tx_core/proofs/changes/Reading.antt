@@ -15,7 +15,8 @@ use Rattle.tx_core.proofs.view.View.{View, Inv, Does, IsCommitted, IsAborted, bo
 abbrev pub reading : View → (Key → Bool) → ℕ → View
 reading w covers r = record w { reads = record { covers = covers; at = r } ∷ w.reads }
 
--- a read at r may pass by the locks of t: it is aborted, or committed above r, or a minimum above r was shown of it
+-- a read at r may pass by the locks of t: it is aborted, or committed above r, or a minimum above
+-- r was shown of it
 abbrev pub Passes : (ℕ → State) → (ℕ → ℕ) → ℕ → ℕ → Type 0
 Passes decided shown r t = IsAborted decided t ⊎ ((c : ℕ) × IsCommitted decided t c × (r < c)) ⊎ (r < shown t)
 

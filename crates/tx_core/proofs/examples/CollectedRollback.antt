@@ -1,5 +1,6 @@
--- A collection drops a committed delete and a rollback, both below the safe point; the late prewrite of the rolled-back transaction,
--- which its rollback no longer refuses, is refused for its start.
+-- A collection drops a committed delete and a rollback, both below the safe point; the
+-- late prewrite of the rolled-back transaction, which its rollback no longer refuses, is
+-- refused for its start.
 use Rattle.std.proofs.Common.{◌≡◌, ◌≢◌, ℕ, ◌<◌, zero, suc, inl, inr, List, [], ◌∷◌, length, Option, Some, None, Contains, refl, sym, ap, subst, arith}
 use Rattle.std.specs.List.{slice_index_or}
 use Rattle.tx_types.specs.declared.key.Key.{Key}

@@ -1,4 +1,5 @@
--- A collection after which a read below it is refused, and one at the safe point reads what it read before.
+-- A collection after which a read below it is refused, and one at the safe point reads
+-- what it read before.
 use Rattle.std.proofs.Common.{◌≡◌, ℕ, ◌<◌, ◌≤◌, inl, inr, [], ◌∷◌, Some, None, refl, sym, subst, arith}
 use Rattle.tx_plan.specs.declared.body.Body.TheVariants.{Get, RaiseSafe, Collect}
 use Rattle.tx_plan.specs.declared.answer.Answer.TheVariants.{Found, Raised, Collected, BelowSafePoint}

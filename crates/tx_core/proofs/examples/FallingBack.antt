@@ -1,5 +1,6 @@
--- An async transaction falls back: a read has raised its minimum above the greatest commit timestamp that it may promise, so its lock
--- is a two-phase one, nothing is decided, and the commit of its primary at a number drawn after that decides.
+-- An async transaction falls back: a read has raised its minimum above the greatest commit
+-- timestamp that it may promise, so its lock is a two-phase one, nothing is decided, and the commit
+-- of its primary at a number drawn after that decides.
 use Rattle.std.proofs.Common.{◌≡◌, inl, inr, [], ◌∷◌, Some, None, refl, arith}
 use Rattle.tx_types.specs.declared.mutation.Mutation.TheVariants.{Put}
 use Rattle.tx_types.specs.declared.mutation.Mode.TheVariants as mode

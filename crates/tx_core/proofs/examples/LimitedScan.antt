@@ -1,4 +1,5 @@
--- A scan that its limit ends: it gives the committed row, and meets no lock, though the next key of its range is still locked.
+-- A scan that its limit ends: it gives the committed row, and meets no lock, though the next key of
+-- its range is still locked.
 use Rattle.std.proofs.Common.{◌≡◌, ◌≢◌, ◌⊎◌, ℕ, ◌<◌, ◌≤◌, ◌||◌, inl, inr, Bool, true, false, List, [], ◌∷◌, Option, Some, None, bytes_eq, IsTrue, refl, sym, ap, subst, arith}
 use Rattle.std.proofs.lemmas.Bool.{and_parts}
 use Rattle.tx_types.specs.declared.key.Key.{Key}

@@ -1,4 +1,5 @@
--- A rollback stands where an async commit goes: the commit record keeps it as a mark, which still refuses the late prewrite.
+-- A rollback stands where an async commit goes: the commit record keeps it as a mark, which still
+-- refuses the late prewrite.
 use Rattle.std.proofs.Common.{◌≡◌, inl, inr, [], ◌∷◌, None, refl, ap, arith}
 use Rattle.tx_types.specs.declared.mutation.Mutation.TheVariants.{Put}
 use Rattle.tx_types.specs.declared.mutation.Mode.TheVariants as mode

@@ -1,5 +1,5 @@
--- A reader meets a lock, has it pushed above its timestamp, and passes; so the commit at the number that was drawn before is refused,
--- and goes at a later one.
+-- A reader meets a lock, has it pushed above its timestamp, and passes; so the commit at the number
+-- that was drawn before is refused, and goes at a later one.
 use Rattle.std.proofs.Common.{◌≡◌, ℕ, ◌<◌, zero, suc, inl, inr, false, [], ◌∷◌, Option, None, Contains, refl, ap, subst, arith}
 use Rattle.tx_types.specs.declared.mutation.Mutation.TheVariants.{Put}
 use Rattle.tx_types.specs.declared.mutation.Mode.TheVariants as mode

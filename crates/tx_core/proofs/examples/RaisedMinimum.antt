@@ -1,4 +1,5 @@
--- An async commit whose minimum a read has raised; its prewrite decides it, and its session may answer so at once.
+-- An async commit whose minimum a read has raised; its prewrite decides it, and its session may
+-- answer so at once.
 use Rattle.std.proofs.Common.{◌≡◌, inl, inr, [], ◌∷◌, None, refl, arith}
 use Rattle.tx_types.specs.declared.mutation.Mutation.TheVariants.{Put}
 use Rattle.tx_types.specs.declared.mutation.Mode.TheVariants as mode

@@ -1,5 +1,5 @@
--- A status check that finds nothing of a transaction aborts it: the rollback that it leaves refuses the late prewrite, and the session
--- answers that the transaction is aborted.
+-- A status check that finds nothing of a transaction aborts it: the rollback that it leaves refuses
+-- the late prewrite, and the session answers that the transaction is aborted.
 use Rattle.std.proofs.Common.{◌≡◌, inl, inr, true, false, [], ◌∷◌, None, refl, arith}
 use Rattle.tx_types.specs.declared.mutation.Mutation.TheVariants.{Put}
 use Rattle.tx_types.specs.declared.mutation.Mode.TheVariants as mode

@@ -34,7 +34,8 @@ abbrev pub start_of : Option Lock → ℕ
 start_of None = 0
 start_of (Some lock) = lock.start
 
--- the commit that decides the transaction of 1, where it changes a alone and the first seat drew its two numbers
+-- the commit that decides the transaction of 1, where it changes a alone and the first seat
+-- drew its two numbers
 pub decides : (h : History) (m : Mutation) (c : ℕ) (by : Acceptance) → set_at h 1 ≡ record { key = a; mutation = m } ∷ [] → accepted h 1 a ≡ Some by → by.lock.mode ≡ mode.TwoPhase → drawer h 1 ≡ Some 1 → drawer h c ≡ Some 1 → by.at < c → MayDecide h (record { key = a; mutation = m } ∷ []) record { key = a; start = 1; commit = c }
 decides h m c by set is two began drew later =
     record {

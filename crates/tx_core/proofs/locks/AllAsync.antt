@@ -1,4 +1,5 @@
--- The lock of an accepted prewrite, and: a transaction of which each key had an async lock is committed at the greatest of their minimums.
+-- The lock of an accepted prewrite, and: a transaction of which each key had an async lock is
+-- committed at the greatest of their minimums.
 use Rattle.std.proofs.Common.{◌≡◌, ◌≢◌, ℕ, ◌==◌, inl, inr, Bool, true, false, cond, List, [], ◌∷◌, Option, Some, None, bytes_eq, refl, sym, ap, subst, ◌∙◌}
 use Rattle.tx_types.specs.declared.key.Key.{Key}
 use Rattle.tx_types.specs.declared.mutation.Change.{Change}
@@ -83,7 +84,8 @@ prewritten_lock bounds h b m run was = prewritten_among bounds h run was.by was.
 
 -- ---- each key async
 
--- a key is accepted async, and with this minimum unless some key of its transaction is accepted two-phase
+-- a key is accepted async, and with this minimum unless some key of its transaction is
+-- accepted two-phase
 record IsAsync (h : History) (t : ℕ) (k : Key) (m : ℕ) : Type 0 where
   pub by : Acceptance
   pub stands : accepted h t k ≡ Some by

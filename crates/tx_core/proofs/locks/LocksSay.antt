@@ -138,7 +138,8 @@ left_lock r (body.Collect b) _ k lock e = was (stood (r.cells k).lock lock e)
 
 -- ---- what a lock says
 
--- a lock says what its transaction declared: its primary, and on the primary of an async transaction the other keys
+-- a lock says what its transaction declared: its primary, and on the primary of an async
+-- transaction the other keys
 pub record Says (h : History) (k : Key) (lock : Lock) : Type 0 where
   pub of : Declaration
   pub stands : declared h lock.start ≡ Some of

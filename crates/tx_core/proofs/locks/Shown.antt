@@ -1,4 +1,5 @@
--- What is shown of the minimum of a lock on its primary rises, and what answers tell of locks was shown.
+-- What is shown of the minimum of a lock on its primary rises, and what answers tell of
+-- locks was shown.
 use Rattle.std.proofs.Common.{◌≡◌, ◌≢◌, ℕ, ◌+◌, ◌≤◌, ◌==◌, ◌&&◌, inl, inr, Bool, true, false, cond, List, [], ◌∷◌, None, refl, sym, ap, subst, ◌∙◌, arith}
 use Rattle.std.specs.Prelude.{Contains}
 use Rattle.std.proofs.lemmas.Bool.{cases_Bool, cases_lt, and_parts, eqb-true, eq-eqb}
@@ -43,7 +44,8 @@ module _ (bounds : List Key) (h : History) (good : Good bounds h) (before : Told
   rises_quiet n x l a no_prewrite no_check t =
       omega (arith, told_stays x a t (shown_put (set_at h t) (effect_in h (took n x l a)) t (shown_in h t)) no_check, shown_stays (set_at h t) (effect_in h (took n x l a)) t (shown_in h t) (no_put (left h n).cells x a no_prewrite))
 
-  -- a lock is put on a key of which the transaction was never accepted: on its primary nothing bounds h good before was shown yet
+  -- a lock is put on a key of which the transaction was never accepted: on its primary nothing
+  -- bounds h good before was shown yet
   module _ (b : Prewrite) (l : ℕ) where
     abbrev at : ℕ
     at = route bounds b.key
@@ -92,7 +94,8 @@ module _ (bounds : List Key) (h : History) (good : Good bounds h) (before : Told
 
   -- ---- a status is checked
 
-  -- what an answer that a region gives must do: what is shown rises, and what is told of locks is shown then
+  -- what an answer that a region gives must do: what is shown rises, and what is told of
+  -- locks is shown then
   record Shows (n : ℕ) (x : Body) (l : ℕ) (a : Answer) : Type 0 where
     rises : Rises n x l a
     tells : (info : LockInfo) → Contains (infos_in a) info → IsShown h (shown_in (Took (took n x l a) ∷ h)) info

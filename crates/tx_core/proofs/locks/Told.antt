@@ -37,7 +37,8 @@ use Rattle.tx_core.proofs.view.View.{does_declared}
 use Rattle.tx_core.proofs.view.HistoryView.{shown_put, shown_told, shown_in}
 use Rattle.tx_core.proofs.requests.Good.{Good, took, cells_at}
 
--- what is told of a lock, once it was: its transaction is declared, and if the key is the primary, the minimum was shown
+-- what is told of a lock, once it was: its transaction is declared, and if the key is the primary,
+-- the minimum was shown
 abbrev pub IsShown : History → (ℕ → ℕ) → LockInfo → Type 0
 IsShown h shown info = (declared h info.start ≢ None) × (is_first (set_at h info.start) info.key ≡ true → info.min ≤ shown info.start)
 

@@ -1,4 +1,5 @@
--- What an answer tells of a lock holds of it: it stands, it says what its transaction declared, and it is the one that was accepted.
+-- What an answer tells of a lock holds of it: it stands, it says what its transaction declared, and
+-- it is the one that was accepted.
 use Rattle.std.proofs.Common.{◌≡◌, ℕ, ◌+◌, ◌==◌, ◌⊎◌, inl, inr, List, [], ◌∷◌, Option, Some, None, bytes_eq, refl, sym, ap, subst, ◌∙◌, arith}
 use Rattle.std.proofs.lemmas.Bool.{cases_Bool}
 use Rattle.std.specs.Prelude.{Contains}

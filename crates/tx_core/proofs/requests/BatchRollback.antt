@@ -69,7 +69,8 @@ module _ (bounds : List Key) (h : History) (good : Good bounds h) (b : BatchRoll
             (λ c e. good.ends.first_settled b.start c b.key lock e fell is own)
             (λ o. ends_abort_first (view bounds h) b.key b.start lock good.sound.inv good.ends o fell is own)
 
-    -- nothing of it stands there but perhaps its rollback: it was never accepted there where it is not aborted
+    -- nothing of it stands there but perhaps its rollback: it was never accepted there where
+    -- it is not aborted
     missing : (b.start < (left h (route bounds b.key)).collected → ⊥) → ((lock : Lock) → OwnLock (cells_at bounds h b.key).lock b.start lock → ⊥) → ((c : ℕ) → OwnCommit (cells_at bounds h b.key).write b.start c → ⊥) → Next bounds h (took (route bounds b.key) (body.BatchRollback b) l RolledBack)
     missing fresh unlocked uncommitted = elim may.may [ inl gone ↦ follow gone | inr two ↦ of_primary (first two.1) ]
       where

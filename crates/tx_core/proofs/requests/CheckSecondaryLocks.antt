@@ -47,7 +47,8 @@ module _ (bounds : List Key) (h : History) (good : Good bounds h) (b : CheckSeco
 
   -- ---- what is allowed
 
-  -- nothing of it stands there but perhaps its rollback: it was never accepted there where it is not aborted
+  -- nothing of it stands there but perhaps its rollback: it was never accepted there where
+  -- it is not aborted
   missing : AllowsCheckSecondaryLocks h b → (b.start < (left h (route bounds b.key)).collected → ⊥) → ((lock : Lock) → OwnLock (cells_at bounds h b.key).lock b.start lock → ⊥) → ((c : ℕ) → OwnCommit (cells_at bounds h b.key).write b.start c → ⊥) → Next bounds h (took (route bounds b.key) (body.CheckSecondaryLocks b) l Missing)
   missing may fresh unlocked uncommitted =
       rolled bounds h good b.key (body.CheckSecondaryLocks b) l Missing b.start roll leaves some

@@ -29,7 +29,8 @@ use Rattle.tx_core.proofs.changes.Sounds.{sound_raise}
 use Rattle.tx_core.proofs.view.Ends.{Ends}
 use Rattle.tx_core.proofs.view.HistoryView.{reads_by, checks_by, reads_in, shown_put, shown_told, shown_in, view}
 
--- The machine's steps and the view are sound, the ends hold, and an answer that told of an end told what is decided.
+-- The machine's steps and the view are sound, the ends hold, and an answer that told of an end told
+-- what is decided.
 pub record Good (bounds : List Key) (h : History) : Type 0 where
   pub sound : Sound (shadow h) (view bounds h)
   pub ends : Ends (view bounds h)
@@ -83,7 +84,8 @@ same_view w v s =
 abbrev pub cells_at : List Key → History → Key → Cells
 cells_at bounds h k = (left h (route bounds k)).cells k
 
--- the request names the transaction that started at t and reads nothing, and the answer does f to the cells of k alone
+-- the request names the transaction that started at t and reads nothing, and the answer does f to
+-- the cells of k alone
 pub record OnKey (k : Key) (body : Body) (a : Answer) (t : ℕ) (f : Cells → Cells) : Type 0 where
   pub named : start_in body ≡ Some t
   pub does : (r : Region) → leaves r body a ≡ with_cells r k (f (r.cells k))
@@ -118,7 +120,8 @@ pub decided_same : (t : ℕ) (s : State) → deciding t s s ≡ []
 decided_same t Open = refl
 decided_same t (Done e) = refl
 
--- What an answer leaves, by its parts: its effect, and the decisions, the acceptances, what is shown and the cells of k after it.
+-- What an answer leaves, by its parts: its effect, and the decisions, the acceptances, what is
+-- shown and the cells of k after it.
 pub assemble : (bounds : List Key) (h : History) (k : Key) (body : Body) (l : ℕ) (a : Answer) (t : ℕ) (f : Cells → Cells) → OnKey k body a t f → (e : Effect) → effect_in h (took (route bounds k) body l a) ≡ e → (d : ℕ → State) (acc : ℕ → Key → Option Acceptance) (shown : ℕ → ℕ) (new : Cells) (steps : List Step) → ((u : ℕ) → first_decided (decision (set_at h u) (λ q. accepted_by e (last h) u q (accepted h u q)) e u) (decided h u) ≡ d u) → ((u : ℕ) (q : Key) → accepted_by e (last h) u q (accepted h u q) ≡ acc u q) → ((u : ℕ) → shown_told body a u (shown_put (set_at h u) e u (shown_in h u)) ≡ shown u) → f (cells_at bounds h k) ≡ new → deciding t (decided h t) (d t) ++ shadow h ≡ steps → Sound steps (record (view bounds h) { decided = d; accepted = acc; shown = shown; cells = λ q. cond (bytes_eq k q) new (cells_at bounds h q) }) → Ends (record (view bounds h) { decided = d; accepted = acc; shown = shown; cells = λ q. cond (bytes_eq k q) new (cells_at bounds h q) }) → IsTrueAnswer (table_of steps) body a → Next bounds h (took (route bounds k) body l a)
 assemble bounds h k body l a t f on e is d acc shown new steps fates accepts shows cells same sound ends truth =
     let x = took (route bounds k) body l a in

@@ -23,8 +23,8 @@ use Rattle.tx_core.proofs.changes.Aborting.{aborting}
 use Rattle.tx_core.proofs.changes.Sounds.{sound_abort}
 use Rattle.tx_core.proofs.requests.Good.{Good, Next, OnKey, took, cells_at, assemble, decided_same, true_end}
 
--- The answer does `roll` to the cells of k and has no other effect than the rollback of t; what is sound and the ends stay where t is
--- aborted, and the answer is true where t has ended so.
+-- The answer does `roll` to the cells of k and has no other effect than the rollback of t; what is
+-- sound and the ends stay where t is aborted, and the answer is true where t has ended so.
 pub record LeavesRollback (bounds : List Key) (h : History) (k : Key) (body : Body) (l : ℕ) (a : Answer) (t : ℕ) (roll : Cells → Cells) : Type 0 where
   pub does : Cells → Cells
   pub on : OnKey k body a t does

@@ -18,7 +18,8 @@ use Rattle.tx_core.proofs.view.Ends.{Ends}
 use Rattle.tx_core.proofs.view.HistoryView.{reads_by, checks_by, reads_in, shown_put, shown_told, shown_in, view}
 use Rattle.tx_core.proofs.requests.Good.{Good, Next, took, same_view, part_same, cells_at}
 
--- The request names no transaction and reads nothing, and the answer leaves the greatest timestamp read.
+-- The request names no transaction and reads nothing, and the answer leaves the
+-- greatest timestamp read.
 pub record IsOfRegion (body : Body) (a : Answer) : Type 0 where
   pub unnamed : start_in body ≡ None
   pub none : (cells : Key → Cells) → effect cells body a ≡ NoEffect

@@ -43,7 +43,8 @@ pub parts_count : (n : ℕ) (h : History) → AllOfSeats n h → length h ≡ ev
 parts_count n [] all = omega (arith, events_none n)
 parts_count n (e ∷ h) all = omega (arith, parts_count n h all.0, events_below n all.1.0 h e all.1.1 all.1.2)
 
--- in a world run each event is some seat's, so it is of a seat below n where no other seat has an event
+-- in a world run each event is some seat's, so it is of a seat below n where no other
+-- seat has an event
 pub all_of_seats : (bounds : List Key) (n : ℕ) (h : History) → IsWorldRun bounds h → ((i : ℕ) → n ≤ i → part i h ≡ []) → AllOfSeats n h
 all_of_seats bounds n [] run none = tt
 all_of_seats bounds n (e ∷ h) run none =

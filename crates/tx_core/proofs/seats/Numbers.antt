@@ -25,7 +25,8 @@ use Rattle.tx_core.specs.Worlds.{IsWorldRun}
 use Rattle.tx_core.proofs.Basics.{nat_test}
 use Rattle.tx_core.proofs.seats.Staying.{was_last_upto}
 
--- what was read in a region and its safe point lie at most at top, and what it collected at most at its safe point
+-- what was read in a region and its safe point lie at most at top, and what it collected at most
+-- at its safe point
 pub record IsUpto (region : Region) (top : ℕ) : Type 0 where
   pub read : region.max_read ≤ top
   pub safe : region.safe ≤ top
@@ -43,7 +44,8 @@ raised_upto (Rows rows) r n top low at = omega (arith, low, at)
 raised_upto (KeyIsLocked info) r n top low at = omega (arith, low, at)
 raised_upto _ r n top low at = low
 
--- a read that its timestamp refuses does not count, and each other one lies at most at what was loaded
+-- a read that its timestamp refuses does not count, and each other one lies at most
+-- at what was loaded
 read_upto : {P : Type 0} (a : Answer) (r safe loaded n top : ℕ) → n ≤ top → loaded ≤ top → ((r < safe) × (a ≡ BelowSafePoint safe)) ⊎ ((r < safe → ⊥) × (((loaded < r) × (a ≡ FutureTimestamp loaded)) ⊎ ((loaded < r → ⊥) × P))) → raised a r n ≤ top
 read_upto a r safe loaded n top low upto (inl x) = (let same = ap (λ y. raised y r n) x.1 in omega (arith, same, low))
 read_upto a r safe loaded n top low upto (inr (no0, inl x)) = (let same = ap (λ y. raised y r n) x.1 in omega (arith, same, low))

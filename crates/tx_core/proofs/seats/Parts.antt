@@ -69,6 +69,7 @@ extends_same_part i l h b same = extends_by_part i l h b (let equal = ap length 
 pub extends_absent : (i : ℕ) (l h : History) → Begins l h → part i h ≡ [] → Extends i l h
 extends_absent i l h b none = extends_by_part i l h b (let equal = ap length none in omega (arith, equal))
 
--- of two beginnings that one history extends with no event of a seat, the longer extends the shorter so
+-- of two beginnings that one history extends with no event of a seat, the longer
+-- extends the shorter so
 pub extends_shorter : (i : ℕ) (a b h : History) → Extends i a h → Begins b h → Begins a b → Extends i a b
 extends_shorter i a b h g q p = extends_by_part i a b p (let same = ap length (part_extends i a h g) in omega (arith, same, part_shorter i b h q))

@@ -1,4 +1,5 @@
--- Two answers of one case table are of the same case of it, and what a case names is the only one of its kind.
+-- Two answers of one case table are of the same case of it, and what a case names is the only
+-- one of its kind.
 use Rattle.std.proofs.Common.{◌≡◌, ℕ, ◌≤◌, inl, inr, Option, Some, None, refl, sym, ap, subst, ◌∙◌, arith}
 use Rattle.std.proofs.lemmas.Bool.{cases_lt}
 use Rattle.tx_types.specs.declared.value.Value.{Value}

@@ -1,4 +1,5 @@
--- Lists in which nothing is twice, and lists in the order of their keys: such a list is told by its members.
+-- Lists in which nothing is twice, and lists in the order of their keys: such a list is
+-- told by its members.
 use Rattle.std.proofs.Common.{◌≡◌, ◌≢◌, ◌⊎◌, ℕ, zero, suc, ◌+◌, ◌<◌, ◌≤◌, inl, inr, Bool, true, List, [], ◌∷◌, length, refl, sym, ap, ◌∙◌, subst, arith}
 use Rattle.std.specs.Prelude.{AllPairs, Contains, IsTrue, slice_index_or}
 use Rattle.std.specs.List.{filter}

@@ -1,5 +1,5 @@
--- The locks below a timestamp are one list, the first of them is one lock, and what collection drops counts the same in whatever order
--- it is listed.
+-- The locks below a timestamp are one list, the first of them is one lock, and what collection
+-- drops counts the same in whatever order it is listed.
 use Rattle.std.proofs.Common.{◌≡◌, inl, inr, ℕ, suc, ◌≤◌, Bool, List, [], ◌∷◌, length, Some, refl, sym, ap, subst, ◌∙◌, arith}
 use Rattle.std.specs.Prelude.{Contains}
 use Rattle.std.specs.List.{filter}

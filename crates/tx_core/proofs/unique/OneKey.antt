@@ -1,5 +1,5 @@
--- The commands of one key have one answer each, and so has the rise of a safe point: in each case of their tables what the answer names
--- is the only one of its kind.
+-- The commands of one key have one answer each, and so has the rise of a safe point: in each case
+-- of their tables what the answer names is the only one of its kind.
 use Rattle.std.proofs.Common.{◌≡◌, ℕ, Option, Some, sym, subst, ◌∙◌, arith}
 use Rattle.std.specs.Prelude.{max}
 use Rattle.tx_types.specs.declared.mutation.Fate.{Fate}

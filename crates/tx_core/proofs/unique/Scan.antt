@@ -137,7 +137,8 @@ module _ (cells : Key → Cells) (b : Scan) where
         ]
       ]
 
-  -- a scan that meets a lock gives no rows: it would walk over the lock, or have all its rows before it, and these are too few
+  -- a scan that meets a lock gives no rows: it would walk over the lock, or have all its rows
+  -- before it, and these are too few
   never_both : (a c : Answer) → MeetsLock cells b a → GivesRows cells b c → ⊥
   never_both a c x y = elim (cases_Bool (nat_lt (length y.rows) b.limit || reaches y.rows x.key)) [ inl over ↦ walks_over over | inr short ↦ ends_short (or_false (nat_lt (length y.rows) b.limit) (reaches y.rows x.key) short) ]
     where

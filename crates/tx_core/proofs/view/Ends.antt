@@ -1,4 +1,5 @@
--- What holds of the ends of transactions between the events of a history, though not between the changes that make up one event.
+-- What holds of the ends of transactions between the events of a history, though not between the
+-- changes that make up one event.
 use Rattle.std.proofs.Common.{◌≡◌, ◌≢◌, ℕ, ◌<◌, ◌==◌, ◌⊎◌, inl, inr, Option, Some, None, refl, sym, ap, subst, ◌∙◌}
 use Rattle.tx_types.specs.declared.key.Key.{Key}
 use Rattle.tx_types.specs.declared.mutation.Mode.TheVariants.{TwoPhase}
@@ -16,7 +17,8 @@ use Rattle.tx_core.proofs.changes.Declaring.{declaring}
 use Rattle.tx_core.proofs.changes.Keyed.{keyed, at_cells}
 use Rattle.tx_core.proofs.changes.Deciding.{greatest_each, greatest_some}
 
--- a key of the transaction is not accepted and never will be: its rollback stands there, or it started below the collection
+-- a key of the transaction is not accepted and never will be: its rollback stands there, or it
+-- started below the collection
 pub record Refused (declared : ℕ → Option Declaration) (accepted : ℕ → Key → Option Acceptance) (collected : Key → ℕ) (cells : Key → Cells) (t : ℕ) : Type 0 where
   pub key : Key
   pub within : mutation_at (set_of (declared t)) key ≢ None
@@ -31,8 +33,9 @@ pub record FirstCleared (declared : ℕ → Option Declaration) (accepted : ℕ 
   pub was : accepted t key ≢ None
   pub cleared : (lock : Lock) → OwnLock (cells key).lock t lock → ⊥
 
--- A transaction whose keys are all accepted async is committed at the greatest minimum. A committed one with a two-phase key locks its
--- primary no more. An aborted one has a key that is refused, or its primary is cleared.
+-- A transaction whose keys are all accepted async is committed at the greatest minimum. A committed
+-- one with a two-phase key locks its primary no more. An aborted one has a key that is refused, or
+-- its primary is cleared.
 pub record EndsOf (declared : ℕ → Option Declaration) (accepted : ℕ → Key → Option Acceptance) (decided : ℕ → State) (collected : Key → ℕ) (cells : Key → Cells) : Type 0 where
   pub all_async : (t c : ℕ) → greatest (accepted t) (set_of (declared t)) ≡ Some c → IsCommitted decided t c
   pub first_settled : (t c : ℕ) (k : Key) (lock : Lock) → IsCommitted decided t c → FellBack accepted t → IsPrimary declared t k → OwnLock (cells k).lock t lock → ⊥
@@ -66,7 +69,8 @@ fell_no_greatest w t c i fell most =
 pub missing_live : (w : View) (k : Key) (t c : ℕ) → Inv w → mutation_at (set_of (w.declared t)) k ≢ None → w.accepted t k ≡ None → IsCommitted w.decided t c → ⊥
 missing_live w k t c i within never end = (i.commits t c end).accepts k within never
 
--- a transaction with a two-phase key whose primary is locked, and whose keys are all accepted, is open
+-- a transaction with a two-phase key whose primary is locked, and whose keys are all
+-- accepted, is open
 pub first_opens : (w : View) (k : Key) (t : ℕ) (lock : Lock) → Ends w → FellBack w.accepted t → IsPrimary w.declared t k → OwnLock (w.cells k).lock t lock → Accepts w.declared w.accepted t → w.decided t ≡ Open
 first_opens w k t lock ends fell first own all = go (w.decided t) refl
   where
@@ -81,8 +85,8 @@ first_opens w k t lock ends fell first own all = go (w.decided t) refl
 
 -- ---- changes of the cells of one key
 
--- the same ends, with other cells on one key: the locks that stand there stood before, but for what the ends do not speak of, and the
--- rollbacks of aborted transactions stay
+-- the same ends, with other cells on one key: the locks that stand there stood before, but for what
+-- the ends do not speak of, and the rollbacks of aborted transactions stay
 pub ends_keyed : (w : View) (k : Key) (new : Cells) → Ends w → ((lock : Lock) → new.lock ≡ Some lock → (old : Lock) × ((w.cells k).lock ≡ Some old) × (old.start ≡ lock.start)) → ((t : ℕ) → IsAborted w.decided t → OwnRollback (w.cells k).write t → OwnRollback new.write t) → Ends (keyed w k new)
 ends_keyed w k new ends stood stays =
     record {

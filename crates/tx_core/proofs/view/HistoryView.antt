@@ -46,14 +46,16 @@ reads_in [] = []
 reads_in (Took x ∷ h) = checks_by x.body (effect_in h x) (reads_by x.body x.answer (reads_in h))
 reads_in (_ ∷ h) = reads_in h
 
--- the greatest minimum that the lock of a transaction on its primary has had: the one that it was put with, or that it was pushed to
+-- the greatest minimum that the lock of a transaction on its primary has had: the one that it was
+-- put with, or that it was pushed to
 abbrev pub shown_put : List Change → Effect → ℕ → ℕ → ℕ
 shown_put set (Puts key lock) t before = cond ((lock.start == t) && is_first set key) lock.min before
 shown_put set (Settles key u c) t before = before
 shown_put set (RollsBack u) t before = before
 shown_put set NoEffect t before = before
 
--- a check of a transaction's status tells of its lock on its primary, with the minimum that it has then
+-- a check of a transaction's status tells of its lock on its primary, with the minimum
+-- that it has then
 abbrev pub shown_told : Body → Answer → ℕ → ℕ → ℕ
 shown_told (body.CheckTxnStatus b) (Locked info) t before = cond (b.start == t) info.min before
 shown_told _ _ t before = before

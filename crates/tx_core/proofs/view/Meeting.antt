@@ -1,4 +1,5 @@
--- The reads of the case tables: what a region gives that no lock stopped is a read of a view that meets no lock.
+-- The reads of the case tables: what a region gives that no lock stopped is a read of a view
+-- that meets no lock.
 use Rattle.std.proofs.Common.{◌≡◌, ◌≢◌, ℕ, ◌<◌, ◌≤◌, ◌⊎◌, ◌||◌, nat_lt, zero, suc, inl, inr, Bool, List, [], ◌∷◌, IsTrue, length, arith}
 use Rattle.std.proofs.lemmas.Bool.{cases_lt, and_parts}
 use Rattle.tx_types.specs.declared.key.Key.{Key}

@@ -1,4 +1,5 @@
--- The machine's table shows what a view says: what a commit asks of the table holds, and a read of the cells gives what the table sees.
+-- The machine's table shows what a view says: what a commit asks of the table holds, and a read of
+-- the cells gives what the table sees.
 use Rattle.std.proofs.Common.{◌≡◌, ◌≢◌, ℕ, ◌≤◌, inl, inr, Bool, true, cond, List, Option, Some, None, IsTrue, refl, sym, ap, subst, ◌∙◌, arith}
 use Rattle.tx_types.specs.declared.key.Key.{Key}
 use Rattle.tx_types.specs.declared.value.Value.{Value}
@@ -166,7 +167,8 @@ may_commit table w t c i s may =
           ];
     }
 
--- what the cells give a read is what the machine's table sees, where no lock stops the read and the collection does not lie above it
+-- what the cells give a read is what the machine's table sees, where no lock stops the read and the
+-- collection does not lie above it
 module _ (table : Table) (w : View) (covers : Key → Bool) (r : ℕ) (i : Inv w) (s : Shows table w) (free : Unblocked w covers r) (k : Key) (inside : IsTrue (covers k)) (fresh : w.collected k ≤ r) where
   -- a lock that still stands hides no commit that the read should see
   unhidden : (u c : ℕ) (m : Mutation) → IsCommitted w.decided u c → Does w.declared u k m → IsVisible m → c ≤ r → Held (w.cells k) u → ⊥

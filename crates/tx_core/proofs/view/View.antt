@@ -20,9 +20,10 @@ use Rattle.tx_core.specs.Histories.{set_of, is_first}
 use Rattle.tx_core.specs.Decisions.{Acceptance}
 use Rattle.tx_core.proofs.Basics.{some_same, some_of, is_some, none_is, key_true}
 
--- The last number drawn, who drew a number, which transactions began, declared and are decided, the acceptances, the reads that
--- were answered, the greatest minimum that a transaction's lock on its primary has had, and what stands on each key: the greatest
--- timestamp read, the safe point and the last collection of its region, and its cells.
+-- The last number drawn, who drew a number, which transactions began, declared and are decided, the
+-- acceptances, the reads that were answered, the greatest minimum that a transaction's lock on its
+-- primary has had, and what stands on each key: the greatest timestamp read, the safe point and the
+-- last collection of its region, and its cells.
 pub record View : Type 0 where
   pub last : ℕ
   pub drawer : ℕ → Option ℕ
@@ -72,7 +73,8 @@ pub record FellBack (accepted : ℕ → Key → Option Acceptance) (t : ℕ) : T
   pub stands : accepted t key ≡ Some by
   pub two_phase : by.lock.mode ≡ TwoPhase
 
--- what a commit of an accepted transaction reaches at least: the minimum of an async acceptance, else a number above the last one then
+-- what a commit of an accepted transaction reaches at least: the minimum of an async acceptance,
+-- else a number above the last one then
 abbrev pub bound : Acceptance → ℕ
 bound by = elim by.lock.mode [ TwoPhase ↦ by.at + 1 | Async ↦ by.lock.min ]
 
@@ -104,17 +106,18 @@ pub record Gone (decided : ℕ → State) (declared : ℕ → Option Declaration
   pub below : d < safe
   pub way : ((v : Value) → m ≡ Put v → ⊥) ⊎ Later decided declared k d safe
 
--- ---- the invariants, in groups: each is over what it speaks of, so a change of anything else hands it on whole
+-- ---- the invariants, in groups: a change of what one does not speak of hands it on whole
 
--- A number that was drawn is at most the last one. Who began was drawn, who declared began, who is decided declared.
+-- A number that was drawn is at most the last one. Who began was drawn, who declared began, who is
+-- decided declared.
 pub record Clock (last : ℕ) (drawer : ℕ → Option ℕ) (began : ℕ → Bool) (declared : ℕ → Option Declaration) (decided : ℕ → State) : Type 0 where
   pub drawn : (t : ℕ) → drawer t ≢ None → t ≤ last
   pub begun : (t : ℕ) → began t ≡ true → drawer t ≢ None
   pub declares : (t : ℕ) → declared t ≢ None → began t ≡ true
   pub decides : (t : ℕ) → decided t ≢ Open → declared t ≢ None
 
--- A read is at most at the last number, and at most at the greatest timestamp that its region knows of. A region collects at most up
--- to its safe point.
+-- A read is at most at the last number, and at most at the greatest timestamp that its region knows
+-- of. A region collects at most up to its safe point.
 pub record Marks (last : ℕ) (reads : List Reading) (floor safe collected : Key → ℕ) : Type 0 where
   pub upto : (k : Key) (r : ℕ) → IsRead reads k r → r ≤ last
   pub known : (k : Key) (r : ℕ) → IsRead reads k r → r ≤ floor k
@@ -132,8 +135,8 @@ pub record IsAccepted (last : ℕ) (declared : ℕ → Option Declaration) (t : 
   pub mode : (d : Declaration) → declared t ≡ Some d → d.mode ≡ TwoPhase → by.lock.mode ≡ TwoPhase
   pub after : (d : Declaration) → declared t ≡ Some d → d.drawn < bound by
 
--- A lock that stands was accepted, and does what was declared. It has the mode of its acceptance, and the minimum too, but on the
--- primary, where it has the greatest that was shown.
+-- A lock that stands was accepted, and does what was declared. It has the mode of its acceptance,
+-- and the minimum too, but on the primary, where it has the greatest that was shown.
 pub record IsLock (declared : ℕ → Option Declaration) (accepted : ℕ → Key → Option Acceptance) (shown : ℕ → ℕ) (k : Key) (lock : Lock) : Type 0 where
   pub accepts : accepted lock.start k ≢ None
   pub does : Does declared lock.start k lock.mutation
@@ -146,24 +149,27 @@ pub record IsLock (declared : ℕ → Option Declaration) (accepted : ℕ → Ke
 abbrev pub HasNoValue : (ℕ → Option Declaration) → (ℕ → State) → Key → ℕ → Type 0
 HasNoValue declared decided k r = (u d : ℕ) (v : Value) → IsCommitted decided u d → Does declared u k (Put v) → d ≤ r → Later decided declared k d r
 
--- Another's commit on the key lies at or below the start of the lock, no commit record of its own transaction stands beside it, and its
--- region collects at most up to its start. Of what it inserts there is no value at its start.
+-- Another's commit on the key lies at or below the start of the lock, no commit record of its own
+-- transaction stands beside it, and its region collects at most up to its start. Of what it inserts
+-- there is no value at its start.
 pub record IsAlone (declared : ℕ → Option Declaration) (decided : ℕ → State) (k : Key) (collected : ℕ) (write : Writes) (lock : Lock) : Type 0 where
   pub above : (u d : ℕ) (m : Mutation) → IsCommitted decided u d → Does declared u k m → u ≢ lock.start → d ≤ lock.start
   pub unwritten : (c : ℕ) (rec : CommitRecord) → write c ≡ Some (CommitOf rec) → rec.start ≢ lock.start
   pub fresh : collected ≤ lock.start
   pub unseen : (v : Value) → Inserts declared lock.start k v → HasNoValue declared decided k lock.start
 
--- A commit record's transaction is committed there, and does what it says. Where its rollback stands, a transaction is aborted. Where a
--- put or delete below the collection stands, no later one up to the collection is committed.
+-- A commit record's transaction is committed there, and does what it says. Where its rollback
+-- stands, a transaction is aborted. Where a put or delete below the collection stands, no later one
+-- up to the collection is committed.
 pub record Records (declared : ℕ → Option Declaration) (decided : ℕ → State) (k : Key) (collected : ℕ) (write : Writes) : Type 0 where
   pub committed : (c : ℕ) (rec : CommitRecord) → write c ≡ Some (CommitOf rec) → IsCommitted decided rec.start c
   pub does : (c : ℕ) (rec : CommitRecord) → write c ≡ Some (CommitOf rec) → Does declared rec.start k rec.mutation
   pub rolled : (t : ℕ) → OwnRollback write t → IsAborted decided t
   pub newest : (q : ℕ) (rec : CommitRecord) → write q ≡ Some (CommitOf rec) → IsVisible rec.mutation → q < collected → (u d : ℕ) (m : Mutation) → IsCommitted decided u d → Does declared u k m → IsVisible m → q < d → d ≤ collected → ⊥
 
--- What is committed stands as a record or is locked still, or it was collected. What was accepted of an open transaction is locked; of
--- an aborted one it is locked, or rolled back, or below the collection.
+-- What is committed stands as a record or is locked still, or it was collected. What was
+-- accepted of an open transaction is locked; of an aborted one it is locked, or rolled back, or
+-- below the collection.
 pub record Kept (declared : ℕ → Option Declaration) (decided : ℕ → State) (accepted : ℕ → Key → Option Acceptance) (k : Key) (collected : ℕ) (cells : Cells) : Type 0 where
   pub complete : (u d : ℕ) (m : Mutation) → IsCommitted decided u d → Does declared u k m → Written cells u d ⊎ Held cells u ⊎ Gone decided declared k d collected m
   pub held : (t : ℕ) → accepted t k ≢ None → decided t ≡ Open → Held cells t
@@ -176,15 +182,16 @@ pub record OnCells (declared : ℕ → Option Declaration) (decided : ℕ → St
   pub records : Records declared decided k collected cells.write
   pub kept : Kept declared decided accepted k collected cells
 
--- A commit lies above its start and at most one above the last number. Each key of its transaction was accepted, and it lies at or above
--- each bound, and each minimum that was shown.
+-- A commit lies above its start and at most one above the last number. Each key of its transaction
+-- was accepted, and it lies at or above each bound, and each minimum that was shown.
 pub record IsCommit (last : ℕ) (declared : ℕ → Option Declaration) (accepted : ℕ → Key → Option Acceptance) (shown : ℕ → ℕ) (t c : ℕ) : Type 0 where
   pub range : (t < c) × (c ≤ last + 1)
   pub accepts : Accepts declared accepted t
   pub bounds : (k : Key) (by : Acceptance) → accepted t k ≡ Some by → bound by ≤ c
   pub shows : shown t ≤ c
 
--- Nothing is shown before the primary is accepted; then its minimum is, and no other as long as each acceptance is async.
+-- Nothing is shown before the primary is accepted; then its minimum is, and no other as long as
+-- each acceptance is async.
 pub record ShownOf (declared : ℕ → Option Declaration) (accepted : ℕ → Key → Option Acceptance) (shown : ℕ → ℕ) : Type 0 where
   pub undeclared : (t : ℕ) → declared t ≡ None → shown t ≡ 0
   pub none : (t : ℕ) (k : Key) → IsPrimary declared t k → accepted t k ≡ None → shown t ≡ 0
@@ -196,7 +203,8 @@ pub record Inv (w : View) : Type 0 where
   pub acceptances : (t : ℕ) (k : Key) (by : Acceptance) → w.accepted t k ≡ Some by → IsAccepted w.last w.declared t k by
   pub keys : (k : Key) → OnCells w.declared w.decided w.accepted w.shown k (w.collected k) (w.cells k)
   pub commits : (t c : ℕ) → IsCommitted w.decided t c → IsCommit w.last w.declared w.accepted w.shown t c
-  -- a read of what an open transaction changes lies below its bound there, or below a minimum that was shown
+  -- a read of what an open transaction changes lies below its bound there, or below a
+  -- minimum that was shown
   pub unread : (t : ℕ) (k : Key) (by : Acceptance) → w.accepted t k ≡ Some by → w.decided t ≡ Open → (m : Mutation) → Does w.declared t k m → IsVisible m → (r : ℕ) → IsRead w.reads k r → (r < bound by) ⊎ (r < w.shown t)
   pub shown : ShownOf w.declared w.accepted w.shown
 
@@ -260,7 +268,8 @@ lock_ends w k lock c i stands end =
       | inr f ↦ (let of = some_of (w.accepted lock.start k) ((i.keys k).lock lock stands).accepts in omega (arith, ((i.keys k).lock lock stands).min f of.0 of.1, (i.acceptances lock.start k of.0 of.1).bounded, (i.commits lock.start c end).bounds k of.0 of.1))
     ]
 
--- where nothing of a transaction stands that started at the collection or above, it was never accepted
+-- where nothing of a transaction stands that started at the collection or above, it
+-- was never accepted
 pub never_accepted : (w : View) (k : Key) (t : ℕ) → Inv w → w.collected k ≤ t → ((lock : Lock) → OwnLock (w.cells k).lock t lock → ⊥) → ((c : ℕ) → OwnCommit (w.cells k).write t c → ⊥) → (OwnRollback (w.cells k).write t → ⊥) → w.accepted t k ≡ None
 never_accepted w k t i fresh unlocked uncommitted unrolled = none_is (w.accepted t k) (λ by e. go by e (w.decided t) refl)
   where

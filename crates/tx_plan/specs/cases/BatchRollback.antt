@@ -7,8 +7,8 @@ use Rattle.tx_plan.specs.Tables.{Case, CaseOf}
 use Rattle.tx_plan.specs.Cells.{Cells}
 use Rattle.tx_plan.specs.Own.{OwnLock, OwnCommit, roll_back}
 
--- A start below the last collection is refused. The transaction's lock is rolled back; where it is committed, that is told; else its
--- rollback stands already, or is left. Another's lock stays.
+-- A start below the last collection is refused. The transaction's lock is rolled back; where it is
+-- committed, that is told; else its rollback stands already, or is left. Another's lock stays.
 abbrev pub AnswersBatchRollback : Cells → ℕ → BatchRollback → Answer → Type 0
 AnswersBatchRollback cells collected b a =
     Case (b.start < collected) (a ≡ BelowSafePoint collected)
@@ -16,7 +16,8 @@ AnswersBatchRollback cells collected b a =
     (CaseOf (λ c. OwnCommit cells.write b.start c) (λ c. a ≡ AlreadyCommitted c)
     (a ≡ RolledBack)))
 
--- Where it answers that the transaction is rolled back, the lock is gone and the rollback stands. One that stood already stays.
+-- Where it answers that the transaction is rolled back, the lock is gone and the rollback stands.
+-- One that stood already stays.
 abbrev pub leaves_batch_rollback : Cells → BatchRollback → Answer → Cells
 leaves_batch_rollback cells b RolledBack = roll_back cells b.start
 leaves_batch_rollback cells b _ = cells

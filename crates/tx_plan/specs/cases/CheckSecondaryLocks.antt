@@ -1,4 +1,5 @@
--- CheckSecondaryLocks: what stands of an async transaction on a key; where nothing does, it never will.
+-- CheckSecondaryLocks: what stands of an async transaction on a key; where nothing
+-- does, it never will.
 use Rattle.std.specs.Prelude.{◌≡◌, ℕ, ◌<◌}
 use Rattle.tx_plan.specs.declared.body.CheckSecondaryLocks.{CheckSecondaryLocks}
 use Rattle.tx_plan.specs.declared.answer.Answer.{Answer}
@@ -7,7 +8,8 @@ use Rattle.tx_plan.specs.Tables.{Case, CaseOf}
 use Rattle.tx_plan.specs.Cells.{Cells, info_of}
 use Rattle.tx_plan.specs.Own.{OwnLock, OwnCommit, leave_rollback}
 
--- A start below the last collection is refused. The transaction's lock or commit is told; else its rollback stands already, or is left.
+-- A start below the last collection is refused. The transaction's lock or commit is told; else its
+-- rollback stands already, or is left.
 abbrev pub AnswersCheckSecondaryLocks : Cells → ℕ → CheckSecondaryLocks → Answer → Type 0
 AnswersCheckSecondaryLocks cells collected b a =
     Case (b.start < collected) (a ≡ BelowSafePoint collected)
@@ -15,7 +17,8 @@ AnswersCheckSecondaryLocks cells collected b a =
     (CaseOf (λ c. OwnCommit cells.write b.start c) (λ c. a ≡ Committed c)
     (a ≡ Missing)))
 
--- Where it answers that the transaction is missing, its rollback stands. One that stood already stays.
+-- Where it answers that the transaction is missing, its rollback stands. One that
+-- stood already stays.
 abbrev pub leaves_check_secondary_locks : Cells → CheckSecondaryLocks → Answer → Cells
 leaves_check_secondary_locks cells b Missing = leave_rollback cells b.start
 leaves_check_secondary_locks cells b _ = cells

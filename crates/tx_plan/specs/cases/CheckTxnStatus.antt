@@ -24,8 +24,9 @@ with_minimum lock min = record {
   primary = lock.primary;
 }
 
--- The cases where the transaction's lock stands: an async lock is told unless the check is forced; an expired one is rolled back; one
--- whose minimum is at most the caller's timestamp is pushed above it; else it is told.
+-- The cases where the transaction's lock stands: an async lock is told unless the check is forced;
+-- an expired one is rolled back; one whose minimum is at most the caller's timestamp is pushed
+-- above it; else it is told.
 abbrev pub ChecksLock : CheckTxnStatus → Lock → Answer → Type 0
 ChecksLock b lock a =
     Case ((lock.mode ≡ Async) × (b.force_sync_commit ≡ false)) (a ≡ Locked (info_of b.key lock))
@@ -33,8 +34,9 @@ ChecksLock b lock a =
     (Case (lock.min ≤ b.caller) (a ≡ Locked (info_of b.key (with_minimum lock (b.caller + 1))))
     (a ≡ Locked (info_of b.key lock))))
 
--- A start below the last collection and a caller above the last number loaded are refused. Where the transaction's lock stands, its
--- cases decide; where it is gone, what stands of the transaction is told; where nothing stands, a rollback is left if it is wanted.
+-- A start below the last collection and a caller above the last number loaded are refused. Where
+-- the transaction's lock stands, its cases decide; where it is gone, what stands of the transaction
+-- is told; where nothing stands, a rollback is left if it is wanted.
 abbrev pub AnswersCheckTxnStatus : Cells → ℕ → ℕ → CheckTxnStatus → Answer → Type 0
 AnswersCheckTxnStatus cells collected loaded b a =
     Case (b.start < collected) (a ≡ BelowSafePoint collected)
@@ -45,8 +47,8 @@ AnswersCheckTxnStatus cells collected loaded b a =
     (Case (b.rollback_if_not_exist ≡ true) (a ≡ RolledBack)
     (a ≡ TxnNotFound))))))
 
--- Where it answers that the transaction is rolled back, the lock is gone and the rollback stands; a lock that it tells of has the
--- minimum of the answer, and is otherwise as it was.
+-- Where it answers that the transaction is rolled back, the lock is gone and the rollback stands; a
+-- lock that it tells of has the minimum of the answer, and is otherwise as it was.
 abbrev pub leaves_check_txn_status : Cells → CheckTxnStatus → Answer → Cells
 leaves_check_txn_status cells b RolledBack = roll_back cells b.start
 leaves_check_txn_status cells b (Locked info) = on_own_lock cells b.start (λ lock. with_lock cells (Some (with_minimum lock info.min)))

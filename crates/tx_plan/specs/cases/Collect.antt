@@ -39,7 +39,8 @@ abbrev pub none_above : Writes → ℕ → ℕ → Bool
 none_above write q zero = true
 none_above write q (suc n) = not (commit_is is_visible (write (q + suc n))) && none_above write q n
 
--- A record at or above the safe point stays. Below it a put stays that no put or delete follows up to and at the safe point.
+-- A record at or above the safe point stays. Below it a put stays that no put or delete follows up
+-- to and at the safe point.
 abbrev pub keeps : Writes → ℕ → ℕ → Bool
 keeps write safe q = not (nat_lt q safe) || commit_is is_put (write q) && none_above write q (safe - q)
 
@@ -74,15 +75,17 @@ pub record IsFirstBelow (cells : Key → Cells) (safe : ℕ) (info : LockInfo) :
   pub stands : IsLockBelow cells safe info
   pub first : (other : LockInfo) → IsLockBelow cells safe other → IsTrue (key_lt other.key info.key) → ⊥
 
--- A timestamp that is not the region's safe point is refused, and so is collection while a lock started below it: it names the first
--- by key. Else it counts the records that it drops, and the values of the `default` family that go with them.
+-- A timestamp that is not the region's safe point is refused, and so is collection while a lock
+-- started below it: it names the first by key. Else it counts the records that it drops, and the
+-- values of the `default` family that go with them.
 abbrev pub AnswersCollect : (Key → Cells) → ℕ → Collect → Answer → Type 0
 AnswersCollect cells safe b a =
     Case (b.safe ≢ safe) (a ≡ BelowSafePoint safe)
     (Case (SomeLockBelow cells b.safe) ((info : LockInfo) × IsFirstBelow cells b.safe info × (a ≡ LocksRemain info))
     ((places : List (Key × ℕ)) × AllDropped cells b.safe places × (a ≡ Collected (length places) (long_values cells places))))
 
--- Where it has collected, the records that are not kept are gone, on every key, and the region has collected up to there.
+-- Where it has collected, the records that are not kept are gone, on every key, and the region has
+-- collected up to there.
 abbrev pub leaves_collect : Region → Collect → Answer → Region
 leaves_collect region b (Collected records values) = record { cells = λ k. kept (region.cells k) b.safe; max_read = region.max_read; safe = region.safe; collected = b.safe }
 leaves_collect region b _ = region

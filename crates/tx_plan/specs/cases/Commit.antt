@@ -7,16 +7,16 @@ use Rattle.tx_plan.specs.Tables.{Case, CaseOf}
 use Rattle.tx_plan.specs.Cells.{Lock, Writes, Cells}
 use Rattle.tx_plan.specs.Own.{OwnLock, OwnCommit, OthersCommit, OwnRollback, commit_lock}
 
--- The cases where the transaction's lock stands: a commit below the lock's minimum, or at a timestamp where another's commit record
--- stands, is refused; else it is done.
+-- The cases where the transaction's lock stands: a commit below the lock's minimum, or at a
+-- timestamp where another's commit record stands, is refused; else it is done.
 abbrev pub CommitsLock : Writes → ℕ → ℕ → Lock → Answer → Answer → Type 0
 CommitsLock write start commit lock done a =
     Case (commit < lock.min) (a ≡ CommitTsExpired lock.min)
     (CaseOf (λ rec. OthersCommit write start commit rec) (λ rec. a ≡ WriteConflict rec.start commit)
     (a ≡ done))
 
--- A start below the last collection is refused. The transaction's lock is committed; where it is gone, what stands of the transaction
--- is told.
+-- A start below the last collection is refused. The transaction's lock is committed; where it is
+-- gone, what stands of the transaction is told.
 abbrev pub AnswersCommit : Cells → ℕ → Commit → Answer → Type 0
 AnswersCommit cells collected b a =
     Case (b.start < collected) (a ≡ BelowSafePoint collected)
@@ -25,7 +25,8 @@ AnswersCommit cells collected b a =
     (Case (OwnRollback cells.write b.start) (a ≡ AlreadyRolledBack)
     (a ≡ TxnLockNotFound))))
 
--- Where it answers that the transaction is committed and its lock stands, the lock becomes its commit record.
+-- Where it answers that the transaction is committed and its lock stands, the lock becomes
+-- its commit record.
 abbrev pub leaves_commit : Cells → Commit → Answer → Cells
 leaves_commit cells b (Committed c) = commit_lock cells b.start b.commit
 leaves_commit cells b _ = cells

@@ -8,8 +8,8 @@ use Rattle.tx_plan.specs.Tables.{Case, CaseOf}
 use Rattle.tx_plan.specs.Cells.{Cells, Region, info_of, with_max_read}
 use Rattle.tx_plan.specs.Reads.{Blocks, Reads, read_answer, raised}
 
--- A read below the safe point or above the last number loaded is refused; a lock that blocks it stops it; else it gives the value
--- that stands at its timestamp, or none.
+-- A read below the safe point or above the last number loaded is refused; a lock that blocks it
+-- stops it; else it gives the value that stands at its timestamp, or none.
 abbrev pub AnswersGet : Cells → ℕ → ℕ → Get → Answer → Type 0
 AnswersGet cells safe loaded b a =
     Case (b.at < safe) (a ≡ BelowSafePoint safe)

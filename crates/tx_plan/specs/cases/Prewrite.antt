@@ -71,8 +71,8 @@ AnswersPrewrite cells safe loaded Promise b a =
     (Case (b.mode ≡ Async) ((m : ℕ) × Promise m × Case (IsWithin b.max_commit m) (a ≡ Prewritten m) (a ≡ Prewritten 0))
     (a ≡ Prewritten 0)))))))))
 
--- The lock that an accepted prewrite puts: async with the minimum m, or where that is 0 two-phase, with the minimum start + 1 and
--- no secondaries.
+-- The lock that an accepted prewrite puts: async with the minimum m, or where that is 0 two-phase,
+-- with the minimum start + 1 and no secondaries.
 abbrev pub lock_of : Prewrite → ℕ → Lock
 lock_of b m = record {
   mutation = as_locked b.mutation;

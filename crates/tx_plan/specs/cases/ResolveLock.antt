@@ -10,12 +10,14 @@ use Rattle.tx_plan.specs.Cells.{Lock, Writes, Cells}
 use Rattle.tx_plan.specs.Own.{OwnLock, on_own_lock, roll_back, commit_lock}
 use Rattle.tx_plan.specs.cases.Commit.{CommitsLock}
 
--- The cases where the transaction's lock stands: it is rolled back, or committed with the refusals of a commit.
+-- The cases where the transaction's lock stands: it is rolled back, or committed with the
+-- refusals of a commit.
 abbrev pub ResolvesLock : Writes → ℕ → Lock → Fate → Answer → Type 0
 ResolvesLock write start lock fate.Aborted a = a ≡ Resolved
 ResolvesLock write start lock (fate.Committed c) a = CommitsLock write start c lock Resolved a
 
--- A start below the last collection is refused. The transaction's lock is resolved; where there is none, nothing is to be done.
+-- A start below the last collection is refused. The transaction's lock is resolved; where there is
+-- none, nothing is to be done.
 abbrev pub AnswersResolveLock : Cells → ℕ → ResolveLock → Answer → Type 0
 AnswersResolveLock cells collected b a =
     Case (b.start < collected) (a ≡ BelowSafePoint collected)

@@ -17,7 +17,8 @@ pub record GivesRows (cells : Key → Cells) (b : Scan) (a : Answer) : Type 0 wh
   pub upto : length rows ≤ b.limit
   pub walked : Walked cells b.at b.bypass (covered b rows) rows
 
--- The walk ends at a key whose lock blocks it: the keys before it are free and give fewer than `limit` rows.
+-- The walk ends at a key whose lock blocks it: the keys before it are free and give fewer
+-- than `limit` rows.
 pub record MeetsLock (cells : Key → Cells) (b : Scan) (a : Answer) : Type 0 where
   pub key : Key
   pub lock : Lock
@@ -28,8 +29,9 @@ pub record MeetsLock (cells : Key → Cells) (b : Scan) (a : Answer) : Type 0 wh
   pub before : Walked cells b.at b.bypass (λ k. key_le b.from k && key_lt k key) rows
   pub below : length rows < b.limit
 
--- A scan below the safe point or above the last number loaded is refused; else the keys of its range are walked in rising order:
--- a lock that blocks the read ends the walk and there are no rows, a key with a value gives a row, `limit` rows end the walk.
+-- A scan below the safe point or above the last number loaded is refused; else the keys of its
+-- range are walked in rising order: a lock that blocks the read ends the walk and there are no
+-- rows, a key with a value gives a row, `limit` rows end the walk.
 abbrev pub AnswersScan : (Key → Cells) → ℕ → ℕ → Scan → Answer → Type 0
 AnswersScan cells safe loaded b a =
     Case (b.at < safe) (a ≡ BelowSafePoint safe)

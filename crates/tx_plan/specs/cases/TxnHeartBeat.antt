@@ -7,8 +7,9 @@ use Rattle.tx_plan.specs.Tables.{Case, CaseOf}
 use Rattle.tx_plan.specs.Cells.{Lock, Cells, with_lock}
 use Rattle.tx_plan.specs.Own.{OwnLock, on_own_lock}
 
--- A start below the last collection is refused. The time to live of the transaction's lock becomes the greater of its own and the
--- one that is asked for; where no lock of the transaction stands, that is refused.
+-- A start below the last collection is refused. The time to live of the transaction's lock becomes
+-- the greater of its own and the one that is asked for; where no lock of the transaction stands,
+-- that is refused.
 abbrev pub AnswersTxnHeartBeat : Cells → ℕ → TxnHeartBeat → Answer → Type 0
 AnswersTxnHeartBeat cells collected b a =
     Case (b.start < collected) (a ≡ BelowSafePoint collected)

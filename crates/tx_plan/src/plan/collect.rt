@@ -1,5 +1,5 @@
-//! Collect: a region drops the records below its safe point that no read needs any more. What is counted and dropped is
-//! the families'.
+//! Collect: a region drops the records below its safe point that no read needs any more. What is
+//! counted and dropped is the families'.
 ghost use Rattle.std.specs.Prelude.{◌≡◌, MatchOption};
 ghost use Rattle.tx_plan.specs.Refusals.{RefusesCollect};
 
@@ -16,7 +16,8 @@ pub struct Dropped {
     pub values: u64,
 }
 
-/// Why a Collect of a region with this safe point is refused: `BelowSafePoint` where it names another.
+/// Why a Collect of a region with this safe point is refused: `BelowSafePoint` where
+/// it names another.
 pub fn collect_refusal(safe: Ts, body: &Collect) -> Option<Answer>
     ensures { MatchOption result (body.now.safe ≡ safe) (λ a. RefusesCollect safe body.now a) }
 {

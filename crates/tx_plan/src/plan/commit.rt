@@ -15,7 +15,11 @@ use crate::planned::Planned;
 use crate::view::TxnView;
 use tx_types::Ts;
 
-/// The answer to a Commit
+/// The answer to a Commit that sees this of its key, in a region that collected up to `collected`,
+/// and the change. `BelowSafePoint` where the transaction started below that. While its lock is
+/// there: `CommitTsExpired` below the lock's minimum, `WriteConflict` where another's commit record
+/// is at the commit timestamp. Without its lock: `AlreadyRolledBack` where its rollback is there,
+/// `TxnLockNotFound` where nothing of it is.
 pub fn plan_commit(view: &TxnView, collected: Ts, body: &Commit) -> Planned
     ensures answers { (cells : Cells) → Shows cells body.now.start body.now.commit view.now → AnswersCommit cells collected body.now (answer_with (info_on cells body.now.key) result.answer) }
     ensures leaves { (cells : Cells) → Shows cells body.now.start body.now.commit view.now → changed cells result.change ≡ leaves_commit cells body.now (answer_with (info_on cells body.now.key) result.answer) }

@@ -10,8 +10,8 @@ use crate::key_change::KeyChange;
 use crate::view::{LockHead, RecordHead, TxnView};
 use tx_types::Ts;
 
-/// Why the transaction's lock is not committed at `commit`: `CommitTsExpired` below the lock's minimum, `WriteConflict`
-/// where another transaction committed at that timestamp.
+/// Why the transaction's lock is not committed at `commit`: `CommitTsExpired` below the lock's
+/// minimum, `WriteConflict` where another transaction committed at that timestamp.
 pub fn commit_refusal(view: &TxnView, lock: &LockHead, start: Ts, commit: Ts) -> Option<Answer>
     ensures { (cells : Cells) → Shows cells start commit view.now → (own : HasOwnHead cells.lock start lock.now) → MatchOption result (MayCommitAt cells.write start commit own.lock) (λ a. RefusesCommit cells.write start commit own.lock a) }
 {

@@ -13,10 +13,10 @@ use crate::planned::{Planned, PlannedAnswer};
 use crate::view::ReadView;
 use tx_types::Ts;
 
-/// The answer to a Get that sees this of its key, in a region with this safe point whose seat loaded `loaded`.
-/// `BelowSafePoint` where the read lies below the safe point, `FutureTimestamp` where it lies above `loaded`,
-/// `KeyIsLocked` where a lock blocks it. A read that is not refused by its timestamp counts, also where a lock stopped
-/// it.
+/// The answer to a Get that sees this of its key, in a region with this safe point whose seat
+/// loaded `loaded`. `BelowSafePoint` where the read lies below the safe point, `FutureTimestamp`
+/// where it lies above `loaded`, `KeyIsLocked` where a lock blocks it. A read that is not refused
+/// by its timestamp counts, also where a lock stopped it.
 pub fn plan_get(view: ReadView, safe: Ts, loaded: Ts, body: &Get) -> Planned
     ensures answers { (cells : Cells) → ShowsRead cells body.now.at view → AnswersGet cells safe loaded body.now (answer_with (info_on cells body.now.key) result.answer) }
     ensures leaves { (cells : Cells) → ShowsRead cells body.now.at view → (region : Region) → leaves_get region body.now (answer_with (info_on cells body.now.key) result.answer) ≡ with_read region result.read }

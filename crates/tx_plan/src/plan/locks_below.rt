@@ -9,8 +9,8 @@ use crate::walk::LockWalk;
 use std::alloc::Global;
 use tx_types::{Fault, LockInfo, Ts};
 
-/// What is told of the locks of a region that started below a timestamp, keys rising. `OutOfMemory` where there is no room
-/// to tell of them.
+/// What is told of the locks of a region that started below a timestamp, keys rising. `OutOfMemory`
+/// where there is no room to tell of them.
 pub fn infos_below<L: LockWalk + Drop>(alloc: Global, mut walk: L, safe: Ts) -> Result<Infos, Fault>
     requires { IsLockWalk (L.cells walk) (L.rest walk) }
     ensures all { IfOk result (λ infos. AllBelow (L.cells walk) safe infos) }

@@ -9,8 +9,8 @@ use crate::lists::Starts;
 use crate::view::LockHead;
 use tx_types::{LockKind, Ts};
 
-/// Why a read at this timestamp is refused, in a region with this safe point whose seat loaded `loaded`: `BelowSafePoint`,
-/// or `FutureTimestamp` above `loaded`.
+/// Why a read at this timestamp is refused, in a region with this safe point whose seat loaded
+/// `loaded`: `BelowSafePoint`, or `FutureTimestamp` above `loaded`.
 pub fn read_refusal(at: Ts, safe: Ts, loaded: Ts) -> Option<Answer>
     ensures { MatchOption result (MayRead safe loaded at) (λ a. RefusesRead safe loaded at a) }
 {
@@ -23,7 +23,8 @@ pub fn read_refusal(at: Ts, safe: Ts, loaded: Ts) -> Option<Answer>
     None
 }
 
-/// Whether the lock on a key, of which this is asked, blocks a read at this timestamp that passes these transactions by.
+/// Whether the lock on a key, of which this is asked, blocks a read at this timestamp that passes
+/// these transactions by.
 pub fn is_blocked(lock: &Option<LockHead>, at: Ts, bypass: &Starts) -> bool
     ensures { (found : Option Lock) → lock.now ≡ option_map lock_head_of found → IsTrue result ↔ IsBlocked found at bypass.now }
 {

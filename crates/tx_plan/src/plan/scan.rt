@@ -1,4 +1,5 @@
-//! Scan: the first keys of a range that have a value at a timestamp, or the lock that stops the read.
+//! Scan: the first keys of a range that have a value at a timestamp, or the lock
+//! that stops the read.
 ghost use Rattle.std.specs.Prelude.{◌≡◌, ◌⊎◌, ℕ, None, MatchOption, IfOk, IfErr};
 ghost use Rattle.tx_types.specs.declared.key.Key.{Key};
 ghost use Rattle.tx_types.specs.Keys.{key_le};
@@ -18,8 +19,9 @@ use crate::walk::ReadWalk;
 use std::alloc::Global;
 use tx_types::{Fault, KeyValue, KeyValues, Ts};
 
-/// Walks the keys of a scan's range, up to its end, a lock that blocks the read, or `limit` rows. The walk begins with the
-/// first key of the range. `OutOfMemory` where there is no room for the rows or to tell of the lock.
+/// Walks the keys of a scan's range, up to its end, a lock that blocks the read, or `limit` rows.
+/// The walk begins with the first key of the range. `OutOfMemory` where there is no room for the
+/// rows or to tell of the lock.
 pub fn scan_walk<W: ReadWalk + Drop>(
     alloc: Global,
     mut walk: W,
@@ -49,16 +51,17 @@ pub fn scan_walk<W: ReadWalk + Drop>(
     Ok(Answer::Rows(rows))
 }
 
-/// Why a Scan is refused before it looks at a key, in a region with this safe point whose seat loaded `loaded`:
-/// `BelowSafePoint` where the read lies below the safe point, `FutureTimestamp` where it lies above `loaded`.
+/// Why a Scan is refused before it looks at a key, in a region with this safe point whose seat
+/// loaded `loaded`: `BelowSafePoint` where the read lies below the safe point, `FutureTimestamp`
+/// where it lies above `loaded`.
 pub fn scan_refusal(safe: Ts, loaded: Ts, body: &Scan) -> Option<Answer>
     ensures { MatchOption result (MayRead safe loaded body.now.at) (λ a. RefusesScan safe loaded body.now a) }
 {
     read_refusal(body.at, safe, loaded)
 }
 
-/// The answer to a Scan that was not refused, where the families answered this. The read counts, also where a lock stopped
-/// it.
+/// The answer to a Scan that was not refused, where the families answered this. The read counts,
+/// also where a lock stopped it.
 pub fn plan_scan(answer: Answer, body: &Scan) -> Planned
     ensures answers { (cells : Key → Cells) (safe loaded : ℕ) → MayRead safe loaded body.now.at → MeetsLock cells body.now answer ⊎ GivesRows cells body.now answer → AnswersScan cells safe loaded body.now (answer_with None result.answer) }
     ensures leaves { (cells : Key → Cells) → MeetsLock cells body.now answer ⊎ GivesRows cells body.now answer → (region : Region) → leaves_scan region body.now (answer_with None result.answer) ≡ with_read region result.read }

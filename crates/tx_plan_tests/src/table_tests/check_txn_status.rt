@@ -25,8 +25,8 @@ const NO: bool = false;
 
 const YES: bool = true;
 
-// The times, whether a rollback is wanted where there is nothing, whether the check is forced, what is seen of the key, the
-// answer and the change.
+// The times, whether a rollback is wanted where there is nothing, whether the check is forced, what
+// is seen of the key, the answer and the change.
 type Row = (Times, bool, bool, Seen, Short, Short);
 
 const ROWS: [Row; 15] = [

@@ -14,8 +14,8 @@ const VALUE: Short = (Found, 1, 0);
 
 const BLOCKED: Short = (KeyIsLocked, 0, 0);
 
-// Timestamp, a transaction that is passed by, what is seen of the key, whether it has a value, the answer and the timestamp
-// that counts as read.
+// Timestamp, a transaction that is passed by, what is seen of the key, whether it has a value, the
+// answer and the timestamp that counts as read.
 type Row = (u64, u64, Seen, bool, Short, u64);
 
 const ROWS: [Row; 11] = [

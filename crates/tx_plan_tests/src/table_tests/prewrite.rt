@@ -17,8 +17,8 @@ const PLAIN: Short = (Prewritten, 0, 0);
 
 const PLAIN_LOCK: Short = (TwoPhaseLock, 6, 0);
 
-// Start, mode and greatest commit timestamp, what is seen of the key, the answer and the change. 11 was read, and the floor
-// is 13 where the start is 6.
+// Start, mode and greatest commit timestamp, what is seen of the key, the answer and the change. 11
+// was read, and the floor is 13 where the start is 6.
 type Row = (u64, Mode, u64, Seen, Short, Short);
 
 const ROWS: [Row; 18] = [
@@ -137,7 +137,8 @@ fn rows_of_prewrite(rt: HostRuntime) {
     }
 }
 
-// What an insert by 5 sees, whether a read at 5 finds a value, the answer, and the timestamp that it reads; 0 is none.
+// What an insert by 5 sees, whether a read at 5 finds a value, the answer, and the timestamp that
+// it reads; 0 is none.
 type Insert = (Seen, bool, Short, u64);
 
 const INSERTS: [Insert; 6] = [

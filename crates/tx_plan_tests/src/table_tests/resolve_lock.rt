@@ -10,7 +10,8 @@ const DONE: Short = (Resolved, 0, 0);
 
 const ABORTED: u64 = 0;
 
-// Start, the commit timestamp of a committed transaction, what is seen of the key, the answer and the change.
+// Start, the commit timestamp of a committed transaction, what is seen of the key, the
+// answer and the change.
 type Row = (u64, u64, Seen, Short, Short);
 
 const ROWS: [Row; 8] = [

@@ -2,7 +2,8 @@
 use tx_plan::{CommitAt, LockHead, RecordHead, TxnView};
 use tx_types::{Fault, Key, LockKind, Mode, Ts};
 
-/// What the transaction that started at 5 sees of a key. Locks live 10 ticks and may be committed from 7 on.
+/// What the transaction that started at 5 sees of a key. Locks live 10 ticks and may be
+/// committed from 7 on.
 #[derive(Clone, Copy)]
 pub enum Seen {
     /// Nothing.

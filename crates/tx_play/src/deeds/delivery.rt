@@ -1,4 +1,5 @@
-//! A held request is delivered: its region takes a copy of it, and its session hears nothing of that.
+//! A held request is delivered: its region takes a copy of it, and its session hears
+//! nothing of that.
 ghost use Rattle.tx_play.specs.Places.{Delivered};
 
 use crate::step::Reply;
@@ -7,7 +8,8 @@ use tx_journal::Naming;
 use tx_post::Post;
 use tx_types::Cause;
 
-/// A copy of the request that is held under a name is taken, and the request stays held. `Name` where none is held under it.
+/// A copy of the request that is held under a name is taken, and the request stays held. `Name`
+/// where none is held under it.
 pub(crate) fn deliver<J: Naming, F: Families>(
     post: &mut Post<J, F>,
     name: &str,

@@ -1,5 +1,5 @@
-//! What a session asks of the regions, and what it draws: reads, prewrites, commits, aborts and heartbeats, each by the way that its step
-//! names.
+//! What a session asks of the regions, and what it draws: reads, prewrites, commits, aborts and
+//! heartbeats, each by the way that its step names.
 ghost use Rattle.std.specs.Prelude.{◌≡◌, ◌<◌, ◌&&◌, true, IfOk};
 ghost use Rattle.tx_client.specs.Walks.{get_walk, scan_walk};
 ghost use Rattle.tx_post.specs.Posts.{by_name};

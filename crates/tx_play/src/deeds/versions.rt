@@ -1,4 +1,5 @@
-//! What a region keeps of a key is shown: its lock, its write records and the values that it keeps apart.
+//! What a region keeps of a key is shown: its lock, its write records and the values
+//! that it keeps apart.
 ghost use Rattle.tx_play.specs.Places.{Inspected};
 
 use crate::deeds::is_key;

@@ -1,4 +1,5 @@
-//! The machine's steps of what happens, where they are kept. Where memory for one is refused, they are kept no more.
+//! The machine's steps of what happens, where they are kept. Where memory for one is refused, they
+//! are kept no more.
 ghost use Rattle.std.specs.Prelude.{◌≡◌, [], Option, Some, None, is_some};
 ghost use Rattle.tx_core.specs.declared.event.Event.TheVariants as events;
 ghost use Rattle.tx_post.specs.Posts.{GoesOnWith, NotesDrawn, NotesTaken};

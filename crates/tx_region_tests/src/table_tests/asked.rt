@@ -20,8 +20,8 @@ pub enum What {
     Lock,
 }
 
-/// A request. A key is its one byte, a timestamp its number; 0 stands for no start, no bound and no commit timestamp. Locks
-/// live 10 ticks, and the primary of each transaction is the key.
+/// A request. A key is its one byte, a timestamp its number; 0 stands for no start, no bound and no
+/// commit timestamp. Locks live 10 ticks, and the primary of each transaction is the key.
 #[derive(Clone, Copy)]
 pub enum Ask {
     /// Key, timestamp, and the start that it passes by.

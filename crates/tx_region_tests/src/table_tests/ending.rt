@@ -1,5 +1,5 @@
-//! The rows of the requests that settle a transaction on a key: Commit, BatchRollback, TxnHeartBeat, CheckSecondaryLocks,
-//! ResolveLock.
+//! The rows of the requests that settle a transaction on a key: Commit, BatchRollback,
+//! TxnHeartBeat, CheckSecondaryLocks, ResolveLock.
 use crate::table_tests::asked::Ask::{
     self, BatchRollback, CheckSecondaryLocks, Commit, ResolveLock, TxnHeartBeat,
 };

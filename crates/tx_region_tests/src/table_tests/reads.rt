@@ -48,7 +48,8 @@ const GET: [RegionRow; 18] = [
     (VERSIONS, Get(b'j', 9, 0), NOTHING, [9, 0, 0]),
 ];
 
-// `a` has a value from 2 on, `b` from 2 up to 3, `c` from 3 on, and on `d` a lock stands with the minimum 7.
+// `a` has a value from 2 on, `b` from 2 up to 3, `c` from 3 on, and on `d` a lock stands
+// with the minimum 7.
 const KEYS: &[Ask] = &[
     Prewrite(b'a', 1, Put(1)),
     Commit(b'a', 1, 2),

@@ -11,8 +11,8 @@ use tx_types::Ts;
 /// What was asked before, what is asked, what is answered, and what then stands on the key `k`.
 pub type Row = (&'static [Ask], Ask, Short, Stand);
 
-/// What was asked before, what is asked, what is answered, and what the numbers of the region then are: the greatest timestamp
-/// read, the safe point, and the safe point of the last collection.
+/// What was asked before, what is asked, what is answered, and what the numbers of the region then
+/// are: the greatest timestamp read, the safe point, and the safe point of the last collection.
 pub type RegionRow = (&'static [Ask], Ask, Short, [u64; 3]);
 
 // Records, and the greatest timestamp that was read in them.

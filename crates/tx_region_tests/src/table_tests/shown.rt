@@ -148,8 +148,8 @@ pub fn answered(given: Result<Answer, Fault>) -> Short {
     shown
 }
 
-/// What stands on a key: the lock's minimum and time to live, how many records, the newest one's timestamp and whether it has a
-/// mark, and how many values stand apart.
+/// What stands on a key: the lock's minimum and time to live, how many records, the newest one's
+/// timestamp and whether it has a mark, and how many values stand apart.
 pub type Stand = [u64; 6];
 
 /// Nothing stands there.

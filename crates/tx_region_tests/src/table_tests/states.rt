@@ -1,4 +1,5 @@
-//! What was asked before: how the key `k` came to stand as it does, by requests alone. And what then stands there.
+//! What was asked before: how the key `k` came to stand as it does, by requests alone. And what
+//! then stands there.
 use crate::table_tests::asked::Ask::{self, *};
 use crate::table_tests::asked::What::*;
 use crate::table_tests::shown::Stand;

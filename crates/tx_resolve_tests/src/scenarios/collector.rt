@@ -56,8 +56,8 @@ const LIVE_TWO_PHASE: [Step; 11] = [
     (B, Begin, Plain, "start", 4),
 ];
 
-// A region is refused memory for the check of a live transaction's primary: its lock stays, and Collect tells of it. Asked again, the
-// collector goes through.
+// A region is refused memory for the check of a live transaction's primary: its lock stays, and
+// Collect tells of it. Asked again, the collector goes through.
 const LOCK_REMAINS: [Step; 11] = [
     (A, Begin, Plain, "start", 1),
     (A, Put(4, 5), Plain, "ok", 0),
@@ -72,7 +72,8 @@ const LOCK_REMAINS: [Step; 11] = [
     (B, Collect(2), Plain, "collected", 0),
 ];
 
-// What the regions dropped is added up. A lock in two phases gets a rollback, which is dropped with the older put of another region.
+// What the regions dropped is added up. A lock in two phases gets a rollback, which is dropped with
+// the older put of another region.
 const TWO_REGIONS: [Step; 25] = [
     (A, Begin, Plain, "start", 1),
     (A, Put(1, 5), Plain, "ok", 0),
@@ -101,7 +102,8 @@ const TWO_REGIONS: [Step; 25] = [
     (B, Collect(9), Plain, "collected", 0),
 ];
 
-// A safe point that was not drawn yet, one below a region's, and one that another collector has passed meanwhile.
+// A safe point that was not drawn yet, one below a region's, and one that another collector has
+// passed meanwhile.
 const REFUSED: [Step; 6] = [
     (A, Begin, Plain, "start", 1),
     (B, Begin, Plain, "start", 2),
@@ -111,7 +113,8 @@ const REFUSED: [Step; 6] = [
     (B, Collect(2), Plain, "collected", 0),
 ];
 
-// A region is refused memory: for the safe point, for the list of locks, and for the collection. Each time it may be asked again.
+// A region is refused memory: for the safe point, for the list of locks, and for the collection.
+// Each time it may be asked again.
 const WITHOUT_MEMORY: [Step; 8] = [
     (A, Begin, Plain, "start", 1),
     (B, Begin, Plain, "start", 2),

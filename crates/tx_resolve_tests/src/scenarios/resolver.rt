@@ -23,7 +23,8 @@ const LIVE: [Step; 9] = [
     (B, Resolve(12), Plain, "committed", 3),
 ];
 
-// A two-phase lock that lives is pushed above the reader, who passes by; a commit below that is refused.
+// A two-phase lock that lives is pushed above the reader, who passes by; a commit below
+// that is refused.
 const PUSHED: [Step; 14] = [
     (A, Begin, Plain, "start", 1),
     (A, Put(1, 5), Plain, "ok", 0),
@@ -73,7 +74,8 @@ const PRIMARY_COMMITTED: [Step; 13] = [
     (B, Get(4), Plain, "value", 6),
 ];
 
-// Each key has its async lock: the transaction is committed at the greatest minimum, here that of the last key.
+// Each key has its async lock: the transaction is committed at the greatest minimum, here that
+// of the last key.
 const EXPIRED_ASYNC: [Step; 17] = [
     (A, Begin, Plain, "start", 1),
     (A, Put(1, 5), Plain, "ok", 0),
@@ -129,7 +131,8 @@ const ONE_COMMITTED: [Step; 14] = [
     (B, Get(1), Plain, "value", 5),
 ];
 
-// One of them has a two-phase lock: the transaction has fallen back, and its primary is rolled back as that of a two-phase one.
+// One of them has a two-phase lock: the transaction has fallen back, and its primary is rolled back
+// as that of a two-phase one.
 const ONE_FALLEN_BACK: [Step; 13] = [
     (A, Begin, Plain, "start", 1),
     (A, Put(1, 5), Plain, "ok", 0),
@@ -146,7 +149,8 @@ const ONE_FALLEN_BACK: [Step; 13] = [
     (A, Commit, Plain, "E3", 0),
 ];
 
-// Nothing of the transaction stands on its primary: while the met lock lives the reader waits; then a rollback is left there.
+// Nothing of the transaction stands on its primary: while the met lock lives the reader waits; then
+// a rollback is left there.
 const NOT_FOUND: [Step; 7] = [
     (A, Stray(1, 4), Plain, "prewritten", 0),
     (B, Begin, Plain, "start", 3),

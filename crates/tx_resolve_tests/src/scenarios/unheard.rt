@@ -1,5 +1,5 @@
-//! What the resolver finds where one of its requests, or the reply to it, is lost, or a region is refused memory for it: the reader
-//! waits, and asks again.
+//! What the resolver finds where one of its requests, or the reply to it, is lost, or a region is
+//! refused memory for it: the reader waits, and asks again.
 
 use super::Scenario;
 use std::test::Fail;

@@ -1,4 +1,5 @@
-//! Two workers are between the two calls of the gate at once in steps of two slots, and never in steps of one.
+//! Two workers are between the two calls of the gate at once in steps of two slots, and never
+//! in steps of one.
 use super::answers_of;
 use std::alloc::Global;
 use std::sync::Wait;

@@ -18,7 +18,8 @@ impl<J: Job, N: Opening<J>> Pool<J, N>
 where
     J::Out: Drop,
 {
-    /// A job whose next step has its latches, those of `slots` then, unless it is parked or memory was refused.
+    /// A job whose next step has its latches, those of `slots` then, unless it is parked or
+    /// memory was refused.
     pub(super) fn latched<R: Wait>(
         &self,
         rt: &R,
@@ -48,7 +49,8 @@ where
         }
     }
 
-    /// Asks for the slots that a step has on a bench, unless they were asked for already. None where the job is parked.
+    /// Asks for the slots that a step has on a bench, unless they were asked for already. None
+    /// where the job is parked.
     fn ask_part<R: Wait>(
         &self,
         rt: &R,
@@ -64,7 +66,8 @@ where
         self.ask(rt, bench, slots, task)
     }
 
-    /// Asks for the two slots of a step, that of the lower bench first. None where the job is parked.
+    /// Asks for the two slots of a step, that of the lower bench first. None where
+    /// the job is parked.
     fn ask_two<R: Wait>(
         &self,
         rt: &R,
@@ -88,7 +91,8 @@ where
         }
     }
 
-    /// Asks for the slots of a step, bench by bench, from the first that was not asked yet. None where the job is parked.
+    /// Asks for the slots of a step, bench by bench, from the first that was not asked yet. None
+    /// where the job is parked.
     fn ask_each<R: Wait>(
         &self,
         rt: &R,

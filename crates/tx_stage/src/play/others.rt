@@ -19,7 +19,8 @@ fn found<J: Naming>(
     find(resolver, &info, reader, Ts::new(now), post)
 }
 
-/// The resolver finds, at this time, what became of the transaction whose lock a session met, and the session learns it.
+/// The resolver finds, at this time, what became of the transaction whose lock a session met, and
+/// the session learns it.
 pub fn resolve<J: Naming>(
     resolver: &mut Seat<J>,
     session: &mut Session<J>,

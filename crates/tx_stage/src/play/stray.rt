@@ -1,4 +1,5 @@
-//! A transaction of no session: it prewrites its second key and not its primary, which is allowed, but which no session does.
+//! A transaction of no session: it prewrites its second key and not its primary, which is allowed,
+//! but which no session does.
 ghost use Rattle.std.specs.Prelude.{◌≡◌, ◌∷◌, IfSome};
 ghost use Rattle.tx_core.specs.ReadMarks.{max_ts};
 ghost use Rattle.tx_core.specs.Recording.{MayRecord};

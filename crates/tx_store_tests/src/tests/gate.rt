@@ -51,7 +51,8 @@ fn read_at_once<J: Naming + Send + Sync, R: Threads + Wait + Sync>(
     a && b
 }
 
-// Two threads read keys of the regions, whose look-ups wait for each other at the place: whether both were answered.
+// Two threads read keys of the regions, whose look-ups wait for each other at the place: whether
+// both were answered.
 fn reads_at_once<J: Naming + Send + Sync, R: Threads + Wait + Sync>(
     rt: &R,
     alloc: Global,

@@ -75,7 +75,8 @@ fn commit<J: Naming, F: Families + Drop, R: Wait>(
     Some(commit)
 }
 
-// Puts `x` on `a` and `y` on `z`, which lie in different regions: when it committed, and what tells of it.
+// Puts `x` on `a` and `y` on `z`, which lie in different regions: when it committed, and
+// what tells of it.
 fn put_both<J: Naming, F: Families + Drop, R: Wait>(
     rt: &R,
     store: &Store<J, F>,

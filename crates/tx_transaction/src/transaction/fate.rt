@@ -111,8 +111,8 @@ impl Transaction {
         }
     }
 
-    /// Its reads pass by one more transaction, where they may. It is named once, however often it is
-    /// passed.
+    /// Its reads pass by one more transaction, where they may. It is named once, however
+    /// often it is passed.
     pub fn pass(&mut self, start: Ts, may: bool) -> Result<(), Fault>
         ensures ok { OnOk result (self.new ≡ with_passed self.old start may) }
         ensures same { OnErr result (self.new ≡ self.old) }

@@ -12,8 +12,8 @@ use crate::state::{Came, Miss, Phase};
 use tx_core::{Answer, UnknownCause};
 use tx_types::{Fate, LockInfo};
 
-// What is decided once an answer was heard: what was known first stands, then the fate that the answer tells, then that each key
-// has an async lock.
+// What is decided once an answer was heard: what was known first stands, then the fate that the
+// answer tells, then that each key has an async lock.
 fn decided(known: Option<Fate>, answer: &Answer, buffer: &Buffer) -> Option<Fate>
     ensures { result ≡ first_settled (first_settled known (fate_in answer.now)) (committed_by (promised buffer.now.entries)) }
 {
@@ -27,7 +27,8 @@ fn decided(known: Option<Fate>, answer: &Answer, buffer: &Buffer) -> Option<Fate
 }
 
 impl Transaction {
-    // Keeps a lock that stood in the way, and hands a copy on. Few answers tell of one, so it stands apart.
+    // Keeps a lock that stood in the way, and hands a copy on. Few answers tell of one, so
+    // it stands apart.
     #[inline(never)]
     fn meet(&mut self, info: LockInfo) -> Result<Answer, Miss>
         ensures state { self.new ≡ record self.old { met = Some info } }

@@ -107,8 +107,8 @@ impl Transaction {
         Ok(Some(Due { place, body }))
     }
 
-    /// The commit that is due: of the primary at the drawn timestamp, and once the transaction is committed of each key in
-    /// buffer order.
+    /// The commit that is due: of the primary at the drawn timestamp, and once the transaction is
+    /// committed of each key in buffer order.
     pub fn due_commit(&self) -> Result<Option<Due>, Fault>
         ensures ok { IfOk result (λ due. due ≡ due_commit self.now) }
         ensures within { IfOk result (λ due. IfSome due (λ d. d.place < length self.now.buffer)) }
@@ -197,8 +197,8 @@ impl Transaction {
         }
     }
 
-    /// The request of an abort that is due: what may decide, and once the transaction is aborted a rollback of each key that
-    /// was sent.
+    /// The request of an abort that is due: what may decide, and once the transaction is aborted a
+    /// rollback of each key that was sent.
     pub fn due_abort(&self) -> Result<Option<Due>, Fault>
         ensures ok { IfOk result (λ due. due ≡ due_abort self.now) }
         ensures within { IfOk result (λ due. IfSome due (λ d. d.place < length self.now.buffer)) }
