@@ -103,8 +103,6 @@ impl<'a, J: Naming, R: Print + Wait> Side<'a, J, R> {
     fn scan(&self, session: &mut Session<J>, from: &str, to: &str, call: &str) -> Result<()> {
         let from = Key::new(self.alloc, from.as_bytes())?;
         let to = Key::new(self.alloc, to.as_bytes())?;
-        // For proofs: the keys between the regions rise.
-        let _ = self.store.bounds();
         let came = session.scan(self.alloc, &from, &to, 10, &mut self.wire());
         line_read(self.rt, self.who, call, came)
     }

@@ -1,9 +1,9 @@
 //! Runs each example and compares what it writes with the file beside it that shows it. An example
 //! is a script (`NAME.script`, played as `txkv simulate` does), a script for workers (`NAME.run`,
 //! played as `txkv run --workers 2` does) or a trace (`NAME.trace`, checked as `txkv check` does);
-//! what it writes is shown in the file of its name with `.out` added. Scripts are played over both
-//! families. Many small ones stand in `scripts.rows`, `checked.rows` (played as
-//! `txkv simulate --check` does) and `traces.rows`, each with what it writes.
+//! what it writes is shown in the file of its name with `.out` added. Scripts and runs are played
+//! over both families. Many small ones stand in `scripts.rows`, `checked.rows` (played as `txkv
+//! simulate --check` does) and `traces.rows`, each with what it writes.
 #![tactic(auto)]
 
 mod rows;
@@ -15,12 +15,14 @@ use std::fs;
 use std::rt::Files;
 use std::sync::Wait;
 use std::thread::Threads;
+use tx_cells::Fresh;
 use tx_check::check;
 use tx_flat::FlatCells;
+use tx_lines::End;
 use tx_nested::NestedCells;
 use tx_run::{Plain, Settings, run_script};
 use tx_sched::Open;
-use tx_script::{simulate, simulate_checked, simulate_checked_with, simulate_with};
+use tx_script::{simulate, simulate_checked};
 
 const SCRIPTS: [&str; 17] = [
     "abandoned_async.script",
@@ -54,59 +56,81 @@ const TRACES: [&str; 3] = [
 #[derive(Clone, Copy, Debug)]
 enum Kind {
     Script,
-    /// A script over flat maps, in place of the nested ones that scripts are played on.
-    Flat,
+    /// A script over nested maps, in place of the flat ones that the program takes.
+    Nested,
     /// A script with its check.
     Checked,
-    /// The same over flat maps.
-    CheckedFlat,
+    /// The same over nested maps.
+    CheckedNested,
     Trace,
 }
 
-fn flat(alloc: Global, text: &[u8], written: &mut Vec<u8>) -> bool {
+// Plays a script over these families. How it ended, unless it broke off.
+fn plays<F: Fresh>(alloc: Global, text: &[u8], written: &mut Vec<u8>) -> Option<End> {
     let mut reader = text;
-    simulate_with::<FlatCells, _, _>(alloc, &mut reader, written).is_ok()
+    simulate::<F, _, _, _>(alloc, &Plain, &mut reader, written).ok()
 }
 
-fn checked_flat(alloc: Global, text: &[u8], written: &mut Vec<u8>) -> bool {
+// The same with its check.
+fn checks<F: Fresh>(alloc: Global, text: &[u8], written: &mut Vec<u8>) -> Option<End> {
     let mut reader = text;
-    simulate_checked_with::<FlatCells, _, _>(alloc, &mut reader, written).is_ok()
+    simulate_checked::<F, _, _, _>(alloc, &Plain, &mut reader, written).ok()
 }
 
 impl Kind {
-    // Runs an example. Whether it came to its end.
-    fn run(self, rt: &HostRuntime, text: &[u8], written: &mut Vec<u8>) -> bool {
+    // Runs an example. How it ended, unless it broke off.
+    fn run(self, rt: &HostRuntime, text: &[u8], written: &mut Vec<u8>) -> Option<End> {
+        let alloc = rt.alloc();
         let mut reader = text;
         match self {
-            Kind::Script => simulate(rt.alloc(), &mut reader, written).is_ok(),
-            Kind::Flat => flat(rt.alloc(), text, written),
-            Kind::Checked => simulate_checked(rt.alloc(), &mut reader, written).is_ok(),
-            Kind::CheckedFlat => checked_flat(rt.alloc(), text, written),
-            Kind::Trace => check(rt.alloc(), &mut reader, written).is_ok(),
+            Kind::Script => plays::<FlatCells>(alloc, text, written),
+            Kind::Nested => plays::<NestedCells>(alloc, text, written),
+            Kind::Checked => checks::<FlatCells>(alloc, text, written),
+            Kind::CheckedNested => checks::<NestedCells>(alloc, text, written),
+            Kind::Trace => check(alloc, &mut reader, written).ok(),
         }
     }
 }
 
-// Whether an example writes what the file beside it shows.
+/// How what writes this text ends: its last line is a fault, says that a trace is no run, or is
+/// neither.
+fn end_of(shown: &[u8]) -> End {
+    let text = shown.trim_ascii_end();
+    let last = match text.iter().rposition(|byte| *byte == b'\n') {
+        Some(newline) => text.get(newline..).unwrap_or(text),
+        None => text,
+    };
+    if last.windows(6).any(|part| part == b"\"E16\",".as_slice()) {
+        End::Faulted
+    } else if last.trim_ascii().starts_with(b"[\"check\",\"no\"") {
+        End::No
+    } else {
+        End::Well
+    }
+}
+
+// Whether an example ends as the file beside it tells, and writes what it shows.
 fn is_shown(rt: &HostRuntime, name: &str, kind: Kind) -> Result<bool> {
     let text = fs::read(rt, name)?;
     let path = format!(in rt.alloc(); "{name}.out")?;
     let shown = fs::read(rt, path)?;
     let mut written = Vec::new(rt.alloc());
     let ended = kind.run(rt, text.as_slice(), &mut written);
-    Ok(ended && written.as_slice() == shown.as_slice())
+    Ok(ended == Some(end_of(shown.as_slice())) && written.as_slice() == shown.as_slice())
 }
 
-// Whether a script for workers, of whom there are two, writes what the file beside it shows.
-fn run_is_shown<R>(rt: &R, name: &str) -> Result<bool>
+// Whether a script for workers, of whom there are two, writes over these families what the file
+// beside it shows.
+fn run_is_shown<F, R>(rt: &R, name: &str) -> Result<bool>
 where
+    F: Fresh + Send,
     R: Files + AllocGlobal + Threads + Wait + Sync + Send + Clone + Drop,
 {
     let script = fs::read(rt, name)?;
     let path = format!(in rt.alloc(); "{name}.out")?;
     let shown = fs::read(rt, path)?;
     let mut written = Vec::new(rt.alloc());
-    let ended = run_script::<NestedCells, _, _, _, _, _>(
+    let ended = run_script::<F, _, _, _, _, _>(
         rt,
         rt.alloc(),
         Settings::new(2),
@@ -115,7 +139,14 @@ where
         &mut script.as_slice(),
         &mut written,
     );
-    Ok(ended.is_ok() && written.as_slice() == shown.as_slice())
+    let end = match ended {
+        Ok((end, played)) => {
+            drop(played);
+            Some(end)
+        }
+        Err(_) => None,
+    };
+    Ok(end == Some(end_of(shown.as_slice())) && written.as_slice() == shown.as_slice())
 }
 
 fn verdict(is_shown: bool) -> &'static str {
@@ -128,25 +159,26 @@ fn verdict(is_shown: bool) -> &'static str {
 
 fn main(rt: HostRuntime) -> Result<()> {
     for name in SCRIPTS {
-        let shown = is_shown(&rt, name, Kind::Script)? && is_shown(&rt, name, Kind::Flat)?;
+        let shown = is_shown(&rt, name, Kind::Script)? && is_shown(&rt, name, Kind::Nested)?;
         println!(rt; "{name}: {}", verdict(shown))?;
     }
     for name in RUNS {
-        let shown = run_is_shown(&rt, name)?;
+        let shown = run_is_shown::<FlatCells, _>(&rt, name)?
+            && run_is_shown::<NestedCells, _>(&rt, name)?;
         println!(rt; "{name}: {}", verdict(shown))?;
     }
     for name in TRACES {
         let shown = is_shown(&rt, name, Kind::Trace)?;
         println!(rt; "{name}: {}", verdict(shown))?;
     }
-    let flat = count_shown(&rt, "scripts.rows", Kind::Flat)?;
+    let flat = count_shown(&rt, "scripts.rows", Kind::Script)?;
     println!(rt; "scripts.rows, over flat maps: {flat} as shown")?;
-    let nested = count_shown(&rt, "scripts.rows", Kind::Script)?;
+    let nested = count_shown(&rt, "scripts.rows", Kind::Nested)?;
     println!(rt; "scripts.rows, over nested maps: {nested} as shown")?;
-    let checked = count_shown(&rt, "checked.rows", Kind::CheckedFlat)?;
-    println!(rt; "checked.rows, over flat maps: {checked} as shown")?;
-    let checked = count_shown(&rt, "checked.rows", Kind::Checked)?;
-    println!(rt; "checked.rows, over nested maps: {checked} as shown")?;
+    let flat = count_shown(&rt, "checked.rows", Kind::Checked)?;
+    println!(rt; "checked.rows, over flat maps: {flat} as shown")?;
+    let nested = count_shown(&rt, "checked.rows", Kind::CheckedNested)?;
+    println!(rt; "checked.rows, over nested maps: {nested} as shown")?;
     let traces = count_shown(&rt, "traces.rows", Kind::Trace)?;
     println!(rt; "traces.rows: {traces} as shown")?;
     Ok(())

@@ -1,7 +1,7 @@
 //! Scripts in one file, one below another: a line with a title, then each step with the reply that
 //! it gets, a tab between them. A trace has its verdict behind its last step, and a checked script
 //! has what follows its replies on lines with no step.
-use crate::Kind;
+use crate::{Kind, end_of};
 use anyhow::Result;
 use std::fs;
 
@@ -33,12 +33,12 @@ fn row_of<R: AllocGlobal>(rt: &R, lines: &str) -> Result<Row> {
     Ok(Row { input, shown })
 }
 
-// Whether the row under this title writes what is shown.
+// Whether the row under this title ends as what is shown tells, and writes it.
 fn is_shown(rt: &HostRuntime, kind: Kind, lines: &str) -> Result<bool> {
     let row = row_of(rt, lines)?;
     let mut written = Vec::new(rt.alloc());
     let ended = kind.run(rt, row.input.as_slice(), &mut written);
-    Ok(ended && written.as_slice() == row.shown.as_slice())
+    Ok(ended == Some(end_of(row.shown.as_slice())) && written.as_slice() == row.shown.as_slice())
 }
 
 /// How many rows of a file write what they show. The title of each other row is printed.

@@ -1,5 +1,5 @@
 -- What the calls of a session ask of its state and of its seat, and keep.
-use Rattle.std.proofs.Common.{◌≡◌, ◌≤◌, ℕ, inl, inr, Bool, true, false, List, length, Option, Some, None, Result, Ok, Err, OnOk, OnErr, IfOk, IfSome, refl, sym, subst, ◌∙◌, arith}
+use Rattle.std.proofs.Common.{◌≡◌, ◌≤◌, ℕ, inl, inr, Bool, true, false, List, length, Option, Some, None, Result, Ok, Err, OnOk, OnErr, IfSome, refl, sym, subst, ◌∙◌, arith}
 use borrow.Author.Tests.{ltb-true}
 use Rattle.std.proofs.lemmas.List.Sums.{count_by-le-length}
 use Rattle.tx_types.specs.declared.key.Key.{Key}
@@ -63,9 +63,9 @@ came_told bounds g body new given same b = go g.answer given.told
         record { by = y; among = among_on g.events new b (Took y) (subst (λ h. Among h (Took y)) (sym told.tells.ends) (inl refl)); asked = same; told = refl }
 
 -- so does what comes of a send, to whom learns it
-pub came_reached : (bounds : List Key) (r : Reached) (body : Body) (old new : Known) → Learns bounds old r new → IfOk r (IsGiven bounds) → ((g : Given) → r ≡ Ok g → g.request.body ≡ body) → CameSo new.events body (came_of r)
-came_reached bounds (Err l) body old new learns given same = tt
-came_reached bounds (Ok g) body old new learns given same = came_told bounds g body new.events given (same g refl) learns.3
+pub came_reached : (bounds : List Key) (r : Reached) (body : Body) (old new : Known) → Learns bounds old r new → ((g : Given) → r ≡ Ok g → g.request.body ≡ body) → CameSo new.events body (came_of r)
+came_reached bounds (Err l) body old new learns same = tt
+came_reached bounds (Ok g) body old new learns same = came_told bounds g body new.events learns.4 (same g refl) learns.3
 
 -- ---- what the type keeps
 
@@ -89,7 +89,7 @@ asked_seated sends bounds k new s body from to c is a = go a.reached a.learns
   where
     go : (r : Reached) → Learns bounds k r new → IsSeated bounds new s
     go (Err l) same = subst (λ x. IsSeated bounds x s) (sym same) is
-    go (Ok g) (number, ticks, seen, told) = seen_seated bounds k new s is number seen
+    go (Ok g) (number, ticks, seen, told, given) = seen_seated bounds k new s is number seen
 
 -- it drew a start, and recorded that it began there
 pub began_seated : (bounds : List Key) (k mid new : Known) (t : ℕ) → mid.seat ≡ k.seat → HasDrawn bounds k.seat k.events 1 t mid.events → Records bounds mid (Began t) new → IsSeated bounds new (begun t)

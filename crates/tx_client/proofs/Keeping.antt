@@ -4,7 +4,6 @@ use Rattle.tx_types.specs.declared.key.Key.{Key}
 use Rattle.tx_types.specs.declared.mutation.Mutation.{Mutation}
 use Rattle.tx_types.specs.declared.mutation.Mutation.TheVariants as mutation
 use Rattle.tx_plan.specs.declared.answer.Answer.{Answer}
-use Rattle.tx_plan.specs.declared.answer.Answer.TheVariants.{KeyIsLocked}
 use Rattle.tx_plan.specs.declared.body.Body.{Body}
 use Rattle.tx_journal.specs.Known.{Known}
 use Rattle.tx_journal.specs.Replies.{Asked}
@@ -17,8 +16,7 @@ use Rattle.tx_transaction.specs.declared.state.Due.{Due}
 use Rattle.tx_transaction.specs.Buffers.{Entries, keys_of, with_progress, buffered}
 use Rattle.tx_transaction.specs.Sessions.{State, after_came, after_read, with_passed, read_of}
 use Rattle.tx_client.specs.Senders.{Reached, came_of}
-use Rattle.tx_client.specs.Walks.{Sends, handed, due_walk, look_walk, get_by, get_walk}
-use Rattle.tx_transaction.specs.Returns.{returned, read}
+use Rattle.tx_client.specs.Walks.{Sends, due_walk, look_walk, get_by, get_walk}
 use Rattle.tx_client.specs.Calls.{KeepsSet}
 
 pub keeps_itself : (s : State) → KeepsSet s s
@@ -48,22 +46,17 @@ keeps_passed s t false = keeps_itself s
 keeps_passed s t true = record { keys = refl; declared = refl }
 
 module _ {S : Type 0} (sends : S → Asked → Reached → S → Type 0) (bounds : List Key) where
-  handed_same : {R : Type 0} (k new : Known) (from to : S) (s : State) (r : Result R Miss) (c : Came) (x : State × Result R Miss) → Sends sends bounds k from (handed s r c) x to new → x.0 ≡ s
-  handed_same k new from to s r (Said (KeyIsLocked info)) x (inl e) = ap (λ y. y.0) e.0
-  handed_same k new from to s r (Said (KeyIsLocked info)) x (inr e) = ap (λ y. y.0) e.0
-  handed_same k new from to s r _ x e = ap (λ y. y.0) e.0
-
   pub keeps_due : (k new : Known) (from to : S) (s : State) (x : Phase) (due : Option Due) (r : State × Result (Option Answer) Miss) → Sends sends bounds k from (due_walk s x due) r to new → KeepsSet s r.0
   keeps_due k new from to s x None r e = keeps_same s s r.0 (ap (λ y. y.0) e.0) (keeps_itself s)
   keeps_due k new from to s x (Some due) r (inl e) = keeps_same s s r.0 (ap (λ y. y.0) e.0) (keeps_itself s)
-  keeps_due k new from to s x (Some due) r (inr (reached, mid, then, sent, learns, rest)) =
+  keeps_due k new from to s x (Some due) r (inr (reached, mid, then, sent, learns, e)) =
       let c = came_of reached in
-      keeps_same s (after_came s x due.place c) r.0 (handed_same then new mid to (after_came s x due.place c) (returned c) c r rest) (keeps_came s x due.place c)
+      keeps_same s (after_came s x due.place c) r.0 (ap (λ y. y.0) e.0) (keeps_came s x due.place c)
 
   keeps_look : (k new : Known) (from to : S) (s : State) (body : Body) (r : State × Result Answer Miss) → Sends sends bounds k from (look_walk s body) r to new → KeepsSet s r.0
-  keeps_look k new from to s body r (reached, mid, then, sent, learns, rest) =
+  keeps_look k new from to s body r (reached, mid, then, sent, learns, e) =
       let c = came_of reached in
-      keeps_same s (after_read s c) r.0 (handed_same then new mid to (after_read s c) (read c) c r rest) (keeps_read s c)
+      keeps_same s (after_read s c) r.0 (ap (λ y. y.0) e.0) (keeps_read s c)
 
   by_buffer : (k new : Known) (from to : S) (s : State) (key : Key) (o : Option Mutation) (r : State × Result Answer Miss) → Sends sends bounds k from (get_by s key o) r to new → KeepsSet s r.0
   by_buffer k new from to s key (Some (mutation.Put v)) r (inl e) = keeps_same s s r.0 (ap (λ y. y.0) e.0) (keeps_itself s)

@@ -6,7 +6,7 @@ use Rattle.tx_plan.specs.declared.answer.Answer.{Answer}
 use Rattle.tx_core.specs.Histories.{Begins}
 use Rattle.tx_core.specs.Worlds.{Holds}
 use Rattle.tx_journal.specs.Known.{Known, HasSeen}
-use Rattle.tx_journal.specs.Replies.{Asked, Given}
+use Rattle.tx_journal.specs.Replies.{Asked, Given, IsGiven}
 use Rattle.tx_client.specs.declared.sender.Lost.{Lost}
 use Rattle.tx_transaction.specs.declared.state.Came.{Came}
 use Rattle.tx_transaction.specs.declared.state.Came.TheVariants as came
@@ -39,7 +39,10 @@ pub record IsWay {S : Type 0} (bounds : List Key) (fits : S → Asked → Type 0
 abbrev pub LosesNothing : {S : Type 0} → (S → Asked → Reached → S → Type 0) → Type 0
 LosesNothing {S} sends = (a b : S) (q : Asked) (l : Lost) → sends a q (Err l) b → ⊥
 
--- a seat learns what a reply tells, and nothing where none came; it makes no event
+-- a seat learns what a reply tells, which is one that a region gave, and nothing where none came;
+-- it makes no event
 abbrev pub Learns : List Key → Known → Reached → Known → Type 0
 Learns bounds old (Err l) new = new ≡ old
-Learns bounds old (Ok g) new = (new.seat ≡ old.seat) × (new.ticks ≡ old.ticks) × HasSeen bounds old.seat old.events new.events × Begins g.events new.events
+Learns bounds old (Ok g) new =
+    (new.seat ≡ old.seat) × (new.ticks ≡ old.ticks) × HasSeen bounds old.seat old.events new.events
+    × Begins g.events new.events × IsGiven bounds g

@@ -1,5 +1,5 @@
 -- Requests that are sent one after another, by what came of those before.
-use Rattle.std.specs.Prelude.{◌≡◌, ◌⊎◌, not, cond, ℕ, zero, suc, ◌-◌, List, [], ◌∷◌, ◌++◌, length, nat_lt, Option, Some, None, Result, Ok, Err}
+use Rattle.std.specs.Prelude.{◌≡◌, ◌⊎◌, cond, ℕ, zero, suc, ◌-◌, List, [], ◌∷◌, ◌++◌, length, nat_lt, Option, Some, None, Result, Ok, Err}
 use Rattle.tx_types.specs.declared.key.Key.{Key}
 use Rattle.tx_types.specs.declared.mutation.KeyValue.{KeyValue}
 use Rattle.tx_types.specs.declared.mutation.Mutation.{Mutation}
@@ -12,11 +12,10 @@ use Rattle.tx_journal.specs.Known.{Known}
 use Rattle.tx_journal.specs.Replies.{Asked}
 use Rattle.tx_transaction.specs.declared.state.Phase.{Phase}
 use Rattle.tx_transaction.specs.declared.state.Came.{Came}
-use Rattle.tx_transaction.specs.declared.state.Came.TheVariants as came
 use Rattle.tx_client.specs.declared.part.Part.{Part}
 use Rattle.tx_client.specs.declared.part.Part.TheVariants as part
 use Rattle.tx_transaction.specs.declared.state.Miss.{Miss}
-use Rattle.tx_transaction.specs.declared.state.Miss.TheVariants.{NoMemory}
+use Rattle.tx_transaction.specs.declared.state.Miss.TheVariants as miss
 use Rattle.tx_transaction.specs.declared.state.Due.{Due}
 use Rattle.tx_transaction.specs.Buffers.{buffered}
 use Rattle.tx_transaction.specs.Sessions.{State, heartbeat_of, read_of, scan_of, after_came, after_read}
@@ -48,21 +47,18 @@ module _ {S R : Type 0} (sends : S → Asked → Reached → S → Type 0) (boun
   abbrev pub Continues : Known → S → Walk R → Known → S → Walk R → Type 0
   Continues k from w now at left = (result : R) (to : S) (new : Known) → Sends now at left result to new → Sends k from w result to new
 
--- ---- the calls of a session: each comes to the session's state and to what the call answers
+-- ---- the calls of a session: each comes to the session's state and to what the call answers. What it
+-- takes of memory it takes before it sends, so a growth of its own that is refused sends nothing;
+-- but a scan takes memory to join the rows of two regions.
 
 -- memory is refused
 abbrev pub short : {R : Type 0} → State → Walk (State × Result R Miss)
-short s = ends (s, Err NoMemory)
-
--- a lock that an answer names stays with the session, and the caller has a copy
-abbrev pub handed : {R : Type 0} → State → Result R Miss → Came → Walk (State × Result R Miss)
-handed s r (came.Said (answer.KeyIsLocked info)) = grows (ends (s, r)) (short s)
-handed s r _ = ends (s, r)
+short s = ends (s, Err miss.Fault)
 
 -- the request of a phase that is due, if there is one
 abbrev pub due_walk : State → Phase → Option Due → Walk (State × Result (Option Answer) Miss)
 due_walk s x None = ends (s, Ok None)
-due_walk s x (Some due) = grows (asks due.body (λ c. handed (after_came s x due.place c) (returned c) c)) (short s)
+due_walk s x (Some due) = grows (asks due.body (λ c. ends (after_came s x due.place c, returned c))) (short s)
 
 -- a heartbeat changes nothing
 abbrev pub heartbeat_walk : State → ℕ → Walk (State × Result (Option Answer) Miss)
@@ -70,7 +66,7 @@ heartbeat_walk s ttl = grows (asks (heartbeat_of s ttl) (λ c. ends (s, returned
 
 -- a read
 abbrev pub look_walk : State → Body → Walk (State × Result Answer Miss)
-look_walk s body = asks body (λ c. handed (after_read s c) (read c) c)
+look_walk s body = asks body (λ c. ends (after_read s c, read c))
 
 -- the read of a key: what the buffer puts, inserts or deletes is answered from there
 abbrev pub get_by : State → Key → Option Mutation → Walk (State × Result Answer Miss)
@@ -112,7 +108,7 @@ enough limit rows = cond (nat_lt (length rows) limit) (part.More rows) (part.Don
 
 -- a region's rows come after those before it; any other answer is the scan's
 abbrev pub rows_after : State → ℕ → List KeyValue → Answer → Walk (State × Part)
-rows_after s limit rows (answer.Rows found) = grows (ends (s, enough limit (rows ++ found))) (ends (s, part.Done (Err NoMemory)))
+rows_after s limit rows (answer.Rows found) = grows (ends (s, enough limit (rows ++ found))) (ends (s, part.Done (Err miss.Fault)))
 rows_after s limit rows a = ends (s, part.Done (Ok a))
 
 abbrev pub part_after : State → ℕ → List KeyValue → Result Answer Miss → Walk (State × Part)
@@ -124,7 +120,7 @@ look_part s body limit rows = then_walk (look_walk s body) (λ x. part_after x.0
 
 -- what a part comes to by what its read answered
 abbrev pub IsPart : ℕ → List KeyValue → Result Answer Miss → Part → Type 0
-IsPart limit rows (Ok (answer.Rows found)) p = (p ≡ part.Done (Err NoMemory)) ⊎ (p ≡ enough limit (rows ++ found))
+IsPart limit rows (Ok (answer.Rows found)) p = (p ≡ part.Done (Err miss.Fault)) ⊎ (p ≡ enough limit (rows ++ found))
 IsPart limit rows r p = p ≡ part.Done r
 
 -- the part of a range that lies in one region, where it is not empty, with the limit
@@ -133,7 +129,7 @@ abbrev pub part_walk : State → Key → Key → ℕ → List KeyValue → Walk 
 part_walk s from to limit rows =
     grows
     (cond (key_lt from to) (look_part s (scan_of s from to (limit - length rows)) limit rows) (ends (s, part.More rows)))
-    (ends (s, part.Done (Err NoMemory)))
+    (ends (s, part.Done (Err miss.Fault)))
 
 -- what a scan comes to by its next part
 abbrev pub scan_after : State → Part → (State → List KeyValue → Walk (State × Result Answer Miss)) → Walk (State × Result Answer Miss)

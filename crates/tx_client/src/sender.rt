@@ -7,8 +7,9 @@ pub struct Lost;
 /// A way to the regions. It may lose, hold or repeat a request. `Q` is the journal's `Request`,
 /// `R` its `Reply`.
 pub trait Sender<Q, R> {
-    ghost use Rattle.std.specs.Prelude.{◌≡◌, Result, List};
+    ghost use Rattle.std.specs.Prelude.{◌≡◌, ◌<◌, Result, List, length};
     ghost use Rattle.tx_types.specs.declared.key.Key.{Key};
+    ghost use Rattle.tx_journal.specs.Known.{AreRising};
     ghost use Rattle.tx_client.specs.declared.sender.Lost.{Lost};
 
     /// Which requests it takes.
@@ -25,7 +26,9 @@ pub trait Sender<Q, R> {
         requires { fits self.old request }
         ensures { sends self.old request result self.new };
 
-    /// The keys between the regions, rising.
+    /// The keys between the regions: fewer than 1,024, rising.
     fn bounds(&self) -> &[tx_types::Key]
-        ensures { result.now ≡ keys_between self.now };
+        ensures value { result.now ≡ keys_between self.now }
+        ensures rising { AreRising (keys_between self.now) }
+        ensures few { length (keys_between self.now) < 1024 };
 }

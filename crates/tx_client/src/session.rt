@@ -8,7 +8,7 @@ ghost use Rattle.tx_core.specs.Recording.{MayRecord};
 ghost use Rattle.tx_journal.specs.Known.{HasDrawn};
 ghost use Rattle.tx_transaction.specs.declared.state.Phase.TheVariants as phase;
 ghost use Rattle.tx_transaction.specs.Buffers.{touched, put_over, inserted, locked, buffered, not_empty, is_full, is_known};
-ghost use Rattle.tx_transaction.specs.Sessions.{begun, is_declared, has_primary, declaration, declaration_of, exceeds, due_prewrite, due_commit, due_abort, can_draw, can_commit, can_abort};
+ghost use Rattle.tx_transaction.specs.Sessions.{begun, is_declared, has_primary, declaration, declaration_of, exceeds, lock_met, due_prewrite, due_commit, due_abort, can_draw, can_commit, can_abort};
 ghost use Rattle.tx_client.specs.Senders.{IsHeld, IsWay};
 ghost use Rattle.tx_client.specs.Walks.{Sends, due_walk, heartbeat_walk};
 ghost use Rattle.tx_client.specs.Facts.{CameSo, IsFor};
@@ -16,9 +16,10 @@ ghost use Rattle.tx_client.specs.Calls.{seated, HasHeard, BeganAt, Records, Draw
 ghost use Rattle.tx_client.specs.Order.{IsDrawnAfter};
 
 mod ends;
+mod next;
 mod reads;
 
-use crate::asking::ask;
+use crate::asking::{Heard, ask_with_lock};
 use crate::sender::Sender;
 use std::alloc::Global;
 use std::marker::{Brand, Model};
@@ -240,7 +241,7 @@ impl<J: Naming> Session<J> {
         requires { is_declared self.old.state ≡ false }
         ensures ok { OnOk result ((is_full self.old.state.buffer key ≡ false) × (self.new ≡ seated (record self.old.state { buffer = touched self.old.state.buffer key (put_over (buffered self.old.state.buffer key) value) }) self.old.seat)) }
         ensures same { OnErr result (self.new ≡ self.old) }
-        ensures err { IfErr result (λ e. (e ≡ fault.OutOfMemory) ⊎ ((e ≡ fault.TooManyKeys) × (is_full self.old.state.buffer key ≡ true))) }
+        ensures err { IfErr result (λ e. ((e ≡ fault.OutOfMemory) × (is_full self.old.state.buffer key ≡ false)) ⊎ ((e ≡ fault.TooManyKeys) × (is_full self.old.state.buffer key ≡ true))) }
     {
         self.transaction.put(key, value)
     }
@@ -252,7 +253,7 @@ impl<J: Naming> Session<J> {
         requires { is_declared self.old.state ≡ false }
         ensures ok { OnOk result ((is_full self.old.state.buffer key ≡ false) × (inserted self.old.state.buffer key value ≡ Some self.new.state.buffer) × (self.new ≡ seated (record self.old.state { buffer = self.new.state.buffer }) self.old.seat)) }
         ensures same { OnErr result (self.new ≡ self.old) }
-        ensures err { IfErr result (λ e. ((e ≡ fault.OutOfMemory) × (is_some (inserted self.old.state.buffer key value) ≡ true)) ⊎ ((e ≡ fault.TooManyKeys) × (is_full self.old.state.buffer key ≡ true)) ⊎ ((e ≡ fault.AlreadyExists) × (inserted self.old.state.buffer key value ≡ None))) }
+        ensures err { IfErr result (λ e. ((e ≡ fault.OutOfMemory) × (is_some (inserted self.old.state.buffer key value) ≡ true) × (is_full self.old.state.buffer key ≡ false)) ⊎ ((e ≡ fault.TooManyKeys) × (is_full self.old.state.buffer key ≡ true)) ⊎ ((e ≡ fault.AlreadyExists) × (inserted self.old.state.buffer key value ≡ None))) }
     {
         self.transaction.insert(key, value)
     }
@@ -263,7 +264,7 @@ impl<J: Naming> Session<J> {
         requires { is_declared self.old.state ≡ false }
         ensures ok { OnOk result ((is_full self.old.state.buffer key ≡ false) × (self.new ≡ seated (record self.old.state { buffer = touched self.old.state.buffer key Mutation.Delete }) self.old.seat)) }
         ensures same { OnErr result (self.new ≡ self.old) }
-        ensures err { IfErr result (λ e. (e ≡ fault.OutOfMemory) ⊎ ((e ≡ fault.TooManyKeys) × (is_full self.old.state.buffer key ≡ true))) }
+        ensures err { IfErr result (λ e. ((e ≡ fault.OutOfMemory) × (is_full self.old.state.buffer key ≡ false)) ⊎ ((e ≡ fault.TooManyKeys) × (is_full self.old.state.buffer key ≡ true))) }
     {
         self.transaction.touch(key, Mutation::Delete)
     }
@@ -274,7 +275,7 @@ impl<J: Naming> Session<J> {
         requires { is_declared self.old.state ≡ false }
         ensures ok { OnOk result ((is_full self.old.state.buffer key ≡ false) × (self.new ≡ seated (record self.old.state { buffer = locked self.old.state.buffer key }) self.old.seat)) }
         ensures same { OnErr result (self.new ≡ self.old) }
-        ensures err { IfErr result (λ e. (e ≡ fault.OutOfMemory) ⊎ ((e ≡ fault.TooManyKeys) × (is_full self.old.state.buffer key ≡ true))) }
+        ensures err { IfErr result (λ e. ((e ≡ fault.OutOfMemory) × (is_full self.old.state.buffer key ≡ false)) ⊎ ((e ≡ fault.TooManyKeys) × (is_full self.old.state.buffer key ≡ true))) }
     {
         self.transaction.lock(key)
     }
@@ -315,20 +316,22 @@ impl<J: Naming> Session<J> {
 }
 
 impl<J: Naming> Session<J> {
-    // Sends a request, once, and learns what is told.
+    // Sends a request, once, and learns what is told. What comes of it takes no memory of the
+    // session's.
     pub(crate) fn ask<S: Sender<Request<J>, Reply<J>>>(
         &mut self,
         body: Body,
         sender: &mut S,
-    ) -> Came
+    ) -> Heard
         requires way { IsWay J.bounds S.fits S.sends S.keys_between }
         requires held { IsHeld J.bounds body }
         requires allowed { Allowed self.old.seat.events body }
         ensures state { self.new.state ≡ self.old.state }
-        ensures asked { Asks S.sends J.bounds self.old.seat body sender.old sender.new result self.new.seat }
-        ensures told { CameSo self.new.seat.events body result }
+        ensures asked { Asks S.sends J.bounds self.old.seat body sender.old sender.new result.came self.new.seat }
+        ensures told { CameSo self.new.seat.events body result.came }
+        ensures lock { result.lock ≡ lock_met result.came }
     {
-        ask(&mut self.seat, body, sender)
+        ask_with_lock(&mut self.seat, body, sender)
     }
 
     // Sends the request of a phase that is due.
@@ -345,12 +348,13 @@ impl<J: Naming> Session<J> {
         ensures { Sends S.sends J.bounds self.old.seat sender.old (due_walk self.old.state phase (Some due)) (self.new.state, result) sender.new self.new.seat }
     {
         let Due { place, body } = due;
-        let came = self.ask(body, sender);
-        self.transaction.after(phase, place, came)
+        let Heard { came, lock } = self.ask(body, sender);
+        self.transaction.after(phase, place, came, lock)
     }
 
     /// Sends the prewrite that is due: of the first key in buffer order that has no accepted lock.
-    /// None where there is none.
+    /// None where there is none. Memory that is refused to the session itself sends nothing, and
+    /// leaves all as it was.
     pub fn prewrite_next<S: Sender<Request<J>, Reply<J>>>(
         &mut self,
         alloc: Global,
@@ -361,7 +365,7 @@ impl<J: Naming> Session<J> {
         ensures { Sends S.sends J.bounds self.old.seat sender.old (due_walk self.old.state phase.Prewrite (due_prewrite self.old.state)) (self.new.state, result) sender.new self.new.seat }
     {
         match self.transaction.due_prewrite(alloc) {
-            Err(_) => Err(Miss::NoMemory),
+            Err(_) => Err(Miss::Fault),
             Ok(None) => Ok(None),
             Ok(Some(due)) => self.pursue(Phase::Prewrite, due, sender),
         }
@@ -380,7 +384,8 @@ impl<J: Naming> Session<J> {
     }
 
     /// Sends the commit that is due: of the primary at the drawn timestamp, and once the
-    /// transaction is committed of each key in buffer order. None where there is none.
+    /// transaction is committed of each key in buffer order. None where there is none. Memory that
+    /// is refused to the session itself sends nothing, and leaves all as it was.
     pub fn commit_next<S: Sender<Request<J>, Reply<J>>>(
         &mut self,
         sender: &mut S,
@@ -390,14 +395,15 @@ impl<J: Naming> Session<J> {
         ensures { Sends S.sends J.bounds self.old.seat sender.old (due_walk self.old.state phase.Commit (due_commit self.old.state)) (self.new.state, result) sender.new self.new.seat }
     {
         match self.transaction.due_commit() {
-            Err(_) => Err(Miss::NoMemory),
+            Err(_) => Err(Miss::Fault),
             Ok(None) => Ok(None),
             Ok(Some(due)) => self.pursue(Phase::Commit, due, sender),
         }
     }
 
     /// Sends the request of an abort that is due: what may decide, and once the transaction is
-    /// aborted a rollback of each key that was sent a prewrite. None where there is none.
+    /// aborted a rollback of each key that was sent a prewrite. None where there is none. Memory
+    /// that is refused to the session itself sends nothing, and leaves all as it was.
     pub fn abort_next<S: Sender<Request<J>, Reply<J>>>(
         &mut self,
         sender: &mut S,
@@ -407,14 +413,14 @@ impl<J: Naming> Session<J> {
         ensures { Sends S.sends J.bounds self.old.seat sender.old (due_walk self.old.state phase.Abort (due_abort self.old.state)) (self.new.state, result) sender.new self.new.seat }
     {
         match self.transaction.due_abort() {
-            Err(_) => Err(Miss::NoMemory),
+            Err(_) => Err(Miss::Fault),
             Ok(None) => Ok(None),
             Ok(Some(due)) => self.pursue(Phase::Abort, due, sender),
         }
     }
 
-    /// Asks that the primary's lock live so long after the start, in ticks. It changes
-    /// nothing of the session.
+    /// Asks that the primary's lock live so long after the start, in ticks. It changes nothing of
+    /// the session. Memory that is refused to the session itself sends nothing.
     pub fn heartbeat<S: Sender<Request<J>, Reply<J>>>(
         &mut self,
         ttl: u32,
@@ -425,11 +431,12 @@ impl<J: Naming> Session<J> {
         ensures { Sends S.sends J.bounds self.old.seat sender.old (heartbeat_walk self.old.state ttl) (self.new.state, result) sender.new self.new.seat }
     {
         let Ok(body) = self.transaction.heartbeat(ttl) else {
-            return Err(Miss::NoMemory);
+            return Err(Miss::Fault);
         };
-        match self.ask(body, sender) {
-            Came::Lost => Err(Miss::NoReply),
-            Came::Unsaid => Err(Miss::NoMemory),
+        let Heard { came, lock: _ } = self.ask(body, sender);
+        match came {
+            Came::Lost => Err(Miss::Lost),
+            Came::Unsaid => Err(Miss::Fault),
             Came::Said(answer) => Ok(Some(answer)),
         }
     }

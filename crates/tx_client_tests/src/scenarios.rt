@@ -6,6 +6,7 @@ mod asynchronous;
 mod inserts;
 mod limits;
 mod reads;
+mod refusals;
 mod two_phases;
 mod unknown;
 

@@ -1,4 +1,5 @@
 //! The commands of the program, and what a command line asks for.
+use crate::cells::{Cells, cells_of, cells_option};
 use crate::help;
 use clap::builder::ValueParser;
 use clap::{Arg, ArgAction, ArgMatches, Command, Error};
@@ -21,42 +22,45 @@ pub enum Task {
     Check,
 }
 
-/// What the command line asks for: a task, and the file that it reads. Where there is none it reads
-/// standard input.
+/// What the command line asks for.
 #[derive(Clone, Copy, Debug, PartialEq, Eq)]
 pub struct Job<'a> {
     pub task: Task,
+    /// The families that the regions of a script have.
+    pub cells: Cells,
+    /// Whether what a run came to is told on standard error.
+    pub has_stats: bool,
+    /// The file that it reads; None is standard input.
     pub file: Option<&'a str>,
+}
+
+// What the command of this name does, by its options.
+fn task_of(name: &str, asked: &ArgMatches<'_>) -> Task {
+    match name {
+        "run" => Task::Run(
+            asked.get_one::<usize>("workers").unwrap_or(1),
+            asked.get_one::<u64>("gc-life-time"),
+        ),
+        "simulate" if asked.get_flag("check") => Task::SimulateChecked,
+        "simulate" if asked.get_flag("steps") => Task::SimulateSteps,
+        "simulate" => Task::Simulate,
+        _ => Task::Check,
+    }
 }
 
 /// The job of a command line that was read.
 pub fn job_of<'a>(matches: &ArgMatches<'a>) -> Job<'a> {
     match matches.subcommand() {
-        Some(("run", asked)) => Job {
-            task: Task::Run(
-                asked.get_one::<usize>("workers").unwrap_or(1),
-                asked.get_one::<u64>("gc-life-time"),
-            ),
-            file: file_of(asked),
-        },
-        Some(("simulate", asked)) if asked.get_flag("check") => Job {
-            task: Task::SimulateChecked,
-            file: file_of(asked),
-        },
-        Some(("simulate", asked)) if asked.get_flag("steps") => Job {
-            task: Task::SimulateSteps,
-            file: file_of(asked),
-        },
-        Some(("simulate", asked)) => Job {
-            task: Task::Simulate,
-            file: file_of(asked),
-        },
-        Some((_, asked)) => Job {
-            task: Task::Check,
+        Some((name, asked)) => Job {
+            task: task_of(name, asked),
+            cells: cells_of(asked),
+            has_stats: asked.get_flag("stats"),
             file: file_of(asked),
         },
         None => Job {
             task: Task::Check,
+            cells: Cells::Flat,
+            has_stats: false,
             file: None,
         },
     }
@@ -97,6 +101,7 @@ fn simulate<'a>(alloc: Global) -> Result<Command<'a>, Error> {
         .after_help(help::SIMULATE_HELP)
         .arg(checked)?
         .arg(steps)?
+        .arg(cells_option(alloc))?
         .arg(file(alloc))?;
     Ok(command)
 }
@@ -115,11 +120,17 @@ fn run<'a>(alloc: Global) -> Result<Command<'a>, Error> {
             "Collects meanwhile what is out of date for so many ticks; without it nothing is collected",
         )
         .value_parser(ValueParser::Unsigned(1, MAX_LIFE_TIME));
+    let stats = Arg::new(alloc, "stats")
+        .long("stats")
+        .action(ArgAction::SetTrue)
+        .help("Tells on standard error what the run came to, and how long it took");
     let command = Command::new(alloc, "run")
         .about(help::RUN_ABOUT)
         .after_help(help::RUN_HELP)
         .arg(workers)?
         .arg(life_time)?
+        .arg(stats)?
+        .arg(cells_option(alloc))?
         .arg(file(alloc))?;
     Ok(command)
 }

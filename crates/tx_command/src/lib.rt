@@ -3,23 +3,31 @@
 //! status and the warning with which the program ends.
 #![tactic(auto)]
 
+mod cells;
 mod commands;
 mod faults;
 mod form;
 mod help;
 mod live;
 mod member;
+mod progress;
 mod reasons;
 mod recent;
 mod show;
+mod shown;
 mod state;
+mod stats;
 mod status;
 mod steps;
 
+pub use cells::{Cells, cells_of, cells_option};
 pub use commands::{Job, Task, job_of, parse};
 pub use faults::{Noted, Noting, fault_in};
 pub use live::{Asking, Shared};
+pub use progress::{Counted, Erasing, Progress};
 pub use reasons::{reason, why};
 pub use recent::Recent;
+pub use shown::{Shown, Terminals, shown_at};
+pub use stats::Stats;
 pub use status::{message_of, status_of};
 pub use steps::Steps;

@@ -40,12 +40,12 @@ impl<W: Write> Write for Shared<'_, W> {
 pub struct Asking<'a, R, W, E> {
     reader: R,
     written: Shared<'a, W>,
-    terminal: Option<&'a E>,
+    terminal: Option<E>,
     is_cut_off: bool,
 }
 
 impl<'a, R, W, E> Asking<'a, R, W, E> {
-    pub fn new(reader: R, written: Shared<'a, W>, terminal: Option<&'a E>) -> Asking<'a, R, W, E> {
+    pub fn new(reader: R, written: Shared<'a, W>, terminal: Option<E>) -> Asking<'a, R, W, E> {
         Asking {
             reader,
             written,
@@ -68,7 +68,7 @@ impl<R: Read, W: Write, E: Eprint> Read for Asking<'_, R, W, E> {
             self.is_cut_off = true;
             return Err(error);
         }
-        if let Some(terminal) = self.terminal {
+        if let Some(terminal) = &self.terminal {
             terminal.eprint("> ")?;
         }
         self.reader.read(buf)

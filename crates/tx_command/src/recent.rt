@@ -84,7 +84,10 @@ impl<R> Recent<R> {
 impl<R: Read> Read for Recent<R> {
     fn read(&mut self, buf: &mut [u8]) -> io::Result<usize> {
         let len = self.reader.read(buf)?;
-        self.keep(&buf[..len]);
+        // At the end of input what was read last stays.
+        if len > 0 {
+            self.keep(&buf[..len]);
+        }
         Ok(len)
     }
 }

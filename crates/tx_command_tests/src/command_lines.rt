@@ -2,7 +2,7 @@
 use clap::error::ErrorKind;
 use std::alloc::Global;
 use std::test::Fail;
-use tx_command::{Job, Task, job_of, message_of, parse, status_of};
+use tx_command::{Cells, Job, Task, job_of, message_of, parse, status_of};
 use tx_lines::{Broken, End};
 
 // The words of a command line, the first of which is the program as a shell names it.
@@ -47,7 +47,49 @@ fn command_lines_say_jobs(rt: HostRuntime) -> Result<(), Fail> {
     for (line, task, file) in JOBS {
         let words = words_of(rt.alloc(), line)?;
         let matches = parse(rt.alloc(), words.as_slice())?;
-        assert_eq!(rt; job_of(&matches), Job { task, file }, "{line}");
+        let job = Job {
+            task,
+            cells: Cells::Flat,
+            has_stats: false,
+            file,
+        };
+        assert_eq!(rt; job_of(&matches), job, "{line}");
+    }
+    Ok(())
+}
+
+// Command lines, and the families that they ask for.
+static CELLS: [(&str, Cells); 5] = [
+    ("simulate --cells flat", Cells::Flat),
+    ("simulate --cells nested", Cells::Nested),
+    ("simulate --cells=nested --check a", Cells::Nested),
+    ("run --workers 2 --cells nested", Cells::Nested),
+    ("run --cells flat --workers 2 a", Cells::Flat),
+];
+
+// Whether a command line asks for what the run came to.
+static STATS: [(&str, bool); 3] = [
+    ("run --workers 2", false),
+    ("run --workers 2 --stats", true),
+    ("run --stats --workers 2 a", true),
+];
+
+#[test]
+fn command_lines_ask_for_stats(rt: HostRuntime) -> Result<(), Fail> {
+    for (line, has_stats) in STATS {
+        let words = words_of(rt.alloc(), line)?;
+        let matches = parse(rt.alloc(), words.as_slice())?;
+        assert_eq!(rt; job_of(&matches).has_stats, has_stats, "{line}");
+    }
+    Ok(())
+}
+
+#[test]
+fn command_lines_say_families(rt: HostRuntime) -> Result<(), Fail> {
+    for (line, cells) in CELLS {
+        let words = words_of(rt.alloc(), line)?;
+        let matches = parse(rt.alloc(), words.as_slice())?;
+        assert_eq!(rt; job_of(&matches).cells, cells, "{line}");
     }
     Ok(())
 }
@@ -168,9 +210,11 @@ Arguments:
   [FILE]  The file to read; - or nothing is standard input
 
 Options:
-      --check  Writes the machine's steps of the run after its replies, and that they are one
-      --steps  Writes the machine's steps of the run alone, as a trace for txkv check
-  -h, --help   Print help
+      -- check Writes the machine's steps of the run after its replies, and that they are one steps
+      -- Writes the machine's steps of the run alone, as a trace for txkv check cells <KIND> How the
+      -- regions keep what they hold; the replies are the same [default: flat] [possible values:
+      -- flat, nested]
+  -h, --help          Print help
 
 A script has one step a line, each a JSON array; s names a session, D is a delivery:
 ";
@@ -183,8 +227,10 @@ Arguments:
   [FILE]  The file to read; - or nothing is standard input
 
 Options:
-      --workers <N>           How many threads make steps, 1 to 64
-      --gc-life-time <TICKS>  Collects meanwhile what is out of date for so many ticks; without it nothing is collected
+      -- workers <N> How many threads make steps, 1 to 64 gc-life-time <TICKS> Collects meanwhile
+      -- what is out of date for so many ticks; without it nothing is collected stats Tells on
+      -- standard error what the run came to, and how long it took cells <KIND> How the regions keep
+      -- what they hold; the replies are the same [default: flat] [possible values: flat, nested]
   -h, --help                  Print help
 
 The script is read whole. Its seeds run in the order of their lines, and then the lines of each session in theirs,

@@ -6,4 +6,6 @@ mod command_lines;
 #[cfg(test)]
 mod sentences;
 #[cfg(test)]
+mod shown;
+#[cfg(test)]
 mod streams;

@@ -4,7 +4,9 @@ use std::fmt::Display;
 use std::io;
 use std::io::{BufReader, ErrorKind, Read, Write};
 use std::test::Fail;
-use tx_command::{Asking, Noted, Noting, Recent, Shared, Steps, fault_in};
+use tx_command::{
+    Asking, Counted, Erasing, Noted, Noting, Progress, Recent, Shared, Steps, fault_in,
+};
 use tx_lines::{Found, read_line};
 use tx_types::Cause;
 
@@ -100,6 +102,22 @@ fn what_was_written_is_handed_on_before_a_read(rt: HostRuntime) -> Result<(), Fa
         assert_eq!(rt; terminal.prompts.get(), round);
     }
     assert!(rt; !asking.is_cut_off());
+    Ok(())
+}
+
+// Neither what counts lines nor what takes the progress away changes what goes through it.
+#[test]
+fn lines_are_counted_on_their_way(rt: HostRuntime) -> Result<(), Fail> {
+    let progress = Progress::new(rt, false);
+    let mut counted = Counted::new(b"a\nb".as_slice(), &progress);
+    let mut buf = [0u8; 8];
+    let len = counted.read(&mut buf)?;
+    assert_eq!(rt; &buf[..len], b"a\nb".as_slice());
+    let mut text = Vec::new(rt.alloc());
+    let mut erasing = Erasing::new(&mut text, &progress);
+    erasing.write_all(b"reply")?;
+    erasing.flush()?;
+    assert_eq!(rt; text.as_slice(), b"reply".as_slice());
     Ok(())
 }
 

@@ -7,10 +7,10 @@ use std::marker::Model;
 use tx_types::{Key, Ts};
 
 /// How many timestamps are kept: keys share one where their last two bytes lead to one place.
-const PLACES: usize = 64;
+pub(crate) const PLACES: usize = 64;
 
-// The place of a key, by its last two bytes, in which numbered keys differ.
-fn place(key: &Key) -> usize
+/// The place of a key, by its last two bytes, in which numbered keys differ.
+pub(crate) fn place(key: &Key) -> usize
     ensures place { result ≡ place_of key.now }
     ensures within { result < PLACES }
 {

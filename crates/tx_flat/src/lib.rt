@@ -10,6 +10,7 @@ ghost use Rattle.tx_flat.specs.Ceilings.{ceiling_of};
 ghost use Rattle.tx_cells.specs.Contents.{IsWhole};
 
 use ceilings::Ceilings;
+use numbers::Numbers;
 use std::alloc::Global;
 use std::collections::BTreeMap;
 use tx_encoded::{KeyBytes, LockBytes, VersionBytes, WriteBytes};
@@ -42,7 +43,7 @@ pub struct FlatCells {
     writes: BTreeMap<VersionBytes, WriteBytes>,
     values: BTreeMap<VersionBytes, Value>,
     ceilings: Ceilings,
-    numbers: BTreeMap<KeyBytes, u64>,
+    numbers: Numbers,
     ghost whole: { ∥ ((key : List ℕ) → IsWhole (record { lock = tree.get (slice_cmp nat_cmp) locks key; write = λ c. tree.get version_cmp writes (key, c); value = λ t. tree.get version_cmp values (key, t) })) ∥₁ },
     ghost bounded: { ∥ ((key : List ℕ) (q : ℕ) → ceiling_of ceilings key < q → tree.get version_cmp writes (key, q) ≡ None) ∥₁ },
 }
@@ -60,7 +61,7 @@ impl FlatCells {
             writes: BTreeMap::new(alloc),
             values: BTreeMap::new(alloc),
             ceilings: Ceilings::new(),
-            numbers: BTreeMap::new(alloc),
+            numbers: Vec::new(alloc),
         }
     }
 }

@@ -1,6 +1,6 @@
 //! The number that is noted of each key. It is noted before the change, so that only its growth may
 //! be refused, and noted back where the change is refused.
-ghost use Rattle.std.specs.Prelude.{◌≡◌, IsSome, IfOk, IfErr, OnOk, OnErr, Some};
+ghost use Rattle.std.specs.Prelude.{◌≡◌, ◌≤◌, length, IsSome, IfOk, IfErr, OnOk, OnErr, Some};
 ghost use Rattle.std.specs.BTreeMap as tree;
 ghost use Rattle.std.specs.Ordering.{nat_cmp};
 ghost use Rattle.std.specs.Cmp.Lexicographic.{slice_cmp};
@@ -9,32 +9,54 @@ ghost use Rattle.tx_plan.specs.Changes.{Applies, CanPut, after_put, changed};
 ghost use Rattle.tx_cells.specs.Contents.{cells_of};
 ghost use Rattle.tx_cells.specs.Afterwards.{OnlyOn, after, put_on};
 ghost use Rattle.tx_cells.specs.Numbers.{noted, noted_by};
-ghost use Rattle.tx_flat.specs.Numbered.{numbers_in};
+ghost use Rattle.tx_flat.specs.Ceilings.{place_of};
+ghost use Rattle.tx_flat.specs.Numbered.{numbers_in, numbers_among, IsNoted};
+ghost use Rattle.tx_flat.specs.declared.ceilings.TheConstants.{PLACES};
 
 use crate::FlatCells;
+use crate::ceilings::{PLACES, place};
 use std::alloc::Global;
 use std::collections::BTreeMap;
 use tx_encoded::KeyBytes;
 use tx_plan::{KeyChange, NewLock, Prewrite};
 use tx_types::{Fault, Key};
 
-/// A key of which a number was noted, and the number before it.
+/// The numbers of keys. Keys share a map by the places of their ceilings, so that each map is
+/// small.
+pub(crate) type Numbers = Vec<BTreeMap<KeyBytes, u64>>;
+
+// Makes the maps, where they are not made yet.
+fn open(numbers: &mut Numbers, alloc: Global) -> Result<(), Fault>
+    ensures same { (k : Key) → numbers_among numbers.new.items k ≡ numbers_among numbers.old.items k }
+    ensures open { OnOk result (PLACES ≤ length numbers.new.items) }
+    ensures err { IfErr result (λ e. e ≡ Fault.OutOfMemory) }
+{
+    'places: while numbers.len() < PLACES {
+        numbers.push(BTreeMap::new(alloc))?;
+    }
+    Ok(())
+}
+
+/// A key of which a number was noted, its place, and the number before it.
 #[derive(Drop)]
 struct Earlier {
+    place: usize,
     key: KeyBytes,
     before: u64,
 }
 
-// Notes a number of a key.
-fn note(
+// Notes a number of a key in the map of this place.
+fn note_in(
     numbers: &mut BTreeMap<KeyBytes, u64>,
     alloc: Global,
+    place: usize,
     key: &Key,
     number: u64,
 ) -> Result<Earlier, Fault>
     ensures noted { OnOk result ((k : Key) → numbers_in numbers.new k ≡ noted (numbers_in numbers.old) key.now number k) }
     ensures before { IfOk result (λ x. (x.key ≡ key.now) × (x.before ≡ numbers_in numbers.old key.now)) }
-    ensures there { IfOk result (λ x. IsSome (tree.get (slice_cmp nat_cmp) numbers.new x.key)) }
+    ensures there { OnOk result (IsSome (tree.get (slice_cmp nat_cmp) numbers.new key.now)) }
+    ensures place { IfOk result (λ x. x.place ≡ place) }
     ensures same { OnErr result ((k : Key) → numbers_in numbers.new k ≡ numbers_in numbers.old k) }
     ensures err { IfErr result (λ e. e ≡ Fault.OutOfMemory) }
 {
@@ -42,19 +64,41 @@ fn note(
     let again = KeyBytes::new(alloc, key)?;
     let before = numbers.insert(spelt, number)?;
     Ok(Earlier {
+        place,
         key: again,
         before: before.unwrap_or(0),
     })
 }
 
-// Notes the number before it, where a number was noted.
-fn note_back(numbers: &mut BTreeMap<KeyBytes, u64>, earlier: Earlier)
-    requires { IsSome (tree.get (slice_cmp nat_cmp) numbers.old earlier.key) }
-    ensures { (k : Key) → numbers_in numbers.new k ≡ noted (numbers_in numbers.old) earlier.key earlier.before k }
+// Notes a number of a key.
+fn note(numbers: &mut Numbers, alloc: Global, key: &Key, number: u64) -> Result<Earlier, Fault>
+    ensures noted { OnOk result ((k : Key) → numbers_among numbers.new.items k ≡ noted (numbers_among numbers.old.items) key.now number k) }
+    ensures before { IfOk result (λ x. (x.key ≡ key.now) × (x.before ≡ numbers_among numbers.old.items key.now)) }
+    ensures there { IfOk result (λ x. IsNoted numbers.new.items x.place x.key) }
+    ensures same { OnErr result ((k : Key) → numbers_among numbers.new.items k ≡ numbers_among numbers.old.items k) }
+    ensures err { IfErr result (λ e. e ≡ Fault.OutOfMemory) }
 {
-    if let Some(number) = numbers.get_mut(&earlier.key) {
-        *number = earlier.before;
+    open(numbers, alloc)?;
+    let at = place(key);
+    note_in(&mut numbers[at], alloc, at, key, number)
+}
+
+// Notes the number before it of a key of which one was noted.
+fn note_back_in(numbers: &mut BTreeMap<KeyBytes, u64>, key: &KeyBytes, before: u64)
+    requires { IsSome (tree.get (slice_cmp nat_cmp) numbers.old key.now) }
+    ensures { (k : Key) → numbers_in numbers.new k ≡ noted (numbers_in numbers.old) key.now before k }
+{
+    if let Some(number) = numbers.get_mut(key) {
+        *number = before;
     }
+}
+
+// Notes the number before it, where a number was noted.
+fn note_back(numbers: &mut Numbers, earlier: Earlier)
+    requires { IsNoted numbers.old.items earlier.place earlier.key }
+    ensures { (k : Key) → numbers_among numbers.new.items k ≡ noted (numbers_among numbers.old.items) earlier.key earlier.before k }
+{
+    note_back_in(&mut numbers[earlier.place], &earlier.key, earlier.before);
 }
 
 impl FlatCells {
@@ -66,8 +110,12 @@ impl FlatCells {
         ensures number { IfOk result (λ number. number ≡ flat_numbers self.now key.now) }
         ensures err { IfErr result (λ e. e ≡ Fault.OutOfMemory) }
     {
+        let place = place(key);
+        if self.numbers.len() <= place {
+            return Ok(0);
+        }
         let spelt = KeyBytes::new(alloc, key)?;
-        match self.numbers.get(&spelt) {
+        match self.numbers[place].get(&spelt) {
             Some(number) => Ok(*number),
             None => Ok(0),
         }

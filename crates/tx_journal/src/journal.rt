@@ -123,7 +123,7 @@ pub struct Journal<J: Naming> {
 }
 
 impl<J: Naming> Model for Journal<J> {
-    ghost use Rattle.std.specs.Prelude.{◌≡◌, List};
+    ghost use Rattle.std.specs.Prelude.{◌≡◌, ◌<◌, List, length};
     ghost use Rattle.std.specs.Arc.{arc_value};
     ghost use Rattle.tx_types.specs.declared.key.Key.{Key};
     ghost use Rattle.tx_journal.specs.Known.{AreRising};
@@ -132,14 +132,15 @@ impl<J: Naming> Model for Journal<J> {
 
     ghost view = { λ j. (arc_value j.bounds).items };
 
-    ghost invariant = { λ j. ((arc_value j.bounds).items ≡ J.bounds) × AreRising J.bounds };
+    ghost invariant = { λ j. ((arc_value j.bounds).items ≡ J.bounds) × AreRising J.bounds × (length J.bounds < 1024) };
 }
 
 impl<J: Naming> Journal<J> {
-    /// The keys between its regions, rising.
+    /// The keys between its regions: fewer than 1,024, rising.
     pub fn bounds(&self) -> &[Key]
         ensures value { result.now ≡ J.bounds }
         ensures rising { AreRising J.bounds }
+        ensures few { length J.bounds < 1024 }
     {
         self.bounds.as_slice()
     }
@@ -159,9 +160,11 @@ impl<J: Naming> Journal<J> {
 
 impl Opened {
     /// The journal under its name, and its seats: those of the regions first, in their order, then
-    /// those for sessions. Each knows of no event, and may draw 2^32 ticks.
+    /// those for sessions. Each knows of no event, and may draw 2^32 ticks. There is a seat for
+    /// each region at least.
     pub fn named<J: Naming>(self, alloc: Global) -> Result<(Journal<J>, Vec<Seat<J>>), Fault>
         requires { (self.table ≡ J.table) × (self.bounds ≡ J.bounds) × (self.seats ≡ J.seats) }
+        ensures room { length J.bounds < J.seats }
         ensures count { IfOk result (λ r. vec_len r.1 ≡ J.seats) }
         ensures seats { IfOk result (λ r. (k : ℕ) → k < J.seats → slice_get r.1.items k ≡ Some (known k 4294967296 [])) }
         ensures err { IfErr result (λ e. e ≡ fault.OutOfMemory) }

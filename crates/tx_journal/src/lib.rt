@@ -23,6 +23,7 @@
 //! `Told` owns no memory.
 #![tactic(auto)]
 
+mod answer_with_lock;
 mod journal;
 mod reply;
 mod request;
@@ -30,6 +31,7 @@ mod seat;
 mod told;
 mod view;
 
+pub use answer_with_lock::AnswerWithLock;
 pub use journal::{Journal, Opened};
 pub use reply::Reply;
 pub use request::Request;

@@ -12,7 +12,7 @@ use std::process::Abort;
 use std::test::Fail;
 use std::thread::{Threads, join, map_vec};
 use tx_core::{Answer, Body, Event, Get, RaiseSafe, RegionNo, Starts, Taken};
-use tx_journal::{Journal, Naming, Opened, Reply, Request, Seat, Told, Unnamed};
+use tx_journal::{AnswerWithLock, Journal, Naming, Opened, Reply, Request, Seat, Told, Unnamed};
 use tx_types::{Key, Ts};
 
 mod senders;
@@ -215,7 +215,8 @@ fn raise<J: Naming>(region: &mut Seat<J>, request: Request<J>, copy: Request<J>)
     });
     region.record(&event);
     drop(event);
-    Reply::new(request, Some(Answer::Raised), region.tell())
+    let answer = AnswerWithLock::unlocked(Answer::Raised);
+    Reply::new(request, Some(answer), region.tell())
 }
 
 // A session hears a reply: whether it has an answer.

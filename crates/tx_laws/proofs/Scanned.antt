@@ -20,14 +20,14 @@ use Rattle.tx_journal.specs.Replies.{Asked, Given}
 use Rattle.tx_transaction.specs.declared.state.Came.{Came}
 use Rattle.tx_transaction.specs.declared.state.Came.TheVariants as came
 use Rattle.tx_transaction.specs.declared.state.Miss.{Miss}
-use Rattle.tx_transaction.specs.declared.state.Miss.TheVariants.{NoMemory}
+use Rattle.tx_transaction.specs.declared.state.Miss.TheVariants as miss
 use Rattle.tx_transaction.specs.Sessions.{State, scan_of, after_read}
 use Rattle.tx_transaction.specs.Returns.{read}
-use Rattle.tx_client.specs.Senders.{Reached, came_by, came_of, Learns}
-use Rattle.tx_client.specs.Walks.{Walk, asks, grows, ends, then_walk, Sends, handed, look_part, part_after, part_walk, enough, scan_after, scan_from, scan_walk, lesser, greater}
+use Rattle.tx_client.specs.Senders.{Reached, came_by, came_of, IsWay, Learns}
+use Rattle.tx_client.specs.Walks.{Walk, asks, grows, ends, then_walk, Sends, look_part, part_after, part_walk, enough, scan_after, scan_from, scan_walk, lesser, greater}
 use Rattle.tx_client.specs.Facts.{WasAnswered, CameSo}
 use Rattle.tx_client.proofs.Calling.{came_told}
-use Rattle.tx_laws.specs.Scans.{GivesReplies, scan_at, SeesWhole}
+use Rattle.tx_laws.specs.Scans.{scan_at, SeesWhole}
 use Rattle.tx_laws.proofs.Standing.{rows_seen}
 use Rattle.tx_laws.proofs.Joining.{Has, SoFar, none_yet, all_seen, passed_by, joined_more, joined_full}
 
@@ -103,6 +103,10 @@ missed_end after t all why e =
 rows_end : (after t : State) (all rows : List KeyValue) → ◌≡◌ {A = State × Result Answer Miss} (after, Ok (answer.Rows all)) (t, Ok (answer.Rows rows)) → all ≡ rows
 rows_end after t all rows e = ap (λ (x : State × Result Answer Miss). rows_in (answered x.1)) e
 
+-- an answer is to the request that was sent
+abbrev AnswersAsked : {S : Type 0} → (S → Asked → Reached → S → Type 0) → Type 0
+AnswersAsked {S} sends = (a b : S) (q : Asked) (g : Given) → sends a q (Ok g) b → g.request ≡ q
+
 module _ {S : Type 0} (sends : S → Asked → Reached → S → Type 0) (bounds : List Key) where
   -- what a seat learns begins with what it knew
   learnt : (k new : Known) (reached : Reached) → Learns bounds k reached new → Begins k.events new.events
@@ -115,7 +119,7 @@ module _ {S : Type 0} (sends : S → Asked → Reached → S → Type 0) (bounds
   later (asks body more) r k new a b (reached, mid, then_known, sent, learns, rest) =
       begins_more k.events then_known.events new.events (learnt k then_known reached learns) (later (more (came_of reached)) r then_known new mid b rest)
 
-  module _ (gives : GivesReplies bounds sends) (k new : Known) (a b : S) (s after : State) (low high : Key) (limit : ℕ) (rows all : List KeyValue) (on : State → List KeyValue → Walk (State × Result Answer Miss)) where
+  module _ (to_it : AnswersAsked sends) (k new : Known) (a b : S) (s after : State) (low high : Key) (limit : ℕ) (rows all : List KeyValue) (on : State → List KeyValue → Walk (State × Result Answer Miss)) where
     -- the read of the part
     abbrev asked : Body
     asked = scan_of s low high (limit - length rows)
@@ -130,7 +134,7 @@ module _ {S : Type 0} (sends : S → Asked → Reached → S → Type 0) (bounds
 
     -- what follows of what came
     abbrev follows : Came → Walk (State × Result Answer Miss)
-    follows c = then_walk (then_walk (handed (after_read s c) (read c) c) (λ x. part_after x.0 limit rows x.1)) (λ x. scan_after x.0 x.1 on)
+    follows c = then_walk (part_after (after_read s c) limit rows (read c)) (λ x. scan_after x.0 x.1 on)
 
     joined : (then_known : Known) (mid : S) (found : List KeyValue) (t : State) → t.start ≡ s.start → WasAnswered then_known.events asked (answer.Rows found)
         → Sends sends bounds then_known mid (scan_after t (enough limit (rows ++ found)) on) (after, Ok (answer.Rows all)) b new → PartGives
@@ -143,31 +147,26 @@ module _ {S : Type 0} (sends : S → Asked → Reached → S → Type 0) (bounds
 
     by_answer : (then_known : Known) (mid : S) (x : Answer) → WasAnswered then_known.events asked x → Sends sends bounds then_known mid (follows (came.Said x)) (after, Ok (answer.Rows all)) b new → PartGives
     by_answer then_known mid (answer.Rows found) told sent = elim sent [
-      | inl short ↦ absurd (missed_end after (after_read s (came.Said (answer.Rows found))) all NoMemory short.0)
+      | inl short ↦ absurd (missed_end after (after_read s (came.Said (answer.Rows found))) all miss.Fault short.0)
       | inr more ↦ joined then_known mid found (after_read s (came.Said (answer.Rows found))) refl told more
-    ]
-    by_answer then_known mid (answer.KeyIsLocked info) told sent = elim sent [
-      | inl short ↦ absurd (missed_end after (after_read s (came.Said (answer.KeyIsLocked info))) all NoMemory short.0)
-      | inr more ↦ absurd (other_end after (after_read s (came.Said (answer.KeyIsLocked info))) all (answer.KeyIsLocked info) refl more.0)
     ]
     by_answer then_known mid x told sent = absurd (other_end after (after_read s (came.Said x)) all x refl sent.0)
 
     by_reply : (then_known : Known) (mid : S) (o : Option Answer) → CameSo then_known.events asked (came_by o) → Sends sends bounds then_known mid (follows (came_by o)) (after, Ok (answer.Rows all)) b new → PartGives
-    by_reply then_known mid None told sent = absurd (missed_end after s all NoMemory sent.0)
+    by_reply then_known mid None told sent = absurd (missed_end after s all miss.Fault sent.0)
     by_reply then_known mid (Some x) told sent = by_answer then_known mid x told sent
 
     by_reached : (then_known : Known) (mid : S) (reached : Reached) → sends a (record { by = k.events; body = asked }) reached mid → Learns bounds k reached then_known → Sends sends bounds then_known mid (follows (came_of reached)) (after, Ok (answer.Rows all)) b new → PartGives
     by_reached then_known mid (Err l) sent learns rest = absurd (missed_end after s all _ rest.0)
     by_reached then_known mid (Ok g) sent learns rest =
-        let given = gives a mid (record { by = k.events; body = asked }) g sent in
-        by_reply then_known mid g.answer (came_told bounds g asked then_known.events given.1 (ap (λ (q : Asked). q.body) given.0) learns.3) rest
+        by_reply then_known mid g.answer (came_told bounds g asked then_known.events learns.4 (ap (λ (q : Asked). q.body) (to_it a mid (record { by = k.events; body = asked }) g sent)) learns.3) rest
 
     by_part : (sent : Sends sends bounds k a (then_walk (look_part s asked limit rows) (λ x. scan_after x.0 x.1 on)) (after, Ok (answer.Rows all)) b new) → PartGives
     by_part (reached, mid, then_known, sent, learns, rest) = by_reached then_known mid reached sent learns rest
 
     pub part_gives : Sends sends bounds k a (then_walk (part_walk s low high limit rows) (λ x. scan_after x.0 x.1 on)) (after, Ok (answer.Rows all)) b new → PartGives
     part_gives sent = elim sent [
-      | inl short ↦ absurd (missed_end after s all NoMemory short.0)
+      | inl short ↦ absurd (missed_end after s all miss.Fault short.0)
       | inr more ↦ elim (cases_Bool (key_lt low high)) [
         | inl some ↦ by_part (let read : Sends sends bounds k a (then_walk (look_part s asked limit rows) (λ x. scan_after x.0 x.1 on)) (after, Ok (answer.Rows all)) b new = rw some at more in read)
         | inr none ↦ Empty none (let rest : Sends sends bounds k a (on s rows) (after, Ok (answer.Rows all)) b new = rw none at more in rest)
@@ -180,7 +179,7 @@ rising_rest : (b : Key) (bs : List Key) → AreRising (b ∷ bs) → AreRising b
 rising_rest b [] r = tt
 rising_rest b (c ∷ cs) r = r.1
 
-module _ {S : Type 0} (sends : S → Asked → Reached → S → Type 0) (bounds : List Key) (gives : GivesReplies bounds sends)
+module _ {S : Type 0} (sends : S → Asked → Reached → S → Type 0) (bounds : List Key) (to_it : AnswersAsked sends)
     (h : History) (run : IsWorldRun bounds h) (new : Known) (goes : Begins new.events h) (b : S) (after : State)
     (start : ℕ) (from to : Key) (limit : ℕ) (all : List KeyValue) where
   abbrev Whole : Type 0
@@ -224,7 +223,7 @@ module _ {S : Type 0} (sends : S → Asked → Reached → S → Type 0) (bounds
 
   -- the last part
   last_part : (low : Key) (s : State) → s.start ≡ start → (rows : List KeyValue) → Upto (Below low) rows → (k : Known) (a : S)
-      → PartGives sends bounds gives k new a b s after (greater from low) to limit rows all (λ t more. ends (t, Ok (answer.Rows more))) → Whole
+      → PartGives sends bounds to_it k new a b s after (greater from low) to limit rows all (λ t more. ends (t, Ok (answer.Rows more))) → Whole
   last_part low s same rows so_far k a (Empty none rest) =
       same_rows rows (rows_end after s all rows rest.0)
       (all_seen (table_of (shadow h)).row from to start limit rows
@@ -263,7 +262,7 @@ module _ {S : Type 0} (sends : S → Asked → Reached → S → Type 0) (bounds
     there : (x : Key) → IsTrue (is_between from to x) → Below bound x → IsTrue (key_le low x) → IsTrue (is_between (greater from low) high x)
     there x e below above = lands low high x e above (lesser_lt to bound x (between_both from to x e).1 below)
 
-    next_part : (k : Known) (a : S) → PartGives sends bounds gives k new a b s after (greater from low) high limit rows all (scan_from from to limit bound bs) → Whole
+    next_part : (k : Known) (a : S) → PartGives sends bounds to_it k new a b s after (greater from low) high limit rows all (scan_from from to limit bound bs) → Whole
     next_part k a (Empty none rest) =
         rest_is s same rows
         (passed_by (table_of (shadow h)).row from to start limit (Below low) (Below bound) rows so_far old_below
@@ -288,13 +287,13 @@ module _ {S : Type 0} (sends : S → Asked → Reached → S → Type 0) (bounds
   scans : (low : Key) (bs : List Key) → AreRising bs → (s : State) → s.start ≡ start → (rows : List KeyValue) → Upto (Below low) rows → ((x : Key) → Has rows x → AreRising (low ∷ bs))
       → (k : Known) (a : S) → Sends sends bounds k a (scan_from from to limit low bs s rows) (after, Ok (answer.Rows all)) b new → Whole
   scans low [] rising s same rows so_far ordered k a sent =
-      last_part low s same rows so_far k a (part_gives sends bounds gives k new a b s after (greater from low) to limit rows all (λ t more. ends (t, Ok (answer.Rows more))) sent)
+      last_part low s same rows so_far k a (part_gives sends bounds to_it k new a b s after (greater from low) to limit rows all (λ t more. ends (t, Ok (answer.Rows more))) sent)
   scans low (bound ∷ bs) rising s same rows so_far ordered k a sent =
       next_part low bound bs s same rows so_far ordered
       (λ t is more upto l c rest. scans bound bs (rising_rest bound bs rising) t is more upto (λ x has. rising) l c rest)
-      k a (part_gives sends bounds gives k new a b s after (greater from low) (lesser to bound) limit rows all (scan_from from to limit bound bs) sent)
+      k a (part_gives sends bounds to_it k new a b s after (greater from low) (lesser to bound) limit rows all (scan_from from to limit bound bs) sent)
 
-pub sees_whole : {S : Type 0} (bounds : List Key) (sends : S → Asked → Reached → S → Type 0) → AreRising bounds → GivesReplies bounds sends → SeesWhole bounds sends
-sees_whole bounds sends rising gives old new a b s after from to limit rows h sent begins run =
-    scans sends bounds gives h run new begins b after s.start from to limit rows from bounds rising s refl []
+pub sees_whole : {S : Type 0} (bounds : List Key) (fits : S → Asked → Type 0) (sends : S → Asked → Reached → S → Type 0) (keys_between : S → List Key) → AreRising bounds → IsWay bounds fits sends keys_between → SeesWhole bounds sends
+sees_whole bounds fits sends keys_between rising way old new a b s after from to limit rows h sent begins run =
+    scans sends bounds (λ x y q g did. way.answers x y q g did) h run new begins b after s.start from to limit rows from bounds rising s refl []
     (none_yet (table_of (shadow h)).row from to s.start limit) (λ x has. absurd (cc (has.1))) old a sent

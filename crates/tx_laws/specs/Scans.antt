@@ -1,5 +1,5 @@
 -- The rows of a session's scan over all regions.
-use Rattle.std.specs.Prelude.{◌≡◌, ℕ, List, Ok}
+use Rattle.std.specs.Prelude.{ℕ, List, Ok}
 use Rattle.tx_types.specs.declared.key.Key.{Key}
 use Rattle.tx_types.specs.declared.mutation.KeyValue.{KeyValue}
 use Rattle.tx_plan.specs.declared.answer.Answer.TheVariants as answer
@@ -9,14 +9,10 @@ use Rattle.tx_core.specs.Histories.{History, Begins}
 use Rattle.tx_core.specs.Shadow.{shadow}
 use Rattle.tx_core.specs.Worlds.{IsWorldRun}
 use Rattle.tx_journal.specs.Known.{Known}
-use Rattle.tx_journal.specs.Replies.{Asked, Given, IsGiven}
+use Rattle.tx_journal.specs.Replies.{Asked}
 use Rattle.tx_transaction.specs.Sessions.{State}
 use Rattle.tx_client.specs.Senders.{Reached}
 use Rattle.tx_client.specs.Walks.{Sends, scan_walk}
-
--- what comes back of a request that was sent is a reply to it, which tells what a region answered
-abbrev pub GivesReplies : {S : Type 0} → List Key → (S → Asked → Reached → S → Type 0) → Type 0
-GivesReplies {S} bounds sends = (a b : S) (q : Asked) (g : Given) → sends a q (Ok g) b → (g.request ≡ q) × IsGiven bounds g
 
 -- a scan of a range by a session that started at a number, and its rows
 abbrev pub scan_at : ℕ → Key → Key → ℕ → List KeyValue → ScanRead

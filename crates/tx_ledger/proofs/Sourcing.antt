@@ -1,13 +1,17 @@
 -- The lines of a script's text, as it is read, and what they say of the answers.
-use Rattle.std.proofs.Common.{◌≡◌, ℕ, ◌+◌, ◌-◌, ◌<◌, List, [], ◌∷◌, ◌++◌, All, length, length-append, Bool, true, false, if◌then◌else◌, Option, Some, None, Result, Ok, option_map, option_and_then, refl, sym, ap, subst, ◌∙◌, arith}
+use Rattle.std.proofs.Common.{◌≡◌, ℕ, ◌+◌, ◌-◌, ◌<◌, ◌≤◌, nat_lt, inl, inr, List, [], ◌∷◌, ◌++◌, All, length, length-append, Bool, true, false, if◌then◌else◌, Option, Some, None, Result, Ok, Err, option_map, option_and_then, refl, sym, ap, subst, ◌∙◌, arith}
 use Rattle.std.proofs.lemmas.List.Elements.{All-push}
-use Rattle.std.specs.Prelude.{IfSome, slice_get}
-use Rattle.std.proofs.lemmas.Option.{slice_get_read}
+use Rattle.std.specs.Prelude.{IfSome, ok_or, slice_get}
+use Rattle.std.proofs.lemmas.Option.{slice_get_read, same_Some}
+use Rattle.std.proofs.lemmas.Bool.{cases_lt, lt-ltb}
 use Rattle.std.proofs.Math.Seq.{get_or-append_seam}
 use Rattle.serde_json.specs.Data.{Data}
 use Rattle.tx_types.specs.declared.key.Key.{Key}
-use Rattle.tx_lines.specs.Lines.{lines_of, Reads}
-use Rattle.tx_lines.specs.declared.lines.Found.TheVariants.{Line}
+use Rattle.tx_lines.specs.Lines.{lines_of, max_line, max_lines, Reads}
+use Rattle.tx_lines.specs.Parts.{json_of}
+use Rattle.tx_lines.specs.declared.lines.Found.TheVariants.{Line, Long}
+use Rattle.tx_types.specs.declared.fault.Cause.{Cause}
+use Rattle.tx_types.specs.declared.fault.Cause.TheVariants as causes
 use Rattle.tx_core.specs.declared.event.Outcome.{Outcome}
 use Rattle.tx_steps.specs.declared.program.Program.TheVariants.{Run}
 use Rattle.tx_steps.specs.declared.step.Step.{Step}
@@ -16,6 +20,7 @@ use Rattle.tx_steps.specs.Lines.{data_said, step_in}
 use Rattle.tx_ledger.specs.declared.reply.Reply.{Reply}
 use Rattle.tx_ledger.specs.declared.reply.Reply.TheVariants.{Said, Ended}
 use Rattle.tx_ledger.specs.declared.reply.Spoken.{Spoken}
+use Rattle.tx_ledger.specs.Faults.{IsFaultless, NoneBefore, Takes, TellsFault, fault_of, refused_as}
 use Rattle.tx_ledger.specs.Outcomes.{start_of}
 use Rattle.tx_ledger.specs.Sources.{pair_of, pair_in, pair_said, HasLine, HasPair, SaysPair, TellsPair}
 
@@ -73,6 +78,74 @@ stands_next (Some text) left now number line stands reads =
       split = stands.split ∙ ap (λ (l : List (List ℕ)). stands.before ++ l) r.3 ∙ append_one stands.before line (lines_of r.0);
       numbered = omega (arith, stands.numbered, length-append stands.before (line ∷ []));
     }
+
+-- ---- which lines have a fault
+
+-- no line before has a fault, where the text is known
+abbrev pub SoFar : Option (List ℕ) → ℕ → Type 0
+SoFar source number = IfSome source (λ text. NoneBefore text number)
+
+pub so_far_first : (source : Option (List ℕ)) → SoFar source 1
+so_far_first None = tt
+so_far_first (Some text) = λ k line lt there. absurd (omega (arith, lt))
+
+-- one more line has none
+pub so_far_next : (source : Option (List ℕ)) (number : ℕ) (line : List ℕ) → 0 < number → SoFar source number → HasLine source number line → fault_of number line ≡ None → SoFar source (number + 1)
+so_far_next None number line some before has none = tt
+so_far_next (Some text) number line some before has none = λ k other lt there. elim (cases_lt (k + 1) number) [
+  | inl less ↦ before k other less there
+  | inr more ↦ (let at : number ≡ k + 1 = omega (arith, lt, more) in
+      let here : slice_get (lines_of text) k ≡ Some line = subst (λ (n : ℕ). slice_get (lines_of text) n ≡ Some line) (let same : number - 1 ≡ k = omega (arith, at) in same) has in
+      let same : line ≡ other = same_Some line other (sym here ∙ there) in
+      subst (λ (l : List ℕ). fault_of (k + 1) l ≡ None) same (subst (λ (n : ℕ). fault_of n line ≡ None) at none))
+]
+
+-- the text ends here
+pub so_far_whole : (source left : Option (List ℕ)) (number : ℕ) → Stands source left number → IfSome left (λ bytes. bytes ≡ []) → SoFar source number → IsFaultless source
+so_far_whole None left number stands ends before = tt
+so_far_whole (Some text) left number stands ends before =
+    let rest : stands.rest ≡ [] = subst (λ (o : Option (List ℕ)). IfSome o (λ bytes. bytes ≡ [])) stands.is ends in
+    let all : lines_of text ≡ stands.before ++ [] = stands.split ∙ ap (λ (l : List ℕ). stands.before ++ lines_of l) rest in
+    let same : number ≡ length (lines_of text) + 1 = omega (arith, stands.numbered, ap length all, length-append stands.before []) in
+    subst (NoneBefore text) same before
+
+-- a line that is too long has that fault
+pub long_fault : (source left : Option (List ℕ)) (now : Option (List ℕ)) (line : List ℕ) (number : ℕ) → Stands source left number → IfSome left (λ bytes. Reads bytes now Long line) → SoFar source number → TellsFault source number causes.Long
+long_fault None left now line number stands reads before = tt
+long_fault (Some text) left now line number stands reads before =
+    let r = subst (λ (o : Option (List ℕ)). IfSome o (λ bytes. Reads bytes now Long line)) stands.is reads in
+    let all : lines_of text ≡ stands.before ++ r.0 ∷ r.1 = stands.split ∙ ap (λ (l : List (List ℕ)). stands.before ++ l) r.3 in
+    let at : number - 1 ≡ length stands.before = omega (arith, stands.numbered) in
+    let long : nat_lt max_line (length r.0) ≡ true = lt-ltb max_line (length r.0) r.2 in
+    record {
+      line = r.0;
+      stands = subst (λ (l : List (List ℕ)). slice_get l (number - 1) ≡ Some r.0) (sym all) (subst (λ (n : ℕ). slice_get (stands.before ++ r.0 ∷ r.1) n ≡ Some r.0) (sym at) (at_seam stands.before r.0 r.1));
+      fault = inl (rw long refl);
+      first = before;
+    }
+
+-- a line that has none is of the lines that a text may have
+not_too_many : (long : Bool) (number : ℕ) (said : Result Data Cause) → refused_as number (if long then Err causes.Long else (if true then Err causes.Lines else said)) ≡ None → ⊥
+not_too_many true number said e = cc (e)
+not_too_many false number said e = cc (e)
+
+pub few_lines : (number : ℕ) (line : List ℕ) → fault_of number line ≡ None → number ≤ max_lines
+few_lines number line none = elim (cases_lt max_lines number) [
+  | inr le ↦ le
+  | inl more ↦ absurd (not_too_many (nat_lt max_line (length line)) number (ok_or (json_of line) causes.Json)
+      (subst (λ (b : Bool). refused_as number (if nat_lt max_line (length line) then Err causes.Long else (if b then Err causes.Lines else ok_or (json_of line) causes.Json)) ≡ None)
+      (lt-ltb max_lines number more) none))
+]
+
+-- a line that is not taken has the fault that is told
+pub take_fault : (source : Option (List ℕ)) (number sessions : ℕ) (line : List ℕ) (cause : Cause) → HasLine source number line → SoFar source number → sessions < number → Takes number line sessions (Err cause) → TellsFault source number cause
+take_fault None number sessions line cause has before fewer takes = tt
+take_fault (Some text) number sessions line cause has before fewer takes = record {
+  line = line;
+  stands = has;
+  fault = elim takes [ inl said ↦ inl said | inr many ↦ inr (many.0, (many.1.0, omega (arith, many.1.1, fewer))) ];
+  first = before;
+}
 
 -- ---- what a line says
 

@@ -1,4 +1,5 @@
 pub mod Balances
+pub mod Faults
 pub mod Lines
 pub mod Outcomes
 pub mod Logs

@@ -1,7 +1,9 @@
 //! A script of a run, read whole: its regions, its seeds, and the lines of each session.
-ghost use Rattle.std.specs.Prelude.{◌≡◌, IfOk, OnOk, vec_len};
+ghost use Rattle.std.specs.Prelude.{◌≡◌, ◌+◌, ◌≤◌, IfErr, IfOk, OnOk, vec_len};
 ghost use Rattle.tx_ledger.specs.Scripts.{IsWithin};
+ghost use Rattle.tx_steps.specs.Lines.{data_of};
 ghost use Rattle.tx_steps.specs.Steps.{asked};
+ghost use Rattle.tx_ledger.specs.Faults.{IsFaultless, IsTooMany, Takes, TellsFault, opens};
 ghost use Rattle.tx_ledger.specs.Sources.{HasLine, HasPair, pair_of};
 ghost use Rattle.std.proofs.Props.{props};
 
@@ -11,6 +13,7 @@ use std::alloc::{AllocError, Global};
 use std::collections::BTreeMap;
 use std::io::BufRead;
 use std::marker::PhantomData;
+use tx_client::Phase;
 use tx_lines::{Broken, Found, Parts, read_line};
 use tx_steps::{Action, Line, Program, Request, Step};
 use tx_types::limits::MAX_LIVE_SESSIONS;
@@ -21,8 +24,10 @@ use tx_types::{Cause, Key, is_name};
 pub enum Asks {
     /// It changes nothing in the store.
     Nothing,
-    /// Those of the keys in its session's buffer.
-    Buffer,
+    /// That of the key which its session's next request of a phase is of.
+    Due(Phase),
+    /// That of its session's primary.
+    Primary,
     /// Those of the lock that last stood in its session's way.
     Met,
 }
@@ -88,11 +93,10 @@ fn name_of<'a>(step: Step<'a>) -> Option<&'a str> {
 // The latches that a step asks for. Those of a transfer change on its way.
 fn asks_of(step: Step<'_>) -> Asks {
     match step {
-        Step::Send(
-            _,
-            Request::Prewrite | Request::Commit | Request::Abort | Request::Heartbeat(_),
-            _,
-        ) => Asks::Buffer,
+        Step::Send(_, Request::Prewrite, _) => Asks::Due(Phase::Prewrite),
+        Step::Send(_, Request::Commit, _) => Asks::Due(Phase::Commit),
+        Step::Send(_, Request::Abort, _) => Asks::Due(Phase::Abort),
+        Step::Send(_, Request::Heartbeat(_), _) => Asks::Primary,
         Step::Act(_, Action::Resolve(_)) => Asks::Met,
         _ => Asks::Nothing,
     }
@@ -140,7 +144,8 @@ fn entry_of<L: Source>(
 
 impl<L: Source> Reading<L> {
     fn new(alloc: Global) -> Reading<L>
-        ensures { IsWithin result.script.bounds.items (vec_len result.script.sessions) }
+        ensures within { IsWithin result.script.bounds.items (vec_len result.script.sessions) }
+        ensures none { vec_len result.script.sessions ≡ 0 }
     {
         Reading {
             alloc,
@@ -153,11 +158,25 @@ impl<L: Source> Reading<L> {
         }
     }
 
+    // What was read.
+    fn into_script(self) -> Script<L>
+        ensures { result ≡ self.script }
+    {
+        let Reading {
+            alloc: _,
+            script,
+            places: _,
+        } = self;
+        script
+    }
+
     // The place of the session of this name, which is made where it is the first line of it.
     // `Sessions` where there are too many.
     fn place(&mut self, name: &str) -> Result<Result<usize, Cause>, Broken>
         requires { IsWithin self.old.script.bounds.items (vec_len self.old.script.sessions) }
-        ensures { OnOk result (IsWithin self.new.script.bounds.items (vec_len self.new.script.sessions)) }
+        ensures within { OnOk result (IsWithin self.new.script.bounds.items (vec_len self.new.script.sessions)) }
+        ensures one { OnOk result (vec_len self.new.script.sessions ≤ vec_len self.old.script.sessions + 1) }
+        ensures many { IfOk result (λ found. IfErr found (IsTooMany (vec_len self.old.script.sessions))) }
     {
         if let Some(place) = self.places.get(name) {
             return Ok(Ok(*place));
@@ -175,7 +194,9 @@ impl<L: Source> Reading<L> {
     // Enters a line of the session of this name.
     fn enter(&mut self, entry: Entry<L>, name: &str) -> Result<Result<(), Cause>, Broken>
         requires { IsWithin self.old.script.bounds.items (vec_len self.old.script.sessions) }
-        ensures { OnOk result (IsWithin self.new.script.bounds.items (vec_len self.new.script.sessions)) }
+        ensures within { OnOk result (IsWithin self.new.script.bounds.items (vec_len self.new.script.sessions)) }
+        ensures one { OnOk result (vec_len self.new.script.sessions ≤ vec_len self.old.script.sessions + 1) }
+        ensures many { IfOk result (λ entered. IfErr entered (IsTooMany (vec_len self.old.script.sessions))) }
     {
         match self.place(name)? {
             Ok(place) => {
@@ -191,7 +212,9 @@ impl<L: Source> Reading<L> {
     // Takes the keys between the regions from line 1, where it says some.
     fn opens(&mut self, number: u64, line: &Line<'_, '_>) -> Result<bool, Broken>
         requires { IsWithin self.old.script.bounds.items (vec_len self.old.script.sessions) }
-        ensures { OnOk result (IsWithin self.new.script.bounds.items (vec_len self.new.script.sessions)) }
+        ensures within { OnOk result (IsWithin self.new.script.bounds.items (vec_len self.new.script.sessions)) }
+        ensures same { OnOk result (vec_len self.new.script.sessions ≡ vec_len self.old.script.sessions) }
+        ensures said { IfOk result (λ said. said ≡ opens number (data_of line.now)) }
     {
         if number != 1 {
             return Ok(false);
@@ -211,7 +234,9 @@ impl<L: Source> Reading<L> {
         requires within { IsWithin self.old.script.bounds.items (vec_len self.old.script.sessions) }
         requires line { HasLine L.text number text.now }
         requires pair { HasPair L.text number (pair_of (asked step)) }
-        ensures { OnOk result (IsWithin self.new.script.bounds.items (vec_len self.new.script.sessions)) }
+        ensures within { OnOk result (IsWithin self.new.script.bounds.items (vec_len self.new.script.sessions)) }
+        ensures one { OnOk result (vec_len self.new.script.sessions ≤ vec_len self.old.script.sessions + 1) }
+        ensures many { IfOk result (λ put. IfErr put (IsTooMany (vec_len self.old.script.sessions))) }
     {
         match name_of(step) {
             Some(name) => {
@@ -230,7 +255,9 @@ impl<L: Source> Reading<L> {
     fn take(&mut self, number: u64, text: &[u8]) -> Result<Result<(), Cause>, Broken>
         requires within { IsWithin self.old.script.bounds.items (vec_len self.old.script.sessions) }
         requires line { HasLine L.text number text.now }
-        ensures { OnOk result (IsWithin self.new.script.bounds.items (vec_len self.new.script.sessions)) }
+        ensures within { OnOk result (IsWithin self.new.script.bounds.items (vec_len self.new.script.sessions)) }
+        ensures one { OnOk result (vec_len self.new.script.sessions ≤ vec_len self.old.script.sessions + 1) }
+        ensures takes { IfOk result (λ taken. Takes number text.now (vec_len self.old.script.sessions) taken) }
     {
         let mut parts = Parts::new();
         let line = match Line::read(self.alloc, number, text, &mut parts)? {
@@ -247,29 +274,27 @@ impl<L: Source> Reading<L> {
     }
 }
 
-/// Reads a script to its end, within the limits. A fault comes with the number of its line.
+/// Reads a script to its end, within the limits. A fault comes with the number of its line, which
+/// is the first that has one. A script that is handed out has none.
 pub fn read_script<L: Source, B: BufRead>(
     alloc: Global,
     reader: &mut B,
 ) -> Result<Result<Script<L>, (u64, Cause)>, Broken>
     requires { L.text ≡ B.remaining reader.old }
-    ensures { IfOk result (λ read. IfOk read (λ script. IsWithin script.bounds.items (vec_len script.sessions))) }
+    ensures within { IfOk result (λ read. IfOk read (λ s. IsWithin s.bounds.items (vec_len s.sessions))) }
+    ensures whole { IfOk result (λ read. IfOk read (λ script. IsFaultless L.text)) }
+    ensures fault { IfOk result (λ read. IfErr read (λ e. TellsFault L.text e.0 e.1)) }
 {
     let mut reading = Reading::<L>::new(alloc);
     let mut text = Vec::new(alloc);
     for number in 1..u64::MAX {
         match read_line(reader, &mut text)? {
-            Found::End => break,
+            Found::End => return Ok(Ok(reading.into_script())),
             Found::Long => return Ok(Err((number, Cause::Long))),
             Found::Line => if let Err(cause) = reading.take(number, text.as_slice())? {
                 return Ok(Err((number, cause)));
             },
         }
     }
-    let Reading {
-        alloc: _,
-        script,
-        places: _,
-    } = reading;
-    Ok(Ok(script))
+    unreachable!()
 }

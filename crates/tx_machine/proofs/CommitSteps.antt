@@ -18,6 +18,8 @@ use Rattle.tx_machine.specs.declared.versions.Version.{Version}
 use Rattle.tx_machine.specs.declared.machine.Stage.{Stage}
 use Rattle.tx_machine.specs.declared.machine.Stage.TheVariants.{Declared}
 use Rattle.tx_machine.specs.declared.reads.Reads.{Reads}
+use Rattle.tx_machine.specs.declared.commit.Block.{Block}
+use Rattle.tx_machine.specs.declared.commit.Block.TheVariants as block
 use Rattle.tx_machine.specs.declared.step.Step.TheVariants.{Commit}
 use Rattle.tx_machine.specs.Keys.{mutation_at, IsDistinct}
 use Rattle.tx_types.specs.Keys.{IsInsert}
@@ -25,7 +27,7 @@ use Rattle.tx_machine.specs.Machine.{State, Open, Done, Rows, Table, Commits, Se
 use Rattle.tx_machine.specs.Versions.{Versions, Fates, Listed}
 use Rattle.tx_machine.specs.Noted.{IsNoted}
 use Rattle.tx_machine.specs.Shown.{Index, versions_of, SeenOf}
-use Rattle.tx_machine.specs.Representation.{row_of, version_in, version_of, put_version, puts, ListsCommits, Tells, ListedOn, InOrder, IsFree, IsBlocked}
+use Rattle.tx_machine.specs.Representation.{row_of, version_in, version_of, put_version, puts, ListsCommits, Tells, ListedOn, InOrder, IsFree, Blocks}
 use Rattle.tx_machine.proofs.Basics.{nat_test, key_test, cond_true, cond_false, some_same, nat_same}
 use Rattle.tx_machine.proofs.Distinct.{contained}
 use Rattle.tx_machine.proofs.Steps.{at, row_done, row_ended, state_in, some_changes, rows, row_here, row_other, one_row}
@@ -169,20 +171,20 @@ module _ (last : ℕ) (stages : ℕ → Option Stage) (fates : Fates) (index : I
     same_set : (xs : List Change) → tree.get nat_cmp fates t ≡ None → table.row t ≡ Some record { changes = Some xs; state = Open } → set ≡ xs
     same_set xs none e = some_same _ _ (some_same _ _ (ap some_changes (sym (open_row none) ∙ e)))
 
-    blocked_by : (may : MayCommit table t c) (change : Change) → mutation_at may.set change.key ≡ Some change.mutation → IsBlocked index fates reads t c change → ⊥
-    blocked_by may change does (inl x) = may.apart change.key change.mutation x.2 x.0 x.1 does (on_commit change.key x.0 x.1 x.2 x.3) x.4
-    blocked_by may change does (inr (inr x)) = (let inserted = inserts change.mutation x.0 in x.1 (shown_by change.key t (versions_of index change.key) refl (may.fresh change.key inserted.0 (does ∙ ap (λ m. Some m) inserted.1))))
-    blocked_by may change does (inr (inl x)) =
-        let h : x.1.0 < c = may.unread change.key change.mutation x.1.0 does x.0 (tells.reads.made change.key x.1.0 x.1.2) in
-        let g : c ≤ x.1.0 = x.1.1 in
+    blocked_by : (may : MayCommit table t c) (change : Change) (b : Block) → mutation_at may.set change.key ≡ Some change.mutation → Blocks index fates reads t c change b → ⊥
+    blocked_by may change (block.Conflict by) does x = may.apart change.key change.mutation x.0 by.start by.commit does (on_commit change.key by.start by.commit x.0 x.1) x.2
+    blocked_by may change block.Exists does x = (let inserted = inserts change.mutation x.0 in x.1 (shown_by change.key t (versions_of index change.key) refl (may.fresh change.key inserted.0 (does ∙ ap (λ m. Some m) inserted.1))))
+    blocked_by may change (block.Read r) does x =
+        let h : r < c = may.unread change.key change.mutation r does x.0 (tells.reads.made change.key r x.2) in
+        let g : c ≤ r = x.1 in
         omega arith
 
     -- what is blocked may not
-    pub not_blocked : tree.get nat_cmp fates t ≡ None → (change : Change) → Contains set change → IsBlocked index fates reads t c change → MayCommit table t c → ⊥
-    not_blocked none change in_set blocked may =
+    pub not_blocked : tree.get nat_cmp fates t ≡ None → (change : Change) (b : Block) → Contains set change → Blocks index fates reads t c change b → MayCommit table t c → ⊥
+    not_blocked none change b in_set blocked may =
         let e : set ≡ may.set = same_set may.set none may.opened in
         let does : mutation_at set change.key ≡ Some change.mutation = contained set change (tells.distinct t set Open (open_row none)) in_set in
-        blocked_by may change (ap (λ (xs : List Change). mutation_at xs change.key) (sym e) ∙ does) blocked
+        blocked_by may change b (ap (λ (xs : List Change). mutation_at xs change.key) (sym e) ∙ does) blocked
 
     -- ---- versions of a transaction that is not committed yet
 

@@ -1,6 +1,7 @@
 -- Write sets whose keys stand once each.
-use Rattle.std.proofs.Common.{zero, suc, ◌≡◌, ◌≢◌, ℕ, ◌+◌, ◌<◌, ◌==◌, ◌++◌, inl, inr, Bool, true, false, not, cond, List, [], ◌∷◌, length, take, drop, get_or, Option, Some, None, bytes_eq, refl, sym, ap, subst, ◌∙◌, arith, is_some}
+use Rattle.std.proofs.Common.{zero, suc, ◌≡◌, ◌≢◌, ℕ, ◌+◌, ◌<◌, ◌==◌, ◌++◌, inl, inr, Bool, true, false, not, cond, List, [], ◌∷◌, length, take, drop, get_or, Option, Some, None, bytes_eq, refl, sym, ap, subst, ◌∙◌, arith, is_some, append_assoc, IfSome, IfNone}
 use Rattle.std.proofs.lemmas.List.{take_more, take-append-drop}
+use Rattle.std.proofs.Math.Seq.{drop-cons}
 use Rattle.std.specs.Cmp.Lexicographic.{slice_cmp}
 use Rattle.std.specs.Ordering.{nat_cmp, is_eq}
 use Rattle.std.specs.List.{Contains, list_any}
@@ -9,6 +10,7 @@ use Rattle.tx_types.specs.declared.key.Key.{Key}
 use Rattle.tx_types.specs.declared.mutation.Change.{Change}
 use Rattle.tx_types.specs.declared.mutation.Mutation.{Mutation}
 use Rattle.tx_machine.specs.Keys.{mutation_at, IsDistinct}
+use Rattle.tx_machine.specs.Why.{StandsTwice}
 use Rattle.tx_machine.proofs.Basics.{key_test, cond_true, cond_false, key_same}
 
 none_front : (xs ys : List Change) (k : Key) → mutation_at (xs ++ ys) k ≡ None → mutation_at xs k ≡ None
@@ -107,3 +109,32 @@ any_key (x ∷ xs) k = elim (key_test x.key k) [
   | inl t ↦ rw t.0 refl
   | inr t ↦ rw t.0 (any_key xs k)
 ]
+
+-- ---- keys that stand twice
+
+-- the key of a change that stands at a place and before it
+pub stands_twice : (set : List Change) (i : ℕ) (x : Change) → i < length set → x ≡ get_or set i x → is_some (mutation_at (take i set) (get_or set i x).key) ≡ true → StandsTwice set x.key
+stands_twice set i x lt e some =
+    let again : is_some (mutation_at (take i set) x.key) ≡ true = ap (λ (y : Change). is_some (mutation_at (take i set) y.key)) e ∙ some in
+    record {
+      before = take i set;
+      after = drop (suc i) set;
+      mutation = x.mutation;
+      split = sym (take-append-drop i set) ∙ ap (λ (ys : List Change). take i set ++ ys) (drop-cons set i x lt ∙ ap (λ (y : Change). y ∷ drop (suc i) set) (sym e));
+      has = λ none. cc (sym again ∙ ap (is_some {T = Mutation}) none);
+    }
+
+pub twice_not_distinct : (set : List Change) (k : Key) → StandsTwice set k → IsDistinct set → ⊥
+twice_not_distinct set k t ds =
+    let x : Change = record { key = k; mutation = t.mutation } in
+    let all : IsDistinct ((t.before ++ x ∷ []) ++ t.after) = subst (λ (xs : List Change). IsDistinct xs) (t.split ∙ sym (append_assoc t.before (x ∷ []) t.after)) ds in
+    t.has (some_none _ (more_distinct t.before x (distinct_front (t.before ++ x ∷ []) t.after all)))
+
+-- what holds of a value that is there, and where there is none
+pub some_of : {X : Type 0} (o : Option X) (P : X → Type 0) → true ≡ is_some o → IfSome o P → (x : X) × P x
+some_of None P e h = absurd (cc e)
+some_of (Some x) P e h = (x, h)
+
+pub none_of : {X : Type 0} (o : Option X) (P : Type 0) → false ≡ is_some o → IfNone o P → P
+none_of None P e h = h
+none_of (Some x) P e h = absurd (cc e)

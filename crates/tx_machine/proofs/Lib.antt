@@ -22,3 +22,7 @@ pub mod ReadSteps
 -- Runs of a list of steps, oldest first.
 pub mod Runs
 pub mod Snapshots
+-- The walk over the rows of a scan finds the first key that a read sees otherwise.
+pub mod Differences
+-- What is told of a refused step is so in the machine's table, and refuses it.
+pub mod Reasons

@@ -31,13 +31,13 @@ use Rattle.tx_machine.proofs.Basics.{key_test, key_same, cond_true, cond_false, 
 
 -- the order of keys
 
-abbrev cmp : Key → Key → Ordering
+abbrev pub cmp : Key → Key → Ordering
 cmp j k = slice_cmp nat_cmp j k
 
-abbrev Below : Key → Key → Type 0
+abbrev pub Below : Key → Key → Type 0
 Below j k = cmp j k ≡ Less
 
-below_trans : (j k l : Key) → Below j k → Below k l → Below j l
+pub below_trans : (j k l : Key) → Below j k → Below k l → Below j l
 below_trans j k l d e = nat_list_cmp_total.trans j k l d e
 
 never_itself : (k : Key) → Below k k → ⊥
@@ -63,7 +63,7 @@ apart j k e = elim (key_test j k) [ inl t ↦ absurd (never_itself k (subst (λ 
 apart_above : (j k : Key) → Below k j → bytes_eq j k ≡ false
 apart_above j k e = elim (key_test j k) [ inl t ↦ absurd (never_itself k (subst (λ (i : Key). Below k i) (t.1) e)) | inr t ↦ t.0 ]
 
-at_most : (o : Ordering) → is_gt o ≡ false → is_le o ≡ true
+pub at_most : (o : Ordering) → is_gt o ≡ false → is_le o ≡ true
 at_most Less e = refl
 at_most Equal e = refl
 at_most Greater e = absurd (cc e)
@@ -79,17 +79,17 @@ less Equal e = absurd (cc e)
 less Greater e = absurd (cc e)
 
 -- a lower bound lets in what lies above what it lets in
-from_above : (from : Bound Key) (j k : Key) → IsFromStart cmp from j → Below j k → IsFromStart cmp from k
+pub from_above : (from : Bound Key) (j k : Key) → IsFromStart cmp from j → Below j k → IsFromStart cmp from k
 from_above (Included a) j k h e = rw (le_lt_trans nat_list_cmp_total a j k (at_most _ h) e) refl
 from_above (Excluded a) j k h e = below_trans a j k h e
 from_above Unbounded j k h e = tt
 
 -- tests
 
-or_left : (b c : Bool) → b ≡ true → (b || c) ≡ true
+pub or_left : (b c : Bool) → b ≡ true → (b || c) ≡ true
 or_left b c e = rw e refl
 
-or_right : (b c : Bool) → c ≡ true → (b || c) ≡ true
+pub or_right : (b c : Bool) → c ≡ true → (b || c) ≡ true
 or_right true c e = refl
 or_right false c e = e
 
@@ -110,13 +110,13 @@ split false c e = absurd (cc e)
 
 -- the rows
 
-own : (x : KeyValue) (xs : List KeyValue) → value_in (x ∷ xs) x.key ≡ Some x.value
+pub own : (x : KeyValue) (xs : List KeyValue) → value_in (x ∷ xs) x.key ≡ Some x.value
 own x xs = cond_true _ _ _ (key_same x.key)
 
-skip : (x : KeyValue) (xs : List KeyValue) (k : Key) → Below x.key k → value_in (x ∷ xs) k ≡ value_in xs k
+pub skip : (x : KeyValue) (xs : List KeyValue) (k : Key) → Below x.key k → value_in (x ∷ xs) k ≡ value_in xs k
 skip x xs k e = cond_false _ _ _ (apart x.key k e)
 
-none_before : (x : KeyValue) (xs : List KeyValue) (k : Key) → Below k x.key → ((q : Key) (v : Value) → value_in xs q ≡ Some v → Below x.key q) → value_in (x ∷ xs) k ≡ None
+pub none_before : (x : KeyValue) (xs : List KeyValue) (k : Key) → Below k x.key → ((q : Key) (v : Value) → value_in xs q ≡ Some v → Below x.key q) → value_in (x ∷ xs) k ≡ None
 none_before x xs k e h = cond_false _ _ _ (apart_above x.key k e) ∙ none_is (value_in xs k) (λ v is. never_both k x.key e (h k v is))
 
 rises : (x : KeyValue) (xs : List KeyValue) → ((q : Key) (v : Value) → value_in xs q ≡ Some v → Below x.key q) → IsRising xs → IsRising (x ∷ xs)
@@ -279,7 +279,7 @@ module _ (index : Index) (fates : Fates) (s : ScanRead) where
   walks from [] h = λ e k w. h.each k w (inl e)
   walks from (x ∷ xs) h = (first_row from x xs h, walks (Excluded x.key) xs (rest_rows from x xs h))
 
-  covered_from : (k : Key) → IsKeyWithin (Included s.from) s.to k → (length s.rows < s.limit) ⊎ (reaches s.rows k ≡ true) → covered s k ≡ true
+  pub covered_from : (k : Key) → IsKeyWithin (Included s.from) s.to k → (length s.rows < s.limit) ⊎ (reaches s.rows k ≡ true) → covered s k ≡ true
   covered_from k w r =
       both _ _ (both _ _ (at_most _ (w.0)) (ap is_lt (w.1)))
       (elim r [ inl e ↦ or_left _ _ (lt-ltb (length s.rows) s.limit e) | inr e ↦ or_right _ _ e ])

@@ -5,3 +5,4 @@ pub mod Representation
 pub mod Scans
 pub mod Shown
 pub mod Versions
+pub mod Why

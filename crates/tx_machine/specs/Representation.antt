@@ -11,6 +11,8 @@ use Rattle.tx_machine.specs.declared.machine.Stage.{Stage}
 use Rattle.tx_machine.specs.declared.machine.Stage.TheVariants.{Drawn, Begun, Declared}
 use Rattle.tx_machine.specs.declared.machine.Machine.{Machine}
 use Rattle.tx_machine.specs.declared.reads.Reads.{Reads}
+use Rattle.tx_machine.specs.declared.commit.Block.{Block}
+use Rattle.tx_machine.specs.declared.commit.Block.TheVariants as block
 use Rattle.tx_machine.specs.declared.step.Step.{Step}
 use Rattle.tx_types.specs.Keys.{IsVisible, IsInsert}
 use Rattle.tx_machine.specs.Keys.{mutation_at, IsDistinct}
@@ -98,13 +100,13 @@ pub record IsFree (index : Index) (fates : Fates) (reads : Reads) (t c : ℕ) (c
   pub unread : IsVisible change.mutation → (r : ℕ) → IsNoted reads change.key r → r < c
   pub fresh : IsInsert change.mutation → Shows index fates change.key t None
 
--- a listed commit would overlap, or a read at or above covers what it puts or deletes, or a read at
--- the start sees a value of what it inserts
-abbrev pub IsBlocked : Index → Fates → Reads → ℕ → ℕ → Change → Type 0
-IsBlocked index fates reads t c change =
-    ((u : ℕ) × (d : ℕ) × (m : Mutation) × ListedOn (versions_of index change.key) fates u d m × Overlap t c u d)
-    ⊎ (IsVisible change.mutation × ((r : ℕ) × (c ≤ r) × IsNoted reads change.key r))
-    ⊎ (IsInsert change.mutation × (Shows index fates change.key t None → ⊥))
+-- what forbids a change: a listed commit that would overlap, a read at the commit or above that
+-- covers what it puts or deletes, or that a read at the start sees a value of what it inserts
+abbrev pub Blocks : Index → Fates → Reads → ℕ → ℕ → Change → Block → Type 0
+Blocks index fates reads t c change (block.Conflict by) =
+    (m : Mutation) × ListedOn (versions_of index change.key) fates by.start by.commit m × Overlap t c by.start by.commit
+Blocks index fates reads t c change (block.Read r) = IsVisible change.mutation × (c ≤ r) × IsNoted reads change.key r
+Blocks index fates reads t c change block.Exists = IsInsert change.mutation × (Shows index fates change.key t None → ⊥)
 
 -- the versions of all keys, with one more
 abbrev pub put_version : ℕ → ℕ → Change → (Key → ℕ → Option Version) → Key → ℕ → Option Version

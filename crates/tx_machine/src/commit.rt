@@ -1,5 +1,5 @@
 //! What forbids a commit, and the versions that it lists.
-ghost use Rattle.std.specs.Prelude.{◌≡◌, ℕ, ◌==◌, true, false, cond, Some, None, take, OnOk, OnErr, IfErr, Contains, IsTrue, ◌↔◌};
+ghost use Rattle.std.specs.Prelude.{◌≡◌, ℕ, ◌==◌, true, false, cond, Some, None, take, OnOk, OnErr, IfErr, IfSome, IfNone, Contains, IsTrue, ◌↔◌};
 ghost use Rattle.std.specs.Prelude.{bytes_eq};
 ghost use Rattle.tx_types.specs.declared.key.Key.{Key};
 ghost use Rattle.tx_types.specs.declared.mutation.Change.{Change};
@@ -8,24 +8,15 @@ ghost use Rattle.tx_types.specs.Keys.{IsVisible, IsInsert};
 ghost use Rattle.tx_machine.specs.Keys.{mutation_at};
 ghost use Rattle.tx_machine.specs.Machine.{Overlap};
 ghost use Rattle.tx_machine.specs.Shown.{versions_of, Shows};
-ghost use Rattle.tx_machine.specs.Representation.{InOrder, IsFree, IsBlocked, ListedOn, version_of, puts};
+ghost use Rattle.tx_machine.specs.Representation.{InOrder, IsFree, Blocks, ListedOn, version_of, puts};
 
 use crate::machine::Refused;
 use crate::reads::Reads;
 use crate::scan::{Index, shown};
-use crate::versions::{Fates, Version, overlaps};
+use crate::versions::{Fates, Version, Writer, is_visible, overlapping};
 use std::alloc::Global;
 use std::collections::BTreeMap;
 use tx_types::{Change, Key, Mutation, Ts};
-
-fn is_visible(mutation: &Mutation) -> bool
-    ensures { IsTrue result ↔ IsVisible mutation.now }
-{
-    match mutation {
-        Mutation::Put(_) | Mutation::Insert(_) | Mutation::Delete => true,
-        Mutation::Lock => false,
-    }
-}
 
 fn is_insert(mutation: &Mutation) -> bool
     ensures { IsTrue result ↔ IsInsert mutation.now }
@@ -47,54 +38,76 @@ fn is_fresh(index: &Index, fates: &Fates, t: Ts, change: &Change) -> bool
     shown(index, fates, &change.key, t).is_none()
 }
 
-// Whether a listed commit of the key would overlap.
-fn is_overlapped(index: &Index, fates: &Fates, t: Ts, c: Ts, key: &Key) -> bool
-    ensures some { result ≡ true → (u : ℕ) × (d : ℕ) × (m : Mutation) × ListedOn (versions_of index.now key.now) fates.now u d m × Overlap t c u d }
-    ensures none { result ≡ false → InOrder index.now fates.now → (u d : ℕ) (m : Mutation) → ListedOn (versions_of index.now key.now) fates.now u d m
-        → Overlap t c u d → ⊥ }
+// A listed commit of the key that would overlap.
+fn overlapping_on(index: &Index, fates: &Fates, t: Ts, c: Ts, key: &Key) -> Option<Writer>
+    ensures some { IfSome result (λ by. (m : Mutation) × ListedOn (versions_of index.now key.now) fates.now by.start by.commit m
+        × Overlap t c by.start by.commit) }
+    ensures none { IfNone result (InOrder index.now fates.now → (u d : ℕ) (m : Mutation)
+        → ListedOn (versions_of index.now key.now) fates.now u d m → Overlap t c u d → ⊥) }
 {
     match index.get(key) {
-        None => false,
-        Some(versions) => overlaps(versions, fates, t, c),
+        None => None,
+        Some(versions) => overlapping(versions, fates, t, c),
     }
 }
 
-// Whether nothing forbids that the change is committed.
-fn is_free(index: &Index, fates: &Fates, reads: &Reads, t: Ts, c: Ts, change: &Change) -> bool
-    ensures free { result ≡ true → InOrder index.now fates.now → IsFree index.now fates.now reads.now t c change.now }
-    ensures blocked { result ≡ false → IsBlocked index.now fates.now reads.now t c change.now }
-{
-    if is_overlapped(index, fates, t, c, &change.key) {
-        return false;
-    }
-    if !is_fresh(index, fates, t, change) {
-        return false;
-    }
-    if !is_visible(&change.mutation) {
-        return true;
-    }
-    !reads.covers_from(&change.key, c)
+/// What forbids that a change is committed.
+#[derive(Clone, Copy, Debug, PartialEq, Eq)]
+pub(crate) enum Block {
+    /// A listed commit would overlap.
+    Conflict(Writer),
+    /// A read at this timestamp, at the commit or above, covers the key.
+    Read(Ts),
+    /// A read at the start sees a value of what is inserted.
+    Exists,
 }
 
-// Whether nothing forbids that the changes are committed.
-pub(crate) fn are_free(
+// What forbids that the change is committed.
+fn block_of(
     index: &Index,
     fates: &Fates,
     reads: &Reads,
     t: Ts,
     c: Ts,
-    set: &[Change],
-) -> bool
-    ensures free { result ≡ true → InOrder index.now fates.now
-        → (k : Key) (m : Mutation) → mutation_at set.now k ≡ Some m → IsFree index.now fates.now reads.now t c record { key = k; mutation = m } }
-    ensures blocked { result ≡ false → (change : Change) × Contains set.now change × IsBlocked index.now fates.now reads.now t c change }
+    change: &Change,
+) -> Option<Block>
+    ensures free { IfNone result (InOrder index.now fates.now → IsFree index.now fates.now reads.now t c change.now) }
+    ensures blocked { IfSome result (Blocks index.now fates.now reads.now t c change.now) }
+{
+    if let Some(other) = overlapping_on(index, fates, t, c, &change.key) {
+        return Some(Block::Conflict(other));
+    }
+    if !is_fresh(index, fates, t, change) {
+        return Some(Block::Exists);
+    }
+    if !is_visible(&change.mutation) {
+        return None;
+    }
+    match reads.read_from(&change.key, c) {
+        None => None,
+        Some(at) => Some(Block::Read(at)),
+    }
+}
+
+/// The first of the changes that something forbids to commit, and what.
+pub(crate) fn first_block<'a>(
+    index: &Index,
+    fates: &Fates,
+    reads: &Reads,
+    t: Ts,
+    c: Ts,
+    set: &'a [Change],
+) -> Option<(&'a Change, Block)>
+    ensures free { IfNone result (InOrder index.now fates.now
+        → (k : Key) (m : Mutation) → mutation_at set.now k ≡ Some m → IsFree index.now fates.now reads.now t c record { key = k; mutation = m }) }
+    ensures blocked { IfSome result (λ x. Contains set.now x.0.now × Blocks index.now fates.now reads.now t c x.0.now x.1) }
 {
     for change in set {
-        if !is_free(index, fates, reads, t, c, change) {
-            return false;
+        if let Some(block) = block_of(index, fates, reads, t, c, change) {
+            return Some((change, block));
         }
     }
-    true
+    None
 }
 
 // Lists a version of a key at a timestamp.

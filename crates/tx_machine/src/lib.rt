@@ -5,14 +5,18 @@ mod commit;
 mod laws;
 mod machine;
 mod reads;
+mod reason;
 mod scan;
 mod sets;
 mod span;
 pub mod step;
 mod trace;
 mod versions;
+mod why;
 
 pub use laws::runs_are_snapshots;
 pub use machine::{Machine, Refused};
+pub use reason::{Seen, Standing, Why};
 pub use step::{ScanRead, Step};
 pub use trace::{Checked, check_steps, check_trace};
+pub use versions::Writer;

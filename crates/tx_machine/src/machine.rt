@@ -14,10 +14,10 @@ ghost use Rattle.tx_types.specs.declared.mutation.Change.{Change};
 ghost use Rattle.tx_types.specs.declared.mutation.Fate.{Fate};
 ghost use Rattle.tx_machine.specs.Representation.{Represents, Makes, Refuses, Keeps, row_of, state_of};
 
-use crate::commit::{are_free, list_all};
+use crate::commit::{first_block, list_all};
 use crate::reads::Reads;
 use crate::scan::{Index, sees_rows};
-use crate::sets::has_distinct_keys;
+use crate::sets::repeated;
 use crate::span::span_of;
 use crate::step::{ScanRead, Step};
 use crate::versions::{Fates, seen};
@@ -36,12 +36,12 @@ pub(crate) enum Stage {
 /// The machine.
 #[derive(Drop)]
 pub struct Machine {
-    alloc: Global,
-    last: Ts,
-    stages: BTreeMap<Ts, Stage>,
-    fates: Fates,
-    index: Index,
-    reads: Reads,
+    pub(crate) alloc: Global,
+    pub(crate) last: Ts,
+    pub(crate) stages: BTreeMap<Ts, Stage>,
+    pub(crate) fates: Fates,
+    pub(crate) index: Index,
+    pub(crate) reads: Reads,
 }
 
 /// Why a step is not made. The machine is as it was.
@@ -146,7 +146,7 @@ impl Machine {
         if self.fates.get(&t).is_some() || set.as_slice().is_empty() {
             return Err(Refused::Step);
         }
-        if !has_distinct_keys(self.alloc, set.as_slice())? {
+        if repeated(self.alloc, set.as_slice())?.is_some() {
             return Err(Refused::Step);
         }
         match self.stages.get_mut(&t) {
@@ -198,7 +198,7 @@ impl Machine {
         if self.fates.get(&t).is_some() || commit <= start || commit - 1 > self.last.get() {
             return Err(Refused::Step);
         }
-        if !are_free(&self.index, &self.fates, &self.reads, t, c, set.as_slice()) {
+        if first_block(&self.index, &self.fates, &self.reads, t, c, set.as_slice()).is_some() {
             return Err(Refused::Step);
         }
         list_all(self.alloc, &mut self.index, t, c, set.as_slice())?;

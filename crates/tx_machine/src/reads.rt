@@ -2,7 +2,7 @@
 //!
 //! Of a key that was read alone only the greatest timestamp is kept. Ranges are kept by timestamp,
 //! since a commit asks only for those at its own timestamp or above, which are few.
-ghost use Rattle.std.specs.Prelude.{◌≡◌, ℕ, ◌<◌, ◌≤◌, List, [], ◌∷◌, ◌++◌, true, false, ◌↔◌, Some, IsTrue, cond, ◌==◌, unwrap_or, OnOk, OnErr, IfErr};
+ghost use Rattle.std.specs.Prelude.{◌≡◌, ℕ, ◌<◌, ◌≤◌, List, [], ◌∷◌, ◌++◌, true, false, ◌↔◌, Some, IsTrue, cond, ◌==◌, unwrap_or, OnOk, OnErr, IfErr, IfSome, IfNone};
 ghost use Rattle.std.specs.List.{list_any};
 ghost use Rattle.std.specs.Cmp.Lexicographic.{slice_cmp};
 ghost use Rattle.std.specs.Ordering.{nat_cmp};
@@ -56,14 +56,14 @@ impl Reads {
         }
     }
 
-    // Whether the key was read alone at this timestamp or above.
-    fn is_read_alone(&self, key: &Key, from: Ts) -> bool
-        ensures some { result ≡ true → (r : ℕ) × (from ≤ r) × (tree.get (slice_cmp nat_cmp) self.now.points key.now ≡ Some r) }
-        ensures none { result ≡ false → (r : ℕ) → tree.get (slice_cmp nat_cmp) self.now.points key.now ≡ Some r → r < from }
+    // Where the key was read alone, at this timestamp or above.
+    fn read_alone(&self, key: &Key, from: Ts) -> Option<Ts>
+        ensures some { IfSome result (λ r. (from ≤ r) × (tree.get (slice_cmp nat_cmp) self.now.points key.now ≡ Some r)) }
+        ensures none { IfNone result ((r : ℕ) → tree.get (slice_cmp nat_cmp) self.now.points key.now ≡ Some r → r < from) }
     {
         match self.points.get(key) {
-            Some(at) => *at >= from,
-            None => false,
+            Some(at) if *at >= from => Some(*at),
+            _ => None,
         }
     }
 
@@ -78,21 +78,24 @@ impl Reads {
         }
     }
 
-    /// Whether a read at this timestamp or above covered the key.
-    pub fn covers_from(&self, key: &Key, from: Ts) -> bool
-        ensures some { result ≡ true → (r : ℕ) × (from ≤ r) × IsNoted self.now key.now r }
-        ensures none { result ≡ false → (r : ℕ) → IsNoted self.now key.now r → r < from }
+    /// Where the key was covered by a read, at this timestamp or above.
+    pub fn read_from(&self, key: &Key, from: Ts) -> Option<Ts>
+        ensures some { IfSome result (λ r. (from ≤ r) × IsNoted self.now key.now r) }
+        ensures none { IfNone result ((r : ℕ) → IsNoted self.now key.now r → r < from) }
     {
-        if self.is_read_alone(key, from) || self.is_in_spans(key, from) {
-            return true;
+        if let Some(at) = self.read_alone(key, from) {
+            return Some(at);
+        }
+        if self.is_in_spans(key, from) {
+            return Some(from);
         }
         let mut bound = from.get();
         'spans: loop {
             let Some(next) = first_above(&self.spans, Ts::new(bound)) else {
-                return false;
+                return None;
             };
             if cover(next.1, key) {
-                return true;
+                return Some(next.0);
             }
             bound = next.0.get();
         }
@@ -104,7 +107,7 @@ impl Reads {
         ensures same { OnErr result (SameReads self.old self.new) }
         ensures err { IfErr result (λ e. e ≡ Fault.OutOfMemory) }
     {
-        if self.is_read_alone(key, at) {
+        if self.read_alone(key, at).is_some() {
             return Ok(());
         }
         self.points.insert(key.clone()?, at)?;

@@ -1,7 +1,8 @@
 //! Write sets.
-ghost use Rattle.std.specs.Prelude.{◌≡◌, ◌↔◌, IfOk, IfErr, IsTrue, bytes_eq};
+ghost use Rattle.std.specs.Prelude.{◌≡◌, IfOk, IfErr, IfSome, IfNone, bytes_eq};
 ghost use Rattle.std.specs.List.{list_any};
 ghost use Rattle.tx_machine.specs.Keys.{IsDistinct};
+ghost use Rattle.tx_machine.specs.Why.{StandsTwice};
 
 use std::alloc::Global;
 use std::collections::BTreeSet;
@@ -17,40 +18,43 @@ fn has_key(set: &[Change], key: &Key) -> bool
     set.iter().any(|change| change.key == *key)
 }
 
-// Whether no key comes twice, by comparing all pairs: for short lists.
-fn are_apart(set: &[Change]) -> bool
-    ensures { IsTrue result ↔ IsDistinct set.now }
+// A key that stands twice, where each change is compared with those before it.
+fn compared(set: &[Change]) -> Option<&Key>
+    ensures twice { IfSome result (λ key. StandsTwice set.now key.now) }
+    ensures once { IfNone result (IsDistinct set.now) }
 {
     for (at, change) in set.iter().enumerate() {
         if has_key(&set[..at], &change.key) {
-            return false;
+            return Some(&change.key);
         }
     }
-    true
+    None
 }
 
-// Whether no key comes twice, by a set of those before: for long lists.
-fn are_found_once(alloc: Global, set: &[Change]) -> Result<bool, Fault>
-    ensures ok { IfOk result (λ distinct. IsTrue distinct ↔ IsDistinct set.now) }
+// The same, where each is looked up among those before it.
+fn looked_up(alloc: Global, set: &[Change]) -> Result<Option<&Key>, Fault>
+    ensures twice { IfOk result (λ found. IfSome found (λ key. StandsTwice set.now key.now)) }
+    ensures once { IfOk result (λ found. IfNone found (IsDistinct set.now)) }
     ensures err { IfErr result (λ e. e ≡ Fault.OutOfMemory) }
 {
     let mut earlier = BTreeSet::new(alloc);
     for change in set {
         if !earlier.insert(change.key.clone()?)? {
-            return Ok(false);
+            return Ok(Some(&change.key));
         }
     }
-    Ok(true)
+    Ok(None)
 }
 
-/// Whether each key stands once.
-pub(crate) fn has_distinct_keys(alloc: Global, set: &[Change]) -> Result<bool, Fault>
-    ensures ok { IfOk result (λ distinct. IsTrue distinct ↔ IsDistinct set.now) }
+/// A key that stands twice.
+pub(crate) fn repeated(alloc: Global, set: &[Change]) -> Result<Option<&Key>, Fault>
+    ensures twice { IfOk result (λ found. IfSome found (λ key. StandsTwice set.now key.now)) }
+    ensures once { IfOk result (λ found. IfNone found (IsDistinct set.now)) }
     ensures err { IfErr result (λ e. e ≡ Fault.OutOfMemory) }
 {
     if set.len() <= FEW {
-        Ok(are_apart(set))
+        Ok(compared(set))
     } else {
-        are_found_once(alloc, set)
+        looked_up(alloc, set)
     }
 }

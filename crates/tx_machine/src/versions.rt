@@ -9,6 +9,9 @@ ghost use Rattle.std.specs.BTreeMap as tree;
 ghost use Rattle.tx_machine.specs.Machine.{Overlap};
 ghost use Rattle.tx_types.specs.declared.mutation.Mutation.{Mutation};
 ghost use Rattle.tx_machine.specs.Versions.{Listed, SeenIn, IsOrderly};
+ghost use Rattle.tx_machine.specs.Why.{LeftBy, IsSeen};
+ghost use Rattle.tx_machine.specs.declared.reason.Seen.TheVariants as Seen;
+ghost use Rattle.tx_types.specs.Keys.{IsVisible, put_by};
 
 use std::collections::BTreeMap;
 use std::ops::Bound;
@@ -19,6 +22,13 @@ use tx_types::{Fate, Mutation, Ts, Value};
 pub(crate) struct Version {
     pub start: Ts,
     pub mutation: Mutation,
+}
+
+/// A transaction that committed: where it started, and where it committed.
+#[derive(Clone, Copy, Debug, PartialEq, Eq)]
+pub struct Writer {
+    pub start: Ts,
+    pub commit: Ts,
 }
 
 /// The versions of a key, by commit timestamp.
@@ -86,22 +96,28 @@ pub(crate) fn is_committed(fates: &Fates, start: Ts, commit: Ts) -> bool
     }
 }
 
-/// The value that a read at this timestamp sees.
-pub(crate) fn seen<'a>(versions: &'a Versions, fates: &Fates, at: Ts) -> Option<&'a Value>
-    ensures { SeenIn versions.now fates.now at (option_map (λ v. v.now) result) }
+/// Whether reads see what it does.
+pub(crate) fn is_visible(mutation: &Mutation) -> bool
+    ensures { IsTrue result ↔ IsVisible mutation.now }
+{
+    match mutation {
+        Mutation::Put(_) | Mutation::Insert(_) | Mutation::Delete => true,
+        Mutation::Lock => false,
+    }
+}
+
+/// The newest commit at this timestamp or below that puts, inserts or deletes.
+pub(crate) fn newest<'a>(versions: &'a Versions, fates: &Fates, at: Ts) -> Option<(Ts, &'a Version)>
+    ensures some { IfSome result (λ x. LeftBy (Listed versions.now fates.now) at record { start = x.1.now.start; commit = x.0 } x.1.now.mutation) }
+    ensures none { IfNone result (IsSeen (Listed versions.now fates.now) at Seen.Nothing) }
 {
     let mut bound = at.get();
     'versions: loop {
         let Some((commit, version)) = last_upto(versions, Ts::new(bound)) else {
             return None;
         };
-        if is_committed(fates, version.start, commit) {
-            match &version.mutation {
-                Mutation::Put(value) => return Some(value),
-                Mutation::Insert(inserted) => return Some(inserted),
-                Mutation::Delete => return None,
-                Mutation::Lock => {}
-            }
+        if is_committed(fates, version.start, commit) && is_visible(&version.mutation) {
+            return Some((commit, version));
         }
         if commit.get() == 0 {
             return None;
@@ -110,20 +126,52 @@ pub(crate) fn seen<'a>(versions: &'a Versions, fates: &Fates, at: Ts) -> Option<
     }
 }
 
-/// Whether a committed version overlaps a transaction from `start` to `commit`. The first above
+/// The value that a mutation leaves.
+fn put_by(mutation: &Mutation) -> Option<&Value>
+    ensures { option_map (λ v. v.now) result ≡ put_by mutation.now }
+{
+    match mutation {
+        Mutation::Put(value) => Some(value),
+        Mutation::Insert(inserted) => Some(inserted),
+        Mutation::Delete | Mutation::Lock => None,
+    }
+}
+
+/// The value that a read at this timestamp sees.
+pub(crate) fn seen<'a>(versions: &'a Versions, fates: &Fates, at: Ts) -> Option<&'a Value>
+    ensures { SeenIn versions.now fates.now at (option_map (λ v. v.now) result) }
+{
+    match newest(versions, fates, at) {
+        None => None,
+        Some((_, version)) => put_by(&version.mutation),
+    }
+}
+
+/// A committed version that overlaps a transaction from `start` to `commit`. The first above
 /// `start` tells: those above it started later still.
-pub(crate) fn overlaps(versions: &Versions, fates: &Fates, start: Ts, commit: Ts) -> bool
-    ensures some { result ≡ true → (u : ℕ) × (d : ℕ) × (m : Mutation) × Listed versions.now fates.now u d m × Overlap start commit u d }
-    ensures none { result ≡ false → IsOrderly versions.now fates.now
-        → (u d : ℕ) (m : Mutation) → Listed versions.now fates.now u d m → Overlap start commit u d → ⊥ }
+pub(crate) fn overlapping(
+    versions: &Versions,
+    fates: &Fates,
+    start: Ts,
+    commit: Ts,
+) -> Option<Writer>
+    ensures some { IfSome result (λ by. (m : Mutation) × Listed versions.now fates.now by.start by.commit m × Overlap start commit by.start by.commit) }
+    ensures none { IfNone result (IsOrderly versions.now fates.now
+        → (u d : ℕ) (m : Mutation) → Listed versions.now fates.now u d m → Overlap start commit u d → ⊥) }
 {
     let mut bound = start.get();
     'versions: loop {
         let Some((above, version)) = first_above(versions, Ts::new(bound)) else {
-            return false;
+            return None;
         };
         if is_committed(fates, version.start, above) {
-            return version.start < commit;
+            if version.start >= commit {
+                return None;
+            }
+            return Some(Writer {
+                start: version.start,
+                commit: above,
+            });
         }
         bound = above.get();
     }

@@ -16,18 +16,19 @@ use Rattle.tx_core.proofs.seats.Beginnings.{begins_all, begins_more}
 use Rattle.tx_transaction.specs.declared.state.Came.{Came}
 use Rattle.tx_transaction.specs.declared.state.Came.TheVariants as came
 use Rattle.tx_transaction.specs.Buffers.{Entries, touched, put_over, inserted, buffered, locked, is_full}
-use Rattle.tx_transaction.specs.Sessions.{State, is_declared, has_primary, exceeds, declaration, can_draw, can_commit, can_abort, finish_of}
+use Rattle.tx_transaction.specs.Sessions.{State, is_declared, has_primary, exceeds, declaration, can_draw, can_commit, can_abort, finish_of, notes_one}
 use Rattle.tx_transaction.specs.declared.state.Terms.{Terms}
 use Rattle.tx_client.specs.Walks.{Walk, asks, grows, ends, get_walk, scan_walk, heartbeat_walk}
+use Rattle.tx_client.specs.Statuses.{lies_above}
 use Rattle.tx_resolve.specs.Reading.{read_walk}
 use Rattle.tx_resolve.specs.Collecting.{gc_walk}
 use Rattle.tx_post.specs.declared.way.Way.TheVariants.{Plain, Lose, LoseReply, Repeat, Hold}
 use Rattle.tx_lines.specs.declared.reply.Reply.{Reply}
 use Rattle.tx_lines.specs.declared.reply.Reply.TheVariants as reply
 use Rattle.tx_types.specs.Names.{is_name}
-use Rattle.tx_post.specs.Posts.{Course, taken, holding, may_go}
+use Rattle.tx_post.specs.Posts.{Course, taken, holding, takes_memory, may_go}
 use Rattle.tx_play.specs.Steps.{Deed, put, insert, delete, lock, get, scan, declare, prewrite, draw, commit, abort, heartbeat, course_of, Call, begin, acts, finish, stop, deliver, read, versions, tick, resolve, gc}
-use Rattle.tx_play.specs.Scenes.{Scene, Turn, goes, inquires, shows, stops, is_refused, later_of, calls, is_key, is_value, at_stage, at_history, with_session, began, declared_in, placed_in, placed, seat_at, read_by, said_by, asked, sent, runs, runs_to, first_free, live_at, changes, enters, inserts_by, is_too_many, deeds_by, deeds, delivered_by, delivers, finishes_by, begins_at, in_session, turn, learns, resolves_by, collected_as}
+use Rattle.tx_play.specs.Scenes.{Scene, Turn, goes, inquires, shows, stops, is_refused, later_of, calls, is_key, is_value, at_stage, at_history, with_session, began, declared_in, placed_in, placed, seat_at, read_by, said_by, answers, asked, sent, runs, runs_to, first_free, live_at, changes, enters, inserts_by, is_too_many, deeds_by, deeds, delivered_by, delivers, finishes_by, begins_at, in_session, turn, learns, resolves_by, collected_as}
 use Rattle.tx_play.specs.Plays.{Leads}
 
 -- Whatever a turn leads to, and wherever it asks a region, h has happened there; it stops at most
@@ -53,10 +54,14 @@ abbrev Later : (from : History) → (Scene → List Bool → Turn) → Type 0
 Later from on = (next : Scene) (left : List Bool) → AllGrow from next.stage.history (on next left)
 
 module _ (bounds : List Key) (from : History) where
+  answers_grow : (scene : Scene) (body : Body) (on : Came → Scene → List Bool → Turn) → ((c : Came) → Later from (on c)) → (left : List Bool) → AllGrow from scene.stage.history (answers bounds scene body on left)
+  answers_grow scene body on grow left =
+      (begins_all scene.stage.history, λ a. grows_more from scene.stage.history (taken bounds scene.stage body a).history (on (came.Said a) (at_stage scene (taken bounds scene.stage body a)) left) (inr (begins_all scene.stage.history)) (grow (came.Said a) (at_stage scene (taken bounds scene.stage body a)) left))
+
   asked_grows : (refused : List Bool) (scene : Scene) (body : Body) (on : Came → Scene → List Bool → Turn) → ((c : Came) → Later from (on c)) → AllGrow from scene.stage.history (asked bounds refused scene body on)
   asked_grows refused scene body on grow =
-      either from scene.stage.history (is_refused refused) _ _ (grow came.Unsaid scene (later_of refused))
-      (begins_all scene.stage.history, λ a. grows_more from scene.stage.history (taken bounds scene.stage body a).history (on (came.Said a) (at_stage scene (taken bounds scene.stage body a)) (later_of refused)) (inr (begins_all scene.stage.history)) (grow (came.Said a) (at_stage scene (taken bounds scene.stage body a)) (later_of refused)))
+      either from scene.stage.history (takes_memory body) _ _ (either from scene.stage.history (is_refused refused) _ _ (grow came.Unsaid scene (later_of refused)) (answers_grow scene body on grow (later_of refused)))
+      (answers_grow scene body on grow refused)
 
   sent_grows : (way : Course) (refused : List Bool) (scene : Scene) (body : Body) (on : Came → Scene → List Bool → Turn) → ((c : Came) → Later from (on c)) → AllGrow from scene.stage.history (sent bounds way refused scene body on)
   sent_grows Plain refused scene body on grow = asked_grows refused scene body on grow
@@ -129,7 +134,9 @@ module _ (bounds : List Key) where
 
     deliver_grows : (refused : List Bool) (o : Option Body) → AllGrow h h (delivers bounds refused scene o)
     deliver_grows refused None = begins_all h
-    deliver_grows refused (Some body) = asked_grows bounds h refused scene body (λ c next left. goes next (delivered_by c) left) (λ c next left. begins_all next.stage.history)
+    deliver_grows refused (Some body) =
+        calls_grow refused (λ left. asked bounds left scene body (λ c next rest. goes next (delivered_by c) rest))
+        (λ left. asked_grows bounds h left scene body (λ c next rest. goes next (delivered_by c) rest) (λ c next rest. begins_all next.stage.history))
 
     session_grows : (o : Option (ℕ × State)) (more : ℕ → State → Turn) → ((k : ℕ) (s : State) → AllGrow h h (more k s)) → AllGrow h h (in_session o more)
     session_grows None more grow = begins_all h
@@ -146,9 +153,8 @@ module _ (bounds : List Key) where
     resolve_grows : (refused : List Bool) (k : ℕ) (s : State) (now : ℕ) (o : Option LockInfo) → AllGrow h h (resolves_by bounds refused scene k s now o)
     resolve_grows refused k s now None = begins_all h
     resolve_grows refused k s now (Some met) =
-        calls_grow refused (λ left. runs bounds Plain left scene (read_walk met s.start now) (λ found next rest. learns next k s met found rest))
-        (λ left. runs_grow bounds h Plain left scene (read_walk met s.start now) (λ found next rest. learns next k s met found rest)
-        (λ found next rest. either h next.stage.history (is_refused rest) _ _ (begins_all next.stage.history) (begins_all next.stage.history)))
+        runs_grow bounds h Plain refused scene (read_walk met s.start now) (λ found next left. learns next k s met found left)
+        (λ found next left. either h next.stage.history (notes_one s met.start (lies_above found s.start)) _ _ (either h next.stage.history (is_refused left) _ _ (begins_all next.stage.history) (begins_all next.stage.history)) (begins_all next.stage.history))
 
     pub turn_grows : (refused : List Bool) (step : Call) → AllGrow scene.stage.history scene.stage.history (turn bounds refused step scene)
     turn_grows refused (begin name) = either h h (not (is_name name)) _ _ (begins_all h) (either h h (is_some (scene.names name)) _ _ (begins_all h) (begin_grows refused name (first_free scene.places)))

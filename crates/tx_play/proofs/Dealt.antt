@@ -58,12 +58,11 @@ all_free (s ∷ seats) = ap (λ l. free ∷ l) (all_free seats)
 -- an engine over the regions' seats, the clerk's and those of the places
 module _ (bounds : List Key) (e : Held) (regions : List Known) (clerk : Known) (seats : List Known) (taken : AreDealt 0 regions) (all : AreDealt (length bounds + 1) (clerk ∷ seats))
     (at_regions : e.desk.regions ≡ regions) (newest : e.desk.newest ≡ []) (held : e.desk.held ≡ []) (at_clerk : e.clerk ≡ clerk) (names : e.names ≡ []) (places : e.places ≡ frees seats) where
-  pub ready : length bounds < 1024 → (n : ℕ) → n ≤ 4294967296 → AllSeated bounds n e
-  ready least n few = record {
+  pub ready : (n : ℕ) → n ≤ 4294967296 → AllSeated bounds n e
+  ready n few = record {
     clerk = ap (λ (k : Known). k.seat) (at_clerk ∙ all.0);
     places = subst (AreSeated (length bounds + 2) n) (sym places) (seated_fewer (length bounds + 2) 4294967296 n (frees seats) few
         (subst (λ i. AreSeated i 4294967296 (frees seats)) (let same : suc (length bounds + 1) ≡ length bounds + 2 = omega arith in same) (seated_dealt (suc (length bounds + 1)) seats all.1)));
-    few = least;
   }
 
   pub sized : length e.places ≡ length seats

@@ -1,5 +1,5 @@
 -- What a delivery gives is its turn.
-use Rattle.std.proofs.Common.{◌≡◌, ◌+◌, ℕ, suc, Bool, true, List, [], ◌∷◌, ◌++◌, map, length, Option, Some, None, option_map, Result, Ok, Err, inl, inr, refl, sym, ap, subst, ◌∙◌, arith}
+use Rattle.std.proofs.Common.{◌≡◌, ◌+◌, ℕ, suc, Bool, true, false, List, [], ◌∷◌, ◌++◌, map, length, Option, Some, None, option_map, Result, Ok, Err, inl, inr, refl, sym, ap, subst, ◌∙◌, arith}
 use Rattle.std.specs.Prelude.{◌⊎◌}
 use Rattle.std.specs.List.{sum_by}
 use Rattle.tx_types.specs.declared.fault.Cause.{Cause}
@@ -56,8 +56,8 @@ module _ (bounds : List Key) (name : List ℕ) where
           exact = λ le ticks names places.
               (let scene = scene_with (stage_of from) ticks names places in
               let led = asked_leads bounds (λ later n told left. (n ≡ scene_with (stage_of to) ticks names places) × (told ≡ said) × (left ≡ later)) scene q.body (came_by g.answer) (stage_of to) (one.exact le) (λ c next left. goes next (delivered_by c) left) in (
-                led.0,
-                λ later. subst (Leads bounds (λ n told left. (n ≡ scene_with (stage_of to) ticks names places) × (told ≡ said) × (left ≡ later)) (λ c. ⊥)) (sym (delivers_is (led.0 ++ later) ticks names places)) (led.1 later later (refl, is, refl)),
+                false ∷ led.0,
+                λ later. subst (Leads bounds (λ n told left. (n ≡ scene_with (stage_of to) ticks names places) × (told ≡ said) × (left ≡ later)) (λ c. ⊥)) (sym (delivers_is (false ∷ (led.0 ++ later)) ticks names places)) (led.1 later later (refl, is, refl)),
               ));
         }
 
@@ -72,7 +72,6 @@ module _ (bounds : List Key) (name : List ℕ) where
   seats_stay old new clerk places n h = record {
     clerk = ap (λ (c : Known). c.seat) clerk ∙ h.clerk;
     places = subst (AreSeated (length bounds + 2) n) (sym places) (seated_fewer (length bounds + 2) (suc n) n old.places (omega arith) h.places);
-    few = h.few;
   }
 
   -- What an engine's delivery gives, where nothing else of the engine changes.

@@ -31,7 +31,7 @@ seated_fewer i n m [] le h = tt
 seated_fewer i n m (p ∷ places) le h = (fewer i n m (seat_in p) le h.0, seated_fewer (suc i) n m places le h.1)
 
 pub all_fewer : (bounds : List Key) (n m : ℕ) (e : Held) → m ≤ n → AllSeated bounds n e → AllSeated bounds m e
-all_fewer bounds n m e le h = record { clerk = h.clerk; places = seated_fewer (length bounds + 2) n m e.places le h.places; few = h.few }
+all_fewer bounds n m e le h = record { clerk = h.clerk; places = seated_fewer (length bounds + 2) n m e.places le h.places }
 
 -- the seat of a place
 pub seated_at : (i n k j : ℕ) (places : List Kept) (x : Kept) → j ≡ i + k → slice_get places k ≡ Some x → AreSeated i n places → IsSeat j n (seat_in x)
@@ -72,7 +72,6 @@ module _ (old new : Held) (k : ℕ) (x y : Kept) (there : slice_get old.places k
     seated = λ n h. record {
       clerk = ap (λ (c : Known). c.seat) clerk ∙ h.clerk;
       places = subst (AreSeated (length bounds + 2) n) (sym placed) (seated_set (length bounds + 2) n k old.places x y there (seat_changed a b acts.seat acts.ticks (seat_in x) (seat_in y) was now n) h.places);
-      few = h.few;
     };
     grows = acts.grows;
     exact = λ le. on (acts.exact le);
@@ -89,7 +88,6 @@ found bounds old new k x y there placed a b was now Exact Then finds on = record
   seated = λ n h. record {
     clerk = finds.clerk ∙ h.clerk;
     places = subst (AreSeated (length bounds + 2) n) (sym placed) (seated_set (length bounds + 2) n k old.places x y there (seat_changed a b finds.seat (let same = finds.ticks in omega (arith, same)) (seat_in x) (seat_in y) was now n) h.places);
-    few = h.few;
   };
   grows = finds.grows;
   exact = λ le. on (finds.exact le);
@@ -102,7 +100,7 @@ served bounds old new Exact Then places serves on = record {
   made = serves.made;
   counts = omega (arith, serves.counts, ap (sum_by (λ p. made_in (seat_in p))) places);
   size = ap length places;
-  seated = λ n h. record { clerk = serves.seat ∙ h.clerk; places = subst (AreSeated (length bounds + 2) n) (sym places) (seated_fewer (length bounds + 2) (suc n) n old.places (omega arith) h.places); few = h.few };
+  seated = λ n h. record { clerk = serves.seat ∙ h.clerk; places = subst (AreSeated (length bounds + 2) n) (sym places) (seated_fewer (length bounds + 2) (suc n) n old.places (omega arith) h.places) };
   grows = serves.grows;
   exact = λ le. on (serves.exact le);
   traced = serves.traced;
@@ -114,7 +112,7 @@ rested bounds old new regions newest trace clerk places Exact exact = record {
   made = 0;
   counts = omega (arith, ap (sum_by made_by) regions, ap made_by clerk, ap (sum_by (λ p. made_in (seat_in p))) places);
   size = ap length places;
-  seated = λ n h. record { clerk = ap (λ (c : Known). c.seat) clerk ∙ h.clerk; places = subst (AreSeated (length bounds + 2) n) (sym places) (seated_fewer (length bounds + 2) (suc n) n old.places (omega arith) h.places); few = h.few };
+  seated = λ n h. record { clerk = ap (λ (c : Known). c.seat) clerk ∙ h.clerk; places = subst (AreSeated (length bounds + 2) n) (sym places) (seated_fewer (length bounds + 2) (suc n) n old.places (omega arith) h.places) };
   grows = omega (arith, ap length newest);
   exact = λ le. exact;
   traced = λ le. traced_same old.desk new.desk newest trace;

@@ -1,5 +1,5 @@
 -- What it gives to resolve a lock that a session met, and to collect.
-use Rattle.std.proofs.Common.{◌≡◌, ℕ, Bool, true, false, List, [], ◌∷◌, ◌++◌, map, length, slice_get, slice_set, Option, Some, None, option_map, is_some, Result, Ok, Err, inl, inr, refl, sym, ap, subst, ◌∙◌, append_assoc, arith}
+use Rattle.std.proofs.Common.{◌≡◌, ℕ, Bool, true, false, cond, List, [], ◌∷◌, ◌++◌, map, length, slice_get, slice_set, Option, Some, None, option_map, is_some, Result, Ok, Err, inl, inr, refl, sym, ap, subst, ◌∙◌, append_assoc, arith}
 use Rattle.std.proofs.lemmas.List.{map-set}
 use Rattle.std.proofs.lemmas.Option.{slice_get-map}
 use Rattle.tx_types.specs.declared.fault.Cause.{Cause}
@@ -10,7 +10,9 @@ use Rattle.tx_types.specs.declared.lock.LockInfo.{LockInfo}
 use Rattle.tx_core.specs.Recording.{part}
 use Rattle.tx_journal.specs.Known.{Known}
 use Rattle.tx_client.specs.Calls.{Seated}
-use Rattle.tx_transaction.specs.Sessions.{with_passed}
+use Rattle.tx_transaction.specs.Sessions.{notes_one, with_passed}
+use Rattle.tx_client.specs.declared.resolved.Status.TheVariants as status
+use Rattle.tx_client.specs.declared.resolved.WaitCause.TheVariants as wait
 use Rattle.tx_client.specs.Statuses.{Found, lies_above}
 use Rattle.tx_resolve.specs.declared.collector.Counts.{Counts}
 use Rattle.tx_resolve.specs.Reading.{read_walk}
@@ -21,15 +23,15 @@ use Rattle.tx_play.specs.declared.places.Slot.TheVariants.{Live, Lent}
 use Rattle.tx_post.specs.declared.way.Way.TheVariants.{Plain}
 use Rattle.tx_post.specs.Posts.{Desk, made_by, stage_of, Runs}
 use Rattle.tx_play.specs.Steps.{resolve, gc}
-use Rattle.tx_play.specs.Scenes.{Place, session, Scene, goes, stops, at_stage, seat_at, with_session, learns, resolves_by, resolves, collected_as, live_at, in_session, turn}
+use Rattle.tx_play.specs.Scenes.{Place, session, Scene, goes, stops, is_refused, later_of, at_stage, seat_at, with_session, learnt, learns, resolves_by, resolves, collected_as, live_at, in_session, turn}
 use Rattle.tx_play.specs.Plays.{Leads}
 use Rattle.tx_play.specs.Places.{Kept, place_of, Held, name_at, scene_with, scene_of, AllSeated, Serves, Goes, SessionGoes, Learnt, Resolves, Turned}
 use Rattle.tx_play.proofs.Keeping.{set_here, at_place_of, found, served}
-use Rattle.tx_play.proofs.Turning.{runs_lead, session_rests}
+use Rattle.tx_play.proofs.Turning.{runs_lead}
 use Rattle.tx_play.proofs.Engines.{put, back, is_live, step_stops}
 
 module _ (bounds : List Key) (now : ℕ) where
-  -- ---- no lock was met, or there is no memory for a copy of it
+  -- ---- no lock was met
 
   unmet : (s : Seated) (o : Option LockInfo) → is_some o ≡ false → (refused : List Bool) (scene : Scene) (k : ℕ) → resolves_by bounds refused scene k s.state now o ≡ stops cause.Order
   unmet s None none refused scene k = refl
@@ -37,23 +39,6 @@ module _ (bounds : List Key) (now : ℕ) where
 
   pub resolve_none : (s : Seated) (clerk : Known) (desk : Desk) → is_some s.state.met ≡ false → Resolves bounds now (Err cause.Order) s s clerk clerk desk desk
   resolve_none s clerk desk none = (refl, refl, refl, unmet s s.state.met none)
-
-  uncopied : (s : Seated) (o : Option LockInfo) → is_some o ≡ true → (later : List Bool) (scene : Scene) (k : ℕ) → resolves_by bounds (true ∷ later) scene k s.state now o ≡ goes scene reply.OutOfMemory later
-  uncopied s None some later scene k = absurd (cc (some))
-  uncopied s (Some met) some later scene k = refl
-
-  pub resolve_short : (s : Seated) (clerk : Known) (desk : Desk) → is_some s.state.met ≡ true → Resolves bounds now (Ok reply.OutOfMemory) s s clerk clerk desk desk
-  resolve_short s clerk desk some = record {
-    made = 0;
-    counts = omega arith;
-    seat = refl;
-    ticks = refl;
-    clerk = refl;
-    left = refl;
-    grows = omega arith;
-    traced = λ le t. t;
-    exact = λ le. session_rests bounds (λ refused scene k x. resolves bounds refused scene k x now) s.seat.seat s.state s.state (stage_of desk) (stage_of desk) reply.OutOfMemory reply.OutOfMemory (true ∷ []) (uncopied s s.state.met some) refl refl refl;
-  }
 
   -- ---- it is resolved
 
@@ -64,44 +49,65 @@ module _ (bounds : List Key) (now : ℕ) where
     abbrev Then : Type 0
     Then = SessionGoes bounds (λ refused scene j s. resolves bounds refused scene j s now) old.seat.seat old.state new.state (stage_of from) (stage_of to) said
 
-    -- by the bit of what it learns
-    by_bit : Ran → (bit : Bool) (told : Reply) (next : Scene → ℕ → Scene) → ((later : List Bool) (scene : Scene) (j : ℕ) → learns (at_stage scene (stage_of to)) j old.state met f.status (bit ∷ later) ≡ goes (next scene j) told later)
+    -- by the bits of what it learns
+    by_bits : Ran → (bits : List Bool) (told : Reply) (next : Scene → ℕ → Scene) → ((later : List Bool) (scene : Scene) (j : ℕ) → learns (at_stage scene (stage_of to)) j old.state met f.status (bits ++ later) ≡ goes (next scene j) told later)
         → ((ticks : ℕ) (names : List ℕ → Option ℕ) (places : List Place) (j : ℕ) → slice_get places j ≡ Some (session old.state) → next (scene_with (stage_of from) ticks names places) j ≡ scene_with (stage_of to) ticks names (slice_set places j (session new.state))) → told ≡ said → Then
-    by_bit run bit told next is there same ticks names places j number at =
+    by_bits run bits told next is there same ticks names places j number at =
         let scene = scene_with (stage_of from) ticks names places in
         let last = scene_with (stage_of to) ticks names (slice_set places j (session new.state)) in
         let led = runs_lead bounds (λ later n t left. (n ≡ last) × (t ≡ said) × (left ≡ later)) Plain (read_walk met old.state.start now) scene f.status (stage_of to) run (λ found n rest. learns n j old.state met found rest) in (
-          false ∷ (led.0 ++ bit ∷ []),
+          led.0 ++ bits,
           λ later.
               let goal = Leads bounds (λ n t left. (n ≡ last) × (t ≡ said) × (left ≡ later)) (λ c. ⊥) in
-              subst goal (sym (ap (resolves_by bounds (false ∷ ((led.0 ++ bit ∷ []) ++ later)) scene j old.state now) some))
-              (subst (λ bits. goal (resolves_by bounds (false ∷ bits) scene j old.state now (Some met))) (sym (append_assoc led.0 (bit ∷ []) later))
-              (led.1 later (bit ∷ later) (subst goal (sym (is later scene j)) (there ticks names places j at, same, refl)))),
+              subst goal (sym (ap (resolves_by bounds ((led.0 ++ bits) ++ later) scene j old.state now) some))
+              (subst (λ all. goal (resolves_by bounds all scene j old.state now (Some met))) (sym (append_assoc led.0 bits later))
+              (led.1 later (bits ++ later) (subst goal (sym (is later scene j)) (there ticks names places j at, same, refl)))),
         )
+
+    -- what a session that learns goes on to
+    abbrev Next : List Bool → Type 0
+    Next bits = (later : List Bool) (scene : Scene) (j : ℕ) → learns (at_stage scene (stage_of to)) j old.state met f.status (bits ++ later) ≡ learnt (at_stage scene (stage_of to)) j old.state met f.status later
+
+    learns_some : (bits : List Bool) × Next bits
+    learns_some = by_need (notes_one old.state met.start (lies_above f.status old.state.start))
+      where
+        by_need : (b : Bool) → (bits : List Bool) × ((later : List Bool) (scene : Scene) (j : ℕ)
+            → cond b (cond (is_refused (bits ++ later)) (goes (at_stage scene (stage_of to)) (reply.Status (status.Waiting wait.OutOfMemory)) (later_of (bits ++ later))) (learnt (at_stage scene (stage_of to)) j old.state met f.status (later_of (bits ++ later))))
+            (learnt (at_stage scene (stage_of to)) j old.state met f.status (bits ++ later)) ≡ learnt (at_stage scene (stage_of to)) j old.state met f.status later)
+        by_need true = (false ∷ [], λ later scene j. refl)
+        by_need false = ([], λ later scene j. refl)
+
+    -- memory for one more start is refused
+    learns_none : notes_one old.state f.start (lies_above f.status old.state.start) ≡ true → (later : List Bool) (scene : Scene) (j : ℕ) → learns (at_stage scene (stage_of to)) j old.state met f.status (true ∷ later) ≡ goes (at_stage scene (stage_of to)) (reply.Status (status.Waiting wait.OutOfMemory)) later
+    learns_none one later scene j = by_need (notes_one old.state met.start (lies_above f.status old.state.start)) (ap (λ t. notes_one old.state t (lies_above f.status old.state.start)) (sym start) ∙ one)
+      where
+        by_need : (b : Bool) → b ≡ true → cond b (goes (at_stage scene (stage_of to)) (reply.Status (status.Waiting wait.OutOfMemory)) later) (learnt (at_stage scene (stage_of to)) j old.state met f.status (true ∷ later)) ≡ goes (at_stage scene (stage_of to)) (reply.Status (status.Waiting wait.OutOfMemory)) later
+        by_need true is = refl
+        by_need false is = absurd (cc (is))
 
     by_learnt : Ran → Learnt bounds f said old new → Then
     by_learnt run (inl (is, state, heard)) =
-        by_bit run false (reply.Status f.status) (λ scene j. with_session (at_stage scene (stage_of to)) j (with_passed old.state met.start (lies_above f.status old.state.start))) (λ later scene j. refl)
+        by_bits run learns_some.0 (reply.Status f.status) (λ scene j. with_session (at_stage scene (stage_of to)) j (with_passed old.state met.start (lies_above f.status old.state.start))) learns_some.1
         (λ ticks names places j at.
         let after : with_passed old.state met.start (lies_above f.status old.state.start) ≡ new.state = ap (λ t. with_passed old.state t (lies_above f.status old.state.start)) (sym start) ∙ sym state in
         λ i. scene_with (stage_of to) ticks names (slice_set places j (session (after i)))) (sym is)
-    by_learnt run (inr (is, same)) =
-        by_bit run true reply.OutOfMemory (λ scene j. at_stage scene (stage_of to)) (λ later scene j. refl)
+    by_learnt run (inr (is, one, same)) =
+        by_bits run (true ∷ []) (reply.Status (status.Waiting wait.OutOfMemory)) (λ scene j. at_stage scene (stage_of to)) (learns_none one)
         (λ ticks names places j at.
         let stays : places ≡ slice_set places j (session new.state) = sym (set_here places j (session old.state) at) ∙ ap (λ (s : Seated). slice_set places j (session s.state)) (sym same) in
         λ i. scene_with (stage_of to) ticks names (stays i)) (sym is)
 
     seat_kept : Learnt bounds f said old new → new.seat.seat ≡ old.seat.seat
     seat_kept (inl (is, state, heard)) = heard.number
-    seat_kept (inr (is, same)) = ap (λ (s : Seated). s.seat.seat) same
+    seat_kept (inr (is, one, same)) = ap (λ (s : Seated). s.seat.seat) same
 
     ticks_kept : Learnt bounds f said old new → new.seat.ticks ≡ old.seat.ticks
     ticks_kept (inl (is, state, heard)) = heard.ticks
-    ticks_kept (inr (is, same)) = ap (λ (s : Seated). s.seat.ticks) same
+    ticks_kept (inr (is, one, same)) = ap (λ (s : Seated). s.seat.ticks) same
 
     own_kept : Learnt bounds f said old new → made_by new.seat ≡ made_by old.seat
     own_kept (inl (is, state, heard)) = ap (λ i. length (part i new.seat.events)) heard.number ∙ ap length heard.own
-    own_kept (inr (is, same)) = ap (λ (s : Seated). made_by s.seat) same
+    own_kept (inr (is, one, same)) = ap (λ (s : Seated). made_by s.seat) same
 
     pub resolve_found : m.ticks ≡ k.ticks → Serves k m from to Ran → Learnt bounds f said old new → Resolves bounds now (Ok said) old new k m from to
     resolve_found left serves learnt = record {

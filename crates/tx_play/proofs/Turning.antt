@@ -1,5 +1,5 @@
 -- What steps of a session are in the scene that the engine holds.
-use Rattle.std.proofs.Common.{◌≡◌, ℕ, Bool, true, false, List, [], ◌∷◌, ◌++◌, slice_set, Some, Ok, Err, inl, inr, refl, sym, ap, subst, ◌∙◌, append_assoc}
+use Rattle.std.proofs.Common.{◌≡◌, ℕ, Bool, true, false, cond, List, [], ◌∷◌, ◌++◌, slice_set, Some, Ok, Err, inl, inr, refl, sym, ap, subst, ◌∙◌, append_assoc}
 use Rattle.tx_types.specs.declared.fault.Cause.{Cause}
 use Rattle.tx_types.specs.declared.key.Key.{Key}
 use Rattle.tx_plan.specs.declared.body.Body.{Body}
@@ -10,8 +10,8 @@ use Rattle.tx_transaction.specs.Sessions.{State}
 use Rattle.tx_client.specs.Walks.{Walk, asks, grows, ends, Sends}
 use Rattle.tx_post.specs.declared.way.Way.TheVariants.{Plain, Lose, LoseReply, Repeat, Hold}
 use Rattle.tx_lines.specs.declared.reply.Reply.{Reply}
-use Rattle.tx_post.specs.Posts.{Course, Desk, Stage, stage_of, IsSet, Passes, Met, Reach, Runs}
-use Rattle.tx_play.specs.Scenes.{session, Scene, Turn, goes, stops, at_stage, seat_at, with_session, asked, sent, runs, runs_to}
+use Rattle.tx_post.specs.Posts.{Course, Desk, Stage, stage_of, IsSet, takes_memory, Passes, Met, Reach, Runs}
+use Rattle.tx_play.specs.Scenes.{session, Scene, Turn, goes, stops, at_stage, seat_at, with_session, is_refused, later_of, answers, asked, sent, runs, runs_to}
 use Rattle.tx_play.specs.Plays.{Leads}
 use Rattle.tx_play.specs.Places.{scene_with, GoesTo, SessionGoes, Sent, Did}
 use Rattle.tx_play.proofs.Acting.{still_acts, acts_so, sent_acts}
@@ -27,8 +27,21 @@ Leading bounds Goes on turn = (bits : List Bool) × ((g later : List Bool) → L
 module _ (bounds : List Key) (Goes : List Bool → Scene → Reply → List Bool → Type 0) where
   pub asked_leads : (scene : Scene) (body : Body) (c : Came) (next : Stage) → Met bounds scene.stage body c next → (on : Came → Scene → List Bool → Turn) → Leading bounds Goes (on c (at_stage scene next)) (λ refused. asked bounds refused scene body on)
   asked_leads scene body came.Lost next met on = absurd met
-  asked_leads scene body came.Unsaid next met on = (true ∷ [], λ g later leads. subst (λ s. Leads bounds (Goes g) (λ c. ⊥) (on came.Unsaid (at_stage scene s) later)) met leads)
-  asked_leads scene body (came.Said a) next met on = (false ∷ [], λ g later leads. (a, met.0, subst (λ s. Leads bounds (Goes g) (λ c. ⊥) (on (came.Said a) (at_stage scene s) later)) met.1 leads))
+  asked_leads scene body came.Unsaid next met on = (
+    true ∷ [],
+    λ g later leads. by_need g later (takes_memory body) met.0 (subst (λ s. Leads bounds (Goes g) (λ c. ⊥) (on came.Unsaid (at_stage scene s) later)) met.1 leads),
+  )
+    where
+      by_need : (g later : List Bool) (b : Bool) → b ≡ true → Leads bounds (Goes g) (λ c. ⊥) (on came.Unsaid scene later)
+          → Leads bounds (Goes g) (λ c. ⊥) (cond b (on came.Unsaid scene later) (answers bounds scene body on (true ∷ later)))
+      by_need g later true needs leads = leads
+      by_need g later false needs leads = absurd (cc (needs))
+  asked_leads scene body (came.Said a) next met on = by_need (takes_memory body)
+    where
+      by_need : (b : Bool) → Leading bounds Goes (on (came.Said a) (at_stage scene next))
+          (λ refused. cond b (cond (is_refused refused) (on came.Unsaid scene (later_of refused)) (answers bounds scene body on (later_of refused))) (answers bounds scene body on refused))
+      by_need true = (false ∷ [], λ g later leads. (a, met.0, subst (λ s. Leads bounds (Goes g) (λ c. ⊥) (on (came.Said a) (at_stage scene s) later)) met.1 leads))
+      by_need false = ([], λ g later leads. (a, met.0, subst (λ s. Leads bounds (Goes g) (λ c. ⊥) (on (came.Said a) (at_stage scene s) later)) met.1 leads))
 
   sent_leads : (way : Course) (scene : Scene) (body : Body) (c : Came) (next : Stage) → Reach bounds (Some way) scene.stage body c next → (on : Came → Scene → List Bool → Turn) → Leading bounds Goes (on c (at_stage scene next)) (λ refused. sent bounds way refused scene body on)
   sent_leads Plain scene body c next reach on = asked_leads scene body c next reach on

@@ -1,5 +1,5 @@
 -- What an engine holds, what acts make of it, and what is counted.
-use Rattle.std.specs.Prelude.{◌≡◌, ◌≤◌, ◌<◌, ◌⊎◌, ℕ, suc, ◌+◌, Bool, List, [], ◌∷◌, ◌++◌, map, length, slice_get, slice_set, Option, Some, None, Result, Ok, Err, Contains, String, string_bytes, bytes_eq}
+use Rattle.std.specs.Prelude.{◌≡◌, ◌≤◌, ◌<◌, ◌⊎◌, ℕ, suc, ◌+◌, Bool, true, List, [], ◌∷◌, ◌++◌, map, length, slice_get, slice_set, Option, Some, None, Result, Ok, Err, Contains, String, string_bytes, bytes_eq}
 use Rattle.std.specs.Global.{Global}
 use Rattle.std.specs.List.{sum_by}
 use Rattle.std.specs.Map.{lookup}
@@ -11,9 +11,11 @@ use Rattle.tx_core.specs.declared.event.Declaration.{Declaration}
 use Rattle.tx_core.specs.declared.event.Event.TheVariants.{Declared}
 use Rattle.tx_trace.specs.Traces.{Noted}
 use Rattle.tx_journal.specs.Known.{Known}
-use Rattle.tx_transaction.specs.Sessions.{State, begun, with_passed}
+use Rattle.tx_transaction.specs.Sessions.{State, begun, notes_one, with_passed}
 use Rattle.tx_client.specs.Calls.{Seated}
 use Rattle.tx_client.specs.Calls.{HasHeard}
+use Rattle.tx_client.specs.declared.resolved.Status.TheVariants as status
+use Rattle.tx_client.specs.declared.resolved.WaitCause.TheVariants as wait
 use Rattle.tx_client.specs.Statuses.{Found, lies_above}
 use Rattle.tx_play.specs.declared.places.Slot.{Slot}
 use Rattle.tx_play.specs.declared.places.Slot.TheVariants.{Free, Live, Lent}
@@ -84,11 +86,10 @@ AreSeated i n [] = Unit {0}
 AreSeated i n (p ∷ places) = IsSeat i n (seat_in p) × AreSeated (suc i) n places
 
 -- the seats of an engine are those of the regions, one for what no session does, and those of the
--- places, each of which may draw so many ticks; there are at most 1,023 regions
+-- places, each of which may draw so many ticks
 pub record AllSeated (bounds : List Key) (n : ℕ) (e : Held) : Type 0 where
   pub clerk : e.clerk.seat ≡ length bounds + 1
   pub places : AreSeated (length bounds + 2) n e.places
-  pub few : length bounds < 1024
 
 -- a number was drawn for what is declared, and then it was declared; or nothing was
 abbrev pub NotesPlaced : Option Declaration → Option Noted → Option Noted → Type 0
@@ -163,9 +164,16 @@ abbrev pub ActsIn : List Key → Deed → Kept → Kept → Result Reply Cause �
 ActsIn bounds deed (Live s) new result from to = (t : Seated) × (new ≡ Live t) × Did bounds (λ refused scene k x. deeds refused scene k x bounds deed) result s t from to
 ActsIn bounds deed old new result from to = (result ≡ Err cause.Name) × (new ≡ old) × (to ≡ from)
 
--- what a session learnt of what was found; or memory for it was refused
+-- a session learnt what was found; or memory for one more start that its reads pass by was refused,
+-- and it waits
 abbrev pub Learnt : List Key → Found → Reply → Seated → Seated → Type 0
-Learnt bounds f reply old new = ((reply ≡ replies.Status f.status) × (new.state ≡ with_passed old.state f.start (lies_above f.status old.state.start)) × HasHeard bounds old.seat f.events new.seat) ⊎ ((reply ≡ replies.OutOfMemory) × (new ≡ old))
+Learnt bounds f reply old new =
+    ((reply ≡ replies.Status f.status)
+    × (new.state ≡ with_passed old.state f.start (lies_above f.status old.state.start))
+    × HasHeard bounds old.seat f.events new.seat)
+    ⊎ ((reply ≡ replies.Status (status.Waiting wait.OutOfMemory))
+    × (notes_one old.state f.start (lies_above f.status old.state.start) ≡ true)
+    × (new ≡ old))
 
 -- a lock that a session met is resolved; or that is not allowed and changes nothing
 abbrev pub Resolves : List Key → ℕ → Result Reply Cause → Seated → Seated → Known → Known → Desk → Desk → Type 0

@@ -25,10 +25,12 @@ use Rattle.tx_transaction.specs.declared.state.Phase.TheVariants as phase
 use Rattle.tx_transaction.specs.declared.state.Came.{Came}
 use Rattle.tx_transaction.specs.declared.state.Came.TheVariants as came
 use Rattle.tx_client.specs.declared.resolved.Status.{Status}
+use Rattle.tx_client.specs.declared.resolved.Status.TheVariants as status
+use Rattle.tx_client.specs.declared.resolved.WaitCause.TheVariants as wait
 use Rattle.tx_transaction.specs.declared.state.Miss.{Miss}
 use Rattle.tx_transaction.specs.declared.state.Miss.TheVariants as miss
 use Rattle.tx_transaction.specs.Buffers.{Entries, touched, put_over, inserted, locked, buffered, is_full, is_known}
-use Rattle.tx_transaction.specs.Sessions.{State, begun, is_declared, has_primary, exceeds, declaration, due_prewrite, due_commit, due_abort, can_draw, can_commit, can_abort, finish_of, with_passed}
+use Rattle.tx_transaction.specs.Sessions.{State, begun, is_declared, has_primary, exceeds, declaration, due_prewrite, due_commit, due_abort, can_draw, can_commit, can_abort, finish_of, notes_one, with_passed}
 use Rattle.tx_client.specs.Statuses.{lies_above}
 use Rattle.tx_client.specs.Walks.{Walk, asks, grows, ends, due_walk, heartbeat_walk, get_walk, scan_walk}
 use Rattle.tx_resolve.specs.declared.collector.Counts.{Counts}
@@ -38,7 +40,7 @@ use Rattle.tx_post.specs.declared.way.Way.TheVariants.{Plain, Lose, LoseReply, R
 use Rattle.tx_lines.specs.declared.reply.Reply.{Reply}
 use Rattle.tx_lines.specs.declared.reply.Reply.TheVariants as reply
 use Rattle.tx_types.specs.Names.{is_name}
-use Rattle.tx_post.specs.Posts.{Course, Stage, with_events, taken, holding, may_go, is_crowded}
+use Rattle.tx_post.specs.Posts.{Course, Stage, with_events, taken, holding, takes_memory, may_go, is_crowded}
 use Rattle.tx_play.specs.Steps.{Deed, put, insert, delete, lock, get, scan, declare, prewrite, draw, commit, abort, heartbeat, course_of, Call, begin, acts, finish, stop, resolve, deliver, read, versions, tick, gc}
 
 -- a place: free, or with a live session
@@ -67,7 +69,8 @@ pub data Turn : Type 0 where
   shows : (stage : Stage) (key : Key) (more : KeyCopy → Turn) → Turn
   stops : (cause : Cause) → Turn
 
--- ---- want of memory: the k-th call that may need it is refused where the k-th of a list says so
+-- ---- want of memory: the k-th growth that may be needed is refused where the k-th of a list says so.
+-- A refusal by any other rule comes before it.
 
 abbrev pub is_refused : List Bool → Bool
 is_refused [] = false
@@ -159,10 +162,17 @@ module _ (bounds : List Key) where
   -- ---- requests
 
   -- a region takes a request, and its reply comes
+  abbrev pub answers : Scene → Body → (Came → Scene → List Bool → Turn) → List Bool → Turn
+  answers scene body on left =
+      inquires scene.stage body (λ a. on (came.Said a) (at_stage scene (taken bounds scene.stage body a)) left)
+
+  -- a region is asked: where it may need memory for its answer, that may be refused, and then it
+  -- took nothing
   abbrev pub asked : List Bool → Scene → Body → (Came → Scene → List Bool → Turn) → Turn
   asked refused scene body on =
-      if is_refused refused then on came.Unsaid scene (later_of refused)
-      else inquires scene.stage body (λ a. on (came.Said a) (at_stage scene (taken bounds scene.stage body a)) (later_of refused))
+      if takes_memory body
+      then (if is_refused refused then on came.Unsaid scene (later_of refused) else answers scene body on (later_of refused))
+      else answers scene body on refused
 
   -- a request, by its way
   abbrev pub sent : Course → List Bool → Scene → Body → (Came → Scene → List Bool → Turn) → Turn
@@ -190,8 +200,8 @@ module _ (bounds : List Key) where
 -- ---- replies
 
 abbrev pub missed_by : Miss → Reply
-missed_by miss.NoReply = reply.Lost
-missed_by miss.NoMemory = reply.OutOfMemory
+missed_by miss.Lost = reply.Lost
+missed_by miss.Fault = reply.OutOfMemory
 
 abbrev pub answered_by : Option Answer → Reply
 answered_by None = reply.Done
@@ -345,14 +355,27 @@ module _ (refused : List Bool) (scene : Scene) (k : ℕ) (s : State) where
 -- ---- resolving and collecting: no request of theirs is lost
 
 -- a session learns what was found of the transaction of a lock: its reads may then pass by that
+abbrev pub learnt : Scene → ℕ → State → LockInfo → Status → List Bool → Turn
+learnt scene k s met found left =
+    goes (with_session scene k (with_passed s met.start (lies_above found s.start))) (reply.Status found) left
+
+-- memory for that was refused, so it waits; what was found will be found again
+abbrev pub waits : Scene → List Bool → Turn
+waits scene left = goes scene (reply.Status (status.Waiting wait.OutOfMemory)) left
+
+-- It takes memory only where its reads pass by one more.
 abbrev pub learns : Scene → ℕ → State → LockInfo → Status → List Bool → Turn
-learns scene k s met found left = calls left scene (λ rest. goes (with_session scene k (with_passed s met.start (lies_above found s.start))) (reply.Status found) rest)
+learns scene k s met found left =
+    if notes_one s met.start (lies_above found s.start)
+    then (if is_refused left then waits scene (later_of left) else learnt scene k s met found (later_of left))
+    else learnt scene k s met found left
 
 module _ (bounds : List Key) where
   -- the lock that was met last is resolved for the session's reads, at a time
   abbrev pub resolves_by : List Bool → Scene → ℕ → State → ℕ → Option LockInfo → Turn
   resolves_by refused scene k s now None = stops Order
-  resolves_by refused scene k s now (Some met) = calls refused scene (λ left. runs bounds Plain left scene (read_walk met s.start now) (λ found next rest. learns next k s met found rest))
+  resolves_by refused scene k s now (Some met) =
+      runs bounds Plain refused scene (read_walk met s.start now) (λ found next left. learns next k s met found left)
 
   abbrev pub resolves : List Bool → Scene → ℕ → State → ℕ → Turn
   resolves refused scene k s now = resolves_by refused scene k s now s.met
@@ -381,10 +404,12 @@ delivered_by came.Lost = reply.Lost
 delivered_by came.Unsaid = reply.OutOfMemory
 delivered_by (came.Said a) = reply.Answered a
 
--- a copy of a held request is taken, and its session hears nothing of it; the request stays held
+-- a copy of a held request is made and taken, and its session hears nothing of it; the request
+-- stays held
 abbrev pub delivers : List Key → List Bool → Scene → Option Body → Turn
 delivers bounds refused scene None = stops Name
-delivers bounds refused scene (Some body) = asked bounds refused scene body (λ c next left. goes next (delivered_by c) left)
+delivers bounds refused scene (Some body) =
+    calls refused scene (λ left. asked bounds left scene body (λ c next rest. goes next (delivered_by c) rest))
 
 -- ---- what is kept of a key
 

@@ -53,9 +53,6 @@ fn regions_of<J: Naming, F: Families + Drop>(
     Ok(regions)
 }
 
-// A journal has at most so many seats.
-const MAX_SEATS: usize = 1024;
-
 /// An engine over these seats of a new journal: those of the regions come first, then one for what
 /// no session does, then those of the places. `AllocError` where a growth was refused.
 pub fn engine_of<J: Naming, F: Families + Drop>(
@@ -72,9 +69,6 @@ pub fn engine_of<J: Naming, F: Families + Drop>(
     ensures ready { IfOk result (λ e. (n : ℕ) → n ≤ 4294967296 → AllSeated J.bounds n e) }
     ensures size { IfOk result (λ e. length seats.items ≡ length J.bounds + 2 + length e.places) }
 {
-    if seats.len() > MAX_SEATS {
-        return Err(AllocError);
-    }
     let mut seats = seats;
     let Ok(regions) = regions_of(alloc, &journal, &mut seats, families) else {
         return Err(AllocError);

@@ -1,6 +1,7 @@
 //! What resolves locks and collects old versions: the seat for what no session does, by a way
 //! that loses nothing.
-ghost use Rattle.std.specs.Prelude.{◌≡◌, ◌<◌, length, Some};
+ghost use Rattle.std.specs.Prelude.{◌≡◌, Some};
+ghost use Rattle.tx_core.specs.Laws.{WasToldOf};
 ghost use Rattle.tx_resolve.specs.Collecting.{gc_walk};
 ghost use Rattle.tx_resolve.specs.Reading.{read_walk};
 ghost use Rattle.tx_post.specs.declared.way.Way.TheVariants as ways;
@@ -10,12 +11,12 @@ ghost use Rattle.tx_play.specs.Scenes.{collected_as as collected_so, refused_as 
 
 use crate::step::Reply;
 use tx_cells::Families;
-use tx_client::{Lost, Met, Resolved, Sender, Session};
+use tx_client::{Lost, Resolved, Sender, Session, Status, WaitCause};
 use tx_core::Answer;
-use tx_journal::{Naming, Request, Seat};
+use tx_journal::{Naming, Request, Seat, Told};
 use tx_post::Post;
 use tx_resolve::{Counts, gc, resolve};
-use tx_types::{Cause, Fault, Key, Ts};
+use tx_types::{Cause, Fault, Key, LockInfo, Ts};
 
 /// The way to the regions that loses nothing: each request is taken once, and its reply comes.
 pub(crate) struct Direct<J: Naming, F: Families> {
@@ -59,36 +60,39 @@ impl<J: Naming, F: Families> Sender<Request<J>, tx_journal::Reply<J>> for Direct
     }
 }
 
-// The seat for what no session does resolves a lock that was met, for reads at a timestamp.
+// The seat for what no session does resolves a lock that was met, as was told, for reads at a
+// timestamp.
 fn find<J: Naming, F: Families>(
     clerk: &mut Seat<J>,
-    met: Met<J>,
+    met: &LockInfo,
+    told: Told<J>,
     at: Ts,
     now: Ts,
     direct: &mut Direct<J, F>,
 ) -> Resolved<J>
-    ensures start { result.start ≡ met.info.start }
+    requires { WasToldOf told met.now }
+    ensures start { result.start ≡ met.now.start }
     ensures ticks { clerk.new.ticks ≡ clerk.old.ticks }
-    ensures serves { Serves clerk.old clerk.new direct.old.post direct.new.post (Runs J.bounds (Some ways.Plain) (stage_of direct.old.post) (read_walk met.info at now) result.status (stage_of direct.new.post)) }
+    ensures serves { Serves clerk.old clerk.new direct.old.post direct.new.post (Runs J.bounds (Some ways.Plain) (stage_of direct.old.post) (read_walk met.now at now) result.status (stage_of direct.new.post)) }
 {
-    let (info, told) = met.into_parts();
     clerk.learn(told);
-    resolve(clerk, &info, at, now, direct)
+    resolve(clerk, met, at, now, direct)
 }
 
-// A session learns what was found.
+// A session learns what was found. Where memory for that is refused it waits, and what was found
+// will be found again.
 fn learn<J: Naming>(session: &mut Session<J>, found: Resolved<J>) -> Reply
     ensures { Learnt J.bounds found result session.old session.new }
 {
     let status = found.status();
     match session.learn(found) {
         Ok(()) => Reply::Status(status),
-        Err(_) => Reply::OutOfMemory,
+        Err(_) => Reply::Status(Status::Waiting(WaitCause::OutOfMemory)),
     }
 }
 
 /// The lock that a session met last is resolved for its reads, at a time, and the session learns
-/// what was found. `Order` where it met none.
+/// what was found. `Order` where it met none. Memory that is refused on the way is a status.
 pub(crate) fn resolve_at<J: Naming, F: Families>(
     clerk: &mut Seat<J>,
     session: &mut Session<J>,
@@ -97,15 +101,14 @@ pub(crate) fn resolve_at<J: Naming, F: Families>(
 ) -> Result<Reply, Cause>
     ensures { Resolves J.bounds now result session.old session.new clerk.old clerk.new direct.old.post direct.new.post }
 {
-    if !session.has_met() {
-        return Err(Cause::Order);
+    let told = session.tell();
+    match session.met_lock() {
+        None => Err(Cause::Order),
+        Some(met) => {
+            let found = find(clerk, met, told, session.start(), now, direct);
+            Ok(learn(session, found))
+        }
     }
-    let Ok(met) = session.met() else {
-        return Ok(Reply::OutOfMemory);
-    };
-    let Some(met) = met else { unreachable!() };
-    let found = find(clerk, met, session.start(), now, direct);
-    Ok(learn(session, found))
 }
 
 /// Old versions are collected at a safe point, in each region.
@@ -114,7 +117,6 @@ pub(crate) fn gc_at<J: Naming, F: Families>(
     direct: &mut Direct<J, F>,
     safe: Ts,
 ) -> Result<Counts, Fault>
-    requires few { length J.bounds < 1024 }
     ensures ticks { clerk.new.ticks ≡ clerk.old.ticks }
     ensures serves { Serves clerk.old clerk.new direct.old.post direct.new.post (Runs J.bounds (Some ways.Plain) (stage_of direct.old.post) (gc_walk J.bounds safe) result (stage_of direct.new.post)) }
 {

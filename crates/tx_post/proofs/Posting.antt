@@ -1,11 +1,12 @@
 -- What the post's taking makes of what is newest.
-use Rattle.std.proofs.Common.{◌≡◌, ◌≤◌, ◌<◌, ◌+◌, ℕ, suc, zero, List, [], ◌∷◌, length, slice_get, slice_set, slice_index_or, Option, Some, None, sym, ap, subst, ◌∙◌, arith}
+use Rattle.std.proofs.Common.{◌≡◌, ◌≤◌, ◌<◌, ◌+◌, ℕ, suc, zero, List, [], ◌∷◌, length, slice_get, slice_set, slice_index_or, Option, Some, None, false, true, refl, sym, ap, subst, ◌∙◌, arith}
 use Rattle.std.specs.List.{sum_by}
-use Rattle.std.specs.Prelude.{IfNone, IfSome}
+use Rattle.std.specs.Prelude.{IfNone, IfSome, IsSome}
 use Rattle.std.proofs.lemmas.List.Sums.{sum_by-set}
 use Rattle.std.proofs.lemmas.Option.{slice_get_within, get_or_from_slice_get}
 use Rattle.tx_types.specs.declared.key.Key.{Key}
 use Rattle.tx_plan.specs.declared.body.Body.{Body}
+use Rattle.tx_plan.specs.declared.body.Body.TheVariants.{RaiseSafe}
 use Rattle.tx_plan.specs.declared.answer.Answer.{Answer}
 use Rattle.tx_plan.specs.Answers.{AnswersFrom}
 use Rattle.tx_core.specs.declared.event.Event.TheVariants.{Took}
@@ -18,8 +19,9 @@ use Rattle.tx_core.proofs.seats.Beginnings.{begins_more, extends_begins}
 use Rattle.tx_core.proofs.seats.Parts.{part_extends}
 use Rattle.tx_journal.specs.Known.{Known, HasSeen}
 use Rattle.tx_journal.specs.Replies.{Asked, Given}
+use Rattle.tx_region.specs.Calls.{TakesNoMemory}
 use Rattle.tx_region.specs.Taking.{Answered}
-use Rattle.tx_post.specs.Posts.{Desk, AreNumbered, made_by, made_for, NotesTaken, TakesBy, Taken, Hands}
+use Rattle.tx_post.specs.Posts.{Desk, AreNumbered, made_by, made_for, NotesTaken, takes_memory, TakesBy, Taken, Hands}
 use Rattle.tx_post.proofs.Counts.{part_upto}
 
 -- the region k learnt what is newest and was then k1, and is k2 after it took the request
@@ -57,12 +59,20 @@ module _ (bounds : List Key) (k k1 k2 : Known) (n : History) (q : Asked) (g : Gi
     made_upto 0 (let rest : part k.seat k2.events ≡ part k.seat k1.events = subst (λ i. part i k2.events ≡ part i k1.events) number (part_extends k1.seat k1.events k2.events seen.extends) in omega (arith, ap length rest)),
   )
 
-  by_answer : (o : Option Answer) → IfSome o (Answered bounds k1.seat k1.events g) → IfNone o (HasSeen bounds k1.seat k1.events k2.events) → TakesBy k.seat n q.body o k2.events × (made_by k2 ≤ made_by k + made_for o)
-  by_answer None some none = quiet none
-  by_answer (Some a) some none = took a some
+  abbrev no_answer : Option Answer
+  no_answer = None
 
-  pub taken_by : IfSome g.answer (Answered bounds k1.seat k1.events g) → IfNone g.answer (HasSeen bounds k1.seat k1.events k2.events) → Taken k n q g k2 k2.events
-  taken_by some none = (let x = by_answer g.answer some none in record { request = asked; takes = x.0; number = same; counts = x.1 })
+  -- what needs no memory is answered
+  needs : (b : Body) → (TakesNoMemory b → IsSome no_answer) → takes_memory b ≡ true
+  needs (RaiseSafe b) always = (let e : false ≡ true = always tt in absurd (cc (e)))
+  needs _ always = refl
+
+  by_answer : (o : Option Answer) → IfSome o (Answered bounds k1.seat k1.events g) → (TakesNoMemory q.body → IsSome o) → IfNone o (HasSeen bounds k1.seat k1.events k2.events) → TakesBy k.seat n q.body o k2.events × (made_by k2 ≤ made_by k + made_for o)
+  by_answer None some always none = (let x = quiet none in ((x.0, needs q.body always), x.1))
+  by_answer (Some a) some always none = took a some
+
+  pub taken_by : IfSome g.answer (Answered bounds k1.seat k1.events g) → (TakesNoMemory q.body → IsSome g.answer) → IfNone g.answer (HasSeen bounds k1.seat k1.events k2.events) → Taken k n q g k2 k2.events
+  taken_by some always none = (let x = by_answer g.answer some always none in record { request = asked; takes = x.0; number = same; counts = x.1 })
 
 -- what stands at a place
 pub there_at : {X : Type 0} (xs : List X) (k : ℕ) (x : X) → k < length xs → x ≡ slice_index_or xs k x → slice_get xs k ≡ Some x

@@ -89,12 +89,12 @@ pub record One (bounds : List Key) (from to : Desk) (body : Body) (c : Came) : T
   pub traced : length to.newest ≤ length from.newest + made → IsTraced from → IsTraced to
 
 take_by : (bounds : List Key) (from to : Desk) (body : Body) (o : Option Answer) → to.way ≡ from.way → to.held ≡ from.held → sum_by made_by to.regions ≤ sum_by made_by from.regions + made_for o → TakesBy (region_for bounds body) from.newest body o to.newest → NotesTaken body o from.trace to.trace → One bounds from to body (came_by o)
-take_by bounds from to body None way held counts begins notes = record {
+take_by bounds from to body None way held counts (begins, needs) notes = record {
   made = 0;
   counts = counts;
   way = way;
   grows = omega (arith, begins_length from.newest to.newest begins);
-  exact = λ le. (let same = begins_whole from.newest to.newest begins (omega (arith, le)) in same_stage from to from.newest (sym same) held);
+  exact = λ le. (let same = begins_whole from.newest to.newest begins (omega (arith, le)) in (needs, same_stage from to from.newest (sym same) held));
   traced = λ le. traced_same from to (sym (begins_whole from.newest to.newest begins (omega (arith, le)))) notes;
 }
 take_by bounds from to body (Some a) way held counts took notes =

@@ -139,6 +139,11 @@ IsTraced d = IfSome d.trace (λ t. (bounds : List Key) → IsWorldRun bounds d.n
 
 -- ---- what regions take
 
+-- a region may need memory to answer: to all but RaiseSafe
+abbrev pub takes_memory : Body → Bool
+takes_memory (RaiseSafe b) = false
+takes_memory _ = true
+
 -- The region n took a request after `from`, and answered so: others may have acted before it loaded
 -- the last number, before it loaded the greatest timestamp read, and after.
 pub record Tooks (n : ℕ) (from : History) (body : Body) (a : Answer) (to : History) : Type 0 where
@@ -153,7 +158,7 @@ pub record Tooks (n : ℕ) (from : History) (body : Body) (a : Answer) (to : His
 
 -- by what the region n answered
 abbrev pub TakesBy : ℕ → History → Body → Option Answer → History → Type 0
-TakesBy n from body None to = Begins from to
+TakesBy n from body None to = Begins from to × (takes_memory body ≡ true)
 TakesBy n from body (Some a) to = Tooks n from body a to
 
 -- a region took a request, or was refused memory; what it then knew is newest
@@ -313,7 +318,7 @@ module _ (bounds : List Key) where
   -- what came of a request that a region took, and what it changed
   abbrev pub Met : Stage → Body → Came → Stage → Type 0
   Met s body came.Lost next = ⊥
-  Met s body came.Unsaid next = next ≡ s
+  Met s body came.Unsaid next = (takes_memory body ≡ true) × (next ≡ s)
   Met s body (came.Said a) next = MayAnswerSo s body a × (next ≡ taken bounds s body a)
 
   -- its reply was lost

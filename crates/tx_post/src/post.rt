@@ -7,7 +7,7 @@ ghost use Rattle.tx_types.specs.declared.fault.Fault.TheVariants as fault;
 ghost use Rattle.tx_types.specs.declared.limits.TheConstants.{MAX_HELD_REQUESTS};
 ghost use Rattle.tx_types.specs.Names.{is_name as name_test};
 ghost use Rattle.tx_core.specs.Worlds.{Holds, route};
-ghost use Rattle.tx_journal.specs.Known.{Known, AreRising};
+ghost use Rattle.tx_journal.specs.Known.{Known};
 ghost use Rattle.tx_journal.specs.Replies.{Asked, Given};
 ghost use Rattle.tx_client.specs.Senders.{IsHeld};
 ghost use Rattle.tx_post.specs.declared.way.Way.TheVariants as ways;
@@ -305,11 +305,9 @@ impl<J: Naming, F: Families> Post<J, F> {
         }
     }
 
-    /// For proofs: the regions are numbered in their order, one more than the keys between them,
-    /// which rise. It does nothing when it runs.
+    /// For proofs: its regions are all there are, in their order.
     pub fn show(&self)
-        ensures numbers { AreNumbered 0 self.now.regions × (length self.now.regions ≡ length J.bounds + 1) }
-        ensures rising { AreRising J.bounds }
+        ensures { AreNumbered 0 self.now.regions × (length self.now.regions ≡ length J.bounds + 1) }
     {
         self.journal.bounds();
     }

@@ -24,6 +24,7 @@ ghost use Rattle.tx_plan.specs.cases.Prewrite.{HasValue};
 ghost use Rattle.tx_cells.specs.Contents.{nothing_held};
 ghost use Rattle.tx_cells.specs.Copies.{Copies};
 ghost use Rattle.tx_later.specs.Noting.{NotesAll};
+ghost use Rattle.tx_journal.specs.Replies.{lock_in};
 ghost use Rattle.tx_region.specs.Regions.{region_of, HasSameNumbers};
 ghost use Rattle.tx_region.specs.Calls.{CarriesOut, Counts};
 ghost use Rattle.tx_region.specs.Copies.{IsOfKey, key_in, Sees, SeesTxn, SeesPrewrite, made, MayMake};
@@ -32,22 +33,27 @@ ghost use Rattle.tx_region.specs.Planning.{StayedKey};
 use crate::copy::{KeyView, Numbers};
 use std::alloc::Global;
 use tx_cells::{Families, Shown};
+use tx_journal::AnswerWithLock;
 use tx_plan::{Answer, Body, KeyChange, Planned, PlannedAnswer, Prewrite};
 use tx_types::{Fault, Key, Mutation, Ts};
 
 /// What a command answered, and the timestamp that it read, if it read one.
 #[derive(Debug, Drop)]
 pub struct Executed {
-    pub answer: Answer,
+    pub answer: AnswerWithLock,
     pub read: Option<Ts>,
 }
 
 impl Executed {
-    /// This answer of a command that read nothing.
+    /// This answer, which names no lock as in the way, of a command that read nothing.
     pub(crate) fn unread(answer: Answer) -> Executed
+        requires { lock_in answer ≡ None }
         ensures { (result.answer ≡ answer) × (result.read ≡ None) }
     {
-        Executed { answer, read: None }
+        Executed {
+            answer: AnswerWithLock::unlocked(answer),
+            read: None,
+        }
     }
 }
 
@@ -205,15 +211,15 @@ impl<F: Families> Records<F> {
 
     /// The answer of a plan for this key, with what is told of the lock on it where the answer
     /// names that.
-    pub(crate) fn fill_in(&self, key: &Key, answer: PlannedAnswer) -> Result<Answer, Fault>
+    pub(crate) fn fill_in(&self, key: &Key, answer: PlannedAnswer) -> Result<AnswerWithLock, Fault>
         ensures answer { IfOk result (λ a. a ≡ answer_with (info_on ((region_of F.content self.now 0).cells key.now) key.now) answer) }
         ensures err { IfErr result (λ e. e ≡ Fault.OutOfMemory) }
     {
         if !answer.names_lock() {
-            return Ok(answer.with_lock(None));
+            return AnswerWithLock::new(answer.with_lock(None));
         }
         let info = self.families.lock_info(self.alloc, key)?;
-        Ok(answer.with_lock(info))
+        AnswerWithLock::new(answer.with_lock(info))
     }
 
     // The number of the next request that is counted. `OutOfMemory` after the greatest number,

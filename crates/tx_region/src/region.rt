@@ -280,7 +280,7 @@ fn reply_done<J: Naming>(
     ensures added { HasRecorded J.bounds seat.old.seat seat.old.events (events.Took record { region = seat.old.seat; body = request.body; loaded = loaded; answer = done.answer }) seat.new.events }
 {
     let Executed { answer, read } = done;
-    record_taken(seat, loaded, request.body(), &answer, read);
+    record_taken(seat, loaded, request.body(), answer.answer(), read);
     let told = seat.tell();
     Reply::new(request, Some(answer), told)
 }

@@ -27,7 +27,7 @@ pub enum Way {
 }
 
 /// The region, what becomes of the next requests, those that are held, what the last of them was
-/// answered, and how many plans were stale.
+/// answered, how many plans were stale, and how often a copy was refused memory.
 pub struct Desk<J: Naming, F: Fresh> {
     journal: Journal<J>,
     region: Region<J, F>,
@@ -36,6 +36,7 @@ pub struct Desk<J: Naming, F: Fresh> {
     held: Vec<Request<J>>,
     between: Short,
     stales: u32,
+    refused: u32,
 }
 
 impl<J: Naming, F: Fresh> Drop for Desk<J, F> {
@@ -48,6 +49,7 @@ impl<J: Naming, F: Fresh> Drop for Desk<J, F> {
             held: _,
             between: _,
             stales: _,
+            refused: _,
         } = self;
     }
 }
@@ -66,6 +68,7 @@ impl<J: Naming, F: Fresh> Desk<J, F> {
             held: Vec::new(alloc),
             between: NOTHING,
             stales: 0,
+            refused: 0,
         })
     }
 
@@ -81,9 +84,10 @@ impl<J: Naming, F: Fresh> Desk<J, F> {
         self.way = way;
     }
 
-    /// What the last request that was held was answered, and how many plans were stale.
-    pub fn came(&self) -> (Short, u32) {
-        (self.between, self.stales)
+    /// What the last request that was held was answered, how many plans were stale, and how often
+    /// a copy was refused memory.
+    pub fn came(&self) -> (Short, u32, u32) {
+        (self.between, self.stales, self.refused)
     }
 
     // Takes a request that the region holds.
@@ -124,6 +128,7 @@ impl<J: Naming, F: Fresh> Desk<J, F> {
         }
         for _try in 0..3 {
             let Ok(copy) = self.region.copy_key(&mut request) else {
+                self.refused = self.refused.saturating_add(1);
                 break;
             };
             let plan = copy.plan(&request);

@@ -31,7 +31,7 @@ GoesOn bounds l h = IsWorldRun bounds h × Begins l h
 
 pub learnt : (bounds : List Key) (k new : Known) (reached : Reached) → IsWorldRun bounds k.events → Learns bounds k reached new → GoesOn bounds k.events new.events
 learnt bounds k new (Err l) run same = subst (λ (z : Known). GoesOn bounds k.events z.events) (sym same) (run, begins_all k.events)
-learnt bounds k new (Ok g) run (number, ticks, seen, told) = (seen.run, seen_begins bounds k.seat k.events new.events seen)
+learnt bounds k new (Ok g) run (number, ticks, seen, told, given) = (seen.run, seen_begins bounds k.seat k.events new.events seen)
 
 module _ {S : Type 0} (sends : S → Asked → Reached → S → Type 0) (bounds : List Key) where
   -- who sends sees more

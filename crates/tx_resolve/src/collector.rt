@@ -7,7 +7,7 @@
 //! a  records                      2: put x by 1                     2: put x by 1
 //! b  records                      4: put w by 3, 2: put v by 1      4: put w by 3
 //! ```
-ghost use Rattle.std.specs.Prelude.{◌≡◌, ◌<◌, ◌≤◌, length, Contains, IfOk};
+ghost use Rattle.std.specs.Prelude.{◌≡◌, ◌≤◌, length, Contains, IfOk};
 ghost use Rattle.tx_types.specs.declared.lock.LockInfo.{LockInfo as Info};
 ghost use Rattle.tx_core.specs.Laws.{WasToldOf};
 ghost use Rattle.tx_core.specs.Worlds.{IsWorldRun};
@@ -127,7 +127,6 @@ fn raise_all<J: Naming, S: Sender<Request<J>, Reply<J>>>(
     requires way { IsWay J.bounds S.fits S.sends S.keys_between }
     requires lossless { LosesNothing S.sends }
     requires run { IsWorldRun J.bounds seat.old.events }
-    requires few { length J.bounds < 1024 }
     ensures sends { Sends S.sends J.bounds seat.old sender.old (raises_walk J.bounds safe) result sender.new seat.new }
     ensures run { IsWorldRun J.bounds seat.new.events }
 {
@@ -201,7 +200,6 @@ fn clear_all<J: Naming, S: Sender<Request<J>, Reply<J>>>(
     requires way { IsWay J.bounds S.fits S.sends S.keys_between }
     requires lossless { LosesNothing S.sends }
     requires run { IsWorldRun J.bounds seat.old.events }
-    requires few { length J.bounds < 1024 }
     ensures sends { Sends S.sends J.bounds seat.old sender.old (clears_walk J.bounds safe) result sender.new seat.new }
     ensures run { IsWorldRun J.bounds seat.new.events }
 {
@@ -239,7 +237,6 @@ fn collect_all<J: Naming, S: Sender<Request<J>, Reply<J>>>(
     requires way { IsWay J.bounds S.fits S.sends S.keys_between }
     requires lossless { LosesNothing S.sends }
     requires run { IsWorldRun J.bounds seat.old.events }
-    requires few { length J.bounds < 1024 }
     ensures { Sends S.sends J.bounds seat.old sender.old (collects_walk J.bounds safe) result sender.new seat.new }
 {
     let mut counts = Counts::NONE;
@@ -263,7 +260,6 @@ pub fn gc<J: Naming, S: Sender<Request<J>, Reply<J>>>(
 ) -> Result<Counts, Fault>
     requires way { IsWay J.bounds S.fits S.sends S.keys_between }
     requires lossless { LosesNothing S.sends }
-    requires few { length J.bounds < 1024 }
     ensures { Sends S.sends J.bounds seat.old sender.old (gc_walk J.bounds safe) result sender.new seat.new }
 {
     // For proofs: what the seat has seen is a world run.

@@ -1,10 +1,10 @@
 -- Each session has a seat of its own.
-use Rattle.std.proofs.Common.{◌≡◌, inl, inr, ℕ, ◌+◌, ◌*◌, ◌<◌, ◌≤◌, List, [], ◌∷◌, ◌++◌, length, drop, length-drop, get_or, Some, refl, sym, ap, subst, ◌∙◌, arith, length-append}
+use Rattle.std.proofs.Common.{◌≡◌, inl, inr, ℕ, ◌+◌, ◌*◌, ◌<◌, ◌≤◌, List, [], ◌∷◌, ◌++◌, length, get_or, Some, Result, Ok, Err, IfOk, refl, sym, ap, subst, ◌∙◌, arith, length-append}
 use Rattle.std.specs.List.{slice_get}
 use Rattle.std.proofs.lemmas.Bool.{cases_lt}
-use Rattle.std.proofs.lemmas.List.{get_or_append_left, get_or_push, get_or-drop}
+use Rattle.std.proofs.lemmas.List.{get_or_append_left, get_or_push}
 use Rattle.std.proofs.lemmas.Option.{slice_get_within, get_or_from_slice_get, slice_get_read, slice_get-get_or}
-use Rattle.tx_journal.specs.Known.{Known}
+use Rattle.tx_journal.specs.Known.{Known, known}
 use Rattle.tx_run.specs.Jobs.{Working, HaveOwnSeats, AreFalling, AreFrom}
 
 -- one more job, of a seat two below the last
@@ -61,11 +61,14 @@ module _ (first : ℕ) (all mid rest : List Known) (seat resolver : Known) (one 
       let b : length mid ≡ length rest + 1 = ap length two ∙ length-append rest (resolver ∷ []) in
       (omega (arith, number, a), omega (arith, a, b))
 
--- those after the first n of seats that were dealt in their order
-pub from_drop : (seats : List Known) (n : ℕ) → ((k : ℕ) (s : Known) → slice_get seats k ≡ Some s → (s.seat ≡ k) × (s.events ≡ [])) → n ≤ length seats → (back : List Known) → back ≡ drop n seats → AreFrom n back
-from_drop seats n dealt fits back is k s e =
-    let e' = subst (λ l. slice_get l k ≡ Some s) is e in
-    let within : k < length (drop n seats) = slice_get_within (drop n seats) k s e' in
-    let there : n + k < length seats = omega (arith, within, length-drop n seats) in
-    let same : get_or seats (n + k) s ≡ s = sym (get_or-drop n seats k s) ∙ get_or_from_slice_get (drop n seats) k s s e' in
-    (dealt (n + k) s (slice_get-get_or seats (n + k) s there ∙ ap Some same)).0
+-- what follows of a value follows of what may be one
+pub if_ok : {T E : Type 0} {P Q : T → Type 0} (r : Result T E) → ((x : T) → P x → Q x) → IfOk r P → IfOk r Q
+if_ok (Ok x) then_so p = then_so x p
+if_ok (Err e) then_so p = tt
+
+-- seats that were dealt in their order have the numbers from the first one's on
+pub from_dealt : (first ticks : ℕ) (seats : List Known) → ((k : ℕ) → k < length seats → slice_get seats k ≡ Some (known (first + k) ticks [])) → AreFrom first seats
+from_dealt first ticks seats dealt k s e =
+    let d = dealt k (slice_get_within seats k s e) in
+    let same : s ≡ known (first + k) ticks [] = sym (get_or_from_slice_get seats k s s e) ∙ get_or_from_slice_get seats k (known (first + k) ticks []) s d in
+    ap (λ (x : Known). x.seat) same

@@ -1,5 +1,6 @@
 -- What a run writes.
-use Rattle.std.specs.Prelude.{◌≡◌, ◌⊎◌, ℕ, ◌+◌, ◌*◌, ◌<◌, ◌^◌, ◌++◌, List, All, Bool, true, false, codes, Option, Some, None}
+use Rattle.std.specs.Prelude.{◌≡◌, ◌⊎◌, ℕ, ◌+◌, ◌*◌, ◌<◌, ◌^◌, ◌++◌, List, All, Bool, true, false, if◌then◌else◌}
+use Rattle.std.specs.Prelude.{codes, Option, Some, None}
 use Rattle.std.specs.List.{flat_map, count_by}
 use Rattle.std.specs.List.Sorted.{IsPermutation, IsNonDecreasingBy}
 use Rattle.std.specs.Io.KnownBytes.{Appends, Keeps}
@@ -8,6 +9,8 @@ use Rattle.tx_types.specs.declared.fault.Cause.{Cause}
 use Rattle.tx_core.specs.declared.event.Outcome.TheVariants as outcome
 use Rattle.tx_core.specs.Worlds.{IsWorldRun}
 use Rattle.tx_journal.specs.Known.{Seen}
+use Rattle.tx_lines.specs.declared.end.End.{End}
+use Rattle.tx_lines.specs.declared.end.End.TheVariants.{Faulted, Well}
 use Rattle.tx_lines.specs.Faults.{fault_words}
 use Rattle.tx_lines.specs.Output.{AppendsPart}
 use Rattle.tx_lines.specs.Replies.{reply_text}
@@ -16,6 +19,7 @@ use Rattle.tx_ledger.specs.declared.balance.TheConstants.{BALANCES}
 use Rattle.tx_ledger.specs.declared.reply.Reply.{Reply}
 use Rattle.tx_ledger.specs.declared.reply.Reply.TheVariants.{Said, Ended}
 use Rattle.tx_ledger.specs.declared.reply.Spoken.{Spoken}
+use Rattle.tx_ledger.specs.Faults.{TellsFault}
 use Rattle.tx_ledger.specs.Lines.{line_of}
 use Rattle.tx_ledger.specs.Outcomes.{TellsOutcomes}
 use Rattle.tx_ledger.specs.Sources.{TellsPair}
@@ -85,19 +89,26 @@ pub record AreInOrder (replies lines : List Spoken) : Type 0 where
 abbrev pub IsTextOf : List Spoken → Total → List ℕ → Type 0
 IsTextOf replies total text = (lines : List Spoken) × AreInOrder replies lines × (text ≡ flat_map line_of lines ++ (outcomes_text (counts_of lines) ++ total_text total))
 
--- the line of a fault, by the number of the line that has it
-abbrev pub IsFaultText : List ℕ → Type 0
-IsFaultText text = (n : ℕ) × (cause : Cause) × (text ≡ reply_text (n, fault_words cause))
+-- the line of the fault that the script has, by the number of the line that has it
+abbrev pub IsFaultText : Option (List ℕ) → List ℕ → Type 0
+IsFaultText source text =
+    (n : ℕ) × (cause : Cause) × TellsFault source n cause × (text ≡ reply_text (n, fault_words cause))
 
--- the text of a run: of what it hands back, or of the fault for which nothing was played
-abbrev pub IsRunText : Option Played → List ℕ → Type 0
-IsRunText None text = IsFaultText text
-IsRunText (Some played) text = IsTextOf played.replies played.total text
+-- the text of a run of this script: of what it hands back, or of the fault for which nothing was
+-- played
+abbrev pub IsRunText : Option (List ℕ) → Option Played → List ℕ → Type 0
+IsRunText source None text = IsFaultText source text
+IsRunText source (Some played) text = IsTextOf played.replies played.total text
+
+-- how a run ends: with a fault where nothing was played, or where one ended a session
+abbrev pub end_of : Option Played → End
+end_of None = Faulted
+end_of (Some played) = if played.faulted then Faulted else Well
 
 -- the text of some run of this script: each outcome that it tells was answered in what its
 -- sessions had seen
 abbrev pub IsTextFrom : Option (List ℕ) → List ℕ → Type 0
-IsTextFrom source text = IsFaultText text
+IsTextFrom source text = IsFaultText source text
     ⊎ ((seen : Seen) × (replies : List Spoken) × (total : Total) × IsWorldRun seen.bounds seen.events × TellsOutcomes seen.events replies
     × All (TellsPair source) replies × IsTextOf replies total text)
 

@@ -3,6 +3,7 @@
 ghost use Rattle.std.specs.Prelude.{◌≡◌, IfOk};
 ghost use Rattle.tx_run.specs.Jobs.{StaysSame};
 
+mod asking;
 mod lines;
 mod moving;
 
@@ -16,7 +17,7 @@ use tx_client::Session;
 use tx_core::Answer;
 use tx_journal::{Naming, Seat};
 use tx_latch::Slot;
-use tx_ledger::{Asks, Entry, Log, Source, Words};
+use tx_ledger::{Entry, Log, Source, Words};
 use tx_lines::Reply;
 use tx_sched::{Job, Turn};
 use tx_types::{Cause, Fault};
@@ -32,8 +33,6 @@ pub(crate) struct ScriptJob<J: Naming, L: Source, F: Families + Drop, R: Wait + 
     log: Log<J, L>,
     /// The last line first.
     lines: Vec<Entry<L>>,
-    /// The slots of the keys in the buffer.
-    touched: Vec<Slot>,
     /// The slots of the lock that last stood in its way.
     met: Vec<Slot>,
     collector: Collector,
@@ -69,7 +68,6 @@ impl<J: Naming, L: Source, F: Families + Drop, R: Wait + Drop> ScriptJob<J, L, F
             place: Place::Free(seat),
             log,
             lines,
-            touched: Vec::new(alloc),
             met: Vec::new(alloc),
             collector,
             faulted: false,
@@ -178,15 +176,11 @@ impl<J: Naming, L: Source, F: Families + Drop, R: Wait + Drop> Job for ScriptJob
     }
 
     fn slots(&self, slots: &mut Vec<Slot>) -> Result<(), Fault> {
-        if let Place::Moving(moving) = &self.place {
-            return moving.slots(slots);
+        match &self.place {
+            Place::Moving(moving) => moving.slots(slots),
+            Place::Live(session) => self.line_slots(session, slots),
+            Place::Free(_) | Place::Gone => Ok(()),
         }
-        match self.lines.last().map(|entry| entry.asks()) {
-            None | Some(Asks::Nothing) => {}
-            Some(Asks::Buffer) => slots.extend_from_slice(self.touched.as_slice())?,
-            Some(Asks::Met) => slots.extend_from_slice(self.met.as_slice())?,
-        }
-        Ok(())
     }
 
     fn step(&mut self) -> Turn<Out<J, L>> {

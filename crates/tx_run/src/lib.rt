@@ -4,7 +4,6 @@
 #![tactic(auto)]
 
 mod counts;
-mod families;
 mod job;
 mod out;
 mod place;
@@ -13,9 +12,9 @@ mod run;
 mod settings;
 mod write;
 
-pub use families::{Makes, Plain};
 pub use play::Played;
 pub use run::run_script;
 pub use settings::Settings;
+pub use tx_cells::{Makes, Plain};
 pub use tx_ledger::{Reply, Spoken, Words};
 pub use tx_work::Total;

@@ -5,7 +5,6 @@ ghost use Rattle.tx_run.specs.Jobs.{IsAbove, AreFalling, AreFrom, HaveOwnSeats, 
 ghost use Rattle.tx_ledger.specs.Scripts.{IsWithin};
 ghost use Rattle.tx_ledger.specs.Sources.{TellsPair};
 
-use crate::families::{Makes, families};
 use crate::job::ScriptJob;
 use crate::out::Out;
 use crate::settings::Settings;
@@ -13,7 +12,7 @@ use std::alloc::Global;
 use std::marker::Brand;
 use std::sync::{Arc, Wait};
 use std::thread::Threads;
-use tx_cells::Families;
+use tx_cells::{Families, Makes, make_families};
 use tx_journal::{Naming, Opened, Seat, Unnamed};
 use tx_ledger::{Entry, Replies, Reply, Said, Script, Source, Spoken, Words};
 use tx_lines::Broken;
@@ -30,15 +29,11 @@ fn open<J: Naming, F: Families + Drop, M: Makes<F>>(
     regions: usize,
 ) -> Result<(Store<J, F>, Vec<Seat<J>>), Fault>
     requires name { (opened.table ≡ J.table) × (opened.bounds ≡ J.bounds) × (opened.seats ≡ J.seats) }
-    requires count { (regions ≡ length J.bounds + 1) × (regions ≤ 64) × (regions ≤ J.seats) }
+    requires count { regions ≡ length J.bounds + 1 }
     ensures { IfOk result (λ r. AreFrom (length J.bounds + 1) r.1.items) }
 {
-    let (journal, mut seats) = opened.named::<J>(alloc)?;
-    let others = seats.split_off(regions)?;
-    let families = families(alloc, make, regions)?;
-    let store = Store::new(alloc, &journal, seats, families)?;
-    drop(journal);
-    Ok((store, others))
+    let families = make_families(alloc, make, regions)?;
+    Store::open(alloc, opened, families)
 }
 
 // The last two of the seats: for a session, and for its resolver.
@@ -61,7 +56,6 @@ fn jobs<J: Naming, L: Source, F: Families + Drop, R: Wait + Clone + Drop>(
     sessions: Vec<Vec<Entry<L>>>,
     life_time: Option<u64>,
 ) -> Result<Vec<ScriptJob<J, L, F, R>>, Fault>
-    requires small { length J.bounds < 1024 }
     requires seats { AreFrom (length J.bounds + 1) seats.items }
     requires few { vec_len sessions ≤ 256 }
     ensures { IfOk result (λ jobs. HaveOwnSeats (length J.bounds + vec_len seats) jobs.items) }
@@ -167,7 +161,7 @@ fn set_out<J: Naming, F: Families + Drop, M: Makes<F>, R: Wait + Clone + Drop>(
     regions: usize,
 ) -> Result<(Arc<Store<J, F>>, Access<J, F, R>, Seat<J>, Vec<Seat<J>>), Fault>
     requires name { (opened.table ≡ J.table) × (opened.bounds ≡ J.bounds) × (opened.seats ≡ J.seats) }
-    requires count { (regions ≡ length J.bounds + 1) × (regions ≤ 64) × (regions ≤ J.seats) }
+    requires count { regions ≡ length J.bounds + 1 }
     ensures { IfOk result (λ r. AreFrom (length J.bounds + 1) r.3.items) }
 {
     let (store, mut seats) = open::<J, F, M>(alloc, make, opened, regions)?;
@@ -195,7 +189,6 @@ where
     F: Families + Send + Drop,
     G: Gate + Sync,
     R: Threads + Wait + Sync + Send + Clone + Drop,
-    requires small { length J.bounds < 1024 }
     requires seats { AreFrom (length J.bounds + 1) seats.items }
     requires few { vec_len sessions ≤ 256 }
     ensures { IfOk result (λ outs. AreFalling outs.items) }
@@ -246,7 +239,7 @@ where
     G: Gate + Sync,
     R: Threads + Wait + Sync + Send + Clone + Drop,
     requires name { (opened.table ≡ J.table) × (opened.bounds ≡ J.bounds) × (opened.seats ≡ J.seats) }
-    requires count { (script.regions ≡ length J.bounds + 1) × (script.regions ≤ 64) × (script.regions ≤ J.seats) }
+    requires count { (script.regions ≡ length J.bounds + 1) × (script.regions ≤ 64) }
     requires few { vec_len script.sessions ≤ 256 }
     ensures told { IfOk result (λ played. TellsOutcomes played.seen.events played.replies) }
     ensures pairs { IfOk result (λ played. All (TellsPair L.text) played.replies) }

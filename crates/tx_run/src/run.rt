@@ -1,11 +1,11 @@
 //! A run, from the first byte of its script to the last of its answers.
 ghost use Rattle.std.specs.Prelude.{◌≡◌, All, IfOk, IfSome, OnErr};
+ghost use Rattle.tx_ledger.specs.Faults.{IsFaultless};
 ghost use Rattle.tx_ledger.specs.Outcomes.{TellsOutcomes};
 ghost use Rattle.tx_ledger.specs.Sources.{TellsPair};
 ghost use Rattle.tx_run.specs.Jobs.{ComesOf};
-ghost use Rattle.tx_run.specs.Texts.{IsRunText, IsTextFrom, Writes, WritesPart};
+ghost use Rattle.tx_run.specs.Texts.{IsRunText, IsTextFrom, Writes, WritesPart, end_of};
 
-use crate::families::Makes;
 use crate::play::{Played, play_script};
 use crate::settings::Settings;
 use crate::write::{tell_fault, write_all};
@@ -14,7 +14,7 @@ use std::io::{BufRead, Write};
 use std::marker::Brand;
 use std::sync::Wait;
 use std::thread::Threads;
-use tx_cells::Families;
+use tx_cells::{Families, Makes};
 use tx_ledger::{Source, read_script};
 use tx_lines::{Broken, End};
 use tx_sched::Gate;
@@ -41,7 +41,9 @@ where
     ensures told { IfOk result (λ r. IfSome r.1 (λ played. TellsOutcomes played.seen.events played.replies)) }
     ensures pairs { IfOk result (λ r. IfSome r.1 (λ played. All (TellsPair L.text) played.replies)) }
     ensures comes { IfOk result (λ r. IfSome r.1 (λ played. ComesOf played.seen.events played.replies)) }
-    ensures wrote { IfOk result (λ r. Writes (W.contents writer.old) (W.contents writer.new) (IsRunText r.1)) }
+    ensures wrote { IfOk result (λ r. Writes (W.contents writer.old) (W.contents writer.new) (IsRunText L.text r.1)) }
+    ensures ends { IfOk result (λ r. r.0 ≡ end_of r.1) }
+    ensures whole { IfOk result (λ r. IfSome r.1 (λ played. IsFaultless L.text)) }
     ensures broken { OnErr result (WritesPart (W.contents writer.old) (W.contents writer.new) (IsTextFrom L.text)) }
 {
     let script = match read_script::<L, B>(alloc, reader)? {
@@ -65,8 +67,8 @@ where
 /// Reads a script, and plays it as is set, by 1 to 64 workers: the seeds in the order of their
 /// lines, and then the lines of each session in their order, the sessions side by side. Then it
 /// writes the answer of each line in the order of the lines, the counts of the outcomes, and the
-/// sum of all balances. A fault of the form of a line, or a 257th session, is told alone. `make`
-/// gives each region its families.
+/// sum of all balances. The first fault of the form of a line, or a 257th session, is told alone,
+/// and nothing is played. `make` gives each region its families.
 ///
 /// It hands back what was played, where the script was played: each outcome that a line is told was
 /// answered in what all sessions had seen, no two are of one transaction, and the transaction of a
@@ -90,7 +92,10 @@ where
     ensures told { IfOk result (λ r. IfSome r.1 (λ played. TellsOutcomes played.seen.events played.replies)) }
     ensures pairs { IfOk result (λ r. IfSome r.1 (λ played. All (TellsPair (B.remaining reader.old)) played.replies)) }
     ensures comes { IfOk result (λ r. IfSome r.1 (λ played. ComesOf played.seen.events played.replies)) }
-    ensures wrote { IfOk result (λ r. Writes (W.contents writer.old) (W.contents writer.new) (IsRunText r.1)) }
+    ensures wrote { IfOk result
+        (λ r. Writes (W.contents writer.old) (W.contents writer.new) (IsRunText (B.remaining reader.old) r.1)) }
+    ensures ends { IfOk result (λ r. r.0 ≡ end_of r.1) }
+    ensures whole { IfOk result (λ r. IfSome r.1 (λ played. IsFaultless (B.remaining reader.old))) }
     ensures broken { OnErr result (WritesPart (W.contents writer.old) (W.contents writer.new) (IsTextFrom (B.remaining reader.old))) }
 {
     run::<Brand, F, M, G, R, B, W>(rt, alloc, settings, make, gate, reader, writer)

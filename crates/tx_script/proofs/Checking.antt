@@ -44,7 +44,7 @@ module _ (t : Noted) (e after : Held) (is : after ≡ with_trace (Some t) e) whe
   opens_too opens = subst IsOpening (sym is) (record { scene = opens.scene; none = opens.none })
 
   pub seated_too : (bounds : List Key) (n : ℕ) → AllSeated bounds n e → AllSeated bounds n after
-  seated_too bounds n seated = subst (AllSeated bounds n) (sym is) (record { clerk = seated.clerk; places = seated.places; few = seated.few })
+  seated_too bounds n seated = subst (AllSeated bounds n) (sym is) (record { clerk = seated.clerk; places = seated.places })
 
   pub traced_first : IsOpening e → Traces [] t → IsTraced after.desk
   traced_first opens traces = subst (λ (x : Held). IsTraced x.desk) (sym is) (λ bounds run. subst (λ h. Traces h t) (sym (ap (λ s. s.stage.history) opens.scene)) traces)

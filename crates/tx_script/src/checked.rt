@@ -14,7 +14,7 @@ use std::alloc::Global;
 use std::io::Write;
 use tx_check::{Verdict, verdict_line};
 use tx_lines::{Broken, End, finish, put_step, send};
-use tx_machine::{Refused, Step, check_steps};
+use tx_machine::{Step, check_trace};
 use tx_trace::Trace;
 
 // Writes the line of each step.
@@ -31,15 +31,15 @@ fn tell_steps<W: Write>(alloc: Global, writer: &mut W, steps: &[Step]) -> Result
     Ok(())
 }
 
-// What the machine's own checker says of steps that are a run.
+// What the machine's own checker says of steps that are a run: where it has no answer, memory was
+// refused.
 fn judge(alloc: Global, steps: &[Step]) -> Result<Verdict, Broken>
     requires run { IsRun (reverse steps.now) }
     ensures yes { IfOk result (λ verdict. verdict ≡ Verdict.Yes) }
 {
-    match check_steps(alloc, steps) {
-        Ok(_) => Ok(Verdict::Yes),
-        Err(Refused::Step) => unreachable!(),
-        Err(Refused::Memory) => Err(Broken::Memory),
+    match check_trace(alloc, steps) {
+        Some(_) => Ok(Verdict::Yes),
+        None => Err(Broken::Memory),
     }
 }
 

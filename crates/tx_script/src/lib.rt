@@ -13,5 +13,6 @@ mod line;
 mod opening;
 mod script;
 
-pub use opening::{simulate, simulate_checked, simulate_checked_with, simulate_with};
+pub use opening::{simulate, simulate_checked};
+pub use tx_cells::{Makes, Plain};
 pub use tx_lines::{Broken, End};

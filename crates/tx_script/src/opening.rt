@@ -12,10 +12,9 @@ use crate::script::{check_over, simulate_over};
 use std::alloc::Global;
 use std::io::{BufRead, Write};
 use std::marker::Brand;
-use tx_cells::{Families, Fresh};
+use tx_cells::{Families, Makes, make_families};
 use tx_journal::{Naming, Opened};
 use tx_lines::{Broken, End, Found, Parts, read_line};
-use tx_nested::NestedCells;
 use tx_play::engine_of;
 use tx_steps::Line;
 use tx_types::Key;
@@ -39,18 +38,6 @@ fn bounds_at(alloc: Global, first: Found, line: &[u8]) -> Result<Vec<Key>, Broke
             Ok(Some(bounds)) => Ok(bounds),
         },
     }
-}
-
-// So many families that hold nothing.
-fn empty_families<F: Fresh>(alloc: Global, count: usize) -> Result<Vec<F>, Broken>
-    ensures count { IfOk result (λ families. vec_len families ≡ count) }
-    ensures empty { IfOk result (λ families. All (λ f. F.content f ≡ (λ k. nothing_held)) families.items) }
-{
-    let mut families = Vec::with_capacity(alloc, count)?;
-    'families: while families.len() < count {
-        families.push(F::fresh(alloc))?;
-    }
-    Ok(families)
 }
 
 // Plays a script over a journal that was opened, and has no other user.
@@ -87,8 +74,9 @@ fn over<J: Naming, F: Families + Drop, R: BufRead, W: Write>(
 }
 
 // Plays a script, and checks it where that is asked.
-fn play<F: Fresh, R: BufRead, W: Write>(
+fn play<F: Families + Drop, M: Makes<F>, R: BufRead, W: Write>(
     alloc: Global,
+    make: &M,
     reader: &mut R,
     writer: &mut W,
     checks: bool,
@@ -101,7 +89,9 @@ fn play<F: Fresh, R: BufRead, W: Write>(
     let mut line = Vec::new(alloc);
     let first = read_line(reader, &mut line)?;
     let bounds = bounds_at(alloc, first, line.as_slice())?;
-    let families = empty_families::<F>(alloc, bounds.len() + 1)?;
+    let Ok(families) = make_families(alloc, make, bounds.len() + 1) else {
+        return Err(Broken::Memory);
+    };
     let Ok(opened) = Opened::new(alloc, bounds, MAX_LIVE_SESSIONS + 1) else {
         return Err(Broken::Memory);
     };
@@ -110,31 +100,17 @@ fn play<F: Fresh, R: BufRead, W: Write>(
     )
 }
 
-/// Plays a script as `simulate` does, over families of one's own choice, which begin with nothing.
-pub fn simulate_with<F: Fresh, R: BufRead, W: Write>(
-    alloc: Global,
-    reader: &mut R,
-    writer: &mut W,
-) -> Result<End, Broken>
-    // Not broken off, it has written the replies of what the script means, and nothing else.
-    ensures ends { IfOk result (λ end. IfSome (R.remaining reader.old)
-        (λ input. EndsScript input (W.contents writer.old) (W.contents writer.new) end)) }
-    // Broken off, it has written a beginning of them: whole replies, unless a write failed.
-    ensures breaks { IfErr result (λ why. IfSome (R.remaining reader.old)
-        (λ input. BreaksScript why input (W.contents writer.old) (W.contents writer.new))) }
-{
-    play::<F, R, W>(alloc, reader, writer, false)
-}
-
 /// Plays a script, in one thread: reads its steps line by line, and writes one reply line a step.
-/// Line 1 may say the keys between its regions; else there is one region. At most 256 sessions live
-/// at once. It ends well at the end of the input, and `Faulted` at the first line that is no step
-/// or that the script does not allow, whose reply names the cause.
+/// Line 1 may say the keys between its regions; else there is one region. `make` gives each region
+/// its families. At most 256 sessions live at once. It ends well at the end of the input, and
+/// `Faulted` at the first line that is no step or that the script does not allow, whose reply names
+/// the cause.
 ///
 /// `Input` where a read failed, `Output` where a write or the flush failed, `Memory` where a growth
 /// was refused outside of a step's own calls, for which the reply is E12.
-pub fn simulate<R: BufRead, W: Write>(
+pub fn simulate<F: Families + Drop, M: Makes<F>, R: BufRead, W: Write>(
     alloc: Global,
+    make: &M,
     reader: &mut R,
     writer: &mut W,
 ) -> Result<End, Broken>
@@ -145,25 +121,7 @@ pub fn simulate<R: BufRead, W: Write>(
     ensures breaks { IfErr result (λ why. IfSome (R.remaining reader.old)
         (λ input. BreaksScript why input (W.contents writer.old) (W.contents writer.new))) }
 {
-    simulate_with::<NestedCells, R, W>(alloc, reader, writer)
-}
-
-/// Plays and checks a script as `simulate_checked` does, over families of one's own choice, which
-/// begin with nothing.
-pub fn simulate_checked_with<F: Fresh, R: BufRead, W: Write>(
-    alloc: Global,
-    reader: &mut R,
-    writer: &mut W,
-) -> Result<End, Broken>
-    // Not broken off, it has written the replies of what the script means, where it ended well the
-    // machine's steps, and nothing else.
-    ensures ends { IfOk result (λ end. IfSome (R.remaining reader.old)
-        (λ input. EndsChecked input (W.contents writer.old) (W.contents writer.new) end)) }
-    // Broken off, it has written a beginning of that: whole lines, unless a write failed.
-    ensures breaks { IfErr result (λ why. IfSome (R.remaining reader.old)
-        (λ input. BreaksChecked why input (W.contents writer.old) (W.contents writer.new))) }
-{
-    play::<F, R, W>(alloc, reader, writer, true)
+    play::<F, M, R, W>(alloc, make, reader, writer, false)
 }
 
 /// Plays a script as `simulate` does, and checks it: where it ended well, the steps of the machine
@@ -173,8 +131,9 @@ pub fn simulate_checked_with<F: Fresh, R: BufRead, W: Write>(
 ///
 /// It is broken off as `simulate` is, with `Memory` also where the steps could not be kept or
 /// checked for want of it.
-pub fn simulate_checked<R: BufRead, W: Write>(
+pub fn simulate_checked<F: Families + Drop, M: Makes<F>, R: BufRead, W: Write>(
     alloc: Global,
+    make: &M,
     reader: &mut R,
     writer: &mut W,
 ) -> Result<End, Broken>
@@ -186,5 +145,5 @@ pub fn simulate_checked<R: BufRead, W: Write>(
     ensures breaks { IfErr result (λ why. IfSome (R.remaining reader.old)
         (λ input. BreaksChecked why input (W.contents writer.old) (W.contents writer.new))) }
 {
-    simulate_checked_with::<NestedCells, R, W>(alloc, reader, writer)
+    play::<F, M, R, W>(alloc, make, reader, writer, true)
 }

@@ -2,6 +2,10 @@
 #![tactic(auto)]
 
 #[cfg(test)]
+mod ends_tests;
+#[cfg(test)]
+mod limits_tests;
+#[cfg(test)]
 mod script_tests;
 #[cfg(test)]
 mod tests;

@@ -1,9 +1,30 @@
 //! Scripts with their replies, on readers and writers in memory.
 use crate::tests::{Drip, torn_reader};
+use std::alloc::Global;
+use std::io::{BufRead, Write};
 use std::process::Abort;
 use std::test::Fail;
+use tx_flat::FlatCells;
 use tx_lines::{REFUSAL_BYTES, Reply, put_reply};
-use tx_script::{Broken, End, simulate, simulate_checked};
+use tx_script::{Broken, End, Plain};
+
+/// Plays a script over flat maps.
+pub fn simulate<R: BufRead, W: Write>(
+    alloc: Global,
+    reader: &mut R,
+    writer: &mut W,
+) -> Result<End, Broken> {
+    tx_script::simulate::<FlatCells, _, _, _>(alloc, &Plain, reader, writer)
+}
+
+/// The same with its check.
+pub fn simulate_checked<R: BufRead, W: Write>(
+    alloc: Global,
+    reader: &mut R,
+    writer: &mut W,
+) -> Result<End, Broken> {
+    tx_script::simulate_checked::<FlatCells, _, _, _>(alloc, &Plain, reader, writer)
+}
 
 // Checks that the script ends so, and that these replies alone are written.
 fn replies<R: Abort + AllocGlobal>(rt: &R, script: &str, end: End, text: &str) -> Result<(), Fail> {

@@ -1,7 +1,6 @@
 //! Three regions in one thread, each request to the one that holds it. None is lost; a region may
 //! be refused memory.
 ghost use Rattle.std.specs.Prelude.{◌≡◌, [], All, IfSome, IfNone};
-ghost use Rattle.tx_journal.specs.Known.{AreRising};
 ghost use Rattle.tx_client.specs.Senders.{IsHeld};
 
 use std::alloc::Global;
@@ -93,13 +92,6 @@ impl<J: Naming> Ground<J> {
             high,
             refused: 0,
         })
-    }
-
-    /// For proofs: its keys rise.
-    pub fn rise(&self)
-        ensures { AreRising J.bounds }
-    {
-        let _ = self.journal.bounds();
     }
 
     /// What one who sends by hand has seen.

@@ -9,6 +9,6 @@ mod play;
 mod post;
 mod words;
 
-pub use play::{Act, Step, Who, played};
+pub use play::{Act, Step, Who, played, refuses_first};
 pub use post::Way;
 pub use words::{OK, Said, by_change};

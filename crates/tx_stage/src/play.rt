@@ -235,6 +235,17 @@ impl<J: Naming> World<J> {
         }
     }
 
+    // Whether no session was refused memory of its own once all that a step sends was answered.
+    fn refuses_first(&mut self, steps: &[Step]) -> bool {
+        for (who, act, way, _, _) in steps {
+            let said = self.step(*who, *act, *way);
+            if said.0 == "E12" && self.post.is_answered(most(*act)) {
+                return false;
+            }
+        }
+        true
+    }
+
     // How many steps came out as they say, up to the first that did not.
     fn play(&mut self, steps: &[Step]) -> usize {
         let mut played = 0_usize;
@@ -246,6 +257,14 @@ impl<J: Naming> World<J> {
             played = played.wrapping_add(1);
         }
         played
+    }
+}
+
+// How many requests an act of a session sends at most.
+fn most(act: Act) -> u32 {
+    match act {
+        Act::Scan(_, _, _) => 3,
+        _ => 1,
     }
 }
 
@@ -294,6 +313,16 @@ fn play<J: Naming>(alloc: Global, opened: Opened, steps: &[Step]) -> Option<usiz
     Some(played)
 }
 
+fn judge<J: Naming>(alloc: Global, opened: Opened, steps: &[Step]) -> Option<bool>
+    requires { (opened.table ≡ J.table) × (opened.bounds ≡ J.bounds) × (opened.seats ≡ J.seats) }
+{
+    let (journal, seats) = dealt::<J>(alloc, opened)?;
+    let mut world = world_over(alloc, journal, seats)?;
+    let holds = world.refuses_first(steps);
+    drop(world);
+    Some(holds)
+}
+
 // The keys between the regions.
 fn bounds(alloc: Global) -> Option<Vec<Key>>
     ensures { IfSome result (λ keys. (vec_len keys ≡ 2) × AreRising keys.items) }
@@ -314,4 +343,12 @@ pub fn played(alloc: Global, steps: &[Step]) -> Option<usize> {
     let bounds = bounds(alloc)?;
     let opened = Opened::new(alloc, bounds, 6).ok()?;
     play::<Brand>(alloc, opened, steps)
+}
+
+/// Whether no step of these, however each comes out, says that memory was refused once all that it
+/// sends was answered. None where memory was refused before the first.
+pub fn refuses_first(alloc: Global, steps: &[Step]) -> Option<bool> {
+    let bounds = bounds(alloc)?;
+    let opened = Opened::new(alloc, bounds, 6).ok()?;
+    judge::<Brand>(alloc, opened, steps)
 }

@@ -1,6 +1,5 @@
 //! A way to three regions that loses, repeats, refuses and holds requests.
 ghost use Rattle.std.specs.Prelude.{◌≡◌, [], All, IfSome};
-ghost use Rattle.tx_journal.specs.Known.{AreRising};
 
 use crate::ground::Ground;
 use std::alloc::Global;
@@ -28,14 +27,17 @@ pub enum Way {
     Holds,
 }
 
-/// The regions, how many of the next requests go plainly, what becomes of the one after them, and
-/// the request that is held.
+/// The regions, how many of the next requests go plainly, what becomes of the one after them, the
+/// request that is held, how many requests came since the way was last set, and whether the last of
+/// them was answered.
 #[derive(Drop)]
 pub struct Post<J: Naming> {
     ground: Ground<J>,
     spared: u32,
     way: Way,
     held: Option<Request<J>>,
+    asked: u32,
+    answered: bool,
 }
 
 impl<J: Naming> Post<J> {
@@ -54,24 +56,26 @@ impl<J: Naming> Post<J> {
             spared: 0,
             way: Way::Plain,
             held: None,
+            asked: 0,
+            answered: false,
         })
     }
 
     /// Sets what becomes of the next request that is not spared.
     pub fn turn(&mut self, way: Way) {
         self.way = way;
+        self.asked = 0;
+        self.answered = false;
+    }
+
+    /// Whether so many requests came since then, and the last of them was answered.
+    pub fn is_answered(&self, count: u32) -> bool {
+        self.answered && self.asked >= count
     }
 
     /// So many of the next requests go plainly.
     pub fn spare(&mut self, count: u32) {
         self.spared = count;
-    }
-
-    /// Its keys rise.
-    pub fn rise(&self)
-        ensures { AreRising J.bounds }
-    {
-        self.ground.rise();
     }
 
     // It is taken, and its reply is lost.
@@ -168,9 +172,16 @@ impl<J: Naming> Sender<Request<J>, Reply<J>> for Post<J> {
 
     fn send(&mut self, request: Request<J>) -> Result<Reply<J>, Lost> {
         let way = self.next_way();
+        self.asked = self.asked.saturating_add(1);
         match self.pass(way, request) {
-            Some(reply) => Ok(reply),
-            None => Err(Lost),
+            Some(reply) => {
+                self.answered = reply.answer().is_some();
+                Ok(reply)
+            }
+            None => {
+                self.answered = false;
+                Err(Lost)
+            }
         }
     }
 

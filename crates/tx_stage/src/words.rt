@@ -60,8 +60,8 @@ pub fn by_answer(answer: &Answer) -> Said {
 // That there is no answer.
 fn by_miss(miss: Miss) -> Said {
     match miss {
-        Miss::NoReply => ("lost", 0),
-        Miss::NoMemory => ("E12", 0),
+        Miss::Lost => ("lost", 0),
+        Miss::Fault => ("E12", 0),
     }
 }
 

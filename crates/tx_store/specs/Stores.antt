@@ -1,6 +1,7 @@
--- What a store, and the way to it, make of a request.
-use Rattle.std.specs.Prelude.{◌≡◌, List, Ok, Err}
+-- What a store, and the way to it, make of a request, and which seats it leaves for sessions.
+use Rattle.std.specs.Prelude.{◌≡◌, ℕ, ◌+◌, ◌<◌, List, [], length, slice_get, Some, Ok, Err}
 use Rattle.tx_types.specs.declared.key.Key.{Key}
+use Rattle.tx_journal.specs.Known.{Known, known}
 use Rattle.tx_journal.specs.Replies.{Asked}
 use Rattle.tx_region.specs.declared.applied.Applied.{Applied}
 use Rattle.tx_region.specs.declared.applied.Applied.TheVariants.{Done, Stale}
@@ -19,3 +20,8 @@ Replies a q (Err l) b = ⊥
 abbrev pub GivesBack : {J : Type 0} → Asked → Applied J → Type 0
 GivesBack q (Done g) = g.request ≡ q
 GivesBack q (Stale again) = again ≡ q
+
+-- the seats that are left for sessions: numbered from this one on, each with 2^32 ticks and no
+-- event
+abbrev pub AreForSessions : ℕ → List Known → Type 0
+AreForSessions first seats = (k : ℕ) → k < length seats → slice_get seats k ≡ Some (known (first + k) 4294967296 [])

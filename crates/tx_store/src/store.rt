@@ -9,7 +9,7 @@ ghost use Rattle.tx_region.specs.KeyFronts.{AreFronts};
 ghost use Rattle.tx_region.specs.Copies.{IsOfKey};
 ghost use Rattle.tx_region.specs.Planning.{IsCopyFor, IsPlanFor};
 ghost use Rattle.tx_client.specs.Senders.{IsHeld};
-ghost use Rattle.tx_store.specs.Stores.{GivesBack};
+ghost use Rattle.tx_store.specs.Stores.{AreForSessions, GivesBack};
 
 use crate::seats::split_seats;
 use std::alloc::Global;
@@ -68,7 +68,6 @@ impl<J: Naming, F: Families + Drop> Store<J, F> {
         seats: Vec<Seat<J>>,
         mut families: Vec<F>,
     ) -> Result<Store<J, F>, Fault>
-        requires few { length J.bounds < 1024 }
         requires count { (vec_len seats ≡ length J.bounds + 1) × (vec_len families ≡ length J.bounds + 1) }
         requires dealt { (k : ℕ) (s : Known) → slice_get seats.items k ≡ Some s → (s.seat ≡ k) × (s.events ≡ []) }
         requires empty { All (λ f. F.content f ≡ (λ k. nothing_held)) families.items }
@@ -94,17 +93,18 @@ impl<J: Naming, F: Families + Drop> Store<J, F> {
     }
 
     /// A store over the regions of a journal that was just opened, with families that hold nothing,
-    /// and the seats for sessions. `OutOfMemory` drops what was handed in.
+    /// and the seats for sessions, in their order: each knows of no event, and may draw 2^32 ticks.
+    /// `OutOfMemory` drops what was handed in.
     pub fn open(
         alloc: Global,
         opened: Opened,
         families: Vec<F>,
     ) -> Result<(Store<J, F>, Vec<Seat<J>>), Fault>
         requires name { (opened.table ≡ J.table) × (opened.bounds ≡ J.bounds) × (opened.seats ≡ J.seats) }
-        requires few { (length J.bounds < 1024) × (length J.bounds < J.seats) }
         requires count { vec_len families ≡ length J.bounds + 1 }
         requires empty { All (λ f. F.content f ≡ (λ k. nothing_held)) families.items }
-        ensures sessions { IfOk result (λ r. length J.bounds + 1 + vec_len r.1 ≡ J.seats) }
+        ensures count { IfOk result (λ r. length J.bounds + 1 + vec_len r.1 ≡ J.seats) }
+        ensures seats { IfOk result (λ r. AreForSessions (length J.bounds + 1) r.1.items) }
         ensures err { IfErr result (λ e. e ≡ OutOfMemory) }
     {
         let (journal, seats) = opened.named::<J>(alloc)?;
@@ -113,10 +113,11 @@ impl<J: Naming, F: Families + Drop> Store<J, F> {
         Ok((store, sessions))
     }
 
-    /// The keys between its regions, rising.
+    /// The keys between its regions: fewer than 1,024, rising.
     pub fn bounds(&self) -> &[Key]
         ensures value { result.now ≡ J.bounds }
         ensures rising { AreRising J.bounds }
+        ensures few { length J.bounds < 1024 }
     {
         self.journal.bounds()
     }

@@ -1,4 +1,5 @@
 pub mod Buffers
 pub mod Sessions
+pub mod Next
 pub mod Returns
 pub mod Turns

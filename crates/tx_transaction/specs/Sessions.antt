@@ -238,6 +238,12 @@ abbrev pub met_by : Answer → Option LockInfo → Option LockInfo
 met_by (answer.KeyIsLocked info) o = Some info
 met_by _ o = o
 
+-- the lock that comes with what came of a request: the one that the answer names as in the way
+abbrev pub lock_met : Came → Option LockInfo
+lock_met came.Lost = None
+lock_met came.Unsaid = None
+lock_met (came.Said a) = met_by a None
+
 -- an answer below the safe point tells nothing of the fate; each other answer clears the cause
 abbrev pub cause_of : Answer → Option UnknownCause
 cause_of (answer.BelowSafePoint n) = Some cause.BelowSafePoint
@@ -307,8 +313,12 @@ after_read s (came.Said a) = record s { met = met_by a s.met }
 abbrev pub with_one : List ℕ → ℕ → List ℕ
 with_one starts t = cond (list_any (λ start. nat_eq start t) starts) starts (starts ++ t ∷ [])
 
--- its reads may pass by a transaction that is aborted, or commits above its start;
--- each is named once
+-- a transaction that its reads may pass by and did not yet: one more start is noted
+abbrev pub notes_one : State → ℕ → Bool → Bool
+notes_one s t may = may && not (list_any (λ start. nat_eq start t) s.bypass)
+
+-- its reads may pass by a transaction that is aborted, or commits above its start; each is named
+-- once
 abbrev pub with_passed : State → ℕ → Bool → State
 with_passed s t false = s
 with_passed s t true = record s { bypass = with_one s.bypass t }

@@ -15,6 +15,9 @@ use tx_types::{Change, Changes, Fault, Key, Mutation, Secondaries, Ts, Value};
 
 pub(crate) type Buffer = IndexMap<Key, Entry>;
 
+/// So many keys are compared in less than one is hashed.
+const FEW: usize = 4;
+
 /// Whether the key would be one too many.
 pub(crate) fn is_full(buffer: &Buffer, key: &Key) -> bool
     ensures { result ≡ is_full buffer.now.entries key.now }
@@ -42,6 +45,9 @@ pub(crate) fn touch(buffer: &mut Buffer, key: Key, mutation: Mutation) -> Result
 pub(crate) fn find<'a>(buffer: &'a Buffer, key: &Key) -> Option<&'a Mutation>
     ensures { option_map (λ m. m.now) result ≡ buffered buffer.now.entries key.now }
 {
+    if buffer.len() <= FEW {
+        return seek(buffer, key.as_bytes());
+    }
     match buffer.get(key) {
         Some(entry) => Some(&entry.mutation),
         None => None,
@@ -162,6 +168,17 @@ pub(crate) fn place_of(buffer: &Buffer, phase: Phase) -> Option<usize>
         }
     }
     None
+}
+
+/// The key at a place.
+pub(crate) fn key_at(buffer: &Buffer, i: usize) -> &Key
+    requires { i < length buffer.now.entries }
+    ensures { result.now ≡ key_at buffer.now.entries i }
+{
+    match buffer.get_index(i) {
+        Some((key, _)) => key,
+        None => unreachable!(),
+    }
 }
 
 /// A copy of the key at a place.

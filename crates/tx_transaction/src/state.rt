@@ -55,9 +55,9 @@ pub enum Came {
 #[derive(Clone, Copy, Debug, PartialEq, Eq)]
 pub enum Miss {
     /// No reply came.
-    NoReply,
+    Lost,
     /// Memory was refused, to the session or to the region.
-    NoMemory,
+    Fault,
 }
 
 /// A request that is due, and the place of its key in the buffer.

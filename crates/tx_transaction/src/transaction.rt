@@ -2,11 +2,12 @@
 ghost use Rattle.std.specs.Prelude.{◌≡◌, ◌<◌, ◌⊎◌, true, false, not, Some, None, is_some, Ok, Err, IfOk, IfErr, OnOk, OnErr};
 ghost use Rattle.tx_transaction.specs.Buffers.{touched, put_over, inserted, locked, buffered, is_full, is_known, not_empty};
 ghost use Rattle.tx_transaction.specs.Sessions.{begun, is_declared, has_primary, declaration, exceeds};
-ghost use Rattle.tx_transaction.specs.declared.state.Miss.TheVariants.{NoMemory};
+ghost use Rattle.tx_transaction.specs.declared.state.Miss.TheVariants as miss;
 ghost use Rattle.tx_transaction.specs.Returns.{IsBuffered};
 
 mod fate;
 mod hearing;
+mod next;
 mod requests;
 
 use crate::buffer::{
@@ -23,11 +24,11 @@ use tx_types::{Fate, Fault, Key, LockInfo, Mode, Mutation, Ts, Value};
 
 // A copy of a value, as an answer.
 fn found(value: &Value) -> Result<Answer, Miss>
-    ensures { (result ≡ Err NoMemory) ⊎ (result ≡ Ok (Answer.Found value.now)) }
+    ensures { (result ≡ Err miss.Fault) ⊎ (result ≡ Ok (Answer.Found value.now)) }
 {
     match value.clone() {
         Ok(value) => Ok(Answer::Found(value)),
-        Err(_) => Err(Miss::NoMemory),
+        Err(_) => Err(Miss::Fault),
     }
 }
 
@@ -145,7 +146,7 @@ impl Transaction {
         requires { is_declared self.old ≡ false }
         ensures ok { OnOk result ((is_full self.old.buffer key ≡ false) × (self.new ≡ record self.old { buffer = touched self.old.buffer key mutation })) }
         ensures same { OnErr result (self.new ≡ self.old) }
-        ensures err { IfErr result (λ e. (e ≡ Fault.OutOfMemory) ⊎ ((e ≡ Fault.TooManyKeys) × (is_full self.old.buffer key ≡ true))) }
+        ensures err { IfErr result (λ e. ((e ≡ Fault.OutOfMemory) × (is_full self.old.buffer key ≡ false)) ⊎ ((e ≡ Fault.TooManyKeys) × (is_full self.old.buffer key ≡ true))) }
     {
         if is_full(&self.buffer, &key) {
             return Err(Fault::TooManyKeys);
@@ -159,7 +160,7 @@ impl Transaction {
         requires { is_declared self.old ≡ false }
         ensures ok { OnOk result ((is_full self.old.buffer key ≡ false) × (self.new ≡ record self.old { buffer = touched self.old.buffer key (put_over (buffered self.old.buffer key) value) })) }
         ensures same { OnErr result (self.new ≡ self.old) }
-        ensures err { IfErr result (λ e. (e ≡ Fault.OutOfMemory) ⊎ ((e ≡ Fault.TooManyKeys) × (is_full self.old.buffer key ≡ true))) }
+        ensures err { IfErr result (λ e. ((e ≡ Fault.OutOfMemory) × (is_full self.old.buffer key ≡ false)) ⊎ ((e ≡ Fault.TooManyKeys) × (is_full self.old.buffer key ≡ true))) }
     {
         let mutation = put_over(&self.buffer, &key, value);
         self.touch(key, mutation)
@@ -171,7 +172,7 @@ impl Transaction {
         requires { is_declared self.old ≡ false }
         ensures ok { OnOk result ((is_full self.old.buffer key ≡ false) × (inserted self.old.buffer key value ≡ Some self.new.buffer) × (self.new ≡ record self.old { buffer = self.new.buffer })) }
         ensures same { OnErr result (self.new ≡ self.old) }
-        ensures err { IfErr result (λ e. ((e ≡ Fault.OutOfMemory) × (is_some (inserted self.old.buffer key value) ≡ true)) ⊎ ((e ≡ Fault.TooManyKeys) × (is_full self.old.buffer key ≡ true)) ⊎ ((e ≡ Fault.AlreadyExists) × (inserted self.old.buffer key value ≡ None))) }
+        ensures err { IfErr result (λ e. ((e ≡ Fault.OutOfMemory) × (is_some (inserted self.old.buffer key value) ≡ true) × (is_full self.old.buffer key ≡ false)) ⊎ ((e ≡ Fault.TooManyKeys) × (is_full self.old.buffer key ≡ true)) ⊎ ((e ≡ Fault.AlreadyExists) × (inserted self.old.buffer key value ≡ None))) }
     {
         let Some(mutation) = insert_over(&self.buffer, &key, value) else {
             return Err(Fault::AlreadyExists);
@@ -184,7 +185,7 @@ impl Transaction {
         requires { is_declared self.old ≡ false }
         ensures ok { OnOk result ((is_full self.old.buffer key ≡ false) × (self.new ≡ record self.old { buffer = locked self.old.buffer key })) }
         ensures same { OnErr result (self.new ≡ self.old) }
-        ensures err { IfErr result (λ e. (e ≡ Fault.OutOfMemory) ⊎ ((e ≡ Fault.TooManyKeys) × (is_full self.old.buffer key ≡ true))) }
+        ensures err { IfErr result (λ e. ((e ≡ Fault.OutOfMemory) × (is_full self.old.buffer key ≡ false)) ⊎ ((e ≡ Fault.TooManyKeys) × (is_full self.old.buffer key ≡ true))) }
     {
         if find(&self.buffer, &key).is_some() {
             return Ok(());

@@ -1,5 +1,5 @@
 //! How a session of a run reaches the regions, and resolves what stands in its way.
-ghost use Rattle.std.specs.Prelude.{◌≡◌, ◌<◌, true, [], length};
+ghost use Rattle.std.specs.Prelude.{◌≡◌, true, []};
 ghost use Rattle.tx_core.specs.Laws.{WasToldOf};
 ghost use Rattle.tx_transaction.specs.Sessions.{is_declared, can_commit, can_abort, has_primary};
 ghost use Rattle.tx_client.specs.Calls.{KeepsSet};
@@ -25,14 +25,16 @@ pub struct Access<J: Naming, F: Families + Drop, R: Wait + Drop> {
     rt: R,
     store: Arc<Store<J, F>>,
     resolver: Seat<J>,
-    ghost few: { length J.bounds < 1024 },
 }
 
 impl<J: Naming, F: Families + Drop, R: Wait + Drop> Access<J, F, R> {
     /// The way of a session whose locks wait by `rt`, with a seat that resolves for it.
-    pub fn new(alloc: Global, rt: R, store: Arc<Store<J, F>>, resolver: Seat<J>) -> Access<J, F, R>
-        requires few { length J.bounds < 1024 }
-    {
+    pub fn new(
+        alloc: Global,
+        rt: R,
+        store: Arc<Store<J, F>>,
+        resolver: Seat<J>,
+    ) -> Access<J, F, R> {
         Access {
             alloc,
             rt,
@@ -58,8 +60,6 @@ impl<J: Naming, F: Families + Drop, R: Wait + Drop> Access<J, F, R> {
         to: &Key,
         limit: u32,
     ) -> Result<Answer, Miss> {
-        // For proofs: the keys between the regions rise.
-        let _ = self.store.bounds();
         let mut wire = Wire::new(&self.rt, &self.store);
         wire.show();
         session.scan(self.alloc, from, to, limit, &mut wire)

@@ -5,12 +5,13 @@ ghost use Rattle.tx_transaction.specs.Sessions.{is_declared};
 use crate::access::Access;
 use std::sync::Wait;
 use tx_cells::Families;
-use tx_client::{Miss, Session, Terms};
+use tx_client::{Miss, Session, Status, Terms, WaitCause};
 use tx_core::Answer;
 use tx_journal::Naming;
 use tx_ledger::Words;
 use tx_lines::Reply;
 use tx_steps::{Action, Request};
+use tx_types::limits::{MAX_KEY_BYTES, MAX_VALUE_BYTES, MIN_KEY_BYTES};
 use tx_types::{Cause, Fault, Key, Ts, Value};
 
 /// The reply of a refusal.
@@ -48,6 +49,40 @@ fn sent(came: Result<Option<Answer>, Miss>) -> Words {
     }
 }
 
+// Whether a key has the length of one. What is refused for its length, or by the buffer, is so
+// before memory is asked for.
+fn check_key(key: &str) -> Result<(), Fault> {
+    if key.len() < MIN_KEY_BYTES || key.len() > MAX_KEY_BYTES {
+        return Err(Fault::KeyLength);
+    }
+    Ok(())
+}
+
+fn check_value(value: &str) -> Result<(), Fault> {
+    if value.len() > MAX_VALUE_BYTES {
+        return Err(Fault::ValueLength);
+    }
+    Ok(())
+}
+
+// Whether the buffer has room for a key.
+fn check_room<J: Naming>(session: &Session<J>, key: &str) -> Result<(), Fault> {
+    if session.has_room(key.as_bytes()) {
+        Ok(())
+    } else {
+        Err(Fault::TooManyKeys)
+    }
+}
+
+// Whether the buffer has no value of a key.
+fn check_insert<J: Naming>(session: &Session<J>, key: &str) -> Result<(), Fault> {
+    if session.can_insert(key.as_bytes()) {
+        Ok(())
+    } else {
+        Err(Fault::AlreadyExists)
+    }
+}
+
 fn put<J: Naming, F: Families + Drop, R: Wait + Drop>(
     session: &mut Session<J>,
     access: &Access<J, F, R>,
@@ -56,6 +91,9 @@ fn put<J: Naming, F: Families + Drop, R: Wait + Drop>(
 ) -> Result<(), Fault>
     requires { is_declared session.old.state ≡ false }
 {
+    check_key(key)?;
+    check_value(value)?;
+    check_room(session, key)?;
     let key = Key::new(access.alloc, key.as_bytes())?;
     let value = Value::new(access.alloc, value.as_bytes())?;
     session.put(key, value)
@@ -69,6 +107,10 @@ fn insert<J: Naming, F: Families + Drop, R: Wait + Drop>(
 ) -> Result<(), Fault>
     requires { is_declared session.old.state ≡ false }
 {
+    check_key(key)?;
+    check_value(value)?;
+    check_room(session, key)?;
+    check_insert(session, key)?;
     let key = Key::new(access.alloc, key.as_bytes())?;
     let value = Value::new(access.alloc, value.as_bytes())?;
     session.insert(key, value)
@@ -81,6 +123,8 @@ fn delete<J: Naming, F: Families + Drop, R: Wait + Drop>(
 ) -> Result<(), Fault>
     requires { is_declared session.old.state ≡ false }
 {
+    check_key(key)?;
+    check_room(session, key)?;
     let key = Key::new(access.alloc, key.as_bytes())?;
     session.delete(key)
 }
@@ -92,6 +136,8 @@ fn lock<J: Naming, F: Families + Drop, R: Wait + Drop>(
 ) -> Result<(), Fault>
     requires { is_declared session.old.state ≡ false }
 {
+    check_key(key)?;
+    check_room(session, key)?;
     let key = Key::new(access.alloc, key.as_bytes())?;
     session.lock(key)
 }
@@ -132,16 +178,26 @@ fn draw<J: Naming>(session: &mut Session<J>) -> Result<Words, Cause> {
     }
 }
 
+// What was found of a lock; where memory was refused on the way, it waits.
+fn found(resolved: Result<Option<Status>, Fault>) -> Option<Status> {
+    match resolved {
+        Ok(status) => status,
+        Err(fault) => {
+            drop(fault);
+            Some(Status::Waiting(WaitCause::OutOfMemory))
+        }
+    }
+}
+
 fn resolve<J: Naming, F: Families + Drop, R: Wait + Drop>(
     session: &mut Session<J>,
     access: &mut Access<J, F, R>,
     now: u64,
 ) -> Result<Words, Cause> {
-    match access.resolve(session, Some(Ts::new(now))) {
-        Ok(None) => Err(Cause::Order),
-        Ok(Some(status)) => Ok(Words::new(Reply::Status(status))),
-        Err(fault) => Ok(refused(fault)),
-    }
+    let Some(status) = found(access.resolve(session, Some(Ts::new(now)))) else {
+        return Err(Cause::Order);
+    };
+    Ok(Words::new(Reply::Status(status)))
 }
 
 /// What a session does by itself.
@@ -176,6 +232,8 @@ fn scan<J: Naming, F: Families + Drop, R: Wait + Drop>(
     to: &str,
     limit: u32,
 ) -> Result<Words, Fault> {
+    check_key(from)?;
+    check_key(to)?;
     let from = Key::new(access.alloc, from.as_bytes())?;
     let to = Key::new(access.alloc, to.as_bytes())?;
     Ok(answered(access.scan(session, &from, &to, limit)))

@@ -1,11 +1,12 @@
 //! What is known of a session's transaction, what it learns of others, and how it ends.
-ghost use Rattle.std.specs.Prelude.{◌≡◌, Some, None, IfOk, IfErr, OnOk, OnErr, option_map, is_some};
+ghost use Rattle.std.specs.Prelude.{◌≡◌, Some, None, IfOk, IfErr, OnOk, OnErr, IfSome, true, option_map, is_some};
 ghost use Rattle.tx_types.specs.declared.fault.Fault.TheVariants as fault;
 ghost use Rattle.tx_core.specs.declared.event.Event.TheVariants.{Answered, Stopped};
 ghost use Rattle.tx_core.specs.Histories.{declared};
+ghost use Rattle.tx_core.specs.Laws.{WasToldOf};
 ghost use Rattle.tx_core.specs.Recording.{MayRecord};
 ghost use Rattle.tx_core.specs.Worlds.{IsWorldRun};
-ghost use Rattle.tx_transaction.specs.Sessions.{with_passed, finish_of};
+ghost use Rattle.tx_transaction.specs.Sessions.{notes_one, with_passed, finish_of};
 ghost use Rattle.tx_client.specs.Statuses.{lies_above};
 ghost use Rattle.tx_client.specs.Calls.{HasHeard, Records, IsDecidedSo};
 ghost use Rattle.tx_client.specs.Facts.{standing};
@@ -16,7 +17,7 @@ use crate::resolved::{Decision, Met, Resolved};
 use std::marker::Brand;
 use tx_core::Outcome;
 use tx_journal::{Naming, Said, Seat};
-use tx_types::{Fault, Ts};
+use tx_types::{Fault, LockInfo, Ts};
 
 // Records the event that the call picks: a session answered this outcome.
 fn record_outcome<J: Naming, E: Said>(seat: &mut Seat<J>, start: Ts, outcome: &Outcome)
@@ -88,7 +89,15 @@ impl<J: Naming> Session<J> {
         self.transaction.has_met()
     }
 
-    /// The lock that last stood in its way, with what proves that it did.
+    /// The lock that last stood in its way, if one did: what its seat has seen told of it.
+    pub fn met_lock(&self) -> Option<&LockInfo>
+        ensures lock { option_map (λ info. info.now) result ≡ self.now.state.met }
+        ensures told { IfSome self.now.state.met (λ info. WasToldOf self.now.seat.events info) }
+    {
+        self.transaction.met_lock()
+    }
+
+    /// A copy of that lock, with what proves that it stood there.
     pub fn met(&mut self) -> Result<Option<Met<J>>, Fault>
         ensures same { self.new ≡ self.old }
         ensures ok { IfOk result (λ met. met ≡ option_map (λ info. record { info = info; events = self.old.seat.events }) self.old.state.met) }
@@ -102,11 +111,12 @@ impl<J: Naming> Session<J> {
     }
 
     /// Learns what a resolver found: its reads may then pass by a transaction that is aborted, or
-    /// commits above its start. `OutOfMemory` leaves the session as it was.
+    /// commits above its start. Only where that is one more it takes memory. `OutOfMemory` leaves
+    /// the session as it was.
     pub fn learn(&mut self, resolved: Resolved<J>) -> Result<(), Fault>
         ensures ok { OnOk result ((self.new.state ≡ with_passed self.old.state resolved.start (lies_above resolved.status self.old.state.start)) × HasHeard J.bounds self.old.seat resolved.events self.new.seat) }
         ensures same { OnErr result (self.new ≡ self.old) }
-        ensures err { IfErr result (λ e. e ≡ fault.OutOfMemory) }
+        ensures err { IfErr result (λ e. (e ≡ fault.OutOfMemory) × (notes_one self.old.state resolved.start (lies_above resolved.status self.old.state.start) ≡ true)) }
     {
         let (start, status, told) = resolved.into_parts();
         let may = status.lies_above(self.transaction.start());

@@ -2,13 +2,13 @@
 ghost use Rattle.std.specs.Prelude.{◌≡◌, ◌≤◌, ◌⊎◌, ◌++◌, ◌-◌, length, IfOk, IfErr, IfSome, Ok, Err};
 ghost use Rattle.tx_types.specs.declared.fault.Fault.TheVariants as fault;
 ghost use Rattle.tx_core.specs.Allowed.{Allowed};
-ghost use Rattle.tx_journal.specs.Known.{AreRising};
-ghost use Rattle.tx_transaction.specs.declared.state.Miss.TheVariants.{NoMemory};
+ghost use Rattle.tx_transaction.specs.declared.state.Miss.TheVariants as miss;
 ghost use Rattle.tx_client.specs.declared.part.Part.TheVariants as part;
 ghost use Rattle.tx_transaction.specs.Sessions.{read_of};
 ghost use Rattle.tx_client.specs.Senders.{IsHeld, IsWay};
 ghost use Rattle.tx_client.specs.Walks.{Sends, look_walk, get_walk, part_walk, look_part, IsPart, scan_walk, part_of, low_of, high_of, enough, lesser, greater};
 
+use crate::asking::Heard;
 use crate::part::Part;
 use crate::sender::Sender;
 use crate::session::Session;
@@ -31,8 +31,8 @@ impl<J: Naming> Session<J> {
         requires allowed { Allowed self.old.seat.events body }
         ensures { Sends S.sends J.bounds self.old.seat sender.old (look_walk self.old.state body) (self.new.state, result) sender.new self.new.seat }
     {
-        let came = self.ask(body, sender);
-        self.transaction.after_read(came)
+        let Heard { came, lock } = self.ask(body, sender);
+        self.transaction.after_read(came, lock)
     }
 
     // Reads a key of the store.
@@ -42,15 +42,16 @@ impl<J: Naming> Session<J> {
         sender: &mut S,
     ) -> Result<Answer, Miss>
         requires way { IsWay J.bounds S.fits S.sends S.keys_between }
-        ensures { (result ≡ Err NoMemory) × (self.new ≡ self.old) × (sender.new ≡ sender.old) ⊎ Sends S.sends J.bounds self.old.seat sender.old (look_walk self.old.state (read_of self.old.state key.now)) (self.new.state, result) sender.new self.new.seat }
+        ensures { (result ≡ Err miss.Fault) × (self.new ≡ self.old) × (sender.new ≡ sender.old) ⊎ Sends S.sends J.bounds self.old.seat sender.old (look_walk self.old.state (read_of self.old.state key.now)) (self.new.state, result) sender.new self.new.seat }
     {
         match self.transaction.read(key) {
             Ok(body) => self.look(body, sender),
-            Err(_) => Err(Miss::NoMemory),
+            Err(_) => Err(Miss::Fault),
         }
     }
 
     /// Reads a key at the session's start: what the buffer puts or deletes is answered from there.
+    /// Memory that is refused to the session itself sends nothing, and leaves all as it was.
     pub fn get<S: Sender<Request<J>, Reply<J>>>(
         &mut self,
         key: &Key,
@@ -122,10 +123,10 @@ fn append(mut rows: KeyValues, found: KeyValues) -> Result<KeyValues, Fault>
 
 // More rows were found.
 fn joined(limit: u32, rows: KeyValues, found: KeyValues) -> Part
-    ensures { (result ≡ part.Done (Err NoMemory)) ⊎ (result ≡ enough limit (rows ++ found)) }
+    ensures { (result ≡ part.Done (Err miss.Fault)) ⊎ (result ≡ enough limit (rows ++ found)) }
 {
     let Ok(all) = append(rows, found) else {
-        return Part::Done(Err(Miss::NoMemory));
+        return Part::Done(Err(Miss::Fault));
     };
     if all.as_slice().len() < limit as usize {
         Part::More(all)
@@ -208,13 +209,12 @@ impl<J: Naming> Session<J> {
         sender: &mut S,
     ) -> Part
         requires way { IsWay J.bounds S.fits S.sends S.keys_between }
-        requires rising { AreRising J.bounds }
         requires within { n ≤ length J.bounds }
         ensures { Sends S.sends J.bounds self.old.seat sender.old (part_walk self.old.state (greater from.now (low_of from.now J.bounds n)) (high_of to.now J.bounds n) limit rows) (self.new.state, result) sender.new self.new.seat }
     {
         let left = left(limit, &rows);
         match self.part_of(alloc, sender.bounds(), n, from, to, left) {
-            Err(_) => Part::Done(Err(Miss::NoMemory)),
+            Err(_) => Part::Done(Err(Miss::Fault)),
             Ok(None) => Part::More(rows),
             Ok(Some(body)) => self.look_part(body, limit, rows, sender),
         }
@@ -232,7 +232,6 @@ impl<J: Naming> Session<J> {
         sender: &mut S,
     ) -> Result<Answer, Miss>
         requires way { IsWay J.bounds S.fits S.sends S.keys_between }
-        requires rising { AreRising J.bounds }
         ensures { Sends S.sends J.bounds self.old.seat sender.old (scan_walk self.old.state J.bounds from.now to.now limit) (self.new.state, result) sender.new self.new.seat }
     {
         let mut rows = KeyValues::new(alloc);

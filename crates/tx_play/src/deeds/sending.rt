@@ -22,8 +22,8 @@ fn missed(miss: Miss) -> Reply
     ensures { result ≡ missed_by miss }
 {
     match miss {
-        Miss::NoReply => Reply::Lost,
-        Miss::NoMemory => Reply::OutOfMemory,
+        Miss::Lost => Reply::Lost,
+        Miss::Fault => Reply::OutOfMemory,
     }
 }
 
@@ -108,7 +108,6 @@ fn scan_keys<J: Naming, F: Families>(
 ) -> Reply
     ensures { Sent J.bounds (λ refused scene k s. runs_to J.bounds read_by k (by_name (λ n. n.now) way.entry) refused scene (scan_walk s J.bounds from.now to.now limit)) result session.old session.new post.old post.new }
 {
-    post.show();
     post.set_way(way);
     read(session.scan(alloc, from, to, limit, post))
 }

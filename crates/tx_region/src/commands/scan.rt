@@ -6,6 +6,7 @@ ghost use Rattle.tx_region.specs.Calls.{Executes, Counts};
 
 use crate::records::{Executed, Records};
 use tx_cells::Families;
+use tx_journal::AnswerWithLock;
 use tx_plan::{Answer, Scan};
 use tx_types::{Fault, Ts};
 
@@ -27,7 +28,7 @@ impl<F: Families> Records<F> {
         }
         let answer = self.families.scan(self.alloc, body)?;
         Ok(Executed {
-            answer,
+            answer: AnswerWithLock::new(answer)?,
             read: Some(body.at),
         })
     }

@@ -35,7 +35,7 @@ fn ask<F: Families>(tried: &mut Tried<F>, alloc: Global, asked: Ask) -> Short {
             if let Some(read) = read {
                 tried.read = tried.read.max(read);
             }
-            answered(Ok(answer))
+            answered(Ok(answer.into_answer()))
         }
         Err(fault) => answered(Err(fault)),
     }

@@ -6,6 +6,8 @@ use tx_types::{Fault, KeyValues, LockInfo};
 /// The words of answers.
 #[derive(Clone, Copy)]
 pub enum Word {
+    /// No reply, or nothing was asked.
+    Silent,
     /// No answer: memory was refused.
     Refused,
     /// How many bytes.

@@ -11,11 +11,10 @@ use std::sync::Wait;
 use tx_cells::Families;
 use tx_client::Session;
 use tx_journal::{Naming, Seat};
-use tx_latch::slot_of;
 use tx_ledger::{Entry, Said, Source, Words};
 use tx_lines::{Parts, Reply};
 use tx_steps::{Action, Line, Program, Step};
-use tx_types::{Cause, Fault, Key, is_name};
+use tx_types::{Cause, is_name};
 use tx_work::{act, send};
 
 impl<J: Naming, L: Source, F: Families + Drop, R: Wait + Drop> ScriptJob<J, L, F, R> {
@@ -38,7 +37,6 @@ impl<J: Naming, L: Source, F: Families + Drop, R: Wait + Drop> ScriptJob<J, L, F
         let start = session.start();
         match Box::new(self.access.alloc, session) {
             Ok(session) => {
-                self.touched.clear();
                 self.stand(Place::Live(session));
                 self.tell(number, Words::new(Reply::Start(start)));
             }
@@ -68,32 +66,12 @@ impl<J: Naming, L: Source, F: Families + Drop, R: Wait + Drop> ScriptJob<J, L, F
         self.tell(number, words);
     }
 
-    // Keeps the slot of a key that enters the buffer.
-    fn touches(&mut self, action: Action<'_>) -> Result<(), Fault>
-        ensures { StaysSame self.old self.new }
-    {
-        match action {
-            Action::Put(key, _)
-            | Action::Insert(key, _)
-            | Action::Delete(key)
-            | Action::Lock(key) => {
-                let key = Key::new(self.access.alloc, key.as_bytes())?;
-                self.touched.push(slot_of(&key))?;
-                Ok(())
-            }
-            _ => Ok(()),
-        }
-    }
-
     // A step of a session that is live.
     fn acts(&mut self, number: u64, mut session: Box<Session<J>>, step: Step<'_>)
         ensures { StaysSame self.old self.new }
     {
         let result = match step {
-            Step::Act(_, action) => {
-                let _ = self.touches(action);
-                act(&mut session, &mut self.access, action)
-            }
+            Step::Act(_, action) => act(&mut session, &mut self.access, action),
             Step::Send(_, request, _) => send(&mut session, &self.access, request),
             Step::Begin(_) => Err(Cause::Name),
             _ => Err(Cause::Order),

@@ -1,6 +1,6 @@
-//! Two workers are between the two calls of the gate at once in steps of two slots, and never
-//! in steps of one.
-use super::answers_of;
+//! Two workers are between the two calls of the gate at once in steps of two slots, and never in
+//! steps of one.
+use super::transfers::answers_of;
 use std::alloc::Global;
 use std::sync::Wait;
 use std::sync::atomic::{AtomicU64, Ordering};
@@ -23,13 +23,18 @@ static ONE_KEY: &str = "[\"regions\",[\"b\"]]
 [\"begin\",\"A\"]\n[\"put\",\"A\",\"a\",\"1\"]\n[\"declare\",\"A\",\"two-phase\",9]\n[\"prewrite\",\"A\"]
 [\"begin\",\"B\"]\n[\"put\",\"B\",\"a\",\"2\"]\n[\"declare\",\"B\",\"two-phase\",9]\n[\"prewrite\",\"B\"]\n";
 
-/// The number of the last step of each session.
-const LAST: u64 = 3;
+/// The last step of each session locks a key of its own, while one has the other's key in its
+/// buffer too.
+static TWO_IN_ONE_BUFFER: &str = "[\"regions\",[\"b\"]]
+[\"begin\",\"A\"]\n[\"put\",\"A\",\"a\",\"1\"]\n[\"put\",\"A\",\"b\",\"1\"]\n[\"declare\",\"A\",\"two-phase\",9]\n[\"prewrite\",\"A\"]
+[\"begin\",\"B\"]\n[\"put\",\"B\",\"b\",\"2\"]\n[\"put\",\"B\",\"b\",\"3\"]\n[\"declare\",\"B\",\"two-phase\",9]\n[\"prewrite\",\"B\"]\n";
 
 // Which gate calls of the two last steps came, and in which order.
 #[derive(Drop)]
 struct Watch<R: Clock> {
     rt: R,
+    // The number of the last step of each session.
+    last: u64,
     // How often a call of `before` waits for what it waits for.
     turns: u32,
     // Whether a call waits for the other's call, or only lets time pass.
@@ -42,9 +47,10 @@ struct Watch<R: Clock> {
 }
 
 impl<R: Clock> Watch<R> {
-    fn new(rt: R, turns: u32, meets: bool) -> Watch<R> {
+    fn new(rt: R, last: u64, turns: u32, meets: bool) -> Watch<R> {
         Watch {
             rt,
+            last,
             turns,
             meets,
             first: AtomicU64::new(0),
@@ -64,16 +70,16 @@ impl<R: Clock> Watch<R> {
     fn has_met(&self) -> bool {
         self.met.load(Ordering::SeqCst) == 1
     }
-}
 
-// Whether this is a session's last step.
-fn is_last(cid: Cid) -> bool {
-    cid.get() & 0xFFFF_FFFF == LAST
+    // Whether this is a session's last step.
+    fn is_last(&self, cid: Cid) -> bool {
+        cid.get() & 0xFFFF_FFFF == self.last
+    }
 }
 
 impl<R: Clock> Gate for Watch<R> {
     fn before(&self, cid: Cid) {
-        if !is_last(cid) {
+        if !self.is_last(cid) {
             return;
         }
         let is_first = self.came() == 0;
@@ -94,7 +100,7 @@ impl<R: Clock> Gate for Watch<R> {
     }
 
     fn after(&self, cid: Cid) {
-        if is_last(cid) {
+        if self.is_last(cid) {
             self.inside.fetch_sub(1, Ordering::SeqCst);
         }
     }
@@ -127,7 +133,7 @@ fn answers<R: Threads + Wait + Clock + Sync + Send + Clone + Drop>(
 #[test]
 fn two_sessions_make_two_steps_at_once(rt: HostRuntime) -> Result<(), Fail> {
     let alloc: Global = rt.alloc();
-    let watch = Watch::new(rt, 10_000, true);
+    let watch = Watch::new(rt, 3, 10_000, true);
     let count = answers(&watch, alloc, TWO_KEYS)?;
     assert_eq!(&watch.rt; count, Some(9));
     assert_eq!(&watch.rt; watch.came(), 2);
@@ -136,9 +142,20 @@ fn two_sessions_make_two_steps_at_once(rt: HostRuntime) -> Result<(), Fail> {
 }
 
 #[test]
+fn a_step_asks_for_its_own_key_alone(rt: HostRuntime) -> Result<(), Fail> {
+    let alloc: Global = rt.alloc();
+    let watch = Watch::new(rt, 4, 10_000, true);
+    let count = answers(&watch, alloc, TWO_IN_ONE_BUFFER)?;
+    assert_eq!(&watch.rt; count, Some(11));
+    assert_eq!(&watch.rt; watch.came(), 2);
+    assert!(&watch.rt; watch.has_met());
+    Ok(())
+}
+
+#[test]
 fn one_key_keeps_two_steps_apart(rt: HostRuntime) -> Result<(), Fail> {
     let alloc: Global = rt.alloc();
-    let watch = Watch::new(rt, 200, false);
+    let watch = Watch::new(rt, 3, 200, false);
     let count = answers(&watch, alloc, ONE_KEY)?;
     assert_eq!(&watch.rt; count, Some(9));
     assert_eq!(&watch.rt; watch.came(), 2);

@@ -1,6 +1,6 @@
-//! Families of which the first look-ups in two regions wait for each other.
+//! Families of which the first look-ups of two keys, in two regions, wait for each other.
 
-use super::answers_of;
+use super::transfers::answers_of;
 use std::alloc::Global;
 use std::sync::atomic::{AtomicU64, Ordering};
 use std::sync::{Arc, Wait};
@@ -14,57 +14,63 @@ use tx_run::{Makes, Settings, run_script};
 use tx_sched::Open;
 use tx_types::{Fault, Key, LockInfo, Ts};
 
-/// Where two look-ups meet.
+/// The first look-ups of `a` and `b`, each of which looks for the other.
 #[derive(Drop)]
 struct Place {
-    /// How many came, how many are there, and 1 once two were there at once.
-    came: AtomicU64,
-    inside: AtomicU64,
-    met: AtomicU64,
+    /// How often each was looked up.
+    a: AtomicU64,
+    b: AtomicU64,
+    /// How many looked in vain.
+    alone: AtomicU64,
     /// How often one looks for the other.
-    turns: u64,
+    reads: u64,
 }
 
 impl Place {
-    fn new(turns: u64) -> Place {
+    fn new(reads: u64) -> Place {
         Place {
-            came: AtomicU64::new(0),
-            inside: AtomicU64::new(0),
-            met: AtomicU64::new(0),
-            turns,
+            a: AtomicU64::new(0),
+            b: AtomicU64::new(0),
+            alone: AtomicU64::new(0),
+            reads,
         }
     }
 
-    fn came(&self) -> u64 {
-        self.came.load(Ordering::SeqCst)
-    }
-
+    // Whether both were looked up, and none looked in vain.
     fn has_met(&self) -> bool {
-        self.met.load(Ordering::SeqCst) == 1
+        let came = self.a.load(Ordering::SeqCst) > 0 && self.b.load(Ordering::SeqCst) > 0;
+        came && self.alone.load(Ordering::SeqCst) == 0
     }
 
-    // Comes, stays until the other is there or all turns are over, and goes.
-    fn visit(&self) {
-        self.came.fetch_add(1, Ordering::SeqCst);
-        if self.inside.fetch_add(1, Ordering::SeqCst) == 1 {
-            self.met.store(1, Ordering::SeqCst);
+    // A key is looked up for a write.
+    fn visit(&self, key: &Key) {
+        match key.as_bytes() {
+            b"a" => self.meet(&self.a, &self.b),
+            b"b" => self.meet(&self.b, &self.a),
+            _ => {}
         }
-        for _ in 0..self.turns {
-            if self.has_met() {
-                break;
+    }
+
+    // The first look-up of a key tells of itself, and looks for the other's.
+    fn meet(&self, own: &AtomicU64, other: &AtomicU64) {
+        if own.fetch_add(1, Ordering::SeqCst) > 0 {
+            return;
+        }
+        for _ in 0..self.reads {
+            if other.load(Ordering::SeqCst) > 0 {
+                return;
             }
             yield_now();
         }
-        self.inside.fetch_sub(1, Ordering::SeqCst);
+        self.alone.fetch_add(1, Ordering::SeqCst);
     }
 }
 
-/// Families whose first look-up for a write visits the place.
+/// Families whose look-ups for writes visit the place.
 #[derive(Drop)]
 struct Meeting {
     cells: NestedCells,
     place: Arc<Place>,
-    looked: AtomicU64,
 }
 
 impl Makes<Meeting> for Arc<Place> {
@@ -73,7 +79,6 @@ impl Makes<Meeting> for Arc<Place> {
         Ok(Meeting {
             cells: NestedCells::new(alloc),
             place,
-            looked: AtomicU64::new(0),
         })
     }
 }
@@ -86,9 +91,7 @@ impl Families for Meeting {
     ghost numbers = { λ m. nested_numbers m.cells };
 
     fn view(&self, alloc: Global, key: &Key, start: Ts, commit: Ts) -> Result<TxnView, Fault> {
-        if self.looked.fetch_add(1, Ordering::SeqCst) == 0 {
-            self.place.visit();
-        }
+        self.place.visit(key);
         self.cells.view(alloc, key, start, commit)
     }
 
@@ -185,9 +188,9 @@ fn answers<R: Threads + Wait + Sync + Send + Clone + Drop>(
 #[test]
 fn two_regions_are_written_at_once(rt: HostRuntime) -> Result<(), Fail> {
     let alloc: Global = rt.alloc();
-    let place = Arc::new(alloc, Place::new(2_000_000))?;
+    let place = Arc::new(alloc, Place::new(1_000_000_000))?;
     let count = answers(&rt, alloc, &place)?;
     assert_eq!(rt; count, Some(9));
-    assert!(rt; place.came() == 2 && place.has_met());
+    assert!(rt; place.has_met());
     Ok(())
 }

@@ -149,7 +149,6 @@ fn scan<J: Naming>(
         drop(from);
         return ORDER;
     };
-    post.rise();
     let said = by_read(session.scan(alloc, &from, &to, limit, post));
     drop(from);
     drop(to);

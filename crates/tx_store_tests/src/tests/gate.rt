@@ -5,38 +5,53 @@ ghost use Rattle.tx_nested.specs.Nested.{nested_content};
 
 use crate::tests::meeting::{Meeting, Place};
 use crate::tests::opening::{one_bound, open};
+use crate::tests::sessions::{declare, enter};
 use std::alloc::Global;
 use std::marker::Brand;
 use std::sync::{Arc, Wait};
 use std::test::Fail;
 use std::thread::{Threads, join};
 use tx_client::Session;
+use tx_core::Answer;
 use tx_journal::{Naming, Opened, Seat};
 use tx_store::{Store, Wire};
-use tx_types::Key;
+use tx_types::Mode;
 
-// Begins, and reads a key: whether it was answered.
-fn read<J: Naming, R: Wait>(
+// Sends a prewrite, which goes through `Store::run`: whether it was accepted.
+fn prewrite<J: Naming, R: Wait>(
+    session: &mut Session<J>,
+    alloc: Global,
+    wire: &mut Wire<J, Meeting, R>,
+) -> bool {
+    if !session.is_declared() {
+        return false;
+    }
+    let answered = session.prewrite_next(alloc, wire);
+    let accepted = matches!(&answered, Ok(Some(Answer::Prewritten(_))));
+    drop(answered);
+    accepted
+}
+
+// Begins, and locks a key: whether that was accepted.
+fn lock<J: Naming, R: Wait>(
     rt: &R,
     store: &Store<J, Meeting>,
     alloc: Global,
     seat: Seat<J>,
     key: &[u8],
 ) -> bool {
-    let Ok(key) = Key::new(alloc, key) else {
-        return false;
-    };
     let Ok(mut session) = Session::begin(alloc, seat) else {
         return false;
     };
     let mut wire = Wire::new(rt, store);
-    let answered = session.get(&key, &mut wire).is_ok();
+    let declared = enter(&mut session, alloc, key, b"1") && declare(&mut session, Mode::TwoPhase);
+    let accepted = declared && prewrite(&mut session, alloc, &mut wire);
     drop(session);
-    answered
+    accepted
 }
 
-// Two threads read these keys: whether both were answered.
-fn read_at_once<J: Naming + Send + Sync, R: Threads + Wait + Sync>(
+// Two threads lock these keys: whether both were accepted.
+fn lock_at_once<J: Naming + Send + Sync, R: Threads + Wait + Sync>(
     rt: &R,
     store: &Store<J, Meeting>,
     alloc: Global,
@@ -45,15 +60,15 @@ fn read_at_once<J: Naming + Send + Sync, R: Threads + Wait + Sync>(
 ) -> bool {
     let (a, b) = join(
         rt,
-        || read(rt, store, alloc, one, first),
-        || read(rt, store, alloc, two, second),
+        || lock(rt, store, alloc, one, first),
+        || lock(rt, store, alloc, two, second),
     );
     a && b
 }
 
-// Two threads read keys of the regions, whose look-ups wait for each other at the place: whether
-// both were answered.
-fn reads_at_once<J: Naming + Send + Sync, R: Threads + Wait + Sync>(
+// Two threads lock keys of the regions, whose look-ups look for each other: whether both were
+// accepted.
+fn locks_at_once<J: Naming + Send + Sync, R: Threads + Wait + Sync>(
     rt: &R,
     alloc: Global,
     opened: Opened,
@@ -69,40 +84,41 @@ fn reads_at_once<J: Naming + Send + Sync, R: Threads + Wait + Sync>(
         return false;
     };
     let answered = match (seats.pop(), seats.pop()) {
-        (Some(two), Some(one)) => read_at_once(rt, &store, alloc, (one, two), keys),
+        (Some(two), Some(one)) => lock_at_once(rt, &store, alloc, (one, two), keys),
         _ => false,
     };
     drop(store);
     answered
 }
 
-// Whether two threads that read these keys met, within so many turns.
+// Whether the look-ups of two threads that lock `a` and `b` met, with this key between the regions
+// and within so many reads.
 fn meet<R: Threads + Wait + Sync>(
     rt: &R,
     alloc: Global,
-    turns: u64,
-    keys: (&[u8], &[u8]),
+    reads: u64,
+    between: &[u8],
 ) -> Option<bool> {
-    let place = Arc::new(alloc, Place::new(turns)).ok()?;
+    let place = Arc::new(alloc, Place::new(reads)).ok()?;
     let (first, second) = Meeting::two(alloc, &place)?;
-    let bounds = one_bound(alloc)?;
+    let bounds = one_bound(alloc, between)?;
     let opened = Opened::new(alloc, bounds, 2).ok()?;
-    let answered = reads_at_once::<Brand, R>(rt, alloc, opened, first, second, keys);
+    let keys: (&[u8], &[u8]) = (b"a", b"b");
+    let accepted = locks_at_once::<Brand, R>(rt, alloc, opened, first, second, keys);
+    let came = place.is_complete();
     let met = place.has_met();
     drop(place);
-    if answered { Some(met) } else { None }
+    if accepted && came { Some(met) } else { None }
 }
 
 #[test]
 fn two_regions_look_up_at_once(rt: HostRuntime) -> Result<(), Fail> {
-    let met = meet(&rt, rt.alloc(), 2_000_000, (b"a", b"z"));
-    assert_eq!(rt; met, Some(true));
+    assert_eq!(rt; meet(&rt, rt.alloc(), 1_000_000_000, b"b"), Some(true));
     Ok(())
 }
 
 #[test]
 fn one_region_looks_up_once_at_a_time(rt: HostRuntime) -> Result<(), Fail> {
-    let met = meet(&rt, rt.alloc(), 100_000, (b"a", b"b"));
-    assert_eq!(rt; met, Some(false));
+    assert_eq!(rt; meet(&rt, rt.alloc(), 100_000, b"m"), Some(false));
     Ok(())
 }

@@ -1,4 +1,4 @@
-//! Families whose look-ups for reads wait for each other.
+//! Families whose look-ups of two keys for writes look for each other.
 ghost use Rattle.std.specs.Prelude.{◌≡◌, IfSome};
 ghost use Rattle.tx_cells.specs.Contents.{nothing_held};
 ghost use Rattle.tx_nested.specs.Nested.{nested_content};
@@ -12,46 +12,63 @@ use tx_nested::NestedCells;
 use tx_plan::{Answer, Dropped, Infos, KeyChange, NewLock, Prewrite, ReadView, Scan, TxnView};
 use tx_types::{Fault, Key, LockInfo, Ts};
 
-/// Where two look-ups meet.
+/// The first look-ups of `a` and `b`, each of which looks for the other.
 #[derive(Drop)]
 pub struct Place {
-    /// How many are there.
-    inside: AtomicU64,
-    /// 1 once two were there at once.
-    met: AtomicU64,
+    /// How often each was looked up.
+    a: AtomicU64,
+    b: AtomicU64,
+    /// How many looked in vain.
+    alone: AtomicU64,
     /// How often one looks for the other.
-    turns: u64,
+    reads: u64,
 }
 
 impl Place {
-    pub fn new(turns: u64) -> Place {
+    pub fn new(reads: u64) -> Place {
         Place {
-            inside: AtomicU64::new(0),
-            met: AtomicU64::new(0),
-            turns,
+            a: AtomicU64::new(0),
+            b: AtomicU64::new(0),
+            alone: AtomicU64::new(0),
+            reads,
         }
     }
 
+    /// Whether both were looked up.
+    pub fn is_complete(&self) -> bool {
+        self.a.load(Ordering::SeqCst) > 0 && self.b.load(Ordering::SeqCst) > 0
+    }
+
+    /// Whether none looked in vain.
     pub fn has_met(&self) -> bool {
-        self.met.load(Ordering::SeqCst) == 1
+        self.alone.load(Ordering::SeqCst) == 0
     }
 
-    // Comes, stays until the other is there or all turns are over, and goes.
-    fn visit(&self) {
-        if self.inside.fetch_add(1, Ordering::SeqCst) == 1 {
-            self.met.store(1, Ordering::SeqCst);
+    // A key is looked up for a write.
+    fn visit(&self, key: &Key) {
+        match key.as_bytes() {
+            b"a" => self.meet(&self.a, &self.b),
+            b"b" => self.meet(&self.b, &self.a),
+            _ => {}
         }
-        for _ in 0..self.turns {
-            if self.has_met() {
-                break;
+    }
+
+    // The first look-up of a key tells of itself, and looks for the other's.
+    fn meet(&self, own: &AtomicU64, other: &AtomicU64) {
+        if own.fetch_add(1, Ordering::SeqCst) > 0 {
+            return;
+        }
+        for _ in 0..self.reads {
+            if other.load(Ordering::SeqCst) > 0 {
+                return;
             }
             yield_now();
         }
-        self.inside.fetch_sub(1, Ordering::SeqCst);
+        self.alone.fetch_add(1, Ordering::SeqCst);
     }
 }
 
-/// Families whose reads visit the place.
+/// Families whose look-ups for writes visit the place.
 #[derive(Drop)]
 pub struct Meeting {
     pub cells: NestedCells,
@@ -87,11 +104,11 @@ impl Families for Meeting {
     ghost numbers = { λ m. nested_numbers m.cells };
 
     fn view(&self, alloc: Global, key: &Key, start: Ts, commit: Ts) -> Result<TxnView, Fault> {
+        self.place.visit(key);
         self.cells.view(alloc, key, start, commit)
     }
 
     fn read(&self, alloc: Global, key: &Key, at: Ts) -> Result<ReadView, Fault> {
-        self.place.visit();
         self.cells.read(alloc, key, at)
     }
 

@@ -9,11 +9,11 @@ use tx_journal::{Naming, Opened, Seat};
 use tx_store::Store;
 use tx_types::Key;
 
-/// The key between two regions.
-pub fn one_bound(alloc: Global) -> Option<Vec<Key>>
+/// This key, between two regions.
+pub fn one_bound(alloc: Global, key: &[u8]) -> Option<Vec<Key>>
     ensures { IfSome result (λ keys. (vec_len keys ≡ 1) × AreRising keys.items) }
 {
-    let Ok(key) = Key::new(alloc, b"m") else {
+    let Ok(key) = Key::new(alloc, key) else {
         return None;
     };
     let mut keys = Vec::new(alloc);
@@ -23,7 +23,7 @@ pub fn one_bound(alloc: Global) -> Option<Vec<Key>>
     }
 }
 
-/// The two in a list.
+// The two in a list.
 fn both<F: Families + Drop>(alloc: Global, first: F, second: F) -> Option<Vec<F>>
     requires { (F.content first ≡ (λ k. nothing_held)) × (F.content second ≡ (λ k. nothing_held)) }
     ensures { IfSome result (λ both. (vec_len both ≡ 2) × All (λ f. F.content f ≡ (λ k. nothing_held)) both.items) }

@@ -2,78 +2,19 @@
 ghost use Rattle.std.specs.Prelude.{◌≡◌, length};
 
 use crate::tests::opening::{one_bound, open};
+use crate::tests::sessions::{commit, declare, enter, prewrite};
 use std::alloc::Global;
 use std::marker::Brand;
 use std::sync::Wait;
 use std::test::Fail;
 use std::thread::{Threads, join};
 use tx_cells::Families;
-use tx_client::{Session, Terms};
+use tx_client::Session;
 use tx_core::Answer;
 use tx_journal::{Naming, Opened, Seat, Told};
 use tx_nested::NestedCells;
 use tx_store::{Store, Wire};
-use tx_types::{Key, Mode, Ts, Value};
-
-const TERMS: Terms = Terms {
-    mode: Mode::TwoPhase,
-    ttl: 10,
-    max_commit: None,
-};
-
-// Enters a put of this value into the buffer, and fixes the write set: whether that went well.
-fn enter<J: Naming>(session: &mut Session<J>, alloc: Global, key: &[u8], value: &[u8]) -> bool {
-    if session.is_declared() {
-        return false;
-    }
-    let (Ok(key), Ok(value)) = (Key::new(alloc, key), Value::new(alloc, value)) else {
-        return false;
-    };
-    session.put(key, value).is_ok()
-}
-
-fn declare<J: Naming>(session: &mut Session<J>) -> bool {
-    !session.is_declared() && session.declare(TERMS).is_ok()
-}
-
-// Sends the prewrites of two keys.
-fn prewrite<J: Naming, F: Families + Drop, R: Wait>(
-    session: &mut Session<J>,
-    alloc: Global,
-    wire: &mut Wire<J, F, R>,
-) -> bool {
-    for _ in 0..2_u32 {
-        if !session.is_declared() {
-            return false;
-        }
-        let answered = session.prewrite_next(alloc, wire).is_ok();
-        if !answered {
-            return false;
-        }
-    }
-    true
-}
-
-// Draws a commit timestamp, and sends the commits of two keys there.
-fn commit<J: Naming, F: Families + Drop, R: Wait>(
-    session: &mut Session<J>,
-    wire: &mut Wire<J, F, R>,
-) -> Option<Ts> {
-    if !session.can_draw() {
-        return None;
-    }
-    let commit = session.draw_commit().ok()?;
-    for _ in 0..2_u32 {
-        if !session.can_commit() {
-            return None;
-        }
-        let answered = session.commit_next(wire).is_ok();
-        if !answered {
-            return None;
-        }
-    }
-    Some(commit)
-}
+use tx_types::{Key, Mode, Ts};
 
 // Puts `x` on `a` and `y` on `z`, which lie in different regions: when it committed, and
 // what tells of it.
@@ -87,12 +28,12 @@ fn put_both<J: Naming, F: Families + Drop, R: Wait>(
     let mut wire = Wire::new(rt, store);
     let ready = enter(&mut session, alloc, b"a", b"x")
         && enter(&mut session, alloc, b"z", b"y")
-        && declare(&mut session)
-        && prewrite(&mut session, alloc, &mut wire);
+        && declare(&mut session, Mode::TwoPhase)
+        && prewrite(&mut session, alloc, &mut wire, 2);
     if !ready {
         return None;
     }
-    let commit = commit(&mut session, &mut wire)?;
+    let commit = commit(&mut session, &mut wire, 2)?;
     let told = session.tell();
     drop(session);
     Some((commit, told))
@@ -207,7 +148,7 @@ fn tells_across<J: Naming + Send + Sync, R: Threads + Wait + Sync>(
 
 #[test]
 fn told_by_another_thread(rt: HostRuntime) -> Result<(), Fail> {
-    let bounds = one_bound(rt.alloc()).ok_or("a key")?;
+    let bounds = one_bound(rt.alloc(), b"m").ok_or("a key")?;
     let opened = Opened::new(rt.alloc(), bounds, 2)?;
     assert!(rt; tells_across::<Brand, _>(&rt, rt.alloc(), opened));
     Ok(())

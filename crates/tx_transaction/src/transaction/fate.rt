@@ -1,8 +1,8 @@
 //! What may be done of a transaction, and what is known of its fate.
-ghost use Rattle.std.specs.Prelude.{◌≡◌, Some, IfOk, IfErr, OnOk, OnErr, is_some};
+ghost use Rattle.std.specs.Prelude.{◌≡◌, true, IfOk, IfErr, OnOk, OnErr, is_some, option_map};
 ghost use Rattle.tx_transaction.specs.declared.state.Phase.TheVariants as phase;
 ghost use Rattle.tx_transaction.specs.Buffers.{first_place};
-ghost use Rattle.tx_transaction.specs.Sessions.{can_draw, may_commit, can_commit, may_abort, can_abort, with_passed, finish_of};
+ghost use Rattle.tx_transaction.specs.Sessions.{can_draw, may_commit, can_commit, may_abort, can_abort, notes_one, with_passed, finish_of};
 
 use super::Transaction;
 use crate::buffer::{has_keys, has_two_phase_lock, place_of};
@@ -85,7 +85,17 @@ impl Transaction {
         self.met.is_some()
     }
 
-    /// A copy of the lock that last stood in its way.
+    /// The lock that last stood in its way.
+    pub fn met_lock(&self) -> Option<&LockInfo>
+        ensures { option_map (λ info. info.now) result ≡ self.now.met }
+    {
+        match &self.met {
+            Some(info) => Some(info),
+            None => None,
+        }
+    }
+
+    /// A copy of that lock.
     pub fn met(&self) -> Result<Option<LockInfo>, Fault>
         ensures ok { IfOk result (λ met. met ≡ self.now.met) }
         ensures err { IfErr result (λ e. e ≡ Fault.OutOfMemory) }
@@ -111,12 +121,12 @@ impl Transaction {
         }
     }
 
-    /// Its reads pass by one more transaction, where they may. It is named once, however
-    /// often it is passed.
+    /// Its reads pass by one more transaction, where they may. It is named once, however often it
+    /// is passed, and only where it was not yet it takes memory.
     pub fn pass(&mut self, start: Ts, may: bool) -> Result<(), Fault>
         ensures ok { OnOk result (self.new ≡ with_passed self.old start may) }
         ensures same { OnErr result (self.new ≡ self.old) }
-        ensures err { IfErr result (λ e. e ≡ Fault.OutOfMemory) }
+        ensures err { IfErr result (λ e. (e ≡ Fault.OutOfMemory) × (notes_one self.old start may ≡ true)) }
     {
         if may && !self.bypass.as_slice().contains(&start) {
             self.bypass.push(start)?;

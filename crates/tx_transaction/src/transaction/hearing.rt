@@ -1,9 +1,9 @@
 //! What comes of a transaction's requests.
-ghost use Rattle.std.specs.Prelude.{◌≡◌, ◌<◌, Some, length};
+ghost use Rattle.std.specs.Prelude.{◌≡◌, ◌<◌, None, length};
 ghost use Rattle.tx_core.specs.Decisions.{fate_in};
 ghost use Rattle.tx_transaction.specs.Buffers.{promised};
-ghost use Rattle.tx_transaction.specs.Sessions.{first_settled, committed_by, missed, heard, met_by, after_came, after_read};
-ghost use Rattle.tx_transaction.specs.Returns.{IsHanded, Returns, ReadsAs};
+ghost use Rattle.tx_transaction.specs.Sessions.{first_settled, committed_by, missed, heard, met_by, lock_met, after_came, after_read};
+ghost use Rattle.tx_transaction.specs.Returns.{returned, read};
 
 use super::Transaction;
 use crate::answers::{cause, committed, drawn, settled};
@@ -27,41 +27,29 @@ fn decided(known: Option<Fate>, answer: &Answer, buffer: &Buffer) -> Option<Fate
 }
 
 impl Transaction {
-    // Keeps a lock that stood in the way, and hands a copy on. Few answers tell of one, so
-    // it stands apart.
-    #[inline(never)]
-    fn meet(&mut self, info: LockInfo) -> Result<Answer, Miss>
-        ensures state { self.new ≡ record self.old { met = Some info } }
-        ensures handed { IsHanded (Answer.KeyIsLocked info) result }
+    // Keeps the lock that an answer names as in the way, of which it gets a copy.
+    fn meet(&mut self, answer: &Answer, lock: Option<LockInfo>)
+        requires { lock ≡ met_by answer.now None }
+        ensures { self.new ≡ record self.old { met = met_by answer.now self.old.met } }
     {
-        let copy = info.clone();
-        self.met = Some(info);
-        match copy {
-            Ok(copy) => Ok(Answer::KeyIsLocked(copy)),
-            Err(_) => Err(Miss::NoMemory),
+        match answer {
+            Answer::KeyIsLocked(_) => self.met = lock,
+            _ => {}
         }
     }
 
-    // Hears the answer to a request of a phase, but for the lock that it names.
-    fn hear(&mut self, phase: Phase, place: usize, answer: &Answer)
-        requires { place < length self.old.buffer }
-        ensures { self.new ≡ record (heard self.old phase place answer.now) { met = self.old.met } }
+    // Hears the answer to a request of a phase, with a copy of the lock that it names as in the
+    // way.
+    fn hear(&mut self, phase: Phase, place: usize, answer: &Answer, lock: Option<LockInfo>)
+        requires within { place < length self.old.buffer }
+        requires lock { lock ≡ met_by answer.now None }
+        ensures { self.new ≡ heard self.old phase place answer.now }
     {
         note(&mut self.buffer, place, phase, answer);
         self.drawn = drawn(answer, self.drawn);
         self.cause = cause(answer);
         self.decision = decided(self.decision, answer, &self.buffer);
-    }
-
-    // Hands an answer on, and keeps the lock that it names.
-    fn hand(&mut self, answer: Answer) -> Result<Answer, Miss>
-        ensures state { self.new ≡ record self.old { met = met_by answer self.old.met } }
-        ensures handed { IsHanded answer result }
-    {
-        match answer {
-            Answer::KeyIsLocked(info) => self.meet(info),
-            other => Ok(other),
-        }
+        self.meet(answer, lock);
     }
 
     // No answer came to a request of a phase.
@@ -74,40 +62,50 @@ impl Transaction {
         self.cause = Some(why);
     }
 
-    /// What came of a request of a phase.
-    pub fn after(&mut self, phase: Phase, place: usize, came: Came) -> Result<Option<Answer>, Miss>
-        requires { place < length self.old.buffer }
+    /// What came of a request of a phase, with a copy of the lock that an answer names as in the
+    /// way. The answer is handed on, and that takes no memory.
+    pub fn after(
+        &mut self,
+        phase: Phase,
+        place: usize,
+        came: Came,
+        lock: Option<LockInfo>,
+    ) -> Result<Option<Answer>, Miss>
+        requires within { place < length self.old.buffer }
+        requires lock { lock ≡ lock_met came }
         ensures state { self.new ≡ after_came self.old phase place came }
-        ensures returns { Returns came result }
+        ensures returns { result ≡ returned came }
     {
         match came {
             Came::Lost => {
                 self.miss(phase, place, UnknownCause::Reply);
-                Err(Miss::NoReply)
+                Err(Miss::Lost)
             }
             Came::Unsaid => {
                 self.miss(phase, place, UnknownCause::OutOfMemory);
-                Err(Miss::NoMemory)
+                Err(Miss::Fault)
             }
             Came::Said(answer) => {
-                self.hear(phase, place, &answer);
-                match self.hand(answer) {
-                    Ok(answer) => Ok(Some(answer)),
-                    Err(miss) => Err(miss),
-                }
+                self.hear(phase, place, &answer, lock);
+                Ok(Some(answer))
             }
         }
     }
 
-    /// What came of a read.
-    pub fn after_read(&mut self, came: Came) -> Result<Answer, Miss>
+    /// What came of a read, with a copy of the lock that an answer names as in the way. The answer
+    /// is handed on, and that takes no memory.
+    pub fn after_read(&mut self, came: Came, lock: Option<LockInfo>) -> Result<Answer, Miss>
+        requires lock { lock ≡ lock_met came }
         ensures state { self.new ≡ after_read self.old came }
-        ensures reads { ReadsAs came result }
+        ensures reads { result ≡ read came }
     {
         match came {
-            Came::Lost => Err(Miss::NoReply),
-            Came::Unsaid => Err(Miss::NoMemory),
-            Came::Said(answer) => self.hand(answer),
+            Came::Lost => Err(Miss::Lost),
+            Came::Unsaid => Err(Miss::Fault),
+            Came::Said(answer) => {
+                self.meet(&answer, lock);
+                Ok(answer)
+            }
         }
     }
 }

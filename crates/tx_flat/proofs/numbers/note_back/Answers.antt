@@ -1,14 +1,32 @@
-use Rattle.std.proofs.Common.{◌≡◌, Some, refl, sym}
+use Rattle.std.proofs.Common.{◌≡◌, ◌<◌, ℕ, length, Option, Some, arith, refl, sym, ap, subst, ◌∙◌}
+use Rattle.std.specs.Prelude.{IsSome, IfSome}
 use Rattle.std.specs.BTreeMap as tree
+use Rattle.std.specs.BTreeMap.{BTreeMap}
 use Rattle.std.specs.Cmp.Lexicographic.{slice_cmp}
 use Rattle.std.specs.Ordering.{nat_cmp}
-use Rattle.tx_flat.proofs.FlatNumbers.{number_put}
+use Rattle.std.proofs.lemmas.Option.{slice_get_within, slice_get_read}
+use Rattle.tx_types.specs.declared.key.Key.{Key}
+use Rattle.tx_flat.proofs.FlatNumbers.{placed_noted}
 use Rattle.tx_flat.proofs.numbers.note_back.Goals as goal
 
-pub returns-in-Some : goal.returns-in-Some
-returns-in-Some c =
-    let key = c.args.earlier.key in
-    let old = tree.get (slice_cmp nat_cmp) c.args.numbers.now in
-    let new = tree.get (slice_cmp nat_cmp) (c.get_mut.follows.lender c.args.earlier.before) in
-    let here : old key ≡ Some c.in-Some.number.now = sym c.in-Some.ensures.value in
-    number_put old new key key c.args.earlier.before refl ((c.get_mut.follows.holds c.args.earlier.before).3 (rw here refl)).0
+pub index_mut-requires : goal.index_mut-requires
+index_mut-requires c =
+    let within : c.args.earlier.place < length c.args.numbers.now.items = slice_get_within c.args.numbers.now.items c.args.earlier.place c.requires.at c.requires.found in
+    omega (arith, within, c.args.numbers.now.ok.0)
+
+pub note_back_in-requires : goal.note_back_in-requires
+note_back_in-requires c =
+    let xs = c.args.numbers.now.items in
+    let i = c.args.earlier.place in
+    let m = c.index_mut.result.now in
+    let within : i < length xs = slice_get_within xs i c.requires.at c.requires.found in
+    let same : Some c.requires.at ≡ Some m = sym c.requires.found ∙ slice_get_read xs (length xs) i m refl within c.index_mut.ensures.value in
+    subst (λ (o : Option (BTreeMap Key ℕ)). IfSome o (λ q. IsSome (tree.get (slice_cmp nat_cmp) q c.args.earlier.key))) same c.requires.noted
+
+pub returns : goal.returns
+returns c = λ k.
+    let xs = c.args.numbers.now.items in
+    let i = c.args.earlier.place in
+    let within : i < length xs = slice_get_within xs i c.requires.at c.requires.found in
+    placed_noted xs i c.index_mut.result.now c.note_back_in.new.numbers within c.index_mut.ensures.value c.args.earlier.key c.args.earlier.before (sym c.requires.is)
+    c.note_back_in.ensures k

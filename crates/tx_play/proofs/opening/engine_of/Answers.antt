@@ -36,7 +36,7 @@ returns-clause-ready g c =
     let all : AreDealt (length bounds + 1) (clerk ∷ rest) = subst (AreDealt (length bounds + 1)) split (subst (λ n. AreDealt n left) c.requires.few c.in-Ok.ensures.rest.0) in
     let desk = c.new.ensures.desk ∙ c.new-post.ensures in
     let at_clerk = c.new.ensures.clerk ∙ c.tell-newest.ensures.same in
-    ready bounds c.new.result regions clerk rest c.in-Ok.ensures.regions.0 all (ap (λ (d : Desk). d.regions) desk) (ap (λ (d : Desk). d.newest) desk ∙ (c.tell-newest.ensures.told ∙ ap (λ (k : Known). k.events) all.0)) (ap (λ (d : Desk). d.held) desk) at_clerk c.new.ensures.names (c.new.ensures.places ∙ c.in-Ok-places_of.ensures) (omega (arith, c.requires.some, c.if-len-gt-MAX_SEATS.false, c.len.ensures))
+    ready bounds c.new.result regions clerk rest c.in-Ok.ensures.regions.0 all (ap (λ (d : Desk). d.regions) desk) (ap (λ (d : Desk). d.newest) desk ∙ (c.tell-newest.ensures.told ∙ ap (λ (k : Known). k.events) all.0)) (ap (λ (d : Desk). d.held) desk) at_clerk c.new.ensures.names (c.new.ensures.places ∙ c.in-Ok-places_of.ensures)
 
 pub returns-clause-size : goal.returns-clause-size
 returns-clause-size g c =

@@ -1,4 +1,5 @@
-use Rattle.std.proofs.Common.{◌≡◌, Some, sym, ap, subst, ◌∙◌}
+use Rattle.std.proofs.Common.{sym, subst}
+use Rattle.tx_plan.specs.declared.answer.Answer.{Answer}
 use Rattle.tx_plan.specs.declared.body.Body.{Body}
 use Rattle.tx_core.specs.declared.event.Event.TheVariants.{Took}
 use Rattle.tx_core.specs.Histories.{History}
@@ -12,5 +13,5 @@ new-requires g c =
     let old = c.args.seat.now in
     let a = c.args.done.answer in
     let q = c.args.request in
-    let added = subst (λ (b : Body). HasRecorded bounds old.seat old.events (Took record { region = old.seat; body = b; loaded = c.args.loaded; answer = a }) c.record_taken.new.seat.events) c.body.ensures.body c.record_taken.ensures.added in
+    let added = subst (λ (x : Body × Answer). HasRecorded bounds old.seat old.events (Took record { region = old.seat; body = x.0; loaded = c.args.loaded; answer = x.1 }) c.record_taken.new.seat.events) (λ j. (c.body.ensures.body j, c.answer.ensures j)) c.record_taken.ensures.added in
     given_by bounds old.seat old.events c.args.loaded q a c.tell-told.result c.requires.knows (subst (λ (h : History). HasRecorded bounds old.seat old.events (Took record { region = old.seat; body = q.body; loaded = c.args.loaded; answer = a }) h) (sym c.tell-told.ensures.told) added)

@@ -1,6 +1,5 @@
-use Rattle.std.proofs.Common.{◌≡◌, false, sym, subst, Result, Ok, Err, OnOk, OnErr}
-use Rattle.tx_transaction.specs.Sessions.{State, is_declared}
-use Rattle.tx_client.specs.Facts.{IsSeated}
+use Rattle.std.proofs.Common.{◌≡◌, false, sym, subst}
+use Rattle.tx_transaction.specs.Sessions.{is_declared}
 use Rattle.tx_client.specs.Calls.{Seated}
 use Rattle.tx_client.proofs.Calling.{inserted_seated}
 use Rattle.tx_client.proofs.session.Session.insert.Goals as goal

@@ -9,13 +9,13 @@ use Rattle.tx_client.proofs.session.Session.look.Goals as goal
 pub invariant_of-self : goal.invariant_of-self
 invariant_of-self g c =
     let k = c.self.inside.seat in
-    let told : CameSo k.events c.args.body c.ask-came.result = subst (λ (z : Seated). CameSo z.seat.events c.args.body c.ask-came.result) (sym c.self.view_is) c.ask-came.ensures.told in
-    subst (λ (z : State). IsSeated g.J.Naming.bounds k z) (sym c.after_read.ensures.state) (c.self.invariant.0, read_ok g.J.Naming.bounds k.events c.self.invariant.0 k.seat c.self.inside.transaction c.self.invariant.1 c.args.body c.ask-came.result told)
+    let told : CameSo k.events c.args.body c.ask-came.result.came = subst (λ (z : Seated). CameSo z.seat.events c.args.body c.ask-came.result.came) (sym c.self.view_is) c.ask-came.ensures.told in
+    subst (λ (z : State). IsSeated g.J.Naming.bounds k z) (sym c.after_read.ensures.state) (c.self.invariant.0, read_ok g.J.Naming.bounds k.events c.self.invariant.0 k.seat c.self.inside.transaction c.self.invariant.1 c.args.body c.ask-came.result.came told)
 
 pub returns : goal.returns
 returns g c =
     let same : c.self.inside.transaction ≡ c.args.self.now.state = ap (λ (z : Seated). z.state) c.self.view_is ∙ c.ask-came.ensures.state in
-    looked g.S.Sender.sends g.J.Naming.bounds c.args.self.now.seat c.self.inside.seat c.args.sender.now c.ask-came.new.sender c.args.self.now.state c.after_read.new.self c.args.body c.ask-came.result c.after_read.result
-    (subst (λ (z : Seated). Asks g.S.Sender.sends g.J.Naming.bounds c.args.self.now.seat c.args.body c.args.sender.now c.ask-came.new.sender c.ask-came.result z.seat) (sym c.self.view_is) c.ask-came.ensures.asked)
+    looked g.S.Sender.sends g.J.Naming.bounds c.args.self.now.seat c.self.inside.seat c.args.sender.now c.ask-came.new.sender c.args.self.now.state c.after_read.new.self c.args.body c.ask-came.result.came c.after_read.result
+    (subst (λ (z : Seated). Asks g.S.Sender.sends g.J.Naming.bounds c.args.self.now.seat c.args.body c.args.sender.now c.ask-came.new.sender c.ask-came.result.came z.seat) (sym c.self.view_is) c.ask-came.ensures.asked)
     c.after_read.ensures.reads
-    (c.after_read.ensures.state ∙ ap (λ s. after_read s c.ask-came.result) same)
+    (c.after_read.ensures.state ∙ ap (λ s. after_read s c.ask-came.result.came) same)

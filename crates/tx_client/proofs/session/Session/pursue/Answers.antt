@@ -15,5 +15,5 @@ invariant_of-self g c =
     let s : State = c.self.inside.transaction in
     let same : s ≡ c.args.self.now.state = ap (λ (z : Seated). z.state) c.self.view_is ∙ c.ask-came.ensures.state in
     let right : IsFor s c.args.phase c.args.due = subst (λ (z : State). IsFor z c.args.phase c.args.due) (sym same) c.requires.right in
-    let told : CameSo k.events c.args.due.body c.ask-came.result = subst (λ (z : Seated). CameSo z.seat.events c.args.due.body c.ask-came.result) (sym c.self.view_is) c.ask-came.ensures.told in
-    subst (λ (z : State). IsSeated g.J.Naming.bounds k z) (sym c.after.ensures.state) (c.self.invariant.0, came_ok g.J.Naming.bounds k.events c.self.invariant.0 k.seat s c.self.invariant.1 c.args.phase c.args.due right c.ask-came.result told)
+    let told : CameSo k.events c.args.due.body c.ask-came.result.came = subst (λ (z : Seated). CameSo z.seat.events c.args.due.body c.ask-came.result.came) (sym c.self.view_is) c.ask-came.ensures.told in
+    subst (λ (z : State). IsSeated g.J.Naming.bounds k z) (sym c.after.ensures.state) (c.self.invariant.0, came_ok g.J.Naming.bounds k.events c.self.invariant.0 k.seat s c.self.invariant.1 c.args.phase c.args.due right c.ask-came.result.came told)

@@ -7,8 +7,8 @@ use Rattle.tx_play.proofs.Turning.{did_send}
 use Rattle.tx_post.proofs.Walking.{is_way}
 use Rattle.tx_play.proofs.deeds.sending.scan_keys.Goals as goal
 
-pub scan-requires-clause-way : goal.scan-requires-clause-way
-scan-requires-clause-way g c = is_way g.J.Naming.bounds
+pub scan-requires : goal.scan-requires
+scan-requires g c = record { way = is_way g.J.Naming.bounds }
 
 pub returns : goal.returns
 returns g c =

@@ -4,9 +4,6 @@ use Rattle.tx_play.specs.Places.{Held, texts, Goes, Turned}
 use Rattle.tx_play.proofs.Resolves.{step_collected}
 use Rattle.tx_play.proofs.engine.Engine.gc.Goals as goal
 
-pub gc_at-collected-requires : goal.gc_at-collected-requires
-gc_at-collected-requires g c = record { few = c.requires.ready.few }
-
 pub returns : goal.returns
 returns g c =
     let s = c.self.inside in

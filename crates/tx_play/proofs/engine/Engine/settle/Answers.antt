@@ -47,9 +47,9 @@ returns-clause-settled g c =
     let knows : Begins n c.learn.new.self.events = subst (λ h. Begins h c.learn.new.self.events) (c.copy-told.ensures.copy ∙ (c.settle.ensures.same ∙ newest)) c.learn.ensures.told in
     let clerk : IsDone n c.self.inside.clerk = done_learnt n c.self.inside.clerk c.learn.new.self knows c.learn.ensures.own in
     record {
-      many = subst (λ (d : Desk). length d.regions ≡ length g.J.Naming.bounds + 1) desk c.show.ensures.numbers.1;
+      many = subst (λ (d : Desk). length d.regions ≡ length g.J.Naming.bounds + 1) desk c.show.ensures.1;
       regions = λ k among. subst (λ h. IsDone h k) newest (c.settle.ensures.settled k (subst (λ (d : Desk). Contains d.regions k) (sym desk) among));
-      numbers = subst (λ (d : Desk). AreNumbered 0 d.regions) desk c.show.ensures.numbers.0;
+      numbers = subst (λ (d : Desk). AreNumbered 0 d.regions) desk c.show.ensures.0;
       clerk = subst (λ (k : Known). IsDone n k) (ap (λ (x : Held). x.clerk) c.self.view_is) clerk;
       places = c.places.invariant.places (λ p among. absurd (omega (arith, among.1, c.in_default.ensures.cases.0, c.places.places.ok.0)));
     }

@@ -38,7 +38,7 @@ returns g c =
     let there = there_at s.regions.items place k (omega (arith, c.place_of-place.ensures.within, c.self.invariant.1)) c.index_mut-region.ensures.value in
     let is : place ≡ n = c.place_of-place.ensures.number ∙ ap (region_for g.J.Naming.bounds) c.body.ensures.body in
     let newest : Begins s.newest c.learn.new.self.events = subst (λ h. Begins h c.learn.new.self.events) c.copy-told.ensures.copy c.learn.ensures.told in
-    let taken = taken_by g.J.Naming.bounds k c.learn.new.self c.take-reply.new.self s.newest c.args.request r c.learn.ensures.same.0 c.learn.ensures.own newest c.take-reply.ensures.same.0 c.take-reply.ensures.told c.take-reply.ensures.request c.take-reply.ensures.answered c.take-reply.ensures.refused in
+    let taken = taken_by g.J.Naming.bounds k c.learn.new.self c.take-reply.new.self s.newest c.args.request r c.learn.ensures.same.0 c.learn.ensures.own newest c.take-reply.ensures.same.0 c.take-reply.ensures.told c.take-reply.ensures.request c.take-reply.ensures.answered c.take-reply.ensures.always c.take-reply.ensures.refused in
     let told : Taken k s.newest c.args.request r c.tell.new.self c.tell.result = subst (λ (p : Known × History). Taken k s.newest c.args.request r p.0 p.1) (λ i. (sym c.tell.ensures.same i, sym c.tell.ensures.told i)) taken in
     let notes : NotesTaken c.args.request.body r.answer s.trace c.note_reply.new.trace = subst (λ (q : Asked). NotesTaken q.body r.answer s.trace c.note_reply.new.trace) c.take-reply.ensures.request c.note_reply.ensures in
     subst (λ (d : Desk). Hands n d to c.args.request r) c.self.view_is

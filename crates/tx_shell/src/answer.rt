@@ -1,0 +1,55 @@
+//! A command over an input and an output: what was written is handed on before more is read.
+use crate::asked::Asked;
+use crate::perform::perform;
+use std::cell::RefCell;
+use std::io::{BufReader, BufWriter, Read, Write};
+use std::sync::Wait;
+use std::thread::Threads;
+use tx_command::{Asking, Counted, Erasing, Noted, Noting, Recent, Shared, reason};
+use tx_lines::{Broken, End};
+
+// Says on standard error why lines are faults. What cannot be said there is left out: the line of
+// each fault is written all the same.
+fn explain<I>(asked: &Asked<'_>, faults: &[Noted], lines: &Recent<I>) {
+    asked.progress.erase();
+    let host = asked.host;
+    'faults: for fault in faults {
+        let line = lines.line(fault.number);
+        if let Ok(why) = reason(host.alloc(), asked.job.task, *fault, line) {
+            let _ = eprintln!(host; "txkv: {why}");
+        }
+    }
+}
+
+/// Does what is asked over an input and an output. What was written is handed on each time before
+/// more of the input is read.
+pub(crate) fn answer<R, I, O>(rt: &R, asked: &Asked<'_>, input: I, output: O) -> Result<End, Broken>
+where
+    R: AllocGlobal + Threads + Wait + Sync + Send + Clone + Drop,
+    I: Read + Drop,
+    O: Write + Drop,
+{
+    let alloc = rt.alloc();
+    let Ok(writer) = BufWriter::new(alloc, Erasing::new(output, asked.progress)) else {
+        return Err(Broken::Memory);
+    };
+    let shared = RefCell::new(writer);
+    let terminal = if asked.prompts {
+        Some(asked.host)
+    } else {
+        None
+    };
+    let counted = Counted::new(input, asked.progress);
+    let asking = Asking::new(counted, Shared::new(&shared), terminal);
+    let Ok(mut reader) = BufReader::new(alloc, Recent::new(alloc, asking)) else {
+        return Err(Broken::Memory);
+    };
+    let mut writer = Noting::new(alloc, Shared::new(&shared));
+    let ended = perform(rt, asked, &mut reader, &mut writer);
+    let lines = reader.get_ref();
+    explain(asked, writer.faults(), lines);
+    if lines.inner().is_cut_off() {
+        return Err(Broken::Output);
+    }
+    ended
+}

@@ -1,0 +1,74 @@
+//! What each command does with its input.
+use crate::asked::Asked;
+use crate::cells::{run_over, simulate_checked_over, simulate_over};
+use crate::stats::stats_of;
+use crate::watching::Watching;
+use std::io::{BufRead, Write};
+use std::sync::Wait;
+use std::thread::Threads;
+use std::time::{Duration, Instant};
+use tx_check::check;
+use tx_command::{Steps, Task};
+use tx_lines::{Broken, End};
+use tx_run::{Played, Settings};
+
+// Tells what was played in so much time. What cannot be told is left out.
+fn tell(host: HostRuntime, played: &Played, elapsed: Duration) {
+    let stats = stats_of(played, elapsed);
+    let _ = eprint!(host; "{stats}");
+}
+
+// Runs the sessions of a script side by side.
+fn run<R, I, O>(
+    rt: &R,
+    asked: &Asked<'_>,
+    settings: Settings,
+    reader: &mut I,
+    writer: &mut O,
+) -> Result<End, Broken>
+where
+    R: AllocGlobal + Threads + Wait + Sync + Send + Clone + Drop,
+    I: BufRead,
+    O: Write,
+{
+    let began = Instant::now(&asked.host);
+    let gate = Watching {
+        progress: asked.progress,
+    };
+    let (end, played) = run_over(rt, asked.job.cells, settings, &gate, reader, writer)?;
+    if let (true, Some(played), Ok(began)) = (asked.job.has_stats, &played, began) {
+        if let Ok(elapsed) = began.elapsed(&asked.host) {
+            tell(asked.host, played, elapsed);
+        }
+    }
+    drop(played);
+    Ok(end)
+}
+
+/// Does what is asked over these streams.
+pub(crate) fn perform<R, I, O>(
+    rt: &R,
+    asked: &Asked<'_>,
+    reader: &mut I,
+    writer: &mut O,
+) -> Result<End, Broken>
+where
+    R: AllocGlobal + Threads + Wait + Sync + Send + Clone + Drop,
+    I: BufRead,
+    O: Write,
+{
+    let alloc = rt.alloc();
+    let cells = asked.job.cells;
+    match asked.job.task {
+        Task::Simulate => simulate_over(alloc, cells, reader, writer),
+        Task::SimulateChecked => simulate_checked_over(alloc, cells, reader, writer),
+        Task::SimulateSteps => {
+            simulate_checked_over(alloc, cells, reader, &mut Steps::new(writer))
+        }
+        Task::Check => check(alloc, reader, writer),
+        Task::Run(workers, life_time) => {
+            let settings = Settings { workers, life_time };
+            run(rt, asked, settings, reader, writer)
+        }
+    }
+}
