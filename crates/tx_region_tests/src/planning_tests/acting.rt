@@ -9,7 +9,7 @@ use tx_cells::Fresh;
 use tx_client::{Miss, Session, Terms};
 use tx_core::Answer;
 use tx_journal::{Naming, Opened, Seat};
-use tx_resolve::resolve;
+use tx_simple::resolve_met;
 use tx_types::{Fault, Key, Mode, Ts, Value};
 
 /// What a session does. Values have one byte.
@@ -149,7 +149,7 @@ fn asks<J: Naming, F: Fresh>(
 }
 
 // The lock that a session met is resolved for its reads, at a time.
-fn resolve_met<J: Naming, F: Fresh>(
+fn resolves<J: Naming, F: Fresh>(
     clerk: &mut Seat<J>,
     session: &mut Session<J>,
     now: u64,
@@ -157,11 +157,8 @@ fn resolve_met<J: Naming, F: Fresh>(
 ) {
     desk.show();
     if let Ok(Some(met)) = session.met() {
-        let (info, told) = met.into_parts();
-        clerk.learn(told);
-        let found = resolve(clerk, &info, session.start(), Ts::new(now), desk);
+        let found = resolve_met(clerk, met, session.start(), Ts::new(now), desk);
         drop(found);
-        drop(info);
     }
 }
 
@@ -190,7 +187,7 @@ fn acts<J: Naming, F: Fresh>(
         return SILENT;
     };
     if let Act::Resolve(now) = act {
-        resolve_met(&mut seats.clerk, session, now, desk);
+        resolves(&mut seats.clerk, session, now, desk);
         return SILENT;
     }
     asks(alloc, session, act, desk)
