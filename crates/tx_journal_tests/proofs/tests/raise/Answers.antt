@@ -2,6 +2,7 @@ use Rattle.std.proofs.Common.{◌≡◌, ℕ, inr, List, [], ◌∷◌, Some, No
 use Rattle.tx_types.specs.declared.key.Key.{Key}
 use Rattle.tx_plan.specs.declared.body.Body.{Body}
 use Rattle.tx_plan.specs.declared.body.Body.TheVariants.{RaiseSafe}
+use Rattle.tx_plan.specs.declared.answer.Answer.{Answer}
 use Rattle.tx_plan.specs.declared.answer.Answer.TheVariants.{Raised}
 use Rattle.tx_core.specs.declared.event.Event.TheVariants.{Took}
 use Rattle.tx_core.specs.Histories.{History, last, WasLast, Begins}
@@ -12,6 +13,7 @@ use Rattle.tx_core.proofs.seats.ReadMarks.{taken_raises}
 use Rattle.tx_core.proofs.seats.Recording.{may_take}
 use Rattle.tx_core.proofs.seats.Staying.{last_was}
 use Rattle.tx_journal.specs.Known.{HasSeen, HasRecorded}
+use Rattle.tx_journal.specs.Replies.{IsGiven}
 use Rattle.tx_journal.proofs.Calls.{seen_more}
 use Rattle.tx_journal.proofs.Replying.{tells_of, given_of}
 use Rattle.tx_journal_tests.proofs.tests.raise.Goals as goal
@@ -63,4 +65,5 @@ new-requires g c =
     let sender = subst (λ (x : History). Begins x m) by c.learn.ensures.told in
     let added : HasRecorded bounds 0 l (Took record { region = 0; body = asked.body; loaded = last l; answer = Raised }) c.tell.result = subst (λ (p : ℕ × ℕ × Body × ℕ × History). HasRecorded bounds p.0 l (Took record { region = p.1; body = p.2; loaded = p.3; answer = Raised }) p.4)
     (λ i. (seat i, c.new-number.ensures i, body i, c.last-loaded.ensures.last.0 i, sym c.tell.ensures.told i)) c.record.ensures.added in
-    given_of bounds 0 [] asked Raised c.tell.result (tells_of bounds 0 [] m l record { request = asked; answer = Some Raised; events = c.tell.result } Raised first sender then added)
+    subst (λ (a : Answer). IsGiven bounds record { request = asked; answer = Some a; events = c.tell.result }) (sym c.unlocked-answer.ensures)
+    (given_of bounds 0 [] asked Raised c.tell.result (tells_of bounds 0 [] m l record { request = asked; answer = Some Raised; events = c.tell.result } Raised first sender then added))
