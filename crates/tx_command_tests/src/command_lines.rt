@@ -210,10 +210,9 @@ Arguments:
   [FILE]  The file to read; - or nothing is standard input
 
 Options:
-      -- check Writes the machine's steps of the run after its replies, and that they are one steps
-      -- Writes the machine's steps of the run alone, as a trace for txkv check cells <KIND> How the
-      -- regions keep what they hold; the replies are the same [default: flat] [possible values:
-      -- flat, nested]
+      --check         Writes the machine's steps of the run after its replies, and that they are one
+      --steps         Writes the machine's steps of the run alone, as a trace for txkv check
+      --cells <KIND>  How the regions keep what they hold; the replies are the same [default: flat] [possible values: flat, nested]
   -h, --help          Print help
 
 A script has one step a line, each a JSON array; s names a session, D is a delivery:
@@ -227,10 +226,10 @@ Arguments:
   [FILE]  The file to read; - or nothing is standard input
 
 Options:
-      -- workers <N> How many threads make steps, 1 to 64 gc-life-time <TICKS> Collects meanwhile
-      -- what is out of date for so many ticks; without it nothing is collected stats Tells on
-      -- standard error what the run came to, and how long it took cells <KIND> How the regions keep
-      -- what they hold; the replies are the same [default: flat] [possible values: flat, nested]
+      --workers <N>           How many threads make steps, 1 to 64
+      --gc-life-time <TICKS>  Collects meanwhile what is out of date for so many ticks; without it nothing is collected
+      --stats                 Tells on standard error what the run came to, and how long it took
+      --cells <KIND>          How the regions keep what they hold; the replies are the same [default: flat] [possible values: flat, nested]
   -h, --help                  Print help
 
 The script is read whole. Its seeds run in the order of their lines, and then the lines of each session in theirs,
