@@ -2,7 +2,7 @@
 ghost use Rattle.std.specs.Prelude.{◌≡◌, ◌<◌, All, IfOk, length, vec_len};
 ghost use Rattle.tx_cells.specs.Contents.{nothing_held};
 ghost use Rattle.tx_nested.specs.Nested.{nested_content};
-ghost use Rattle.tx_journal.specs.Known.{AreRising};
+ghost use Rattle.tx_types.specs.Keys.{AreRising};
 
 use anyhow::Result;
 use std::alloc::Global;

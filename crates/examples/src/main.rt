@@ -18,11 +18,11 @@ use std::thread::Threads;
 use tx_cells::Fresh;
 use tx_check::check;
 use tx_flat::FlatCells;
-use tx_lines::End;
 use tx_nested::NestedCells;
 use tx_run::{Plain, Settings, run_script};
 use tx_sched::Open;
 use tx_script::{simulate, simulate_checked};
+use tx_text::End;
 
 const SCRIPTS: [&str; 17] = [
     "abandoned_async.script",

@@ -2,8 +2,8 @@
 use Rattle.std.proofs.Common.{◌≡◌, ◌≢◌, List, [], ◌∷◌, None, length, refl}
 use Rattle.serde_json.specs.View.{items_view}
 use Rattle.serde_json.specs.declared.value.Value.{Value}
-use Rattle.tx_lines.specs.declared.part.Part.{Part}
-use Rattle.tx_lines.specs.Parts.{parts_items}
+use Rattle.tx_text.specs.declared.part.Part.{Part}
+use Rattle.tx_text.specs.Parts.{parts_items}
 use Rattle.tx_check.specs.MachineSteps.{change_of_items, row_of_items, step_of_items}
 
 -- a change has two or three members

@@ -8,3 +8,9 @@ pub mod LineSteps
 pub mod Verdicts
 -- The lines of a trace that were read, and the machine that made their steps.
 pub mod Traces
+-- The text of a line whose first member is any value.
+pub mod StepLines
+-- What is appended to bytes part by part.
+pub mod Joins
+-- The reason that is told is one of the step that was refused.
+pub mod Told

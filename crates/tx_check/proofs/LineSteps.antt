@@ -6,8 +6,8 @@ use Rattle.serde_json.specs.Find.{as_array}
 use Rattle.tx_types.specs.declared.fault.Cause.{Cause}
 use Rattle.tx_types.specs.declared.fault.Cause.TheVariants.{Json, Long}
 use Rattle.tx_machine.specs.declared.step.Step.{Step}
-use Rattle.tx_lines.specs.Lines.{max_line, max_lines}
-use Rattle.tx_lines.specs.Parts.{json_of, count}
+use Rattle.tx_text.specs.Lines.{max_line, max_lines}
+use Rattle.tx_text.specs.Parts.{json_of, count}
 use Rattle.tx_check.specs.MachineSteps.{step_of, step_of_items}
 use Rattle.tx_check.specs.Check.{step_of_form, step_of_json, step_in}
 

@@ -8,10 +8,10 @@ use Rattle.tx_machine.specs.Machine.{empty, table_of, IsRun}
 use Rattle.tx_machine.specs.Representation.{Represents}
 use Rattle.tx_check.specs.declared.checker.Turn.TheVariants as turn
 use Rattle.tx_check.specs.declared.words.Verdict.TheVariants.{Yes, No, Fault}
-use Rattle.tx_lines.specs.Lines.{lines_of}
+use Rattle.tx_text.specs.Lines.{lines_of}
 use Rattle.tx_check.specs.Check.{step_in, Says, Reaches, IsVerdict}
 use Rattle.tx_check.proofs.Verdicts.{only}
-use Rattle.tx_check.specs.Turns.{Turns}
+use Rattle.tx_check.specs.Turns.{Turns, StandsAt}
 
 pub if_some : {X : Type 0} {P Q : X → Type 0} (o : Option X) → ((x : X) → P x → Q x) → IfSome o P → IfSome o Q
 if_some None f h = tt
@@ -78,10 +78,17 @@ module _ {input : List ℕ} {left : Option (List ℕ)} {machine : Machine} {numb
     run = soon.run;
   }
 
-  pub refused : IfSome left (λ bytes. Turns bytes left' machine next (number + 1) turn.Refused) → IsVerdict (lines_of input) (No (number + 1))
-  refused turns =
-      let found = at_rest turn.Refused turns in
-      only (lines_of input) (No (number + 1)) (found.0, soon.steps, found.2, reached found.0 found.1 found.3, found.4, found.5 (table_of (reverse soon.steps)) soon.stands)
+  -- the machine stands before the step that it refused
+  pub stands_at : (step : Step) → IfSome left (λ bytes. Turns bytes left' machine next (number + 1) (turn.Refused step)) → StandsAt (lines_of input) (number + 1) next step
+  stands_at step turns =
+      let found = at_rest (turn.Refused step) turns in
+      let table = table_of (reverse soon.steps) in
+      (found.0, soon.steps, reached found.0 found.1 found.2, found.3, found.5 table soon.stands, found.4 table soon.stands)
+
+  pub refused : (step : Step) → IfSome left (λ bytes. Turns bytes left' machine next (number + 1) (turn.Refused step)) → IsVerdict (lines_of input) (No (number + 1))
+  refused step turns =
+      let at = stands_at step turns in
+      only (lines_of input) (No (number + 1)) (at.0, at.1, step, at.2, at.3, at.5)
 
   pub faulted : (cause : Cause) → IfSome left (λ bytes. Turns bytes left' machine next (number + 1) (turn.Faulted cause)) → IsVerdict (lines_of input) (Fault (number + 1) cause)
   faulted cause turns =

@@ -5,19 +5,22 @@ use Rattle.serde_json.specs.Data.{Data}
 use Rattle.tx_types.specs.declared.fault.Cause.{Cause}
 use Rattle.tx_types.specs.declared.fault.Cause.TheVariants.{Json, Form, Long, Lines}
 use Rattle.tx_machine.specs.declared.step.Step.{Step}
+use Rattle.tx_machine.specs.declared.reason.Why.{Why}
 use Rattle.tx_machine.specs.Machine.{Admits, table_of, IsRun}
-use Rattle.tx_lines.specs.declared.end.Broken.{Broken}
-use Rattle.tx_lines.specs.declared.end.Broken.TheVariants.{Output}
-use Rattle.tx_lines.specs.declared.end.End.{End}
-use Rattle.tx_lines.specs.declared.end.End.TheVariants.{Well, Faulted}
-use Rattle.tx_lines.specs.declared.end.End.TheVariants as ended
+use Rattle.tx_machine.specs.Why.{IsRefused}
+use Rattle.tx_text.specs.declared.end.Broken.{Broken}
+use Rattle.tx_text.specs.declared.end.Broken.TheVariants.{Output}
+use Rattle.tx_text.specs.declared.end.End.{End}
+use Rattle.tx_text.specs.declared.end.End.TheVariants.{Well, Faulted}
+use Rattle.tx_text.specs.declared.end.End.TheVariants as ended
 use Rattle.tx_check.specs.declared.words.Verdict.{Verdict}
 use Rattle.tx_check.specs.declared.words.Verdict.TheVariants.{Yes, No, Fault}
-use Rattle.tx_lines.specs.Lines.{lines_of, max_line, max_lines}
-use Rattle.tx_lines.specs.Parts.{json_of}
+use Rattle.tx_text.specs.Lines.{lines_of, max_line, max_lines}
+use Rattle.tx_text.specs.Parts.{json_of}
 use Rattle.tx_check.specs.MachineSteps.{step_of}
-use Rattle.tx_lines.specs.Output.{AppendsPart}
-use Rattle.tx_lines.specs.Texts.{line_text}
+use Rattle.tx_check.specs.Reasons.{reason_text}
+use Rattle.tx_text.specs.Output.{AppendsPart}
+use Rattle.tx_text.specs.Texts.{line_text}
 use Rattle.tx_check.specs.Words.{words}
 
 -- a value that says no step is `form`
@@ -74,9 +77,36 @@ end_of (Fault number cause) = Faulted
 
 -- a check that was not broken off has written the line of its verdict, and nothing else
 abbrev pub Ends : List ℕ → Option (List ℕ) → Option (List ℕ) → End → Type 0
-Ends input old new end = (verdict : Verdict) × IsVerdict (lines_of input) verdict × Appends old new (line_text (words verdict)) × (end ≡ end_of verdict)
+Ends input old new end = (verdict : Verdict) × IsVerdict (lines_of input) verdict
+    × Appends old new (line_text (words verdict)) × (end ≡ end_of verdict)
 
 -- a check that was broken off has written nothing, or where a write failed a beginning of that line
 abbrev pub Breaks : List ℕ → Option (List ℕ) → Option (List ℕ) → Broken → Type 0
 Breaks input old new broken = Appends old new []
-    ⊎ ((broken ≡ Output) × (verdict : Verdict) × IsVerdict (lines_of input) verdict × AppendsPart old new (line_text (words verdict)))
+    ⊎ ((broken ≡ Output) × (verdict : Verdict) × IsVerdict (lines_of input) verdict
+    × AppendsPart old new (line_text (words verdict)))
+
+-- ---- with the reason of a no
+
+-- why the step of the line of this number is not made: so it is in the table that the steps of the
+-- lines before leave
+abbrev pub IsReason : List (List ℕ) → ℕ → Why → Type 0
+IsReason lines number why = (line : List ℕ) × (steps : List Step) × (step : Step) × Reaches lines number line steps
+    × (step_in number line ≡ Ok step) × IsRefused (table_of (reverse steps)) step why
+
+-- what is written of a verdict: its line, and after a no the line of a reason
+abbrev pub Explained : List (List ℕ) → Verdict → List ℕ → Type 0
+Explained lines (No number) text = (why : Why) × IsReason lines number why
+    × (text ≡ line_text (words (No number)) ++ reason_text number why)
+Explained lines verdict text = text ≡ line_text (words verdict)
+
+-- a check that was not broken off has written that, and nothing else
+abbrev pub EndsWithReason : List ℕ → Option (List ℕ) → Option (List ℕ) → End → Type 0
+EndsWithReason input old new end = (verdict : Verdict) × (text : List ℕ) × IsVerdict (lines_of input) verdict
+    × Explained (lines_of input) verdict text × Appends old new text × (end ≡ end_of verdict)
+
+-- a check that was broken off has written nothing, or where a write failed a beginning of that
+abbrev pub BreaksWithReason : List ℕ → Option (List ℕ) → Option (List ℕ) → Broken → Type 0
+BreaksWithReason input old new broken = Appends old new []
+    ⊎ ((broken ≡ Output) × (verdict : Verdict) × (text : List ℕ) × IsVerdict (lines_of input) verdict
+    × Explained (lines_of input) verdict text × AppendsPart old new text)

@@ -1,4 +1,6 @@
+pub mod Steps
 pub mod Words
 pub mod MachineSteps
+pub mod Reasons
 pub mod Check
 pub mod Turns

@@ -1,20 +1,46 @@
--- What a machine makes of the next line of a trace. Only this crate's own clauses cite it.
-use Rattle.std.specs.Prelude.{◌≡◌, ℕ, List, [], ◌∷◌, Option, Some, Ok, Err}
+-- What a machine makes of the next line of a trace, and where the walk over the lines stops.
+-- Only this crate's own clauses cite it.
+use Rattle.std.specs.Prelude.{◌≡◌, ℕ, List, [], ◌∷◌, reverse, Option, Some, Ok, Err}
 use Rattle.tx_machine.specs.declared.machine.Machine.{Machine}
 use Rattle.tx_machine.specs.declared.step.Step.{Step}
-use Rattle.tx_machine.specs.Machine.{Table, Admits, after}
-use Rattle.tx_machine.specs.Representation.{Represents}
+use Rattle.tx_machine.specs.Machine.{Admits, table_of}
+use Rattle.tx_machine.specs.Representation.{Represents, Makes, Refuses, Keeps}
 use Rattle.tx_check.specs.declared.checker.Turn.{Turn}
 use Rattle.tx_check.specs.declared.checker.Turn.TheVariants.{End, Made, Refused, Faulted}
-use Rattle.tx_lines.specs.Lines.{lines_of}
-use Rattle.tx_check.specs.Check.{step_in}
+use Rattle.tx_check.specs.declared.checker.Stop.{Stop}
+use Rattle.tx_check.specs.declared.checker.Stop.TheVariants as stop
+use Rattle.tx_check.specs.declared.words.Verdict.{Verdict}
+use Rattle.tx_check.specs.declared.words.Verdict.TheVariants.{Yes, No, Fault}
+use Rattle.tx_text.specs.Lines.{lines_of}
+use Rattle.tx_check.specs.Check.{step_in, Reaches}
 
 -- what came of the first line of these bytes, which has this number, at a machine
 abbrev pub Turns : List ℕ → Option (List ℕ) → Machine → Machine → ℕ → Turn → Type 0
 Turns bytes left old new number End = bytes ≡ []
-Turns bytes left old new number Made = (line : List ℕ) × (rest : List ℕ) × (step : Step) × (left ≡ Some rest) × (lines_of bytes ≡ line ∷ lines_of rest)
-    × (step_in number line ≡ Ok step) × ((table : Table) → Represents old table → Admits table step × Represents new (after table step))
-Turns bytes left old new number Refused = (line : List ℕ) × (more : List (List ℕ)) × (step : Step) × (lines_of bytes ≡ line ∷ more)
-    × (step_in number line ≡ Ok step) × ((table : Table) → Represents old table → Admits table step → ⊥)
-Turns bytes left old new number (Faulted cause) = (line : List ℕ) × (more : List (List ℕ)) × (lines_of bytes ≡ line ∷ more)
+Turns bytes left old new number Made = (line : List ℕ) × (rest : List ℕ) × (step : Step)
+    × (left ≡ Some rest) × (lines_of bytes ≡ line ∷ lines_of rest)
+    × (step_in number line ≡ Ok step) × Makes old new step
+Turns bytes left old new number (Refused step) = (line : List ℕ) × (more : List (List ℕ))
+    × (lines_of bytes ≡ line ∷ more)
+    × (step_in number line ≡ Ok step) × Refuses old step × Keeps old new
+Turns bytes left old new number (Faulted cause) = (line : List ℕ) × (more : List (List ℕ))
+    × (lines_of bytes ≡ line ∷ more)
     × (step_in number line ≡ Err cause)
+
+-- what it says of the lines
+abbrev pub verdict_of : Stop → Verdict
+verdict_of stop.End = Yes
+verdict_of (stop.Refused number machine step) = No number
+verdict_of (stop.Faulted number cause) = Fault number cause
+
+-- the line of this number says this step, which the machine does not make: it stands where the
+-- lines before have left it
+abbrev pub StandsAt : List (List ℕ) → ℕ → Machine → Step → Type 0
+StandsAt lines number machine step = (line : List ℕ) × (steps : List Step) × Reaches lines number line steps
+    × (step_in number line ≡ Ok step) × Represents machine (table_of (reverse steps))
+    × (Admits (table_of (reverse steps)) step → ⊥)
+
+-- a walk over the lines that stops at a refused step has the machine that stands before it
+abbrev pub Stops : List (List ℕ) → Stop → Type 0
+Stops lines (stop.Refused number machine step) = StandsAt lines number machine step
+Stops lines _ = Unit {0}

@@ -1,7 +1,7 @@
 -- The words of verdicts.
 use Rattle.std.specs.Prelude.{codes}
 use Rattle.serde_json.specs.Data.{Items, no_items, item, number, unsigned, string}
-use Rattle.tx_lines.specs.Faults.{fault_words}
+use Rattle.tx_text.specs.Faults.{fault_words}
 use Rattle.tx_check.specs.declared.words.Verdict.{Verdict}
 use Rattle.tx_check.specs.declared.words.Verdict.TheVariants.{Yes, No, Fault}
 

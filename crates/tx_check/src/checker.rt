@@ -1,24 +1,29 @@
 //! Checking a trace: each line is read as a step and made by the machine, and one line is written,
-//! with the verdict.
-ghost use Rattle.std.specs.Prelude.{◌≡◌, ◌≤◌, length, IfOk, IfErr, IfSome};
+//! with the verdict, and where it is asked for and the verdict is no one more, with the reason.
+ghost use Rattle.std.specs.Prelude.{◌≡◌, ◌≤◌, ℕ, List, ◌++◌, length, OnOk, OnErr, IfOk, IfErr, IfSome};
+ghost use Rattle.std.specs.Io.KnownBytes.{Appends};
 ghost use Rattle.serde_json.specs.View.{view};
-ghost use Rattle.tx_lines.specs.Parts.{parts_items};
+ghost use Rattle.tx_text.specs.Parts.{parts_items};
 ghost use Rattle.tx_check.specs.MachineSteps.{step_of, step_of_items};
-ghost use Rattle.tx_check.specs.Check.{step_of_form, step_in, IsVerdict, Ends, Breaks, end_of};
-ghost use Rattle.tx_check.specs.Turns.{Turns};
-ghost use Rattle.tx_lines.specs.Lines.{lines_of};
+ghost use Rattle.tx_check.specs.Check.{step_of_form, step_in, IsVerdict, Ends, Breaks, end_of, IsReason, Explained, EndsWithReason, BreaksWithReason};
+ghost use Rattle.tx_check.specs.Reasons.{reason_text};
+ghost use Rattle.tx_check.specs.Turns.{Turns, verdict_of, StandsAt, Stops};
+ghost use Rattle.tx_machine.specs.declared.reason.Why.{Why};
+ghost use Rattle.tx_text.specs.Lines.{lines_of};
+ghost use Rattle.tx_text.specs.Output.{AppendsPart};
 
 use crate::listed_step::listed_step;
 use crate::machine_step::{Unread, machine_step};
+use crate::reasons::put_reason;
 use crate::words::{Verdict, verdict_line};
 use serde_json::Value;
 use std::alloc::Global;
 use std::io::{BufRead, Write};
-use tx_lines::{
+use tx_machine::{Machine, Refused, Step};
+use tx_text::{
     Broken, End, Found, Part, Parts, Scanned, finish, parts_of, read_line, scanned_with_rows, send,
     value_of,
 };
-use tx_machine::{Machine, Refused, Step};
 use tx_types::Cause;
 use tx_types::limits::{MAX_LINE_BYTES, MAX_LINES};
 
@@ -40,11 +45,41 @@ pub fn check<R: BufRead, W: Write>(
     ensures breaks { IfErr result (λ broken. IfSome (R.remaining reader.old)
         (λ input. Breaks input (W.contents writer.old) (W.contents writer.new) broken)) }
 {
-    let verdict = judge(alloc, reader)?;
+    let verdict = walk(alloc, reader)?.verdict();
     let text = verdict_line(alloc, verdict)?;
-    send(writer, text.as_bytes())?;
-    finish(writer)?;
+    write_out(writer, text.as_bytes())?;
     Ok(end_of_check(verdict))
+}
+
+/// The same, and after a no writes one line more, `["why",n,word,{..}]`, with a reason for which
+/// the machine does not make the step of line n.
+pub fn check_with_reason<R: BufRead, W: Write>(
+    alloc: Global,
+    reader: &mut R,
+    writer: &mut W,
+) -> Result<End, Broken>
+    // Not broken off, it has written the line of its verdict, after a no the line of a reason, and
+    // nothing else.
+    ensures ends { IfOk result (λ end. IfSome (R.remaining reader.old)
+        (λ input. EndsWithReason input (W.contents writer.old) (W.contents writer.new) end)) }
+    // Broken off, it has written nothing, or where a write failed a beginning of that.
+    ensures breaks { IfErr result (λ broken. IfSome (R.remaining reader.old)
+        (λ input. BreaksWithReason input (W.contents writer.old) (W.contents writer.new) broken)) }
+{
+    let stop = walk(alloc, reader)?;
+    let text = explained(alloc, &stop)?;
+    write_out(writer, text.as_slice())?;
+    Ok(end_of_check(stop.verdict()))
+}
+
+// Writes a text and hands it on, or writes the first of it before a failure, which is `Output`.
+fn write_out<W: Write>(writer: &mut W, text: &[u8]) -> Result<(), Broken>
+    ensures all { OnOk result (Appends (W.contents writer.old) (W.contents writer.new) text.now) }
+    ensures part { OnErr result (AppendsPart (W.contents writer.old) (W.contents writer.new) text.now) }
+    ensures err { IfErr result (λ e. e ≡ Broken.Output) }
+{
+    send(writer, text)?;
+    finish(writer)
 }
 
 fn end_of_check(verdict: Verdict) -> End
@@ -57,29 +92,82 @@ fn end_of_check(verdict: Verdict) -> End
     }
 }
 
-// Reads the lines up to the first that is refused or is no step.
-fn judge<R: BufRead>(alloc: Global, reader: &mut R) -> Result<Verdict, Broken>
-    ensures { IfOk result (λ verdict. IfSome (R.remaining reader.old) (λ input. IsVerdict (lines_of input) verdict)) }
+// Where the walk over the lines of a trace stops.
+#[derive(Drop)]
+enum Stop {
+    /// At their end.
+    End,
+    /// At the line of this number, whose step the machine does not make. It is as it was before.
+    Refused(u64, Machine, Step),
+    /// At the line of this number, which is no step.
+    Faulted(u64, Cause),
+}
+
+impl Stop {
+    fn verdict(&self) -> Verdict
+        ensures { result ≡ verdict_of self.now }
+    {
+        match self {
+            Stop::End => Verdict::Yes,
+            Stop::Refused(number, _, _) => Verdict::No(*number),
+            Stop::Faulted(number, cause) => Verdict::Fault(*number, *cause),
+        }
+    }
+}
+
+// Appends the line of a reason for which the machine does not make the step.
+fn put_why(text: &mut Vec<u8>, number: u64, machine: &Machine, step: &Step) -> Result<(), Broken>
+    ensures { OnOk result ((lines : List (List ℕ)) → StandsAt lines number machine.now step.now
+        → (why : Why) × IsReason lines number why × (text.new.items ≡ text.old.items ++ reason_text number why)) }
+{
+    match machine.why(step) {
+        Ok(Some(why)) => Ok(put_reason(text, number, &why)?),
+        // It makes the step.
+        Ok(None) => Ok(()),
+        Err(_) => Err(Broken::Memory),
+    }
+}
+
+// The line of the verdict, and after a no the line of its reason.
+fn explained(alloc: Global, stop: &Stop) -> Result<Vec<u8>, Broken>
+    ensures { IfOk result (λ text. (lines : List (List ℕ)) → Stops lines stop.now
+        → Explained lines (verdict_of stop.now) text.items) }
+{
+    let mut text = verdict_line(alloc, stop.verdict())?.into_bytes();
+    match stop {
+        Stop::Refused(number, machine, step) => {
+            put_why(&mut text, *number, machine, step)?;
+            Ok(text)
+        }
+        Stop::End | Stop::Faulted(_, _) => Ok(text),
+    }
+}
+
+// Walks over the lines up to the first that is refused or is no step.
+fn walk<R: BufRead>(alloc: Global, reader: &mut R) -> Result<Stop, Broken>
+    ensures verdict { IfOk result (λ stop. IfSome (R.remaining reader.old)
+        (λ input. IsVerdict (lines_of input) (verdict_of stop))) }
+    ensures stops { IfOk result (λ stop. IfSome (R.remaining reader.old) (λ input. Stops (lines_of input) stop)) }
 {
     let mut machine = Machine::new(alloc);
     let mut line = Vec::new(alloc);
     let mut number = 0;
     'lines: loop {
         match next(alloc, reader, &mut line, &mut machine, number + 1)? {
-            Turn::End => return Ok(Verdict::Yes),
+            Turn::End => return Ok(Stop::End),
             Turn::Made => number += 1,
-            Turn::Refused => return Ok(Verdict::No(number + 1)),
-            Turn::Faulted(cause) => return Ok(Verdict::Fault(number + 1, cause)),
+            Turn::Refused(step) => return Ok(Stop::Refused(number + 1, machine, step)),
+            Turn::Faulted(cause) => return Ok(Stop::Faulted(number + 1, cause)),
         }
     }
 }
 
 // What came of the next line.
-#[derive(Clone, Copy, Debug, PartialEq, Eq)]
+#[derive(Drop)]
 enum Turn {
     End,
     Made,
-    Refused,
+    Refused(Step),
     Faulted(Cause),
 }
 
@@ -108,7 +196,7 @@ fn next<R: BufRead>(
     };
     match machine.step(&step) {
         Ok(()) => Ok(Turn::Made),
-        Err(Refused::Step) => Ok(Turn::Refused),
+        Err(Refused::Step) => Ok(Turn::Refused(step)),
         Err(Refused::Memory) => Err(Broken::Memory),
     }
 }

@@ -1,14 +1,18 @@
 //! Checking a trace: each line is a step of the machine, as `simulate --check` writes them, and the
 //! verdict says whether the machine makes them all.
 //!
-//! A line is one JSON array, which `tx_lines` reads. The steps of the machine stand in
-//! `machine_step` and `listed_step`, the words of verdicts in `words`.
+//! A line is one JSON array, which `tx_text` reads. The steps of the machine stand in
+//! `machine_step` and `listed_step`, the lines that say them in `step_line`, the words of verdicts in
+//! `words`, and in `reasons` the line that says why a step is not made.
 #![tactic(auto)]
 
 mod checker;
 mod listed_step;
 mod machine_step;
+mod reasons;
+mod step_line;
 mod words;
 
-pub use checker::check;
+pub use checker::{check, check_with_reason};
+pub use step_line::put_step;
 pub use words::{Verdict, verdict_line};

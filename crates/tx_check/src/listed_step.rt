@@ -3,13 +3,13 @@
 ghost use Rattle.std.specs.Prelude.{◌≡◌, Some, map, IfOk};
 ghost use Rattle.serde_json.specs.Data.{array};
 ghost use Rattle.serde_json.specs.View.{items_of};
-ghost use Rattle.tx_lines.specs.Parts.{part_data, row_data, listed_items};
+ghost use Rattle.tx_text.specs.Parts.{part_data, row_data, listed_items};
 ghost use Rattle.tx_check.specs.MachineSteps.{all_of, change_of, row_of, three_of, six_of, step_of_items};
 
 use crate::machine_step::{Unread, key, plain, plain_value, put, row_limit, text, timestamp};
 use std::alloc::Global;
-use tx_lines::{Part, Row};
 use tx_machine::{ScanRead, Step};
+use tx_text::{Part, Row};
 use tx_types::{Change, Changes, KeyValue, KeyValues};
 
 /// The step of a line whose last member is a list of rows. `Err`: not known; ask the JSON reader.

@@ -2,13 +2,13 @@
 ghost use Rattle.std.specs.Prelude.{◌≡◌, Some, None, MatchResult};
 ghost use Rattle.serde_json.specs.Find.{as_array, as_str};
 ghost use Rattle.serde_json.specs.View.{view, items_view};
-ghost use Rattle.tx_lines.specs.Parts.{part_data, parts_items};
+ghost use Rattle.tx_text.specs.Parts.{part_data, parts_items};
 ghost use Rattle.tx_check.specs.MachineSteps.{number_of, key_of, value_of, found_of, limit_of, plain_of, put_of, change_of, list_of, row_of, two_of, three_of, aborted_of, committed_of, four_of, scan_of, six_of, step_of_items};
 
 use serde_json::Value as Json;
 use std::alloc::Global;
-use tx_lines::Part;
 use tx_machine::{ScanRead, Step};
+use tx_text::Part;
 use tx_types::limits::MAX_SCAN_ROWS;
 use tx_types::{Change, Changes, Fate, Fault, Key, KeyValue, KeyValues, Mutation, Ts, Value};
 

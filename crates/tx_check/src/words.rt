@@ -3,8 +3,8 @@ ghost use Rattle.std.specs.Prelude.{◌≡◌, false, ◌∷◌, ◌++◌, [], I
 ghost use Rattle.serde_json.specs.Data.{array};
 ghost use Rattle.serde_json.specs.View.{view};
 ghost use Rattle.serde_json.specs.Written.{has_float, compact_text};
-ghost use Rattle.tx_lines.specs.Texts.{line_text};
-ghost use Rattle.tx_lines.specs.Faults.{cause_word as word_of};
+ghost use Rattle.tx_text.specs.Texts.{line_text};
+ghost use Rattle.tx_text.specs.Faults.{cause_word as word_of};
 ghost use Rattle.tx_check.specs.Words.{words};
 
 use serde_json::{Value, json};

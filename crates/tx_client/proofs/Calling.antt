@@ -33,7 +33,8 @@ use Rattle.tx_transaction.specs.declared.state.Phase.TheVariants as phase
 use Rattle.tx_transaction.specs.declared.state.Due.{Due}
 use Rattle.tx_transaction.specs.Buffers.{is_full, inserted}
 use Rattle.tx_transaction.specs.Sessions.{State, begun, is_declared, has_primary, can_draw, declaration, with_passed, unknown_by, undecided, finish_by, finish_of}
-use Rattle.tx_client.specs.Senders.{IsHeld, Reached, came_by, came_of, Learns}
+use Rattle.tx_journal.specs.Senders.{IsHeld, Reached}
+use Rattle.tx_client.specs.Learns.{came_by, came_of, Learns}
 use Rattle.tx_client.specs.Facts.{CameSo, IsFor, IsSession, IsSeated}
 use Rattle.tx_client.specs.Calls.{Records, RecordsDeclared, Asks, IsDecidedSo}
 use Rattle.tx_client.proofs.Kept.{others_act}

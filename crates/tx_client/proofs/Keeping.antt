@@ -15,7 +15,8 @@ use Rattle.tx_transaction.specs.declared.state.Progress.{Progress}
 use Rattle.tx_transaction.specs.declared.state.Due.{Due}
 use Rattle.tx_transaction.specs.Buffers.{Entries, keys_of, with_progress, buffered}
 use Rattle.tx_transaction.specs.Sessions.{State, after_came, after_read, with_passed, read_of}
-use Rattle.tx_client.specs.Senders.{Reached, came_of}
+use Rattle.tx_journal.specs.Senders.{Reached}
+use Rattle.tx_client.specs.Learns.{came_of}
 use Rattle.tx_client.specs.Walks.{Sends, due_walk, look_walk, get_by, get_walk}
 use Rattle.tx_client.specs.Calls.{KeepsSet}
 

@@ -18,6 +18,8 @@ pub mod Calling
 pub mod Looking
 -- Some region holds each part of a scan.
 pub mod Routing
+-- A region answers a scan with at most as many rows as it asks for.
+pub mod Rooms
 -- A scan is its regions' parts in order.
 pub mod Scanning
 -- The calls of a session that send leave what it writes as it is.

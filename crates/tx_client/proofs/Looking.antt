@@ -8,7 +8,8 @@ use Rattle.tx_journal.specs.Replies.{Asked}
 use Rattle.tx_transaction.specs.declared.state.Came.{Came}
 use Rattle.tx_transaction.specs.declared.state.Miss.{Miss}
 use Rattle.tx_transaction.specs.Sessions.{State, after_read}
-use Rattle.tx_client.specs.Senders.{Reached, came_of}
+use Rattle.tx_journal.specs.Senders.{Reached}
+use Rattle.tx_client.specs.Learns.{came_of}
 use Rattle.tx_client.specs.Walks.{Walk, asks, grows, ends, then_walk, Sends, look_walk}
 use Rattle.tx_transaction.specs.Returns.{read}
 use Rattle.tx_client.specs.Calls.{Asks}

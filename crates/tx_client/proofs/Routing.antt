@@ -4,11 +4,10 @@ use Rattle.std.specs.Prelude.{IsTrue, count_by}
 use Rattle.std.proofs.lemmas.Bool.{cases_Bool, and_parts}
 use Rattle.std.proofs.lemmas.List.Sums.{sum_by-cons}
 use Rattle.tx_types.specs.declared.key.Key.{Key}
-use Rattle.tx_types.specs.Keys.{key_lt, key_le}
+use Rattle.tx_types.specs.Keys.{key_lt, key_le, AreRising}
 use Rattle.tx_plan.proofs.KeyOrder.{lt_trans, lt_itself, lt_le, le_itself, le_cases, lt_then_le, not_lt}
-use Rattle.tx_journal.specs.Known.{AreRising}
 use Rattle.tx_transaction.specs.Sessions.{State, scan_of}
-use Rattle.tx_client.specs.Senders.{IsHeld}
+use Rattle.tx_journal.specs.Senders.{IsHeld}
 use Rattle.tx_client.specs.Walks.{lesser, greater, low_of, high_of}
 
 le_trans : (i j k : Key) → IsTrue (key_le i j) → IsTrue (key_le j k) → IsTrue (key_le i k)

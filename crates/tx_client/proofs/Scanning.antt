@@ -12,8 +12,10 @@ use Rattle.tx_client.specs.declared.part.Part.{Part}
 use Rattle.tx_client.specs.declared.part.Part.TheVariants.{More, Done}
 use Rattle.tx_transaction.specs.declared.state.Miss.{Miss}
 use Rattle.tx_transaction.specs.Sessions.{State, scan_of}
-use Rattle.tx_client.specs.Senders.{Reached}
-use Rattle.tx_client.specs.Walks.{Walk, ends, then_walk, Sends, Continues, look_walk, part_after, look_part, IsPart, part_of, part_walk, scan_after, scan_from, low_of, high_of, greater}
+use Rattle.tx_transaction.specs.declared.state.Miss.TheVariants as miss
+use Rattle.tx_journal.specs.Senders.{Reached}
+use Rattle.tx_client.specs.Calls.{Seated, seated}
+use Rattle.tx_client.specs.Walks.{Walk, ends, then_walk, Sends, Continues, look_walk, look_part, part_by, part_of, part_walk, scan_after, scan_from, low_of, high_of, greater}
 use Rattle.tx_client.proofs.Looking.{sent_then}
 
 -- the body of a part that is not empty
@@ -44,14 +46,12 @@ scan_past from to limit low (b ∷ bs) (suc n) s rows lt = scan_past from to lim
 
 module _ {S : Type 0} (sends : S → Asked → Reached → S → Type 0) (bounds : List Key) where
   -- what a read answered makes a part
-  part_sent : (k : Known) (from : S) (s : State) (limit : ℕ) (rows : List KeyValue) (r : Result Answer Miss) (p : Part) → IsPart limit rows r p → Sends sends bounds k from (part_after s limit rows r) (s, p) from k
-  part_sent k from s limit rows (Ok (Rows found)) p (inl e) = inl (λ j. (s, e j), refl, refl)
-  part_sent k from s limit rows (Ok (Rows found)) p (inr e) = inr (λ j. (s, e j), refl, refl)
-  part_sent k from s limit rows (Ok _) p e = (λ j. (s, e j), refl, refl)
-  part_sent k from s limit rows (Err why) p e = (λ j. (s, e j), refl, refl)
+  pub part_looked : (k new : Known) (from to : S) (s after : State) (body : Body) (limit : ℕ) (rows : List KeyValue) (r : Result Answer Miss) (p : Part) → Sends sends bounds k from (look_walk s body) (after, r) to new → p ≡ part_by limit rows r → Sends sends bounds k from (look_part s body limit rows) (after, p) to new
+  part_looked k new from to s after body limit rows r p looked is = sent_then sends bounds (look_walk s body) (λ x. ends (x.0, part_by limit rows x.1)) k new new from to to (after, r) (after, p) looked (λ j. (after, is j), refl, refl)
 
-  pub part_looked : (k new : Known) (from to : S) (s after : State) (body : Body) (limit : ℕ) (rows : List KeyValue) (r : Result Answer Miss) (p : Part) → Sends sends bounds k from (look_walk s body) (after, r) to new → IsPart limit rows r p → Sends sends bounds k from (look_part s body limit rows) (after, p) to new
-  part_looked k new from to s after body limit rows r p looked is = sent_then sends bounds (look_walk s body) (λ x. part_after x.0 limit rows x.1) k new new from to to (after, r) (after, p) looked (part_sent new to after limit rows r p is)
+  -- a part for whose rows there is no room
+  pub part_short : (k : Known) (from to : S) (s : State) (low high : Key) (limit : ℕ) (rows : List KeyValue) (p : Part) (new : Seated) → p ≡ Done (Err miss.Fault) → new ≡ seated s k → to ≡ from → Sends sends bounds k from (part_walk s low high limit rows) (new.state, p) to new.seat
+  part_short k from to s low high limit rows p new e same way = inl ((λ j. ((same j).state, e j)), way, ap (λ (x : Seated). x.seat) same)
 
   -- a part that is not empty
   pub part_some : (k new : Known) (from to : S) (s after : State) (low high : Key) (n limit : ℕ) (rows : List KeyValue) (body : Body) (p : Part) → n ≡ limit - length rows → part_of s low high n ≡ Some body → Sends sends bounds k from (look_part s body limit rows) (after, p) to new → Sends sends bounds k from (part_walk s low high limit rows) (after, p) to new

@@ -17,7 +17,8 @@ use Rattle.tx_journal.specs.Replies.{Asked}
 use Rattle.tx_transaction.specs.declared.state.Came.{Came}
 use Rattle.tx_transaction.specs.Buffers.{keys_of}
 use Rattle.tx_transaction.specs.Sessions.{State}
-use Rattle.tx_client.specs.Senders.{Reached, came_of, Learns}
+use Rattle.tx_journal.specs.Senders.{Reached}
+use Rattle.tx_client.specs.Learns.{came_of, Learns}
 
 -- a session: its state, and what its seat knows
 pub record Seated : Type 0 where

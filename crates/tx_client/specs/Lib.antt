@@ -1,5 +1,6 @@
-pub mod Senders
+pub mod Learns
 pub mod Walks
+pub mod Rooms
 pub mod Facts
 pub mod Calls
 pub mod Order

@@ -20,7 +20,8 @@ use Rattle.tx_transaction.specs.declared.state.Due.{Due}
 use Rattle.tx_transaction.specs.Buffers.{buffered}
 use Rattle.tx_transaction.specs.Sessions.{State, heartbeat_of, read_of, scan_of, after_came, after_read}
 use Rattle.tx_transaction.specs.Returns.{returned, read}
-use Rattle.tx_client.specs.Senders.{Reached, came_of, Learns}
+use Rattle.tx_journal.specs.Senders.{Reached}
+use Rattle.tx_client.specs.Learns.{came_of, Learns}
 
 -- What a caller sends next by what came so far: a request, and what follows by what comes of it; a
 -- growth of its own, and what follows where that is refused; or the end.
@@ -47,9 +48,8 @@ module _ {S R : Type 0} (sends : S → Asked → Reached → S → Type 0) (boun
   abbrev pub Continues : Known → S → Walk R → Known → S → Walk R → Type 0
   Continues k from w now at left = (result : R) (to : S) (new : Known) → Sends now at left result to new → Sends k from w result to new
 
--- ---- the calls of a session: each comes to the session's state and to what the call answers. What it
--- takes of memory it takes before it sends, so a growth of its own that is refused sends nothing;
--- but a scan takes memory to join the rows of two regions.
+-- ---- the calls of a session: each comes to the session's state and to what the call answers. What
+-- it takes of memory for a request it takes before that: where it is refused, nothing more is sent.
 
 -- memory is refused
 abbrev pub short : {R : Type 0} → State → Walk (State × Result R Miss)
@@ -106,22 +106,14 @@ part_of s from to limit = cond (key_lt from to) (Some (scan_of s from to limit))
 abbrev pub enough : ℕ → List KeyValue → Part
 enough limit rows = cond (nat_lt (length rows) limit) (part.More rows) (part.Done (Ok (answer.Rows rows)))
 
--- a region's rows come after those before it; any other answer is the scan's
-abbrev pub rows_after : State → ℕ → List KeyValue → Answer → Walk (State × Part)
-rows_after s limit rows (answer.Rows found) = grows (ends (s, enough limit (rows ++ found))) (ends (s, part.Done (Err miss.Fault)))
-rows_after s limit rows a = ends (s, part.Done (Ok a))
-
-abbrev pub part_after : State → ℕ → List KeyValue → Result Answer Miss → Walk (State × Part)
-part_after s limit rows (Err why) = ends (s, part.Done (Err why))
-part_after s limit rows (Ok a) = rows_after s limit rows a
+-- what a part comes to by what its read answered: a region's rows come after those before it, any
+-- other answer is the scan's
+abbrev pub part_by : ℕ → List KeyValue → Result Answer Miss → Part
+part_by limit rows (Ok (answer.Rows found)) = enough limit (rows ++ found)
+part_by limit rows r = part.Done r
 
 abbrev pub look_part : State → Body → ℕ → List KeyValue → Walk (State × Part)
-look_part s body limit rows = then_walk (look_walk s body) (λ x. part_after x.0 limit rows x.1)
-
--- what a part comes to by what its read answered
-abbrev pub IsPart : ℕ → List KeyValue → Result Answer Miss → Part → Type 0
-IsPart limit rows (Ok (answer.Rows found)) p = (p ≡ part.Done (Err miss.Fault)) ⊎ (p ≡ enough limit (rows ++ found))
-IsPart limit rows r p = p ≡ part.Done r
+look_part s body limit rows = then_walk (look_walk s body) (λ x. ends (x.0, part_by limit rows x.1))
 
 -- the part of a range that lies in one region, where it is not empty, with the limit
 -- less the rows so far

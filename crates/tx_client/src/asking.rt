@@ -2,13 +2,13 @@
 ghost use Rattle.std.specs.Prelude.{◌≡◌};
 ghost use Rattle.tx_core.specs.Allowed.{Allowed};
 ghost use Rattle.tx_transaction.specs.Sessions.{lock_met};
-ghost use Rattle.tx_client.specs.Senders.{IsHeld, IsWay, Learns, came_by, came_of};
+ghost use Rattle.tx_journal.specs.Senders.{IsHeld, IsWay};
+ghost use Rattle.tx_client.specs.Learns.{Learns, came_by, came_of};
 ghost use Rattle.tx_client.specs.Facts.{CameSo};
 ghost use Rattle.tx_client.specs.Calls.{Asks};
 
-use crate::sender::{Lost, Sender};
 use tx_core::Body;
-use tx_journal::{AnswerWithLock, Naming, Reply, Request, Seat};
+use tx_journal::{AnswerWithLock, Lost, Naming, Reply, Request, Seat, Sender};
 use tx_transaction::Came;
 use tx_types::LockInfo;
 

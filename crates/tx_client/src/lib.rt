@@ -6,12 +6,10 @@ mod asking;
 mod order;
 mod part;
 mod resolved;
-mod sender;
 mod session;
 
 pub use asking::ask;
 pub use order::commits_above;
 pub use resolved::{Decision, Met, Resolved, Status, WaitCause};
-pub use sender::{Lost, Sender};
 pub use session::Session;
 pub use tx_transaction::{Came, Entry, Miss, Phase, Progress, Terms};

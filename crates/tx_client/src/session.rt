@@ -9,7 +9,7 @@ ghost use Rattle.tx_journal.specs.Known.{HasDrawn};
 ghost use Rattle.tx_transaction.specs.declared.state.Phase.TheVariants as phase;
 ghost use Rattle.tx_transaction.specs.Buffers.{touched, put_over, inserted, locked, buffered, not_empty, is_full, is_known};
 ghost use Rattle.tx_transaction.specs.Sessions.{begun, is_declared, has_primary, declaration, declaration_of, exceeds, lock_met, due_prewrite, due_commit, due_abort, can_draw, can_commit, can_abort};
-ghost use Rattle.tx_client.specs.Senders.{IsHeld, IsWay};
+ghost use Rattle.tx_journal.specs.Senders.{IsHeld, IsWay};
 ghost use Rattle.tx_client.specs.Walks.{Sends, due_walk, heartbeat_walk};
 ghost use Rattle.tx_client.specs.Facts.{CameSo, IsFor};
 ghost use Rattle.tx_client.specs.Calls.{seated, HasHeard, BeganAt, Records, Draws, RecordsDeclared, Asks};
@@ -20,11 +20,10 @@ mod next;
 mod reads;
 
 use crate::asking::{Heard, ask_with_lock};
-use crate::sender::Sender;
 use std::alloc::Global;
 use std::marker::{Brand, Model};
 use tx_core::{Answer, Body, Declaration};
-use tx_journal::{Naming, Reply, Request, Said, Seat, Told};
+use tx_journal::{Naming, Reply, Request, Said, Seat, Sender, Told};
 use tx_transaction::{Came, Due, Miss, Phase, Terms, Transaction};
 use tx_types::{Fault, Key, Mutation, Ts, Value};
 

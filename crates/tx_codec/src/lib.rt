@@ -14,4 +14,4 @@ mod writing;
 pub use key::{decode_key, decode_version, encode_key, encode_rest, encode_version};
 pub use order::{key_order, version_order};
 pub use records::{decode_lock, decode_write, encode_lock, encode_write};
-pub use writing::value_len;
+pub use writing::{append_keys, keys_len, value_len};

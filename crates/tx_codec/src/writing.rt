@@ -60,7 +60,7 @@ pub(crate) fn append_key(out: &mut Vec<u8>, key: &Key) -> Result<(), AllocError>
 
 /// The bytes that the number of the keys, and they, take, or the greatest number
 /// where they take more.
-pub(crate) fn keys_len(keys: &Secondaries) -> usize
+pub fn keys_len(keys: &Secondaries) -> usize
     ensures { result ≡ min (length (keys_bytes keys.now)) (2 ^ 64 - 1) }
 {
     let mut len: usize = 2;
@@ -71,7 +71,7 @@ pub(crate) fn keys_len(keys: &Secondaries) -> usize
 }
 
 /// Adds the number of the keys, and they, at the end.
-pub(crate) fn append_keys(out: &mut Vec<u8>, keys: &Secondaries) -> Result<(), AllocError>
+pub fn append_keys(out: &mut Vec<u8>, keys: &Secondaries) -> Result<(), AllocError>
     ensures { OnOk result (out.new.items ≡ out.old.items ++ keys_bytes keys.now) }
 {
     let keys = keys.as_slice();

@@ -1,9 +1,9 @@
 -- The status and the warning that an end gives.
 use Rattle.std.specs.Prelude.{ℕ, List, Result, Ok, Err, codes}
-use Rattle.tx_lines.specs.declared.end.End.{End}
-use Rattle.tx_lines.specs.declared.end.End.TheVariants.{Well, Faulted, No}
-use Rattle.tx_lines.specs.declared.end.Broken.{Broken}
-use Rattle.tx_lines.specs.declared.end.Broken.TheVariants.{Input, Output, Memory}
+use Rattle.tx_text.specs.declared.end.End.{End}
+use Rattle.tx_text.specs.declared.end.End.TheVariants.{Well, Faulted, No}
+use Rattle.tx_text.specs.declared.end.Broken.{Broken}
+use Rattle.tx_text.specs.declared.end.Broken.TheVariants.{Input, Output, Memory}
 
 -- the status that an end gives
 abbrev pub status : Result End Broken → ℕ

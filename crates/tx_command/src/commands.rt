@@ -20,6 +20,8 @@ pub enum Task {
     /// By so many workers; what is out of date for so many ticks is collected meanwhile.
     Run(usize, Option<u64>),
     Check,
+    /// Check, and after a no tell why.
+    CheckWithReason,
 }
 
 /// What the command line asks for.
@@ -44,6 +46,7 @@ fn task_of(name: &str, asked: &ArgMatches<'_>) -> Task {
         "simulate" if asked.get_flag("check") => Task::SimulateChecked,
         "simulate" if asked.get_flag("steps") => Task::SimulateSteps,
         "simulate" => Task::Simulate,
+        _ if asked.get_flag("why") => Task::CheckWithReason,
         _ => Task::Check,
     }
 }
@@ -79,9 +82,14 @@ fn file<'a>(alloc: Global) -> Arg<'a> {
 }
 
 fn check<'a>(alloc: Global) -> Result<Command<'a>, Error> {
+    let why = Arg::new(alloc, "why")
+        .long("why")
+        .action(ArgAction::SetTrue)
+        .help("Tells after a no why the machine does not make that step");
     let command = Command::new(alloc, "check")
         .about(help::CHECK_ABOUT)
         .after_help(help::CHECK_HELP)
+        .arg(why)?
         .arg(file(alloc))?;
     Ok(command)
 }

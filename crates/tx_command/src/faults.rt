@@ -10,7 +10,9 @@ use tx_types::Cause;
 /// How many faults are noted at most.
 pub const MAX_NOTED: usize = 16;
 
-// A fault's line is no longer: a number, two words and what stands between.
+// A fault's line is no shorter and no longer: a number, two words and what stands between.
+const MIN_FAULT_BYTES: usize = 17;
+
 const MAX_FAULT_BYTES: usize = 48;
 
 /// A fault: the number of its line, and its cause.
@@ -40,13 +42,20 @@ fn cause_of(word: &str) -> Option<Cause> {
     }
 }
 
-/// The fault that a line tells: `[number,"E16","cause"]`.
+// Whether a line has the length and the last bytes of a fault's, which few others have.
+#[inline(always)]
+fn ends_as_fault(line: &[u8]) -> bool {
+    matches!(line.len(), MIN_FAULT_BYTES..=MAX_FAULT_BYTES)
+        && matches!(line, [.., b'"', b']', b'\n'])
+}
+
+/// The fault that a line tells: `[number,"E16","cause"]` and a newline.
 pub fn fault_in(line: &[u8]) -> Option<Noted> {
-    if line.len() > MAX_FAULT_BYTES {
+    if !ends_as_fault(line) {
         return None;
     }
     let comma = memchr(b',', line)?;
-    if !line[comma..].starts_with(b",\"E16\",\"") {
+    if !matches!(&line[comma..], [b',', b'"', b'E', b'1', b'6', ..]) {
         return None;
     }
     let (number, rest) = str::from_utf8(line).ok()?.split_once(",\"E16\",\"")?;
@@ -74,6 +83,8 @@ impl<W> Noting<W> {
     }
 
     // Notes a fault, if there is room.
+    #[cold]
+    #[inline(never)]
     fn note(&mut self, line: &[u8])
         ensures { self.new.writer ≡ self.old.writer }
     {
@@ -92,8 +103,11 @@ impl<W> Noting<W> {
 impl<W: Write> Write for Noting<W> {
     ghost contents = { λ w. W.contents w.writer };
 
+    #[inline(always)]
     fn write(&mut self, buf: &[u8]) -> io::Result<usize> {
-        self.note(buf);
+        if ends_as_fault(buf) {
+            self.note(buf);
+        }
         self.writer.write(buf)
     }
 

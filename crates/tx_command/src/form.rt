@@ -157,6 +157,6 @@ pub(crate) fn form_of(task: Task, number: u64, word: &str) -> Option<Form> {
                 ..form
             }))
             .or_else(|| run_form(word)),
-        Task::Check => machine_form(word),
+        Task::Check | Task::CheckWithReason => machine_form(word),
     }
 }

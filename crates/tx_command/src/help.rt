@@ -83,7 +83,10 @@ pub(crate) static CHECK_HELP: &str = r#"A trace has one step a line, each a JSON
   ["scan",4,"a","m",9,[["a","x"]]]   A read of the keys from a up to m, of at most 9 rows
   ["answer",3,"committed",4]         It is told what became of it, also by ["answer",3,"aborted"]
 
+docs/SCRIPT.md has when the machine makes each step, and what --why tells.
+
 Examples:
   txkv check commit_then_read.trace   ["check","yes"], status 0
   txkv check lost_update.trace        ["check","no",10], the first line refused, status 3
+  txkv check --why lost_update.trace  The same, and ["why",10,"conflict",{"key":"a","other":2,"start":1,"committed":3}]
   echo '["draw"]' | txkv check        [1,"E16","form"], the first line that is no step, status 2"#;

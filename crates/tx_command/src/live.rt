@@ -19,6 +19,7 @@ impl<'a, W> Shared<'a, W> {
 }
 
 impl<W: Write> Write for Shared<'_, W> {
+    #[inline(always)]
     fn write(&mut self, buf: &[u8]) -> io::Result<usize> {
         match self.writer.try_borrow_mut() {
             Ok(mut writer) => writer.write(buf),

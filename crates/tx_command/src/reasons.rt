@@ -27,7 +27,7 @@ fn command_of(task: Task) -> &'static str {
     match task {
         Task::Simulate | Task::SimulateChecked | Task::SimulateSteps => "simulate",
         Task::Run(..) => "run",
-        Task::Check => "check",
+        Task::Check | Task::CheckWithReason => "check",
     }
 }
 
@@ -153,10 +153,10 @@ fn wrong_step(
     members: &[Value],
 ) -> Result<Option<String>, AllocError> {
     let Some(form) = form_of(task, number, word) else {
-        if word == "regions" && task != Task::Check {
+        let command = command_of(task);
+        if word == "regions" && command != "check" {
             return Ok(Some("only line 1 may say the regions".to_string(alloc)?));
         }
-        let command = command_of(task);
         return Ok(Some(format!(in alloc; "\"{word}\" is no step of txkv {command}")?));
     };
     if is_to_itself(word, members) {

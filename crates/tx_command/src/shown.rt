@@ -25,7 +25,7 @@ pub fn shown_at(job: Job<'_>, terminals: Terminals) -> Shown {
         return Shown::Prompts;
     }
     match job.task {
-        Task::Run(..) | Task::Check if terminals.error => Shown::Progress,
+        Task::Run(..) | Task::Check | Task::CheckWithReason if terminals.error => Shown::Progress,
         _ => Shown::Nothing,
     }
 }

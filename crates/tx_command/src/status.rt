@@ -2,7 +2,7 @@
 ghost use Rattle.std.specs.Prelude.{◌≡◌};
 ghost use Rattle.tx_command.specs.Status.{status, message};
 
-use tx_lines::{Broken, End};
+use tx_text::{Broken, End};
 
 /// 0 where all was well, 2 for a fault of the input or of the command line, 3 for a verdict of no,
 /// 4 where the command was broken off.

@@ -3,7 +3,7 @@ use clap::error::ErrorKind;
 use std::alloc::Global;
 use std::test::Fail;
 use tx_command::{Cells, Job, Task, job_of, message_of, parse, status_of};
-use tx_lines::{Broken, End};
+use tx_text::{Broken, End};
 
 // The words of a command line, the first of which is the program as a shell names it.
 fn words_of(alloc: Global, line: &str) -> Result<Vec<String>, Fail> {
@@ -18,7 +18,7 @@ fn words_of(alloc: Global, line: &str) -> Result<Vec<String>, Fail> {
 }
 
 // Command lines, the tasks that they ask for, and the files that those read.
-static JOBS: [(&str, Task, Option<&str>); 13] = [
+static JOBS: [(&str, Task, Option<&str>); 15] = [
     ("simulate", Task::Simulate, None),
     ("simulate -", Task::Simulate, None),
     ("simulate a.script", Task::Simulate, Some("a.script")),
@@ -28,6 +28,8 @@ static JOBS: [(&str, Task, Option<&str>); 13] = [
     ("simulate -- --check", Task::Simulate, Some("--check")),
     ("check", Task::Check, None),
     ("check dir/a.trace", Task::Check, Some("dir/a.trace")),
+    ("check --why", Task::CheckWithReason, None),
+    ("check a --why", Task::CheckWithReason, Some("a")),
     ("run --workers 1", Task::Run(1, None), None),
     ("run --workers=64 a", Task::Run(64, None), Some("a")),
     (
@@ -128,7 +130,7 @@ static FAULTS: [(&str, &str); 17] = [
     ),
     (
         "check a b",
-        "error: unexpected argument 'b' found\n\nUsage: txkv check [FILE]",
+        "error: unexpected argument 'b' found\n\nUsage: txkv check [OPTIONS] [FILE]",
     ),
     (
         "run",
@@ -238,12 +240,13 @@ The script is read whole. Its seeds run in the order of their lines, and then th
 const CHECK: &str =
     "Check a trace: is it a run of the machine that commits each transaction in one step?
 
-Usage: txkv check [FILE]
+Usage: txkv check [OPTIONS] [FILE]
 
 Arguments:
   [FILE]  The file to read; - or nothing is standard input
 
 Options:
+      --why   Tells after a no why the machine does not make that step
   -h, --help  Print help
 
 A trace has one step a line, each a JSON array:

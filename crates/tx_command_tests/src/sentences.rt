@@ -3,8 +3,8 @@ use std::alloc::Global;
 use std::test::Fail;
 use tx_check::check;
 use tx_command::{Noted, Task, reason, why};
-use tx_lines::{End, Parts};
 use tx_steps::{Line, Program};
+use tx_text::{End, Parts};
 use tx_types::Cause;
 
 // Lines of scripts that are faults, and why.

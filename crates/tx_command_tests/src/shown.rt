@@ -39,6 +39,10 @@ fn terminals_say_what_is_shown(rt: HostRuntime) {
         shown_at(job_of(Task::Check, Some("a")), typed),
         Shown::Progress
     );
+    assert_eq!(rt;
+        shown_at(job_of(Task::CheckWithReason, Some("a")), typed),
+        Shown::Progress
+    );
     let piped = terminals_of(false, false, true);
     assert_eq!(rt;
         shown_at(job_of(Task::Run(2, None), None), piped),

@@ -2,12 +2,12 @@
 use std::cell::{Cell, RefCell};
 use std::fmt::Display;
 use std::io;
-use std::io::{BufReader, ErrorKind, Read, Write};
+use std::io::{ErrorKind, Read, Write};
 use std::test::Fail;
 use tx_command::{
     Asking, Counted, Erasing, Noted, Noting, Progress, Recent, Shared, Steps, fault_in,
 };
-use tx_lines::{Found, read_line};
+use tx_text::{Found, read_line};
 use tx_types::Cause;
 
 // A writer that holds back what it is given until it is flushed.
@@ -151,12 +151,12 @@ fn lines_at_hand_are_kept(rt: HostRuntime) -> Result<(), Fail> {
             bytes: text.as_bytes(),
             most,
         };
-        let mut reader = BufReader::with_capacity(rt.alloc(), 5, Recent::new(rt.alloc(), crumbs))?;
+        let mut reader = Recent::with_block(rt.alloc(), 5, crumbs)?;
         let mut line = Vec::new(rt.alloc());
         for (number, wanted) in [(1, "ab"), (2, ""), (3, "cdefghij"), (4, "k"), (5, "lm")] {
             assert_eq!(rt; read_line(&mut reader, &mut line)?, Found::Line);
             assert_eq!(rt; line.as_slice(), wanted.as_bytes());
-            let kept = reader.get_ref().line(number);
+            let kept = reader.line(number);
             assert_eq!(rt;
                 kept,
                 Some(wanted.as_bytes()),
@@ -164,8 +164,9 @@ fn lines_at_hand_are_kept(rt: HostRuntime) -> Result<(), Fail> {
             );
         }
         assert_eq!(rt; read_line(&mut reader, &mut line)?, Found::End);
-        assert_eq!(rt; reader.get_ref().line(0), None);
-        assert_eq!(rt; reader.get_ref().line(6), None);
+        assert_eq!(rt; reader.line(0), None);
+        assert_eq!(rt; reader.line(5), Some(b"lm".as_slice()));
+        assert_eq!(rt; reader.line(6), None);
     }
     Ok(())
 }

@@ -1,30 +1,22 @@
-//! The lock that a prewrite asks for.
-ghost use Rattle.std.specs.Prelude.{◌≡◌, IfOk, IfErr};
-ghost use Rattle.tx_codec.specs.Records.{AreOthers, IsMode, IsStorable, IsLock};
+//! The lock that a prewrite asks for, written from what it asks: no record of it is made.
+ghost use Rattle.std.specs.Int.{w16, w32, w64, to_be_bytes};
+ghost use Rattle.std.specs.Prelude.{◌≡◌, ◌++◌, ◌∷◌, ◌<◌, ◌^◌, length, IfOk, IfErr, OnOk};
+ghost use Rattle.tx_types.specs.Kinds.{stored_kind};
+ghost use Rattle.tx_codec.specs.Records.{AreOthers, IsMode, IsStorable, IsLock, kind_byte, value_bytes, lock_bytes};
 ghost use Rattle.tx_cells.specs.Afterwards.{stored_of, apart_of, mode_put, lock_put};
 
-use crate::records::LockBytes;
-use std::alloc::Global;
+use crate::records::{APART, ASYNC, DELETE, INLINE, LOCK, LockBytes, PUT, TWO_PHASE};
+use std::alloc::{AllocError, Global};
+use tx_codec::{append_keys, keys_len};
 use tx_plan::{NewLock, Prewrite};
 use tx_types::limits::MAX_INLINE_BYTES;
-use tx_types::{
-    Fault, LockMode, LockRec, Mode, Mutation, Secondaries, StoredMutation, StoredValue, Value,
-};
+use tx_types::{Fault, Mode, Mutation, Secondaries, Ts, Value};
 
-/// What a record keeps of a mutation.
-fn stored(mutation: &Mutation) -> Result<StoredMutation, Fault>
-    ensures ok { IfOk result (λ stored. stored ≡ stored_of mutation.now) }
-    ensures err { IfErr result (λ e. e ≡ Fault.OutOfMemory) }
-{
-    match mutation {
-        Mutation::Put(value) => Ok(StoredMutation::Put(value.stored()?)),
-        Mutation::Insert(value) => Ok(StoredMutation::Put(value.stored()?)),
-        Mutation::Delete => Ok(StoredMutation::Delete),
-        Mutation::Lock => Ok(StoredMutation::Lock),
-    }
-}
+/// The bytes of a lock up to its primary: its kind, its mode, its start, its minimum, its time to
+/// live, and the length of the primary.
+const FRONT: usize = 24;
 
-/// The value that is kept apart from the record.
+/// The value that is kept apart.
 pub fn apart(mutation: &Mutation) -> Result<Option<Value>, Fault>
     ensures ok { IfOk result (λ value. value ≡ apart_of mutation.now) }
     ensures err { IfErr result (λ e. e ≡ Fault.OutOfMemory) }
@@ -40,37 +32,6 @@ pub fn apart(mutation: &Mutation) -> Result<Option<Value>, Fault>
     }
 }
 
-/// How the lock's transaction commits.
-fn mode(body: &Prewrite, new: NewLock) -> Result<LockMode, Fault>
-    ensures ok { IfOk result (λ mode. mode ≡ mode_put body.now new) }
-    ensures err { IfErr result (λ e. e ≡ Fault.OutOfMemory) }
-{
-    match new.mode {
-        Mode::TwoPhase => Ok(LockMode::TwoPhase),
-        Mode::Async => Ok(LockMode::Async(body.others.clone()?)),
-    }
-}
-
-/// The record of the lock that a prewrite asks for.
-fn lock_record(body: &Prewrite, new: NewLock) -> Result<LockRec, Fault>
-    ensures ok { IfOk result (λ rec. rec ≡ lock_put body.now new) }
-    ensures err { IfErr result (λ e. e ≡ Fault.OutOfMemory) }
-{
-    let NewLock { min, .. } = new;
-    let (start, ttl) = (body.start, body.ttl);
-    let mutation = stored(&body.mutation)?;
-    let mode = mode(body, new)?;
-    let primary = body.primary.clone()?;
-    Ok(LockRec {
-        mutation,
-        mode,
-        start,
-        min,
-        ttl,
-        primary,
-    })
-}
-
 /// For proofs: the other keys of a transaction are as few and as long as its lock may list.
 fn others_fit(others: &Secondaries)
     ensures { AreOthers others.now }
@@ -81,34 +42,119 @@ fn others_fit(others: &Secondaries)
     }
 }
 
-/// For proofs: so are those of a lock's mode.
-fn mode_fits(mode: &LockMode)
-    ensures { IsMode mode.now }
+/// For proofs: so are those that the lock lists.
+fn mode_fits(body: &Prewrite, new: &NewLock)
+    ensures { IsMode (mode_put body.now new.now) }
 {
-    if let LockMode::Async(others) = mode {
-        others_fit(others);
+    match new.mode {
+        Mode::TwoPhase => {}
+        Mode::Async => others_fit(&body.others),
     }
 }
 
-/// For proofs: an inline value is short.
-fn mutation_fits(mutation: &StoredMutation)
-    ensures { IsStorable mutation.now }
+/// For proofs: a value that the lock keeps is short.
+fn mutation_fits(mutation: &Mutation)
+    ensures { IsStorable (stored_of mutation.now) }
 {
-    if let StoredMutation::Put(StoredValue::Inline(value)) = mutation {
-        let _within = value.as_value();
+    if let Mutation::Put(value) | Mutation::Insert(value) = mutation {
+        if value.as_bytes().len() > MAX_INLINE_BYTES {
+            return;
+        }
     }
 }
 
-/// For proofs: a lock record is within the limits of its types.
-fn fits(rec: &LockRec)
-    ensures { IsLock rec.now }
+/// For proofs: the lock is within the limits of its types.
+fn fits(body: &Prewrite, new: &NewLock)
+    ensures { IsLock (lock_put body.now new.now) }
 {
-    let _start = rec.start.get();
-    let _min = rec.min.get();
-    let _ttl = rec.ttl;
-    let _primary = rec.primary.as_bytes();
-    mode_fits(&rec.mode);
-    mutation_fits(&rec.mutation);
+    let _start = body.start.get();
+    let _min = new.min.get();
+    let _ttl = body.ttl;
+    let _primary = body.primary.as_bytes();
+    mode_fits(body, new);
+    mutation_fits(&body.mutation);
+}
+
+/// The byte of what the lock does to its key.
+fn kind_of(mutation: &Mutation) -> u8
+    ensures { result ≡ kind_byte (stored_kind (stored_of mutation.now)) }
+{
+    match mutation {
+        Mutation::Put(_) | Mutation::Insert(_) => PUT,
+        Mutation::Delete => DELETE,
+        Mutation::Lock => LOCK,
+    }
+}
+
+/// How many bytes the lock keeps of the value, which stand at its end.
+fn kept_len(mutation: &Mutation) -> usize
+    ensures len { result ≡ length (value_bytes (stored_of mutation.now)) }
+    ensures small { result < 2 ^ 17 }
+{
+    match mutation {
+        Mutation::Put(value) | Mutation::Insert(value) => {
+            let len = value.as_bytes().len();
+            if len > MAX_INLINE_BYTES {
+                return 1;
+            }
+            2 + len
+        }
+        Mutation::Delete | Mutation::Lock => 0,
+    }
+}
+
+/// Adds what the lock keeps of the value at the end.
+fn append_kept(out: &mut Vec<u8>, mutation: &Mutation) -> Result<(), AllocError>
+    ensures { OnOk result (out.new.items ≡ out.old.items ++ value_bytes (stored_of mutation.now)) }
+{
+    match mutation {
+        Mutation::Put(value) | Mutation::Insert(value) => {
+            let value = value.as_bytes();
+            if value.len() > MAX_INLINE_BYTES {
+                out.push(APART)?;
+                return Ok(());
+            }
+            out.extend_from_slice(&[INLINE, value.len() as u8])?;
+            out.extend_from_slice(value)?;
+        }
+        Mutation::Delete | Mutation::Lock => {}
+    }
+    Ok(())
+}
+
+/// The bytes of the lock up to its primary.
+fn front(body: &Prewrite, mode: u8, min: Ts) -> [u8; FRONT]
+    ensures { result ≡ kind_byte (stored_kind (stored_of body.now.mutation)) ∷ mode ∷ to_be_bytes w64 body.now.start ++ to_be_bytes w64 min ++ to_be_bytes w32 body.now.ttl ++ to_be_bytes w16 (length body.now.primary) }
+{
+    let kind = kind_of(&body.mutation);
+    let [s0, s1, s2, s3, s4, s5, s6, s7] = body.start.get().to_be_bytes();
+    let [m0, m1, m2, m3, m4, m5, m6, m7] = min.get().to_be_bytes();
+    let [t0, t1, t2, t3] = body.ttl.to_be_bytes();
+    let [l0, l1] = (body.primary.as_bytes().len() as u16).to_be_bytes();
+    [
+        kind, mode, s0, s1, s2, s3, s4, s5, s6, s7, m0, m1, m2, m3, m4, m5, m6, m7, t0, t1, t2, t3,
+        l0, l1,
+    ]
+}
+
+/// The bytes of the lock, in memory that has room for them at once.
+fn written(alloc: Global, body: &Prewrite, new: &NewLock) -> Result<Vec<u8>, AllocError>
+    ensures { IfOk result (λ bytes. bytes.items ≡ lock_bytes (lock_put body.now new.now)) }
+{
+    let (mode, len) = match new.mode {
+        Mode::TwoPhase => (TWO_PHASE, 0),
+        Mode::Async => (ASYNC, keys_len(&body.others)),
+    };
+    let primary = body.primary.as_bytes();
+    let fixed = FRONT + primary.len() + kept_len(&body.mutation);
+    let mut out = Vec::with_capacity(alloc, len.saturating_add(fixed))?;
+    out.extend_from_slice(&front(body, mode, new.min))?;
+    out.extend_from_slice(primary)?;
+    if let Mode::Async = new.mode {
+        append_keys(&mut out, &body.others)?;
+    }
+    append_kept(&mut out, &body.mutation)?;
+    Ok(out)
 }
 
 /// The bytes of the lock that a prewrite asks for.
@@ -116,7 +162,8 @@ pub fn lock_bytes(alloc: Global, body: &Prewrite, new: NewLock) -> Result<LockBy
     ensures ok { IfOk result (λ bytes. bytes ≡ lock_put body.now new) }
     ensures err { IfErr result (λ e. e ≡ Fault.OutOfMemory) }
 {
-    let rec = lock_record(body, new)?;
-    fits(&rec);
-    LockBytes::new(alloc, &rec)
+    fits(body, &new);
+    let bytes = written(alloc, body, &new)?;
+    let value = bytes.len() - kept_len(&body.mutation);
+    Ok(LockBytes { bytes, value })
 }

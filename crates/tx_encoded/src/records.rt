@@ -17,19 +17,25 @@ use std::marker::Model;
 use tx_codec::{decode_lock, decode_write, encode_lock, encode_write, value_len};
 use tx_types::{Fault, LockKind, LockRec, Mode, Text, Ts, Value, WriteRec};
 
-/// The byte of a put, and of a delete.
-const PUT: u8 = 0x50;
+/// The byte of a put, of a delete, and of a lock that changes nothing.
+pub(crate) const PUT: u8 = 0x50;
 
-const DELETE: u8 = 0x44;
+pub(crate) const DELETE: u8 = 0x44;
+
+pub(crate) const LOCK: u8 = 0x4c;
 
 /// The byte of a rollback.
 const ROLLBACK: u8 = 0x52;
 
-/// The byte of a two-phase lock.
-const TWO_PHASE: u8 = 0;
+/// The byte of a two-phase lock, and of an async one.
+pub(crate) const TWO_PHASE: u8 = 0;
 
-/// The byte of a value that is kept apart.
-const APART: u8 = 0;
+pub(crate) const ASYNC: u8 = 1;
+
+/// The byte of a value that is kept apart, and of one that follows behind its length.
+pub(crate) const APART: u8 = 0;
+
+pub(crate) const INLINE: u8 = 1;
 
 /// The bytes of a commit record before what it keeps of its value: its kind, its
 /// mark and its start.
@@ -130,8 +136,8 @@ impl WriteBytes {
 /// A lock record, as its bytes, and where what it keeps of its value begins.
 #[derive(Drop)]
 pub struct LockBytes {
-    bytes: Vec<u8>,
-    value: usize,
+    pub(crate) bytes: Vec<u8>,
+    pub(crate) value: usize,
     ghost rec: { (rec : LockRec) × SpellsLock bytes.items rec } by { one_locked bytes.items },
     ghost place: { (rec : LockRec) → SpellsLock bytes.items rec → HasValueAt value bytes.items rec },
 }

@@ -183,14 +183,23 @@ impl Drop for KeyBytes {
 
 impl KeyBytes {
     /// The bytes of this key.
+    #[inline(always)]
     pub fn new(alloc: Global, key: &Key) -> Result<KeyBytes, AllocError>
         ensures { IfOk result (λ bytes. bytes ≡ key.now) }
     {
-        let bytes = key.as_bytes();
-        if bytes.len() < GROUP {
+        if key.as_bytes().len() < GROUP {
             return Ok(KeyBytes::short(key));
         }
-        if bytes.len() < 2 * GROUP {
+        KeyBytes::longer(alloc, key)
+    }
+
+    // The bytes of a key that is not shorter than a group.
+    #[inline(never)]
+    fn longer(alloc: Global, key: &Key) -> Result<KeyBytes, AllocError>
+        requires { GROUP ≤ length key.now }
+        ensures { IfOk result (λ bytes. bytes ≡ key.now) }
+    {
+        if key.as_bytes().len() < 2 * GROUP {
             return Ok(KeyBytes::middling(key));
         }
         KeyBytes::long(alloc, key)

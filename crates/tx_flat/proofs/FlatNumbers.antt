@@ -1,5 +1,5 @@
 -- What changes of the maps of numbers make of the numbers of keys.
-use Rattle.std.proofs.Common.{◌≡◌, ◌≢◌, ◌<◌, ◌≤◌, ◌==◌, ℕ, zero, suc, List, [], ◌∷◌, ◌++◌, length, map, get_or, set, ◌⊎◌, inl, inr, true, false, cond, bytes_eq, Option, Some, None, refl, sym, ap, subst, ◌∙◌}
+use Rattle.std.proofs.Common.{◌≡◌, ◌≢◌, ◌<◌, ◌≤◌, ◌==◌, ℕ, zero, suc, List, [], ◌∷◌, ◌++◌, length, map, get_or, set, ◌⊎◌, inl, inr, true, false, cond, bytes_eq, Option, Some, refl, sym, ap, subst, ◌∙◌}
 use Rattle.std.proofs.lemmas.Bool.{cases_Bool, eqb-true, eq-eqb}
 use Rattle.std.proofs.lemmas.Slice.Eq.{bytes_eq-Decides}
 use Rattle.std.proofs.lemmas.List.{map-append, map-set, length-map, length-set, get_or-set_same, get_or-set_other, get_or-map, get_or_past}
@@ -24,6 +24,10 @@ number_put old new j key number is put k =
       | inl same ↦ ap number_or_none (here ∙ ap (λ b. cond b (Some number) (old k)) same) ∙ ap (λ b. cond b number (number_or_none (old k))) (sym (sym (key_is key k) ∙ same))
       | inr other ↦ ap number_or_none (here ∙ ap (λ b. cond b (Some number) (old k)) other) ∙ ap (λ b. cond b number (number_or_none (old k))) (sym (sym (key_is key k) ∙ other))
     ]
+
+-- maps of the same entries have the same numbers
+pub same_numbers : (m n : BTreeMap Key ℕ) → m.entries ≡ n.entries → numbers_in m ≡ numbers_in n
+same_numbers m n e = λ i q. number_or_none (lookup (tree.is_at (slice_cmp nat_cmp q)) (e i))
 
 -- ---- numbers in several maps, each key's in the one of its place
 

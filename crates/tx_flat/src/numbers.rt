@@ -1,6 +1,6 @@
 //! The number that is noted of each key. It is noted before the change, so that only its growth may
 //! be refused, and noted back where the change is refused.
-ghost use Rattle.std.specs.Prelude.{◌≡◌, ◌≤◌, length, IsSome, IfOk, IfErr, OnOk, OnErr, Some};
+ghost use Rattle.std.specs.Prelude.{◌≡◌, ◌≤◌, length, IsSome, IfSome, IfNone, IfOk, IfErr, OnOk, OnErr, Some};
 ghost use Rattle.std.specs.BTreeMap as tree;
 ghost use Rattle.std.specs.Ordering.{nat_cmp};
 ghost use Rattle.std.specs.Cmp.Lexicographic.{slice_cmp};
@@ -45,7 +45,52 @@ struct Earlier {
     before: u64,
 }
 
-// Notes a number of a key in the map of this place.
+// Notes a number of a key in place of the one that is noted of it, which is told: `None` where none
+// is.
+fn note_over(numbers: &mut BTreeMap<KeyBytes, u64>, key: &KeyBytes, number: u64) -> Option<u64>
+    ensures noted { IfSome result (λ before. (k : Key) → numbers_in numbers.new k ≡ noted (numbers_in numbers.old) key.now number k) }
+    ensures before { IfSome result (λ before. before ≡ numbers_in numbers.old key.now) }
+    ensures there { IfSome result (λ before. IsSome (tree.get (slice_cmp nat_cmp) numbers.new key.now)) }
+    ensures same { IfNone result (numbers.new.entries ≡ numbers.old.entries) }
+{
+    match numbers.get_mut(key) {
+        Some(noted) => {
+            let before = *noted;
+            *noted = number;
+            Some(before)
+        }
+        None => None,
+    }
+}
+
+// Notes the first number of a key, which is spelt already, in the map of this place.
+#[inline(never)]
+fn note_first(
+    numbers: &mut BTreeMap<KeyBytes, u64>,
+    alloc: Global,
+    place: usize,
+    key: &Key,
+    spelt: KeyBytes,
+    number: u64,
+) -> Result<Earlier, Fault>
+    requires { spelt ≡ key.now }
+    ensures noted { OnOk result ((k : Key) → numbers_in numbers.new k ≡ noted (numbers_in numbers.old) key.now number k) }
+    ensures before { IfOk result (λ x. (x.key ≡ key.now) × (x.before ≡ numbers_in numbers.old key.now)) }
+    ensures there { OnOk result (IsSome (tree.get (slice_cmp nat_cmp) numbers.new key.now)) }
+    ensures place { IfOk result (λ x. x.place ≡ place) }
+    ensures same { OnErr result ((k : Key) → numbers_in numbers.new k ≡ numbers_in numbers.old k) }
+    ensures err { IfErr result (λ e. e ≡ Fault.OutOfMemory) }
+{
+    let again = KeyBytes::new(alloc, key)?;
+    let before = numbers.insert(spelt, number)?;
+    Ok(Earlier {
+        place,
+        key: again,
+        before: before.unwrap_or(0),
+    })
+}
+
+// Notes a number of a key in the map of this place. Mostly one is noted of it already.
 fn note_in(
     numbers: &mut BTreeMap<KeyBytes, u64>,
     alloc: Global,
@@ -61,13 +106,14 @@ fn note_in(
     ensures err { IfErr result (λ e. e ≡ Fault.OutOfMemory) }
 {
     let spelt = KeyBytes::new(alloc, key)?;
-    let again = KeyBytes::new(alloc, key)?;
-    let before = numbers.insert(spelt, number)?;
-    Ok(Earlier {
-        place,
-        key: again,
-        before: before.unwrap_or(0),
-    })
+    match note_over(numbers, &spelt, number) {
+        Some(before) => Ok(Earlier {
+            place,
+            key: spelt,
+            before,
+        }),
+        None => note_first(numbers, alloc, place, key, spelt, number),
+    }
 }
 
 // Notes a number of a key.

@@ -2,7 +2,8 @@
 //! seats have in their type, and deals the seats.
 ghost use Rattle.std.specs.Prelude.{◌≡◌, ℕ, ◌+◌, ◌<◌, ◌≤◌, [], IfOk, IfErr, OnOk, vec_len, slice_get, Some, length};
 ghost use Rattle.tx_types.specs.declared.fault.Fault.TheVariants as fault;
-ghost use Rattle.tx_journal.specs.Known.{known, AreRising};
+ghost use Rattle.tx_journal.specs.Known.{known};
+ghost use Rattle.tx_types.specs.Keys.{AreRising};
 
 use crate::seat::Seat;
 use crate::view::{Deal, Home, Law, Layout, Naming, Token, View, WORDS};
@@ -126,7 +127,7 @@ impl<J: Naming> Model for Journal<J> {
     ghost use Rattle.std.specs.Prelude.{◌≡◌, ◌<◌, List, length};
     ghost use Rattle.std.specs.Arc.{arc_value};
     ghost use Rattle.tx_types.specs.declared.key.Key.{Key};
-    ghost use Rattle.tx_journal.specs.Known.{AreRising};
+    ghost use Rattle.tx_types.specs.Keys.{AreRising};
 
     ghost Value = { List Key };
 

@@ -28,6 +28,7 @@ mod journal;
 mod reply;
 mod request;
 mod seat;
+mod sender;
 mod told;
 mod view;
 
@@ -36,5 +37,6 @@ pub use journal::{Journal, Opened};
 pub use reply::Reply;
 pub use request::Request;
 pub use seat::Seat;
+pub use sender::{Lost, Sender};
 pub use told::{Told, Unnamed};
 pub use view::{Naming, Said};

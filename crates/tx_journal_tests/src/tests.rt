@@ -4,7 +4,8 @@ ghost use Rattle.tx_plan.specs.declared.body.Body.TheVariants as asks;
 ghost use Rattle.tx_core.specs.declared.event.Event.TheVariants.{Began};
 ghost use Rattle.tx_core.specs.Histories.{began};
 ghost use Rattle.tx_core.specs.Recording.{MayRecord};
-ghost use Rattle.tx_journal.specs.Known.{AreRising, HasRecorded};
+ghost use Rattle.tx_journal.specs.Known.{HasRecorded};
+ghost use Rattle.tx_types.specs.Keys.{AreRising};
 
 use std::alloc::Global;
 use std::marker::Brand;

@@ -3,7 +3,7 @@ use Rattle.std.proofs.Common.{◌≡◌, ◌⊎◌, ℕ, ◌-◌, ◌<◌, ◌�
 use Rattle.std.proofs.lemmas.Bool.{cases_Bool, ltb-true, ltb-false}
 use Rattle.tx_types.specs.declared.key.Key.{Key}
 use Rattle.tx_types.specs.declared.mutation.KeyValue.{KeyValue}
-use Rattle.tx_types.specs.Keys.{key_lt, key_le, is_between}
+use Rattle.tx_types.specs.Keys.{key_lt, key_le, is_between, AreRising}
 use Rattle.tx_plan.specs.declared.body.Body.{Body}
 use Rattle.tx_plan.specs.declared.body.Body.TheVariants as body
 use Rattle.tx_plan.specs.declared.answer.Answer.{Answer}
@@ -15,7 +15,7 @@ use Rattle.tx_core.specs.Shadow.{shadow}
 use Rattle.tx_core.specs.Worlds.{IsWorldRun}
 use Rattle.tx_core.proofs.seats.Beginnings.{begins_all, begins_more, extends_begins}
 use Rattle.tx_core.proofs.seats.Staying.{among_on}
-use Rattle.tx_journal.specs.Known.{Known, AreRising}
+use Rattle.tx_journal.specs.Known.{Known}
 use Rattle.tx_journal.specs.Replies.{Asked, Given}
 use Rattle.tx_transaction.specs.declared.state.Came.{Came}
 use Rattle.tx_transaction.specs.declared.state.Came.TheVariants as came
@@ -23,8 +23,9 @@ use Rattle.tx_transaction.specs.declared.state.Miss.{Miss}
 use Rattle.tx_transaction.specs.declared.state.Miss.TheVariants as miss
 use Rattle.tx_transaction.specs.Sessions.{State, scan_of, after_read}
 use Rattle.tx_transaction.specs.Returns.{read}
-use Rattle.tx_client.specs.Senders.{Reached, came_by, came_of, IsWay, Learns}
-use Rattle.tx_client.specs.Walks.{Walk, asks, grows, ends, then_walk, Sends, look_part, part_after, part_walk, enough, scan_after, scan_from, scan_walk, lesser, greater}
+use Rattle.tx_journal.specs.Senders.{Reached, IsWay}
+use Rattle.tx_client.specs.Learns.{came_by, came_of, Learns}
+use Rattle.tx_client.specs.Walks.{Walk, asks, grows, ends, then_walk, Sends, look_part, part_by, part_walk, enough, scan_after, scan_from, scan_walk, lesser, greater}
 use Rattle.tx_client.specs.Facts.{WasAnswered, CameSo}
 use Rattle.tx_client.proofs.Calling.{came_told}
 use Rattle.tx_laws.specs.Scans.{scan_at, SeesWhole}
@@ -134,7 +135,7 @@ module _ {S : Type 0} (sends : S → Asked → Reached → S → Type 0) (bounds
 
     -- what follows of what came
     abbrev follows : Came → Walk (State × Result Answer Miss)
-    follows c = then_walk (part_after (after_read s c) limit rows (read c)) (λ x. scan_after x.0 x.1 on)
+    follows c = scan_after (after_read s c) (part_by limit rows (read c)) on
 
     joined : (then_known : Known) (mid : S) (found : List KeyValue) (t : State) → t.start ≡ s.start → WasAnswered then_known.events asked (answer.Rows found)
         → Sends sends bounds then_known mid (scan_after t (enough limit (rows ++ found)) on) (after, Ok (answer.Rows all)) b new → PartGives
@@ -146,10 +147,7 @@ module _ {S : Type 0} (sends : S → Asked → Reached → S → Type 0) (bounds
     ]
 
     by_answer : (then_known : Known) (mid : S) (x : Answer) → WasAnswered then_known.events asked x → Sends sends bounds then_known mid (follows (came.Said x)) (after, Ok (answer.Rows all)) b new → PartGives
-    by_answer then_known mid (answer.Rows found) told sent = elim sent [
-      | inl short ↦ absurd (missed_end after (after_read s (came.Said (answer.Rows found))) all miss.Fault short.0)
-      | inr more ↦ joined then_known mid found (after_read s (came.Said (answer.Rows found))) refl told more
-    ]
+    by_answer then_known mid (answer.Rows found) told sent = joined then_known mid found (after_read s (came.Said (answer.Rows found))) refl told sent
     by_answer then_known mid x told sent = absurd (other_end after (after_read s (came.Said x)) all x refl sent.0)
 
     by_reply : (then_known : Known) (mid : S) (o : Option Answer) → CameSo then_known.events asked (came_by o) → Sends sends bounds then_known mid (follows (came_by o)) (after, Ok (answer.Rows all)) b new → PartGives

@@ -11,7 +11,7 @@ use Rattle.tx_core.specs.Worlds.{IsWorldRun}
 use Rattle.tx_journal.specs.Known.{Known}
 use Rattle.tx_journal.specs.Replies.{Asked}
 use Rattle.tx_transaction.specs.Sessions.{State}
-use Rattle.tx_client.specs.Senders.{Reached}
+use Rattle.tx_journal.specs.Senders.{Reached}
 use Rattle.tx_client.specs.Walks.{Sends, scan_walk}
 
 -- a scan of a range by a session that started at a number, and its rows

@@ -1,10 +1,9 @@
 //! The rows of a session's scan over all regions.
-ghost use Rattle.tx_journal.specs.Known.{AreRising};
-ghost use Rattle.tx_client.specs.Senders.{IsWay};
+ghost use Rattle.tx_types.specs.Keys.{AreRising};
+ghost use Rattle.tx_journal.specs.Senders.{IsWay};
 ghost use Rattle.tx_laws.specs.Scans.{SeesWhole};
 
-use tx_client::Sender;
-use tx_journal::{Naming, Reply, Request};
+use tx_journal::{Naming, Reply, Request, Sender};
 
 /// Where a session's scan over all regions comes to rows, they are the first `limit` keys of its
 /// whole range that a read at its start sees: the regions' parts, each read with the limit less the

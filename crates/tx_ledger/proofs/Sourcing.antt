@@ -7,9 +7,9 @@ use Rattle.std.proofs.lemmas.Bool.{cases_lt, lt-ltb}
 use Rattle.std.proofs.Math.Seq.{get_or-append_seam}
 use Rattle.serde_json.specs.Data.{Data}
 use Rattle.tx_types.specs.declared.key.Key.{Key}
-use Rattle.tx_lines.specs.Lines.{lines_of, max_line, max_lines, Reads}
-use Rattle.tx_lines.specs.Parts.{json_of}
-use Rattle.tx_lines.specs.declared.lines.Found.TheVariants.{Line, Long}
+use Rattle.tx_text.specs.Lines.{lines_of, max_line, max_lines, Reads}
+use Rattle.tx_text.specs.Parts.{json_of}
+use Rattle.tx_text.specs.declared.lines.Found.TheVariants.{Line, Long}
 use Rattle.tx_types.specs.declared.fault.Cause.{Cause}
 use Rattle.tx_types.specs.declared.fault.Cause.TheVariants as causes
 use Rattle.tx_core.specs.declared.event.Outcome.{Outcome}

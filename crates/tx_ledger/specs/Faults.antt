@@ -5,7 +5,7 @@ use Rattle.serde_json.specs.Data.{Data}
 use Rattle.tx_types.specs.declared.fault.Cause.{Cause}
 use Rattle.tx_types.specs.declared.fault.Cause.TheVariants.{Form, Sessions}
 use Rattle.tx_types.specs.declared.limits.TheConstants.{MAX_LIVE_SESSIONS}
-use Rattle.tx_lines.specs.Lines.{lines_of}
+use Rattle.tx_text.specs.Lines.{lines_of}
 use Rattle.tx_steps.specs.declared.program.Program.TheVariants.{Run}
 use Rattle.tx_steps.specs.Lines.{data_said, step_in, bounds_in}
 

@@ -2,9 +2,10 @@
 use Rattle.std.specs.Prelude.{ℕ, List, Result, Ok, Err}
 use Rattle.serde_json.specs.Data.{Items}
 use Rattle.tx_types.specs.declared.fault.Cause.{Cause}
-use Rattle.tx_lines.specs.declared.reply.Reply.TheVariants as line
-use Rattle.tx_lines.specs.Replies.{reply_words, reply_text}
-use Rattle.tx_lines.specs.Faults.{fault_words}
+use Rattle.tx_reply.specs.declared.reply.Reply.TheVariants as line
+use Rattle.tx_reply.specs.Replies.{reply_words}
+use Rattle.tx_text.specs.Members.{reply_text}
+use Rattle.tx_text.specs.Faults.{fault_words}
 use Rattle.tx_ledger.specs.declared.words.Words.{Words}
 use Rattle.tx_ledger.specs.declared.reply.Reply.{Reply}
 use Rattle.tx_ledger.specs.declared.reply.Reply.TheVariants.{Said, Ended}

@@ -3,7 +3,7 @@ use Rattle.std.specs.Prelude.{◌≡◌, ℕ, ◌-◌, List, slice_get, IfSome, 
 use Rattle.serde_json.specs.Data.{Data}
 use Rattle.tx_types.specs.declared.fault.Cause.{Cause}
 use Rattle.tx_types.specs.declared.key.Key.{Key}
-use Rattle.tx_lines.specs.Lines.{lines_of}
+use Rattle.tx_text.specs.Lines.{lines_of}
 use Rattle.tx_steps.specs.declared.program.Program.TheVariants.{Run}
 use Rattle.tx_steps.specs.Steps.{Asked, transfer}
 use Rattle.tx_steps.specs.Lines.{data_said, step_in}

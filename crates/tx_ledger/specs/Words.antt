@@ -1,7 +1,7 @@
 -- Replies that say an outcome.
 use Rattle.std.specs.Prelude.{Bool, true, false}
-use Rattle.tx_lines.specs.declared.reply.Reply.{Reply}
-use Rattle.tx_lines.specs.declared.reply.Reply.TheVariants.{Ended}
+use Rattle.tx_reply.specs.declared.reply.Reply.{Reply}
+use Rattle.tx_reply.specs.declared.reply.Reply.TheVariants.{Ended}
 
 -- a reply that says an outcome
 abbrev pub says_outcome : Reply → Bool

@@ -5,7 +5,8 @@ ghost use Rattle.tx_ledger.specs.Lines.{line_of};
 use crate::words::Words;
 use std::alloc::AllocError;
 use tx_core::Outcome;
-use tx_lines::{put_fault, put_reply};
+use tx_reply::put_reply;
+use tx_text::put_fault;
 use tx_types::{Cause, Key, Ts};
 
 /// What a line is answered.
@@ -33,7 +34,7 @@ pub fn put_line(out: &mut Vec<u8>, spoken: &Spoken) -> Result<(), AllocError>
         Reply::Said(Ok(words)) => put_reply(out, spoken.number, words.reply()),
         Reply::Said(Err(cause)) => put_fault(out, spoken.number, *cause),
         Reply::Ended(_, outcome, _) => {
-            put_reply(out, spoken.number, &tx_lines::Reply::Ended(*outcome))
+            put_reply(out, spoken.number, &tx_reply::Reply::Ended(*outcome))
         }
     }
 }

@@ -14,8 +14,8 @@ use std::collections::BTreeMap;
 use std::io::BufRead;
 use std::marker::PhantomData;
 use tx_client::Phase;
-use tx_lines::{Broken, Found, Parts, read_line};
 use tx_steps::{Action, Line, Program, Request, Step};
+use tx_text::{Broken, Found, Parts, read_line};
 use tx_types::limits::MAX_LIVE_SESSIONS;
 use tx_types::{Cause, Key, is_name};
 

@@ -2,7 +2,7 @@
 ghost use Rattle.std.specs.Prelude.{◌≡◌, false};
 ghost use Rattle.tx_ledger.specs.Words.{says_outcome};
 
-use tx_lines::Reply;
+use tx_reply::Reply;
 
 /// A reply that says no outcome.
 pub struct Words {

@@ -8,8 +8,8 @@ use Rattle.tx_transaction.specs.declared.state.Phase.TheVariants as phase
 use Rattle.tx_client.specs.Calls.{Seated}
 use Rattle.tx_transaction.specs.Sessions.{is_declared, has_primary, due_prewrite, due_commit, due_abort, can_commit, can_abort}
 use Rattle.tx_client.specs.Walks.{Sends, due_walk, heartbeat_walk, get_walk, scan_walk}
-use Rattle.tx_lines.specs.declared.reply.Reply.{Reply}
-use Rattle.tx_lines.specs.declared.reply.Reply.TheVariants as reply
+use Rattle.tx_reply.specs.declared.reply.Reply.{Reply}
+use Rattle.tx_reply.specs.declared.reply.Reply.TheVariants as reply
 use Rattle.tx_post.specs.Posts.{Course, Desk, stage_of, IsSet, Passes}
 use Rattle.tx_play.specs.Scenes.{Scene, Turn, goes, calls, is_key, runs_to, read_by, said_by, gets, scans, prewrites, commits, aborts, beats}
 use Rattle.tx_play.specs.Plays.{Leads}

@@ -8,9 +8,9 @@ use Rattle.tx_types.specs.declared.key.Key.{Key}
 use Rattle.tx_plan.specs.declared.answer.Answer.{Answer}
 use Rattle.tx_journal.specs.Known.{Known}
 use Rattle.tx_journal.specs.Replies.{Asked, Given}
-use Rattle.tx_client.specs.Senders.{came_by}
-use Rattle.tx_lines.specs.declared.reply.Reply.{Reply}
-use Rattle.tx_lines.specs.declared.reply.Reply.TheVariants as reply
+use Rattle.tx_client.specs.Learns.{came_by}
+use Rattle.tx_reply.specs.declared.reply.Reply.{Reply}
+use Rattle.tx_reply.specs.declared.reply.Reply.TheVariants as reply
 use Rattle.tx_post.specs.Posts.{Desk, region_for, made_by, Hands, request_at, IsTraced, stage_of}
 use Rattle.tx_play.specs.Steps.{deliver}
 use Rattle.tx_play.specs.Scenes.{Place, goes, delivered_by, delivers, turn}

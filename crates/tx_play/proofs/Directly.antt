@@ -3,7 +3,8 @@ use Rattle.std.proofs.Common.{◌≡◌, inl, inr, List, Some, Ok, Err, refl, ap
 use Rattle.tx_types.specs.declared.key.Key.{Key}
 use Rattle.tx_journal.specs.Known.{Known}
 use Rattle.tx_journal.specs.Replies.{Asked}
-use Rattle.tx_client.specs.Senders.{Reached, IsHeld, IsWay, LosesNothing, came_by, came_of}
+use Rattle.tx_journal.specs.Senders.{Reached, IsHeld, IsWay, LosesNothing}
+use Rattle.tx_client.specs.Learns.{came_by, came_of}
 use Rattle.tx_client.specs.Walks.{Walk, asks, grows, ends, Sends}
 use Rattle.tx_post.specs.declared.way.Way.TheVariants.{Plain}
 use Rattle.tx_post.specs.Posts.{Desk, made_by, Passes, stage_of, Met, Runs}

@@ -13,8 +13,8 @@ use Rattle.tx_transaction.specs.Buffers.{Entries, is_full}
 use Rattle.tx_client.specs.Calls.{Seated, seated}
 use Rattle.tx_transaction.specs.Sessions.{State, is_declared, exceeds, declaration, can_draw}
 use Rattle.tx_client.specs.Walks.{Walk, Sends}
-use Rattle.tx_lines.specs.declared.reply.Reply.{Reply}
-use Rattle.tx_lines.specs.declared.reply.Reply.TheVariants as reply
+use Rattle.tx_reply.specs.declared.reply.Reply.{Reply}
+use Rattle.tx_reply.specs.declared.reply.Reply.TheVariants as reply
 use Rattle.tx_post.specs.Posts.{Course, Desk, Stage, stage_of, with_events, IsSet, Passes, may_go}
 use Rattle.tx_play.specs.Scenes.{session, Scene, Turn, goes, stops, calls, at_stage, seat_at, with_session, declared_in, placed_in, placed, runs_to, enters, entered_by, declares, draws, drew, is_too_many, deeds_by, deeds}
 use Rattle.tx_play.specs.Steps.{Deed, course_of}

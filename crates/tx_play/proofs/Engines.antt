@@ -23,8 +23,8 @@ use Rattle.tx_transaction.specs.declared.state.Came.{Came}
 use Rattle.tx_client.specs.Calls.{Seated}
 use Rattle.tx_transaction.specs.Sessions.{begun, finish_of}
 use Rattle.tx_play.specs.declared.places.Slot.TheVariants.{Free, Live, Lent}
-use Rattle.tx_lines.specs.declared.reply.Reply.{Reply}
-use Rattle.tx_lines.specs.declared.reply.Reply.TheVariants as reply
+use Rattle.tx_reply.specs.declared.reply.Reply.{Reply}
+use Rattle.tx_reply.specs.declared.reply.Reply.TheVariants as reply
 use Rattle.tx_types.specs.Names.{is_name}
 use Rattle.tx_post.specs.Posts.{Desk, stage_of, with_events, Met}
 use Rattle.tx_play.specs.Steps.{Deed, Call, begin, acts, finish, stop, read, tick}

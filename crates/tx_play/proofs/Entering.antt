@@ -10,8 +10,8 @@ use Rattle.tx_types.specs.declared.mutation.Mutation.TheVariants as mutation
 use Rattle.tx_transaction.specs.Buffers.{Entries, is_full, touched, put_over, inserted, buffered, locked}
 use Rattle.tx_client.specs.Calls.{Seated, seated}
 use Rattle.tx_transaction.specs.Sessions.{State, is_declared}
-use Rattle.tx_lines.specs.declared.reply.Reply.{Reply}
-use Rattle.tx_lines.specs.declared.reply.Reply.TheVariants as reply
+use Rattle.tx_reply.specs.declared.reply.Reply.{Reply}
+use Rattle.tx_reply.specs.declared.reply.Reply.TheVariants as reply
 use Rattle.tx_post.specs.Posts.{Desk}
 use Rattle.tx_play.specs.Scenes.{Scene, Turn, goes, stops, is_key, is_value, changes, enters, entered_by, puts, inserts_by, inserts, deletes, locks}
 use Rattle.tx_play.specs.Places.{Did}

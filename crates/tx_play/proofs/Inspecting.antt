@@ -9,8 +9,8 @@ use Rattle.tx_cells.specs.Copies.{Copies}
 use Rattle.tx_core.specs.Histories.{left}
 use Rattle.tx_core.specs.Worlds.{route}
 use Rattle.tx_core.proofs.seats.Beginnings.{begins_length, begins_whole}
-use Rattle.tx_lines.specs.declared.reply.Reply.{Reply}
-use Rattle.tx_lines.specs.declared.reply.Reply.TheVariants as reply
+use Rattle.tx_reply.specs.declared.reply.Reply.{Reply}
+use Rattle.tx_reply.specs.declared.reply.Reply.TheVariants as reply
 use Rattle.tx_post.specs.Posts.{Desk, stage_of, made_by, Displays}
 use Rattle.tx_play.specs.Scenes.{Scene, goes, shows, is_key, Place, inspects, turn}
 use Rattle.tx_play.specs.Steps.{versions}

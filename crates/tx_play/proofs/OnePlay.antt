@@ -8,7 +8,7 @@ use Rattle.tx_core.specs.Histories.{History, Begins, last, left}
 use Rattle.tx_core.specs.Worlds.{IsWorldRun, route}
 use Rattle.tx_core.proofs.seats.Beginnings.{run_beginning}
 use Rattle.tx_core.proofs.unique.OneAnswer.{one_answer}
-use Rattle.tx_lines.specs.declared.reply.Reply.{Reply}
+use Rattle.tx_reply.specs.declared.reply.Reply.{Reply}
 use Rattle.tx_post.specs.Posts.{region_for}
 use Rattle.tx_play.specs.Scenes.{Scene, Turn, goes, inquires, shows, stops}
 use Rattle.tx_play.specs.Plays.{Leads}

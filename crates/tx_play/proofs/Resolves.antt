@@ -17,8 +17,8 @@ use Rattle.tx_client.specs.Statuses.{Found, lies_above}
 use Rattle.tx_resolve.specs.declared.collector.Counts.{Counts}
 use Rattle.tx_resolve.specs.Reading.{read_walk}
 use Rattle.tx_resolve.specs.Collecting.{gc_walk}
-use Rattle.tx_lines.specs.declared.reply.Reply.{Reply}
-use Rattle.tx_lines.specs.declared.reply.Reply.TheVariants as reply
+use Rattle.tx_reply.specs.declared.reply.Reply.{Reply}
+use Rattle.tx_reply.specs.declared.reply.Reply.TheVariants as reply
 use Rattle.tx_play.specs.declared.places.Slot.TheVariants.{Live, Lent}
 use Rattle.tx_post.specs.declared.way.Way.TheVariants.{Plain}
 use Rattle.tx_post.specs.Posts.{Desk, made_by, stage_of, Runs}

@@ -9,7 +9,7 @@ use Rattle.tx_client.specs.Calls.{Seated}
 use Rattle.tx_transaction.specs.Sessions.{State}
 use Rattle.tx_client.specs.Walks.{Walk, asks, grows, ends, Sends}
 use Rattle.tx_post.specs.declared.way.Way.TheVariants.{Plain, Lose, LoseReply, Repeat, Hold}
-use Rattle.tx_lines.specs.declared.reply.Reply.{Reply}
+use Rattle.tx_reply.specs.declared.reply.Reply.{Reply}
 use Rattle.tx_post.specs.Posts.{Course, Desk, Stage, stage_of, IsSet, takes_memory, Passes, Met, Reach, Runs}
 use Rattle.tx_play.specs.Scenes.{session, Scene, Turn, goes, stops, at_stage, seat_at, with_session, is_refused, later_of, answers, asked, sent, runs, runs_to}
 use Rattle.tx_play.specs.Plays.{Leads}

@@ -19,8 +19,8 @@ use Rattle.tx_client.specs.declared.resolved.WaitCause.TheVariants as wait
 use Rattle.tx_client.specs.Statuses.{Found, lies_above}
 use Rattle.tx_play.specs.declared.places.Slot.{Slot}
 use Rattle.tx_play.specs.declared.places.Slot.TheVariants.{Free, Live, Lent}
-use Rattle.tx_lines.specs.declared.reply.Reply.{Reply}
-use Rattle.tx_lines.specs.declared.reply.Reply.TheVariants as replies
+use Rattle.tx_reply.specs.declared.reply.Reply.{Reply}
+use Rattle.tx_reply.specs.declared.reply.Reply.TheVariants as replies
 use Rattle.tx_post.specs.Posts.{Desk, stage_of, Stage, made_by, IsDone, AreNumbered, IsTraced, GoesOnWith, KeptAs, NotesDrawn}
 use Rattle.tx_play.specs.Steps.{Call, Deed}
 use Rattle.tx_play.specs.Scenes.{Place, free, session, Scene, Turn, stops, seat_at, deeds, resolves, delivers, inspects, turn}

@@ -4,7 +4,7 @@ use Rattle.tx_types.specs.declared.fault.Cause.{Cause}
 use Rattle.tx_types.specs.declared.key.Key.{Key}
 use Rattle.tx_plan.specs.declared.answer.Answer.{Answer}
 use Rattle.tx_cells.specs.declared.copies.KeyCopy.{KeyCopy}
-use Rattle.tx_lines.specs.declared.reply.Reply.{Reply}
+use Rattle.tx_reply.specs.declared.reply.Reply.{Reply}
 use Rattle.tx_post.specs.Posts.{MayAnswerSo, MayShowSo}
 use Rattle.tx_play.specs.Scenes.{Scene, Turn, goes, inquires, shows, stops}
 

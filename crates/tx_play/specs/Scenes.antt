@@ -37,8 +37,8 @@ use Rattle.tx_resolve.specs.declared.collector.Counts.{Counts}
 use Rattle.tx_resolve.specs.Reading.{read_walk}
 use Rattle.tx_resolve.specs.Collecting.{gc_walk}
 use Rattle.tx_post.specs.declared.way.Way.TheVariants.{Plain, Lose, LoseReply, Repeat, Hold}
-use Rattle.tx_lines.specs.declared.reply.Reply.{Reply}
-use Rattle.tx_lines.specs.declared.reply.Reply.TheVariants as reply
+use Rattle.tx_reply.specs.declared.reply.Reply.{Reply}
+use Rattle.tx_reply.specs.declared.reply.Reply.TheVariants as reply
 use Rattle.tx_types.specs.Names.{is_name}
 use Rattle.tx_post.specs.Posts.{Course, Stage, with_events, taken, holding, takes_memory, may_go, is_crowded}
 use Rattle.tx_play.specs.Steps.{Deed, put, insert, delete, lock, get, scan, declare, prewrite, draw, commit, abort, heartbeat, course_of, Call, begin, acts, finish, stop, resolve, deliver, read, versions, tick, gc}

@@ -11,9 +11,9 @@ ghost use Rattle.tx_play.specs.Scenes.{collected_as as collected_so, refused_as 
 
 use crate::step::Reply;
 use tx_cells::Families;
-use tx_client::{Lost, Resolved, Sender, Session, Status, WaitCause};
+use tx_client::{Resolved, Session, Status, WaitCause};
 use tx_core::Answer;
-use tx_journal::{Naming, Request, Seat, Told};
+use tx_journal::{Lost, Naming, Request, Seat, Sender, Told};
 use tx_post::Post;
 use tx_resolve::{Counts, gc, resolve};
 use tx_types::{Cause, Fault, Key, LockInfo, Ts};
@@ -41,7 +41,7 @@ impl<J: Naming, F: Families + Drop> Drop for Direct<J, F> {
 
 impl<J: Naming, F: Families> Sender<Request<J>, tx_journal::Reply<J>> for Direct<J, F> {
     ghost use Rattle.std.specs.Prelude.{Some};
-    ghost use Rattle.tx_client.specs.Senders.{IsHeld};
+    ghost use Rattle.tx_journal.specs.Senders.{IsHeld};
     ghost use Rattle.tx_post.specs.declared.way.Way.TheVariants.{Plain};
     ghost use Rattle.tx_post.specs.Posts.{Passes};
 

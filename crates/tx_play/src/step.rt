@@ -1,6 +1,6 @@
 //! Steps, and what they give.
-pub use tx_lines::Reply;
 use tx_post::Way;
+pub use tx_reply::Reply;
 use tx_types::{Mode, Ts};
 
 /// What a live session does, over the text of its line. Keys and values stand for their UTF-8

@@ -10,7 +10,7 @@ use Rattle.std.proofs.lemmas.Map.Text.{is_eq-slice_cmp}
 use Rattle.tx_types.specs.declared.key.Key.{Key}
 use Rattle.tx_core.proofs.Basics.{some_same}
 use Rattle.tx_journal.specs.Replies.{Asked}
-use Rattle.tx_client.specs.Senders.{IsHeld}
+use Rattle.tx_journal.specs.Senders.{IsHeld}
 use Rattle.tx_post.specs.Posts.{requests, request_at, body_at, AllFit}
 use Rattle.tx_post.proofs.Stages.{some_body}
 

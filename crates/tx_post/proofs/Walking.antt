@@ -11,7 +11,8 @@ use Rattle.tx_journal.specs.Known.{Known}
 use Rattle.tx_journal.specs.Replies.{Asked, Given}
 use Rattle.tx_transaction.specs.declared.state.Came.{Came}
 use Rattle.tx_transaction.specs.declared.state.Came.TheVariants as came
-use Rattle.tx_client.specs.Senders.{Reached, IsHeld, IsWay, came_by, came_of, Learns}
+use Rattle.tx_journal.specs.Senders.{Reached, IsHeld, IsWay}
+use Rattle.tx_client.specs.Learns.{came_by, came_of, Learns}
 use Rattle.tx_client.specs.Walks.{Walk, asks, grows, ends, Sends}
 use Rattle.tx_post.specs.declared.way.Way.TheVariants.{Plain, Lose, LoseReply, Repeat, Hold}
 use Rattle.tx_post.specs.Posts.{Course, Desk, region_for, made_by, made_for, TakesBy, Hands, IsUntaken, NotesTaken, IsTraced, Passes, stage_of, Met, MetHold, Reach, Runs}

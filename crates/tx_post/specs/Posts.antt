@@ -29,7 +29,7 @@ use Rattle.tx_post.specs.declared.way.Way.{Way}
 use Rattle.tx_post.specs.declared.way.Way.TheVariants.{Plain, Lose, LoseReply, Repeat, Hold}
 use Rattle.tx_transaction.specs.declared.state.Came.{Came}
 use Rattle.tx_transaction.specs.declared.state.Came.TheVariants as came
-use Rattle.tx_client.specs.Senders.{Reached, IsHeld}
+use Rattle.tx_journal.specs.Senders.{Reached, IsHeld}
 use Rattle.tx_client.specs.Walks.{Walk, asks, grows, ends}
 
 -- what becomes of a request, with what another name is of its hold

@@ -9,7 +9,7 @@ ghost use Rattle.tx_types.specs.Names.{is_name as name_test};
 ghost use Rattle.tx_core.specs.Worlds.{Holds, route};
 ghost use Rattle.tx_journal.specs.Known.{Known};
 ghost use Rattle.tx_journal.specs.Replies.{Asked, Given};
-ghost use Rattle.tx_client.specs.Senders.{IsHeld};
+ghost use Rattle.tx_journal.specs.Senders.{IsHeld};
 ghost use Rattle.tx_post.specs.declared.way.Way.TheVariants as ways;
 ghost use Rattle.tx_post.specs.Posts.{AreNumbered, AllFit, region_for, by_name, IsSet, request_at, Hands, Twice, IsUntaken, HeldUnder, IsDone, stage_of, may_go, is_crowded};
 
@@ -22,9 +22,8 @@ use std::alloc::Global;
 use std::collections::BTreeMap;
 use std::marker::Model;
 use tx_cells::Families;
-use tx_client::{Lost, Sender};
 use tx_core::{Answer, Body};
-use tx_journal::{Journal, Naming, Reply, Request, Seat, Told};
+use tx_journal::{Journal, Lost, Naming, Reply, Request, Seat, Sender, Told};
 use tx_region::{Region, route};
 use tx_trace::Trace;
 use tx_types::limits::MAX_HELD_REQUESTS;
@@ -336,7 +335,7 @@ impl<J: Naming, F: Families + Drop> Post<J, F> {
 }
 
 impl<J: Naming, F: Families> Sender<Request<J>, Reply<J>> for Post<J, F> {
-    ghost use Rattle.tx_client.specs.Senders.{IsHeld};
+    ghost use Rattle.tx_journal.specs.Senders.{IsHeld};
     ghost use Rattle.tx_post.specs.Posts.{Passes};
 
     ghost fits = { λ a q. IsHeld J.bounds q.body };
@@ -358,7 +357,7 @@ impl<J: Naming, F: Families> Sender<Request<J>, Reply<J>> for Post<J, F> {
 }
 
 impl<J: Naming, F: Families> Post<J, F> {
-    ghost use Rattle.tx_client.specs.Senders.{IsHeld};
+    ghost use Rattle.tx_journal.specs.Senders.{IsHeld};
     ghost use Rattle.tx_post.specs.Posts.{Passes};
 
     // Sends a request by the way that is set. Few go otherwise than plainly, so it stands apart.

@@ -9,9 +9,8 @@ use Rattle.std.proofs.lemmas.Cmp.{ranked}
 use Rattle.std.proofs.Math.ListN.{get_or-append}
 use Rattle.std.proofs.Math.Seq.{get_or-append_seam}
 use Rattle.tx_types.specs.declared.key.Key.{Key}
-use Rattle.tx_types.specs.Keys.{key_le}
+use Rattle.tx_types.specs.Keys.{key_le, AreRising}
 use Rattle.tx_core.specs.Worlds.{route}
-use Rattle.tx_journal.specs.Known.{AreRising}
 use Rattle.tx_region.specs.KeyFronts.{spelt, front, AreBytes, Tells, TellsUpto}
 use Rattle.tx_region.proofs.Routes.{not_le, le_trans, rise, parted, count_at}
 

@@ -5,12 +5,11 @@ use Rattle.std.specs.List.Sorted.{IsPartitionedBy, IsPartitionPoint}
 use Rattle.std.proofs.lemmas.Bool.{cases_Bool}
 use Rattle.std.proofs.lemmas.List.Sums.{count_by-le-length, sum_by-cons}
 use Rattle.tx_types.specs.declared.key.Key.{Key}
-use Rattle.tx_types.specs.Keys.{key_lt, key_le}
+use Rattle.tx_types.specs.Keys.{key_lt, key_le, AreRising}
 use Rattle.tx_plan.specs.declared.body.Scan.{Scan}
 use Rattle.tx_plan.specs.Reads.{in_range}
 use Rattle.tx_plan.proofs.KeyOrder.{ordered, le_lt, lt_trans, lt_itself, lt_le, le_itself, le_cases, lt_then_le}
 use Rattle.tx_core.specs.Worlds.{route}
-use Rattle.tx_journal.specs.Known.{AreRising}
 
 and_true : (p q : Bool) → IsTrue p → IsTrue q → IsTrue (p && q)
 and_true p q a b = rw (a, b) refl

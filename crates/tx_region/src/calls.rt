@@ -1,4 +1,4 @@
-//! The calls of a region by name, and the call that picks one by what is asked.
+//! The calls of a region by name, and the call that answers whatever is asked.
 ghost use Rattle.std.specs.Prelude.{◌≡◌, IfSome, IfNone, IsSome};
 ghost use Rattle.tx_core.specs.Worlds.{Holds};
 ghost use Rattle.tx_journal.specs.Known.{HasSeen};
@@ -8,7 +8,6 @@ ghost use Rattle.tx_region.specs.Taking.{Answered};
 
 use crate::region::Region;
 use tx_cells::Families;
-use tx_core::Body;
 use tx_journal::{Naming, Reply, Request};
 
 impl<J: Naming, F: Families> Region<J, F> {
@@ -180,19 +179,6 @@ impl<J: Naming, F: Families> Region<J, F> {
         ensures always { TakesNoMemory request.body → IsSome result.answer }
         ensures refused { IfNone result.answer (HasSeen J.bounds self.old.seat self.old.events self.new.events) }
     {
-        match request.body() {
-            Body::Get(_) => self.get(request),
-            Body::Scan(_) => self.scan(request),
-            Body::Prewrite(_) => self.prewrite(request),
-            Body::Commit(_) => self.commit(request),
-            Body::BatchRollback(_) => self.batch_rollback(request),
-            Body::TxnHeartBeat(_) => self.txn_heart_beat(request),
-            Body::CheckTxnStatus(_) => self.check_txn_status(request),
-            Body::CheckSecondaryLocks(_) => self.check_secondary_locks(request),
-            Body::ResolveLock(_) => self.resolve_lock(request),
-            Body::RaiseSafe(_) => self.raise_safe(request),
-            Body::LocksBelow(_) => self.locks_below(request),
-            Body::Collect(_) => self.collect(request),
-        }
+        self.answer(request)
     }
 }

@@ -49,7 +49,7 @@ pub(crate) fn key_of(body: &Body) -> &Key
 
 /// What a region that looks like this copy makes of a request of one key, where its seat loaded
 /// this.
-#[inline(never)]
+#[inline(always)]
 pub(crate) fn plan(view: KeyView, numbers: &Numbers, loaded: &Loaded, body: &Body) -> Planned
     requires room { (loaded.now.last < u64.MAX) × (loaded.now.mark < u64.MAX) }
     requires seen { (region : Region) × LooksLike region body.now view numbers.now }

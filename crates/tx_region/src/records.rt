@@ -168,7 +168,7 @@ impl<F: Families> Records<F> {
     }
 
     /// What a request of one key sees of it.
-    #[inline(never)]
+    #[inline(always)]
     pub(crate) fn view(&self, body: &Body) -> Result<KeyView, Fault>
         requires { IsOfKey body.now }
         ensures ok { IfOk result (λ view. Sees (region_of F.content self.now 0).cells body.now view) }
@@ -310,7 +310,7 @@ impl<F: Families> Records<F> {
 
     /// Carries out a plan for a request of a region that is as the plan takes for granted.
     /// `OutOfMemory` leaves all as it was.
-    #[inline(never)]
+    #[inline(always)]
     pub(crate) fn make(&mut self, body: &Body, planned: Planned) -> Result<Executed, Fault>
         requires of_key { IsOfKey body.now }
         requires may { MayMake body.now ((region_of F.content self.old 0).cells (key_in body.now)) planned.change }

@@ -264,6 +264,7 @@ fn record_taken<J: Naming>(
 
 // Records that the region of this seat, which loaded `loaded`, answered a request so, and replies
 // it.
+#[inline(always)]
 fn reply_done<J: Naming>(
     seat: &mut Seat<J>,
     request: Request<J>,
@@ -374,6 +375,7 @@ impl<J: Naming, F: Families> Region<J, F> {
 
     // Answers a request that it holds, and records that it did, by one event; where memory is
     // refused it does neither. RaiseSafe takes none.
+    #[inline(always)]
     pub(crate) fn answer(&mut self, mut request: Request<J>) -> Reply<J>
         requires holds { Holds J.bounds self.old.seat request.body }
         ensures request { result.request ≡ request }

@@ -3,7 +3,7 @@ ghost use Rattle.std.specs.Prelude.{◌≡◌, ◌↔◌, ◌-◌, ◌<◌, ◌�
 ghost use Rattle.tx_types.specs.declared.fault.Fault.TheVariants.{OutOfMemory};
 ghost use Rattle.tx_plan.specs.declared.body.Body.TheVariants as request;
 ghost use Rattle.tx_core.specs.Worlds.{Holds, route};
-ghost use Rattle.tx_journal.specs.Known.{AreRising};
+ghost use Rattle.tx_types.specs.Keys.{AreRising};
 ghost use Rattle.tx_region.specs.KeyFronts.{AreBytes, AreFronts, front};
 
 use std::alloc::Global;

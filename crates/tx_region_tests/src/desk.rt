@@ -1,14 +1,13 @@
 //! A way to one region, on which a request may be planned of a copy while others are taken.
 ghost use Rattle.std.specs.Prelude.{◌≡◌, ◌≤◌, [], IfSome, length};
-ghost use Rattle.tx_client.specs.Senders.{IsWay};
+ghost use Rattle.tx_journal.specs.Senders.{IsWay};
 
 use crate::table_tests::shown::{NOTHING, Short, answered};
 use std::alloc::Global;
 use std::mem::replace;
 use tx_cells::Fresh;
-use tx_client::{Lost, Sender};
 use tx_core::{Body, Collect, RaiseSafe, RegionNo};
-use tx_journal::{Journal, Naming, Reply, Request, Seat};
+use tx_journal::{Journal, Lost, Naming, Reply, Request, Seat, Sender};
 use tx_region::{Applied, Region, is_of_key};
 use tx_types::{Fault, Key, Ts};
 

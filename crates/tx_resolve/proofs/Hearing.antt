@@ -20,7 +20,8 @@ use Rattle.tx_journal.specs.Known.{Known}
 use Rattle.tx_journal.specs.Replies.{Asked}
 use Rattle.tx_transaction.specs.declared.state.Came.{Came}
 use Rattle.tx_transaction.specs.declared.state.Came.TheVariants as came
-use Rattle.tx_client.specs.Senders.{Reached, LosesNothing, came_by, came_of}
+use Rattle.tx_journal.specs.Senders.{Reached, LosesNothing}
+use Rattle.tx_client.specs.Learns.{came_by, came_of}
 use Rattle.tx_client.specs.Facts.{WasAnswered, CameSo}
 use Rattle.tx_client.specs.Calls.{Asks}
 use Rattle.tx_resolve.specs.Collecting.{listed_by}

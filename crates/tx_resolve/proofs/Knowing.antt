@@ -13,7 +13,8 @@ use Rattle.tx_journal.specs.Known.{Known}
 use Rattle.tx_journal.specs.Replies.{Asked}
 use Rattle.tx_journal.proofs.Calls.{seen_begins}
 use Rattle.tx_transaction.specs.declared.state.Came.{Came}
-use Rattle.tx_client.specs.Senders.{Reached, came_of, Learns}
+use Rattle.tx_journal.specs.Senders.{Reached}
+use Rattle.tx_client.specs.Learns.{came_of, Learns}
 use Rattle.tx_client.specs.Walks.{Walk, asks, grows, ends, Sends}
 use Rattle.tx_client.specs.Calls.{Asks}
 use Rattle.tx_resolve.specs.Facts.{Knows}

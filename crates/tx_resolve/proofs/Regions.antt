@@ -8,7 +8,7 @@ use Rattle.tx_types.specs.declared.lock.LockInfo.{LockInfo}
 use Rattle.tx_journal.specs.Known.{Known}
 use Rattle.tx_journal.specs.Replies.{Asked}
 use Rattle.tx_client.specs.declared.resolved.Status.{Status}
-use Rattle.tx_client.specs.Senders.{Reached}
+use Rattle.tx_journal.specs.Senders.{Reached}
 use Rattle.tx_client.specs.Walks.{Walk, Sends, Continues}
 use Rattle.tx_client.proofs.Looking.{sent_then}
 use Rattle.tx_resolve.specs.declared.found.For.TheVariants.{Collector}

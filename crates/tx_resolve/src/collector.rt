@@ -11,16 +11,16 @@ ghost use Rattle.std.specs.Prelude.{◌≡◌, ◌≤◌, length, Contains, IfOk
 ghost use Rattle.tx_types.specs.declared.lock.LockInfo.{LockInfo as Info};
 ghost use Rattle.tx_core.specs.Laws.{WasToldOf};
 ghost use Rattle.tx_core.specs.Worlds.{IsWorldRun};
-ghost use Rattle.tx_client.specs.Senders.{IsWay, LosesNothing};
+ghost use Rattle.tx_journal.specs.Senders.{IsWay, LosesNothing};
 ghost use Rattle.tx_client.specs.Walks.{Sends};
 ghost use Rattle.tx_resolve.specs.Collecting.{added, raised_by, listed_by, dropped_by, collected_by, raise_walk, raises_walk, list_walk, locks_walk, clear_walk, clears_walk, collect_walk, collects_walk, gc_walk};
 ghost use Rattle.tx_resolve.specs.Facts.{IsToRaise, IsToList, IsToDrop, IsToCollect};
 
 use crate::found::For;
 use crate::resolver::resolve_for;
-use tx_client::{Came, Sender, ask};
+use tx_client::{Came, ask};
 use tx_core::{Answer, Body, Collect, Infos, LocksBelow, RaiseSafe, RegionNo};
-use tx_journal::{Naming, Reply, Request, Seat};
+use tx_journal::{Naming, Reply, Request, Seat, Sender};
 use tx_types::{Fault, LockInfo, Ts};
 
 /// What a collection dropped, as far as 64 bits count it.

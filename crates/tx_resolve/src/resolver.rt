@@ -5,16 +5,16 @@ ghost use Rattle.tx_machine.specs.Machine.{Done};
 ghost use Rattle.tx_core.specs.Allowed.{Allowed};
 ghost use Rattle.tx_core.specs.Decisions.{decided, HasTwoPhaseLock};
 ghost use Rattle.tx_core.specs.Laws.{WasToldOf};
-ghost use Rattle.tx_client.specs.Senders.{IsWay};
+ghost use Rattle.tx_journal.specs.Senders.{IsWay};
 ghost use Rattle.tx_client.specs.Statuses.{Ends};
 ghost use Rattle.tx_client.specs.Walks.{Sends};
 ghost use Rattle.tx_resolve.specs.Resolving.{check_of, other_of, settle_of, primary_walk, settle_walk, other_walk, others_walk, after_forced, forced_walk, after_others, expired_walk, after_primary, resolve_walk};
 ghost use Rattle.tx_resolve.specs.Facts.{Knows, IsPrimarysLock, IsPrimary, IsOthers, IsOther};
 
 use crate::found::{For, Other, Others, Primary, other_by, primary_by, settled_by};
-use tx_client::{Resolved, Sender, Status, WaitCause, ask};
+use tx_client::{Resolved, Status, WaitCause, ask};
 use tx_core::{Body, CheckSecondaryLocks, CheckTxnStatus, ResolveLock};
-use tx_journal::{Naming, Reply, Request, Seat};
+use tx_journal::{Naming, Reply, Request, Seat, Sender};
 use tx_types::{Fate, Fault, Key, LockInfo, Ts};
 
 // The check of a lock's primary.

@@ -8,7 +8,7 @@ use Rattle.std.proofs.lemmas.List.{map_more, map-append, take-map}
 use Rattle.std.proofs.lemmas.Grind.{flat_map-append}
 use Rattle.tx_core.specs.Worlds.{IsWorldRun}
 use Rattle.tx_journal.specs.Known.{Seen}
-use Rattle.tx_lines.specs.Output.{AppendsPart}
+use Rattle.tx_text.specs.Output.{AppendsPart}
 use Rattle.tx_ledger.specs.declared.reply.Spoken.{Spoken}
 use Rattle.tx_ledger.specs.Outcomes.{TellsOutcomes}
 use Rattle.tx_ledger.specs.Sources.{TellsPair}

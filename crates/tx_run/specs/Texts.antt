@@ -9,12 +9,12 @@ use Rattle.tx_types.specs.declared.fault.Cause.{Cause}
 use Rattle.tx_core.specs.declared.event.Outcome.TheVariants as outcome
 use Rattle.tx_core.specs.Worlds.{IsWorldRun}
 use Rattle.tx_journal.specs.Known.{Seen}
-use Rattle.tx_lines.specs.declared.end.End.{End}
-use Rattle.tx_lines.specs.declared.end.End.TheVariants.{Faulted, Well}
-use Rattle.tx_lines.specs.Faults.{fault_words}
-use Rattle.tx_lines.specs.Output.{AppendsPart}
-use Rattle.tx_lines.specs.Replies.{reply_text}
-use Rattle.tx_lines.specs.Texts.{line_text}
+use Rattle.tx_text.specs.declared.end.End.{End}
+use Rattle.tx_text.specs.declared.end.End.TheVariants.{Faulted, Well}
+use Rattle.tx_text.specs.Faults.{fault_words}
+use Rattle.tx_text.specs.Output.{AppendsPart}
+use Rattle.tx_text.specs.Members.{reply_text}
+use Rattle.tx_text.specs.Texts.{line_text}
 use Rattle.tx_ledger.specs.declared.balance.TheConstants.{BALANCES}
 use Rattle.tx_ledger.specs.declared.reply.Reply.{Reply}
 use Rattle.tx_ledger.specs.declared.reply.Reply.TheVariants.{Said, Ended}

@@ -7,7 +7,7 @@ use itoa::Buffer;
 use std::alloc::AllocError;
 use tx_core::Outcome;
 use tx_ledger::{BALANCES, Reply, Spoken};
-use tx_lines::put_number;
+use tx_text::put_number;
 use tx_work::Total;
 
 /// How many lines are told each outcome.

@@ -18,7 +18,7 @@ use tx_core::Answer;
 use tx_journal::{Naming, Seat};
 use tx_latch::Slot;
 use tx_ledger::{Entry, Log, Source, Words};
-use tx_lines::Reply;
+use tx_reply::Reply;
 use tx_sched::{Job, Turn};
 use tx_types::{Cause, Fault};
 use tx_work::{Access, After, Collector, Moving, slots_of};
@@ -122,6 +122,7 @@ impl<J: Naming, L: Source, F: Families + Drop, R: Wait + Drop> ScriptJob<J, L, F
             log,
             faulted: self.faulted,
             collected: self.collector.dropped(),
+            refusals: self.access.refusals(),
         }
     }
 

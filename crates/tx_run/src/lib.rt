@@ -17,4 +17,4 @@ pub use run::run_script;
 pub use settings::Settings;
 pub use tx_cells::{Makes, Plain};
 pub use tx_ledger::{Reply, Spoken, Words};
-pub use tx_work::Total;
+pub use tx_work::{Refusals, Total};

@@ -2,6 +2,7 @@
 use std::marker::Model;
 use tx_journal::Naming;
 use tx_ledger::{Log, Source};
+use tx_work::Refusals;
 
 /// What came of a session's lines. Contracts see its number and its log.
 #[derive(Drop)]
@@ -12,6 +13,8 @@ pub(crate) struct Out<J: Naming, L: Source> {
     pub faulted: bool,
     /// How many write records it collected.
     pub collected: u64,
+    /// What stood in its way.
+    pub refusals: Refusals,
 }
 
 impl<J: Naming, L: Source> Model for Out<J, L> {

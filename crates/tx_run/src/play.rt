@@ -15,11 +15,11 @@ use std::thread::Threads;
 use tx_cells::{Families, Makes, make_families};
 use tx_journal::{Naming, Opened, Seat, Unnamed};
 use tx_ledger::{Entry, Replies, Reply, Said, Script, Source, Spoken, Words};
-use tx_lines::Broken;
 use tx_sched::{Gate, run_sessions};
 use tx_store::Store;
+use tx_text::Broken;
 use tx_types::Fault;
-use tx_work::{Access, Collector, Total, play_seeds, read_total};
+use tx_work::{Access, Collector, Refusals, Total, play_seeds, read_total};
 
 // A store, and the seats for others than its regions.
 fn open<J: Naming, F: Families + Drop, M: Makes<F>>(
@@ -94,6 +94,7 @@ fn join<J: Naming, L: Source>(
         log,
         faulted,
         collected: _,
+        refusals: _,
     } = out;
     let (told, more, lost) = log.into_parts();
     seat.learn(told);
@@ -146,6 +147,8 @@ pub struct Played {
     pub faulted: bool,
     /// How many write records were collected meanwhile, by collections that were not refused.
     pub collected: u64,
+    /// What stood in the way of its sessions' requests.
+    pub refusals: Refusals,
     /// The sum of all balances at the end.
     pub total: Total,
     /// What all sessions had seen.
@@ -206,7 +209,7 @@ fn tell_regions(replies: &mut Vec<Spoken>, regions: usize) -> Result<(), Broken>
     if regions > 1 {
         replies.push(Spoken {
             number: 1,
-            reply: Reply::Said(Ok(Words::new(tx_lines::Reply::Regions(regions)))),
+            reply: Reply::Said(Ok(Words::new(tx_reply::Reply::Regions(regions)))),
         })?;
     }
     Ok(())
@@ -219,6 +222,15 @@ fn count_collected<J: Naming, L: Source>(outs: &[Out<J, L>]) -> u64 {
         collected = collected.saturating_add(out.collected);
     }
     collected
+}
+
+// What stood in the way of all sessions.
+fn count_refusals<J: Naming, L: Source>(outs: &[Out<J, L>]) -> Refusals {
+    let mut refusals = Refusals::NONE;
+    for out in outs {
+        refusals = refusals.and(out.refusals);
+    }
+    refusals
 }
 
 // Plays the seeds and then the sessions, and sums up.
@@ -257,11 +269,12 @@ where
     };
     let mut first = Vec::with_capacity(alloc, seeds.len().saturating_add(1))?;
     tell_regions(&mut first, regions)?;
-    let mut seat = play_seeds(seat, &access, seeds.as_slice(), &mut first)?;
+    let mut seat = play_seeds(seat, &mut access, seeds.as_slice(), &mut first)?;
     let mut replies = Replies::new(alloc);
     replies.add(first)?;
     let outs = work(rt, alloc, settings, gate, &store, seats, sessions).map_err(memory)?;
     let collected = count_collected(outs.as_slice());
+    let refusals = count_refusals(outs.as_slice());
     let faulted = gather(outs, &mut seat, &mut replies)?;
     let told = seat.tell();
     let (total, seat) = read_total(seat, &mut access)?;
@@ -269,6 +282,7 @@ where
         replies,
         faulted,
         collected,
+        refusals,
         total,
         seen: told.unnamed(seat),
     })

@@ -16,8 +16,8 @@ use std::sync::Wait;
 use std::thread::Threads;
 use tx_cells::{Families, Makes};
 use tx_ledger::{Source, read_script};
-use tx_lines::{Broken, End};
 use tx_sched::Gate;
+use tx_text::{Broken, End};
 
 // Reads the script of this text, plays it, and writes what came of it.
 fn run<L, F, M, G, R, B, W>(

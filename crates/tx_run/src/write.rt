@@ -2,9 +2,9 @@
 ghost use Rattle.std.specs.Prelude.{◌≡◌, ◌++◌, map, All, IfOk, OnOk, OnErr};
 ghost use Rattle.std.specs.List.{flat_map};
 ghost use Rattle.std.specs.Io.KnownBytes.{Appends};
-ghost use Rattle.tx_lines.specs.Faults.{fault_words};
-ghost use Rattle.tx_lines.specs.Output.{AppendsPart};
-ghost use Rattle.tx_lines.specs.Replies.{reply_text};
+ghost use Rattle.tx_text.specs.Faults.{fault_words};
+ghost use Rattle.tx_text.specs.Output.{AppendsPart};
+ghost use Rattle.tx_text.specs.Members.{reply_text};
 ghost use Rattle.tx_ledger.specs.Lines.{line_of};
 ghost use Rattle.tx_run.specs.Texts.{AreInOrder, IsTextOf, Writes, WritesPart, outcomes_text, total_text};
 
@@ -13,7 +13,7 @@ use crate::play::Played;
 use std::alloc::{AllocError, Global};
 use std::io::Write;
 use tx_ledger::{Replies, Spoken, put_line};
-use tx_lines::{Broken, finish, put_fault, send};
+use tx_text::{Broken, finish, put_fault, send};
 use tx_types::Cause;
 use tx_work::Total;
 

@@ -1,6 +1,7 @@
 //! Runs, over both families.
 mod gates;
 mod meeting;
+mod refused;
 mod streams;
 mod transfers;
 
@@ -10,10 +11,10 @@ use std::test::Fail;
 use std::thread::Threads;
 use tx_cells::Fresh;
 use tx_flat::FlatCells;
-use tx_lines::{Broken, End};
 use tx_nested::NestedCells;
 use tx_run::{Plain, Played, Settings, run_script};
 use tx_sched::Open;
+use tx_text::{Broken, End};
 
 // Plays a script over these families, and writes what it is answered.
 fn run<F: Fresh + Send + Drop, R: Threads + Wait + Sync + Send + Clone + Drop>(

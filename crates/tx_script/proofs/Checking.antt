@@ -13,9 +13,9 @@ use Rattle.tx_core.proofs.runs.AllRuns.{shadow_runs}
 use Rattle.tx_machine.specs.declared.step.Step.{Step}
 use Rattle.tx_machine.specs.Machine.{IsRun}
 use Rattle.tx_trace.specs.Traces.{Noted, Traces}
-use Rattle.tx_lines.specs.declared.end.Broken.{Broken}
-use Rattle.tx_lines.specs.declared.end.End.{End}
-use Rattle.tx_lines.specs.declared.end.End.TheVariants.{Well}
+use Rattle.tx_text.specs.declared.end.Broken.{Broken}
+use Rattle.tx_text.specs.declared.end.End.{End}
+use Rattle.tx_text.specs.declared.end.End.TheVariants.{Well}
 use Rattle.tx_post.specs.Posts.{IsTraced}
 use Rattle.tx_play.specs.Places.{Held, own, AllSeated, Settled}
 use Rattle.tx_play.specs.Openings.{IsOpening}

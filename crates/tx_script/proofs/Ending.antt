@@ -9,11 +9,11 @@ use Rattle.tx_types.specs.declared.limits.TheConstants.{MAX_LIVE_SESSIONS}
 use Rattle.tx_core.specs.Recording.{AllOfSeats}
 use Rattle.tx_core.specs.Worlds.{IsWorldRun}
 use Rattle.tx_core.proofs.seats.Beginnings.{run_beginning}
-use Rattle.tx_lines.specs.declared.end.End.{End}
-use Rattle.tx_lines.specs.declared.end.Broken.{Broken}
-use Rattle.tx_lines.specs.declared.lines.Found.{Found}
-use Rattle.tx_lines.specs.declared.lines.Found.TheVariants as found
-use Rattle.tx_lines.specs.Lines.{max_line}
+use Rattle.tx_text.specs.declared.end.End.{End}
+use Rattle.tx_text.specs.declared.end.Broken.{Broken}
+use Rattle.tx_text.specs.declared.lines.Found.{Found}
+use Rattle.tx_text.specs.declared.lines.Found.TheVariants as found
+use Rattle.tx_text.specs.Lines.{max_line}
 use Rattle.tx_play.specs.Scenes.{opening}
 use Rattle.tx_play.specs.Places.{Held, own, AllSeated, Settled}
 use Rattle.tx_play.proofs.Settling.{history_upto}

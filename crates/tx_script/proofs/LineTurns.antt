@@ -6,10 +6,10 @@ use Rattle.tx_types.specs.declared.fault.Cause.{Cause}
 use Rattle.tx_types.specs.declared.fault.Cause.TheVariants as cause
 use Rattle.tx_types.specs.declared.key.Key.{Key}
 use Rattle.tx_types.specs.declared.limits.TheConstants.{MAX_LINES}
-use Rattle.tx_lines.specs.declared.reply.Reply.{Reply}
-use Rattle.tx_lines.specs.declared.reply.Reply.TheVariants.{Regions}
-use Rattle.tx_lines.specs.Lines.{max_line, max_lines}
-use Rattle.tx_lines.specs.Parts.{json_of}
+use Rattle.tx_reply.specs.declared.reply.Reply.{Reply}
+use Rattle.tx_reply.specs.declared.reply.Reply.TheVariants.{Regions}
+use Rattle.tx_text.specs.Lines.{max_line, max_lines}
+use Rattle.tx_text.specs.Parts.{json_of}
 use Rattle.tx_steps.specs.Lines.{data_said, bounds_in}
 use Rattle.tx_play.specs.Steps.{Call}
 use Rattle.tx_play.specs.Scenes.{Scene, Turn, goes, stops, turn}

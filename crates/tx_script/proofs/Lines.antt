@@ -8,16 +8,17 @@ use Rattle.tx_types.specs.declared.fault.Cause.TheVariants as cause
 use Rattle.tx_types.specs.declared.key.Key.{Key}
 use Rattle.tx_types.specs.declared.limits.TheConstants.{MAX_LIVE_SESSIONS}
 use Rattle.tx_core.specs.Histories.{History}
-use Rattle.tx_lines.specs.declared.end.Broken.{Broken}
-use Rattle.tx_lines.specs.declared.end.End.{End}
-use Rattle.tx_lines.specs.declared.end.End.TheVariants.{Well, Faulted}
-use Rattle.tx_lines.specs.declared.lines.Found.{Found}
-use Rattle.tx_lines.specs.declared.lines.Found.TheVariants as found
-use Rattle.tx_lines.specs.declared.reply.Reply.{Reply}
-use Rattle.tx_lines.specs.Lines.{lines_of, max_line, Reads}
-use Rattle.tx_lines.specs.Output.{BreaksText}
-use Rattle.tx_lines.specs.Replies.{reply_words, reply_text}
-use Rattle.tx_lines.specs.Faults.{fault_words}
+use Rattle.tx_text.specs.declared.end.Broken.{Broken}
+use Rattle.tx_text.specs.declared.end.End.{End}
+use Rattle.tx_text.specs.declared.end.End.TheVariants.{Well, Faulted}
+use Rattle.tx_text.specs.declared.lines.Found.{Found}
+use Rattle.tx_text.specs.declared.lines.Found.TheVariants as found
+use Rattle.tx_reply.specs.declared.reply.Reply.{Reply}
+use Rattle.tx_text.specs.Lines.{lines_of, max_line, Reads}
+use Rattle.tx_text.specs.Output.{BreaksText}
+use Rattle.tx_reply.specs.Replies.{reply_words}
+use Rattle.tx_text.specs.Members.{reply_text}
+use Rattle.tx_text.specs.Faults.{fault_words}
 use Rattle.tx_play.specs.Scenes.{stops}
 use Rattle.tx_play.specs.Places.{Held, scene_of, own, Goes}
 use Rattle.tx_play.specs.Openings.{IsOpening}

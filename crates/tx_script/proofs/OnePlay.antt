@@ -9,8 +9,8 @@ use Rattle.tx_core.specs.Histories.{History, Begins}
 use Rattle.tx_core.specs.Worlds.{IsWorldRun}
 use Rattle.tx_core.proofs.runs.AllRuns.{shadow_runs, all_true}
 use Rattle.tx_core.proofs.seats.Beginnings.{begins_all}
-use Rattle.tx_lines.specs.declared.reply.Reply.TheVariants.{Regions}
-use Rattle.tx_lines.specs.Replies.{reply_words}
+use Rattle.tx_reply.specs.declared.reply.Reply.TheVariants.{Regions}
+use Rattle.tx_reply.specs.Replies.{reply_words}
 use Rattle.tx_steps.specs.declared.program.Program.TheVariants.{Simulate}
 use Rattle.tx_steps.specs.Lines.{data_said, step_in, bounds_in}
 use Rattle.tx_play.specs.Steps.{Call}

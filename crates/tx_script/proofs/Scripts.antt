@@ -10,13 +10,14 @@ use Rattle.tx_types.specs.declared.key.Key.{Key}
 use Rattle.tx_types.specs.declared.limits.TheConstants.{MAX_LIVE_SESSIONS, MAX_LINES}
 use Rattle.tx_core.specs.Histories.{Begins}
 use Rattle.tx_core.proofs.seats.Beginnings.{begins_all, begins_more}
-use Rattle.tx_lines.specs.declared.end.Broken.{Broken}
-use Rattle.tx_lines.specs.declared.end.Broken.TheVariants.{Output}
-use Rattle.tx_lines.specs.declared.end.End.TheVariants.{Well, Faulted}
-use Rattle.tx_lines.specs.declared.reply.Reply.{Reply}
-use Rattle.tx_lines.specs.Output.{BreaksText}
-use Rattle.tx_lines.specs.Replies.{reply_words, reply_text}
-use Rattle.tx_lines.specs.Faults.{fault_words}
+use Rattle.tx_text.specs.declared.end.Broken.{Broken}
+use Rattle.tx_text.specs.declared.end.Broken.TheVariants.{Output}
+use Rattle.tx_text.specs.declared.end.End.TheVariants.{Well, Faulted}
+use Rattle.tx_reply.specs.declared.reply.Reply.{Reply}
+use Rattle.tx_text.specs.Output.{BreaksText}
+use Rattle.tx_reply.specs.Replies.{reply_words}
+use Rattle.tx_text.specs.Members.{reply_text}
+use Rattle.tx_text.specs.Faults.{fault_words}
 use Rattle.tx_play.specs.Scenes.{Scene, opening, Turn, goes, inquires, shows, stops}
 use Rattle.tx_play.specs.Plays.{Leads}
 use Rattle.tx_post.specs.Posts.{Desk, IsTraced}

@@ -6,14 +6,14 @@ use Rattle.std.specs.Io.KnownBytes.{Appends}
 use Rattle.tx_types.specs.declared.key.Key.{Key}
 use Rattle.tx_core.specs.Histories.{History}
 use Rattle.tx_core.specs.Shadow.{shadow}
-use Rattle.tx_lines.specs.declared.end.Broken.{Broken}
-use Rattle.tx_lines.specs.declared.end.Broken.TheVariants.{Output}
-use Rattle.tx_lines.specs.declared.end.End.{End}
-use Rattle.tx_lines.specs.declared.end.End.TheVariants.{Well, Faulted}
-use Rattle.tx_lines.specs.declared.end.End.TheVariants as ended
-use Rattle.tx_lines.specs.Lines.{lines_of}
-use Rattle.tx_lines.specs.Steps.{step_text}
-use Rattle.tx_lines.specs.Texts.{line_text}
+use Rattle.tx_text.specs.declared.end.Broken.{Broken}
+use Rattle.tx_text.specs.declared.end.Broken.TheVariants.{Output}
+use Rattle.tx_text.specs.declared.end.End.{End}
+use Rattle.tx_text.specs.declared.end.End.TheVariants.{Well, Faulted}
+use Rattle.tx_text.specs.declared.end.End.TheVariants as ended
+use Rattle.tx_text.specs.Lines.{lines_of}
+use Rattle.tx_check.specs.Steps.{step_text}
+use Rattle.tx_text.specs.Texts.{line_text}
 use Rattle.tx_check.specs.declared.words.Verdict.TheVariants.{Yes}
 use Rattle.tx_check.specs.Words.{words}
 use Rattle.tx_script.specs.Play.{Played, render, IsPlay, BreaksLines, bounds_of}

@@ -8,13 +8,13 @@ use Rattle.tx_types.specs.declared.limits.TheConstants.{MAX_LIVE_SESSIONS}
 use Rattle.tx_core.specs.Histories.{History, Begins}
 use Rattle.tx_core.specs.Shadow.{shadow}
 use Rattle.tx_trace.specs.Traces.{Noted}
-use Rattle.tx_lines.specs.declared.end.Broken.{Broken}
-use Rattle.tx_lines.specs.declared.end.Broken.TheVariants.{Output}
-use Rattle.tx_lines.specs.declared.end.End.{End}
-use Rattle.tx_lines.specs.declared.lines.Found.{Found}
-use Rattle.tx_lines.specs.declared.lines.Found.TheVariants as found
-use Rattle.tx_lines.specs.declared.reply.Reply.{Reply}
-use Rattle.tx_lines.specs.Lines.{lines_of, max_line}
+use Rattle.tx_text.specs.declared.end.Broken.{Broken}
+use Rattle.tx_text.specs.declared.end.Broken.TheVariants.{Output}
+use Rattle.tx_text.specs.declared.end.End.{End}
+use Rattle.tx_text.specs.declared.lines.Found.{Found}
+use Rattle.tx_text.specs.declared.lines.Found.TheVariants as found
+use Rattle.tx_reply.specs.declared.reply.Reply.{Reply}
+use Rattle.tx_text.specs.Lines.{lines_of, max_line}
 use Rattle.tx_play.specs.Scenes.{Scene, opening, Turn, stops}
 use Rattle.tx_play.specs.Places.{Held, scene_of, own, AllSeated, GoesTo}
 use Rattle.tx_script.specs.declared.line.Turned.{Turned}

@@ -12,14 +12,15 @@ use Rattle.tx_core.specs.Histories.{History}
 use Rattle.tx_core.specs.Shadow.{shadow}
 use Rattle.tx_core.specs.Truth.{AllTrue}
 use Rattle.tx_core.specs.Worlds.{IsWorldRun}
-use Rattle.tx_lines.specs.declared.end.Broken.{Broken}
-use Rattle.tx_lines.specs.declared.end.Broken.TheVariants.{Output}
-use Rattle.tx_lines.specs.declared.end.End.{End}
-use Rattle.tx_lines.specs.declared.end.End.TheVariants.{Well, Faulted}
-use Rattle.tx_lines.specs.declared.reply.Reply.TheVariants.{Regions}
-use Rattle.tx_lines.specs.Lines.{lines_of}
-use Rattle.tx_lines.specs.Replies.{reply_words, reply_text}
-use Rattle.tx_lines.specs.Faults.{fault_words}
+use Rattle.tx_text.specs.declared.end.Broken.{Broken}
+use Rattle.tx_text.specs.declared.end.Broken.TheVariants.{Output}
+use Rattle.tx_text.specs.declared.end.End.{End}
+use Rattle.tx_text.specs.declared.end.End.TheVariants.{Well, Faulted}
+use Rattle.tx_reply.specs.declared.reply.Reply.TheVariants.{Regions}
+use Rattle.tx_text.specs.Lines.{lines_of}
+use Rattle.tx_reply.specs.Replies.{reply_words}
+use Rattle.tx_text.specs.Members.{reply_text}
+use Rattle.tx_text.specs.Faults.{fault_words}
 use Rattle.tx_steps.specs.declared.program.Program.TheVariants.{Simulate}
 use Rattle.tx_steps.specs.Lines.{data_said, step_in, bounds_in}
 use Rattle.tx_play.specs.Steps.{Call}

@@ -66,6 +66,7 @@ fn action<'a>(name: &'a str, what: Action<'a>) -> Option<tx_play::Step<'a>>
 }
 
 /// The step that is played. `None` for the steps of runs of workers.
+#[inline(always)]
 pub(crate) fn call<'a>(step: Step<'a>) -> Option<tx_play::Step<'a>>
     ensures { option_map call_of result ≡ played (asked step.entry) }
 {

@@ -4,17 +4,17 @@ ghost use Rattle.std.specs.List.{concat};
 ghost use Rattle.std.specs.Io.KnownBytes.{Appends};
 ghost use Rattle.tx_core.specs.Histories.{History};
 ghost use Rattle.tx_machine.specs.Machine.{IsRun};
-ghost use Rattle.tx_lines.specs.Steps.{step_text};
-ghost use Rattle.tx_lines.specs.Texts.{line_text};
+ghost use Rattle.tx_check.specs.Steps.{step_text};
+ghost use Rattle.tx_text.specs.Texts.{line_text};
 ghost use Rattle.tx_check.specs.Words.{words};
 ghost use Rattle.tx_script.specs.Checked.{step_lines, steps_told};
 ghost use Rattle.tx_script.specs.Loops.{AppendsBegun, AreOf};
 
 use std::alloc::Global;
 use std::io::Write;
-use tx_check::{Verdict, verdict_line};
-use tx_lines::{Broken, End, finish, put_step, send};
+use tx_check::{Verdict, put_step, verdict_line};
 use tx_machine::{Step, check_trace};
+use tx_text::{Broken, End, finish, send};
 use tx_trace::Trace;
 
 // Writes the line of each step.

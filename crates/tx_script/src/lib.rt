@@ -3,7 +3,7 @@
 //! means, which is its only play, whose events are a run of the protocol. `simulate_checked` also
 //! writes the machine's steps that are read off that run, and that they are a run of the machine.
 //!
-//! A line is one JSON array, which `tx_lines` reads and writes; `tx_steps` has the steps of
+//! A line is one JSON array, which `tx_text` reads and writes; `tx_steps` has the steps of
 //! scripts, and `tx_play` the engine.
 #![tactic(auto)]
 
@@ -15,4 +15,4 @@ mod script;
 
 pub use opening::{simulate, simulate_checked};
 pub use tx_cells::{Makes, Plain};
-pub use tx_lines::{Broken, End};
+pub use tx_text::{Broken, End};

@@ -2,9 +2,10 @@
 ghost use Rattle.std.specs.Prelude.{◌≡◌, ◌≤◌, option_and_then, option_map, is_some, OnOk, IfOk, IfErr, OnErr};
 ghost use Rattle.tx_types.specs.declared.limits.TheConstants as limits;
 ghost use Rattle.std.specs.Io.KnownBytes.{Appends};
-ghost use Rattle.tx_lines.specs.Faults.{fault_words};
-ghost use Rattle.tx_lines.specs.Output.{BreaksText};
-ghost use Rattle.tx_lines.specs.Replies.{reply_words, reply_text};
+ghost use Rattle.tx_text.specs.Faults.{fault_words};
+ghost use Rattle.tx_text.specs.Output.{BreaksText};
+ghost use Rattle.tx_reply.specs.Replies.{reply_words};
+ghost use Rattle.tx_text.specs.Members.{reply_text};
 ghost use Rattle.tx_steps.specs.Steps.{asked};
 ghost use Rattle.tx_steps.specs.Lines.{data_of, bounds_in};
 ghost use Rattle.tx_play.specs.Places.{AllSeated, Goes};
@@ -17,9 +18,10 @@ use std::alloc::Global;
 use std::io::Write;
 use tx_cells::Families;
 use tx_journal::Naming;
-use tx_lines::{Broken, Found, Parts, Reply, put_fault, put_reply, send};
 use tx_play::Engine;
+use tx_reply::{Reply, put_reply};
 use tx_steps::{Line, Program, Step};
+use tx_text::{Broken, Found, Parts, put_fault, send};
 use tx_types::Cause;
 
 /// What came of the next line.
@@ -96,6 +98,7 @@ fn play_line<J: Naming, F: Families>(
 }
 
 /// Plays the line of this number, by what was found of it.
+#[inline(always)]
 pub(crate) fn play_found<J: Naming, F: Families>(
     alloc: Global,
     engine: &mut Engine<J, F>,

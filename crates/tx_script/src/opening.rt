@@ -2,8 +2,8 @@
 ghost use Rattle.std.specs.Prelude.{◌≡◌, ◌<◌, ◌+◌, ℕ, List, All, length, vec_len, IfOk, IfErr, IfSome};
 ghost use Rattle.tx_types.specs.declared.limits.TheConstants as limits;
 ghost use Rattle.tx_cells.specs.Contents.{nothing_held};
-ghost use Rattle.tx_journal.specs.Known.{AreRising};
-ghost use Rattle.tx_lines.specs.Lines.{lines_of};
+ghost use Rattle.tx_types.specs.Keys.{AreRising};
+ghost use Rattle.tx_text.specs.Lines.{lines_of};
 ghost use Rattle.tx_script.specs.Play.{bounds_of, EndsScript, BreaksScript};
 ghost use Rattle.tx_script.specs.Checked.{EndsChecked, BreaksChecked};
 ghost use Rattle.tx_script.specs.Loops.{Ahead, first_bounds, EndsAsked, BreaksAsked};
@@ -14,9 +14,9 @@ use std::io::{BufRead, Write};
 use std::marker::Brand;
 use tx_cells::{Families, Makes, make_families};
 use tx_journal::{Naming, Opened};
-use tx_lines::{Broken, End, Found, Parts, read_line};
 use tx_play::engine_of;
 use tx_steps::Line;
+use tx_text::{Broken, End, Found, Parts, read_line};
 use tx_types::Key;
 use tx_types::limits::MAX_LIVE_SESSIONS;
 

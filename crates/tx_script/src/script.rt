@@ -15,8 +15,9 @@ use std::alloc::Global;
 use std::io::{BufRead, Write};
 use tx_cells::Families;
 use tx_journal::Naming;
-use tx_lines::{Broken, End, Found, REFUSAL_BYTES, finish, read_line};
 use tx_play::Engine;
+use tx_reply::REFUSAL_BYTES;
+use tx_text::{Broken, End, Found, finish, read_line};
 use tx_trace::Trace;
 use tx_types::limits::MAX_LINES;
 

@@ -6,6 +6,8 @@ mod ends_tests;
 #[cfg(test)]
 mod limits_tests;
 #[cfg(test)]
+mod reason_tests;
+#[cfg(test)]
 mod script_tests;
 #[cfg(test)]
 mod tests;

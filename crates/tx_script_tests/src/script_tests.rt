@@ -5,7 +5,7 @@ use std::io::{BufRead, Write};
 use std::process::Abort;
 use std::test::Fail;
 use tx_flat::FlatCells;
-use tx_lines::{REFUSAL_BYTES, Reply, put_reply};
+use tx_reply::{REFUSAL_BYTES, Reply, put_reply};
 use tx_script::{Broken, End, Plain};
 
 /// Plays a script over flat maps.

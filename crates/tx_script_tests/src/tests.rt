@@ -7,7 +7,7 @@ use std::io::{BufReader, ErrorKind, Read, Write};
 use std::process::Abort;
 use std::test::Fail;
 use tx_check::check;
-use tx_lines::{Broken, End};
+use tx_text::{Broken, End};
 use tx_types::limits::{MAX_KEY_BYTES, MAX_LINE_BYTES, MAX_VALUE_BYTES};
 
 static COMMIT_THEN_READ: &str =

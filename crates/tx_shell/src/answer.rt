@@ -2,11 +2,11 @@
 use crate::asked::Asked;
 use crate::perform::perform;
 use std::cell::RefCell;
-use std::io::{BufReader, BufWriter, Read, Write};
+use std::io::{BufWriter, Read, Write};
 use std::sync::Wait;
 use std::thread::Threads;
 use tx_command::{Asking, Counted, Erasing, Noted, Noting, Recent, Shared, reason};
-use tx_lines::{Broken, End};
+use tx_text::{Broken, End};
 
 // Says on standard error why lines are faults. What cannot be said there is left out: the line of
 // each fault is written all the same.
@@ -41,14 +41,13 @@ where
     };
     let counted = Counted::new(input, asked.progress);
     let asking = Asking::new(counted, Shared::new(&shared), terminal);
-    let Ok(mut reader) = BufReader::new(alloc, Recent::new(alloc, asking)) else {
+    let Ok(mut reader) = Recent::new(alloc, asking) else {
         return Err(Broken::Memory);
     };
     let mut writer = Noting::new(alloc, Shared::new(&shared));
     let ended = perform(rt, asked, &mut reader, &mut writer);
-    let lines = reader.get_ref();
-    explain(asked, writer.faults(), lines);
-    if lines.inner().is_cut_off() {
+    explain(asked, writer.faults(), &reader);
+    if reader.inner().is_cut_off() {
         return Err(Broken::Output);
     }
     ended

@@ -7,15 +7,18 @@ use std::io::{BufRead, Write};
 use std::sync::Wait;
 use std::thread::Threads;
 use std::time::{Duration, Instant};
-use tx_check::check;
+use tx_check::{check, check_with_reason};
 use tx_command::{Steps, Task};
-use tx_lines::{Broken, End};
 use tx_run::{Played, Settings};
+use tx_text::{Broken, End};
 
 // Tells what was played in so much time. What cannot be told is left out.
 fn tell(host: HostRuntime, played: &Played, elapsed: Duration) {
     let stats = stats_of(played, elapsed);
+    let refusals = played.refusals;
     let _ = eprint!(host; "{stats}");
+    let _ = eprintln!(host; "txkv: refused: {refusals}");
+    let _ = eprintln!(host; "txkv: {} locks asked after", refusals.resolves);
 }
 
 // Runs the sessions of a script side by side.
@@ -66,6 +69,7 @@ where
             simulate_checked_over(alloc, cells, reader, &mut Steps::new(writer))
         }
         Task::Check => check(alloc, reader, writer),
+        Task::CheckWithReason => check_with_reason(alloc, reader, writer),
         Task::Run(workers, life_time) => {
             let settings = Settings { workers, life_time };
             run(rt, asked, settings, reader, writer)

@@ -12,7 +12,7 @@ use std::sync::Wait;
 use std::thread::Threads;
 use std::{env, fs, io};
 use tx_command::{Job, Progress, Shown, Terminals, job_of, message_of, parse, shown_at, status_of};
-use tx_lines::{Broken, End};
+use tx_text::{Broken, End};
 
 // Does what is asked over the input that is named.
 fn run<R>(rt: &R, asked: &Asked<'_>) -> Result<End, Broken>

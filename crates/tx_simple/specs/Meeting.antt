@@ -5,7 +5,7 @@ use Rattle.tx_core.specs.Histories.{History, Begins}
 use Rattle.tx_journal.specs.Known.{Known, HasSeen}
 use Rattle.tx_journal.specs.Replies.{Asked}
 use Rattle.tx_client.specs.declared.resolved.Status.{Status}
-use Rattle.tx_client.specs.Senders.{Reached}
+use Rattle.tx_journal.specs.Senders.{Reached}
 use Rattle.tx_client.specs.Statuses.{Stopping}
 use Rattle.tx_client.specs.Walks.{Sends}
 use Rattle.tx_resolve.specs.Reading.{read_walk}

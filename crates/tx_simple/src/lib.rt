@@ -1,6 +1,18 @@
 //! What nearly every user of sessions writes, in one call.
 #![tactic(auto)]
 
+mod carrying;
+mod ending;
+mod lending;
 mod meeting;
+mod running;
+mod sends;
+mod stopping;
+mod trying;
+mod updating;
 
+pub use ending::{Ended, Seats, Unended};
+pub use lending::Tx;
 pub use meeting::resolve_met;
+pub use stopping::Stop;
+pub use updating::{Work, update};

@@ -1,10 +1,10 @@
 //! A lock that a session met, resolved for it.
 ghost use Rattle.std.specs.Prelude.{◌≡◌};
-ghost use Rattle.tx_client.specs.Senders.{IsWay};
+ghost use Rattle.tx_journal.specs.Senders.{IsWay};
 ghost use Rattle.tx_simple.specs.Meeting.{Resolves};
 
-use tx_client::{Met, Resolved, Sender};
-use tx_journal::{Naming, Reply, Request, Seat};
+use tx_client::{Met, Resolved};
+use tx_journal::{Naming, Reply, Request, Seat, Sender};
 use tx_resolve::resolve;
 use tx_types::Ts;
 

@@ -3,7 +3,7 @@ use Rattle.std.proofs.Common.{◌≡◌, ◌≤◌, ℕ, zero, suc, false, IsTru
 use Rattle.tx_types.specs.declared.key.Key.{Key}
 use Rattle.tx_plan.specs.declared.body.Body.{Body}
 use Rattle.tx_core.specs.Worlds.{Holds}
-use Rattle.tx_client.specs.Senders.{IsHeld}
+use Rattle.tx_journal.specs.Senders.{IsHeld}
 
 -- the region i does not hold it, by what it was asked of the same request
 pub not_held : (bounds : List Key) (i n : ℕ) (asked b : Body) → i ≡ n → asked ≡ b → (Holds bounds i asked → IsTrue false) → Holds bounds n b → ⊥

@@ -1,12 +1,11 @@
 //! Three regions in one thread, each request to the one that holds it. None is lost; a region may
 //! be refused memory.
 ghost use Rattle.std.specs.Prelude.{◌≡◌, [], All, IfSome, IfNone};
-ghost use Rattle.tx_client.specs.Senders.{IsHeld};
+ghost use Rattle.tx_journal.specs.Senders.{IsHeld};
 
 use std::alloc::Global;
 use std::marker::Model;
-use tx_client::{Lost, Sender};
-use tx_journal::{Journal, Naming, Reply, Request, Seat, Told};
+use tx_journal::{Journal, Lost, Naming, Reply, Request, Seat, Sender, Told};
 use tx_nested::NestedCells;
 use tx_region::Region;
 use tx_resolve::{Counts, gc};
@@ -167,7 +166,7 @@ fn falls(count: &mut u32) -> bool {
 
 impl<J: Naming> Sender<Request<J>, Reply<J>> for Ground<J> {
     ghost use Rattle.std.specs.Prelude.{◌≡◌, IfOk, IfErr};
-    ghost use Rattle.tx_client.specs.Senders.{IsHeld};
+    ghost use Rattle.tx_journal.specs.Senders.{IsHeld};
 
     ghost fits = { λ s q. IsHeld J.bounds q.body };
 

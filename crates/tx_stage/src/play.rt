@@ -2,7 +2,7 @@
 //! them: a scenario is a list of steps, each with who acts, what it does, what becomes of the
 //! request that it sends, and what comes of it.
 ghost use Rattle.std.specs.Prelude.{◌≡◌, [], All, IfSome, vec_len};
-ghost use Rattle.tx_journal.specs.Known.{AreRising};
+ghost use Rattle.tx_types.specs.Keys.{AreRising};
 
 use crate::play::calls::{acts, key};
 use crate::post::{Post, Way};
@@ -260,10 +260,19 @@ impl<J: Naming> World<J> {
     }
 }
 
-// How many requests an act of a session sends at most.
+// Whether the keys of a range lie on both sides of a bound between regions.
+fn crosses(from: u8, to: u8, bound: u8) -> bool {
+    from < bound && bound < to
+}
+
+// How many requests an act of a session sends at most: a scan one to each region of its range.
 fn most(act: Act) -> u32 {
     match act {
-        Act::Scan(_, _, _) => 3,
+        Act::Scan(from, to, _) => match (crosses(from, to, 4), crosses(from, to, 7)) {
+            (true, true) => 3,
+            (false, false) => 1,
+            _ => 2,
+        },
         _ => 1,
     }
 }

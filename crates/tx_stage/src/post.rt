@@ -4,9 +4,8 @@ ghost use Rattle.std.specs.Prelude.{◌≡◌, [], All, IfSome};
 use crate::ground::Ground;
 use std::alloc::Global;
 use std::mem::replace;
-use tx_client::{Lost, Sender};
 use tx_core::{Body, RaiseSafe, RegionNo};
-use tx_journal::{Journal, Naming, Reply, Request, Seat};
+use tx_journal::{Journal, Lost, Naming, Reply, Request, Seat, Sender};
 use tx_resolve::Counts;
 use tx_types::{Fault, Key, Ts};
 

@@ -3,8 +3,8 @@ use Rattle.std.proofs.Common.{◌≡◌, ◌<◌, true, arith, suc, ◌==◌, Li
 use Rattle.std.proofs.Math.Dec.{eqb-suc-zero}
 use Rattle.serde_json.specs.View.{items_view}
 use Rattle.serde_json.specs.declared.value.Value.{Value}
-use Rattle.tx_lines.specs.declared.part.Part.{Part}
-use Rattle.tx_lines.specs.Parts.{parts_items, count}
+use Rattle.tx_text.specs.declared.part.Part.{Part}
+use Rattle.tx_text.specs.Parts.{parts_items, count}
 use Rattle.tx_types.specs.declared.key.Key.{Key}
 use Rattle.tx_steps.specs.Bounds.{are_rising}
 use Rattle.tx_steps.specs.Steps.{none_left}

@@ -5,7 +5,7 @@ use Rattle.serde_json.specs.Find.{as_array, as_str, as_number, as_u64}
 use Rattle.tx_types.specs.declared.limits.TheConstants.{MAX_TTL, MAX_TICK, MAX_SCAN_ROWS}
 use Rattle.tx_types.specs.declared.mutation.Mode.{Mode}
 use Rattle.tx_types.specs.declared.mutation.Mode.TheVariants.{TwoPhase, Async}
-use Rattle.tx_lines.specs.Parts.{count}
+use Rattle.tx_text.specs.Parts.{count}
 use Rattle.tx_steps.specs.declared.program.Program.{Program}
 use Rattle.tx_steps.specs.declared.transfer.TheConstants.{MAX_AMOUNT}
 use Rattle.tx_steps.specs.declared.word.Word.{Word}

@@ -7,9 +7,8 @@ use Rattle.serde_json.specs.Data.{Data, Items, no_items, item}
 use Rattle.serde_json.specs.Find.{as_array}
 use Rattle.tx_types.specs.declared.key.Key.{Key}
 use Rattle.tx_types.specs.declared.limits.TheConstants.{MAX_REGIONS}
-use Rattle.tx_types.specs.Keys.{key_lt}
-use Rattle.tx_journal.specs.Known.{AreRising}
-use Rattle.tx_lines.specs.Parts.{count}
+use Rattle.tx_types.specs.Keys.{key_lt, AreRising}
+use Rattle.tx_text.specs.Parts.{count}
 use Rattle.tx_steps.specs.Steps.{text_in, none_left}
 use Rattle.tx_steps.specs.Bounds.{all_keys, key_in, are_rising, is_count, after_regions, list_said, bounds_said}
 use Rattle.tx_steps.specs.Lines.{bounds_in}

@@ -5,7 +5,7 @@ use Rattle.serde_json.specs.Find.{as_array, as_str}
 use Rattle.tx_types.specs.declared.limits.TheConstants.{MAX_KEY_BYTES, MAX_REGIONS, MIN_KEY_BYTES}
 use Rattle.tx_types.specs.declared.key.Key.{Key}
 use Rattle.tx_types.specs.Keys.{key_lt}
-use Rattle.tx_lines.specs.Parts.{count}
+use Rattle.tx_text.specs.Parts.{count}
 use Rattle.tx_steps.specs.Steps.{text_in, none_left}
 
 -- a text of 1 to 512 bytes

@@ -7,8 +7,8 @@ use Rattle.serde_json.specs.View.{view}
 use Rattle.tx_types.specs.declared.fault.Cause.{Cause}
 use Rattle.tx_types.specs.declared.fault.Cause.TheVariants.{Json, Long, Lines}
 use Rattle.tx_types.specs.declared.key.Key.{Key}
-use Rattle.tx_lines.specs.Lines.{max_line, max_lines}
-use Rattle.tx_lines.specs.Parts.{json_of, parts_items}
+use Rattle.tx_text.specs.Lines.{max_line, max_lines}
+use Rattle.tx_text.specs.Parts.{json_of, parts_items}
 use Rattle.tx_steps.specs.declared.line.Line.{Line}
 use Rattle.tx_steps.specs.declared.line.Line.TheVariants.{Plain, Other}
 use Rattle.tx_steps.specs.declared.program.Program.{Program}

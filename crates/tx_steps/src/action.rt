@@ -1,11 +1,11 @@
 //! What a session does by itself.
 ghost use Rattle.std.specs.Prelude.{◌≡◌, option_map};
-ghost use Rattle.tx_lines.specs.Parts.{parts_items};
+ghost use Rattle.tx_text.specs.Parts.{parts_items};
 ghost use Rattle.tx_steps.specs.Steps.{acted, act_said, put_said, insert_said, mode_said, max_said, declare_said, last_of};
 
 use crate::members::{last_number, last_text, none_left, text, within};
 use crate::word::Word;
-use tx_lines::Part;
+use tx_text::Part;
 use tx_types::Mode;
 use tx_types::limits::MAX_TTL;
 

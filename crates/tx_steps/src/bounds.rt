@@ -2,13 +2,13 @@
 ghost use Rattle.std.specs.Prelude.{◌≡◌, Some, None, option_map, IfOk, IfErr};
 ghost use Rattle.serde_json.specs.View.{view, items_view};
 ghost use Rattle.tx_types.specs.declared.fault.Fault.TheVariants as fault;
-ghost use Rattle.tx_lines.specs.Parts.{count, parts_items};
+ghost use Rattle.tx_text.specs.Parts.{count, parts_items};
 ghost use Rattle.tx_steps.specs.Bounds.{key_in, all_keys, are_rising, is_count, after_regions, list_said, bounds_said};
 
 use crate::members::{none_left, text};
 use serde_json::Value;
 use std::alloc::Global;
-use tx_lines::Part;
+use tx_text::Part;
 use tx_types::limits::{MAX_KEY_BYTES, MAX_REGIONS, MIN_KEY_BYTES};
 use tx_types::{Fault, Key};
 

@@ -1,10 +1,10 @@
 //! What becomes of a request on its way to the store.
 ghost use Rattle.std.specs.Prelude.{◌≡◌, option_map};
-ghost use Rattle.tx_lines.specs.Parts.{parts_items};
+ghost use Rattle.tx_text.specs.Parts.{parts_items};
 ghost use Rattle.tx_steps.specs.Steps.{way, is_taken, way_word, way_said};
 
 use crate::members::{last_text, none_left, text};
-use tx_lines::Part;
+use tx_text::Part;
 
 /// What becomes of a request.
 #[derive(Clone, Copy, Debug)]

@@ -11,7 +11,7 @@ use crate::program::Program;
 use crate::step::{Step, put_step};
 use serde_json::Value;
 use std::alloc::Global;
-use tx_lines::{Broken, Part, Parts, parts_of, scanned, value_of};
+use tx_text::{Broken, Part, Parts, parts_of, scanned, value_of};
 use tx_types::limits::{MAX_LINE_BYTES, MAX_LINES};
 use tx_types::{Cause, Fault, Key};
 

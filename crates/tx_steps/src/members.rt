@@ -1,9 +1,9 @@
 //! The members of a step, read one after the other.
 ghost use Rattle.std.specs.Prelude.{◌≡◌, option_map};
-ghost use Rattle.tx_lines.specs.Parts.{parts_items};
+ghost use Rattle.tx_text.specs.Parts.{parts_items};
 ghost use Rattle.tx_steps.specs.Steps.{text_in, number_in, within as within_in, none_left as none_in, one_text, one_number};
 
-use tx_lines::Part;
+use tx_text::Part;
 
 /// The text that comes first, and the members after it.
 pub(crate) fn text<'m, 'a>(members: &'m [Part<'a>]) -> Option<(&'a str, &'m [Part<'a>])>

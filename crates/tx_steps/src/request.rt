@@ -1,12 +1,12 @@
 //! What a session sends, and the step that sends it.
 ghost use Rattle.std.specs.Prelude.{◌≡◌, option_map};
-ghost use Rattle.tx_lines.specs.Parts.{parts_items};
+ghost use Rattle.tx_text.specs.Parts.{parts_items};
 ghost use Rattle.tx_steps.specs.Steps.{asked, sent, sends_said, get_said, range_said, scan_said, heartbeat_said};
 
 use crate::delivery::delivery_of;
 use crate::members::{text, within};
 use crate::step::Step;
-use tx_lines::Part;
+use tx_text::Part;
 use tx_types::limits::{MAX_SCAN_ROWS, MAX_TTL};
 
 /// What a session sends to the store. A delivery may be told of it.

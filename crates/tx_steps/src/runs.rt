@@ -1,13 +1,13 @@
 //! The steps that only runs have.
 ghost use Rattle.std.specs.Prelude.{◌≡◌, option_map};
-ghost use Rattle.tx_lines.specs.Parts.{parts_items};
+ghost use Rattle.tx_text.specs.Parts.{parts_items};
 ghost use Rattle.tx_steps.specs.Steps.{asked, moved, moved_said, seed_said, transfer_said};
 
 use crate::action::mode_of;
 use crate::members::{between, last_text, text};
 use crate::step::Step;
 use crate::transfer::{MAX_AMOUNT, Transfer};
-use tx_lines::Part;
+use tx_text::Part;
 
 // What is moved.
 fn moved<'a>(members: &[Part<'a>]) -> Option<Transfer<'a>>

@@ -2,7 +2,7 @@
 ghost use Rattle.tx_steps.specs.Steps.{is_of};
 ghost use Rattle.std.specs.Prelude.{◌≡◌, option_map, Some, None, if◌then◌else◌};
 ghost use Rattle.tx_steps.specs.declared.word.Word.TheVariants as word;
-ghost use Rattle.tx_lines.specs.Parts.{parts_items};
+ghost use Rattle.tx_text.specs.Parts.{parts_items};
 ghost use Rattle.tx_steps.specs.Steps.{asked, any_said, step_said, said, acts_said, read_said, tick_said};
 
 use crate::action::{Action, action_of};
@@ -13,7 +13,7 @@ use crate::request::{Request, get, heartbeat, scan, sends};
 use crate::runs::{seed, transfers};
 use crate::transfer::Transfer;
 use crate::word::{Word, word_of};
-use tx_lines::Part;
+use tx_text::Part;
 use tx_types::limits::MAX_TICK;
 
 /// A step, over the text of its line. A session goes by its name. No name, key or value has been

@@ -1,8 +1,8 @@
 //! The forms of steps, as worked scripts have them, and the causes why a line says none.
 use std::alloc::Global;
 use std::test::Fail;
-use tx_lines::{Broken, Parts};
 use tx_steps::{Line, Program};
+use tx_text::{Broken, Parts};
 use tx_types::{Cause, Key};
 
 // Steps of simulations.

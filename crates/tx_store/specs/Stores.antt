@@ -5,7 +5,7 @@ use Rattle.tx_journal.specs.Known.{Known, known}
 use Rattle.tx_journal.specs.Replies.{Asked}
 use Rattle.tx_region.specs.declared.applied.Applied.{Applied}
 use Rattle.tx_region.specs.declared.applied.Applied.TheVariants.{Done, Stale}
-use Rattle.tx_client.specs.Senders.{Reached, IsHeld}
+use Rattle.tx_journal.specs.Senders.{Reached, IsHeld}
 
 -- it takes what one of the regions holds
 abbrev pub TakesHeld : {S : Type 0} → List Key → S → Asked → Type 0

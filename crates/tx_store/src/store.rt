@@ -4,11 +4,12 @@ ghost use Rattle.tx_types.specs.declared.key.Key.{Key};
 ghost use Rattle.tx_types.specs.declared.fault.Fault.TheVariants.{OutOfMemory};
 ghost use Rattle.tx_cells.specs.Contents.{nothing_held};
 ghost use Rattle.tx_core.specs.Worlds.{Holds, route};
-ghost use Rattle.tx_journal.specs.Known.{Known, AreRising};
+ghost use Rattle.tx_journal.specs.Known.{Known};
+ghost use Rattle.tx_types.specs.Keys.{AreRising};
 ghost use Rattle.tx_region.specs.KeyFronts.{AreFronts};
 ghost use Rattle.tx_region.specs.Copies.{IsOfKey};
 ghost use Rattle.tx_region.specs.Planning.{IsCopyFor, IsPlanFor};
-ghost use Rattle.tx_client.specs.Senders.{IsHeld};
+ghost use Rattle.tx_journal.specs.Senders.{IsHeld};
 ghost use Rattle.tx_store.specs.Stores.{AreForSessions, GivesBack};
 
 use crate::seats::split_seats;
@@ -183,7 +184,6 @@ impl<J: Naming, F: Families + Drop> Store<J, F> {
     }
 
     // Copies what a request of one key sees of it in the region that holds it.
-    #[inline(never)]
     fn copy_at<R: Wait>(
         &self,
         rt: &R,
@@ -205,7 +205,6 @@ impl<J: Naming, F: Families + Drop> Store<J, F> {
     }
 
     // Applies a plan in the region that holds the request.
-    #[inline(never)]
     fn apply_at<R: Wait>(
         &self,
         rt: &R,

@@ -1,11 +1,10 @@
 //! A way to the regions of a store, for sessions and resolvers.
-ghost use Rattle.tx_client.specs.Senders.{IsWay, LosesNothing};
+ghost use Rattle.tx_journal.specs.Senders.{IsWay, LosesNothing};
 
 use crate::store::Store;
 use std::sync::Wait;
 use tx_cells::Families;
-use tx_client::{Lost, Sender};
-use tx_journal::{Naming, Reply, Request};
+use tx_journal::{Lost, Naming, Reply, Request, Sender};
 use tx_types::Key;
 
 /// A way to the regions of a store. Each request waits until no other call has its region, and is

@@ -19,6 +19,12 @@ key_le j k = is_le (slice_cmp nat_cmp j k)
 abbrev pub is_between : Key → Key → Key → Bool
 is_between from to k = key_le from k && key_lt k to
 
+-- keys rise: each lies above the one before it
+abbrev pub AreRising : List Key → Type 0
+AreRising [] = Unit {0}
+AreRising (k ∷ []) = Unit {0}
+AreRising (j ∷ k ∷ ks) = IsTrue (key_lt j k) × AreRising (k ∷ ks)
+
 -- rows are in the order of their keys
 abbrev pub IsRising : List KeyValue → Type 0
 IsRising [] = Unit {0}

@@ -41,6 +41,20 @@ impl<T: Drop> Items<T> {
         Ok(Items { items })
     }
 
+    /// The list of what a `Vec` holds.
+    pub fn from_vec(items: Vec<T>) -> Items<T>
+        ensures { result ≡ items.items }
+    {
+        Items { items }
+    }
+
+    /// The items, as a `Vec`, whose room contracts see.
+    pub fn into_vec(self) -> Vec<T>
+        ensures { result.items ≡ self }
+    {
+        self.items
+    }
+
     /// Adds one at the end. `OutOfMemory` leaves the list as it was.
     pub fn push(&mut self, item: T) -> Result<(), Fault>
         ensures ok { OnOk result (self.new ≡ self.old ++ item ∷ []) }

@@ -6,6 +6,7 @@ ghost use Rattle.tx_client.specs.Calls.{KeepsSet};
 ghost use Rattle.tx_ledger.specs.Sources.{HasPair};
 ghost use Rattle.tx_ledger.specs.Transfers.{MovesSome};
 
+use crate::refusals::Refusals;
 use crate::sends;
 use std::alloc::Global;
 use std::sync::{Arc, Wait};
@@ -25,6 +26,7 @@ pub struct Access<J: Naming, F: Families + Drop, R: Wait + Drop> {
     rt: R,
     store: Arc<Store<J, F>>,
     resolver: Seat<J>,
+    refusals: Refusals,
 }
 
 impl<J: Naming, F: Families + Drop, R: Wait + Drop> Access<J, F, R> {
@@ -40,21 +42,43 @@ impl<J: Naming, F: Families + Drop, R: Wait + Drop> Access<J, F, R> {
             rt,
             store,
             resolver,
+            refusals: Refusals::NONE,
+        }
+    }
+
+    /// What stood in the way of its requests, and how many locks it asked after.
+    pub fn refusals(&self) -> Refusals {
+        self.refusals
+    }
+
+    // Counts what a read was answered.
+    fn note(&mut self, answered: &Result<Answer, Miss>) {
+        if let Ok(answer) = answered {
+            self.refusals.add(answer);
+        }
+    }
+
+    // Counts what was answered of a change, if one was due.
+    fn note_sent(&mut self, answered: &Result<Option<Answer>, Miss>) {
+        if let Ok(Some(answer)) = answered {
+            self.refusals.add(answer);
         }
     }
 
     /// Reads a key.
-    pub fn get(&self, session: &mut Session<J>, key: &Key) -> Result<Answer, Miss>
+    pub fn get(&mut self, session: &mut Session<J>, key: &Key) -> Result<Answer, Miss>
         ensures { KeepsSet session.old.state session.new.state }
     {
         let mut wire = Wire::new(&self.rt, &self.store);
         wire.show();
-        sends::get(session, key, &mut wire)
+        let answered = sends::get(session, key, &mut wire);
+        self.note(&answered);
+        answered
     }
 
     /// Reads a range.
     pub fn scan(
-        &self,
+        &mut self,
         session: &mut Session<J>,
         from: &Key,
         to: &Key,
@@ -62,46 +86,56 @@ impl<J: Naming, F: Families + Drop, R: Wait + Drop> Access<J, F, R> {
     ) -> Result<Answer, Miss> {
         let mut wire = Wire::new(&self.rt, &self.store);
         wire.show();
-        session.scan(self.alloc, from, to, limit, &mut wire)
+        let answered = session.scan(self.alloc, from, to, limit, &mut wire);
+        self.note(&answered);
+        answered
     }
 
     /// Sends the prewrite that is due.
-    pub fn prewrite(&self, session: &mut Session<J>) -> Result<Option<Answer>, Miss>
+    pub fn prewrite(&mut self, session: &mut Session<J>) -> Result<Option<Answer>, Miss>
         requires { is_declared session.old.state ≡ true }
         ensures { KeepsSet session.old.state session.new.state }
     {
         let mut wire = Wire::new(&self.rt, &self.store);
         wire.show();
-        sends::prewrite(session, self.alloc, &mut wire)
+        let answered = sends::prewrite(session, self.alloc, &mut wire);
+        self.note_sent(&answered);
+        answered
     }
 
     /// Sends the commit that is due.
-    pub fn commit(&self, session: &mut Session<J>) -> Result<Option<Answer>, Miss>
+    pub fn commit(&mut self, session: &mut Session<J>) -> Result<Option<Answer>, Miss>
         requires { can_commit session.old.state ≡ true }
         ensures { KeepsSet session.old.state session.new.state }
     {
         let mut wire = Wire::new(&self.rt, &self.store);
         wire.show();
-        sends::commit(session, &mut wire)
+        let answered = sends::commit(session, &mut wire);
+        self.note_sent(&answered);
+        answered
     }
 
     /// Sends what an abort has due.
-    pub fn abort(&self, session: &mut Session<J>) -> Result<Option<Answer>, Miss>
+    pub fn abort(&mut self, session: &mut Session<J>) -> Result<Option<Answer>, Miss>
         requires { can_abort session.old.state ≡ true }
         ensures { KeepsSet session.old.state session.new.state }
     {
         let mut wire = Wire::new(&self.rt, &self.store);
         wire.show();
-        sends::abort(session, &mut wire)
+        let answered = sends::abort(session, &mut wire);
+        self.note_sent(&answered);
+        answered
     }
 
     /// Asks that the primary's lock live so long after the start, in ticks.
-    pub fn heartbeat(&self, session: &mut Session<J>, ttl: u32) -> Result<Option<Answer>, Miss>
+    pub fn heartbeat(&mut self, session: &mut Session<J>, ttl: u32) -> Result<Option<Answer>, Miss>
         requires { has_primary session.old.state ≡ true }
     {
         let mut wire = Wire::new(&self.rt, &self.store);
         wire.show();
-        session.heartbeat(ttl, &mut wire)
+        let answered = session.heartbeat(ttl, &mut wire);
+        self.note_sent(&answered);
+        answered
     }
 }
 
@@ -141,6 +175,7 @@ impl<J: Naming, F: Families + Drop, R: Wait + Drop> Access<J, F, R> {
         let Some(met) = session.met()? else {
             return Ok(None);
         };
+        self.refusals.add_resolve();
         let (info, told) = met.into_parts();
         let resolved = self.resolve_lock(&info, told, session.start(), now);
         let status = resolved.status();

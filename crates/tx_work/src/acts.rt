@@ -9,7 +9,7 @@ use tx_client::{Miss, Session, Status, Terms, WaitCause};
 use tx_core::Answer;
 use tx_journal::Naming;
 use tx_ledger::Words;
-use tx_lines::Reply;
+use tx_reply::Reply;
 use tx_steps::{Action, Request};
 use tx_types::limits::{MAX_KEY_BYTES, MAX_VALUE_BYTES, MIN_KEY_BYTES};
 use tx_types::{Cause, Fault, Key, Ts, Value};
@@ -216,7 +216,7 @@ pub fn act<J: Naming, F: Families + Drop, R: Wait + Drop>(
 // A key of a read.
 fn get<J: Naming, F: Families + Drop, R: Wait + Drop>(
     session: &mut Session<J>,
-    access: &Access<J, F, R>,
+    access: &mut Access<J, F, R>,
     key: &str,
 ) -> Words {
     match Key::new(access.alloc, key.as_bytes()) {
@@ -227,7 +227,7 @@ fn get<J: Naming, F: Families + Drop, R: Wait + Drop>(
 
 fn scan<J: Naming, F: Families + Drop, R: Wait + Drop>(
     session: &mut Session<J>,
-    access: &Access<J, F, R>,
+    access: &mut Access<J, F, R>,
     from: &str,
     to: &str,
     limit: u32,
@@ -242,7 +242,7 @@ fn scan<J: Naming, F: Families + Drop, R: Wait + Drop>(
 /// What a session sends.
 pub fn send<J: Naming, F: Families + Drop, R: Wait + Drop>(
     session: &mut Session<J>,
-    access: &Access<J, F, R>,
+    access: &mut Access<J, F, R>,
     request: Request<'_>,
 ) -> Result<Words, Cause> {
     match request {

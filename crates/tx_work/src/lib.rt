@@ -6,6 +6,7 @@
 mod access;
 mod acts;
 mod collector;
+mod refusals;
 mod seeds;
 mod sends;
 mod transfer;
@@ -13,5 +14,6 @@ mod transfer;
 pub use access::Access;
 pub use acts::{act, refused, send};
 pub use collector::Collector;
+pub use refusals::Refusals;
 pub use seeds::{Total, play_seeds, read_total};
 pub use transfer::{After, Moving, slots_of};

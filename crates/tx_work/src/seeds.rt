@@ -13,8 +13,8 @@ use tx_client::{Session, Terms};
 use tx_core::Answer;
 use tx_journal::{Naming, Seat};
 use tx_ledger::{BALANCES, Reply, Said, Source, Spoken, Words, balance_of};
-use tx_lines::{Broken, Parts};
 use tx_steps::{Line, Program, Step};
+use tx_text::{Broken, Parts};
 use tx_types::limits::MAX_SCAN_ROWS;
 use tx_types::{Fault, Key, KeyValues, Mode, Ts, Value};
 
@@ -36,7 +36,7 @@ fn put<J: Naming>(session: &mut Session<J>, key: Key, value: Value) -> Result<()
 // Locks it, and commits it.
 fn commit<J: Naming, F: Families + Drop, R: Wait + Drop>(
     session: &mut Session<J>,
-    access: &Access<J, F, R>,
+    access: &mut Access<J, F, R>,
 ) -> Result<(), Fault>
     requires { is_declared session.old.state ≡ true }
 {
@@ -55,7 +55,7 @@ fn commit<J: Naming, F: Families + Drop, R: Wait + Drop>(
 // Puts the value on the key, and commits it.
 fn write<J: Naming, F: Families + Drop, R: Wait + Drop>(
     session: &mut Session<J>,
-    access: &Access<J, F, R>,
+    access: &mut Access<J, F, R>,
     key: Key,
     value: Value,
 ) -> Result<(), Fault>
@@ -76,7 +76,7 @@ fn end<J: Naming>(session: Session<J>) -> Seat<J> {
 // Seeds a key.
 fn seed<J: Naming, F: Families + Drop, R: Wait + Drop>(
     seat: Seat<J>,
-    access: &Access<J, F, R>,
+    access: &mut Access<J, F, R>,
     key: &str,
     value: &str,
 ) -> (Seat<J>, Result<(), Fault>) {
@@ -102,7 +102,7 @@ fn seed<J: Naming, F: Families + Drop, R: Wait + Drop>(
 // Makes a seed's line.
 fn play<J: Naming, L: Source, F: Families + Drop, R: Wait + Drop>(
     seat: Seat<J>,
-    access: &Access<J, F, R>,
+    access: &mut Access<J, F, R>,
     said: &Said<L>,
 ) -> (Seat<J>, Words) {
     let mut parts = Parts::new();
@@ -113,13 +113,13 @@ fn play<J: Naming, L: Source, F: Families + Drop, R: Wait + Drop>(
             return (seat, done(result));
         }
     }
-    (seat, Words::new(tx_lines::Reply::OutOfMemory))
+    (seat, Words::new(tx_reply::Reply::OutOfMemory))
 }
 
 /// Makes the seeds in the order of their lines, and keeps their answers.
 pub fn play_seeds<J: Naming, L: Source, F: Families + Drop, R: Wait + Drop>(
     mut seat: Seat<J>,
-    access: &Access<J, F, R>,
+    access: &mut Access<J, F, R>,
     seeds: &[Said<L>],
     replies: &mut Vec<Spoken>,
 ) -> Result<Seat<J>, Broken>

@@ -1,13 +1,13 @@
 //! The calls of a session that send, with what they keep of it.
 ghost use Rattle.std.specs.Prelude.{◌≡◌, true};
 ghost use Rattle.tx_transaction.specs.Sessions.{is_declared, can_commit, can_abort};
-ghost use Rattle.tx_client.specs.Senders.{IsWay};
+ghost use Rattle.tx_journal.specs.Senders.{IsWay};
 ghost use Rattle.tx_client.specs.Calls.{KeepsSet};
 
 use std::alloc::Global;
-use tx_client::{Miss, Sender, Session};
+use tx_client::{Miss, Session};
 use tx_core::Answer;
-use tx_journal::{Naming, Reply, Request};
+use tx_journal::{Naming, Reply, Request, Sender};
 use tx_types::Key;
 
 /// Reads a key.

@@ -241,7 +241,7 @@ impl<J: Naming, L: Source> Moving<J, L> {
     }
 
     // Reads the balance that is read next.
-    fn reads<F: Families + Drop, R: Wait + Drop>(&mut self, access: &Access<J, F, R>) -> After {
+    fn reads<F: Families + Drop, R: Wait + Drop>(&mut self, access: &mut Access<J, F, R>) -> After {
         let answered = if self.stage == Stage::ReadFrom {
             access.get(&mut self.session, &self.order.from)
         } else {
@@ -279,7 +279,10 @@ impl<J: Naming, L: Source> Moving<J, L> {
     }
 
     // Locks the next key, until the commit is due.
-    fn prewrites<F: Families + Drop, R: Wait + Drop>(&mut self, access: &Access<J, F, R>) -> After {
+    fn prewrites<F: Families + Drop, R: Wait + Drop>(
+        &mut self,
+        access: &mut Access<J, F, R>,
+    ) -> After {
         if self.session.can_commit() || self.session.can_draw() {
             self.stage = Stage::Commit;
             return self.commits(access);
@@ -309,7 +312,10 @@ impl<J: Naming, L: Source> Moving<J, L> {
     }
 
     // Commits the next key, at a timestamp that is drawn where none is.
-    fn commits<F: Families + Drop, R: Wait + Drop>(&mut self, access: &Access<J, F, R>) -> After {
+    fn commits<F: Families + Drop, R: Wait + Drop>(
+        &mut self,
+        access: &mut Access<J, F, R>,
+    ) -> After {
         if self.session.can_draw() && self.session.draw_commit().is_err() {
             return After::Spent;
         }
@@ -324,7 +330,7 @@ impl<J: Naming, L: Source> Moving<J, L> {
     // Takes it back, as far as that is open.
     fn takes_back<F: Families + Drop, R: Wait + Drop>(
         &mut self,
-        access: &Access<J, F, R>,
+        access: &mut Access<J, F, R>,
     ) -> After {
         if self.session.can_abort() {
             return match access.abort(&mut self.session) {

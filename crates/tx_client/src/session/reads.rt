@@ -1,23 +1,23 @@
 //! Reads: of a key, and of a range over several regions.
-ghost use Rattle.std.specs.Prelude.{◌≡◌, ◌≤◌, ◌⊎◌, ◌++◌, ◌-◌, length, IfOk, IfErr, IfSome, Ok, Err};
+ghost use Rattle.std.specs.Prelude.{◌≡◌, ◌≤◌, ◌⊎◌, ◌++◌, ◌-◌, ℕ, length, IfOk, IfErr, IfSome, Ok, Err};
 ghost use Rattle.tx_types.specs.declared.fault.Fault.TheVariants as fault;
 ghost use Rattle.tx_core.specs.Allowed.{Allowed};
 ghost use Rattle.tx_transaction.specs.declared.state.Miss.TheVariants as miss;
 ghost use Rattle.tx_client.specs.declared.part.Part.TheVariants as part;
 ghost use Rattle.tx_transaction.specs.Sessions.{read_of};
-ghost use Rattle.tx_client.specs.Senders.{IsHeld, IsWay};
-ghost use Rattle.tx_client.specs.Walks.{Sends, look_walk, get_walk, part_walk, look_part, IsPart, scan_walk, part_of, low_of, high_of, enough, lesser, greater};
+ghost use Rattle.tx_journal.specs.Senders.{IsHeld, IsWay};
+ghost use Rattle.tx_client.specs.Rooms.{HasRoom, IsScan, HasUpto};
+ghost use Rattle.tx_client.specs.Walks.{Sends, look_walk, get_walk, part_walk, look_part, part_by, scan_walk, part_of, low_of, high_of, enough, lesser, greater};
 
 use crate::asking::Heard;
 use crate::part::Part;
-use crate::sender::Sender;
 use crate::session::Session;
 use std::alloc::Global;
 use std::convert::TryFrom;
 use tx_core::{Answer, Body};
-use tx_journal::{Naming, Reply, Request};
+use tx_journal::{Naming, Reply, Request, Sender};
 use tx_transaction::Miss;
-use tx_types::{Fault, Key, KeyValues};
+use tx_types::{Fault, Key, KeyValue, KeyValues};
 
 impl<J: Naming> Session<J> {
     // Sends a read.
@@ -29,7 +29,8 @@ impl<J: Naming> Session<J> {
         requires way { IsWay J.bounds S.fits S.sends S.keys_between }
         requires held { IsHeld J.bounds body }
         requires allowed { Allowed self.old.seat.events body }
-        ensures { Sends S.sends J.bounds self.old.seat sender.old (look_walk self.old.state body) (self.new.state, result) sender.new self.new.seat }
+        ensures sends { Sends S.sends J.bounds self.old.seat sender.old (look_walk self.old.state body) (self.new.state, result) sender.new self.new.seat }
+        ensures upto { (n : ℕ) → IsScan n body → HasUpto n result }
     {
         let Heard { came, lock } = self.ask(body, sender);
         self.transaction.after_read(came, lock)
@@ -106,41 +107,52 @@ fn high_key(bounds: &[Key], n: usize, to: &Key) -> Result<Key, Fault>
     to.clone()
 }
 
-// The rows, with what was found after them. Where there are none so far, that is what
-// was found as it is.
-fn append(mut rows: KeyValues, found: KeyValues) -> Result<KeyValues, Fault>
-    ensures ok { IfOk result (λ all. all ≡ rows ++ found) }
-    ensures err { IfErr result (λ e. e ≡ fault.OutOfMemory) }
+// Whether the rows so far are enough.
+fn enough(limit: u32, rows: KeyValues) -> Part
+    ensures { result ≡ enough limit rows }
 {
-    if rows.as_slice().is_empty() {
-        return Ok(found);
+    if rows.as_slice().len() < limit as usize {
+        Part::More(rows)
+    } else {
+        Part::Done(Ok(Answer::Rows(rows)))
     }
-    for row in found.as_slice() {
-        rows.push(row.clone()?)?;
-    }
-    Ok(rows)
 }
 
-// More rows were found.
-fn joined(limit: u32, rows: KeyValues, found: KeyValues) -> Part
-    ensures { (result ≡ part.Done (Err miss.Fault)) ⊎ (result ≡ enough limit (rows ++ found)) }
+// The rows so far, with room for as many as are left. Where there are none so far none is taken,
+// since what is found is then kept as it is.
+fn with_room(limit: u32, rows: KeyValues) -> Result<Vec<KeyValue>, Fault>
+    ensures ok { IfOk result (λ all. all.items ≡ rows) }
+    ensures room { IfOk result (λ all. HasRoom all (limit - length rows)) }
+    ensures err { IfErr result (λ e. e ≡ fault.OutOfMemory) }
 {
-    let Ok(all) = append(rows, found) else {
-        return Part::Done(Err(Miss::Fault));
-    };
-    if all.as_slice().len() < limit as usize {
-        Part::More(all)
-    } else {
-        Part::Done(Ok(Answer::Rows(all)))
+    let left = left(limit, &rows);
+    let mut all = rows.into_vec();
+    if !all.is_empty() {
+        all.reserve_exact(left as usize)?;
     }
+    Ok(all)
+}
+
+// The rows so far, with what was found after them, for which there is room.
+fn joined(mut rows: Vec<KeyValue>, found: KeyValues) -> KeyValues
+    requires room { HasRoom rows (length found) }
+    ensures { result ≡ rows.items ++ found }
+{
+    if rows.is_empty() {
+        return found;
+    }
+    let _moved = rows.append(&mut found.into_vec());
+    KeyValues::from_vec(rows)
 }
 
 // What a part comes to by what its read answered.
-fn part_by(limit: u32, rows: KeyValues, answered: Result<Answer, Miss>) -> Part
-    ensures { IsPart limit rows answered result }
+fn part_by(limit: u32, rows: Vec<KeyValue>, answered: Result<Answer, Miss>) -> Part
+    requires room { HasRoom rows (limit - length rows.items) }
+    requires upto { HasUpto (limit - length rows.items) answered }
+    ensures { result ≡ part_by limit rows.items answered }
 {
     match answered {
-        Ok(Answer::Rows(found)) => joined(limit, rows, found),
+        Ok(Answer::Rows(found)) => enough(limit, joined(rows, found)),
         other => Part::Done(other),
     }
 }
@@ -180,7 +192,7 @@ impl<J: Naming> Session<J> {
         }
     }
 
-    // Sends the read of a part.
+    // Takes room for the rows of a part, and sends its read.
     fn look_part<S: Sender<Request<J>, Reply<J>>>(
         &mut self,
         body: Body,
@@ -191,8 +203,12 @@ impl<J: Naming> Session<J> {
         requires way { IsWay J.bounds S.fits S.sends S.keys_between }
         requires held { IsHeld J.bounds body }
         requires allowed { Allowed self.old.seat.events body }
-        ensures { Sends S.sends J.bounds self.old.seat sender.old (look_part self.old.state body limit rows) (self.new.state, result) sender.new self.new.seat }
+        requires left { IsScan (limit - length rows) body }
+        ensures { (result ≡ part.Done (Err miss.Fault)) × (self.new ≡ self.old) × (sender.new ≡ sender.old) ⊎ Sends S.sends J.bounds self.old.seat sender.old (look_part self.old.state body limit rows) (self.new.state, result) sender.new self.new.seat }
     {
+        let Ok(rows) = with_room(limit, rows) else {
+            return Part::Done(Err(Miss::Fault));
+        };
         let answered = self.look(body, sender);
         part_by(limit, rows, answered)
     }
@@ -222,7 +238,8 @@ impl<J: Naming> Session<J> {
 
     /// Reads the first `limit` keys with a value at the session's start, from `from` up to but not
     /// including `to`: the regions' parts in order, each with the limit less the rows so far. The
-    /// buffer is not looked at.
+    /// buffer is not looked at. Before a part is asked for, room is taken for the rows that it may
+    /// add to those so far: memory that is refused to the session itself asks no further region.
     pub fn scan<S: Sender<Request<J>, Reply<J>>>(
         &mut self,
         alloc: Global,

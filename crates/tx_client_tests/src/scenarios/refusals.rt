@@ -4,7 +4,9 @@
 
 use super::Scenario;
 use std::test::Fail;
-use tx_stage::Act::{Begin, Declare, Delete, Get, Insert, Lock, Prewrite, Put, Resolve};
+use tx_stage::Act::{
+    Begin, Commit, Declare, Delete, Get, Insert, Lock, Prewrite, Put, Resolve, Scan,
+};
 use tx_stage::Way::Plain;
 use tx_stage::Who::{A, B};
 use tx_stage::{Step, played, refuses_first};
@@ -46,7 +48,28 @@ const BUFFER: [Step; 7] = [
     (A, Declare(TwoPhase, None), Plain, "ok", 0),
 ];
 
-const SCENARIOS: [Scenario; 3] = [
+// A scan takes the room for the rows of its second region, and of its third, before it asks there.
+const SCANS: [Step; 16] = [
+    (A, Begin, Plain, "start", 1),
+    (A, Put(1, 2), Plain, "ok", 0),
+    (A, Put(4, 5), Plain, "ok", 0),
+    (A, Put(7, 8), Plain, "ok", 0),
+    (A, Declare(Async, None), Plain, "ok", 0),
+    (A, Prewrite, Plain, "prewritten", 3),
+    (A, Prewrite, Plain, "prewritten", 3),
+    (A, Prewrite, Plain, "prewritten", 3),
+    (A, Commit, Plain, "committed", 3),
+    (A, Commit, Plain, "committed", 3),
+    (A, Commit, Plain, "committed", 3),
+    (B, Begin, Plain, "start", 3),
+    (B, Scan(1, 7, 9), Plain, "rows", 1245),
+    (B, Scan(1, 7, 2), Plain, "rows", 1245),
+    (B, Scan(1, 9, 9), Plain, "rows", 124578),
+    (B, Scan(1, 9, 2), Plain, "rows", 1245),
+];
+
+const SCENARIOS: [Scenario; 4] = [
+    ("scans", &SCANS),
     ("met lock", &MET_LOCK),
     ("prewrite meets lock", &PREWRITE_MEETS_LOCK),
     ("buffer", &BUFFER),

@@ -14,6 +14,7 @@ use tx_types::{Fault, Ts};
 impl<F: Families> Records<F> {
     // Answers a request of one key: what the region sees of the key, the plan, and the plan carried
     // out.
+    #[inline(always)]
     fn answer_on_key(&mut self, loaded: &Loaded, body: &Body) -> Result<Executed, Fault>
         requires of_key { IsOfKey body.now }
         requires room { (loaded.now.last < u64.MAX) × (loaded.now.mark < u64.MAX) }
@@ -31,6 +32,7 @@ impl<F: Families> Records<F> {
 
     /// Answers a request of any command, by a seat that loaded `loaded`, with minimums above
     /// `mark`. `OutOfMemory` leaves the region as it was; a RaiseSafe takes no memory.
+    #[inline(always)]
     pub fn answer(&mut self, loaded: Ts, mark: Ts, body: &Body) -> Result<Executed, Fault>
         requires room { (loaded < u64.MAX) × (mark < u64.MAX) }
         ensures ok { IfOk result (λ r. Executes mark (region_of F.content self.old) loaded body.now r.answer r.read (region_of F.content self.new)) }

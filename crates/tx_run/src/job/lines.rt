@@ -12,8 +12,9 @@ use tx_cells::Families;
 use tx_client::Session;
 use tx_journal::{Naming, Seat};
 use tx_ledger::{Entry, Said, Source, Words};
-use tx_lines::{Parts, Reply};
+use tx_reply::Reply;
 use tx_steps::{Action, Line, Program, Step};
+use tx_text::Parts;
 use tx_types::{Cause, is_name};
 use tx_work::{act, send};
 
@@ -72,7 +73,7 @@ impl<J: Naming, L: Source, F: Families + Drop, R: Wait + Drop> ScriptJob<J, L, F
     {
         let result = match step {
             Step::Act(_, action) => act(&mut session, &mut self.access, action),
-            Step::Send(_, request, _) => send(&mut session, &self.access, request),
+            Step::Send(_, request, _) => send(&mut session, &mut self.access, request),
             Step::Begin(_) => Err(Cause::Name),
             _ => Err(Cause::Order),
         };

@@ -11,7 +11,7 @@ use tx_cells::Families;
 use tx_client::Session;
 use tx_journal::{Naming, Seat};
 use tx_ledger::{Order, Source, Words};
-use tx_lines::Reply;
+use tx_reply::Reply;
 use tx_steps::Transfer;
 use tx_types::Cause;
 use tx_work::{After, Moving, refused};

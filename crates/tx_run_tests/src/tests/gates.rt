@@ -10,9 +10,9 @@ use std::thread::Threads;
 use std::time::{Clock, Duration};
 use tx_flat::FlatCells;
 use tx_latch::Cid;
-use tx_lines::Broken;
 use tx_run::{Plain, Settings, run_script};
 use tx_sched::Gate;
+use tx_text::Broken;
 
 /// Each session makes four steps, of which the last locks its key.
 static TWO_KEYS: &str = "[\"regions\",[\"b\"]]

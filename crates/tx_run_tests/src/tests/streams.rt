@@ -8,10 +8,10 @@ use std::io::{BufRead, BufReader, ErrorKind, Read, Write};
 use std::sync::Wait;
 use std::test::Fail;
 use std::thread::Threads;
-use tx_lines::{Broken, End};
 use tx_nested::NestedCells;
 use tx_run::{Plain, Settings, run_script};
 use tx_sched::Open;
+use tx_text::{Broken, End};
 
 static SCRIPT: &str = r#"["begin","A"]
 ["put","A","a","5"]

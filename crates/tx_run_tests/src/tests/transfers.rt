@@ -8,9 +8,9 @@ use std::thread::Threads;
 use tx_cells::Fresh;
 use tx_core::Outcome;
 use tx_flat::FlatCells;
-use tx_lines::{Broken, End};
 use tx_nested::NestedCells;
 use tx_run::{Played, Reply, Settings, Spoken};
+use tx_text::{Broken, End};
 
 // Ten accounts with 100 each, in four regions, and so many transfers of 1 by each of these
 // sessions.

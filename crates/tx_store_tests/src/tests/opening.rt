@@ -1,7 +1,7 @@
 //! A store of two regions, with seats for two sessions.
 ghost use Rattle.std.specs.Prelude.{◌≡◌, All, IfSome, length, vec_len};
 ghost use Rattle.tx_cells.specs.Contents.{nothing_held};
-ghost use Rattle.tx_journal.specs.Known.{AreRising};
+ghost use Rattle.tx_types.specs.Keys.{AreRising};
 
 use std::alloc::Global;
 use tx_cells::Families;

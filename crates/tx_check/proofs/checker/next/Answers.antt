@@ -1,6 +1,6 @@
 use Rattle.std.proofs.Common.{◌≡◌, Ok, rules}
 use Rattle.tx_check.specs.declared.checker.Turn.TheVariants.{Made, Refused}
-use Rattle.tx_lines.specs.Lines.{lines_of}
+use Rattle.tx_text.specs.Lines.{lines_of}
 use Rattle.tx_check.specs.Check.{step_in}
 use Rattle.tx_check.specs.Turns.{Turns}
 use Rattle.tx_check.proofs.Traces.{if_some}
@@ -12,9 +12,10 @@ returns-in-Err-Step-clause-turns g c =
     let line = c.read_line.new.line.items in
     let found : step_in c.args.number line ≡ Ok c.in-Ok.step = search rules in
     let refused = rw c.in-Err-Step.field-0-is at c.in-Err-Step.ensures.refused in
+    let keeps = c.in-Err-Step.ensures.same in
     if_some _ (λ bytes read.
-    let turns : Turns bytes (g.R.Read.remaining c.read_line.new.reader) c.args.machine.now c.step.new.self c.args.number Refused =
-    (line, lines_of read.0, c.in-Ok.step, read.3, found, refused (search rules)) in turns) reads
+    let turns : Turns bytes (g.R.Read.remaining c.read_line.new.reader) c.args.machine.now c.step.new.self c.args.number (Refused c.in-Ok.step) =
+    (line, lines_of read.0, read.3, found, refused (search rules), keeps) in turns) reads
 
 pub returns-in-Ok-step-clause-turns : goal.returns-in-Ok-step-clause-turns
 returns-in-Ok-step-clause-turns g c =

@@ -1,4 +1,4 @@
-use Rattle.tx_lines.specs.Parts.{row_data}
+use Rattle.tx_text.specs.Parts.{row_data}
 use Rattle.tx_check.specs.MachineSteps.{row_of}
 use Rattle.tx_check.proofs.Members.{ReadSoFar}
 use Rattle.tx_check.proofs.listed_step.key_values.Given as goal

@@ -1,4 +1,4 @@
-use Rattle.std.proofs.Common.{ℕ, sym, ap, subst, ◌∙◌}
+use Rattle.std.proofs.Common.{sym, ap, subst, ◌∙◌}
 use Rattle.tx_cells.specs.Numbers.{noted}
 use Rattle.tx_cells.proofs.Numbers.{noted_back}
 use Rattle.tx_flat.specs.Numbered.{numbers_among, IsNoted}

@@ -1,4 +1,4 @@
-use Rattle.std.proofs.Common.{◌≡◌, ◌<◌, ℕ, List, length, cond, bytes_eq, Option, Some, Result, Ok, Err, arith, sym, ap, subst, ◌∙◌}
+use Rattle.std.proofs.Common.{◌≡◌, ◌<◌, ℕ, List, length, cond, bytes_eq, Some, Result, Ok, Err, arith, sym, ap, subst, ◌∙◌}
 use Rattle.std.specs.Prelude.{IfOk, OnOk, IsSome}
 use Rattle.std.specs.List.{slice_get}
 use Rattle.std.specs.BTreeMap as tree
@@ -8,7 +8,7 @@ use Rattle.std.specs.Ordering.{nat_cmp}
 use Rattle.tx_types.specs.declared.key.Key.{Key}
 use Rattle.tx_cells.proofs.Facts.{if_ok, on_ok, on_err}
 use Rattle.tx_flat.specs.Ceilings.{place_of}
-use Rattle.tx_flat.specs.Numbered.{numbers_in, IsNoted}
+use Rattle.tx_flat.specs.Numbered.{IsNoted}
 use Rattle.tx_flat.specs.declared.numbers.Earlier.{Earlier}
 use Rattle.tx_flat.proofs.FlatNumbers.{among, found_there, placed_noted, placed_same}
 use Rattle.tx_flat.proofs.numbers.note.Goals as goal

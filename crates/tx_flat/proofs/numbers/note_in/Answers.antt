@@ -1,21 +1,20 @@
-use Rattle.std.proofs.Common.{◌≡◌, ℕ, cond, Option, Some, refl, sym, ap, subst, ◌∙◌}
-use Rattle.std.specs.BTreeMap as tree
-use Rattle.std.specs.Cmp.Lexicographic.{slice_cmp}
-use Rattle.std.specs.Ordering.{nat_cmp, is_eq}
-use Rattle.std.specs.Prelude.{IsSome}
-use Rattle.tx_cells.proofs.Maps.{key_here}
-use Rattle.tx_flat.proofs.FlatNumbers.{number_put}
+use Rattle.std.proofs.Common.{◌∙◌}
+use Rattle.tx_cells.specs.Numbers.{noted}
+use Rattle.tx_cells.proofs.Facts.{if_ok, on_ok, on_err}
+use Rattle.tx_flat.proofs.FlatNumbers.{same_numbers}
 use Rattle.tx_flat.proofs.numbers.note_in.Goals as goal
 
-pub returns-clause-noted : goal.returns-clause-noted
-returns-clause-noted c =
-    number_put (tree.get (slice_cmp nat_cmp) c.args.numbers.now) (tree.get (slice_cmp nat_cmp) c.insert.new.self) c.in_ok-spelt.spelt c.args.key.now c.args.number c.in_ok-spelt.ensures c.in_ok-before.ensures.updates.0
+pub returns-in-None-clause-noted : goal.returns-in-None-clause-noted
+returns-in-None-clause-noted c =
+    let stayed = same_numbers c.note_over.new.numbers c.args.numbers.now c.in-None.ensures.same in
+    on_ok c.note_first.result _ _ (λ is k. is k ∙ (λ i. noted (stayed i) c.args.key.now c.args.number k)) c.note_first.ensures.noted
 
-pub returns-clause-there : goal.returns-clause-there
-returns-clause-there c =
-    let key = c.args.key.now in
-    let old = tree.get (slice_cmp nat_cmp) c.args.numbers.now in
-    let new = tree.get (slice_cmp nat_cmp) c.insert.new.self in
-    let at : new key ≡ Some c.args.number =
-    c.in_ok-before.ensures.updates.0 key ∙ (ap (λ i. cond (is_eq (slice_cmp nat_cmp i key)) (Some c.args.number) (old key)) c.in_ok-spelt.ensures ∙ ap (λ b. cond b (Some c.args.number) (old key)) (key_here key)) in
-    subst (λ (o : Option ℕ). IsSome o) (sym at) refl
+pub returns-in-None-clause-before : goal.returns-in-None-clause-before
+returns-in-None-clause-before c =
+    let stayed = same_numbers c.note_over.new.numbers c.args.numbers.now c.in-None.ensures.same in
+    if_ok c.note_first.result _ _ (λ x is. (is.0, is.1 ∙ (λ i. stayed i c.args.key.now))) c.note_first.ensures.before
+
+pub returns-in-None-clause-same : goal.returns-in-None-clause-same
+returns-in-None-clause-same c =
+    let stayed = same_numbers c.note_over.new.numbers c.args.numbers.now c.in-None.ensures.same in
+    on_err c.note_first.result _ _ (λ is k. is k ∙ (λ i. stayed i k)) c.note_first.ensures.same

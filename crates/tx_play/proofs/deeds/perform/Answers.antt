@@ -3,7 +3,7 @@ use Rattle.tx_types.specs.declared.fault.Cause.{Cause}
 use Rattle.tx_types.specs.declared.key.Key.{Key}
 use Rattle.tx_client.specs.Calls.{Seated}
 use Rattle.tx_play.specs.declared.step.Act.{Act}
-use Rattle.tx_lines.specs.declared.reply.Reply.{Reply}
+use Rattle.tx_reply.specs.declared.reply.Reply.{Reply}
 use Rattle.tx_post.specs.Posts.{Desk}
 use Rattle.tx_play.specs.Scenes.{deeds_by}
 use Rattle.tx_play.specs.Steps.{deed_of}

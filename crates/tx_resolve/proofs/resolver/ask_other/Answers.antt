@@ -2,7 +2,7 @@ use Rattle.std.proofs.Common.{◌≡◌, ◌∙◌, sym, ap, subst}
 use Rattle.tx_types.specs.declared.lock.LockInfo.{LockInfo}
 use Rattle.tx_plan.specs.declared.body.Body.{Body}
 use Rattle.tx_core.specs.Allowed.{Allowed}
-use Rattle.tx_client.specs.Senders.{IsHeld}
+use Rattle.tx_journal.specs.Senders.{IsHeld}
 use Rattle.tx_client.specs.Facts.{CameSo}
 use Rattle.tx_client.proofs.Calling.{held_at}
 use Rattle.tx_resolve.specs.Resolving.{other_of}

@@ -1,9 +1,9 @@
 use Rattle.std.proofs.Common.{◌++◌, ap, subst, ◌∙◌}
 use Rattle.std.specs.Io.KnownBytes.{Appends}
 use Rattle.std.proofs.KnownBytes.{Appends-kept, Keeps-refl}
-use Rattle.tx_lines.specs.Faults.{fault_words}
-use Rattle.tx_lines.specs.Replies.{reply_text}
-use Rattle.tx_lines.specs.Output.{AppendsPart}
+use Rattle.tx_text.specs.Faults.{fault_words}
+use Rattle.tx_text.specs.Members.{reply_text}
+use Rattle.tx_text.specs.Output.{AppendsPart}
 use Rattle.tx_run.proofs.Writing.{on_any_ok, on_any_err, part_none, part_all}
 use Rattle.tx_run.proofs.write.tell_fault.Goals as goal
 

@@ -1,7 +1,7 @@
 use Rattle.std.proofs.Common.{◌≡◌, ◌++◌, ℕ, List, [], get_or, sym, ap, subst, ◌∙◌}
 use Rattle.std.specs.Io.KnownBytes.{Appends}
 use Rattle.tx_ledger.specs.Lines.{line_of}
-use Rattle.tx_lines.specs.Output.{AppendsPart}
+use Rattle.tx_text.specs.Output.{AppendsPart}
 use Rattle.tx_run.proofs.Writing.{on_any_err, each_more, each_none, each_part}
 use Rattle.tx_run.proofs.write.write_lines.Goals as goal
 

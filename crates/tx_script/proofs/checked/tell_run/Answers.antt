@@ -1,6 +1,6 @@
 use Rattle.std.proofs.Common.{◌∷◌, [], map}
-use Rattle.tx_lines.specs.Steps.{step_text}
-use Rattle.tx_lines.specs.Texts.{line_text}
+use Rattle.tx_check.specs.Steps.{step_text}
+use Rattle.tx_text.specs.Texts.{line_text}
 use Rattle.tx_check.specs.declared.words.Verdict.TheVariants.{Yes}
 use Rattle.tx_check.specs.Words.{words}
 use Rattle.tx_script.proofs.Scripts.{if_err_is}

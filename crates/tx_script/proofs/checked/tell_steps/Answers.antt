@@ -1,7 +1,7 @@
 use Rattle.std.proofs.Common.{◌≡◌, ℕ, List, [], ◌++◌, get_or, ap, subst, ◌∙◌}
 use Rattle.std.specs.Io.KnownBytes.{Appends}
-use Rattle.tx_lines.specs.Output.{AppendsPart}
-use Rattle.tx_lines.specs.Steps.{step_text}
+use Rattle.tx_text.specs.Output.{AppendsPart}
+use Rattle.tx_check.specs.Steps.{step_text}
 use Rattle.tx_script.proofs.Scripts.{if_err_is, if_any_err}
 use Rattle.tx_script.proofs.Begun.{each_more, each_none, each_part}
 use Rattle.tx_script.proofs.checked.tell_steps.Goals as goal

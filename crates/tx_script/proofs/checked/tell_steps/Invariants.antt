@@ -1,7 +1,7 @@
 use Rattle.std.proofs.Common.{map, take}
 use Rattle.std.specs.List.{concat}
 use Rattle.std.specs.Io.KnownBytes.{Appends}
-use Rattle.tx_lines.specs.Steps.{step_text}
+use Rattle.tx_check.specs.Steps.{step_text}
 use Rattle.tx_script.proofs.checked.tell_steps.Given as goal
 
 abbrev pub invariant-steps : goal.invariant-steps

@@ -7,8 +7,8 @@ use Rattle.tx_core.specs.Histories.{History}
 use Rattle.tx_core.specs.Shadow.{shadow}
 use Rattle.tx_machine.specs.declared.step.Step.{Step}
 use Rattle.tx_trace.specs.Traces.{Noted}
-use Rattle.tx_lines.specs.Steps.{step_text}
-use Rattle.tx_lines.specs.Texts.{line_text}
+use Rattle.tx_check.specs.Steps.{step_text}
+use Rattle.tx_text.specs.Texts.{line_text}
 use Rattle.tx_check.specs.declared.words.Verdict.TheVariants.{Yes}
 use Rattle.tx_check.specs.Words.{words}
 use Rattle.tx_script.specs.Loops.{AppendsBegun, AreOf}

@@ -1,5 +1,5 @@
 use Rattle.std.proofs.Common.{sym, ◌∙◌}
-use Rattle.tx_lines.specs.declared.reply.Reply.TheVariants.{Regions}
+use Rattle.tx_reply.specs.declared.reply.Reply.TheVariants.{Regions}
 use Rattle.tx_steps.specs.Lines.{data_of}
 use Rattle.tx_script.specs.Play.{value_turn}
 use Rattle.tx_script.proofs.LineTurns.{says_so, regions_turn}

@@ -1,7 +1,7 @@
 use Rattle.std.proofs.Common.{◌≡◌, List, refl, ap, subst, ◌∙◌}
 use Rattle.std.proofs.KnownBytes.{Keeps-refl}
 use Rattle.tx_types.specs.declared.key.Key.{Key}
-use Rattle.tx_lines.specs.Lines.{lines_of}
+use Rattle.tx_text.specs.Lines.{lines_of}
 use Rattle.tx_script.specs.Play.{bounds_of}
 use Rattle.tx_script.specs.Loops.{first_bounds, EndsAsked, BreaksAsked}
 use Rattle.tx_script.proofs.Scripts.{if_any_err}

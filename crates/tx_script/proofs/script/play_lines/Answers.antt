@@ -1,7 +1,7 @@
 use Rattle.std.proofs.Common.{◌≤◌, ◌+◌, length, sym, subst, arith}
 use Rattle.std.proofs.KnownBytes.{Keeps-refl}
 use Rattle.tx_types.specs.declared.limits.TheConstants.{MAX_LINES}
-use Rattle.tx_lines.specs.declared.end.Broken.{Broken}
+use Rattle.tx_text.specs.declared.end.Broken.{Broken}
 use Rattle.tx_play.specs.Places.{Held, own, Goes}
 use Rattle.tx_post.specs.Posts.{IsTraced}
 use Rattle.tx_script.specs.declared.line.Turned.TheVariants as turned

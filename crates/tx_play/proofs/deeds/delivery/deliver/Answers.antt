@@ -1,6 +1,6 @@
 use Rattle.std.proofs.Common.{ap}
-use Rattle.tx_client.specs.Senders.{came_by}
-use Rattle.tx_lines.specs.declared.reply.Reply.TheVariants as reply
+use Rattle.tx_client.specs.Learns.{came_by}
+use Rattle.tx_reply.specs.declared.reply.Reply.TheVariants as reply
 use Rattle.tx_play.specs.Scenes.{delivered_by}
 use Rattle.tx_play.proofs.Delivering.{not_held, handed}
 use Rattle.tx_play.proofs.deeds.delivery.deliver.Goals as goal

@@ -3,7 +3,7 @@ use Rattle.std.proofs.lemmas.List.{length-set}
 use Rattle.std.proofs.lemmas.Option.{slice_get_within}
 use Rattle.tx_types.specs.declared.fault.Cause.TheVariants as cause
 use Rattle.tx_play.specs.declared.places.Slot.TheVariants.{Free, Lent}
-use Rattle.tx_lines.specs.declared.reply.Reply.TheVariants as reply
+use Rattle.tx_reply.specs.declared.reply.Reply.TheVariants as reply
 use Rattle.tx_play.specs.Scenes.{first_free}
 use Rattle.tx_types.specs.Names.{is_name}
 use Rattle.tx_play.specs.Steps.{begin}

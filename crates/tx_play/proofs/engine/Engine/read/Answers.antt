@@ -1,7 +1,7 @@
 use Rattle.std.proofs.Common.{rules, ◌≡◌, [], not, true, false, Ok, refl, sym, subst, ◌∙◌}
 use Rattle.tx_types.specs.declared.key.Key.{Key}
 use Rattle.tx_plan.specs.declared.body.Body.TheVariants as request
-use Rattle.tx_lines.specs.declared.reply.Reply.{Reply}
+use Rattle.tx_reply.specs.declared.reply.Reply.{Reply}
 use Rattle.tx_post.specs.Posts.{stage_of, Met}
 use Rattle.tx_play.specs.Scenes.{is_key}
 use Rattle.tx_play.specs.Steps.{read}

@@ -1,7 +1,7 @@
 use Rattle.std.proofs.Common.{◌≡◌, ◌≤◌, length, slice_get, Some, None, Ok, Err, refl, sym, ap, subst, ◌∙◌, arith}
 use Rattle.tx_types.specs.declared.fault.Cause.TheVariants as cause
 use Rattle.tx_play.specs.declared.places.Slot.TheVariants.{Live}
-use Rattle.tx_lines.specs.declared.reply.Reply.TheVariants as reply
+use Rattle.tx_reply.specs.declared.reply.Reply.TheVariants as reply
 use Rattle.tx_play.specs.Steps.{stop}
 use Rattle.std.proofs.lemmas.Map.Text.{btree_map_updates_text}
 use Rattle.tx_play.specs.Places.{Held, texts, name_at, AllSeated, Goes, Turned}

@@ -1,7 +1,7 @@
 use Rattle.std.proofs.Common.{◌≡◌, nat_eq, Ok, false, refl, sym, subst}
 use Rattle.std.proofs.lemmas.Bool.{ne_eqb}
 use Rattle.tx_types.specs.declared.fault.Cause.TheVariants as cause
-use Rattle.tx_lines.specs.declared.reply.Reply.TheVariants as reply
+use Rattle.tx_reply.specs.declared.reply.Reply.TheVariants as reply
 use Rattle.tx_play.specs.Steps.{tick}
 use Rattle.tx_play.specs.Places.{Held, texts, AllSeated, Goes, Turned}
 use Rattle.tx_play.proofs.Engines.{tick_stops, step_stops, step_ticked, step_spent}

@@ -2,7 +2,7 @@ use Rattle.std.proofs.Common.{◌≡◌, Some, None, Result, sym, subst}
 use Rattle.std.specs.Prelude.{IfNone, IfSome, IfOk}
 use Rattle.tx_types.specs.declared.fault.Fault.{Fault}
 use Rattle.tx_journal.specs.Replies.{Asked}
-use Rattle.tx_client.specs.Senders.{IsHeld}
+use Rattle.tx_journal.specs.Senders.{IsHeld}
 use Rattle.tx_post.specs.Posts.{Desk, AllFit, requests, request_at}
 use Rattle.tx_post.proofs.Holding.{none_held, some_held}
 use Rattle.tx_post.proofs.post.Post.copy_of.Goals as goal

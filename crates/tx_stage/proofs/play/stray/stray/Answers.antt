@@ -5,7 +5,7 @@ use Rattle.tx_core.specs.declared.event.Event.TheVariants.{Began, Declared}
 use Rattle.tx_core.specs.Recording.{MayRecord}
 use Rattle.tx_journal.specs.Known.{HasDrawn, HasRecorded}
 use Rattle.tx_journal.proofs.Calls.{may_begin_there}
-use Rattle.tx_client.specs.Senders.{IsHeld}
+use Rattle.tx_journal.specs.Senders.{IsHeld}
 use Rattle.tx_client.proofs.Calling.{held_at}
 use Rattle.tx_stage.proofs.Strays.{may_declare_both}
 use Rattle.tx_stage.proofs.play.stray.stray.Goals as goal

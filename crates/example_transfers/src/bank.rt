@@ -1,0 +1,82 @@
+//! What is done in the bank, each by one call of `update`.
+use crate::accounts::{Open, Total, Transfer};
+use std::alloc::Global;
+use std::sync::Wait;
+use std::thread::{Threads, join};
+use tx_client::Terms;
+use tx_core::Outcome;
+use tx_journal::Naming;
+use tx_nested::NestedCells;
+use tx_simple::{Seats, Stop, Work, update};
+use tx_store::{Store, Wire};
+use tx_types::Mode;
+
+// How many transfers each thread makes.
+const TRANSFERS: u8 = 50;
+
+// How often each is tried again.
+const AGAIN: u32 = 1_000_000;
+
+// Runs an update, and hands the seats back where it did what it was to do, or gave up.
+fn done<J: Naming, R: Wait, W: Work>(
+    rt: &R,
+    store: &Store<J, NestedCells>,
+    alloc: Global,
+    seats: Seats<J>,
+    work: &mut W,
+) -> Option<Seats<J>> {
+    let terms = Terms {
+        mode: Mode::Async,
+        ttl: 100,
+        max_commit: None,
+    };
+    let mut wire = Wire::new(rt, store);
+    wire.show();
+    let ended = update(alloc, seats, terms, AGAIN, work, &mut wire).ok()?;
+    match (&ended.outcome, &ended.stop) {
+        (Outcome::Committed(_) | Outcome::ReadOnly, None | Some(Stop::GaveUp)) => {
+            Some(ended.into_seats())
+        }
+        _ => None,
+    }
+}
+
+// Makes the transfers of a thread.
+fn transfers<J: Naming, R: Wait>(
+    rt: &R,
+    store: &Store<J, NestedCells>,
+    alloc: Global,
+    mut seats: Seats<J>,
+    thread: u8,
+) -> Option<Seats<J>> {
+    for n in 0..TRANSFERS {
+        let mut transfer = Transfer {
+            from: n % 4,
+            to: n.wrapping_add(thread) % 4,
+            amount: n % 7,
+        };
+        seats = done(rt, store, alloc, seats, &mut transfer)?;
+    }
+    Some(seats)
+}
+
+/// The accounts are opened, money is moved on two threads, and they are read: what they have
+/// together.
+pub fn play<J: Naming + Send + Sync, R: Threads + Wait + Sync>(
+    rt: &R,
+    store: &Store<J, NestedCells>,
+    alloc: Global,
+    one: Seats<J>,
+    two: Seats<J>,
+) -> Option<u32> {
+    let one = done(rt, store, alloc, one, &mut Open)?;
+    let (one, two) = join(
+        rt,
+        || transfers(rt, store, alloc, one, 1),
+        || transfers(rt, store, alloc, two, 2),
+    );
+    drop(two?);
+    let mut total = Total { sum: 0 };
+    drop(done(rt, store, alloc, one?, &mut total)?);
+    Some(total.sum)
+}

@@ -1,0 +1,10 @@
+use Rattle.std.proofs.Common.{◌∙◌}
+use Rattle.json.specs.Print.{escape_byte}
+use Rattle.tx_text.proofs.Texts.{if_ok}
+use Rattle.tx_check.proofs.Joins.{join_two}
+use Rattle.tx_check.proofs.reasons.put_twice.Goals as goal
+
+pub returns : goal.returns
+unfolding escape_byte
+returns c = if_ok c.extend_from_slice.result _ _ _ c.extend_from_slice.ensures.items
+    (λ e. e ∙ join_two c.args.out.now.items _ _ _ c.in_ok-put_key.ensures c.in_ok-put_stamp.ensures)

@@ -1,0 +1,27 @@
+-- What the sender of a request knows by what comes of it.
+use Rattle.std.specs.Prelude.{◌≡◌, List, Option, Some, None, Ok, Err}
+use Rattle.tx_types.specs.declared.key.Key.{Key}
+use Rattle.tx_plan.specs.declared.answer.Answer.{Answer}
+use Rattle.tx_core.specs.Histories.{Begins}
+use Rattle.tx_journal.specs.Known.{Known, HasSeen}
+use Rattle.tx_journal.specs.Replies.{IsGiven}
+use Rattle.tx_journal.specs.Senders.{Reached}
+use Rattle.tx_transaction.specs.declared.state.Came.{Came}
+use Rattle.tx_transaction.specs.declared.state.Came.TheVariants as came
+
+-- what it comes to for the sender
+abbrev pub came_by : Option Answer → Came
+came_by None = came.Unsaid
+came_by (Some a) = came.Said a
+
+abbrev pub came_of : Reached → Came
+came_of (Err l) = came.Lost
+came_of (Ok g) = came_by g.answer
+
+-- a seat learns what a reply tells, which is one that a region gave, and nothing where none came;
+-- it makes no event
+abbrev pub Learns : List Key → Known → Reached → Known → Type 0
+Learns bounds old (Err l) new = new ≡ old
+Learns bounds old (Ok g) new =
+    (new.seat ≡ old.seat) × (new.ticks ≡ old.ticks) × HasSeen bounds old.seat old.events new.events
+    × Begins g.events new.events × IsGiven bounds g

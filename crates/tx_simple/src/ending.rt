@@ -1,0 +1,101 @@
+//! How an update ends.
+ghost use Rattle.std.specs.Prelude.{◌≡◌, true, None, IfOk, IfErr};
+ghost use Rattle.tx_transaction.specs.Sessions.{finish_of};
+ghost use Rattle.tx_journal.specs.Known.{Known};
+ghost use Rattle.tx_client.specs.Calls.{Seated};
+ghost use Rattle.tx_simple.specs.Updates.{IsWithoutEffect, Writes};
+ghost use Rattle.tx_simple.specs.Endings.{EndsFrom, IsOpen};
+
+use crate::stopping::Stop;
+use tx_client::Session;
+use tx_core::Outcome;
+use tx_journal::{Naming, Seat};
+use tx_types::Ts;
+
+/// The seats of who runs updates: one begins their transactions, the other resolves the locks in
+/// their way.
+#[derive(Drop)]
+pub struct Seats<J: Naming> {
+    pub begins: Seat<J>,
+    pub resolves: Seat<J>,
+}
+
+/// How the transaction ended that ran last.
+#[derive(Drop)]
+pub struct Ended<J: Naming> {
+    /// Its start timestamp.
+    pub start: Ts,
+    /// What `finish` answered.
+    pub outcome: Outcome,
+    /// Why it went no further; none where it did all that it was to do.
+    pub stop: Option<Stop>,
+    pub seats: Seats<J>,
+}
+
+/// There is no outcome.
+#[derive(Drop)]
+pub enum Unended<J: Naming> {
+    /// The ticks of the seat that begins are spent: no transaction began.
+    Spent(Seats<J>),
+    /// Nothing is decided, and no answer is missing: memory was refused to the session itself. The
+    /// session goes on, and may be asked again, aborted or stopped.
+    Open {
+        session: Session<J>,
+        resolves: Seat<J>,
+        stop: Option<Stop>,
+    },
+}
+
+impl<J: Naming> Ended<J> {
+    /// Whether the transaction changed nothing, for good, and one that begins later may go further.
+    pub fn may_pass(&self) -> bool
+        ensures { result ≡ true → IsWithoutEffect self.now.outcome }
+    {
+        match (&self.outcome, &self.stop) {
+            (Outcome::Aborted | Outcome::ReadOnly, Some(stop)) => stop.may_pass(),
+            _ => false,
+        }
+    }
+
+    /// The seats.
+    pub fn into_seats(self) -> Seats<J>
+        ensures { result ≡ self.seats }
+    {
+        let Ended {
+            start: _,
+            outcome: _,
+            stop: _,
+            seats,
+        } = self;
+        seats
+    }
+}
+
+// Finishes a transaction that has gone as far as it goes.
+#[inline(always)]
+pub(crate) fn finished<J: Naming>(
+    session: Session<J>,
+    resolves: Seat<J>,
+    stop: Option<Stop>,
+) -> Result<Ended<J>, Unended<J>>
+    ensures ended { (begun : Seated) → Writes begun session
+        → IfOk result (λ e. EndsFrom J.bounds begun.seat resolves e) }
+    ensures open_yet { IfErr result (λ u. IsOpen session resolves u) }
+{
+    // For proofs: what its seat has seen declared.
+    session.show();
+    let start = session.start();
+    match session.finish() {
+        Ok((outcome, begins)) => Ok(Ended {
+            start,
+            outcome,
+            stop,
+            seats: Seats { begins, resolves },
+        }),
+        Err(session) => Err(Unended::Open {
+            session,
+            resolves,
+            stop,
+        }),
+    }
+}

@@ -1,0 +1,180 @@
+//! What an update reads and writes within its transaction.
+ghost use Rattle.std.specs.Prelude.{◌≡◌, false};
+ghost use Rattle.tx_transaction.specs.Sessions.{is_declared};
+
+use crate::running::{Begun, Running};
+use crate::stopping::{Stop, stop_by};
+use std::alloc::Global;
+use tx_client::{Miss, Status, WaitCause};
+use tx_core::Answer;
+use tx_journal::{Naming, Reply, Request, Sender};
+use tx_types::limits::MAX_SCAN_ROWS;
+use tx_types::{Key, KeyValues, Ts, Value};
+
+/// A transaction that declares nothing yet, as it is lent to an update: it reads at its start, and
+/// enters changes into its buffer, which nobody else sees. A lock in the way of a read is resolved,
+/// and the read is made again.
+pub trait Tx {
+    ghost use Rattle.std.specs.Prelude.{◌≡◌, OnOk, OnErr, Some};
+    ghost use Rattle.tx_types.specs.declared.mutation.Mutation.TheVariants as mutation;
+    ghost use Rattle.tx_transaction.specs.Buffers.{Entries, touched, put_over, inserted, locked, buffered};
+
+    /// What is entered so far.
+    ghost buffer: { Self → Entries };
+
+    /// Where it takes memory.
+    fn alloc(&self) -> Global;
+
+    /// Its start timestamp.
+    fn start(&self) -> Ts;
+
+    /// The value of a key at the start, or what was entered of it. `Waits` where a lock stands in
+    /// the way whose transaction lives or cannot be asked, `BelowSafePoint` where the start lies
+    /// below the safe point, `Lost` where no reply came, `Refused` for want of memory.
+    fn get(&mut self, key: &Key) -> Result<Option<Value>, Stop>
+        ensures { buffer self.new ≡ buffer self.old };
+
+    /// The first `limit` keys with a value at the start, from `from` up to but not including `to`;
+    /// what was entered is not looked at. It stops as `get` does.
+    fn scan(&mut self, from: &Key, to: &Key, limit: u32) -> Result<KeyValues, Stop>
+        ensures { buffer self.new ≡ buffer self.old };
+
+    /// Enters a put. `Refused` for more than 1,024 keys, or for want of memory: nothing is entered
+    /// then.
+    fn put(&mut self, key: Key, value: Value) -> Result<(), Stop>
+        ensures ok { OnOk result (buffer self.new
+            ≡ touched (buffer self.old) key (put_over (buffered (buffer self.old) key) value)) }
+        ensures same { OnErr result (buffer self.new ≡ buffer self.old) };
+
+    /// Enters an insert: a put of a key that is to have no value. `AlreadyExists` where a put or an
+    /// insert of it was entered; where the key has a value at the start, the transaction stops by
+    /// that as it commits. `Refused` as for a put.
+    fn insert(&mut self, key: Key, value: Value) -> Result<(), Stop>
+        ensures ok { OnOk result (inserted (buffer self.old) key value ≡ Some (buffer self.new)) }
+        ensures same { OnErr result (buffer self.new ≡ buffer self.old) };
+
+    /// Enters a delete. `Refused` as for a put.
+    fn delete(&mut self, key: Key) -> Result<(), Stop>
+        ensures ok { OnOk result (buffer self.new ≡ touched (buffer self.old) key mutation.Delete) }
+        ensures same { OnErr result (buffer self.new ≡ buffer self.old) };
+
+    /// Enters a lock, where the key is not entered: it is not to change before the transaction
+    /// commits. `Refused` as for a put.
+    fn lock(&mut self, key: Key) -> Result<(), Stop>
+        ensures ok { OnOk result (buffer self.new ≡ locked (buffer self.old) key) }
+        ensures same { OnErr result (buffer self.new ≡ buffer self.old) };
+}
+
+/// A running session that declares nothing yet.
+#[derive(Drop)]
+pub(crate) struct Lent<'a, J: Naming, S: Sender<Request<J>, Reply<J>>, B: Begun> {
+    running: Running<'a, J, S, B>,
+    ghost open: { is_declared B.session.state ≡ false },
+}
+
+// The value that a read of a key found.
+fn value_in(answer: Answer) -> Result<Option<Value>, Stop> {
+    match answer {
+        Answer::Found(value) => Ok(Some(value)),
+        Answer::Nothing => Ok(None),
+        refusal => Err(stop_by(refusal)),
+    }
+}
+
+// The rows that a scan found.
+fn rows_in(answer: Answer) -> Result<KeyValues, Stop> {
+    match answer {
+        Answer::Rows(rows) => Ok(rows),
+        refusal => Err(stop_by(refusal)),
+    }
+}
+
+impl<'a, J: Naming, S: Sender<Request<J>, Reply<J>>, B: Begun> Lent<'a, J, S, B> {
+    /// Lends what sets out here.
+    pub(crate) fn new(running: Running<'a, J, S, B>) -> Lent<'a, J, S, B>
+        requires { is_declared B.session.state ≡ false }
+    {
+        Lent { running }
+    }
+
+    /// What runs.
+    pub(crate) fn into_running(self) -> Running<'a, J, S, B> {
+        let Lent { running } = self;
+        running
+    }
+
+    // What a read answered; none where a lock was in its way that it may pass by now.
+    fn passed(&mut self, came: Result<Answer, Miss>) -> Result<Option<Answer>, Stop>
+        ensures { self.new.running.state.buffer ≡ self.old.running.state.buffer }
+    {
+        match came? {
+            Answer::KeyIsLocked(_) => match self.running.clear()? {
+                Status::Waiting(why) => Err(Stop::Waits(why)),
+                _ => Ok(None),
+            },
+            answer => Ok(Some(answer)),
+        }
+    }
+
+    // Reads a key, once.
+    fn look(&mut self, key: &Key) -> Result<Option<Answer>, Stop>
+        ensures { self.new.running.state.buffer ≡ self.old.running.state.buffer }
+    {
+        let came = self.running.get(key);
+        self.passed(came)
+    }
+
+    // Reads a range, once.
+    fn look_over(&mut self, from: &Key, to: &Key, limit: u32) -> Result<Option<Answer>, Stop>
+        ensures { self.new.running.state.buffer ≡ self.old.running.state.buffer }
+    {
+        let came = self.running.scan(from, to, limit);
+        self.passed(came)
+    }
+}
+
+impl<'a, J: Naming, S: Sender<Request<J>, Reply<J>>, B: Begun> Tx for Lent<'a, J, S, B> {
+    ghost buffer = { λ t. t.running.state.buffer };
+
+    fn alloc(&self) -> Global {
+        self.running.alloc()
+    }
+
+    fn start(&self) -> Ts {
+        self.running.start()
+    }
+
+    fn get(&mut self, key: &Key) -> Result<Option<Value>, Stop> {
+        for _ in 0..MAX_SCAN_ROWS {
+            if let Some(answer) = self.look(key)? {
+                return value_in(answer);
+            }
+        }
+        Err(Stop::Waits(WaitCause::Live))
+    }
+
+    fn scan(&mut self, from: &Key, to: &Key, limit: u32) -> Result<KeyValues, Stop> {
+        for _ in 0..MAX_SCAN_ROWS {
+            if let Some(answer) = self.look_over(from, to, limit)? {
+                return rows_in(answer);
+            }
+        }
+        Err(Stop::Waits(WaitCause::Live))
+    }
+
+    fn put(&mut self, key: Key, value: Value) -> Result<(), Stop> {
+        Ok(self.running.put(key, value)?)
+    }
+
+    fn insert(&mut self, key: Key, value: Value) -> Result<(), Stop> {
+        Ok(self.running.insert(key, value)?)
+    }
+
+    fn delete(&mut self, key: Key) -> Result<(), Stop> {
+        Ok(self.running.delete(key)?)
+    }
+
+    fn lock(&mut self, key: Key) -> Result<(), Stop> {
+        Ok(self.running.lock(key)?)
+    }
+}

@@ -1,0 +1,224 @@
+//! A session under way, with what it sends by and the seat that resolves locks in its way.
+ghost use Rattle.std.specs.Prelude.{◌≡◌, true, false, Some, OnOk, OnErr};
+ghost use Rattle.tx_types.specs.declared.mutation.Mutation.TheVariants as mutation;
+ghost use Rattle.tx_transaction.specs.Buffers.{touched, put_over, inserted, locked, buffered};
+ghost use Rattle.tx_transaction.specs.Sessions.{is_declared, can_commit, can_abort};
+ghost use Rattle.tx_journal.specs.Senders.{IsWay};
+ghost use Rattle.tx_simple.specs.Updates.{Follows, GoesOn};
+
+use crate::sends;
+use crate::stopping::Stop;
+use std::alloc::Global;
+use std::marker::{Brand, Model, PhantomData};
+use tx_client::{Miss, Session, Status};
+use tx_core::Answer;
+use tx_journal::{Naming, Reply, Request, Seat, Sender};
+use tx_types::{Fault, Key, Ts, Value};
+
+/// Where a session sets out. The call that runs it picks this.
+pub(crate) trait Begun {
+    ghost use Rattle.tx_client.specs.Calls.{Seated};
+    ghost use Rattle.tx_journal.specs.Known.{Known};
+
+    /// The session.
+    ghost session: { Seated };
+
+    /// The seat that resolves.
+    ghost resolver: { Known };
+}
+
+impl Begun for Brand {
+    ghost use Rattle.std.specs.Prelude.{[]};
+    ghost use Rattle.tx_journal.specs.Known.{known};
+    ghost use Rattle.tx_transaction.specs.Sessions.{begun};
+
+    ghost session = { record { state = begun 0; seat = known 0 0 [] } };
+
+    ghost resolver = { known 0 0 [] };
+}
+
+/// A session under way. Contracts see the session. It goes on from where it set out: what it has
+/// declared there, it declares.
+#[derive(Drop)]
+pub(crate) struct Running<'a, J: Naming, S: Sender<Request<J>, Reply<J>>, B: Begun> {
+    alloc: Global,
+    session: Session<J>,
+    resolver: Seat<J>,
+    sender: &'a mut S,
+    of: PhantomData<B>,
+}
+
+impl<'a, J: Naming, S: Sender<Request<J>, Reply<J>>, B: Begun> Model for Running<'a, J, S, B> {
+    ghost use Rattle.tx_client.specs.Calls.{Seated};
+    ghost use Rattle.tx_journal.specs.Senders.{IsWay};
+    ghost use Rattle.tx_simple.specs.Updates.{Follows, GoesOn};
+
+    ghost Value = { Seated };
+
+    ghost view = { λ t. t.session };
+
+    ghost invariant = { λ t. IsWay J.bounds S.fits S.sends S.keys_between
+        × Follows B.session t.session × GoesOn B.resolver t.resolver };
+}
+
+impl<'a, J: Naming, S: Sender<Request<J>, Reply<J>>, B: Begun> Running<'a, J, S, B> {
+    /// It sets out here.
+    pub(crate) fn new(
+        alloc: Global,
+        session: Session<J>,
+        resolver: Seat<J>,
+        sender: &'a mut S,
+    ) -> Running<'a, J, S, B>
+        requires way { IsWay J.bounds S.fits S.sends S.keys_between }
+        requires session { session ≡ B.session }
+        requires resolver { resolver ≡ B.resolver }
+        ensures { result ≡ session }
+    {
+        Running {
+            alloc,
+            session,
+            resolver,
+            sender,
+            of: PhantomData,
+        }
+    }
+
+    /// The session, and the seat that resolves.
+    pub(crate) fn into_parts(self) -> (Session<J>, Seat<J>)
+        ensures session { Follows B.session result.0 }
+        ensures resolver { GoesOn B.resolver result.1 }
+    {
+        let Running {
+            alloc: _,
+            session,
+            resolver,
+            sender: _,
+            of: _,
+        } = self;
+        (session, resolver)
+    }
+
+    /// Where it takes memory.
+    pub(crate) fn alloc(&self) -> Global {
+        self.alloc
+    }
+
+    /// Its start timestamp.
+    pub(crate) fn start(&self) -> Ts {
+        self.session.start()
+    }
+
+    /// Whether it declared.
+    pub(crate) fn is_declared(&self) -> bool
+        ensures { result ≡ is_declared self.now.state }
+    {
+        self.session.is_declared()
+    }
+
+    /// Whether a commit may be asked.
+    pub(crate) fn can_commit(&self) -> bool
+        ensures { result ≡ can_commit self.now.state }
+    {
+        self.session.can_commit()
+    }
+
+    /// Whether an abort may be asked.
+    pub(crate) fn can_abort(&self) -> bool
+        ensures { result ≡ can_abort self.now.state }
+    {
+        self.session.can_abort()
+    }
+
+    /// Reads a key.
+    pub(crate) fn get(&mut self, key: &Key) -> Result<Answer, Miss>
+        ensures { self.new.state.buffer ≡ self.old.state.buffer }
+    {
+        sends::get(&mut self.session, key, self.sender)
+    }
+
+    /// Reads a range.
+    pub(crate) fn scan(&mut self, from: &Key, to: &Key, limit: u32) -> Result<Answer, Miss>
+        ensures { self.new.state.buffer ≡ self.old.state.buffer }
+    {
+        sends::scan(
+            &mut self.session,
+            self.alloc,
+            (from, to),
+            limit,
+            self.sender,
+        )
+    }
+
+    /// Resolves the lock that last stood in its way, at the last timestamp that was drawn, and
+    /// learns what was found.
+    pub(crate) fn clear(&mut self) -> Result<Status, Stop>
+        ensures { self.new.state.buffer ≡ self.old.state.buffer }
+    {
+        sends::clear(&mut self.session, &mut self.resolver, self.sender)
+    }
+
+    /// Sends the prewrite that is due.
+    pub(crate) fn prewrite(&mut self) -> Result<Option<Answer>, Miss>
+        requires { is_declared self.old.state ≡ true }
+    {
+        sends::prewrite(&mut self.session, self.alloc, self.sender)
+    }
+
+    /// Draws the commit timestamp, where it may be drawn.
+    pub(crate) fn draw(&mut self) -> Result<(), Fault> {
+        sends::draw(&mut self.session)
+    }
+
+    /// Sends the commit that is due.
+    pub(crate) fn commit(&mut self) -> Result<Option<Answer>, Miss>
+        requires { can_commit self.old.state ≡ true }
+    {
+        sends::commit(&mut self.session, self.sender)
+    }
+
+    /// Sends what an abort has due.
+    pub(crate) fn abort(&mut self) -> Result<Option<Answer>, Miss>
+        requires { can_abort self.old.state ≡ true }
+    {
+        sends::abort(&mut self.session, self.sender)
+    }
+}
+
+impl<'a, J: Naming, S: Sender<Request<J>, Reply<J>>, B: Begun> Running<'a, J, S, B> {
+    /// Enters a put.
+    pub(crate) fn put(&mut self, key: Key, value: Value) -> Result<(), Fault>
+        requires { is_declared B.session.state ≡ false }
+        ensures ok { OnOk result (self.new.state.buffer
+            ≡ touched self.old.state.buffer key (put_over (buffered self.old.state.buffer key) value)) }
+        ensures same { OnErr result (self.new.state.buffer ≡ self.old.state.buffer) }
+    {
+        self.session.put(key, value)
+    }
+
+    /// Enters an insert.
+    pub(crate) fn insert(&mut self, key: Key, value: Value) -> Result<(), Fault>
+        requires { is_declared B.session.state ≡ false }
+        ensures ok { OnOk result (inserted self.old.state.buffer key value ≡ Some self.new.state.buffer) }
+        ensures same { OnErr result (self.new.state.buffer ≡ self.old.state.buffer) }
+    {
+        self.session.insert(key, value)
+    }
+
+    /// Enters a delete.
+    pub(crate) fn delete(&mut self, key: Key) -> Result<(), Fault>
+        requires { is_declared B.session.state ≡ false }
+        ensures ok { OnOk result (self.new.state.buffer ≡ touched self.old.state.buffer key mutation.Delete) }
+        ensures same { OnErr result (self.new.state.buffer ≡ self.old.state.buffer) }
+    {
+        self.session.delete(key)
+    }
+
+    /// Enters a lock.
+    pub(crate) fn lock(&mut self, key: Key) -> Result<(), Fault>
+        requires { is_declared B.session.state ≡ false }
+        ensures ok { OnOk result (self.new.state.buffer ≡ locked self.old.state.buffer key) }
+        ensures same { OnErr result (self.new.state.buffer ≡ self.old.state.buffer) }
+    {
+        self.session.lock(key)
+    }
+}

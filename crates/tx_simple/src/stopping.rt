@@ -1,0 +1,61 @@
+//! Why a transaction went no further.
+use tx_client::{Miss, WaitCause};
+use tx_core::Answer;
+use tx_types::Fault;
+
+/// Why a transaction, or what it was to do, went no further.
+#[derive(Debug, Drop)]
+pub enum Stop {
+    /// What it was to do gave up, for a reason of its own.
+    GaveUp,
+    /// A lock stands in the way, and this is why what became of its transaction is not known.
+    Waits(WaitCause),
+    /// Another transaction committed a key after the start (E2), or this one was rolled back (E3).
+    Conflict,
+    /// E17: a key that is to be inserted has a value.
+    AlreadyExists,
+    /// E7: the start lies below the safe point.
+    BelowSafePoint,
+    /// No reply came.
+    Lost,
+    /// E11, E12, E15: the seat's ticks are spent, memory was refused, or there are too many keys.
+    Refused(Fault),
+}
+
+impl Stop {
+    /// Whether it may go well in a transaction that begins later.
+    pub fn may_pass(&self) -> bool {
+        match self {
+            Stop::Waits(_) | Stop::Conflict | Stop::BelowSafePoint | Stop::Lost => true,
+            Stop::GaveUp | Stop::AlreadyExists | Stop::Refused(_) => false,
+        }
+    }
+}
+
+impl From<Fault> for Stop {
+    fn from(fault: Fault) -> Stop {
+        match fault {
+            Fault::AlreadyExists => Stop::AlreadyExists,
+            other => Stop::Refused(other),
+        }
+    }
+}
+
+impl From<Miss> for Stop {
+    fn from(miss: Miss) -> Stop {
+        match miss {
+            Miss::Lost => Stop::Lost,
+            Miss::Fault => Stop::Refused(Fault::OutOfMemory),
+        }
+    }
+}
+
+/// What a refusal comes to.
+pub(crate) fn stop_by(answer: Answer) -> Stop {
+    match answer {
+        Answer::KeyIsLocked(_) => Stop::Waits(WaitCause::Live),
+        Answer::AlreadyExists => Stop::AlreadyExists,
+        Answer::BelowSafePoint { .. } => Stop::BelowSafePoint,
+        _ => Stop::Conflict,
+    }
+}

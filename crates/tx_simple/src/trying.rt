@@ -1,0 +1,155 @@
+//! A work in one transaction: one try of an update.
+ghost use Rattle.std.specs.Prelude.{◌≡◌, true, false, IfOk, IfErr};
+ghost use Rattle.tx_transaction.specs.Sessions.{is_declared, has_primary};
+ghost use Rattle.tx_journal.specs.Senders.{IsWay};
+ghost use Rattle.tx_simple.specs.Updates.{GoesOn, Follows, Writes};
+ghost use Rattle.tx_simple.specs.Endings.{EndsOver, IsUnended};
+
+use crate::ending::{Ended, Seats, Unended, finished};
+use crate::lending::Lent;
+use crate::running::{Begun, Running};
+use crate::stopping::Stop;
+use crate::updating::Work;
+use std::alloc::Global;
+use std::marker::Brand;
+use tx_client::{Session, Terms};
+use tx_journal::{Naming, Reply, Request, Seat, Sender};
+
+// A session after what was done in it, the seat that resolved for it, and how that went.
+type Done<J> = (Session<J>, Seat<J>, Result<(), Stop>);
+
+// Has a work read, and enter what it writes, from where the call picks.
+fn applied<J: Naming, S: Sender<Request<J>, Reply<J>>, W: Work, B: Begun>(
+    alloc: Global,
+    session: Session<J>,
+    resolver: Seat<J>,
+    work: &mut W,
+    sender: &mut S,
+) -> Done<J>
+    requires way { IsWay J.bounds S.fits S.sends S.keys_between }
+    requires open { is_declared session.state ≡ false }
+    requires session { session ≡ B.session }
+    requires resolver { resolver ≡ B.resolver }
+    ensures session { Follows B.session result.0 }
+    ensures resolver { GoesOn B.resolver result.1 }
+{
+    let running = Running::<'_, J, S, B>::new(alloc, session, resolver, sender);
+    let mut lent = Lent::new(running);
+    let done = work.apply(&mut lent);
+    let (session, resolver) = lent.into_running().into_parts();
+    (session, resolver, done)
+}
+
+// Has a work read, and enter what it writes.
+fn apply<J: Naming, S: Sender<Request<J>, Reply<J>>, W: Work>(
+    alloc: Global,
+    session: Session<J>,
+    resolver: Seat<J>,
+    work: &mut W,
+    sender: &mut S,
+) -> Done<J>
+    requires way { IsWay J.bounds S.fits S.sends S.keys_between }
+    requires open { is_declared session.state ≡ false }
+    ensures session { Follows session result.0 }
+    ensures resolver { GoesOn resolver result.1 }
+{
+    applied::<J, S, W, Brand>(alloc, session, resolver, work, sender)
+}
+
+// Carries what is declared to its end, from where the call picks.
+fn carried<J: Naming, S: Sender<Request<J>, Reply<J>>, B: Begun>(
+    alloc: Global,
+    session: Session<J>,
+    resolver: Seat<J>,
+    sender: &mut S,
+) -> Done<J>
+    requires way { IsWay J.bounds S.fits S.sends S.keys_between }
+    requires session { session ≡ B.session }
+    requires resolver { resolver ≡ B.resolver }
+    ensures session { Follows B.session result.0 }
+    ensures resolver { GoesOn B.resolver result.1 }
+{
+    let mut running = Running::<'_, J, S, B>::new(alloc, session, resolver, sender);
+    let done = running.carry_or_take_back();
+    let (session, resolver) = running.into_parts();
+    (session, resolver, done)
+}
+
+// Carries what is declared to its end.
+fn carry<J: Naming, S: Sender<Request<J>, Reply<J>>>(
+    alloc: Global,
+    session: Session<J>,
+    resolver: Seat<J>,
+    sender: &mut S,
+) -> Done<J>
+    requires way { IsWay J.bounds S.fits S.sends S.keys_between }
+    ensures session { Follows session result.0 }
+    ensures resolver { GoesOn resolver result.1 }
+{
+    carried::<J, S, Brand>(alloc, session, resolver, sender)
+}
+
+// Declares what is entered, if anything is, and carries it to its end.
+fn write<J: Naming, S: Sender<Request<J>, Reply<J>>>(
+    alloc: Global,
+    mut session: Session<J>,
+    resolver: Seat<J>,
+    terms: &Terms,
+    sender: &mut S,
+) -> Done<J>
+    requires way { IsWay J.bounds S.fits S.sends S.keys_between }
+    requires open { is_declared session.state ≡ false }
+    ensures session { Writes session result.0 }
+    ensures resolver { GoesOn resolver result.1 }
+{
+    if let Err(fault) = session.declare(*terms) {
+        return (session, resolver, Err(Stop::from(fault)));
+    }
+    if !session.has_primary() {
+        return (session, resolver, Ok(()));
+    }
+    carry(alloc, session, resolver, sender)
+}
+
+// Does a work in a session that has just begun, as far as it goes.
+fn run<J: Naming, S: Sender<Request<J>, Reply<J>>, W: Work>(
+    alloc: Global,
+    session: Session<J>,
+    resolver: Seat<J>,
+    terms: &Terms,
+    work: &mut W,
+    sender: &mut S,
+) -> Done<J>
+    requires way { IsWay J.bounds S.fits S.sends S.keys_between }
+    requires open { is_declared session.state ≡ false }
+    ensures session { Writes session result.0 }
+    ensures resolver { GoesOn resolver result.1 }
+{
+    let (session, resolver, done) = apply(alloc, session, resolver, work, sender);
+    if done.is_err() {
+        return (session, resolver, done);
+    }
+    write(alloc, session, resolver, terms, sender)
+}
+
+/// Does a work in one transaction.
+pub(crate) fn try_once<J: Naming, S: Sender<Request<J>, Reply<J>>, W: Work>(
+    alloc: Global,
+    seats: Seats<J>,
+    terms: &Terms,
+    work: &mut W,
+    sender: &mut S,
+) -> Result<Ended<J>, Unended<J>>
+    requires way { IsWay J.bounds S.fits S.sends S.keys_between }
+    ensures ended { IfOk result (λ e. EndsOver J.bounds seats e) }
+    ensures unended { IfErr result (λ u. IsUnended seats u) }
+{
+    let Seats { begins, resolves } = seats;
+    match Session::begin(alloc, begins) {
+        Ok(session) => {
+            let (session, resolves, done) = run(alloc, session, resolves, terms, work, sender);
+            finished(session, resolves, done.err())
+        }
+        Err(begins) => Err(Unended::Spent(Seats { begins, resolves })),
+    }
+}

@@ -1,0 +1,57 @@
+//! A transaction from its begin to its end, in one call.
+ghost use Rattle.std.specs.Prelude.{IfOk, IfErr};
+ghost use Rattle.tx_journal.specs.Senders.{IsWay};
+ghost use Rattle.tx_simple.specs.Endings.{EndsOver, IsUnended};
+
+use crate::ending::{Ended, Seats, Unended};
+use crate::lending::Tx;
+use crate::stopping::Stop;
+use crate::trying::try_once;
+use std::alloc::Global;
+use tx_client::Terms;
+use tx_journal::{Naming, Reply, Request, Sender};
+
+/// What a transaction is to do.
+pub trait Work {
+    /// Reads, and enters what is to be written. It is called anew for each try, with a transaction
+    /// in which nothing is entered yet. After an `Err` nothing is written; `GaveUp` is for a reason
+    /// of its own.
+    fn apply<T: Tx>(&mut self, tx: &mut T) -> Result<(), Stop>;
+}
+
+/// Does a work in a transaction: begins it, has the work read and enter what it writes, declares
+/// that under these terms and commits it, in either mode. A lock in the way is resolved, as at the
+/// last timestamp that was drawn: it is rolled back where it is past its time. Where the transaction
+/// is for certain without effect, and one that begins later may go further (`Stop::may_pass`), the
+/// work is done anew in another, up to `again` times. Each try draws one tick for its start, one
+/// for what it declares and, in two phases, one for each commit timestamp that it tries.
+///
+/// What it answers of the transaction that ran last is what `finish` answered, and means as much:
+/// a commit or an abort is decided. A commit lies above each commit that the seat had been told of
+/// before the call. `Err` where there is no outcome. The terms' bounds are those of `declare`: at
+/// most 1,024 keys, of an async transaction 256; it stops as `Refused` beyond.
+pub fn update<J: Naming, S: Sender<Request<J>, Reply<J>>, W: Work>(
+    alloc: Global,
+    mut seats: Seats<J>,
+    terms: Terms,
+    again: u32,
+    work: &mut W,
+    sender: &mut S,
+) -> Result<Ended<J>, Unended<J>>
+    requires way { IsWay J.bounds S.fits S.sends S.keys_between }
+    ensures ended { IfOk result (λ e. EndsOver J.bounds seats e) }
+    ensures unended { IfErr result (λ u. IsUnended seats u) }
+{
+    for _try in 0..again {
+        match try_once(alloc, seats, &terms, work, sender) {
+            Err(unended) => return Err(unended),
+            Ok(ended) => {
+                if !ended.may_pass() {
+                    return Ok(ended);
+                }
+                seats = ended.into_seats();
+            }
+        }
+    }
+    try_once(alloc, seats, &terms, work, sender)
+}

@@ -1,0 +1,158 @@
+//! What the updates of these tests do.
+ghost use Rattle.tx_journal.specs.Senders.{IsWay};
+
+use std::alloc::Global;
+use std::sync::Wait;
+use tx_client::Terms;
+use tx_core::Outcome;
+use tx_journal::{Naming, Reply, Request, Sender};
+use tx_nested::NestedCells;
+use tx_simple::{Seats, Stop, Tx, Work, update};
+use tx_store::{Store, Wire};
+use tx_types::{Key, Mode, Value};
+
+/// What it does with the key `a`, or to it.
+#[derive(Clone, Copy, PartialEq, Eq)]
+pub enum Deed {
+    /// It puts this byte there.
+    Put(u8),
+    /// It inserts this byte there.
+    Insert(u8),
+    /// It puts this byte there, and on the key `z` of the other region.
+    PutBoth(u8),
+    /// It reads it.
+    Read,
+    /// It gives up.
+    GiveUp,
+}
+
+/// One deed, and how often it was done.
+#[derive(Drop)]
+pub struct Doing {
+    pub deed: Deed,
+    pub calls: u32,
+    /// What was read: 0 for no value.
+    pub read: u8,
+}
+
+impl Doing {
+    pub fn new(deed: Deed) -> Doing {
+        Doing {
+            deed,
+            calls: 0,
+            read: 0,
+        }
+    }
+}
+
+fn put<T: Tx>(tx: &mut T, key: &[u8], byte: u8) -> Result<(), Stop> {
+    let key = Key::new(tx.alloc(), key)?;
+    let value = Value::new(tx.alloc(), &[byte])?;
+    tx.put(key, value)
+}
+
+fn insert<T: Tx>(tx: &mut T, byte: u8) -> Result<(), Stop> {
+    let key = Key::new(tx.alloc(), b"a")?;
+    let value = Value::new(tx.alloc(), &[byte])?;
+    tx.insert(key, value)
+}
+
+fn read<T: Tx>(tx: &mut T) -> Result<u8, Stop> {
+    let key = Key::new(tx.alloc(), b"a")?;
+    match tx.get(&key)? {
+        Some(value) => Ok(value.as_bytes().first().copied().unwrap_or(0)),
+        None => Ok(0),
+    }
+}
+
+impl Work for Doing {
+    fn apply<T: Tx>(&mut self, tx: &mut T) -> Result<(), Stop> {
+        self.calls = self.calls.saturating_add(1);
+        match self.deed {
+            Deed::Put(byte) => put(tx, b"a", byte),
+            Deed::Insert(byte) => insert(tx, byte),
+            Deed::PutBoth(byte) => {
+                put(tx, b"a", byte)?;
+                put(tx, b"z", byte)
+            }
+            Deed::Read => {
+                self.read = read(tx)?;
+                Ok(())
+            }
+            Deed::GiveUp => Err(Stop::GaveUp),
+        }
+    }
+}
+
+/// A deed that the first time lets a rival put 9 on the key `a`, and commit that, before it is
+/// done.
+#[derive(Drop)]
+pub struct Contended<'a, J: Naming, R: Wait> {
+    pub rt: &'a R,
+    pub store: &'a Store<J, NestedCells>,
+    pub alloc: Global,
+    pub rival: Option<Seats<J>>,
+    pub doing: Doing,
+}
+
+impl<'a, J: Naming, R: Wait> Work for Contended<'a, J, R> {
+    fn apply<T: Tx>(&mut self, tx: &mut T) -> Result<(), Stop> {
+        if let Some(seats) = self.rival.take() {
+            let mut wire = Wire::new(self.rt, self.store);
+            wire.show();
+            let mut rival = Doing::new(Deed::Put(9));
+            drop(run(
+                self.alloc,
+                seats,
+                (Mode::TwoPhase, 10),
+                0,
+                &mut rival,
+                &mut wire,
+            ));
+        }
+        self.doing.apply(tx)
+    }
+}
+
+// An outcome, and why it went no further, in words.
+fn words(outcome: &Outcome, stop: Option<&Stop>) -> (&'static str, &'static str) {
+    let outcome = match outcome {
+        Outcome::Committed(_) => "committed",
+        Outcome::Aborted => "aborted",
+        Outcome::Unknown(_) => "unknown",
+        Outcome::ReadOnly => "read-only",
+    };
+    let stop = match stop {
+        None => "done",
+        Some(Stop::GaveUp) => "gave up",
+        Some(Stop::Waits(_)) => "waits",
+        Some(Stop::Conflict) => "conflict",
+        Some(Stop::AlreadyExists) => "exists",
+        Some(Stop::BelowSafePoint) => "below",
+        Some(Stop::Lost) => "lost",
+        Some(Stop::Refused(_)) => "refused",
+    };
+    (outcome, stop)
+}
+
+/// Runs an update in this mode, with locks that live so long, and tries it again so often: how
+/// the last try ended, in words, and the seats.
+pub fn run<J: Naming, S: Sender<Request<J>, Reply<J>>, W: Work>(
+    alloc: Global,
+    seats: Seats<J>,
+    how: (Mode, u32),
+    again: u32,
+    work: &mut W,
+    sender: &mut S,
+) -> Option<((&'static str, &'static str), Seats<J>)>
+    requires way { IsWay J.bounds S.fits S.sends S.keys_between }
+{
+    let terms = Terms {
+        mode: how.0,
+        ttl: how.1,
+        max_commit: None,
+    };
+    let ended = update(alloc, seats, terms, again, work, sender).ok()?;
+    let words = words(&ended.outcome, ended.stop.as_ref());
+    Some((words, ended.into_seats()))
+}
