@@ -15,12 +15,12 @@ use std::marker::Brand;
 use std::sync::Wait;
 use story::tell;
 use table::head;
-use tx_journal::{Naming, Opened, Seat};
+use tx_journal::{JournalId, Opened, Seat};
 use tx_nested::NestedCells;
 use tx_store::Store;
 
 // The journal has its name here, and so have the seats, the store and the sessions.
-fn run<J: Naming, R: Print + Wait>(rt: &R, alloc: Global, opened: Opened) -> Result<()>
+fn run<J: JournalId, R: Print + Wait>(rt: &R, alloc: Global, opened: Opened) -> Result<()>
     requires name { (opened.table ≡ J.table) × (opened.bounds ≡ J.bounds) × (opened.seats ≡ J.seats) }
     requires counts { (length J.bounds ≡ 1) × (J.seats ≡ 4) }
 {
@@ -31,7 +31,7 @@ fn run<J: Naming, R: Print + Wait>(rt: &R, alloc: Global, opened: Opened) -> Res
 }
 
 // Each session has a seat.
-fn seated<J: Naming, R: Print + Wait>(
+fn seated<J: JournalId, R: Print + Wait>(
     rt: &R,
     alloc: Global,
     store: &Store<J, NestedCells>,

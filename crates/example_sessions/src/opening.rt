@@ -6,7 +6,7 @@ ghost use Rattle.tx_types.specs.Keys.{AreRising};
 
 use anyhow::Result;
 use std::alloc::Global;
-use tx_journal::{Naming, Opened, Seat};
+use tx_journal::{JournalId, Opened, Seat};
 use tx_nested::NestedCells;
 use tx_store::Store;
 use tx_types::Key;
@@ -40,7 +40,7 @@ fn families(alloc: Global) -> Result<Vec<NestedCells>>
 }
 
 /// The store under the journal's name, and the seats.
-pub fn store<J: Naming>(
+pub fn store<J: JournalId>(
     alloc: Global,
     opened: Opened,
 ) -> Result<(Store<J, NestedCells>, Vec<Seat<J>>)>

@@ -4,21 +4,21 @@ use anyhow::{Context, Result};
 use std::alloc::Global;
 use std::sync::Wait;
 use tx_client::{Session, Terms};
-use tx_journal::{Naming, Seat};
+use tx_journal::{JournalId, Seat};
 use tx_nested::NestedCells;
 use tx_store::{Store, Wire};
 use tx_types::{Key, Mode, Value};
 
 // Who calls, at which store, and where its lines go.
 #[derive(Drop)]
-struct Side<'a, J: Naming, R: Print + Wait> {
+struct Side<'a, J: JournalId, R: Print + Wait> {
     rt: &'a R,
     store: &'a Store<J, NestedCells>,
     who: &'static str,
     alloc: Global,
 }
 
-impl<'a, J: Naming, R: Print + Wait> Side<'a, J, R> {
+impl<'a, J: JournalId, R: Print + Wait> Side<'a, J, R> {
     // Its way to the regions of the store.
     fn wire(&self) -> Wire<'a, J, NestedCells, R> {
         Wire::new(self.rt, self.store)
@@ -115,7 +115,7 @@ impl<'a, J: Naming, R: Print + Wait> Side<'a, J, R> {
     }
 }
 
-impl<'a, J: Naming, R: Print + Wait> Side<'a, J, R> {
+impl<'a, J: JournalId, R: Print + Wait> Side<'a, J, R> {
     // Two keys, one in each region, are locked for a commit in two phases.
     fn lock_both(&self, session: &mut Session<J>) -> Result<()> {
         self.put(session, "apple", "3", "put apple = 3")?;
@@ -143,7 +143,7 @@ impl<'a, J: Naming, R: Print + Wait> Side<'a, J, R> {
 }
 
 // The session, where what it did went well.
-fn kept<J: Naming>(session: Session<J>, done: Result<()>) -> Result<Session<J>> {
+fn kept<J: JournalId>(session: Session<J>, done: Result<()>) -> Result<Session<J>> {
     match done {
         Ok(()) => Ok(session),
         Err(error) => {
@@ -153,7 +153,7 @@ fn kept<J: Naming>(session: Session<J>, done: Result<()>) -> Result<Session<J>> 
     }
 }
 
-impl<'a, J: Naming, R: Print + Wait> Side<'a, J, R> {
+impl<'a, J: JournalId, R: Print + Wait> Side<'a, J, R> {
     // It begins, and locks its two keys.
     fn write(&self, seat: Seat<J>) -> Result<Session<J>> {
         let mut session = self.begin(seat)?;
@@ -212,7 +212,7 @@ impl<'a, J: Naming, R: Print + Wait> Side<'a, J, R> {
 
 /// Both sessions, turn by turn. A writes two keys, one in each region, in two phases; B reads
 /// beside it, and then, begun again, sees what A committed, and deletes a key asynchronously.
-pub fn tell<J: Naming, R: Print + Wait>(
+pub fn tell<J: JournalId, R: Print + Wait>(
     rt: &R,
     alloc: Global,
     store: &Store<J, NestedCells>,

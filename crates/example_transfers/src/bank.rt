@@ -5,7 +5,7 @@ use std::sync::Wait;
 use std::thread::{Threads, join};
 use tx_client::Terms;
 use tx_core::Outcome;
-use tx_journal::Naming;
+use tx_journal::JournalId;
 use tx_nested::NestedCells;
 use tx_simple::{Seats, Stop, Work, update};
 use tx_store::{Store, Wire};
@@ -18,7 +18,7 @@ const TRANSFERS: u8 = 50;
 const AGAIN: u32 = 1_000_000;
 
 // Runs an update, and hands the seats back where it did what it was to do, or gave up.
-fn done<J: Naming, R: Wait, W: Work>(
+fn done<J: JournalId, R: Wait, W: Work>(
     rt: &R,
     store: &Store<J, NestedCells>,
     alloc: Global,
@@ -42,7 +42,7 @@ fn done<J: Naming, R: Wait, W: Work>(
 }
 
 // Makes the transfers of a thread.
-fn transfers<J: Naming, R: Wait>(
+fn transfers<J: JournalId, R: Wait>(
     rt: &R,
     store: &Store<J, NestedCells>,
     alloc: Global,
@@ -62,7 +62,7 @@ fn transfers<J: Naming, R: Wait>(
 
 /// The accounts are opened, money is moved on two threads, and they are read: what they have
 /// together.
-pub fn play<J: Naming + Send + Sync, R: Threads + Wait + Sync>(
+pub fn play<J: JournalId + Send + Sync, R: Threads + Wait + Sync>(
     rt: &R,
     store: &Store<J, NestedCells>,
     alloc: Global,

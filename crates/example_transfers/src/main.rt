@@ -15,10 +15,10 @@ use std::alloc::Global;
 use std::marker::Brand;
 use std::sync::Wait;
 use std::thread::Threads;
-use tx_journal::{Naming, Opened};
+use tx_journal::{JournalId, Opened};
 
 // The journal has its name here, and so have the seats and the store.
-fn run<J: Naming + Send + Sync, R: Print + Threads + Wait + Sync>(
+fn run<J: JournalId + Send + Sync, R: Print + Threads + Wait + Sync>(
     rt: &R,
     alloc: Global,
     opened: Opened,

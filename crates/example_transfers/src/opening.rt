@@ -6,7 +6,7 @@ ghost use Rattle.tx_types.specs.Keys.{AreRising};
 
 use anyhow::{Context, Result};
 use std::alloc::Global;
-use tx_journal::{Naming, Opened, Seat};
+use tx_journal::{JournalId, Opened, Seat};
 use tx_nested::NestedCells;
 use tx_simple::Seats;
 use tx_store::Store;
@@ -41,14 +41,14 @@ fn families(alloc: Global) -> Result<Vec<NestedCells>>
 }
 
 // The next two seats.
-fn pair<J: Naming>(seats: &mut Vec<Seat<J>>) -> Result<Seats<J>> {
+fn pair<J: JournalId>(seats: &mut Vec<Seat<J>>) -> Result<Seats<J>> {
     let begins = seats.pop().context("a seat that begins")?;
     let resolves = seats.pop().context("a seat that resolves")?;
     Ok(Seats { begins, resolves })
 }
 
 /// The store under the journal's name, and the seats of two who run updates.
-pub fn store<J: Naming>(
+pub fn store<J: JournalId>(
     alloc: Global,
     opened: Opened,
 ) -> Result<(Store<J, NestedCells>, Seats<J>, Seats<J>)>

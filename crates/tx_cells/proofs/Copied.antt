@@ -14,7 +14,7 @@ use Rattle.tx_plan.specs.declared.view.RecordHead.{RecordHead}
 use Rattle.tx_plan.specs.Cells as tables
 use Rattle.tx_plan.specs.Cells.{CommitRecord, is_long}
 use Rattle.tx_plan.proofs.LockRows.{contains_none}
-use Rattle.tx_cells.specs.declared.copies.KeyCopy.{KeyCopy}
+use Rattle.tx_cells.specs.declared.copies.KeyVersions.{KeyVersions}
 use Rattle.tx_cells.specs.Heads.{write_head, lock_head, keeps_apart}
 use Rattle.tx_cells.specs.Contents.{OnKey, nothing_held, cells_of, lock_of, whole, IsKept, IsWhole}
 use Rattle.tx_cells.specs.Copies.{AreFalling, times_of, HasLongValue, Copies}
@@ -60,7 +60,7 @@ module _ (x : OnKey) where
       kept_there t k.0.start k.0.mutation (sym (ap (λ (r : CommitRecord). r.start) k.2) ∙ own.own) (w.write_kept c k.0 k.1) (sym (ap (λ (r : CommitRecord). is_long r.mutation) k.2) ∙ long))
 
   -- what is shown of a key of which families hold this
-  pub copied : (copy : KeyCopy) → ∥ IsWhole x ∥₁ → copy.lock ≡ option_map lock_head x.lock → AreFalling (times_of copy.records)
+  pub copied : (copy : KeyVersions) → ∥ IsWhole x ∥₁ → copy.lock ≡ option_map lock_head x.lock → AreFalling (times_of copy.records)
       → ((at : ℕ) (head : RecordHead) → Contains copy.records (record { at = at; head = head }) ↔ (option_map write_head (x.write at) ≡ Some head))
       → AreFalling copy.values → ((t : ℕ) → Contains copy.values t ↔ IsSome (x.value t)) → Copies (cells_of x) copy
   copied copy w lock records_fall records values_fall values = record {
@@ -82,7 +82,7 @@ no_long t (inl (lock, own, long)) = (let stands = own.stands in cc stands)
 no_long t (inr (c, own, long)) = (let stands = own.stands in cc stands)
 
 -- what is shown of a key of which they hold nothing
-pub copied_none : (copy : KeyCopy) → copy.lock ≡ None → copy.records ≡ [] → copy.values ≡ [] → Copies (cells_of nothing_held) copy
+pub copied_none : (copy : KeyVersions) → copy.lock ≡ None → copy.records ≡ [] → copy.values ≡ [] → Copies (cells_of nothing_held) copy
 copied_none copy lock records values = record {
   lock = lock;
   records_fall = subst (λ w. AreFalling (times_of w)) (sym records) tt;

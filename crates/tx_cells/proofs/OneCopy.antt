@@ -4,7 +4,7 @@ use Rattle.std.specs.Prelude.{Contains}
 use Rattle.tx_plan.specs.Cells.{Cells}
 use Rattle.tx_plan.proofs.LockRows.{contains_first, contains_cases, contains_none}
 use Rattle.tx_cells.specs.declared.copies.RecordAt.{RecordAt}
-use Rattle.tx_cells.specs.declared.copies.KeyCopy.{KeyCopy}
+use Rattle.tx_cells.specs.declared.copies.KeyVersions.{KeyVersions}
 use Rattle.tx_cells.specs.Copies.{AreFalling, times_of, Copies}
 
 contains_rest : {T : Type 0} (x : T) (xs : List T) (y : T) → Contains xs y → Contains (x ∷ xs) y
@@ -62,7 +62,7 @@ records_fall (x ∷ y ∷ xs) fall =
       later,
     )
 
-pub one_copy : (cells : Cells) (a b : KeyCopy) → Copies cells a → Copies cells b → a ≡ b
+pub one_copy : (cells : Cells) (a b : KeyVersions) → Copies cells a → Copies cells b → a ≡ b
 one_copy cells a b x y =
     let lock = x.lock ∙ sym y.lock in
     let records = same_list (λ (r : RecordAt). r.at) a.records b.records (records_fall a.records x.records_fall) (records_fall b.records y.records_fall)

@@ -12,7 +12,8 @@ use Rattle.tx_types.specs.declared.write.CommitRec.{CommitRec}
 use Rattle.tx_types.specs.declared.write.WriteRec.TheVariants.{Commit, Rollback}
 use Rattle.tx_plan.specs.Cells.{is_long}
 use Rattle.tx_plan.specs.Collecting.{IsKind, IsNext, NoneUpto}
-use Rattle.tx_plan.specs.cases.Collect.{commit_is, is_put, is_visible}
+use Rattle.tx_types.specs.Keys.{is_visible}
+use Rattle.tx_plan.specs.cases.Collect.{commit_is, is_put}
 use Rattle.std.specs.Prelude.{option_map, ◌<◌, ◌≤◌}
 use Rattle.tx_types.specs.declared.mutation.LockKind.{LockKind}
 use Rattle.tx_types.specs.declared.mutation.LockKind.TheVariants as kind

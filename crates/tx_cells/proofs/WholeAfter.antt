@@ -20,7 +20,7 @@ use Rattle.tx_plan.specs.declared.key_change.Left.{Left}
 use Rattle.tx_plan.specs.declared.key_change.Left.TheVariants as left
 use Rattle.tx_plan.specs.Cells as tables
 use Rattle.tx_plan.specs.Cells.{is_long}
-use Rattle.tx_plan.specs.Changes.{Applies, IsLeft, IsRemoved, CommitsAt, CanPut}
+use Rattle.tx_plan.specs.Changes.{Applies, IsLeft, IsRemoved, HasCommitAt, CanPut}
 use Rattle.tx_cells.specs.Heads.{keeps_apart}
 use Rattle.tx_cells.specs.Contents.{OnKey, cells_of, lock_of, IsWhole, IsKept, LockKeeps, WriteKeeps}
 use Rattle.tx_plan.specs.Sound.{IsSound}
@@ -93,7 +93,7 @@ put_elsewhere write c q rec other = elim (cases_Bool (c == q)) [
   | inr not ↦ ap (λ b. cond b (Some rec) (write q)) not
 ]
 
-module _ (x : OnKey) (rec : LockRec) (c : ℕ) (o : Bool) (w : IsWhole x) (e : x.lock ≡ Some rec) (can : CommitsAt (cells_of x) c o) (fits : c < 2 ^ 64) where
+module _ (x : OnKey) (rec : LockRec) (c : ℕ) (o : Bool) (w : IsWhole x) (e : x.lock ≡ Some rec) (can : HasCommitAt (cells_of x) c o) (fits : c < 2 ^ 64) where
   same_lock : lock_of x.value rec ≡ can.lock
   same_lock = (let here : (cells_of x).lock ≡ Some (lock_of x.value rec) = ap (option_map (lock_of x.value)) e in cc (here, can.stands))
 

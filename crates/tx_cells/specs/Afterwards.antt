@@ -68,7 +68,11 @@ with_value value t None = value
 with_value value t (Some v) = λ q. cond (t == q) (Some v) (value q)
 
 abbrev pub put_on : OnKey → Prewrite → NewLock → OnKey
-put_on x b new = record { lock = Some (lock_put b new); write = x.write; value = with_value x.value b.start (apart_of b.mutation) }
+put_on x b new = record {
+  lock = Some (lock_put b new);
+  write = x.write;
+  value = with_value x.value b.start (apart_of b.mutation);
+}
 
 -- ---- other changes
 
@@ -86,10 +90,24 @@ without_value value t = λ q. cond (t == q) None (value q)
 
 -- a lock record with another time to live, or another minimum
 abbrev pub with_ttl : LockRec → ℕ → LockRec
-with_ttl rec ttl = record { mutation = rec.mutation; mode = rec.mode; start = rec.start; min = rec.min; ttl = ttl; primary = rec.primary }
+with_ttl rec ttl = record {
+  mutation = rec.mutation;
+  mode = rec.mode;
+  start = rec.start;
+  min = rec.min;
+  ttl = ttl;
+  primary = rec.primary;
+}
 
 abbrev pub with_min : LockRec → ℕ → LockRec
-with_min rec min = record { mutation = rec.mutation; mode = rec.mode; start = rec.start; min = min; ttl = rec.ttl; primary = rec.primary }
+with_min rec min = record {
+  mutation = rec.mutation;
+  mode = rec.mode;
+  start = rec.start;
+  min = min;
+  ttl = rec.ttl;
+  primary = rec.primary;
+}
 
 -- the commit record that a lock becomes
 abbrev pub commit_of : LockRec → Bool → CommitRec
@@ -118,7 +136,11 @@ after x change.Nothing = x
 after x (change.Lock new) = x
 after x (change.Ttl ttl) = on_lock x (λ rec. with_lock x (Some (with_ttl rec ttl)))
 after x (change.Minimum min) = on_lock x (λ rec. with_lock x (Some (with_min rec min)))
-after x (change.Commit c overlapped) = on_lock x (λ rec. record { lock = None; write = with_record x.write c (Commit (commit_of rec overlapped)); value = x.value })
+after x (change.Commit c overlapped) = on_lock x (λ rec. record {
+  lock = None;
+  write = with_record x.write c (Commit (commit_of rec overlapped));
+  value = x.value;
+})
 after x (change.RollBack t removes_lock left) = record {
   lock = cond removes_lock None x.lock;
   write = after_left x.write t left;

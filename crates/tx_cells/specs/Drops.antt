@@ -28,5 +28,7 @@ pub record ValuesGo (write : Records) (goes : ℕ → Bool) (before after : ℕ 
 
 -- with a record goes the value that it keeps apart
 pub record DropsValue (found : Option WriteRec) (before after : ℕ → Option Value) : Type 0 where
-  pub gone : (rec : CommitRec) → found ≡ Some (Commit rec) → keeps_apart rec.mutation ≡ true → (t : ℕ) → after t ≡ without_value before rec.start t
-  pub stays : ((rec : CommitRec) → found ≡ Some (Commit rec) → keeps_apart rec.mutation ≡ true → ⊥) → (t : ℕ) → after t ≡ before t
+  pub gone : (rec : CommitRec) → found ≡ Some (Commit rec) → keeps_apart rec.mutation ≡ true → (t : ℕ)
+      → after t ≡ without_value before rec.start t
+  pub stays : ((rec : CommitRec) → found ≡ Some (Commit rec) → keeps_apart rec.mutation ≡ true → ⊥) → (t : ℕ)
+      → after t ≡ before t

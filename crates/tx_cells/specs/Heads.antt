@@ -21,7 +21,13 @@ write_head (stored.Commit rec) = head.Commit (stored_kind rec.mutation) rec.star
 write_head (stored.Rollback start) = head.Rollback
 
 abbrev pub lock_head : LockRec → LockHead
-lock_head rec = record { start = rec.start; min = rec.min; ttl = rec.ttl; kind = stored_kind rec.mutation; mode = mode_of rec.mode }
+lock_head rec = record {
+  start = rec.start;
+  min = rec.min;
+  ttl = rec.ttl;
+  kind = stored_kind rec.mutation;
+  mode = mode_of rec.mode;
+}
 
 -- whether a write record is a rollback
 abbrev pub is_rollback : WriteRec → Bool

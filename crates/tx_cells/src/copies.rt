@@ -2,7 +2,7 @@
 ghost use Rattle.std.specs.Prelude.{◌≡◌, ◌↔◌, ℕ, Some, Contains, IfOk, IfErr, option_map};
 ghost use Rattle.tx_plan.specs.declared.view.RecordHead.{RecordHead};
 ghost use Rattle.tx_plan.specs.Cells.{Cells};
-ghost use Rattle.tx_cells.specs.declared.copies.KeyCopy.{KeyCopy};
+ghost use Rattle.tx_cells.specs.declared.copies.KeyVersions.{KeyVersions};
 ghost use Rattle.tx_cells.specs.Heads.{write_head};
 ghost use Rattle.tx_cells.specs.Histories.{AreFitting};
 ghost use Rattle.tx_cells.specs.Copies.{Copies, AreFalling, times_of};
@@ -22,7 +22,7 @@ pub struct RecordAt {
 
 /// What is shown of a key.
 #[derive(Debug, Drop)]
-pub struct KeyCopy {
+pub struct KeyVersions {
     pub lock: Option<LockHead>,
     /// The write records, from the newest on.
     pub records: Items<RecordAt>,
@@ -33,30 +33,30 @@ pub struct KeyCopy {
 /// Such a copy in memory of its own, so that a reply that may show a key is small. Contracts see
 /// what is shown.
 #[derive(Debug, Drop)]
-pub struct Shown {
-    copy: Box<KeyCopy>,
+pub struct ShownKey {
+    copy: Box<KeyVersions>,
 }
 
-impl Model for Shown {
-    ghost use Rattle.tx_cells.specs.declared.copies.KeyCopy.{KeyCopy};
+impl Model for ShownKey {
+    ghost use Rattle.tx_cells.specs.declared.copies.KeyVersions.{KeyVersions};
 
-    ghost Value = { KeyCopy };
+    ghost Value = { KeyVersions };
 
     ghost view = { λ s. s.copy.value };
 }
 
-impl Shown {
+impl ShownKey {
     /// This copy.
-    pub fn new(alloc: Global, copy: KeyCopy) -> Result<Shown, Fault>
+    pub fn new(alloc: Global, copy: KeyVersions) -> Result<ShownKey, Fault>
         ensures ok { IfOk result (λ shown. shown ≡ copy) }
         ensures err { IfErr result (λ e. e ≡ Fault.OutOfMemory) }
     {
         let copy = Box::new(alloc, copy)?;
-        Ok(Shown { copy })
+        Ok(ShownKey { copy })
     }
 
     /// The copy.
-    pub fn copy(&self) -> &KeyCopy
+    pub fn copy(&self) -> &KeyVersions
         ensures { result.now ≡ self.now }
     {
         &self.copy
@@ -65,14 +65,16 @@ impl Shown {
 
 /// Cells show one copy.
 pub fn one_copy()
-    ensures { (cells : Cells) (a b : KeyCopy) → Copies cells a → Copies cells b → a ≡ b }
+    ensures { (cells : Cells) (a b : KeyVersions) → Copies cells a → Copies cells b → a ≡ b }
 {}
 
 /// The heads of the write records of a key, from the newest on.
 pub fn records_down<H: History>(alloc: Global, history: &mut H) -> Result<Items<RecordAt>, Fault>
     requires { AreFitting (H.writes history.old) }
     ensures fall { IfOk result (λ records. AreFalling (times_of records)) }
-    ensures all { IfOk result (λ records. (at : ℕ) (head : RecordHead) → Contains records (record { at = at; head = head }) ↔ (option_map write_head (H.writes history.old at) ≡ Some head)) }
+    ensures all { IfOk result (λ records. (at : ℕ) (head : RecordHead)
+        → Contains records (record { at = at; head = head })
+        ↔ (option_map write_head (H.writes history.old at) ≡ Some head)) }
     ensures same_key { H.key history.new ≡ H.key history.old }
     ensures err { IfErr result (λ e. e ≡ Fault.OutOfMemory) }
 {

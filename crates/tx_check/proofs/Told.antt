@@ -13,8 +13,8 @@ use Rattle.tx_text.specs.declared.end.End.{End}
 use Rattle.tx_text.specs.Lines.{lines_of}
 use Rattle.tx_text.specs.Output.{AppendsPart}
 use Rattle.tx_text.specs.Texts.{line_text}
-use Rattle.tx_check.specs.declared.checker.Stop.{Stop}
-use Rattle.tx_check.specs.declared.checker.Stop.TheVariants.{Refused}
+use Rattle.tx_check.specs.declared.checker.Halt.{Halt}
+use Rattle.tx_check.specs.declared.checker.Halt.TheVariants.{Refused}
 use Rattle.tx_check.specs.declared.words.Verdict.TheVariants.{No}
 use Rattle.tx_check.specs.Check.{IsReason, Explained, IsVerdict, end_of, EndsWithReason, BreaksWithReason}
 use Rattle.tx_check.specs.Reasons.{reason_text}
@@ -31,7 +31,7 @@ module _ (lines : List (List ℕ)) (number : ℕ) (machine : Machine) (step : St
   never_none made at = at.5 (made (table_of (reverse at.1)) at.4)
 
   -- the line of a no, and the line of a reason
-  pub explained_no : (stop : Stop) (first text : List ℕ) → stop ≡ Refused number machine step → first ≡ line_text (words (verdict_of stop))
+  pub explained_no : (stop : Halt) (first text : List ℕ) → stop ≡ Refused number machine step → first ≡ line_text (words (verdict_of stop))
       → (StandsAt lines number machine step → (why : Why) × IsReason lines number why × (text ≡ first ++ reason_text number why))
       → Stops lines stop → Explained lines (verdict_of stop) text
   explained_no stop first text is line made =
@@ -47,7 +47,7 @@ if_both (Some x) f p q = f x p q
 
 -- ---- how a check with its reason ends
 
-module _ (input : List ℕ) (stop : Stop) {text : List ℕ} (bytes : List ℕ) (same : bytes ≡ text) (verdict : IsVerdict (lines_of input) (verdict_of stop)) (explained : Explained (lines_of input) (verdict_of stop) text) where
+module _ (input : List ℕ) (stop : Halt) {text : List ℕ} (bytes : List ℕ) (same : bytes ≡ text) (verdict : IsVerdict (lines_of input) (verdict_of stop)) (explained : Explained (lines_of input) (verdict_of stop) text) where
   pub ends_so : (old new : Option (List ℕ)) (end : End) → end ≡ end_of (verdict_of stop) → Appends old new bytes → EndsWithReason input old new end
   ends_so old new end is all = (verdict_of stop, text, verdict, explained, subst (Appends old new) same all, is)
 

@@ -6,7 +6,7 @@ use Rattle.tx_machine.specs.declared.machine.Machine.{Machine}
 use Rattle.tx_machine.specs.declared.step.Step.{Step}
 use Rattle.tx_machine.specs.Machine.{empty, table_of, IsRun}
 use Rattle.tx_machine.specs.Representation.{Represents}
-use Rattle.tx_check.specs.declared.checker.Turn.TheVariants as turn
+use Rattle.tx_check.specs.declared.checker.LineTurn.TheVariants as turn
 use Rattle.tx_check.specs.declared.words.Verdict.TheVariants.{Yes, No, Fault}
 use Rattle.tx_text.specs.Lines.{lines_of}
 use Rattle.tx_check.specs.Check.{step_in, Says, Reaches, IsVerdict}

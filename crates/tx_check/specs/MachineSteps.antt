@@ -22,7 +22,8 @@ number_of d = option_and_then as_u64 (as_number d)
 
 -- a string of 1 to 512 bytes
 abbrev pub key_of : Data → Option Key
-key_of d = option_and_then (λ text. if nat_le MIN_KEY_BYTES (length text) && nat_le (length text) MAX_KEY_BYTES then Some text else None) (as_str d)
+key_of d = option_and_then (λ text. if nat_le MIN_KEY_BYTES (length text) && nat_le (length text) MAX_KEY_BYTES
+    then Some text else None) (as_str d)
 
 -- a string of at most 65,536 bytes
 abbrev pub value_of : Data → Option Value
@@ -72,7 +73,10 @@ change_of d = option_and_then change_of_items (as_array d)
 
 -- a row, by its members
 abbrev pub row_of_items : Items → Option KeyValue
-row_of_items (item key (item value no_items)) = option_and_then (λ k. option_map (λ v. record { key = k; value = v }) (value_of value)) (key_of key)
+row_of_items (item key (item value no_items)) = option_and_then (λ k. option_map (λ v. record {
+  key = k;
+  value = v;
+}) (value_of value)) (key_of key)
 row_of_items _ = None
 
 -- a row of a scan: `[key,value]`
@@ -91,39 +95,53 @@ aborted_of d = option_and_then (λ w. if bytes_eq w (codes "aborted") then Some 
 
 -- the word "committed" and a number
 abbrev pub committed_of : Data → Data → Option Fate
-committed_of d at = option_and_then (λ w. if bytes_eq w (codes "committed") then option_map fate.Committed (number_of at) else None) (as_str d)
+committed_of d at = option_and_then (λ w. if bytes_eq w (codes "committed")
+    then option_map fate.Committed (number_of at) else None) (as_str d)
 
 -- `["declare",t,changes]`, `["commit",t,c]`, `["answer",t,"aborted"]`
 abbrev pub three_of : Data → Data → Data → Option Step
 three_of word first second = option_and_then (λ w.
-    if bytes_eq w (codes "declare") then option_and_then (λ t. option_map (Declare t) (list_of change_of second)) (number_of first)
-    else (if bytes_eq w (codes "commit") then option_and_then (λ t. option_map (Commit t) (number_of second)) (number_of first)
-    else (if bytes_eq w (codes "answer") then option_and_then (λ t. option_map (Answer t) (aborted_of second)) (number_of first)
+    if bytes_eq w (codes "declare") then option_and_then (λ t. option_map (Declare t) (list_of change_of second))
+    (number_of first)
+    else (if bytes_eq w (codes "commit") then option_and_then (λ t. option_map (Commit t) (number_of second))
+    (number_of first)
+    else (if bytes_eq w (codes "answer") then option_and_then (λ t. option_map (Answer t) (aborted_of second))
+    (number_of first)
     else None))) (as_str word)
 
 -- `["read",r,key,found]`, `["answer",t,"committed",c]`
 abbrev pub four_of : Data → Data → Data → Data → Option Step
 four_of word first second third = option_and_then (λ w.
-    if bytes_eq w (codes "read") then option_and_then (λ r. option_and_then (λ k. option_map (Read k r) (found_of third)) (key_of second)) (number_of first)
-    else (if bytes_eq w (codes "answer") then option_and_then (λ t. option_map (Answer t) (committed_of second third)) (number_of first)
+    if bytes_eq w (codes "read") then option_and_then
+    (λ r. option_and_then (λ k. option_map (Read k r) (found_of third)) (key_of second)) (number_of first)
+    else (if bytes_eq w (codes "answer") then option_and_then (λ t. option_map (Answer t) (committed_of second third))
+    (number_of first)
     else None)) (as_str word)
 
 -- the members of a scan: `r,from,to,limit,rows`
 abbrev pub scan_of : Data → Data → Data → Data → Data → Option ScanRead
 scan_of at from to limit rows =
     option_and_then (λ r. option_and_then (λ f. option_and_then (λ t. option_and_then (λ l.
-    option_map (λ rs. record { from = f; to = t; at = r; limit = l; rows = rs }) (list_of row_of rows)) (limit_of limit)) (key_of to)) (key_of from)) (number_of at)
+    option_map (λ rs. record {
+      from = f;
+      to = t;
+      at = r;
+      limit = l;
+      rows = rs;
+    }) (list_of row_of rows)) (limit_of limit)) (key_of to)) (key_of from)) (number_of at)
 
 -- `["scan",r,from,to,limit,rows]`
 abbrev pub six_of : Data → Data → Data → Data → Data → Data → Option Step
-six_of word at from to limit rows = option_and_then (λ w. if bytes_eq w (codes "scan") then option_map Scan (scan_of at from to limit rows) else None) (as_str word)
+six_of word at from to limit rows = option_and_then (λ w. if bytes_eq w (codes "scan")
+    then option_map Scan (scan_of at from to limit rows) else None) (as_str word)
 
 -- a step, by its members
 abbrev pub step_of_items : Items → Option Step
 step_of_items (item word (item first no_items)) = two_of word first
 step_of_items (item word (item first (item second no_items))) = three_of word first second
 step_of_items (item word (item first (item second (item third no_items)))) = four_of word first second third
-step_of_items (item word (item at (item from (item to (item limit (item rows no_items)))))) = six_of word at from to limit rows
+step_of_items (item word (item at (item from (item to (item limit (item rows no_items)))))) =
+    six_of word at from to limit rows
 step_of_items _ = None
 
 -- the step that a value says, where it is one

@@ -3,8 +3,8 @@
 use Rattle.std.specs.Prelude.{ℕ, List, codes}
 use Rattle.serde_json.specs.Data.{Data, Items, no_items, item, Members, no_members, member, number, unsigned, string, null, object}
 use Rattle.tx_types.specs.declared.mutation.Fate.TheVariants.{Committed, Aborted}
-use Rattle.tx_machine.specs.declared.reason.Seen.{Seen}
-use Rattle.tx_machine.specs.declared.reason.Seen.TheVariants.{Nothing, Deleted, Left}
+use Rattle.tx_machine.specs.declared.reason.SeenValue.{SeenValue}
+use Rattle.tx_machine.specs.declared.reason.SeenValue.TheVariants.{Nothing, Deleted, Left}
 use Rattle.tx_machine.specs.declared.reason.Standing.{Standing}
 use Rattle.tx_machine.specs.declared.reason.Standing.TheVariants.{Undrawn, Drawn, Begun, Declared, Ended}
 use Rattle.tx_machine.specs.declared.reason.Why.{Why}
@@ -34,7 +34,7 @@ writer_members by = member (codes "by") (stamp_data by.start)
     (member (codes "committed") (stamp_data by.commit) no_members)
 
 -- what a read sees, and who left it
-abbrev pub seen_members : Seen → Members
+abbrev pub seen_members : SeenValue → Members
 seen_members Nothing = member (codes "is") null (member (codes "by") null (member (codes "committed") null no_members))
 seen_members (Deleted by) = member (codes "is") null (writer_members by)
 seen_members (Left v by) = member (codes "is") (text_of v) (writer_members by)

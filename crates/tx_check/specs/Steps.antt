@@ -49,11 +49,14 @@ step_word (Answer t end) = codes "answer"
 abbrev pub step_fields : Step → Items
 step_fields (Draw n) = item (number (unsigned n)) no_items
 step_fields (Begin t) = item (number (unsigned t)) no_items
-step_fields (Declare t changes) = item (number (unsigned t)) (item (array (items_of (map change_data changes))) no_items)
+step_fields (Declare t changes) = item (number (unsigned t))
+    (item (array (items_of (map change_data changes))) no_items)
 step_fields (Commit t c) = item (number (unsigned t)) (item (number (unsigned c)) no_items)
 step_fields (Abort t) = item (number (unsigned t)) no_items
 step_fields (Read k r found) = item (number (unsigned r)) (item (text_of k) (item (found_data found) no_items))
-step_fields (Scan s) = item (number (unsigned s.at)) (item (text_of s.from) (item (text_of s.to) (item (number (unsigned s.limit)) (item (array (items_of (map row_data s.rows))) no_items))))
+step_fields (Scan s) = item (number (unsigned s.at))
+    (item (text_of s.from) (item (text_of s.to) (item (number (unsigned s.limit))
+    (item (array (items_of (map row_data s.rows))) no_items))))
 step_fields (Answer t end) = item (number (unsigned t)) (fate_words end)
 
 -- the line of a step

@@ -5,17 +5,17 @@ use Rattle.tx_machine.specs.declared.machine.Machine.{Machine}
 use Rattle.tx_machine.specs.declared.step.Step.{Step}
 use Rattle.tx_machine.specs.Machine.{Admits, table_of}
 use Rattle.tx_machine.specs.Representation.{Represents, Makes, Refuses, Keeps}
-use Rattle.tx_check.specs.declared.checker.Turn.{Turn}
-use Rattle.tx_check.specs.declared.checker.Turn.TheVariants.{End, Made, Refused, Faulted}
-use Rattle.tx_check.specs.declared.checker.Stop.{Stop}
-use Rattle.tx_check.specs.declared.checker.Stop.TheVariants as stop
+use Rattle.tx_check.specs.declared.checker.LineTurn.{LineTurn}
+use Rattle.tx_check.specs.declared.checker.LineTurn.TheVariants.{End, Made, Refused, Faulted}
+use Rattle.tx_check.specs.declared.checker.Halt.{Halt}
+use Rattle.tx_check.specs.declared.checker.Halt.TheVariants as stop
 use Rattle.tx_check.specs.declared.words.Verdict.{Verdict}
 use Rattle.tx_check.specs.declared.words.Verdict.TheVariants.{Yes, No, Fault}
 use Rattle.tx_text.specs.Lines.{lines_of}
 use Rattle.tx_check.specs.Check.{step_in, Reaches}
 
 -- what came of the first line of these bytes, which has this number, at a machine
-abbrev pub Turns : List ℕ → Option (List ℕ) → Machine → Machine → ℕ → Turn → Type 0
+abbrev pub Turns : List ℕ → Option (List ℕ) → Machine → Machine → ℕ → LineTurn → Type 0
 Turns bytes left old new number End = bytes ≡ []
 Turns bytes left old new number Made = (line : List ℕ) × (rest : List ℕ) × (step : Step)
     × (left ≡ Some rest) × (lines_of bytes ≡ line ∷ lines_of rest)
@@ -28,7 +28,7 @@ Turns bytes left old new number (Faulted cause) = (line : List ℕ) × (more : L
     × (step_in number line ≡ Err cause)
 
 -- what it says of the lines
-abbrev pub verdict_of : Stop → Verdict
+abbrev pub verdict_of : Halt → Verdict
 verdict_of stop.End = Yes
 verdict_of (stop.Refused number machine step) = No number
 verdict_of (stop.Faulted number cause) = Fault number cause
@@ -41,6 +41,6 @@ StandsAt lines number machine step = (line : List ℕ) × (steps : List Step) ×
     × (Admits (table_of (reverse steps)) step → ⊥)
 
 -- a walk over the lines that stops at a refused step has the machine that stands before it
-abbrev pub Stops : List (List ℕ) → Stop → Type 0
+abbrev pub Stops : List (List ℕ) → Halt → Type 0
 Stops lines (stop.Refused number machine step) = StandsAt lines number machine step
 Stops lines _ = Unit {0}

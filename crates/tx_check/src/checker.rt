@@ -13,7 +13,7 @@ ghost use Rattle.tx_text.specs.Lines.{lines_of};
 ghost use Rattle.tx_text.specs.Output.{AppendsPart};
 
 use crate::listed_step::listed_step;
-use crate::machine_step::{Unread, machine_step};
+use crate::machine_step::{UnreadStep, machine_step};
 use crate::reasons::put_reason;
 use crate::words::{Verdict, verdict_line};
 use serde_json::Value;
@@ -94,7 +94,7 @@ fn end_of_check(verdict: Verdict) -> End
 
 // Where the walk over the lines of a trace stops.
 #[derive(Drop)]
-enum Stop {
+enum Halt {
     /// At their end.
     End,
     /// At the line of this number, whose step the machine does not make. It is as it was before.
@@ -103,14 +103,14 @@ enum Stop {
     Faulted(u64, Cause),
 }
 
-impl Stop {
+impl Halt {
     fn verdict(&self) -> Verdict
         ensures { result ≡ verdict_of self.now }
     {
         match self {
-            Stop::End => Verdict::Yes,
-            Stop::Refused(number, _, _) => Verdict::No(*number),
-            Stop::Faulted(number, cause) => Verdict::Fault(*number, *cause),
+            Halt::End => Verdict::Yes,
+            Halt::Refused(number, _, _) => Verdict::No(*number),
+            Halt::Faulted(number, cause) => Verdict::Fault(*number, *cause),
         }
     }
 }
@@ -129,22 +129,22 @@ fn put_why(text: &mut Vec<u8>, number: u64, machine: &Machine, step: &Step) -> R
 }
 
 // The line of the verdict, and after a no the line of its reason.
-fn explained(alloc: Global, stop: &Stop) -> Result<Vec<u8>, Broken>
+fn explained(alloc: Global, stop: &Halt) -> Result<Vec<u8>, Broken>
     ensures { IfOk result (λ text. (lines : List (List ℕ)) → Stops lines stop.now
         → Explained lines (verdict_of stop.now) text.items) }
 {
     let mut text = verdict_line(alloc, stop.verdict())?.into_bytes();
     match stop {
-        Stop::Refused(number, machine, step) => {
+        Halt::Refused(number, machine, step) => {
             put_why(&mut text, *number, machine, step)?;
             Ok(text)
         }
-        Stop::End | Stop::Faulted(_, _) => Ok(text),
+        Halt::End | Halt::Faulted(_, _) => Ok(text),
     }
 }
 
 // Walks over the lines up to the first that is refused or is no step.
-fn walk<R: BufRead>(alloc: Global, reader: &mut R) -> Result<Stop, Broken>
+fn walk<R: BufRead>(alloc: Global, reader: &mut R) -> Result<Halt, Broken>
     ensures verdict { IfOk result (λ stop. IfSome (R.remaining reader.old)
         (λ input. IsVerdict (lines_of input) (verdict_of stop))) }
     ensures stops { IfOk result (λ stop. IfSome (R.remaining reader.old) (λ input. Stops (lines_of input) stop)) }
@@ -154,17 +154,17 @@ fn walk<R: BufRead>(alloc: Global, reader: &mut R) -> Result<Stop, Broken>
     let mut number = 0;
     'lines: loop {
         match next(alloc, reader, &mut line, &mut machine, number + 1)? {
-            Turn::End => return Ok(Stop::End),
-            Turn::Made => number += 1,
-            Turn::Refused(step) => return Ok(Stop::Refused(number + 1, machine, step)),
-            Turn::Faulted(cause) => return Ok(Stop::Faulted(number + 1, cause)),
+            LineTurn::End => return Ok(Halt::End),
+            LineTurn::Made => number += 1,
+            LineTurn::Refused(step) => return Ok(Halt::Refused(number + 1, machine, step)),
+            LineTurn::Faulted(cause) => return Ok(Halt::Faulted(number + 1, cause)),
         }
     }
 }
 
 // What came of the next line.
 #[derive(Drop)]
-enum Turn {
+enum LineTurn {
     End,
     Made,
     Refused(Step),
@@ -178,25 +178,25 @@ fn next<R: BufRead>(
     line: &mut Vec<u8>,
     machine: &mut Machine,
     number: u64,
-) -> Result<Turn, Broken>
+) -> Result<LineTurn, Broken>
     // At any reader.
-    ensures early { IfOk result (λ turn. turn ≡ Turn.Made → number ≤ MAX_LINES) }
+    ensures early { IfOk result (λ turn. turn ≡ LineTurn.Made → number ≤ MAX_LINES) }
     // Where the bytes are known.
     ensures turns { IfOk result (λ turn. IfSome (R.remaining reader.old)
         (λ bytes. Turns bytes (R.remaining reader.new) machine.old machine.new number turn)) }
 {
     match read_line(reader, line)? {
-        Found::End => return Ok(Turn::End),
-        Found::Long => return Ok(Turn::Faulted(Cause::Long)),
+        Found::End => return Ok(LineTurn::End),
+        Found::Long => return Ok(LineTurn::Faulted(Cause::Long)),
         Found::Line => {}
     }
     let step = match line_step(alloc, number, line)? {
         Ok(step) => step,
-        Err(cause) => return Ok(Turn::Faulted(cause)),
+        Err(cause) => return Ok(LineTurn::Faulted(cause)),
     };
     match machine.step(&step) {
-        Ok(()) => Ok(Turn::Made),
-        Err(Refused::Step) => Ok(Turn::Refused(step)),
+        Ok(()) => Ok(LineTurn::Made),
+        Err(Refused::Step) => Ok(LineTurn::Refused(step)),
         Err(Refused::Memory) => Err(Broken::Memory),
     }
 }
@@ -207,8 +207,8 @@ fn members_step(alloc: Global, members: &[Part<'_>]) -> Result<Result<Step, Caus
 {
     match machine_step(alloc, members) {
         Ok(step) => Ok(Ok(step)),
-        Err(Unread::Form) => Ok(Err(Cause::Form)),
-        Err(Unread::Memory) => Err(Broken::Memory),
+        Err(UnreadStep::Form) => Ok(Err(Cause::Form)),
+        Err(UnreadStep::Memory) => Err(Broken::Memory),
     }
 }
 

@@ -2,8 +2,8 @@
 //! verdict says whether the machine makes them all.
 //!
 //! A line is one JSON array, which `tx_text` reads. The steps of the machine stand in
-//! `machine_step` and `listed_step`, the lines that say them in `step_line`, the words of verdicts in
-//! `words`, and in `reasons` the line that says why a step is not made.
+//! `machine_step` and `listed_step`, the lines that say them in `step_line`, the words of verdicts
+//! in `words`, and in `reasons` the line that says why a step is not made.
 #![tactic(auto)]
 
 mod checker;

@@ -14,7 +14,7 @@ use tx_types::{Change, Changes, Fate, Fault, Key, KeyValue, KeyValues, Mutation,
 
 /// Why no step was read.
 #[derive(Clone, Copy, Debug, PartialEq, Eq)]
-pub(crate) enum Unread {
+pub(crate) enum UnreadStep {
     /// The value is no step.
     Form,
     /// A growth was refused.
@@ -22,24 +22,24 @@ pub(crate) enum Unread {
 }
 
 /// The step that a line's members say; `Form` where they say none.
-pub(crate) fn machine_step(alloc: Global, members: &[Part<'_>]) -> Result<Step, Unread>
+pub(crate) fn machine_step(alloc: Global, members: &[Part<'_>]) -> Result<Step, UnreadStep>
     ensures { MatchResult result (λ step. step_of_items (parts_items members.now) ≡ Some step)
-        (λ e. e ≡ Unread.Form → step_of_items (parts_items members.now) ≡ None) }
+        (λ e. e ≡ UnreadStep.Form → step_of_items (parts_items members.now) ≡ None) }
 {
     match members {
         [word, first] => two(word, first),
         [word, first, second] => three(alloc, word, first, second),
         [word, first, second, third] => four(alloc, word, first, second, third),
         [word, at, from, to, limit, rows] => six(alloc, word, at, from, to, limit, rows),
-        _ => Err(Unread::Form),
+        _ => Err(UnreadStep::Form),
     }
 }
 
 // ---- the steps, by how many members they have
 
-fn two(word: &Part<'_>, first: &Part<'_>) -> Result<Step, Unread>
+fn two(word: &Part<'_>, first: &Part<'_>) -> Result<Step, UnreadStep>
     ensures { MatchResult result (λ step. two_of (part_data word.now) (part_data first.now) ≡ Some step)
-        (λ e. e ≡ Unread.Form → two_of (part_data word.now) (part_data first.now) ≡ None) }
+        (λ e. e ≡ UnreadStep.Form → two_of (part_data word.now) (part_data first.now) ≡ None) }
 {
     let word = text(word)?;
     if word == "draw" {
@@ -49,7 +49,7 @@ fn two(word: &Part<'_>, first: &Part<'_>) -> Result<Step, Unread>
     } else if word == "abort" {
         Ok(Step::Abort(timestamp(first)?))
     } else {
-        Err(Unread::Form)
+        Err(UnreadStep::Form)
     }
 }
 
@@ -58,9 +58,10 @@ fn three(
     word: &Part<'_>,
     first: &Part<'_>,
     second: &Part<'_>,
-) -> Result<Step, Unread>
-    ensures { MatchResult result (λ step. three_of (part_data word.now) (part_data first.now) (part_data second.now) ≡ Some step)
-        (λ e. e ≡ Unread.Form → three_of (part_data word.now) (part_data first.now) (part_data second.now) ≡ None) }
+) -> Result<Step, UnreadStep>
+    ensures { MatchResult result (λ step. three_of (part_data word.now) (part_data first.now) (part_data second.now)
+        ≡ Some step)
+        (λ e. e ≡ UnreadStep.Form → three_of (part_data word.now) (part_data first.now) (part_data second.now) ≡ None) }
 {
     let word = text(word)?;
     if word == "declare" {
@@ -70,7 +71,7 @@ fn three(
     } else if word == "answer" {
         Ok(Step::Answer(timestamp(first)?, aborted(second)?))
     } else {
-        Err(Unread::Form)
+        Err(UnreadStep::Form)
     }
 }
 
@@ -80,9 +81,11 @@ fn four(
     first: &Part<'_>,
     second: &Part<'_>,
     third: &Part<'_>,
-) -> Result<Step, Unread>
-    ensures { MatchResult result (λ step. four_of (part_data word.now) (part_data first.now) (part_data second.now) (part_data third.now) ≡ Some step)
-        (λ e. e ≡ Unread.Form → four_of (part_data word.now) (part_data first.now) (part_data second.now) (part_data third.now) ≡ None) }
+) -> Result<Step, UnreadStep>
+    ensures { MatchResult result (λ step. four_of (part_data word.now) (part_data first.now) (part_data second.now)
+        (part_data third.now) ≡ Some step)
+        (λ e. e ≡ UnreadStep.Form → four_of (part_data word.now) (part_data first.now) (part_data second.now)
+        (part_data third.now) ≡ None) }
 {
     let word = text(word)?;
     if word == "read" {
@@ -92,7 +95,7 @@ fn four(
     } else if word == "answer" {
         Ok(Step::Answer(timestamp(first)?, committed(second, third)?))
     } else {
-        Err(Unread::Form)
+        Err(UnreadStep::Form)
     }
 }
 
@@ -104,14 +107,16 @@ fn six(
     to: &Part<'_>,
     limit: &Part<'_>,
     rows: &Part<'_>,
-) -> Result<Step, Unread>
-    ensures { MatchResult result (λ step. six_of (part_data word.now) (part_data at.now) (part_data from.now) (part_data to.now) (part_data limit.now) (part_data rows.now) ≡ Some step)
-        (λ e. e ≡ Unread.Form → six_of (part_data word.now) (part_data at.now) (part_data from.now) (part_data to.now) (part_data limit.now) (part_data rows.now) ≡ None) }
+) -> Result<Step, UnreadStep>
+    ensures { MatchResult result (λ step. six_of (part_data word.now) (part_data at.now) (part_data from.now)
+        (part_data to.now) (part_data limit.now) (part_data rows.now) ≡ Some step)
+        (λ e. e ≡ UnreadStep.Form → six_of (part_data word.now) (part_data at.now) (part_data from.now)
+        (part_data to.now) (part_data limit.now) (part_data rows.now) ≡ None) }
 {
     if text(word)? == "scan" {
         Ok(Step::Scan(scan(alloc, at, from, to, limit, rows)?))
     } else {
-        Err(Unread::Form)
+        Err(UnreadStep::Form)
     }
 }
 
@@ -122,9 +127,11 @@ fn scan(
     to: &Part<'_>,
     limit: &Part<'_>,
     rows: &Part<'_>,
-) -> Result<ScanRead, Unread>
-    ensures { MatchResult result (λ scan. scan_of (part_data at.now) (part_data from.now) (part_data to.now) (part_data limit.now) (part_data rows.now) ≡ Some scan)
-        (λ e. e ≡ Unread.Form → scan_of (part_data at.now) (part_data from.now) (part_data to.now) (part_data limit.now) (part_data rows.now) ≡ None) }
+) -> Result<ScanRead, UnreadStep>
+    ensures { MatchResult result (λ scan. scan_of (part_data at.now) (part_data from.now) (part_data to.now)
+        (part_data limit.now) (part_data rows.now) ≡ Some scan)
+        (λ e. e ≡ UnreadStep.Form → scan_of (part_data at.now) (part_data from.now) (part_data to.now)
+        (part_data limit.now) (part_data rows.now) ≡ None) }
 {
     let at = timestamp(at)?;
     let from = key(alloc, from)?;
@@ -142,66 +149,73 @@ fn scan(
 
 // ---- their members
 
-fn list<'a>(value: &Part<'a>) -> Result<&'a [Json], Unread>
-    ensures { MatchResult result (λ items. as_array (part_data value.now) ≡ Some (items_view items.now)) (λ _. as_array (part_data value.now) ≡ None) }
+fn list<'a>(value: &Part<'a>) -> Result<&'a [Json], UnreadStep>
+    ensures { MatchResult result (λ items. as_array (part_data value.now)
+        ≡ Some (items_view items.now)) (λ _. as_array (part_data value.now) ≡ None) }
 {
     match value.as_array() {
         Some(items) => Ok(items),
-        None => Err(Unread::Form),
+        None => Err(UnreadStep::Form),
     }
 }
 
-pub(crate) fn text<'a>(value: &Part<'a>) -> Result<&'a str, Unread>
-    ensures { MatchResult result (λ text. as_str (part_data value.now) ≡ Some text.now) (λ _. as_str (part_data value.now) ≡ None) }
+pub(crate) fn text<'a>(value: &Part<'a>) -> Result<&'a str, UnreadStep>
+    ensures { MatchResult result (λ text. as_str (part_data value.now)
+        ≡ Some text.now) (λ _. as_str (part_data value.now) ≡ None) }
 {
     match value.as_str() {
         Some(text) => Ok(text),
-        None => Err(Unread::Form),
+        None => Err(UnreadStep::Form),
     }
 }
 
-pub(crate) fn timestamp(value: &Part<'_>) -> Result<Ts, Unread>
-    ensures { MatchResult result (λ t. number_of (part_data value.now) ≡ Some t) (λ _. number_of (part_data value.now) ≡ None) }
+pub(crate) fn timestamp(value: &Part<'_>) -> Result<Ts, UnreadStep>
+    ensures { MatchResult result (λ t. number_of (part_data value.now) ≡ Some t) (λ _. number_of (part_data value.now)
+        ≡ None) }
 {
     match value.as_u64() {
         Some(number) => Ok(Ts::new(number)),
-        None => Err(Unread::Form),
+        None => Err(UnreadStep::Form),
     }
 }
 
-pub(crate) fn row_limit(value: &Part<'_>) -> Result<u32, Unread>
-    ensures { MatchResult result (λ n. limit_of (part_data value.now) ≡ Some n) (λ _. limit_of (part_data value.now) ≡ None) }
+pub(crate) fn row_limit(value: &Part<'_>) -> Result<u32, UnreadStep>
+    ensures { MatchResult result (λ n. limit_of (part_data value.now) ≡ Some n) (λ _. limit_of (part_data value.now)
+        ≡ None) }
 {
     match value.as_u64() {
         Some(number) if number >= 1 && number <= u64::from(MAX_SCAN_ROWS) => Ok(number as u32),
-        _ => Err(Unread::Form),
+        _ => Err(UnreadStep::Form),
     }
 }
 
-pub(crate) fn key(alloc: Global, value: &Part<'_>) -> Result<Key, Unread>
-    ensures { MatchResult result (λ key. key_of (part_data value.now) ≡ Some key) (λ e. e ≡ Unread.Form → key_of (part_data value.now) ≡ None) }
+pub(crate) fn key(alloc: Global, value: &Part<'_>) -> Result<Key, UnreadStep>
+    ensures { MatchResult result (λ key. key_of (part_data value.now) ≡ Some key) (λ e. e ≡ UnreadStep.Form
+        → key_of (part_data value.now) ≡ None) }
 {
     let text = text(value)?;
     match Key::new(alloc, text.as_bytes()) {
         Ok(key) => Ok(key),
-        Err(Fault::KeyLength) => Err(Unread::Form),
-        Err(_) => Err(Unread::Memory),
+        Err(Fault::KeyLength) => Err(UnreadStep::Form),
+        Err(_) => Err(UnreadStep::Memory),
     }
 }
 
-pub(crate) fn plain_value(alloc: Global, value: &Part<'_>) -> Result<Value, Unread>
-    ensures { MatchResult result (λ v. value_of (part_data value.now) ≡ Some v) (λ e. e ≡ Unread.Form → value_of (part_data value.now) ≡ None) }
+pub(crate) fn plain_value(alloc: Global, value: &Part<'_>) -> Result<Value, UnreadStep>
+    ensures { MatchResult result (λ v. value_of (part_data value.now) ≡ Some v) (λ e. e ≡ UnreadStep.Form
+        → value_of (part_data value.now) ≡ None) }
 {
     let text = text(value)?;
     match Value::new(alloc, text.as_bytes()) {
         Ok(value) => Ok(value),
-        Err(Fault::ValueLength) => Err(Unread::Form),
-        Err(_) => Err(Unread::Memory),
+        Err(Fault::ValueLength) => Err(UnreadStep::Form),
+        Err(_) => Err(UnreadStep::Memory),
     }
 }
 
-fn found(alloc: Global, value: &Part<'_>) -> Result<Option<Value>, Unread>
-    ensures { MatchResult result (λ found. found_of (part_data value.now) ≡ Some found) (λ e. e ≡ Unread.Form → found_of (part_data value.now) ≡ None) }
+fn found(alloc: Global, value: &Part<'_>) -> Result<Option<Value>, UnreadStep>
+    ensures { MatchResult result (λ found. found_of (part_data value.now) ≡ Some found) (λ e. e ≡ UnreadStep.Form
+        → found_of (part_data value.now) ≡ None) }
 {
     if value.is_null() {
         return Ok(None);
@@ -209,52 +223,57 @@ fn found(alloc: Global, value: &Part<'_>) -> Result<Option<Value>, Unread>
     Ok(Some(plain_value(alloc, value)?))
 }
 
-fn aborted(word: &Part<'_>) -> Result<Fate, Unread>
-    ensures { MatchResult result (λ fate. aborted_of (part_data word.now) ≡ Some fate) (λ _. aborted_of (part_data word.now) ≡ None) }
+fn aborted(word: &Part<'_>) -> Result<Fate, UnreadStep>
+    ensures { MatchResult result (λ fate. aborted_of (part_data word.now)
+        ≡ Some fate) (λ _. aborted_of (part_data word.now) ≡ None) }
 {
     if text(word)? == "aborted" {
         Ok(Fate::Aborted)
     } else {
-        Err(Unread::Form)
+        Err(UnreadStep::Form)
     }
 }
 
-fn committed(word: &Part<'_>, at: &Part<'_>) -> Result<Fate, Unread>
-    ensures { MatchResult result (λ fate. committed_of (part_data word.now) (part_data at.now) ≡ Some fate) (λ _. committed_of (part_data word.now) (part_data at.now) ≡ None) }
+fn committed(word: &Part<'_>, at: &Part<'_>) -> Result<Fate, UnreadStep>
+    ensures { MatchResult result (λ fate. committed_of (part_data word.now) (part_data at.now)
+        ≡ Some fate) (λ _. committed_of (part_data word.now) (part_data at.now) ≡ None) }
 {
     if text(word)? == "committed" {
         Ok(Fate::Committed(timestamp(at)?))
     } else {
-        Err(Unread::Form)
+        Err(UnreadStep::Form)
     }
 }
 
-fn changes(alloc: Global, value: &Part<'_>) -> Result<Changes, Unread>
-    ensures { MatchResult result (λ changes. list_of change_of (part_data value.now) ≡ Some changes) (λ e. e ≡ Unread.Form → list_of change_of (part_data value.now) ≡ None) }
+fn changes(alloc: Global, value: &Part<'_>) -> Result<Changes, UnreadStep>
+    ensures { MatchResult result (λ changes. list_of change_of (part_data value.now) ≡ Some changes) (λ e. e
+        ≡ UnreadStep.Form → list_of change_of (part_data value.now) ≡ None) }
 {
     let mut changes = Changes::new(alloc);
     for item in list(value)? {
         if changes.push(change(alloc, item)?).is_err() {
-            return Err(Unread::Memory);
+            return Err(UnreadStep::Memory);
         }
     }
     Ok(changes)
 }
 
-fn change(alloc: Global, value: &Json) -> Result<Change, Unread>
-    ensures { MatchResult result (λ change. change_of (view value.now) ≡ Some change) (λ e. e ≡ Unread.Form → change_of (view value.now) ≡ None) }
+fn change(alloc: Global, value: &Json) -> Result<Change, UnreadStep>
+    ensures { MatchResult result (λ change. change_of (view value.now) ≡ Some change) (λ e. e ≡ UnreadStep.Form
+        → change_of (view value.now) ≡ None) }
 {
     let (name, mutation) = match list(&Part::of(value))? {
         [name, word] => (name, plain(&Part::of(word))?),
         [name, word, value] => (name, put(alloc, &Part::of(word), &Part::of(value))?),
-        _ => return Err(Unread::Form),
+        _ => return Err(UnreadStep::Form),
     };
     let key = key(alloc, &Part::of(name))?;
     Ok(Change { key, mutation })
 }
 
-pub(crate) fn plain(word: &Part<'_>) -> Result<Mutation, Unread>
-    ensures { MatchResult result (λ m. plain_of (part_data word.now) ≡ Some m) (λ _. plain_of (part_data word.now) ≡ None) }
+pub(crate) fn plain(word: &Part<'_>) -> Result<Mutation, UnreadStep>
+    ensures { MatchResult result (λ m. plain_of (part_data word.now) ≡ Some m) (λ _. plain_of (part_data word.now)
+        ≡ None) }
 {
     let word = text(word)?;
     if word == "delete" {
@@ -262,14 +281,14 @@ pub(crate) fn plain(word: &Part<'_>) -> Result<Mutation, Unread>
     } else if word == "lock" {
         Ok(Mutation::Lock)
     } else {
-        Err(Unread::Form)
+        Err(UnreadStep::Form)
     }
 }
 
 #[tactic(auto, unfolding(crate::specs::MachineSteps::put_of))]
-pub(crate) fn put(alloc: Global, word: &Part<'_>, value: &Part<'_>) -> Result<Mutation, Unread>
+pub(crate) fn put(alloc: Global, word: &Part<'_>, value: &Part<'_>) -> Result<Mutation, UnreadStep>
     ensures { MatchResult result (λ m. put_of (part_data word.now) (part_data value.now) ≡ Some m)
-        (λ e. e ≡ Unread.Form → put_of (part_data word.now) (part_data value.now) ≡ None) }
+        (λ e. e ≡ UnreadStep.Form → put_of (part_data word.now) (part_data value.now) ≡ None) }
 {
     let word = text(word)?;
     if word == "put" {
@@ -277,24 +296,26 @@ pub(crate) fn put(alloc: Global, word: &Part<'_>, value: &Part<'_>) -> Result<Mu
     } else if word == "insert" {
         Ok(Mutation::Insert(plain_value(alloc, value)?))
     } else {
-        Err(Unread::Form)
+        Err(UnreadStep::Form)
     }
 }
 
-fn key_values(alloc: Global, value: &Part<'_>) -> Result<KeyValues, Unread>
-    ensures { MatchResult result (λ rows. list_of row_of (part_data value.now) ≡ Some rows) (λ e. e ≡ Unread.Form → list_of row_of (part_data value.now) ≡ None) }
+fn key_values(alloc: Global, value: &Part<'_>) -> Result<KeyValues, UnreadStep>
+    ensures { MatchResult result (λ rows. list_of row_of (part_data value.now) ≡ Some rows) (λ e. e ≡ UnreadStep.Form
+        → list_of row_of (part_data value.now) ≡ None) }
 {
     let mut rows = KeyValues::new(alloc);
     for item in list(value)? {
         if rows.push(row(alloc, item)?).is_err() {
-            return Err(Unread::Memory);
+            return Err(UnreadStep::Memory);
         }
     }
     Ok(rows)
 }
 
-fn row(alloc: Global, value: &Json) -> Result<KeyValue, Unread>
-    ensures { MatchResult result (λ row. row_of (view value.now) ≡ Some row) (λ e. e ≡ Unread.Form → row_of (view value.now) ≡ None) }
+fn row(alloc: Global, value: &Json) -> Result<KeyValue, UnreadStep>
+    ensures { MatchResult result (λ row. row_of (view value.now) ≡ Some row) (λ e. e ≡ UnreadStep.Form
+        → row_of (view value.now) ≡ None) }
 {
     match list(&Part::of(value))? {
         [name, value] => {
@@ -302,6 +323,6 @@ fn row(alloc: Global, value: &Json) -> Result<KeyValue, Unread>
             let value = plain_value(alloc, &Part::of(value))?;
             Ok(KeyValue { key, value })
         }
-        _ => Err(Unread::Form),
+        _ => Err(UnreadStep::Form),
     }
 }

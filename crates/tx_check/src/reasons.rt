@@ -8,7 +8,7 @@ ghost use Rattle.tx_text.specs.Texts.{text_of, members_text};
 ghost use Rattle.tx_check.specs.Reasons.{committed_data, reason_members, reason_text, reason_word, reason_words, seen_members, standing_word, writer_members};
 
 use std::alloc::AllocError;
-use tx_machine::{Seen, Standing, Why, Writer};
+use tx_machine::{SeenValue, Standing, Why, Writer};
 use tx_text::{put_digits, put_number, put_string};
 use tx_types::{Fate, Key, Ts, Value};
 
@@ -104,16 +104,18 @@ fn put_writer(out: &mut Vec<u8>, by: Writer) -> Result<(), AllocError>
 
 // What a read sees, who left it, and the end of the object.
 #[tactic(auto, unfolding(json::specs::Print::escape_byte))]
-fn put_seen(out: &mut Vec<u8>, seen: &Seen) -> Result<(), AllocError>
+fn put_seen(out: &mut Vec<u8>, seen: &SeenValue) -> Result<(), AllocError>
     ensures { OnOk result (out.new.items ≡ out.old.items ++ written.members_text true (seen_members seen.now)) }
 {
     match seen {
-        Seen::Nothing => out.extend_from_slice(b",\"is\":null,\"by\":null,\"committed\":null}"),
-        Seen::Deleted(by) => {
+        SeenValue::Nothing => out.extend_from_slice(
+            b",\"is\":null,\"by\":null,\"committed\":null}",
+        ),
+        SeenValue::Deleted(by) => {
             put_null(out, b",\"is\":")?;
             put_writer(out, *by)
         }
-        Seen::Left(value, by) => {
+        SeenValue::Left(value, by) => {
             put_value(out, b",\"is\":", value)?;
             put_writer(out, *by)
         }
@@ -194,7 +196,7 @@ fn put_unread(out: &mut Vec<u8>, key: &Key, at: Ts, commit: Ts) -> Result<(), Al
 }
 
 #[tactic(auto, unfolding(json::specs::Print::escape_byte))]
-fn put_exists(out: &mut Vec<u8>, key: &Key, at: Ts, seen: &Seen) -> Result<(), AllocError>
+fn put_exists(out: &mut Vec<u8>, key: &Key, at: Ts, seen: &SeenValue) -> Result<(), AllocError>
     ensures { OnOk result (out.new.items ≡ out.old.items
         ++ compact_text (object (reason_members (Why.Exists key.now at seen.now)))) }
 {
@@ -228,7 +230,7 @@ fn put_read(
     key: &Key,
     at: Ts,
     claims: &Option<Value>,
-    seen: &Seen,
+    seen: &SeenValue,
 ) -> Result<(), AllocError>
     ensures { OnOk result (out.new.items ≡ out.old.items
         ++ compact_text (object (reason_members (Why.Read key.now at claims.now seen.now)))) }

@@ -66,7 +66,8 @@ fn put_fate(out: &mut Vec<u8>, fate: Fate) -> Result<(), AllocError>
 
 // A declaration, after its word.
 fn put_declared(out: &mut Vec<u8>, start: Ts, changes: &[Change]) -> Result<(), AllocError>
-    ensures { OnOk result (out.new.items ≡ out.old.items ++ members_text (step_fields (Step.Declare start changes.now))) }
+    ensures { OnOk result (out.new.items ≡ out.old.items
+        ++ members_text (step_fields (Step.Declare start changes.now))) }
 {
     put_number(out, start.get())?;
     out.extend_from_slice(b",")?;

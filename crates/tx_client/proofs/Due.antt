@@ -19,8 +19,8 @@ use Rattle.tx_transaction.specs.declared.state.Terms.{Terms}
 use Rattle.tx_transaction.specs.declared.state.Phase.{Phase}
 use Rattle.tx_transaction.specs.declared.state.Phase.TheVariants as phase
 use Rattle.tx_transaction.specs.declared.state.Due.{Due}
-use Rattle.tx_transaction.specs.Buffers.{Entries, not_empty, first_place}
-use Rattle.tx_transaction.specs.Sessions.{State, has_primary, declaration_of, prewrite_of, prewrite_at, due_prewrite, commit_of, commit_at, commit_drawn, commit_by, commit_if, due_commit, rollback_of, rollback_at, check_of, check_at, abort_of, abort_open, abort_by, due_abort, heartbeat_of, outcome_of}
+use Rattle.tx_transaction.specs.Buffers.{Entries, not_empty, first_index}
+use Rattle.tx_transaction.specs.Sessions.{SessionState, has_primary, declaration_of, prewrite_of, prewrite_at, due_prewrite, commit_of, commit_at, commit_drawn, commit_by, commit_if, due_commit, rollback_of, rollback_at, check_of, check_at, abort_of, abort_open, abort_by, due_abort, heartbeat_of, outcome_of}
 use Rattle.tx_client.specs.Facts.{standing, IsSession, IsFor}
 use Rattle.tx_transaction.proofs.Places.{some_entries}
 use Rattle.tx_transaction.proofs.Entries.{first_within, mutation_there, first_there, others_listed}
@@ -28,7 +28,7 @@ use Rattle.tx_transaction.proofs.Entries.{first_within, mutation_there, first_th
 -- ---- what a request of a phase names
 
 -- it names the session's transaction
-pub names_start : (s : State) (x : Phase) (due : Due) → IsFor s x due → start_in due.body ≡ Some s.start
+pub names_start : (s : SessionState) (x : Phase) (due : Due) → IsFor s x due → start_in due.body ≡ Some s.start
 names_start s phase.Prewrite due is = ap (λ (d : Due). start_in d.body) is.2
 names_start s phase.Commit due is = ap (λ (d : Due). start_in d.body) is.2
 names_start s phase.Abort due (inl is) = ap (λ (d : Due). start_in d.body) is.1
@@ -47,7 +47,7 @@ standing_some t placed es None some = absurd (some refl)
 standing_some t placed [] (Some terms) some = absurd (some refl)
 standing_some t placed (e ∷ es) (Some terms) some = (terms, refl, refl, omega arith)
 
-module _ (bounds : List Key) (h : History) (run : IsWorldRun bounds h) (i : ℕ) (s : State) (is : IsSession h i s) where
+module _ (bounds : List Key) (h : History) (run : IsWorldRun bounds h) (i : ℕ) (s : SessionState) (is : IsSession h i s) where
   -- what is known of a fate is decided
   pub known_decided : (end : Fate) → s.decision ≡ Some end → decided h s.start ≡ Done end
   known_decided end e = go end (is.settled end e)
@@ -91,10 +91,10 @@ module _ (bounds : List Key) (h : History) (run : IsWorldRun bounds h) (i : ℕ)
 
   -- the prewrite that is due is allowed
   pub prewrite_allowed : (due : Due) → due_prewrite s ≡ Some due → Is phase.Prewrite due
-  prewrite_allowed due e = go s.declared (first_place phase.Prewrite s.buffer) refl refl e
+  prewrite_allowed due e = go s.declared (first_index phase.Prewrite s.buffer) refl refl e
     where
-      go : (o : Option Terms) (place : Option ℕ) → s.declared ≡ o → first_place phase.Prewrite s.buffer ≡ place → prewrite_at s o place ≡ Some due → Is phase.Prewrite due
-      go None place was at e = absurd (cc (e))
+      go : (o : Option Terms) (index : Option ℕ) → s.declared ≡ o → first_index phase.Prewrite s.buffer ≡ index → prewrite_at s o index ≡ Some due → Is phase.Prewrite due
+      go None index was at e = absurd (cc (e))
       go (Some terms) None was at e = absurd (cc (e))
       go (Some terms) (Some n) was at e =
           let same : prewrite_of s terms n ≡ due = some_same (prewrite_of s terms n) due e in
@@ -124,13 +124,13 @@ module _ (bounds : List Key) (h : History) (run : IsWorldRun bounds h) (i : ℕ)
       by_drawn None was e = absurd (cc (e))
       by_drawn (Some c) was e = this c 0 (may_commit_drawn c was) (some_same (commit_of s c 0) due e)
 
-      by_place : (c : ℕ) (place : Option ℕ) → s.decision ≡ Some (fate.Committed c) → commit_at s c place ≡ Some due → Is phase.Commit due
+      by_place : (c : ℕ) (index : Option ℕ) → s.decision ≡ Some (fate.Committed c) → commit_at s c index ≡ Some due → Is phase.Commit due
       by_place c None was e = absurd (cc (e))
       by_place c (Some n) was e = this c n (may_commit_decided c n was) (some_same (commit_of s c n) due e)
 
       by_decision : (o : Option Fate) → s.decision ≡ o → commit_by s o ≡ Some due → Is phase.Commit due
       by_decision None was e = by_drawn s.drawn refl e
-      by_decision (Some (fate.Committed c)) was e = by_place c (first_place phase.Commit s.buffer) was e
+      by_decision (Some (fate.Committed c)) was e = by_place c (first_index phase.Commit s.buffer) was e
       by_decision (Some fate.Aborted) was e = absurd (cc (e))
 
       by_primary : (b : Bool) → commit_if s b ≡ Some due → Is phase.Commit due
@@ -162,27 +162,27 @@ module _ (bounds : List Key) (h : History) (run : IsWorldRun bounds h) (i : ℕ)
       check : (n : ℕ) → Allowed h (check_of s n).body → check_of s n ≡ due → Is phase.Abort due
       check n may same = (subst (λ (d : Due). Allowed h d.body) same may, inr (n, sym same))
 
-      by_check : (terms : Terms) (place : Option ℕ) → s.declared ≡ Some terms → terms.mode ≡ Async → first_place phase.Prewrite s.buffer ≡ place → check_at s place ≡ Some due → Is phase.Abort due
+      by_check : (terms : Terms) (index : Option ℕ) → s.declared ≡ Some terms → terms.mode ≡ Async → first_index phase.Prewrite s.buffer ≡ index → check_at s index ≡ Some due → Is phase.Abort due
       by_check terms None was mode at e = absurd (cc (e))
       by_check terms (Some n) was mode at e = check n (may_check terms n was mode (first_within phase.Prewrite s.buffer n at)) (some_same (check_of s n) due e)
 
       by_mode : (terms : Terms) (m : Mode) → s.declared ≡ Some terms → terms.mode ≡ m → 0 < length s.buffer → abort_of s m ≡ Some due → Is phase.Abort due
       by_mode terms TwoPhase was mode some e = roll 0 (may_roll_back_first terms was mode some) (some_same (rollback_of s 0) due e)
-      by_mode terms Async was mode some e = by_check terms (first_place phase.Prewrite s.buffer) was mode refl e
+      by_mode terms Async was mode some e = by_check terms (first_index phase.Prewrite s.buffer) was mode refl e
 
       by_terms : (o : Option Terms) (b : Bool) → s.declared ≡ o → not_empty s.buffer ≡ b → abort_open s o b ≡ Some due → Is phase.Abort due
       by_terms None b was some e = absurd (cc (e))
       by_terms (Some terms) false was some e = absurd (cc (e))
       by_terms (Some terms) true was some e = by_mode terms terms.mode was refl (some_entries s.buffer some) e
 
-      by_place : (place : Option ℕ) → s.decision ≡ Some fate.Aborted → rollback_at s place ≡ Some due → Is phase.Abort due
+      by_place : (index : Option ℕ) → s.decision ≡ Some fate.Aborted → rollback_at s index ≡ Some due → Is phase.Abort due
       by_place None was e = absurd (cc (e))
       by_place (Some n) was e = roll n (may_roll_back n was) (some_same (rollback_of s n) due e)
 
       by_decision : (o : Option Fate) → s.decision ≡ o → abort_by s o ≡ Some due → Is phase.Abort due
       by_decision None was e = by_terms s.declared (not_empty s.buffer) refl refl e
       by_decision (Some (fate.Committed c)) was e = absurd (cc (e))
-      by_decision (Some fate.Aborted) was e = by_place (first_place phase.Abort s.buffer) was e
+      by_decision (Some fate.Aborted) was e = by_place (first_index phase.Abort s.buffer) was e
 
   -- ---- heartbeats
 

@@ -30,8 +30,8 @@ use Rattle.tx_core.proofs.runs.Consequences.{undeclared, unanswered, accepted_up
 use Rattle.tx_journal.specs.Known.{HasRecorded, HasDrawn}
 use Rattle.tx_transaction.specs.declared.state.Terms.{Terms}
 use Rattle.tx_transaction.specs.declared.state.Phase.TheVariants as phase
-use Rattle.tx_transaction.specs.Buffers.{Entries, fresh, buffered, touched, insert_over, inserted, locked, not_empty, changes_of, place_from, first_place, is_zero, has_two_phase_lock}
-use Rattle.tx_transaction.specs.Sessions.{State, begun, is_declared, has_primary, declaration_of, declaration, is_open, can_draw, with_passed, outcome_of, unknown_by, undecided, finish_by, finish_of}
+use Rattle.tx_transaction.specs.Buffers.{Entries, fresh, buffered, touched, insert_over, inserted, locked, not_empty, changes_of, index_from, first_index, is_zero, has_two_phase_lock}
+use Rattle.tx_transaction.specs.Sessions.{SessionState, begun, is_declared, has_primary, declaration_of, declaration, is_open, can_draw, with_passed, outcome_of, unknown_by, undecided, finish_by, finish_of}
 use Rattle.tx_client.specs.Facts.{standing, Mark, Marks, IsReady, IsSession}
 use Rattle.tx_transaction.proofs.Entries.{distinct_touched}
 use Rattle.tx_client.proofs.Kept.{marks_on, ready_on, read_on, told_of_on, others_act}
@@ -77,7 +77,7 @@ marks_touched h t (e ∷ es) k m w = go (bytes_eq k e.0) (marks_touched h t es k
     go true rest = (tt, w.1)
     go false rest = (w.0, rest)
 
-module _ (h : History) (i : ℕ) (s : State) (is : IsSession h i s) where
+module _ (h : History) (i : ℕ) (s : SessionState) (is : IsSession h i s) where
   -- another buffer of distinct keys
   rebuffered : (es : Entries) → is_declared s ≡ false → IsDistinct (changes_of es) → Marks h s.start es → IsSession h i (record s { buffer = es })
   rebuffered es not_yet distinct marks =
@@ -137,7 +137,7 @@ module _ (h : History) (i : ℕ) (s : State) (is : IsSession h i s) where
 -- ---- it declares
 
 -- an empty buffer is no event
-pub declared_none : (h : History) (i : ℕ) (s : State) (p : ℕ) (terms : Terms) → IsSession h i s → is_declared s ≡ false → declaration s.start p s.buffer terms ≡ None → IsSession h i (record s { declared = Some terms; placed = p })
+pub declared_none : (h : History) (i : ℕ) (s : SessionState) (p : ℕ) (terms : Terms) → IsSession h i s → is_declared s ≡ false → declaration s.start p s.buffer terms ≡ None → IsSession h i (record s { declared = Some terms; placed = p })
 declared_none h i s p terms is not_yet empty =
     record {
       drew_start = is.drew_start;
@@ -168,7 +168,7 @@ pub drawn_is : (t p : ℕ) (es : Entries) (terms : Terms) (d : Declaration) → 
 drawn_is t p es terms d e = (declaration_is t p es terms d e).3
 
 -- its seat drew a number
-drew_number : (bounds : List Key) (h : History) (i : ℕ) (s : State) (p : ℕ) → IsWorldRun bounds (Drawn i p ∷ h) → IsSession h i s → IsSession (Drawn i p ∷ h) i s
+drew_number : (bounds : List Key) (h : History) (i : ℕ) (s : SessionState) (p : ℕ) → IsWorldRun bounds (Drawn i p ∷ h) → IsSession h i s → IsSession (Drawn i p ∷ h) i s
 drew_number bounds h i s p run is =
     let later : Begins h (Drawn i p ∷ h) = inr (begins_all h) in
     record {
@@ -185,13 +185,13 @@ drew_number bounds h i s p run is =
     }
 
 -- then it drew it since it began
-placed_ok : (bounds : List Key) (i : ℕ) (s : State) (p : ℕ) (old new : History) → IsSession old i s → HasDrawn bounds i old 1 p new → IsSession new i s × DrewSince new s.start p
+placed_ok : (bounds : List Key) (i : ℕ) (s : SessionState) (p : ℕ) (old new : History) → IsSession old i s → HasDrawn bounds i old 1 p new → IsSession new i s × DrewSince new s.start p
 placed_ok bounds i s p old new is d =
     let run : IsWorldRun bounds (Drawn i p ∷ d.before) = subst (IsWorldRun bounds) d.is d.run in
     let before : IsSession d.before i s = others_act bounds old d.before run.0 i s d.extends is in
     (subst (λ x. IsSession x i s) (sym d.is) (drew_number bounds d.before i s p run before), subst (λ x. DrewSince x s.start p) (sym d.is) (inl (refl, before.begun, before.drew_start)))
 
-pub may_declare_buffer : (bounds : List Key) (old mid : History) (i : ℕ) (s : State) (p : ℕ) (terms : Terms) (d : Declaration) → IsSession old i s → is_declared s ≡ false → HasDrawn bounds i old 1 p mid → declaration s.start p s.buffer terms ≡ Some d → MayRecord bounds i mid (Declared d)
+pub may_declare_buffer : (bounds : List Key) (old mid : History) (i : ℕ) (s : SessionState) (p : ℕ) (terms : Terms) (d : Declaration) → IsSession old i s → is_declared s ≡ false → HasDrawn bounds i old 1 p mid → declaration s.start p s.buffer terms ≡ Some d → MayRecord bounds i mid (Declared d)
 may_declare_buffer bounds old mid i s p terms d was not_yet drew e =
     let r = declaration_is s.start p s.buffer terms d e in
     let now = placed_ok bounds i s p old mid was drew in
@@ -199,7 +199,7 @@ may_declare_buffer bounds old mid i s p terms d was not_yet drew e =
     let since : DrewSince mid d.start d.drawn = subst (λ t. DrewSince mid t d.drawn) (sym r.0) (subst (DrewSince mid s.start) (sym r.3) now.1) in
     may_declare bounds i mid d (ap (drawer mid) r.0 ∙ is.drew_start) (ap (began mid) r.0 ∙ is.begun) (ap (declared mid) r.0 ∙ is.stands ∙ ap (standing s.start s.placed s.buffer) (undeclared_yet s.declared not_yet)) r.2 (subst IsDistinct (sym r.1) is.distinct) since
 
-declared_next : (bounds : List Key) (h : History) (i : ℕ) (s : State) (p : ℕ) (terms : Terms) (d : Declaration) → IsWorldRun bounds (Declared d ∷ h) → IsSession h i s → declaration s.start p s.buffer terms ≡ Some d → IsSession (Declared d ∷ h) i (record s { declared = Some terms; placed = p })
+declared_next : (bounds : List Key) (h : History) (i : ℕ) (s : SessionState) (p : ℕ) (terms : Terms) (d : Declaration) → IsWorldRun bounds (Declared d ∷ h) → IsSession h i s → declaration s.start p s.buffer terms ≡ Some d → IsSession (Declared d ∷ h) i (record s { declared = Some terms; placed = p })
 declared_next bounds h i s p terms d run is e =
     let r = declaration_is s.start p s.buffer terms d e in
     let later : Begins h (Declared d ∷ h) = inr (begins_all h) in
@@ -217,7 +217,7 @@ declared_next bounds h i s p terms d run is e =
     }
 
 -- its seat drew a number, and recorded what it declared with it
-pub declared_ok : (bounds : List Key) (i : ℕ) (s : State) (p : ℕ) (terms : Terms) (d : Declaration) (old mid new : History) → IsSession old i s → HasDrawn bounds i old 1 p mid → declaration s.start p s.buffer terms ≡ Some d → HasRecorded bounds i mid (Declared d) new → IsSession new i (record s { declared = Some terms; placed = p })
+pub declared_ok : (bounds : List Key) (i : ℕ) (s : SessionState) (p : ℕ) (terms : Terms) (d : Declaration) (old mid new : History) → IsSession old i s → HasDrawn bounds i old 1 p mid → declaration s.start p s.buffer terms ≡ Some d → HasRecorded bounds i mid (Declared d) new → IsSession new i (record s { declared = Some terms; placed = p })
 declared_ok bounds i s p terms d old mid new was drew e r =
     let run : IsWorldRun bounds (Declared d ∷ r.before) = subst (IsWorldRun bounds) r.is r.run in
     let is : IsSession mid i s = (placed_ok bounds i s p old mid was drew).0 in
@@ -236,14 +236,14 @@ mark_accepted h t k (Some zero) not_so m = m.accepted
 mark_accepted h t k (Some (suc n)) not_so m = subst (λ (p : ℕ × Key). accepted h p.0 p.1 ≢ None) (λ j. (m.own j, m.key j)) (is_some (accepted h m.info.start m.info.key) m.is.by m.is.accepted)
 
 -- where each entry is marked accepted, each key of the write set is
-all_marked : (n : ℕ) (h : History) (t : ℕ) (es : Entries) → Marks h t es → place_from n phase.Prewrite es ≡ None → (k : Key) → mutation_at (changes_of es) k ≢ None → accepted h t k ≢ None
+all_marked : (n : ℕ) (h : History) (t : ℕ) (es : Entries) → Marks h t es → index_from n phase.Prewrite es ≡ None → (k : Key) → mutation_at (changes_of es) k ≢ None → accepted h t k ≢ None
 all_marked n h t [] m none k some = absurd (some refl)
 all_marked n h t (e ∷ es) m none k some = go (not (some_test e.1.progress.accepted)) refl (all_marked (n + 1) h t es m.1)
   where
-    go : (b : Bool) → not (some_test e.1.progress.accepted) ≡ b → (place_from (n + 1) phase.Prewrite es ≡ None → (k : Key) → mutation_at (changes_of es) k ≢ None → accepted h t k ≢ None) → accepted h t k ≢ None
+    go : (b : Bool) → not (some_test e.1.progress.accepted) ≡ b → (index_from (n + 1) phase.Prewrite es ≡ None → (k : Key) → mutation_at (changes_of es) k ≢ None → accepted h t k ≢ None) → accepted h t k ≢ None
     go true is rest = (let now : Some n ≡ None = rw is at none in absurd (cc (now)))
     go false is rest =
-        let old : place_from (n + 1) phase.Prewrite es ≡ None = rw is at none in
+        let old : index_from (n + 1) phase.Prewrite es ≡ None = rw is at none in
         elim (key_test e.0 k) [
           | inl y ↦ subst (λ q. accepted h t q ≢ None) y.1 (mark_accepted h t e.0 e.1.progress.accepted is m.0)
           | inr y ↦ (let more : mutation_at (changes_of es) k ≢ None = rw y.0 at some in rest old k more)
@@ -265,9 +265,9 @@ primary_stands t placed es None e = absurd (cc (e))
 primary_stands t placed [] (Some terms) e = absurd (cc (e))
 primary_stands t placed (x ∷ es) (Some terms) e = (terms, refl)
 
-module _ (bounds : List Key) (h : History) (i : ℕ) (s : State) (is : IsSession h i s) (can : can_draw s ≡ true) (c : ℕ) (run : IsWorldRun bounds (Drawn i c ∷ h)) where
+module _ (bounds : List Key) (h : History) (i : ℕ) (s : SessionState) (is : IsSession h i s) (can : can_draw s ≡ true) (c : ℕ) (run : IsWorldRun bounds (Drawn i c ∷ h)) where
   abbrev accepted_all : Bool
-  accepted_all = not (some_test (first_place phase.Prewrite s.buffer))
+  accepted_all = not (some_test (first_index phase.Prewrite s.buffer))
 
   rest : (has_primary s && (accepted_all && has_two_phase_lock s.buffer)) ≡ true
   rest = (and_parts (is_open s.decision s.drawn) (has_primary s && (accepted_all && has_two_phase_lock s.buffer)) can).1
@@ -279,7 +279,7 @@ module _ (bounds : List Key) (h : History) (i : ℕ) (s : State) (is : IsSession
   stands_so = (let r = primary_stands s.start s.placed s.buffer s.declared (and_parts (has_primary s) (accepted_all && has_two_phase_lock s.buffer) rest).0 in (r.0, is.stands ∙ r.1))
 
   accepted_by_mark : (k : Key) → mutation_at (changes_of s.buffer) k ≢ None → accepted h s.start k ≢ None
-  accepted_by_mark = all_marked 0 h s.start s.buffer is.marks (none_there (first_place phase.Prewrite s.buffer) all_two_phase.0)
+  accepted_by_mark = all_marked 0 h s.start s.buffer is.marks (none_there (first_index phase.Prewrite s.buffer) all_two_phase.0)
 
   -- it drew after each key was accepted
   ready_now : IsReady (Drawn i c ∷ h) s.start c
@@ -314,7 +314,7 @@ module _ (bounds : List Key) (h : History) (i : ℕ) (s : State) (is : IsSession
       }
 
 -- its seat drew
-pub drew_ok : (bounds : List Key) (i : ℕ) (s : State) (c : ℕ) (old new : History) → IsSession old i s → can_draw s ≡ true → HasDrawn bounds i old 1 c new → IsSession new i (record s { drawn = Some c })
+pub drew_ok : (bounds : List Key) (i : ℕ) (s : SessionState) (c : ℕ) (old new : History) → IsSession old i s → can_draw s ≡ true → HasDrawn bounds i old 1 c new → IsSession new i (record s { drawn = Some c })
 drew_ok bounds i s c old new is can d =
     let run : IsWorldRun bounds (Drawn i c ∷ d.before) = subst (IsWorldRun bounds) d.is d.run in
     subst (λ x. IsSession x i (record s { drawn = Some c })) (sym d.is) (drawn_next bounds d.before i s (others_act bounds old d.before run.0 i s d.extends is) can c run)
@@ -322,7 +322,7 @@ drew_ok bounds i s c old new is can d =
 -- ---- it ends
 
 -- an outcome that it gives it may answer
-module _ (h : History) (i : ℕ) (s : State) (is : IsSession h i s) where
+module _ (h : History) (i : ℕ) (s : SessionState) (is : IsSession h i s) where
   unknown : (b : Bool) (o : Outcome) → undecided s b ≡ Some o → MayAnswer h s.start o
   unknown false o e = (let same : outcome.ReadOnly ≡ o = cc (e) in subst (MayAnswer h s.start) same tt)
   unknown true o e = by_cause s.cause e

@@ -20,7 +20,7 @@ use Rattle.tx_core.proofs.seats.Answering.{may_answer_on}
 use Rattle.tx_core.proofs.seats.Recording.{undeclared_on, unanswered_on}
 use Rattle.tx_core.proofs.locks.ToldLocks.{is_lock_on}
 use Rattle.tx_transaction.specs.Buffers.{Entries}
-use Rattle.tx_transaction.specs.Sessions.{State, outcome_of}
+use Rattle.tx_transaction.specs.Sessions.{SessionState, outcome_of}
 use Rattle.tx_client.specs.Facts.{standing, Mark, Marks, IsReady, IsSession}
 
 accepted_still : (l h : History) → Begins l h → (t : ℕ) (k : Key) → accepted l t k ≢ None → accepted h t k ≢ None
@@ -53,7 +53,7 @@ module _ (bounds : List Key) (l h : History) (run : IsWorldRun bounds h) (b : Be
   told_of_on info was = record { by = was.by; among = among_on l h b (Took was.by) was.among; told = was.told }
 
 -- others act
-pub others_act : (bounds : List Key) (l h : History) → IsWorldRun bounds h → (i : ℕ) (s : State) → Extends i l h → IsSession l i s → IsSession h i s
+pub others_act : (bounds : List Key) (l h : History) → IsWorldRun bounds h → (i : ℕ) (s : SessionState) → Extends i l h → IsSession l i s → IsSession h i s
 others_act bounds l h run i s goes is =
     record {
       drew_start = drawer_on bounds l h run b s.start i is.drew_start;

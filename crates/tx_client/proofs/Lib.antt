@@ -8,7 +8,7 @@ pub mod Marking
 -- of their minimums.
 pub mod Promising
 -- What an answer to a session's request tells, its state may keep.
-pub mod Heard
+pub mod Answering
 -- A session's own events may come, and keep what holds of its state: its begin, its puts, its
 -- declaration, its draw, and its end.
 pub mod Events

@@ -27,7 +27,7 @@ use Rattle.tx_core.proofs.view.View.{does_within}
 use Rattle.tx_core.proofs.runs.AllRuns.{run_told}
 use Rattle.tx_core.proofs.locks.AllAsync.{prewritten_lock}
 use Rattle.tx_core.proofs.locks.ToldLocks.{told_lock}
-use Rattle.tx_transaction.specs.Sessions.{minimum_in}
+use Rattle.tx_types.specs.Locks.{async_min}
 use Rattle.tx_client.specs.Facts.{WasAnswered, Mark}
 
 mode_of : (m : Mode) → (m ≡ TwoPhase) ⊎ (m ≡ Async)
@@ -105,7 +105,7 @@ module _ (bounds : List Key) (h : History) (run : IsWorldRun bounds h) where
       ]
 
   -- a lock that was told of is what it is marked as
-  pub mark_of : (info : LockInfo) → IsLockOf h info → Mark h info.start info.key (Some (minimum_in info))
+  pub mark_of : (info : LockInfo) → IsLockOf h info → Mark h info.start info.key (Some (async_min info.mode info.min))
   mark_of info is = by_mode info.mode refl
     where
       there : accepted h info.start info.key ≢ None
@@ -119,7 +119,7 @@ module _ (bounds : List Key) (h : History) (run : IsWorldRun bounds h) where
             | inr never ↦ absurd (omega (arith, e, is.min (inr never), ((run_told bounds h run).0.sound.inv.acceptances info.start info.key is.by is.accepted).above))
           ]
 
-      by_mode : (m : Mode) → info.mode ≡ m → Mark h info.start info.key (Some (elim m [ TwoPhase ↦ 0 | Async ↦ info.min ]))
+      by_mode : (m : Mode) → info.mode ≡ m → Mark h info.start info.key (Some (async_min m info.min))
       by_mode TwoPhase e = record { accepted = there; two_phase = record { key = info.key; by = is.by; stands = is.accepted; two_phase = is.mode ∙ e } }
       by_mode Async e = by_min info.min refl e
 
@@ -130,13 +130,13 @@ module _ (bounds : List Key) (h : History) (run : IsWorldRun bounds h) where
       subst (λ (x : ℕ × ℕ). Mark h x.0 b.key (Some x.1)) (λ j. (has.own j, has.named j)) (mark_of (info_of b.key has.lock) has.is)
 
   -- a lock that a check found
-  pub checked_mark : (b : CheckSecondaryLocks) (info : LockInfo) → WasAnswered h (request.CheckSecondaryLocks b) (Locked info) → Mark h b.start b.key (Some (minimum_in info))
+  pub checked_mark : (b : CheckSecondaryLocks) (info : LockInfo) → WasAnswered h (request.CheckSecondaryLocks b) (Locked info) → Mark h b.start b.key (Some (async_min info.mode info.min))
   checked_mark b info was =
       let took = taken_there bounds h was.by run was.among in
       let gave : Answers (left took.0 was.by.region) was.by.loaded (last took.0) (request.CheckSecondaryLocks b) was.by.answer = subst (λ x. Answers (left took.0 was.by.region) was.by.loaded (last took.0) x was.by.answer) was.asked took.1.1.answers in
       let own = finds_own (left took.0 was.by.region) was.by.loaded (last took.0) b was.by.answer info gave was.told in
       let told : WasToldOf h info = record { by = was.by; among = was.among; told = subst (λ (xs : List LockInfo). Contains xs info) (ap infos_in (sym was.told)) (Contains-push [] info) } in
-      subst (λ (x : ℕ × Key). Mark h x.0 x.1 (Some (minimum_in info))) (λ j. (own.0 j, own.1 j)) (mark_of info (told_lock bounds h info run told))
+      subst (λ (x : ℕ × Key). Mark h x.0 x.1 (Some (async_min info.mode info.min))) (λ j. (own.0 j, own.1 j)) (mark_of info (told_lock bounds h info run told))
 
   -- a rollback tells of no lock
   pub rolled_unlocked : (b : BatchRollback) (info : LockInfo) → WasAnswered h (request.BatchRollback b) (Locked info) → ⊥

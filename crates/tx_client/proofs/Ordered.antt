@@ -19,7 +19,7 @@ use Rattle.tx_core.proofs.runs.Consequences.{decided_declared}
 use Rattle.tx_journal.specs.Known.{Known}
 use Rattle.tx_transaction.specs.declared.state.Terms.{Terms}
 use Rattle.tx_transaction.specs.Buffers.{Entries, not_empty}
-use Rattle.tx_transaction.specs.Sessions.{State, declaration_of, declaration}
+use Rattle.tx_transaction.specs.Sessions.{SessionState, declaration_of, declaration}
 use Rattle.tx_client.specs.Calls.{DeclaredWith, RecordsDeclared, IsDecidedSo}
 use Rattle.tx_client.specs.Facts.{IsSeated}
 use Rattle.tx_client.specs.Order.{IsDrawnAfter, CommitsAbove}
@@ -39,7 +39,7 @@ declared_after bounds old new t p [] terms r some = absurd (cc (some))
 declared_after bounds old new t p (e ∷ es) terms r some = drawn_after_known bounds old new (declaration_of t p (e ∷ es) terms) r
 
 -- what a session answers is in order
-pub answers_in_order : (bounds : List Key) (k : Known) (s : State) (o : Outcome) → IsSeated bounds k s → IsDecidedSo k.events s.start o → CommitsAbove k.events s.placed o
+pub answers_in_order : (bounds : List Key) (k : Known) (s : SessionState) (o : Outcome) → IsSeated bounds k s → IsDecidedSo k.events s.start o → CommitsAbove k.events s.placed o
 answers_in_order bounds k s (outcome.Committed c) is end =
     let stands = stands_some bounds k.events is.0 k.seat s is.1 (decided_declared bounds k.events is.0 s.start (fate.Committed c) end) in
     λ u d before. commits_in_order bounds k.events s.start u d c (declaration_of s.start s.placed s.buffer stands.0) is.0 stands.2 before end

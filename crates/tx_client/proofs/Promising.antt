@@ -9,7 +9,7 @@ use Rattle.tx_core.specs.Worlds.{IsWorldRun}
 use Rattle.tx_core.specs.Laws.{HadAsyncLock, greatest_of}
 use Rattle.tx_core.proofs.Basics.{key_test, key_same, is_some}
 use Rattle.tx_core.proofs.locks.AllAsync.{all_async}
-use Rattle.tx_transaction.specs.declared.state.Entry.{Entry}
+use Rattle.tx_transaction.specs.declared.state.BufferEntry.{BufferEntry}
 use Rattle.tx_transaction.specs.declared.state.Terms.{Terms}
 use Rattle.tx_transaction.specs.Buffers.{Entries, changes_of, async_minimum, promised_from, promised}
 use Rattle.tx_client.specs.Facts.{standing, Mark, Marks}
@@ -47,7 +47,7 @@ abbrev Fits : (Key → ℕ) → Entries → Type 0
 Fits f [] = Unit {0}
 Fits f (e ∷ es) = (f e.0 ≡ value e.1.progress.accepted) × Fits f es
 
-fits_more : (e : Key × Entry) (es fs : Entries) → mutation_at (changes_of es) e.0 ≡ None → Fits (min_of fs) es → Fits (min_of (e ∷ fs)) es
+fits_more : (e : Key × BufferEntry) (es fs : Entries) → mutation_at (changes_of es) e.0 ≡ None → Fits (min_of fs) es → Fits (min_of (e ∷ fs)) es
 fits_more e [] fs none fits = tt
 fits_more e (x ∷ es) fs none fits =
     elim (key_test x.0 e.0) [
@@ -68,12 +68,15 @@ max_assoc a b c = omega arith
 max_zero : (n : ℕ) → max 0 n ≡ n
 max_zero n = omega arith
 
-greatest_by : (f : Key → ℕ) (n c : ℕ) (e : Key × Entry) (es : Entries) → Fits f (e ∷ es) → Each (e ∷ es) → promised_from n (e ∷ es) ≡ Some c → c ≡ max n (greatest_of f (changes_of (e ∷ es)))
+max_none : (n : ℕ) → max n 0 ≡ n
+max_none n = omega arith
+
+greatest_by : (f : Key → ℕ) (n c : ℕ) (e : Key × BufferEntry) (es : Entries) → Fits f (e ∷ es) → Each (e ∷ es) → promised_from n (e ∷ es) ≡ Some c → c ≡ max n (greatest_of f (changes_of (e ∷ es)))
 greatest_by f n c e [] fits each is =
     let r = each_by n c e.1.progress.accepted [] is in
     let this : f e.0 ≡ suc r.0 = fits.0 ∙ ap value r.1 in
     let at : max n (suc r.0) ≡ c = cc (r.2) in
-    sym at ∙ ap (max n) (sym this)
+    sym at ∙ ap (max n) (sym this) ∙ ap (max n) (sym (max_none (f e.0)))
 greatest_by f n c e (x ∷ es) fits each is =
     let r = each_by n c e.1.progress.accepted (x ∷ es) is in
     let this : f e.0 ≡ suc r.0 = fits.0 ∙ ap value r.1 in
@@ -92,7 +95,7 @@ had h t (e ∷ es) marks each k some =
           subst (HadAsyncLock h t k) (sym (cond_not e es k y.0)) (had h t es marks.1 each.1 k more))
     ]
   where
-    cond_not : (e : Key × Entry) (es : Entries) (k : Key) → bytes_eq e.0 k ≡ false → min_of (e ∷ es) k ≡ min_of es k
+    cond_not : (e : Key × BufferEntry) (es : Entries) (k : Key) → bytes_eq e.0 k ≡ false → min_of (e ∷ es) k ≡ min_of es k
     cond_not e es k other = rw other refl
 
 -- who has an async lock is declared

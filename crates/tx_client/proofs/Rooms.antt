@@ -11,10 +11,10 @@ use Rattle.tx_plan.specs.Cells.{Region}
 use Rattle.tx_plan.specs.Answers.{Answers}
 use Rattle.tx_core.specs.Histories.{History, last, left}
 use Rattle.tx_core.specs.Worlds.{IsWorldRun}
-use Rattle.tx_transaction.specs.declared.state.Came.{Came}
-use Rattle.tx_transaction.specs.declared.state.Came.TheVariants as came
+use Rattle.tx_transaction.specs.declared.state.Response.{Response}
+use Rattle.tx_transaction.specs.declared.state.Response.TheVariants as response
 use Rattle.tx_transaction.specs.Returns.{read}
-use Rattle.tx_client.specs.Facts.{WasAnswered, CameSo}
+use Rattle.tx_client.specs.Facts.{WasAnswered, RespondsSo}
 use Rattle.tx_client.specs.Rooms.{IsScan, HasUpto}
 use Rattle.tx_client.proofs.Marking.{taken_there}
 
@@ -39,7 +39,7 @@ module _ (bounds : List Key) (h : History) (run : IsWorldRun bounds h) where
   told_upto n _ is a was = absurd is
 
   -- what came of a scan
-  pub came_upto : (n : ℕ) (body : Body) → IsScan n body → (c : Came) → CameSo h body c → HasUpto n (read c)
-  came_upto n body is came.Lost was = tt
-  came_upto n body is came.Unsaid was = tt
-  came_upto n body is (came.Said a) was = told_upto n body is a was
+  pub came_upto : (n : ℕ) (body : Body) → IsScan n body → (c : Response) → RespondsSo h body c → HasUpto n (read c)
+  came_upto n body is response.Lost was = tt
+  came_upto n body is response.OutOfMemory was = tt
+  came_upto n body is (response.Answered a) was = told_upto n body is a was

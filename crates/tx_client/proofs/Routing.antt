@@ -6,7 +6,7 @@ use Rattle.std.proofs.lemmas.List.Sums.{sum_by-cons}
 use Rattle.tx_types.specs.declared.key.Key.{Key}
 use Rattle.tx_types.specs.Keys.{key_lt, key_le, AreRising}
 use Rattle.tx_plan.proofs.KeyOrder.{lt_trans, lt_itself, lt_le, le_itself, le_cases, lt_then_le, not_lt}
-use Rattle.tx_transaction.specs.Sessions.{State, scan_of}
+use Rattle.tx_transaction.specs.Sessions.{SessionState, scan_of}
 use Rattle.tx_journal.specs.Senders.{IsHeld}
 use Rattle.tx_client.specs.Walks.{lesser, greater, low_of, high_of}
 
@@ -71,7 +71,7 @@ route_at from to k (b ∷ bs) (suc n) r le low high =
     one_more k b bs ∙ omega (arith, yes, rest)
 
 -- the part of a range in the region n
-pub held_part : (bounds : List Key) (s : State) (from to : Key) (n limit : ℕ) → AreRising bounds → n ≤ length bounds → IsHeld bounds (scan_of s (greater from (low_of from bounds n)) (high_of to bounds n) limit)
+pub held_part : (bounds : List Key) (s : SessionState) (from to : Key) (n limit : ℕ) → AreRising bounds → n ≤ length bounds → IsHeld bounds (scan_of s (greater from (low_of from bounds n)) (high_of to bounds n) limit)
 held_part bounds s from to n limit r le = (
   n,
   le,

@@ -14,18 +14,18 @@ use Rattle.tx_core.specs.Histories.{History, Begins}
 use Rattle.tx_core.specs.Recording.{part}
 use Rattle.tx_journal.specs.Known.{Known, HasSeen, HasRecorded, HasDrawn}
 use Rattle.tx_journal.specs.Replies.{Asked}
-use Rattle.tx_transaction.specs.declared.state.Came.{Came}
+use Rattle.tx_transaction.specs.declared.state.Response.{Response}
 use Rattle.tx_transaction.specs.Buffers.{keys_of}
-use Rattle.tx_transaction.specs.Sessions.{State}
+use Rattle.tx_transaction.specs.Sessions.{SessionState}
 use Rattle.tx_journal.specs.Senders.{Reached}
-use Rattle.tx_client.specs.Learns.{came_of, Learns}
+use Rattle.tx_client.specs.Learns.{response_of, Learns}
 
 -- a session: its state, and what its seat knows
 pub record Seated : Type 0 where
-  pub state : State
+  pub state : SessionState
   pub seat : Known
 
-abbrev pub seated : State → Known → Seated
+abbrev pub seated : SessionState → Known → Seated
 seated s k = record { state = s; seat = k }
 
 -- the seat learnt a history, and made no event
@@ -72,11 +72,11 @@ RecordsDeclared bounds old (Some d) new = DeclaredWith bounds old d new
 module _ {S : Type 0} (sends : S → Asked → Reached → S → Type 0) (bounds : List Key) where
   -- this one request was sent, by one who had seen just what the seat knew, and the seat
   -- learnt what was told
-  pub record Asks (old : Known) (body : Body) (from to : S) (c : Came) (new : Known) : Type 0 where
+  pub record Asks (old : Known) (body : Body) (from to : S) (c : Response) (new : Known) : Type 0 where
     pub reached : Reached
     pub sent : sends from (record { by = old.events; body = body }) reached to
     pub learns : Learns bounds old reached new
-    pub is : c ≡ came_of reached
+    pub is : c ≡ response_of reached
 
 -- a fate that is answered is decided
 abbrev pub IsDecidedSo : History → ℕ → Outcome → Type 0
@@ -86,6 +86,6 @@ IsDecidedSo h t (outcome.Unknown why) = Unit {0}
 IsDecidedSo h t outcome.ReadOnly = Unit {0}
 
 -- the keys that a session writes stay, and whether they are declared
-pub record KeepsSet (old new : State) : Type 0 where
+pub record KeepsSet (old new : SessionState) : Type 0 where
   pub keys : keys_of new.buffer ≡ keys_of old.buffer
   pub declared : new.declared ≡ old.declared

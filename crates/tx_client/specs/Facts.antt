@@ -16,13 +16,13 @@ use Rattle.tx_core.specs.Worlds.{MayAnswer, IsWorldRun}
 use Rattle.tx_core.specs.Laws.{WasToldOf, HadAsyncLock}
 use Rattle.tx_journal.specs.Known.{Known}
 use Rattle.tx_transaction.specs.declared.state.Terms.{Terms}
-use Rattle.tx_transaction.specs.declared.state.Came.{Came}
-use Rattle.tx_transaction.specs.declared.state.Came.TheVariants as came
+use Rattle.tx_transaction.specs.declared.state.Response.{Response}
+use Rattle.tx_transaction.specs.declared.state.Response.TheVariants as response
 use Rattle.tx_transaction.specs.declared.state.Phase.{Phase}
 use Rattle.tx_transaction.specs.declared.state.Phase.TheVariants as phase
 use Rattle.tx_transaction.specs.declared.state.Due.{Due}
 use Rattle.tx_transaction.specs.Buffers.{Entries, changes_of}
-use Rattle.tx_transaction.specs.Sessions.{State, declaration, prewrite_of, commit_of, rollback_of, check_of, outcome_of}
+use Rattle.tx_transaction.specs.Sessions.{SessionState, declaration, prewrite_of, commit_of, rollback_of, check_of, outcome_of}
 
 -- a request was answered so
 pub record WasAnswered (h : History) (b : Body) (a : Answer) : Type 0 where
@@ -32,10 +32,10 @@ pub record WasAnswered (h : History) (b : Body) (a : Answer) : Type 0 where
   pub told : by.answer ≡ a
 
 -- what came of a request: an answer was given
-abbrev pub CameSo : History → Body → Came → Type 0
-CameSo h b came.Lost = Unit {0}
-CameSo h b came.Unsaid = Unit {0}
-CameSo h b (came.Said a) = WasAnswered h b a
+abbrev pub RespondsSo : History → Body → Response → Type 0
+RespondsSo h b response.Lost = Unit {0}
+RespondsSo h b response.OutOfMemory = Unit {0}
+RespondsSo h b (response.Answered a) = WasAnswered h b a
 
 -- what stands declared: nothing before declare, and nothing of an empty buffer
 abbrev pub standing : ℕ → ℕ → Entries → Option Terms → Option Declaration
@@ -43,7 +43,7 @@ standing start placed es None = None
 standing start placed es (Some terms) = declaration start placed es terms
 
 -- a key is accepted, and some key of its transaction in two phases
-pub record HasFallenBack (h : History) (t : ℕ) (k : Key) : Type 0 where
+pub record HasTwoPhaseKey (h : History) (t : ℕ) (k : Key) : Type 0 where
   pub accepted : accepted h t k ≢ None
   pub two_phase : HasTwoPhaseLock h t
 
@@ -51,7 +51,7 @@ pub record HasFallenBack (h : History) (t : ℕ) (k : Key) : Type 0 where
 -- of its transaction has a two-phase lock
 abbrev pub Mark : History → ℕ → Key → Option ℕ → Type 0
 Mark h t k None = Unit {0}
-Mark h t k (Some zero) = HasFallenBack h t k
+Mark h t k (Some zero) = HasTwoPhaseKey h t k
 Mark h t k (Some (suc m)) = HadAsyncLock h t k (suc m)
 
 abbrev pub Marks : History → ℕ → Entries → Type 0
@@ -69,7 +69,7 @@ pub record IsReady (h : History) (t c : ℕ) : Type 0 where
 -- which it began, and has not answered; its buffer is what it declared, each key once; its reads
 -- may pass by those that they name; what it met was told of; and what it knows of its keys, of its
 -- drawn timestamp and of its fate is so.
-pub record IsSession (h : History) (i : ℕ) (s : State) : Type 0 where
+pub record IsSession (h : History) (i : ℕ) (s : SessionState) : Type 0 where
   pub drew_start : drawer h s.start ≡ Some i
   pub begun : began h s.start ≡ true
   pub unanswered : answered h s.start ≡ false
@@ -82,11 +82,11 @@ pub record IsSession (h : History) (i : ℕ) (s : State) : Type 0 where
   pub settled : (end : Fate) → s.decision ≡ Some end → MayAnswer h s.start (outcome_of end)
 
 -- a request is one that the phase sends for its place
-abbrev pub IsFor : State → Phase → Due → Type 0
+abbrev pub IsFor : SessionState → Phase → Due → Type 0
 IsFor s phase.Prewrite due = (terms : Terms) × (n : ℕ) × (due ≡ prewrite_of s terms n)
 IsFor s phase.Commit due = (c : ℕ) × (n : ℕ) × (due ≡ commit_of s c n)
 IsFor s phase.Abort due = ((n : ℕ) × (due ≡ rollback_of s n)) ⊎ ((n : ℕ) × (due ≡ check_of s n))
 
 -- what a session's type keeps: its seat has seen a world run, in which this holds of its state
-abbrev pub IsSeated : List Key → Known → State → Type 0
+abbrev pub IsSeated : List Key → Known → SessionState → Type 0
 IsSeated bounds k s = IsWorldRun bounds k.events × IsSession k.events k.seat s

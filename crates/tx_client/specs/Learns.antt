@@ -6,17 +6,17 @@ use Rattle.tx_core.specs.Histories.{Begins}
 use Rattle.tx_journal.specs.Known.{Known, HasSeen}
 use Rattle.tx_journal.specs.Replies.{IsGiven}
 use Rattle.tx_journal.specs.Senders.{Reached}
-use Rattle.tx_transaction.specs.declared.state.Came.{Came}
-use Rattle.tx_transaction.specs.declared.state.Came.TheVariants as came
+use Rattle.tx_transaction.specs.declared.state.Response.{Response}
+use Rattle.tx_transaction.specs.declared.state.Response.TheVariants as response
 
 -- what it comes to for the sender
-abbrev pub came_by : Option Answer → Came
-came_by None = came.Unsaid
-came_by (Some a) = came.Said a
+abbrev pub response_by : Option Answer → Response
+response_by None = response.OutOfMemory
+response_by (Some a) = response.Answered a
 
-abbrev pub came_of : Reached → Came
-came_of (Err l) = came.Lost
-came_of (Ok g) = came_by g.answer
+abbrev pub response_of : Reached → Response
+response_of (Err l) = response.Lost
+response_of (Ok g) = response_by g.answer
 
 -- a seat learns what a reply tells, which is one that a region gave, and nothing where none came;
 -- it makes no event

@@ -25,7 +25,7 @@ lies_above (status.Pushed m) r = nat_lt r m
 lies_above (status.Waiting why) r = false
 
 -- what a resolver found, and what it had seen
-pub record Found : Type 0 where
+pub record FoundStatus : Type 0 where
   pub start : ℕ
   pub status : Status
   pub events : History

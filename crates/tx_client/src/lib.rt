@@ -12,4 +12,4 @@ pub use asking::ask;
 pub use order::commits_above;
 pub use resolved::{Decision, Met, Resolved, Status, WaitCause};
 pub use session::Session;
-pub use tx_transaction::{Came, Entry, Miss, Phase, Progress, Terms};
+pub use tx_transaction::{BufferEntry, Miss, Phase, Progress, Response, Terms};

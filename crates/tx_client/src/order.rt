@@ -16,5 +16,7 @@ ghost use Rattle.tx_client.specs.Calls.{DeclaredWith};
 /// the session's own commit, if it comes to one, lies above: whatever the commit's kind, and
 /// whatever happens between.
 pub fn commits_above()
-    ensures { (bounds : List Key) (old new : Known) (d : Declaration) (h : History) (u c e : ℕ) → DeclaredWith bounds old d new → Begins new.events h → IsWorldRun bounds h → Among old.events (Answered u (outcome.Committed c)) → decided h d.start ≡ Done (fate.Committed e) → c < e }
+    ensures { (bounds : List Key) (old new : Known) (d : Declaration) (h : History) (u c e : ℕ)
+        → DeclaredWith bounds old d new → Begins new.events h → IsWorldRun bounds h
+        → Among old.events (Answered u (outcome.Committed c)) → decided h d.start ≡ Done (fate.Committed e) → c < e }
 {}

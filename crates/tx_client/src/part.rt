@@ -5,7 +5,7 @@ use tx_types::KeyValues;
 
 /// What a part of a scan comes to.
 #[derive(Debug, Drop)]
-pub(crate) enum Part {
+pub(crate) enum ScanPart {
     /// The rows so far; more are to be read.
     More(KeyValues),
     /// What the scan answers.

@@ -6,7 +6,7 @@ ghost use Rattle.tx_core.specs.Laws.{WasToldOf};
 ghost use Rattle.tx_client.specs.Statuses.{Ends, lies_above};
 
 use std::marker::Model;
-use tx_journal::{Naming, Told};
+use tx_journal::{JournalId, Told};
 use tx_types::{Fate, LockInfo, Ts};
 
 /// Why a transaction was not resolved.
@@ -52,23 +52,23 @@ impl Status {
 /// What a resolver found of the transaction that started here. In the history that it has seen that
 /// is so: a fate is decided, a pushed lock was shown.
 #[derive(Drop)]
-pub struct Resolved<J: Naming> {
+pub struct Resolved<J: JournalId> {
     start: Ts,
     status: Status,
     told: Told<J>,
 }
 
-impl<J: Naming> Model for Resolved<J> {
-    ghost use Rattle.tx_client.specs.Statuses.{Found, Ends};
+impl<J: JournalId> Model for Resolved<J> {
+    ghost use Rattle.tx_client.specs.Statuses.{FoundStatus, Ends};
 
-    ghost Value = { Found };
+    ghost Value = { FoundStatus };
 
     ghost view = { λ r. record { start = r.start; status = r.status; events = r.told } };
 
     ghost invariant = { λ r. Ends r.told r.start r.status };
 }
 
-impl<J: Naming> Resolved<J> {
+impl<J: JournalId> Resolved<J> {
     /// Of one who has seen this.
     pub fn new(start: Ts, status: Status, told: Told<J>) -> Resolved<J>
         requires { Ends told start status }
@@ -112,13 +112,13 @@ impl<J: Naming> Resolved<J> {
 /// The fate of the transaction that started here, which is decided in the history
 /// that goes with it.
 #[derive(Drop)]
-pub struct Decision<J: Naming> {
+pub struct Decision<J: JournalId> {
     start: Ts,
     fate: Fate,
     told: Told<J>,
 }
 
-impl<J: Naming> Model for Decision<J> {
+impl<J: JournalId> Model for Decision<J> {
     ghost use Rattle.std.specs.Prelude.{◌≡◌};
     ghost use Rattle.tx_machine.specs.Machine.{Done};
     ghost use Rattle.tx_core.specs.Decisions.{decided};
@@ -131,7 +131,7 @@ impl<J: Naming> Model for Decision<J> {
     ghost invariant = { λ d. decided d.told d.start ≡ Done d.fate };
 }
 
-impl<J: Naming> Decision<J> {
+impl<J: JournalId> Decision<J> {
     /// Of one who has seen this.
     pub fn new(start: Ts, fate: Fate, told: Told<J>) -> Decision<J>
         requires { decided told start ≡ Done fate }
@@ -152,12 +152,12 @@ impl<J: Naming> Decision<J> {
 
 /// A lock that stood in the way: an answer of the history that goes with it told of it.
 #[derive(Drop)]
-pub struct Met<J: Naming> {
+pub struct Met<J: JournalId> {
     info: LockInfo,
     told: Told<J>,
 }
 
-impl<J: Naming> Model for Met<J> {
+impl<J: JournalId> Model for Met<J> {
     ghost use Rattle.tx_core.specs.Laws.{WasToldOf};
     ghost use Rattle.tx_client.specs.Statuses.{Stopping};
 
@@ -168,7 +168,7 @@ impl<J: Naming> Model for Met<J> {
     ghost invariant = { λ m. WasToldOf m.told m.info };
 }
 
-impl<J: Naming> Met<J> {
+impl<J: JournalId> Met<J> {
     /// Of one who has seen this.
     pub fn new(info: LockInfo, told: Told<J>) -> Met<J>
         requires { WasToldOf told info }

@@ -11,7 +11,7 @@ ghost use Rattle.tx_transaction.specs.Buffers.{touched, put_over, inserted, lock
 ghost use Rattle.tx_transaction.specs.Sessions.{begun, is_declared, has_primary, declaration, declaration_of, exceeds, lock_met, due_prewrite, due_commit, due_abort, can_draw, can_commit, can_abort};
 ghost use Rattle.tx_journal.specs.Senders.{IsHeld, IsWay};
 ghost use Rattle.tx_client.specs.Walks.{Sends, due_walk, heartbeat_walk};
-ghost use Rattle.tx_client.specs.Facts.{CameSo, IsFor};
+ghost use Rattle.tx_client.specs.Facts.{RespondsSo, IsFor};
 ghost use Rattle.tx_client.specs.Calls.{seated, HasHeard, BeganAt, Records, Draws, RecordsDeclared, Asks};
 ghost use Rattle.tx_client.specs.Order.{IsDrawnAfter};
 
@@ -19,25 +19,25 @@ mod ends;
 mod next;
 mod reads;
 
-use crate::asking::{Heard, ask_with_lock};
+use crate::asking::{Answering, ask_with_lock};
 use std::alloc::Global;
 use std::marker::{Brand, Model};
 use tx_core::{Answer, Body, Declaration};
-use tx_journal::{Naming, Reply, Request, Said, Seat, Sender, Told};
-use tx_transaction::{Came, Due, Miss, Phase, Terms, Transaction};
+use tx_journal::{JournalId, Reply, Request, Seat, Sender, StepEvent, Told};
+use tx_transaction::{Due, Miss, Phase, Response, Terms, Transaction};
 use tx_types::{Fault, Key, Mutation, Ts, Value};
 
 /// A session: one transaction, and the seat that it was begun with. Contracts see its state and
 /// what its seat knows. What it knows of its transaction is so in what its seat has seen.
 #[derive(Drop)]
-pub struct Session<J: Naming> {
+pub struct Session<J: JournalId> {
     /// Draws its timestamps, records its events, and learns what the regions tell.
     seat: Seat<J>,
     /// What it knows of its transaction: the rules of tx_transaction are functions of that.
     transaction: Transaction,
 }
 
-impl<J: Naming> Model for Session<J> {
+impl<J: JournalId> Model for Session<J> {
     ghost use Rattle.tx_client.specs.Calls.{Seated};
     ghost use Rattle.tx_client.specs.Facts.{IsSeated};
 
@@ -49,7 +49,7 @@ impl<J: Naming> Model for Session<J> {
 }
 
 // Records the event that the call picks: a transaction began.
-fn record_start<J: Naming, E: Said>(seat: &mut Seat<J>, start: Ts)
+fn record_start<J: JournalId, E: StepEvent>(seat: &mut Seat<J>, start: Ts)
     requires is { E.event ≡ Began start }
     requires right { MayRecord J.bounds seat.old.seat seat.old.events E.event }
     ensures { Records J.bounds seat.old E.event seat.new }
@@ -59,7 +59,7 @@ fn record_start<J: Naming, E: Said>(seat: &mut Seat<J>, start: Ts)
 }
 
 // Records the event that the call picks: a transaction declares its buffer under these terms.
-fn record_declaration<J: Naming, E: Said>(
+fn record_declaration<J: JournalId, E: StepEvent>(
     seat: &mut Seat<J>,
     transaction: &Transaction,
     placed: Ts,
@@ -76,7 +76,7 @@ fn record_declaration<J: Naming, E: Said>(
 }
 
 // Records that a transaction began.
-fn record_began<J: Naming>(seat: &mut Seat<J>, start: Ts)
+fn record_began<J: JournalId>(seat: &mut Seat<J>, start: Ts)
     requires { MayRecord J.bounds seat.old.seat seat.old.events (Began start) }
     ensures { Records J.bounds seat.old (Began start) seat.new }
 {
@@ -85,13 +85,16 @@ fn record_began<J: Naming>(seat: &mut Seat<J>, start: Ts)
 
 // Draws a number for what a transaction declares under these terms, and records it, if there is
 // anything to declare.
-fn record_declared<J: Naming>(
+fn record_declared<J: JournalId>(
     seat: &mut Seat<J>,
     transaction: &Transaction,
     terms: &Terms,
 ) -> Result<Ts, Fault>
-    requires { (p : ℕ) (mid : History) → HasDrawn J.bounds seat.old.seat seat.old.events 1 p mid → IfSome (declaration transaction.now.start p transaction.now.buffer terms.now) (λ d. MayRecord J.bounds seat.old.seat mid (Declared d)) }
-    ensures ok { IfOk result (λ p. RecordsDeclared J.bounds seat.old (declaration transaction.now.start p transaction.now.buffer terms.now) seat.new) }
+    requires { (p : ℕ) (mid : History) → HasDrawn J.bounds seat.old.seat seat.old.events 1 p mid
+        → IfSome (declaration transaction.now.start p transaction.now.buffer terms.now)
+        (λ d. MayRecord J.bounds seat.old.seat mid (Declared d)) }
+    ensures ok { IfOk result (λ p. RecordsDeclared J.bounds seat.old
+        (declaration transaction.now.start p transaction.now.buffer terms.now) seat.new) }
     ensures none { IfOk result (λ p. not_empty transaction.now.buffer ≡ false → p ≡ 0) }
     ensures room { IfOk result (λ p. p < u64.MAX) }
     ensures spent { IfErr result (λ e. (e ≡ fault.OracleSpent) × (seat.old.ticks < 1) × (seat.new ≡ seat.old)) }
@@ -104,7 +107,7 @@ fn record_declared<J: Naming>(
     Ok(placed)
 }
 
-impl<J: Naming> Session<J> {
+impl<J: JournalId> Session<J> {
     /// Begins a transaction at a timestamp that its seat draws. It takes no memory. A seat whose
     /// ticks are spent is handed back.
     pub fn begin(alloc: Global, mut seat: Seat<J>) -> Result<Session<J>, Seat<J>>
@@ -199,21 +202,21 @@ impl<J: Naming> Session<J> {
     pub fn has_prewrite(&self) -> bool
         ensures { result ≡ is_some (due_prewrite self.now.state) }
     {
-        self.transaction.has_prewrite()
+        self.transaction.is_due(Phase::Prewrite)
     }
 
     /// Whether a commit is due.
     pub fn has_commit(&self) -> bool
         ensures { result ≡ is_some (due_commit self.now.state) }
     {
-        self.transaction.has_commit()
+        self.transaction.is_due(Phase::Commit)
     }
 
     /// Whether something of an abort is due.
     pub fn has_abort(&self) -> bool
         ensures { result ≡ is_some (due_abort self.now.state) }
     {
-        self.transaction.has_abort()
+        self.transaction.is_due(Phase::Abort)
     }
 
     /// What its seat has seen, to be handed to others.
@@ -225,22 +228,27 @@ impl<J: Naming> Session<J> {
     }
 
     /// Learns what others were told.
-    pub fn hear_of(&mut self, told: Told<J>)
+    pub fn learn_told(&mut self, told: Told<J>)
         ensures state { self.new.state ≡ self.old.state }
-        ensures heard { HasHeard J.bounds self.old.seat told self.new.seat }
+        ensures after_answer { HasHeard J.bounds self.old.seat told self.new.seat }
     {
         self.seat.learn(told);
     }
 }
 
-impl<J: Naming> Session<J> {
+impl<J: JournalId> Session<J> {
     /// Enters a put into the buffer. A key that is there keeps its place. A refusal leaves the
     /// session as it was.
     pub fn put(&mut self, key: Key, value: Value) -> Result<(), Fault>
         requires { is_declared self.old.state ≡ false }
-        ensures ok { OnOk result ((is_full self.old.state.buffer key ≡ false) × (self.new ≡ seated (record self.old.state { buffer = touched self.old.state.buffer key (put_over (buffered self.old.state.buffer key) value) }) self.old.seat)) }
+        ensures ok { OnOk result ((is_full self.old.state.buffer key ≡ false)
+            × (self.new ≡ seated (record self.old.state {
+              buffer = touched self.old.state.buffer key
+                  (put_over (buffered self.old.state.buffer key) value);
+            }) self.old.seat)) }
         ensures same { OnErr result (self.new ≡ self.old) }
-        ensures err { IfErr result (λ e. ((e ≡ fault.OutOfMemory) × (is_full self.old.state.buffer key ≡ false)) ⊎ ((e ≡ fault.TooManyKeys) × (is_full self.old.state.buffer key ≡ true))) }
+        ensures err { IfErr result (λ e. ((e ≡ fault.OutOfMemory) × (is_full self.old.state.buffer key ≡ false))
+            ⊎ ((e ≡ fault.TooManyKeys) × (is_full self.old.state.buffer key ≡ true))) }
     {
         self.transaction.put(key, value)
     }
@@ -250,9 +258,14 @@ impl<J: Naming> Session<J> {
     /// the session as it was.
     pub fn insert(&mut self, key: Key, value: Value) -> Result<(), Fault>
         requires { is_declared self.old.state ≡ false }
-        ensures ok { OnOk result ((is_full self.old.state.buffer key ≡ false) × (inserted self.old.state.buffer key value ≡ Some self.new.state.buffer) × (self.new ≡ seated (record self.old.state { buffer = self.new.state.buffer }) self.old.seat)) }
+        ensures ok { OnOk result ((is_full self.old.state.buffer key ≡ false)
+            × (inserted self.old.state.buffer key value ≡ Some self.new.state.buffer)
+            × (self.new ≡ seated (record self.old.state { buffer = self.new.state.buffer }) self.old.seat)) }
         ensures same { OnErr result (self.new ≡ self.old) }
-        ensures err { IfErr result (λ e. ((e ≡ fault.OutOfMemory) × (is_some (inserted self.old.state.buffer key value) ≡ true) × (is_full self.old.state.buffer key ≡ false)) ⊎ ((e ≡ fault.TooManyKeys) × (is_full self.old.state.buffer key ≡ true)) ⊎ ((e ≡ fault.AlreadyExists) × (inserted self.old.state.buffer key value ≡ None))) }
+        ensures err { IfErr result (λ e. ((e ≡ fault.OutOfMemory)
+            × (is_some (inserted self.old.state.buffer key value) ≡ true) × (is_full self.old.state.buffer key ≡ false))
+            ⊎ ((e ≡ fault.TooManyKeys) × (is_full self.old.state.buffer key ≡ true))
+            ⊎ ((e ≡ fault.AlreadyExists) × (inserted self.old.state.buffer key value ≡ None))) }
     {
         self.transaction.insert(key, value)
     }
@@ -261,9 +274,12 @@ impl<J: Naming> Session<J> {
     /// session as it was.
     pub fn delete(&mut self, key: Key) -> Result<(), Fault>
         requires { is_declared self.old.state ≡ false }
-        ensures ok { OnOk result ((is_full self.old.state.buffer key ≡ false) × (self.new ≡ seated (record self.old.state { buffer = touched self.old.state.buffer key Mutation.Delete }) self.old.seat)) }
+        ensures ok { OnOk result ((is_full self.old.state.buffer key ≡ false)
+            × (self.new ≡ seated (record self.old.state { buffer = touched self.old.state.buffer key Mutation.Delete })
+            self.old.seat)) }
         ensures same { OnErr result (self.new ≡ self.old) }
-        ensures err { IfErr result (λ e. ((e ≡ fault.OutOfMemory) × (is_full self.old.state.buffer key ≡ false)) ⊎ ((e ≡ fault.TooManyKeys) × (is_full self.old.state.buffer key ≡ true))) }
+        ensures err { IfErr result (λ e. ((e ≡ fault.OutOfMemory) × (is_full self.old.state.buffer key ≡ false))
+            ⊎ ((e ≡ fault.TooManyKeys) × (is_full self.old.state.buffer key ≡ true))) }
     {
         self.transaction.touch(key, Mutation::Delete)
     }
@@ -272,9 +288,11 @@ impl<J: Naming> Session<J> {
     /// session as it was.
     pub fn lock(&mut self, key: Key) -> Result<(), Fault>
         requires { is_declared self.old.state ≡ false }
-        ensures ok { OnOk result ((is_full self.old.state.buffer key ≡ false) × (self.new ≡ seated (record self.old.state { buffer = locked self.old.state.buffer key }) self.old.seat)) }
+        ensures ok { OnOk result ((is_full self.old.state.buffer key ≡ false)
+            × (self.new ≡ seated (record self.old.state { buffer = locked self.old.state.buffer key }) self.old.seat)) }
         ensures same { OnErr result (self.new ≡ self.old) }
-        ensures err { IfErr result (λ e. ((e ≡ fault.OutOfMemory) × (is_full self.old.state.buffer key ≡ false)) ⊎ ((e ≡ fault.TooManyKeys) × (is_full self.old.state.buffer key ≡ true))) }
+        ensures err { IfErr result (λ e. ((e ≡ fault.OutOfMemory) × (is_full self.old.state.buffer key ≡ false))
+            ⊎ ((e ≡ fault.TooManyKeys) × (is_full self.old.state.buffer key ≡ true))) }
     {
         self.transaction.lock(key)
     }
@@ -299,11 +317,16 @@ impl<J: Naming> Session<J> {
     /// are spent: the session is then as it was. It takes no memory.
     pub fn declare(&mut self, terms: Terms) -> Result<(), Fault>
         requires { is_declared self.old.state ≡ false }
-        ensures ok { OnOk result ((exceeds self.old.state.buffer terms ≡ false) × (self.new.state ≡ record self.old.state { declared = Some terms; placed = self.new.state.placed }) × RecordsDeclared J.bounds self.old.seat (declaration self.old.state.start self.new.state.placed self.old.state.buffer terms) self.new.seat) }
+        ensures ok { OnOk result ((exceeds self.old.state.buffer terms ≡ false)
+            × (self.new.state ≡ record self.old.state { declared = Some terms; placed = self.new.state.placed })
+            × RecordsDeclared J.bounds self.old.seat
+            (declaration self.old.state.start self.new.state.placed self.old.state.buffer terms) self.new.seat) }
         ensures none { OnOk result (not_empty self.old.state.buffer ≡ false → self.new.state.placed ≡ 0) }
-        ensures after_told { OnOk result (not_empty self.old.state.buffer ≡ true → IsDrawnAfter self.old.seat.events self.new.seat.events self.new.state.placed) }
+        ensures after_told { OnOk result (not_empty self.old.state.buffer ≡ true
+            → IsDrawnAfter self.old.seat.events self.new.seat.events self.new.state.placed) }
         ensures same { OnErr result (self.new ≡ self.old) }
-        ensures err { IfErr result (λ e. ((e ≡ fault.TooManyKeys) × (exceeds self.old.state.buffer terms ≡ true)) ⊎ ((e ≡ fault.OracleSpent) × (self.old.seat.ticks < 1))) }
+        ensures err { IfErr result (λ e. ((e ≡ fault.TooManyKeys) × (exceeds self.old.state.buffer terms ≡ true))
+            ⊎ ((e ≡ fault.OracleSpent) × (self.old.seat.ticks < 1))) }
     {
         if self.transaction.exceeds(&terms) {
             return Err(Fault::TooManyKeys);
@@ -314,21 +337,21 @@ impl<J: Naming> Session<J> {
     }
 }
 
-impl<J: Naming> Session<J> {
+impl<J: JournalId> Session<J> {
     // Sends a request, once, and learns what is told. What comes of it takes no memory of the
     // session's.
     pub(crate) fn ask<S: Sender<Request<J>, Reply<J>>>(
         &mut self,
         body: Body,
         sender: &mut S,
-    ) -> Heard
+    ) -> Answering
         requires way { IsWay J.bounds S.fits S.sends S.keys_between }
         requires held { IsHeld J.bounds body }
         requires allowed { Allowed self.old.seat.events body }
         ensures state { self.new.state ≡ self.old.state }
-        ensures asked { Asks S.sends J.bounds self.old.seat body sender.old sender.new result.came self.new.seat }
-        ensures told { CameSo self.new.seat.events body result.came }
-        ensures lock { result.lock ≡ lock_met result.came }
+        ensures asked { Asks S.sends J.bounds self.old.seat body sender.old sender.new result.response self.new.seat }
+        ensures told { RespondsSo self.new.seat.events body result.response }
+        ensures lock { result.lock ≡ lock_met result.response }
     {
         ask_with_lock(&mut self.seat, body, sender)
     }
@@ -341,14 +364,15 @@ impl<J: Naming> Session<J> {
         sender: &mut S,
     ) -> Result<Option<Answer>, Miss>
         requires way { IsWay J.bounds S.fits S.sends S.keys_between }
-        requires within { due.place < length self.old.state.buffer }
+        requires within { due.index < length self.old.state.buffer }
         requires allowed { Allowed self.old.seat.events due.body }
         requires right { IsFor self.old.state phase due }
-        ensures { Sends S.sends J.bounds self.old.seat sender.old (due_walk self.old.state phase (Some due)) (self.new.state, result) sender.new self.new.seat }
+        ensures { Sends S.sends J.bounds self.old.seat sender.old (due_walk self.old.state phase (Some due))
+            (self.new.state, result) sender.new self.new.seat }
     {
-        let Due { place, body } = due;
-        let Heard { came, lock } = self.ask(body, sender);
-        self.transaction.after(phase, place, came, lock)
+        let Due { index, body } = due;
+        let Answering { response, lock } = self.ask(body, sender);
+        self.transaction.after(phase, index, response, lock)
     }
 
     /// Sends the prewrite that is due: of the first key in buffer order that has no accepted lock.
@@ -361,7 +385,11 @@ impl<J: Naming> Session<J> {
     ) -> Result<Option<Answer>, Miss>
         requires way { IsWay J.bounds S.fits S.sends S.keys_between }
         requires can { is_declared self.old.state ≡ true }
-        ensures { Sends S.sends J.bounds self.old.seat sender.old (due_walk self.old.state phase.Prewrite (due_prewrite self.old.state)) (self.new.state, result) sender.new self.new.seat }
+        ensures { Sends S.sends J.bounds self.old.seat sender.old
+            (due_walk self.old.state phase.Prewrite (due_prewrite self.old.state)) (
+              self.new.state,
+              result,
+            ) sender.new self.new.seat }
     {
         match self.transaction.due_prewrite(alloc) {
             Err(_) => Err(Miss::Fault),
@@ -374,8 +402,10 @@ impl<J: Naming> Session<J> {
     /// is then as it was.
     pub fn draw_commit(&mut self) -> Result<Ts, Fault>
         requires { can_draw self.old.state ≡ true }
-        ensures ok { IfOk result (λ c. (self.new.state ≡ record self.old.state { drawn = Some c }) × Draws J.bounds self.old.seat c self.new.seat) }
-        ensures spent { IfErr result (λ e. (e ≡ fault.OracleSpent) × (self.old.seat.ticks < 1) × (self.new ≡ self.old)) }
+        ensures ok { IfOk result (λ c. (self.new.state ≡ record self.old.state { drawn = Some c })
+            × Draws J.bounds self.old.seat c self.new.seat) }
+        ensures spent { IfErr result (λ e. (e ≡ fault.OracleSpent) × (self.old.seat.ticks < 1)
+            × (self.new ≡ self.old)) }
     {
         let commit = self.seat.draw(1)?;
         self.transaction.drew(commit);
@@ -391,7 +421,11 @@ impl<J: Naming> Session<J> {
     ) -> Result<Option<Answer>, Miss>
         requires way { IsWay J.bounds S.fits S.sends S.keys_between }
         requires can { can_commit self.old.state ≡ true }
-        ensures { Sends S.sends J.bounds self.old.seat sender.old (due_walk self.old.state phase.Commit (due_commit self.old.state)) (self.new.state, result) sender.new self.new.seat }
+        ensures { Sends S.sends J.bounds self.old.seat sender.old
+            (due_walk self.old.state phase.Commit (due_commit self.old.state)) (
+              self.new.state,
+              result,
+            ) sender.new self.new.seat }
     {
         match self.transaction.due_commit() {
             Err(_) => Err(Miss::Fault),
@@ -409,7 +443,11 @@ impl<J: Naming> Session<J> {
     ) -> Result<Option<Answer>, Miss>
         requires way { IsWay J.bounds S.fits S.sends S.keys_between }
         requires can { can_abort self.old.state ≡ true }
-        ensures { Sends S.sends J.bounds self.old.seat sender.old (due_walk self.old.state phase.Abort (due_abort self.old.state)) (self.new.state, result) sender.new self.new.seat }
+        ensures { Sends S.sends J.bounds self.old.seat sender.old
+            (due_walk self.old.state phase.Abort (due_abort self.old.state)) (
+              self.new.state,
+              result,
+            ) sender.new self.new.seat }
     {
         match self.transaction.due_abort() {
             Err(_) => Err(Miss::Fault),
@@ -427,16 +465,19 @@ impl<J: Naming> Session<J> {
     ) -> Result<Option<Answer>, Miss>
         requires way { IsWay J.bounds S.fits S.sends S.keys_between }
         requires can { has_primary self.old.state ≡ true }
-        ensures { Sends S.sends J.bounds self.old.seat sender.old (heartbeat_walk self.old.state ttl) (self.new.state, result) sender.new self.new.seat }
+        ensures { Sends S.sends J.bounds self.old.seat sender.old (heartbeat_walk self.old.state ttl) (
+          self.new.state,
+          result,
+        ) sender.new self.new.seat }
     {
         let Ok(body) = self.transaction.heartbeat(ttl) else {
             return Err(Miss::Fault);
         };
-        let Heard { came, lock: _ } = self.ask(body, sender);
-        match came {
-            Came::Lost => Err(Miss::Lost),
-            Came::Unsaid => Err(Miss::Fault),
-            Came::Said(answer) => Ok(Some(answer)),
+        let Answering { response, lock: _ } = self.ask(body, sender);
+        match response {
+            Response::Lost => Err(Miss::Lost),
+            Response::OutOfMemory => Err(Miss::Fault),
+            Response::Answered(answer) => Ok(Some(answer)),
         }
     }
 }

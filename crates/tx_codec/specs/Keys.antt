@@ -36,4 +36,5 @@ KeysKeepOrder = (a b : List ℕ) → slice_cmp nat_cmp (encoded_key a) (encoded_
 abbrev pub VersionsKeepOrder : Type 0
 VersionsKeepOrder =
     (a b : List ℕ) (s t : ℕ) → s < 2 ^ 64 → t < 2 ^ 64
-    → slice_cmp nat_cmp (encoded_version a s) (encoded_version b t) ≡ ordering_then (slice_cmp nat_cmp a b) (nat_cmp t s)
+    → slice_cmp nat_cmp (encoded_version a s) (encoded_version b t)
+    ≡ ordering_then (slice_cmp nat_cmp a b) (nat_cmp t s)

@@ -12,7 +12,8 @@ Fails {X} Is spelling bytes OutOfMemory = Unit {0}
 
 -- The value was read: it is spelled at the front of the bytes, these follow, and it
 -- is the only one.
-pub record Takes {X : Type 0} (Is : X → Type 0) (spelling : X → List ℕ) (bytes : List ℕ) (value : X) (rest : List ℕ) : Type 0 where
+pub record Takes {X : Type 0} (Is : X → Type 0) (spelling : X
+    → List ℕ) (bytes : List ℕ) (value : X) (rest : List ℕ) : Type 0 where
   pub is : Is value
   pub spelled : bytes ≡ spelling value ++ rest
   pub only : (x : X) (after : List ℕ) → Is x → bytes ≡ spelling x ++ after → (x ≡ value) × (after ≡ rest)

@@ -61,12 +61,14 @@ value_bytes Lock = []
 -- a lock record
 abbrev pub lock_bytes : LockRec → List ℕ
 lock_bytes lock =
-    kind_byte (stored_kind lock.mutation) ∷ mode_byte (mode_of lock.mode) ∷ to_be_bytes w64 lock.start ++ to_be_bytes w64 lock.min ++ to_be_bytes w32 lock.ttl
+    kind_byte (stored_kind lock.mutation) ∷ mode_byte (mode_of lock.mode) ∷ to_be_bytes w64 lock.start
+    ++ to_be_bytes w64 lock.min ++ to_be_bytes w32 lock.ttl
     ++ key_bytes lock.primary ++ others_bytes lock.mode ++ value_bytes lock.mutation
 
 -- the write record of a commit
 abbrev pub commit_bytes : CommitRec → List ℕ
-commit_bytes rec = kind_byte (stored_kind rec.mutation) ∷ mark_byte rec.overlapped_rollback ∷ to_be_bytes w64 rec.start ++ value_bytes rec.mutation
+commit_bytes rec = kind_byte (stored_kind rec.mutation) ∷ mark_byte rec.overlapped_rollback ∷ to_be_bytes w64 rec.start
+    ++ value_bytes rec.mutation
 
 -- a write record
 abbrev pub write_bytes : WriteRec → List ℕ

@@ -162,7 +162,8 @@ pub(crate) fn take_others(
 
 /// What a put keeps of its value.
 fn take_value(alloc: Global, bytes: &[u8]) -> Result<(StoredValue, &[u8]), Unread>
-    ensures { Reads (λ v. IsStorable (StoredMutation.Put v)) (λ v. value_bytes (StoredMutation.Put v)) bytes.now result }
+    ensures { Reads (λ v. IsStorable (StoredMutation.Put v)) (λ v. value_bytes (StoredMutation.Put v)) bytes.now
+        result }
 {
     match bytes {
         [ELSEWHERE, rest @ ..] => Ok((StoredValue::InDefault, rest)),

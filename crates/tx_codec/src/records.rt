@@ -65,7 +65,8 @@ fn take_lock(alloc: Global, bytes: &[u8]) -> Result<(LockRec, &[u8]), Unread>
 /// there is no room for it.
 pub fn decode_lock(alloc: Global, bytes: &[u8]) -> Result<Option<LockRec>, Fault>
     ensures found { IfOk result (λ found. IfSome found (λ lock. IsLock lock × (bytes.now ≡ lock_bytes lock))) }
-    ensures only { IfOk result (λ found. (lock : LockRec) → IsLock lock → bytes.now ≡ lock_bytes lock → found ≡ Some lock) }
+    ensures only { IfOk result (λ found. (lock : LockRec) → IsLock lock → bytes.now ≡ lock_bytes lock
+        → found ≡ Some lock) }
     ensures err { IfErr result (λ e. e ≡ Fault.OutOfMemory) }
 {
     match take_lock(alloc, bytes) {
@@ -135,7 +136,8 @@ fn take_write(alloc: Global, bytes: &[u8]) -> Result<(WriteRec, &[u8]), Unread>
 /// there is no room for it.
 pub fn decode_write(alloc: Global, bytes: &[u8]) -> Result<Option<WriteRec>, Fault>
     ensures found { IfOk result (λ found. IfSome found (λ rec. IsWrite rec × (bytes.now ≡ write_bytes rec))) }
-    ensures only { IfOk result (λ found. (rec : WriteRec) → IsWrite rec → bytes.now ≡ write_bytes rec → found ≡ Some rec) }
+    ensures only { IfOk result (λ found. (rec : WriteRec) → IsWrite rec → bytes.now ≡ write_bytes rec
+        → found ≡ Some rec) }
     ensures err { IfErr result (λ e. e ≡ Fault.OutOfMemory) }
 {
     match take_write(alloc, bytes) {

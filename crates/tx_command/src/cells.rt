@@ -5,7 +5,7 @@ use std::alloc::Global;
 
 /// The families that the regions of a command have.
 #[derive(Clone, Copy, Debug, PartialEq, Eq)]
-pub enum Cells {
+pub enum CellsKind {
     /// Maps from the bytes of keys and versions to those of records.
     Flat,
     /// A map from keys to what is held of each.
@@ -25,9 +25,9 @@ pub fn cells_option<'a>(alloc: Global) -> Arg<'a> {
 }
 
 /// What a command line says of it: flat maps where it says nothing.
-pub fn cells_of(asked: &ArgMatches<'_>) -> Cells {
+pub fn cells_of(asked: &ArgMatches<'_>) -> CellsKind {
     match asked.get_str("cells") {
-        Some("nested") => Cells::Nested,
-        _ => Cells::Flat,
+        Some("nested") => CellsKind::Nested,
+        _ => CellsKind::Flat,
     }
 }

@@ -1,5 +1,5 @@
 //! The commands of the program, and what a command line asks for.
-use crate::cells::{Cells, cells_of, cells_option};
+use crate::cells::{CellsKind, cells_of, cells_option};
 use crate::help;
 use clap::builder::ValueParser;
 use clap::{Arg, ArgAction, ArgMatches, Command, Error};
@@ -11,7 +11,7 @@ const MAX_LIFE_TIME: u64 = 4_398_046_511_104;
 
 /// What is done with the input.
 #[derive(Clone, Copy, Debug, PartialEq, Eq)]
-pub enum Task {
+pub enum CommandTask {
     Simulate,
     /// Simulate, and tell the machine's steps of the run.
     SimulateChecked,
@@ -26,10 +26,10 @@ pub enum Task {
 
 /// What the command line asks for.
 #[derive(Clone, Copy, Debug, PartialEq, Eq)]
-pub struct Job<'a> {
-    pub task: Task,
+pub struct CommandLine<'a> {
+    pub task: CommandTask,
     /// The families that the regions of a script have.
-    pub cells: Cells,
+    pub cells: CellsKind,
     /// Whether what a run came to is told on standard error.
     pub has_stats: bool,
     /// The file that it reads; None is standard input.
@@ -37,32 +37,32 @@ pub struct Job<'a> {
 }
 
 // What the command of this name does, by its options.
-fn task_of(name: &str, asked: &ArgMatches<'_>) -> Task {
+fn task_of(name: &str, asked: &ArgMatches<'_>) -> CommandTask {
     match name {
-        "run" => Task::Run(
+        "run" => CommandTask::Run(
             asked.get_one::<usize>("workers").unwrap_or(1),
             asked.get_one::<u64>("gc-life-time"),
         ),
-        "simulate" if asked.get_flag("check") => Task::SimulateChecked,
-        "simulate" if asked.get_flag("steps") => Task::SimulateSteps,
-        "simulate" => Task::Simulate,
-        _ if asked.get_flag("why") => Task::CheckWithReason,
-        _ => Task::Check,
+        "simulate" if asked.get_flag("check") => CommandTask::SimulateChecked,
+        "simulate" if asked.get_flag("steps") => CommandTask::SimulateSteps,
+        "simulate" => CommandTask::Simulate,
+        _ if asked.get_flag("why") => CommandTask::CheckWithReason,
+        _ => CommandTask::Check,
     }
 }
 
 /// The job of a command line that was read.
-pub fn job_of<'a>(matches: &ArgMatches<'a>) -> Job<'a> {
+pub fn job_of<'a>(matches: &ArgMatches<'a>) -> CommandLine<'a> {
     match matches.subcommand() {
-        Some((name, asked)) => Job {
+        Some((name, asked)) => CommandLine {
             task: task_of(name, asked),
             cells: cells_of(asked),
             has_stats: asked.get_flag("stats"),
             file: file_of(asked),
         },
-        None => Job {
-            task: Task::Check,
-            cells: Cells::Flat,
+        None => CommandLine {
+            task: CommandTask::Check,
+            cells: CellsKind::Flat,
             has_stats: false,
             file: None,
         },

@@ -17,7 +17,7 @@ const MAX_FAULT_BYTES: usize = 48;
 
 /// A fault: the number of its line, and its cause.
 #[derive(Clone, Copy, Debug, PartialEq, Eq)]
-pub struct Noted {
+pub struct NotedFaults {
     pub number: u64,
     pub cause: Cause,
 }
@@ -26,7 +26,7 @@ pub struct Noted {
 #[derive(Drop)]
 pub struct Noting<W> {
     writer: W,
-    faults: Vec<Noted>,
+    faults: Vec<NotedFaults>,
 }
 
 fn cause_of(word: &str) -> Option<Cause> {
@@ -50,7 +50,7 @@ fn ends_as_fault(line: &[u8]) -> bool {
 }
 
 /// The fault that a line tells: `[number,"E16","cause"]` and a newline.
-pub fn fault_in(line: &[u8]) -> Option<Noted> {
+pub fn fault_in(line: &[u8]) -> Option<NotedFaults> {
     if !ends_as_fault(line) {
         return None;
     }
@@ -61,7 +61,7 @@ pub fn fault_in(line: &[u8]) -> Option<Noted> {
     let (number, rest) = str::from_utf8(line).ok()?.split_once(",\"E16\",\"")?;
     let (word, _) = rest.split_once('"')?;
     let number = number.strip_prefix('[')?.parse::<u64>().ok()?;
-    Some(Noted {
+    Some(NotedFaults {
         number,
         cause: cause_of(word)?,
     })
@@ -76,7 +76,7 @@ impl<W> Noting<W> {
     }
 
     /// The faults that were noted, in the order in which they were written.
-    pub fn faults(&self) -> &[Noted]
+    pub fn faults(&self) -> &[NotedFaults]
         ensures { result.now ≡ self.now.faults.items }
     {
         self.faults.as_slice()

@@ -1,5 +1,5 @@
 //! The members that each step has, for who is told what is wrong with a line.
-use crate::Task;
+use crate::CommandTask;
 
 /// What a member may be.
 #[derive(Clone, Copy, Debug, PartialEq, Eq)]
@@ -144,19 +144,20 @@ fn regions_form(word: &str, number: u64) -> Option<Form> {
 }
 
 /// The form of the step with this word, in the line of this number of what a task reads.
-pub(crate) fn form_of(task: Task, number: u64, word: &str) -> Option<Form> {
+pub(crate) fn form_of(task: CommandTask, number: u64, word: &str) -> Option<Form> {
     match task {
-        Task::Simulate | Task::SimulateChecked | Task::SimulateSteps => regions_form(word, number)
-            .or_else(|| action_form(word))
-            .or_else(|| request_form(word))
-            .or_else(|| world_form(word)),
-        Task::Run(..) => regions_form(word, number)
+        CommandTask::Simulate | CommandTask::SimulateChecked | CommandTask::SimulateSteps =>
+            regions_form(word, number)
+                .or_else(|| action_form(word))
+                .or_else(|| request_form(word))
+                .or_else(|| world_form(word)),
+        CommandTask::Run(..) => regions_form(word, number)
             .or_else(|| action_form(word))
             .or_else(|| request_form(word).map(|form| Form {
                 more: More::Nothing,
                 ..form
             }))
             .or_else(|| run_form(word)),
-        Task::Check | Task::CheckWithReason => machine_form(word),
+        CommandTask::Check | CommandTask::CheckWithReason => machine_form(word),
     }
 }

@@ -11,7 +11,7 @@ const STRIDE: u64 = 256;
 /// How far a command has come, which is told on standard error at most once a second. Threads share
 /// it.
 #[derive(Drop)]
-pub struct Progress {
+pub struct ProgressLine {
     rt: HostRuntime,
     /// When it began; None where nothing is told.
     began: Option<Instant>,
@@ -23,15 +23,15 @@ pub struct Progress {
     is_shown: AtomicBool,
 }
 
-impl Progress {
+impl ProgressLine {
     /// Nothing has come yet. It is told from now on, or not at all.
-    pub fn new(rt: HostRuntime, is_told: bool) -> Progress {
+    pub fn new(rt: HostRuntime, is_told: bool) -> ProgressLine {
         let began = if is_told {
             Instant::now(&rt).ok()
         } else {
             None
         };
-        Progress {
+        ProgressLine {
             rt,
             began,
             lines: AtomicU64::new(0),
@@ -49,7 +49,7 @@ impl Progress {
     /// So many more lines were read.
     pub fn add_lines(&self, lines: u64) {
         self.lines.fetch_add(lines, Ordering::SeqCst);
-        self.tell();
+        self.report();
     }
 
     /// One more step was made.
@@ -57,13 +57,13 @@ impl Progress {
         if self.began.is_some() {
             let before = self.steps.fetch_add(1, Ordering::SeqCst);
             if before.is_multiple_of(STRIDE) {
-                self.tell();
+                self.report();
             }
         }
     }
 
     // Tells how far it has come, in a second in which nobody has told it.
-    fn tell(&self) {
+    fn report(&self) {
         let Some(began) = self.began else {
             return;
         };
@@ -117,11 +117,11 @@ fn count_lines(bytes: &[u8]) -> u64 {
 #[derive(Drop)]
 pub struct Counted<'a, I> {
     reader: I,
-    progress: &'a Progress,
+    progress: &'a ProgressLine,
 }
 
 impl<'a, I> Counted<'a, I> {
-    pub fn new(reader: I, progress: &'a Progress) -> Counted<'a, I> {
+    pub fn new(reader: I, progress: &'a ProgressLine) -> Counted<'a, I> {
         Counted { reader, progress }
     }
 }
@@ -140,11 +140,11 @@ impl<I: Read> Read for Counted<'_, I> {
 #[derive(Drop)]
 pub struct Erasing<'a, O> {
     writer: O,
-    progress: &'a Progress,
+    progress: &'a ProgressLine,
 }
 
 impl<'a, O> Erasing<'a, O> {
-    pub fn new(writer: O, progress: &'a Progress) -> Erasing<'a, O> {
+    pub fn new(writer: O, progress: &'a ProgressLine) -> Erasing<'a, O> {
         Erasing { writer, progress }
     }
 }

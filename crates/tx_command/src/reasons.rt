@@ -1,6 +1,6 @@
 //! Why a line is a fault, in a sentence for who wrote it: the line, the member and the rule.
-use crate::Task;
-use crate::faults::Noted;
+use crate::CommandTask;
+use crate::faults::NotedFaults;
 use crate::form::{Form, More, form_of};
 use crate::member::{is_of, rule_of};
 use crate::show::shown;
@@ -23,11 +23,12 @@ fn word_of(cause: Cause) -> &'static str {
 }
 
 // The command that a task is.
-fn command_of(task: Task) -> &'static str {
+fn command_of(task: CommandTask) -> &'static str {
     match task {
-        Task::Simulate | Task::SimulateChecked | Task::SimulateSteps => "simulate",
-        Task::Run(..) => "run",
-        Task::Check | Task::CheckWithReason => "check",
+        CommandTask::Simulate | CommandTask::SimulateChecked | CommandTask::SimulateSteps =>
+            "simulate",
+        CommandTask::Run(..) => "run",
+        CommandTask::Check | CommandTask::CheckWithReason => "check",
     }
 }
 
@@ -147,7 +148,7 @@ fn is_to_itself(word: &str, members: &[Value]) -> bool {
 // Why the step with this word and these members is none of what a task reads.
 fn wrong_step(
     alloc: Global,
-    task: Task,
+    task: CommandTask,
     number: u64,
     word: &str,
     members: &[Value],
@@ -168,8 +169,8 @@ fn wrong_step(
 // Why a value is no step, or why its step is a fault of this cause.
 fn wrong_value(
     alloc: Global,
-    task: Task,
-    fault: Noted,
+    task: CommandTask,
+    fault: NotedFaults,
     value: &Value,
 ) -> Result<Option<String>, AllocError> {
     let Some(members) = value.as_array() else {
@@ -193,8 +194,8 @@ fn wrong_value(
 /// breaks.
 pub fn why(
     alloc: Global,
-    task: Task,
-    fault: Noted,
+    task: CommandTask,
+    fault: NotedFaults,
     line: &[u8],
 ) -> Result<Option<String>, AllocError> {
     match fault.cause {
@@ -215,11 +216,11 @@ pub fn why(
 /// line where it is at hand.
 pub fn reason(
     alloc: Global,
-    task: Task,
-    fault: Noted,
+    task: CommandTask,
+    fault: NotedFaults,
     line: Option<&[u8]>,
 ) -> Result<String, AllocError> {
-    let Noted { number, cause } = fault;
+    let NotedFaults { number, cause } = fault;
     let found = match line {
         Some(line) => why(alloc, task, fault, line)?,
         None => None,

@@ -1,5 +1,5 @@
 //! What is shown on standard error while a command is at work.
-use crate::{Job, Task};
+use crate::{CommandLine, CommandTask};
 
 /// Which of the three streams of a program are terminals.
 #[derive(Clone, Copy, Debug, PartialEq, Eq)]
@@ -11,21 +11,22 @@ pub struct Terminals {
 
 /// What is shown on standard error while a task is done.
 #[derive(Clone, Copy, Debug, PartialEq, Eq)]
-pub enum Shown {
+pub enum Display {
     Nothing,
     /// A prompt each time a line is awaited, for whoever types and sees the replies.
     Prompts,
     /// How far it has come.
-    Progress,
+    ProgressLine,
 }
 
 /// What is shown while a job is done.
-pub fn shown_at(job: Job<'_>, terminals: Terminals) -> Shown {
+pub fn shown_at(job: CommandLine<'_>, terminals: Terminals) -> Display {
     if terminals.input && terminals.output && job.file.is_none() {
-        return Shown::Prompts;
+        return Display::Prompts;
     }
     match job.task {
-        Task::Run(..) | Task::Check | Task::CheckWithReason if terminals.error => Shown::Progress,
-        _ => Shown::Nothing,
+        CommandTask::Run(..) | CommandTask::Check | CommandTask::CheckWithReason
+            if terminals.error => Display::ProgressLine,
+        _ => Display::Nothing,
     }
 }

@@ -2,7 +2,7 @@
 use clap::error::ErrorKind;
 use std::alloc::Global;
 use std::test::Fail;
-use tx_command::{Cells, Job, Task, job_of, message_of, parse, status_of};
+use tx_command::{CellsKind, CommandLine, CommandTask, job_of, message_of, parse, status_of};
 use tx_text::{Broken, End};
 
 // The words of a command line, the first of which is the program as a shell names it.
@@ -18,28 +18,36 @@ fn words_of(alloc: Global, line: &str) -> Result<Vec<String>, Fail> {
 }
 
 // Command lines, the tasks that they ask for, and the files that those read.
-static JOBS: [(&str, Task, Option<&str>); 15] = [
-    ("simulate", Task::Simulate, None),
-    ("simulate -", Task::Simulate, None),
-    ("simulate a.script", Task::Simulate, Some("a.script")),
-    ("simulate --check", Task::SimulateChecked, None),
-    ("simulate a --check", Task::SimulateChecked, Some("a")),
-    ("simulate --steps a", Task::SimulateSteps, Some("a")),
-    ("simulate -- --check", Task::Simulate, Some("--check")),
-    ("check", Task::Check, None),
-    ("check dir/a.trace", Task::Check, Some("dir/a.trace")),
-    ("check --why", Task::CheckWithReason, None),
-    ("check a --why", Task::CheckWithReason, Some("a")),
-    ("run --workers 1", Task::Run(1, None), None),
-    ("run --workers=64 a", Task::Run(64, None), Some("a")),
+static JOBS: [(&str, CommandTask, Option<&str>); 15] = [
+    ("simulate", CommandTask::Simulate, None),
+    ("simulate -", CommandTask::Simulate, None),
+    ("simulate a.script", CommandTask::Simulate, Some("a.script")),
+    ("simulate --check", CommandTask::SimulateChecked, None),
+    (
+        "simulate a --check",
+        CommandTask::SimulateChecked,
+        Some("a"),
+    ),
+    ("simulate --steps a", CommandTask::SimulateSteps, Some("a")),
+    (
+        "simulate -- --check",
+        CommandTask::Simulate,
+        Some("--check"),
+    ),
+    ("check", CommandTask::Check, None),
+    ("check dir/a.trace", CommandTask::Check, Some("dir/a.trace")),
+    ("check --why", CommandTask::CheckWithReason, None),
+    ("check a --why", CommandTask::CheckWithReason, Some("a")),
+    ("run --workers 1", CommandTask::Run(1, None), None),
+    ("run --workers=64 a", CommandTask::Run(64, None), Some("a")),
     (
         "run - --gc-life-time 1 --workers 4",
-        Task::Run(4, Some(1)),
+        CommandTask::Run(4, Some(1)),
         None,
     ),
     (
         "run --workers 2 --gc-life-time 4398046511104",
-        Task::Run(2, Some(4_398_046_511_104)),
+        CommandTask::Run(2, Some(4_398_046_511_104)),
         None,
     ),
 ];
@@ -49,9 +57,9 @@ fn command_lines_say_jobs(rt: HostRuntime) -> Result<(), Fail> {
     for (line, task, file) in JOBS {
         let words = words_of(rt.alloc(), line)?;
         let matches = parse(rt.alloc(), words.as_slice())?;
-        let job = Job {
+        let job = CommandLine {
             task,
-            cells: Cells::Flat,
+            cells: CellsKind::Flat,
             has_stats: false,
             file,
         };
@@ -61,12 +69,12 @@ fn command_lines_say_jobs(rt: HostRuntime) -> Result<(), Fail> {
 }
 
 // Command lines, and the families that they ask for.
-static CELLS: [(&str, Cells); 5] = [
-    ("simulate --cells flat", Cells::Flat),
-    ("simulate --cells nested", Cells::Nested),
-    ("simulate --cells=nested --check a", Cells::Nested),
-    ("run --workers 2 --cells nested", Cells::Nested),
-    ("run --cells flat --workers 2 a", Cells::Flat),
+static CELLS: [(&str, CellsKind); 5] = [
+    ("simulate --cells flat", CellsKind::Flat),
+    ("simulate --cells nested", CellsKind::Nested),
+    ("simulate --cells=nested --check a", CellsKind::Nested),
+    ("run --workers 2 --cells nested", CellsKind::Nested),
+    ("run --cells flat --workers 2 a", CellsKind::Flat),
 ];
 
 // Whether a command line asks for what the run came to.

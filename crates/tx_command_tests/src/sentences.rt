@@ -2,7 +2,7 @@
 use std::alloc::Global;
 use std::test::Fail;
 use tx_check::check;
-use tx_command::{Noted, Task, reason, why};
+use tx_command::{CommandTask, NotedFaults, reason, why};
 use tx_steps::{Line, Program};
 use tx_text::{End, Parts};
 use tx_types::Cause;
@@ -173,69 +173,69 @@ static SCRIPTS: [(&str, Cause, &str); 33] = [
 ];
 
 // Lines of runs and of traces that are faults, and why.
-static OTHERS: [(Task, &str, Cause, &str); 11] = [
+static OTHERS: [(CommandTask, &str, Cause, &str); 11] = [
     (
-        Task::Run(1, None),
+        CommandTask::Run(1, None),
         r#"["get","A","a","lose"]"#,
         Cause::Form,
         r#"form: "lose" stands behind the last member of the step"#,
     ),
     (
-        Task::Run(1, None),
+        CommandTask::Run(1, None),
         r#"["tick",1]"#,
         Cause::Form,
         r#"form: "tick" is no step of txkv run"#,
     ),
     (
-        Task::Run(1, None),
+        CommandTask::Run(1, None),
         r#"["transfer","A","a","a",5,"async"]"#,
         Cause::Form,
         "form: a transfer moves between two different keys",
     ),
     (
-        Task::Run(1, None),
+        CommandTask::Run(1, None),
         r#"["transfer","A","a","b",0,"async"]"#,
         Cause::Form,
         "form: 0 is no amount (1 to 1000000000000)",
     ),
     (
-        Task::Check,
+        CommandTask::Check,
         r#"["regions",["m"]]"#,
         Cause::Form,
         r#"form: "regions" is no step of txkv check"#,
     ),
     (
-        Task::Check,
+        CommandTask::Check,
         r#"["draw"]"#,
         Cause::Form,
         r#"form: "draw" wants behind it: timestamp"#,
     ),
     (
-        Task::Check,
+        CommandTask::Check,
         r#"["declare",3,[["a","put"]]]"#,
         Cause::Form,
         r#"form: [["a","put"]] is no write set ([[key,"put",value],[key,"insert",value],[key,"delete"],[key,"lock"],..])"#,
     ),
     (
-        Task::Check,
+        CommandTask::Check,
         r#"["read",3,"","x"]"#,
         Cause::Form,
         r#"form: "" is no key (a string of 1 to 512 bytes)"#,
     ),
     (
-        Task::Check,
+        CommandTask::Check,
         r#"["scan",3,"a","c",9,[["a"]]]"#,
         Cause::Form,
         r#"form: [["a"]] is no list of rows ([[key,value],..])"#,
     ),
     (
-        Task::Check,
+        CommandTask::Check,
         r#"["answer",3,"committed"]"#,
         Cause::Form,
         r#"form: "committed" wants its timestamp behind it"#,
     ),
     (
-        Task::Check,
+        CommandTask::Check,
         r#"["answer",3,"aborted",4]"#,
         Cause::Form,
         "form: 4 stands behind the last member of the step",
@@ -243,15 +243,20 @@ static OTHERS: [(Task, &str, Cause, &str); 11] = [
 ];
 
 // The sentence for a line, which is the fourth.
-fn sentence_of(alloc: Global, task: Task, cause: Cause, line: &[u8]) -> Result<String, Fail> {
-    let fault = Noted { number: 4, cause };
+fn sentence_of(
+    alloc: Global,
+    task: CommandTask,
+    cause: Cause,
+    line: &[u8],
+) -> Result<String, Fail> {
+    let fault = NotedFaults { number: 4, cause };
     Ok(reason(alloc, task, fault, Some(line))?)
 }
 
 #[test]
 fn sentences_name_line_member_and_rule(rt: HostRuntime) -> Result<(), Fail> {
     for (line, cause, sentence) in SCRIPTS {
-        let told = sentence_of(rt.alloc(), Task::Simulate, cause, line.as_bytes())?;
+        let told = sentence_of(rt.alloc(), CommandTask::Simulate, cause, line.as_bytes())?;
         let wanted = format!(in rt.alloc(); "line 4: {sentence}")?;
         assert_eq!(rt; told.as_str(), wanted.as_str());
     }
@@ -265,18 +270,23 @@ fn sentences_name_line_member_and_rule(rt: HostRuntime) -> Result<(), Fail> {
 
 #[test]
 fn lines_that_cannot_be_shown_have_a_sentence(rt: HostRuntime) -> Result<(), Fail> {
-    let told = sentence_of(rt.alloc(), Task::Check, Cause::Json, b"[\"draw\",\"\xff\"]")?;
+    let told = sentence_of(
+        rt.alloc(),
+        CommandTask::Check,
+        Cause::Json,
+        b"[\"draw\",\"\xff\"]",
+    )?;
     assert_eq!(rt; told.as_str(), "line 4: json: the line is not UTF-8");
-    let told = sentence_of(rt.alloc(), Task::Check, Cause::Long, b"[\"draw\"")?;
+    let told = sentence_of(rt.alloc(), CommandTask::Check, Cause::Long, b"[\"draw\"")?;
     assert_eq!(rt;
         told.as_str(),
         "line 4: long: the line is longer than 524288 bytes"
     );
-    let fault = Noted {
+    let fault = NotedFaults {
         number: 1_000_001,
         cause: Cause::Lines,
     };
-    let told = reason(rt.alloc(), Task::Run(2, None), fault, None)?;
+    let told = reason(rt.alloc(), CommandTask::Run(2, None), fault, None)?;
     assert_eq!(rt;
         told.as_str(),
         "line 1000001: lines: the script has more than 1000000 lines"
@@ -288,7 +298,12 @@ fn lines_that_cannot_be_shown_have_a_sentence(rt: HostRuntime) -> Result<(), Fai
 fn long_members_are_cut(rt: HostRuntime) -> Result<(), Fail> {
     let value = "é".repeat(rt.alloc(), 400)?;
     let line = format!(in rt.alloc(); r#"["begin",["{value}"]]"#)?;
-    let told = sentence_of(rt.alloc(), Task::Simulate, Cause::Form, line.as_bytes())?;
+    let told = sentence_of(
+        rt.alloc(),
+        CommandTask::Simulate,
+        Cause::Form,
+        line.as_bytes(),
+    )?;
     let beginning = "é".repeat(rt.alloc(), 29)?;
     let wanted = format!(in rt.alloc();
         r#"line 4: form: ["{beginning}.. is no session's name (a string)"#
@@ -371,8 +386,8 @@ fn is_step(alloc: Global, program: Program, line: &str) -> Result<bool, Fail> {
 }
 
 // Whether something is found to be wrong with a line.
-fn is_faulted(alloc: Global, task: Task, line: &str) -> Result<bool, Fail> {
-    let fault = Noted {
+fn is_faulted(alloc: Global, task: CommandTask, line: &str) -> Result<bool, Fail> {
+    let fault = NotedFaults {
         number: 2,
         cause: Cause::Form,
     };
@@ -384,16 +399,16 @@ fn is_faulted(alloc: Global, task: Task, line: &str) -> Result<bool, Fail> {
 fn sentences_agree_with_the_readers_of_lines(rt: HostRuntime) -> Result<(), Fail> {
     for line in LINES {
         let simulated = is_step(rt.alloc(), Program::Simulate, line)?;
-        let is_wrong = is_faulted(rt.alloc(), Task::Simulate, line)?;
+        let is_wrong = is_faulted(rt.alloc(), CommandTask::Simulate, line)?;
         assert_eq!(rt; is_wrong, !simulated, "simulate: {line}");
         let run = is_step(rt.alloc(), Program::Run, line)?;
-        let is_wrong = is_faulted(rt.alloc(), Task::Run(4, None), line)?;
+        let is_wrong = is_faulted(rt.alloc(), CommandTask::Run(4, None), line)?;
         assert_eq!(rt; is_wrong, !run, "run: {line}");
     }
     for line in TRACES {
         let mut written = Vec::new(rt.alloc());
         let end = check(rt.alloc(), &mut line.as_bytes(), &mut written)?;
-        let is_wrong = is_faulted(rt.alloc(), Task::Check, line)?;
+        let is_wrong = is_faulted(rt.alloc(), CommandTask::Check, line)?;
         assert_eq!(rt; is_wrong, end == End::Faulted, "check: {line}");
     }
     Ok(())

@@ -1,7 +1,7 @@
 //! What is shown on standard error beside the sentences.
 use std::test::Fail;
 use std::time::Duration;
-use tx_command::{Cells, Job, Shown, Stats, Task, Terminals, shown_at};
+use tx_command::{CellsKind, CommandLine, CommandTask, Display, Stats, Terminals, shown_at};
 
 // Which streams are terminals: input, output, error.
 fn terminals_of(input: bool, output: bool, error: bool) -> Terminals {
@@ -12,10 +12,10 @@ fn terminals_of(input: bool, output: bool, error: bool) -> Terminals {
     }
 }
 
-fn job_of(task: Task, file: Option<&str>) -> Job<'_> {
-    Job {
+fn job_of(task: CommandTask, file: Option<&str>) -> CommandLine<'_> {
+    CommandLine {
         task,
-        cells: Cells::Flat,
+        cells: CellsKind::Flat,
         has_stats: false,
         file,
     }
@@ -27,39 +27,42 @@ fn job_of(task: Task, file: Option<&str>) -> Job<'_> {
 fn terminals_say_what_is_shown(rt: HostRuntime) {
     let typed = terminals_of(true, true, true);
     assert_eq!(rt;
-        shown_at(job_of(Task::Simulate, None), typed),
-        Shown::Prompts
-    );
-    assert_eq!(rt; shown_at(job_of(Task::Check, None), typed), Shown::Prompts);
-    assert_eq!(rt;
-        shown_at(job_of(Task::Simulate, Some("a")), typed),
-        Shown::Nothing
+        shown_at(job_of(CommandTask::Simulate, None), typed),
+        Display::Prompts
     );
     assert_eq!(rt;
-        shown_at(job_of(Task::Check, Some("a")), typed),
-        Shown::Progress
+        shown_at(job_of(CommandTask::Check, None), typed),
+        Display::Prompts
     );
     assert_eq!(rt;
-        shown_at(job_of(Task::CheckWithReason, Some("a")), typed),
-        Shown::Progress
+        shown_at(job_of(CommandTask::Simulate, Some("a")), typed),
+        Display::Nothing
+    );
+    assert_eq!(rt;
+        shown_at(job_of(CommandTask::Check, Some("a")), typed),
+        Display::ProgressLine
+    );
+    assert_eq!(rt;
+        shown_at(job_of(CommandTask::CheckWithReason, Some("a")), typed),
+        Display::ProgressLine
     );
     let piped = terminals_of(false, false, true);
     assert_eq!(rt;
-        shown_at(job_of(Task::Run(2, None), None), piped),
-        Shown::Progress
+        shown_at(job_of(CommandTask::Run(2, None), None), piped),
+        Display::ProgressLine
     );
     assert_eq!(rt;
-        shown_at(job_of(Task::SimulateChecked, None), piped),
-        Shown::Nothing
+        shown_at(job_of(CommandTask::SimulateChecked, None), piped),
+        Display::Nothing
     );
     let quiet = terminals_of(true, false, false);
     assert_eq!(rt;
-        shown_at(job_of(Task::Run(2, None), None), quiet),
-        Shown::Nothing
+        shown_at(job_of(CommandTask::Run(2, None), None), quiet),
+        Display::Nothing
     );
     assert_eq!(rt;
-        shown_at(job_of(Task::Check, Some("a")), quiet),
-        Shown::Nothing
+        shown_at(job_of(CommandTask::Check, Some("a")), quiet),
+        Display::Nothing
     );
 }
 

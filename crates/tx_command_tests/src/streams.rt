@@ -5,7 +5,7 @@ use std::io;
 use std::io::{ErrorKind, Read, Write};
 use std::test::Fail;
 use tx_command::{
-    Asking, Counted, Erasing, Noted, Noting, Progress, Recent, Shared, Steps, fault_in,
+    Asking, Counted, Erasing, NotedFaults, Noting, ProgressLine, Recent, Shared, Steps, fault_in,
 };
 use tx_text::{Found, read_line};
 use tx_types::Cause;
@@ -108,7 +108,7 @@ fn what_was_written_is_handed_on_before_a_read(rt: HostRuntime) -> Result<(), Fa
 // Neither what counts lines nor what takes the progress away changes what goes through it.
 #[test]
 fn lines_are_counted_on_their_way(rt: HostRuntime) -> Result<(), Fail> {
-    let progress = Progress::new(rt, false);
+    let progress = ProgressLine::new(rt, false);
     let mut counted = Counted::new(b"a\nb".as_slice(), &progress);
     let mut buf = [0u8; 8];
     let len = counted.read(&mut buf)?;
@@ -184,11 +184,11 @@ fn faults_are_noted(rt: HostRuntime) -> Result<(), Fail> {
         noting.write_all(line.as_bytes())?;
     }
     let wanted = [
-        Noted {
+        NotedFaults {
             number: 2,
             cause: Cause::Name,
         },
-        Noted {
+        NotedFaults {
             number: u64::MAX,
             cause: Cause::Sessions,
         },
@@ -219,7 +219,10 @@ static NO_FAULTS: [&str; 5] = [
 #[test]
 fn lines_of_faults_are_known(rt: HostRuntime) {
     for (line, cause) in FAULTS {
-        assert_eq!(rt; fault_in(line.as_bytes()), Some(Noted { number: 7, cause }));
+        assert_eq!(rt;
+            fault_in(line.as_bytes()),
+            Some(NotedFaults { number: 7, cause })
+        );
     }
     for line in NO_FAULTS {
         assert_eq!(rt; fault_in(line.as_bytes()), None, "{line}");

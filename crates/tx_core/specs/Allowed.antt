@@ -21,7 +21,8 @@ use Rattle.tx_core.specs.Decisions.{Acceptance, accepted, AllAccepted, HasTwoPha
 -- A read may pass by the locks of a transaction that is decided as aborted, or as committed above
 -- the read, or whose own lock on its primary was shown with a minimum above the read.
 abbrev pub MayPass : History → ℕ → ℕ → Type 0
-MayPass h r t = (decided h t ≡ Done Aborted) ⊎ ((c : ℕ) × (decided h t ≡ Done (Committed c)) × (r < c)) ⊎ ((m : ℕ) × Shows h t m × (r < m))
+MayPass h r t = (decided h t ≡ Done Aborted) ⊎ ((c : ℕ) × (decided h t ≡ Done (Committed c)) × (r < c))
+    ⊎ ((m : ℕ) × Shows h t m × (r < m))
 
 -- A read is allowed where it may pass by each transaction that it names: without any, to anyone.
 abbrev pub AllowsRead : History → ℕ → List ℕ → Type 0

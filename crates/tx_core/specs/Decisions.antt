@@ -42,11 +42,13 @@ effect_of_fate key t fate.Aborted = RollsBack t
 -- repeated answer has none
 abbrev pub effect : (Key → Cells) → Body → Answer → Effect
 effect cells (Prewrite b) (Prewritten m) = cond (is_own (cells b.key).lock b.start) NoEffect (Puts b.key (lock_of b m))
-effect cells (Commit b) (Committed c) = cond (is_own (cells b.key).lock b.start) (Settles b.key b.start b.commit) NoEffect
+effect cells (Commit b) (Committed c) = cond (is_own (cells b.key).lock b.start) (Settles b.key b.start b.commit)
+    NoEffect
 effect cells (BatchRollback b) RolledBack = RollsBack b.start
 effect cells (CheckTxnStatus b) RolledBack = RollsBack b.start
 effect cells (CheckSecondaryLocks b) Missing = RollsBack b.start
-effect cells (ResolveLock b) Resolved = cond (is_own (cells b.key).lock b.start) (effect_of_fate b.key b.start b.fate) NoEffect
+effect cells (ResolveLock b) Resolved = cond (is_own (cells b.key).lock b.start) (effect_of_fate b.key b.start b.fate)
+    NoEffect
 effect cells _ _ = NoEffect
 
 -- the effect of what a region took after a history
@@ -66,7 +68,8 @@ first_accepted None new = Some new
 first_accepted (Some old) new = Some old
 
 abbrev pub accepted_by : Effect → ℕ → ℕ → Key → Option Acceptance → Option Acceptance
-accepted_by (Puts key lock) n t k before = cond ((lock.start == t) && bytes_eq key k) (first_accepted before record { lock = lock; at = n }) before
+accepted_by (Puts key lock) n t k before = cond ((lock.start == t)
+    && bytes_eq key k) (first_accepted before record { lock = lock; at = n }) before
 accepted_by (Settles key u c) n t k before = before
 accepted_by (RollsBack u) n t k before = before
 accepted_by NoEffect n t k before = before

@@ -63,7 +63,8 @@ pub record HasPrewritten (h : History) (b : Prewrite) (m : ℕ) : Type 0 where
 -- u had answered that it is committed at c when the number p was drawn
 abbrev pub AnsweredBefore : History → ℕ → ℕ → ℕ → Type 0
 AnsweredBefore [] p u c = ⊥
-AnsweredBefore (Drawn seat n ∷ h) p u c = ((n ≡ p) × Among h (Answered u (outcome.Committed c))) ⊎ AnsweredBefore h p u c
+AnsweredBefore (Drawn seat n ∷ h) p u c = ((n ≡ p) × Among h (Answered u (outcome.Committed c)))
+    ⊎ AnsweredBefore h p u c
 AnsweredBefore (_ ∷ h) p u c = AnsweredBefore h p u c
 
 -- ---- the locks of all keys
@@ -77,8 +78,7 @@ pub record HadAsyncLock (h : History) (t : ℕ) (k : Key) (m : ℕ) : Type 0 whe
   pub async : info.mode ≡ Async
   pub min : info.min ≡ m
 
--- the greatest of these minimums over the keys of a set
+-- the greatest of these minimums over the keys of a set, 0 of none
 abbrev pub greatest_of : (Key → ℕ) → List Change → ℕ
 greatest_of min [] = 0
-greatest_of min (c ∷ []) = min c.key
-greatest_of min (c ∷ d ∷ cs) = max (min c.key) (greatest_of min (d ∷ cs))
+greatest_of min (c ∷ cs) = max (min c.key) (greatest_of min cs)

@@ -69,4 +69,5 @@ shadow (Began t ∷ h) = step.Begin t ∷ shadow h
 shadow (Declared d ∷ h) = step.Declare d.start d.changes ∷ shadow h
 shadow (Answered t o ∷ h) = answering t o ++ shadow h
 shadow (Stopped seat ∷ h) = shadow h
-shadow (Took x ∷ h) = deciding_in h x (start_in x.body) ++ (checking x.body (effect_in h x) ++ (reading x.body x.answer ++ shadow h))
+shadow (Took x ∷ h) = deciding_in h x (start_in x.body)
+    ++ (checking x.body (effect_in h x) ++ (reading x.body x.answer ++ shadow h))

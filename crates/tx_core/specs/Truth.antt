@@ -19,7 +19,8 @@ use Rattle.tx_core.specs.Shadow.{shadow, scan_read}
 
 -- the transaction that started at t has ended so in the machine
 abbrev pub HasEnded : Table → ℕ → Fate → Type 0
-HasEnded table t end = (changes : Option (List Change)) × (table.row t ≡ Some record { changes = changes; state = Done end })
+HasEnded table t end = (changes : Option (List Change))
+    × (table.row t ≡ Some record { changes = changes; state = Done end })
 
 -- the transaction that a request names has ended as was told, if a fate was told
 abbrev pub EndsBy : Table → Option ℕ → Option Fate → Type 0

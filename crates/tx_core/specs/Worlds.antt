@@ -2,11 +2,14 @@
 use Rattle.std.specs.Prelude.{◌≡◌, ◌≢◌, ◌⊎◌, ℕ, ◌<◌, ◌≤◌, true, false, List, [], ◌∷◌, length, Some, None, count_by, IsTrue}
 use Rattle.tx_types.specs.declared.key.Key.{Key}
 use Rattle.tx_plan.specs.declared.body.Body.{Body}
-use Rattle.tx_plan.specs.declared.body.Body.TheVariants.{Get, Scan, Prewrite, Commit, BatchRollback, TxnHeartBeat, CheckTxnStatus, CheckSecondaryLocks, ResolveLock, RaiseSafe, LocksBelow, Collect}
+use Rattle.tx_plan.specs.declared.body.Scan.{Scan}
+use Rattle.tx_plan.specs.declared.target.Target.{Target}
+use Rattle.tx_plan.specs.declared.target.Target.TheVariants as target
 use Rattle.tx_types.specs.declared.mutation.Fate.{Fate}
 use Rattle.tx_types.specs.declared.mutation.Fate.TheVariants as fate
 use Rattle.tx_types.specs.Keys.{key_le}
 use Rattle.tx_plan.specs.Reads.{in_range}
+use Rattle.tx_plan.specs.Targets.{target as target_of}
 use Rattle.tx_plan.specs.Answers.{Answers, start_in}
 use Rattle.tx_machine.specs.Keys.{IsDistinct}
 use Rattle.tx_core.specs.declared.event.Declaration.{Declaration}
@@ -26,21 +29,15 @@ use Rattle.tx_core.specs.Allowed.{Allowed}
 abbrev pub route : List Key → Key → ℕ
 route bounds k = count_by (λ bound. key_le bound k) bounds
 
--- the region n holds what a request speaks of: its key, or the whole range of a scan, or the
--- request names it
+-- the region n has what a request is of: the key, each key of the range, or itself
+abbrev pub Has : List Key → ℕ → Target Key Scan → Type 0
+Has bounds n (target.Key k) = route bounds k ≡ n
+Has bounds n (target.Range b) = (k : Key) → IsTrue (in_range b k) → route bounds k ≡ n
+Has bounds n (target.Region m) = m ≡ n
+
+-- the region n holds what a request speaks of
 abbrev pub Holds : List Key → ℕ → Body → Type 0
-Holds bounds n (Get b) = route bounds b.key ≡ n
-Holds bounds n (Scan b) = (k : Key) → IsTrue (in_range b k) → route bounds k ≡ n
-Holds bounds n (Prewrite b) = route bounds b.key ≡ n
-Holds bounds n (Commit b) = route bounds b.key ≡ n
-Holds bounds n (BatchRollback b) = route bounds b.key ≡ n
-Holds bounds n (TxnHeartBeat b) = route bounds b.key ≡ n
-Holds bounds n (CheckTxnStatus b) = route bounds b.key ≡ n
-Holds bounds n (CheckSecondaryLocks b) = route bounds b.key ≡ n
-Holds bounds n (ResolveLock b) = route bounds b.key ≡ n
-Holds bounds n (RaiseSafe b) = b.region ≡ n
-Holds bounds n (LocksBelow b) = b.region ≡ n
-Holds bounds n (Collect b) = b.region ≡ n
+Holds bounds n b = Has bounds n (target_of b)
 
 -- ---- what a session may answer
 

@@ -9,5 +9,6 @@ ghost use Rattle.tx_types.specs.declared.key.Key.{Key};
 
 /// After a world run a region has one answer to each request, whatever number its seat has loaded.
 pub fn one_answer()
-    ensures { (bounds : List Key) (events : History) (n loaded : ℕ) (body : Body) (a b : Answer) → IsWorldRun bounds events → AnswersNext events n loaded body a → AnswersNext events n loaded body b → a ≡ b }
+    ensures { (bounds : List Key) (events : History) (n loaded : ℕ) (body : Body) (a b : Answer)
+        → IsWorldRun bounds events → AnswersNext events n loaded body a → AnswersNext events n loaded body b → a ≡ b }
 {}

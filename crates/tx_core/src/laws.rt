@@ -18,21 +18,25 @@ ghost use Rattle.tx_types.specs.declared.mutation.Fate.TheVariants.{Committed};
 /// What is allowed after a history is allowed after each world run that begins with it: so a
 /// request that was allowed when it was sent is allowed whenever it is taken, however late.
 pub fn allowed_stays()
-    ensures { (bounds : List Key) (more h : History) (body : Body) → IsWorldRun bounds (more ++ h) → Allowed h body → Allowed (more ++ h) body }
+    ensures { (bounds : List Key) (more h : History) (body : Body) → IsWorldRun bounds (more ++ h) → Allowed h body
+        → Allowed (more ++ h) body }
 {}
 
 /// Each lock that an answer told of is what `IsLockOf` says, from then on: its transaction is
 /// declared, its primary and its list are the declared ones, and its mode and minimum are those
 /// that were accepted. That stays so.
 pub fn told_lock()
-    ensures is { (bounds : List Key) (h : History) (info : LockInfo) → IsWorldRun bounds h → WasToldOf h info → IsLockOf h info }
-    ensures stays { (bounds : List Key) (l h : History) (info : LockInfo) → IsWorldRun bounds h → Begins l h → IsLockOf l info → IsLockOf h info }
+    ensures is { (bounds : List Key) (h : History) (info : LockInfo) → IsWorldRun bounds h → WasToldOf h info
+        → IsLockOf h info }
+    ensures stays { (bounds : List Key) (l h : History) (info : LockInfo) → IsWorldRun bounds h → Begins l h
+        → IsLockOf l info → IsLockOf h info }
 {}
 
 /// So is the lock of each prewrite that was accepted, and its minimum is the one that
 /// the answer named.
 pub fn prewritten_lock()
-    ensures { (bounds : List Key) (h : History) (b : Prewrite) (m : ℕ) → IsWorldRun bounds h → WasPrewritten h b m → HasPrewritten h b m }
+    ensures { (bounds : List Key) (h : History) (b : Prewrite) (m : ℕ) → IsWorldRun bounds h → WasPrewritten h b m
+        → HasPrewritten h b m }
 {}
 
 /// Where each key of a transaction had an async lock, whenever that was, the transaction is
@@ -49,7 +53,8 @@ pub fn decided_async()
 /// A transaction commits above each commit that a session had answered when it drew the number of
 /// its declaration. So who was told of a commit, and declares then, commits later.
 pub fn commits_in_order()
-    ensures { (bounds : List Key) (h : History) (t u c e : ℕ) (d : Declaration) → IsWorldRun bounds h → declared h t ≡ Some d → AnsweredBefore h d.drawn u c → decided h t ≡ Done (Committed e) → c < e }
+    ensures { (bounds : List Key) (h : History) (t u c e : ℕ) (d : Declaration) → IsWorldRun bounds h
+        → declared h t ≡ Some d → AnsweredBefore h d.drawn u c → decided h t ≡ Done (Committed e) → c < e }
 {}
 
 /// Where each event of a history is of a seat below n, the history is as long as the parts of

@@ -5,11 +5,13 @@
 
 mod answers;
 mod event;
+mod fate;
 mod headline;
 mod laws;
 
 pub use answers::one_answer;
 pub use event::{Declaration, Event, Outcome, Taken, UnknownCause};
+pub use fate::fate_in;
 pub use headline::every_run;
 pub use laws::{
     allowed_stays, commits_in_order, decided_async, parts_make_the_whole, prewritten_lock,
@@ -18,6 +20,8 @@ pub use laws::{
 pub use tx_plan::{
     Answer, BatchRollback, Body, BoxedPrewrite, BoxedScan, CheckSecondaryLocks, CheckTxnStatus,
     Collect, Commit, Get, Infos, LocksBelow, Prewrite, RaiseSafe, RegionNo, ResolveLock, Scan,
-    Starts, TxnHeartBeat,
+    Starts, Target, TxnHeartBeat, plan_batch_rollback, plan_check_secondary_locks,
+    plan_check_txn_status, plan_commit, plan_get, plan_prewrite, plan_raise_safe,
+    plan_resolve_lock, plan_scan, plan_txn_heart_beat,
 };
 pub use tx_types::SeatNo;

@@ -20,15 +20,15 @@ front_of lock =
 pub value_at : (bytes : List ℕ) (rec other : LockRec) (n : ℕ) → SpellsLock bytes rec → SpellsLock bytes other → n ≡ length bytes - length (value_bytes rec.mutation) → HasValueAt n bytes other
 value_at bytes rec other n s t e =
     let value = value_bytes rec.mutation in
-    let place : n ≡ length (front_of rec) = omega (arith, e, ap length s.1, length-append (front_of rec) value) in
+    let position : n ≡ length (front_of rec) = omega (arith, e, ap length s.1, length-append (front_of rec) value) in
     let P : LockRec → Type 0 = HasValueAt n bytes in
-    subst P (same_lock bytes rec other s t) (omega (arith, e), ap (drop n) s.1 ∙ ap (λ m. drop m (front_of rec ++ value)) place ∙ drop-append_seam (front_of rec) value)
+    subst P (same_lock bytes rec other s t) (omega (arith, e), ap (drop n) s.1 ∙ ap (λ m. drop m (front_of rec ++ value)) position ∙ drop-append_seam (front_of rec) value)
 
 -- the kind, the mark, the start and the value are what a commit record spells
-pub commit_spelt : (bytes : List ℕ) (rec : LockRec) (place : ℕ) (mark : Bool) (m : ℕ) → SpellsLock bytes rec → HasValueAt place bytes rec → m ≡ mark_byte mark
-    → get_or bytes 0 0 ∷ m ∷ take 8 (drop 2 bytes) ++ take (length bytes - place) (drop place bytes) ≡ commit_bytes (commit_of rec mark)
-commit_spelt bytes rec place mark m s at e =
-    let rest : take (length bytes - place) (drop place bytes) ≡ value_bytes rec.mutation = rw take_rest at.1 in
+pub commit_spelt : (bytes : List ℕ) (rec : LockRec) (position : ℕ) (mark : Bool) (m : ℕ) → SpellsLock bytes rec → HasValueAt position bytes rec → m ≡ mark_byte mark
+    → get_or bytes 0 0 ∷ m ∷ take 8 (drop 2 bytes) ++ take (length bytes - position) (drop position bytes) ≡ commit_bytes (commit_of rec mark)
+commit_spelt bytes rec position mark m s at e =
+    let rest : take (length bytes - position) (drop position bytes) ≡ value_bytes rec.mutation = rw take_rest at.1 in
     ap (λ (x : List ℕ). get_or bytes 0 0 ∷ m ∷ take 8 (drop 2 bytes) ++ x) rest
     ∙ ap (λ k. get_or bytes 0 0 ∷ k ∷ take 8 (drop 2 bytes) ++ value_bytes rec.mutation) e
     ∙ ap (λ (w : List ℕ). get_or w 0 0 ∷ mark_byte mark ∷ take 8 (drop 2 w) ++ value_bytes rec.mutation) s.1

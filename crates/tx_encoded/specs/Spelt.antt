@@ -21,7 +21,8 @@ abbrev pub version_cmp : List ℕ × ℕ → List ℕ × ℕ → Ordering
 version_cmp a b = ordering_then (slice_cmp nat_cmp a.0 b.0) (nat_cmp b.1 a.1)
 
 pub versions_total : IsTotalOrder version_cmp
-versions_total = then_total (on_total (λ (v : List ℕ × ℕ). v.0) nat_list_cmp_total) (on_total (λ (v : List ℕ × ℕ). v.1) (back_total nat_cmp_total))
+versions_total = then_total (on_total (λ (v : List ℕ × ℕ). v.0) nat_list_cmp_total) (on_total (λ (v : List ℕ
+    × ℕ). v.1) (back_total nat_cmp_total))
 
 pub exact_versions : (a b : List ℕ × ℕ) → version_cmp a b ≡ Equal → a ≡ b
 exact_versions = exact_pairs (slice_cmp nat_cmp) (flip_args nat_cmp) exact_bytes (λ x y e. sym (exact_unsigned y x e))
@@ -54,11 +55,14 @@ bytes-set x y = Coded-set (coded_list coded_ℕ) x y
 IsKey-prop : (key : List ℕ) → IsProp (IsKey key)
 IsKey-prop key = ×_prop (below-prop _ _) (below-prop _ _)
 
-pub same_key : (first marker : ℕ) (rest j k : List ℕ) → SpellsKey first marker rest j → SpellsKey first marker rest k → j ≡ k
+pub same_key : (first marker : ℕ) (rest j k : List ℕ) → SpellsKey first marker rest j → SpellsKey first marker rest k
+    → j ≡ k
 same_key first marker rest j k p q = encoded_key-one j k (sym p.2 ∙ q.2)
 
 SpellsKey-prop : (first marker : ℕ) (rest key : List ℕ) → IsProp (SpellsKey first marker rest key)
-SpellsKey-prop first marker rest key = ×₃_prop (below-prop (suc first) (2 ^ 64)) (IsKey-prop key) (bytes-set (spelt first marker rest) (encoded_key key))
+SpellsKey-prop first marker rest key = ×₃_prop (below-prop (suc first) (2 ^ 64)) (IsKey-prop key)
+    (bytes-set (spelt first marker rest) (encoded_key key))
 
 pub one_key : (first marker : ℕ) (rest : List ℕ) → IsProp ((k : List ℕ) × SpellsKey first marker rest k)
-one_key first marker rest x y = Σ_prop_path {B = SpellsKey first marker rest} (SpellsKey-prop first marker rest) {u = x} {v = y} (same_key first marker rest x.0 y.0 x.1 y.1)
+one_key first marker rest x y = Σ_prop_path {B = SpellsKey first marker rest}
+    (SpellsKey-prop first marker rest) {u = x} {v = y} (same_key first marker rest x.0 y.0 x.1 y.1)

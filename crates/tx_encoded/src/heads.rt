@@ -5,7 +5,7 @@ ghost use Rattle.tx_cells.specs.Heads.{write_head, lock_head, record_kind};
 ghost use Rattle.tx_cells.specs.Histories.{IsSeenKind};
 
 use crate::records::{LockBytes, WriteBytes};
-use tx_cells::Seen;
+use tx_cells::SeenRecord;
 use tx_plan::{LockHead, RecordHead, RecordKind};
 use tx_types::{LockKind, Ts};
 
@@ -67,9 +67,10 @@ pub fn lock_head_of(bytes: &LockBytes) -> LockHead
 }
 
 /// The record at a timestamp as reads see it, where it is a put or a delete.
-pub fn seen_in(commit: Ts, bytes: &WriteBytes) -> Option<Seen>
+pub fn seen_in(commit: Ts, bytes: &WriteBytes) -> Option<SeenRecord>
     ensures commit { IfSome result (λ seen. seen.commit ≡ commit) }
-    ensures kind { IfSome result (λ seen. IsSeenKind seen.kind × ((mark : Bool) × (write_head bytes.now ≡ head.Commit seen.kind seen.start mark))) }
+    ensures kind { IfSome result (λ seen. IsSeenKind seen.kind
+        × ((mark : Bool) × (write_head bytes.now ≡ head.Commit seen.kind seen.start mark))) }
 {
     let RecordHead::Commit { kind, start, .. } = head_of(bytes) else {
         return None;
@@ -77,7 +78,7 @@ pub fn seen_in(commit: Ts, bytes: &WriteBytes) -> Option<Seen>
     if kind == LockKind::Lock {
         return None;
     }
-    Some(Seen {
+    Some(SeenRecord {
         commit,
         start,
         kind,

@@ -124,7 +124,8 @@ fn append_kept(out: &mut Vec<u8>, mutation: &Mutation) -> Result<(), AllocError>
 
 /// The bytes of the lock up to its primary.
 fn front(body: &Prewrite, mode: u8, min: Ts) -> [u8; FRONT]
-    ensures { result ≡ kind_byte (stored_kind (stored_of body.now.mutation)) ∷ mode ∷ to_be_bytes w64 body.now.start ++ to_be_bytes w64 min ++ to_be_bytes w32 body.now.ttl ++ to_be_bytes w16 (length body.now.primary) }
+    ensures { result ≡ kind_byte (stored_kind (stored_of body.now.mutation)) ∷ mode ∷ to_be_bytes w64 body.now.start
+        ++ to_be_bytes w64 min ++ to_be_bytes w32 body.now.ttl ++ to_be_bytes w16 (length body.now.primary) }
 {
     let kind = kind_of(&body.mutation);
     let [s0, s1, s2, s3, s4, s5, s6, s7] = body.start.get().to_be_bytes();

@@ -139,7 +139,7 @@ pub struct LockBytes {
     pub(crate) bytes: Vec<u8>,
     pub(crate) value: usize,
     ghost rec: { (rec : LockRec) × SpellsLock bytes.items rec } by { one_locked bytes.items },
-    ghost place: { (rec : LockRec) → SpellsLock bytes.items rec → HasValueAt value bytes.items rec },
+    ghost position: { (rec : LockRec) → SpellsLock bytes.items rec → HasValueAt value bytes.items rec },
 }
 
 impl Model for LockBytes {

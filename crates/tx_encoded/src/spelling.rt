@@ -97,7 +97,8 @@ fn key_of(alloc: Global, bytes: &[u8]) -> Result<Key, Fault>
 
 // The key of a whole group and a last one.
 fn key_of_two(alloc: Global, group: &[u8], last: &[u8], marker: u8) -> Result<Key, Fault>
-    requires { (length group.now ≡ GROUP) × (length last.now ≡ GROUP) × IsKey (group.now ++ take (marker - EMPTY) last.now) }
+    requires { (length group.now ≡ GROUP) × (length last.now ≡ GROUP)
+        × IsKey (group.now ++ take (marker - EMPTY) last.now) }
     ensures ok { IfOk result (λ key. key ≡ group.now ++ take (marker - EMPTY) last.now) }
     ensures err { IfErr result (λ e. e ≡ Fault.OutOfMemory) }
 {
@@ -135,7 +136,8 @@ impl Behind {
 
     // The order of what stands behind equal groups.
     fn order(&self, other: &Behind) -> Ordering
-        ensures { result ≡ ordering_then (nat_cmp (marker_of self.now) (marker_of other.now)) (slice_cmp nat_cmp (rest_of self.now) (rest_of other.now)) }
+        ensures { result ≡ ordering_then (nat_cmp (marker_of self.now) (marker_of other.now))
+            (slice_cmp nat_cmp (rest_of self.now) (rest_of other.now)) }
     {
         match (self, other) {
             (Behind::Nothing(marker), Behind::Nothing(others)) => marker.cmp(others),
@@ -146,7 +148,8 @@ impl Behind {
     // The order of what stands behind equal groups, where not both are nothing.
     #[inline(never)]
     fn order_groups(&self, other: &Behind) -> Ordering
-        ensures { result ≡ ordering_then (nat_cmp (marker_of self.now) (marker_of other.now)) (slice_cmp nat_cmp (rest_of self.now) (rest_of other.now)) }
+        ensures { result ≡ ordering_then (nat_cmp (marker_of self.now) (marker_of other.now))
+            (slice_cmp nat_cmp (rest_of self.now) (rest_of other.now)) }
     {
         let mut room = [0; ROOM];
         let mut others_room = [0; ROOM];
@@ -163,7 +166,8 @@ impl Behind {
 pub struct KeyBytes {
     first: u64,
     behind: Behind,
-    ghost key: { (k : List ℕ) × SpellsKey first (marker_of behind) (rest_of behind) k } by { one_key first (marker_of behind) (rest_of behind) },
+    ghost key: { (k : List ℕ) × SpellsKey first (marker_of behind) (rest_of behind) k } by { one_key first
+        (marker_of behind) (rest_of behind) },
 }
 
 impl Model for KeyBytes {

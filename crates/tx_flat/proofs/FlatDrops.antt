@@ -10,7 +10,8 @@ use Rattle.tx_types.specs.declared.mutation.StoredMutation.TheVariants as stored
 use Rattle.tx_types.specs.declared.write.WriteRec.{WriteRec}
 use Rattle.tx_types.specs.declared.write.WriteRec.TheVariants.{Commit}
 use Rattle.tx_plan.specs.Cells.{Writes}
-use Rattle.tx_plan.specs.cases.Collect.{keeps, kept, none_above, commit_is, is_put, is_visible}
+use Rattle.tx_types.specs.Keys.{is_visible}
+use Rattle.tx_plan.specs.cases.Collect.{keeps, kept, none_above, commit_is, is_put}
 use Rattle.tx_plan.proofs.Collects.{keeps_above, drops_followed}
 use Rattle.tx_cells.specs.Heads.{record_kind, keeps_apart}
 use Rattle.tx_cells.specs.Contents.{OnKey, cells_of, lock_of, IsWhole}

@@ -23,7 +23,7 @@ mod FlatDrops
 mod HeldKeys
 -- What is known where a walk over flat maps keeps its place, and what of their entries is behind a
 -- key.
-mod Places
+mod Positions
 -- What a walk over flat maps sees of the key that it passes, and where it stands then.
 mod Passing
 -- No write record is above the ceiling of its key, whatever changes.

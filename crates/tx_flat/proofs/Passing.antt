@@ -20,12 +20,12 @@ use Rattle.tx_cells.specs.Contents.{cells_of}
 use Rattle.tx_cells.specs.Heads.{lock_head}
 use Rattle.tx_flat.specs.Flats.{flat_content, fronts_of}
 use Rattle.tx_flat.specs.NextKeys.{IsHeld, FirstOf, lesser_of}
-use Rattle.tx_flat.specs.Places.{Locks, Writes, coming, locks_where, writes_where, first_of, next_key, comes_before, lock_on, locks_behind, is_to_come, IsPlace, Passes}
+use Rattle.tx_flat.specs.Positions.{Locks, Writes, coming, locks_where, writes_where, first_of, next_key, comes_before, lock_on, locks_behind, is_to_come, IsPosition, Passes}
 use Rattle.tx_flat.proofs.HeldKeys.{In}
 use Rattle.tx_cells.proofs.Reading.{none_found}
 use Rattle.tx_flat.proofs.Retaining.{tied}
 use Rattle.tx_cells.proofs.Showing.{lock_heads}
-use Rattle.tx_flat.proofs.Places.{lt_upward, keys_climb, fronts_climb, first_passing, keys_part, StartsAbove, beyond, locks_above, place, first_held, lock_here, no_lock_here, no_write_here, write_here, newest_here}
+use Rattle.tx_flat.proofs.Positions.{lt_upward, keys_climb, fronts_climb, first_passing, keys_part, StartsAbove, beyond, locks_above, slot, first_held, lock_here, no_lock_here, no_write_here, write_here, newest_here}
 
 -- ---- which key is next
 
@@ -64,21 +64,21 @@ no_writes : (es : Writes) → [] ≡ writes_where (is_to_come None) es
 no_writes [] = refl
 no_writes (e ∷ es) = no_writes es
 
-pub ended : (flat : FlatCells) (ls : Locks) (ws : Writes) → IsPlace flat ls ws → IsPlace flat [] []
+pub ended : (flat : FlatCells) (ls : Locks) (ws : Writes) → IsPosition flat ls ws → IsPosition flat [] []
 ended flat ls ws at = record { locks_rise = at.locks_rise; writes_rise = at.writes_rise; locks_left = no_locks flat.locks.entries; writes_left = no_writes flat.writes.entries }
 
-module _ (flat : FlatCells) (k : Key) (ls : Locks) (ws : Writes) (at : IsPlace flat ls ws) (next : next_key ls ws ≡ Some k) where
+module _ (flat : FlatCells) (k : Key) (ls : Locks) (ws : Writes) (at : IsPosition flat ls ws) (next : next_key ls ws ≡ Some k) where
   locks_from : ls ≡ locks_where (key_le k) flat.locks.entries
   locks_from = at.locks_left ∙ ap (λ (o : Option Key). locks_where (is_to_come o) flat.locks.entries) next
 
   pub writes_from : ws ≡ writes_where (key_le k) flat.writes.entries
   writes_from = at.writes_left ∙ ap (λ (o : Option Key). writes_where (is_to_come o) flat.writes.entries) next
 
-  -- ---- the place behind the key
+  -- ---- the slot behind the key
 
   module _ (ls' : Locks) (ws' : Writes) (el : ls' ≡ locks_where (key_lt k) flat.locks.entries) (ew : ws' ≡ writes_where (key_lt k) flat.writes.entries) where
-    pub place_behind : IsPlace flat ls' ws'
-    place_behind = place flat (key_lt k) (lt_upward k) ls' ws' at.locks_rise at.writes_rise el ew
+    pub place_behind : IsPosition flat ls' ws'
+    place_behind = slot flat (key_lt k) (lt_upward k) ls' ws' at.locks_rise at.writes_rise el ew
 
     pub next_behind : FirstOf (key_lt k) (λ j. IsHeld (flat_content flat j)) (next_key ls' ws')
     next_behind = first_held flat (key_lt k) (lt_upward k) ls' ws' at.locks_rise at.writes_rise el ew
@@ -136,7 +136,7 @@ starts_above : (k : Key) (es : Writes) → comes_before k (first_of (fronts_of e
 starts_above k [] e = tt
 starts_above k (x ∷ xs) e = e
 
-module _ (flat : FlatCells) (k : Key) (rec : LockRec) (ls : Locks) (ws : Writes) (at : IsPlace flat ((k, rec) ∷ ls) ws) (first : comes_before k (first_of (fronts_of ws)) ≡ true) where
+module _ (flat : FlatCells) (k : Key) (rec : LockRec) (ls : Locks) (ws : Writes) (at : IsPosition flat ((k, rec) ∷ ls) ws) (first : comes_before k (first_of (fronts_of ws)) ≡ true) where
   next_is : next_key ((k, rec) ∷ ls) ws ≡ Some k
   next_is = lock_first k (first_of (fronts_of ws)) first
 
@@ -149,7 +149,7 @@ module _ (flat : FlatCells) (k : Key) (rec : LockRec) (ls : Locks) (ws : Writes)
   locks_over : ls ≡ locks_where (key_lt k) flat.locks.entries
   locks_over = sym (ap (λ b. cond b ls ((k, rec) ∷ ls)) itself) ∙ locks_passed flat k ((k, rec) ∷ ls) ws at next_is
 
-  pub locked_place : IsPlace flat ls ws
+  pub locked_place : IsPosition flat ls ws
   locked_place = place_behind flat k ((k, rec) ∷ ls) ws at next_is ls ws locks_over writes_above
 
   pub locked_passes : (head : LockHead) → head ≡ lock_head rec → (r : ℕ) → Passes flat r k (record { lock = Some head; value = None }) ls ws
@@ -163,7 +163,7 @@ module _ (flat : FlatCells) (k : Key) (rec : LockRec) (ls : Locks) (ws : Writes)
 
 -- ---- a key that has write records
 
-module _ (flat : FlatCells) (k : Key) (c : ℕ) (rec : WriteRec) (ls : Locks) (ws : Writes) (at : IsPlace flat ls (((k, c), rec) ∷ ws)) (next : next_key ls (((k, c), rec) ∷ ws) ≡ Some k) where
+module _ (flat : FlatCells) (k : Key) (c : ℕ) (rec : WriteRec) (ls : Locks) (ws : Writes) (at : IsPosition flat ls (((k, c), rec) ∷ ws)) (next : next_key ls (((k, c), rec) ∷ ws) ≡ Some k) where
   pub written_left : ((k, c), rec) ∷ ws ≡ writes_where (key_le k) flat.writes.entries
   written_left = writes_from flat k ls (((k, c), rec) ∷ ws) at next
 

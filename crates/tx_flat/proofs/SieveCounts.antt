@@ -26,25 +26,25 @@ module _ (L : Key → Option Lock) (W : Version → Option WriteRec) (V : List �
   cells k = record { lock = L k; write = writes_of (on W V safe k) (V k) }
 
   pub record Counted (es : Entries) (records values : ℕ) : Type 0 where
-    pub places : List (Key × ℕ)
-    pub once : Once places
-    pub each : (place : Key × ℕ) → Contains places place ↔ ((find place es ≡ None) × IsDropped cells safe place)
-    pub counted : records ≡ length places
-    pub long : values ≡ long_values cells places
+    pub versions : List (Key × ℕ)
+    pub once : Once versions
+    pub each : (slot : Key × ℕ) → Contains versions slot ↔ ((find slot es ≡ None) × IsDropped cells safe slot)
+    pub counted : records ≡ length versions
+    pub long : values ≡ long_values cells versions
 
   pub count_starts : (es : Entries) → ((u : Version) → W u ≡ find u es) → Counted es 0 0
   count_starts es is = record {
-    places = [];
+    versions = [];
     once = pairs_none;
-    each = λ place. (λ c. absurd (contains_none place c), λ h. absurd (h.1.0 (ap (option_map (write_of (V place.0))) (is place ∙ h.0))));
+    each = λ slot. (λ c. absurd (contains_none slot c), λ h. absurd (h.1.0 (ap (option_map (write_of (V slot.0))) (is slot ∙ h.0))));
     counted = refl;
     long = refl;
   }
 
-  pub count_ends : (records values : ℕ) → Counted [] records values → (places : List (Key × ℕ)) × AllDropped cells safe places × (records ≡ length places) × (values ≡ long_values cells places)
-  count_ends records values so = (so.places, record { once = so.once; each = λ place. (λ c. ((so.each place).0 c).1, λ d. (so.each place).1 (refl, d)) }, so.counted, so.long)
+  pub count_ends : (records values : ℕ) → Counted [] records values → (versions : List (Key × ℕ)) × AllDropped cells safe versions × (records ≡ length versions) × (values ≡ long_values cells versions)
+  count_ends records values so = (so.versions, record { once = so.once; each = λ slot. (λ c. ((so.each slot).0 c).1, λ d. (so.each slot).1 (refl, d)) }, so.counted, so.long)
 
-  module _ (place : Place) (x : Version) (rec : WriteRec) (es : Entries) (are : AreLeft W place ((x, rec) ∷ es)) (records values : ℕ) (so : Counted ((x, rec) ∷ es) records values) where
+  module _ (slot : Place) (x : Version) (rec : WriteRec) (es : Entries) (are : AreLeft W slot ((x, rec) ∷ es)) (records values : ℕ) (so : Counted ((x, rec) ∷ es) records values) where
     off : (u : Version) → is_eq (version_cmp u x) ≡ false → find u ((x, rec) ∷ es) ≡ find u es
     off u other = lookup_tail (tree.is_at (version_cmp u)) (x, rec) es other
 
@@ -66,7 +66,7 @@ module _ (L : Key → Option Lock) (W : Version → Option WriteRec) (V : List �
 
     pub count_stays : keeps_at W V safe x ≡ true → Counted es records values
     count_stays stays = record {
-      places = so.places;
+      versions = so.versions;
       once = so.once;
       each = λ p. (
         λ c. (let old = (so.each p).0 c in (passed p old.0, old.1)),
@@ -80,20 +80,20 @@ module _ (L : Key → Option Lock) (W : Version → Option WriteRec) (V : List �
     }
 
     there : (cells x.0).write x.1 ≢ None
-    there none = (let is : (cells x.0).write x.1 ≡ Some (write_of (V x.0) rec) = ap (option_map (write_of (V x.0))) (first_is W place x rec es are) in cc (none, is))
+    there none = (let is : (cells x.0).write x.1 ≡ Some (write_of (V x.0) rec) = ap (option_map (write_of (V x.0))) (first_is W slot x rec es are) in cc (none, is))
 
-    more : keeps_at W V safe x ≡ false → (long : ℕ) → long ≡ long_values cells (x ∷ so.places) → Counted es (records + 1) long
+    more : keeps_at W V safe x ≡ false → (long : ℕ) → long ≡ long_values cells (x ∷ so.versions) → Counted es (records + 1) long
     more goes long is = record {
-      places = x ∷ so.places;
-      once = pairs_first x so.places (λ y c e. counted_other y ((so.each y).0 c).0 (sym e)) so.once;
+      versions = x ∷ so.versions;
+      once = pairs_first x so.versions (λ y c e. counted_other y ((so.each y).0 c).0 (sym e)) so.once;
       each = λ p. (
-        λ c. elim (contains_cases x so.places p c) [
+        λ c. elim (contains_cases x so.versions p c) [
           | inl e ↦ subst (λ (u : Version). (find u es ≡ None) × IsDropped cells safe u) e (none_rest, (there, goes))
           | inr later ↦ (let old = (so.each p).0 later in (passed p old.0, old.1))
         ],
         λ h. elim (cases_Bool (is_eq (version_cmp p x))) [
-          | inl e ↦ subst (Contains (x ∷ so.places)) (sym (same_of p e)) (contains_first x so.places)
-          | inr other ↦ contains_next x so.places p ((so.each p).1 (off p other ∙ h.0, h.1))
+          | inl e ↦ subst (Contains (x ∷ so.versions)) (sym (same_of p e)) (contains_first x so.versions)
+          | inr other ↦ contains_next x so.versions p ((so.each p).1 (off p other ∙ h.0, h.1))
         ],
       );
       counted = (let n = so.counted in omega (arith, n));
@@ -101,7 +101,7 @@ module _ (L : Key → Option Lock) (W : Version → Option WriteRec) (V : List �
     }
 
     pub count_long : keeps_at W V safe x ≡ false → commit_is is_long (writes_of (on W V safe x.0) (V x.0) x.1) ≡ true → Counted es (records + 1) (values + 1)
-    count_long goes long = more goes (values + 1) ((let n = so.long in omega (arith, n)) ∙ sym (ap (λ b. cond b (suc (long_values cells so.places)) (long_values cells so.places)) long))
+    count_long goes long = more goes (values + 1) ((let n = so.long in omega (arith, n)) ∙ sym (ap (λ b. cond b (suc (long_values cells so.versions)) (long_values cells so.versions)) long))
 
     pub count_short : keeps_at W V safe x ≡ false → commit_is is_long (writes_of (on W V safe x.0) (V x.0) x.1) ≡ false → Counted es (records + 1) values
-    count_short goes short = more goes values (so.long ∙ sym (ap (λ b. cond b (suc (long_values cells so.places)) (long_values cells so.places)) short))
+    count_short goes short = more goes values (so.long ∙ sym (ap (λ b. cond b (suc (long_values cells so.versions)) (long_values cells so.versions)) short))

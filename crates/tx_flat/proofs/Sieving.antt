@@ -17,7 +17,8 @@ use Rattle.tx_types.specs.declared.value.Value.{Value}
 use Rattle.tx_types.specs.declared.write.WriteRec.{WriteRec}
 use Rattle.tx_codec.specs.Keys.{encoded_key}
 use Rattle.tx_codec.proofs.Versions.{encoded_key-one}
-use Rattle.tx_plan.specs.cases.Collect.{keeps, commit_is, is_put, is_visible}
+use Rattle.tx_types.specs.Keys.{is_visible}
+use Rattle.tx_plan.specs.cases.Collect.{keeps, commit_is, is_put}
 use Rattle.tx_plan.proofs.Collects.{SeenFrom, keeps_above, keeps_put, drops_other, drops_followed}
 use Rattle.tx_cells.specs.Heads.{record_kind}
 use Rattle.tx_flat.specs.Sieves.{is_followed, is_kept, writes_of}
@@ -56,7 +57,7 @@ all_after : (u v : Version) (ks : List Version) → version_cmp u v ≡ Less →
 all_after u v [] less all = tt
 all_after u v (k ∷ ks) less all = (versions_total.trans u v k less all.0, all_after u v ks less all.1)
 
--- ---- a place among them: before all, or behind one
+-- ---- a slot among them: before all, or behind one
 
 abbrev pub Place : Type 0
 Place = Option Version
@@ -65,16 +66,16 @@ abbrev pub IsAfter : Place → Version → Type 0
 IsAfter None u = Unit {0}
 IsAfter (Some v) u = version_cmp v u ≡ Less
 
-after_on : (place : Place) (u w : Version) → IsAfter place u → version_cmp u w ≡ Less → IsAfter place w
+after_on : (slot : Place) (u w : Version) → IsAfter slot u → version_cmp u w ≡ Less → IsAfter slot w
 after_on None u w a less = tt
 after_on (Some v) u w a less = versions_total.trans v u w a less
 
 module _ (W : Version → Option WriteRec) where
-  -- these entries are all that are behind a place
-  pub record AreLeft (place : Place) (es : Entries) : Type 0 where
+  -- these entries are all that are behind a slot
+  pub record AreLeft (slot : Place) (es : Entries) : Type 0 where
     pub sorted : IsStrictlySortedBy version_cmp (keys_of es)
-    pub first : AllByRecursion (IsAfter place) (keys_of es)
-    pub left : (u : Version) → IsAfter place u → W u ≡ find u es
+    pub first : AllByRecursion (IsAfter slot) (keys_of es)
+    pub left : (u : Version) → IsAfter slot u → W u ≡ find u es
 
   all_there : (ks : List Version) → AllByRecursion (IsAfter None) ks
   all_there [] = tt
@@ -83,19 +84,19 @@ module _ (W : Version → Option WriteRec) where
   pub left_all : (es : Entries) → IsStrictlySortedBy version_cmp (keys_of es) → ((u : Version) → W u ≡ find u es) → AreLeft None es
   left_all es s is = record { sorted = s; first = all_there (keys_of es); left = λ u a. is u }
 
-  module _ (place : Place) (x : Version) (rec : WriteRec) (es : Entries) (are : AreLeft place ((x, rec) ∷ es)) where
+  module _ (slot : Place) (x : Version) (rec : WriteRec) (es : Entries) (are : AreLeft slot ((x, rec) ∷ es)) where
     pub first_is : W x ≡ Some rec
     first_is = are.left x are.first.0 ∙ find_first x (x, rec) es refl
 
-    -- nothing is between the place and the first
-    pub none_between : (u : Version) → IsAfter place u → version_cmp u x ≡ Less → W u ≡ None
+    -- nothing is between the slot and the first
+    pub none_between : (u : Version) → IsAfter slot u → version_cmp u x ≡ Less → W u ≡ None
     none_between u a less = are.left u a ∙ find_before u ((x, rec) ∷ es) (less, all_after u x (keys_of es) less (sorted_head version_cmp x (keys_of es) are.sorted))
 
     pub left_rest : AreLeft (Some x) es
     left_rest = record {
       sorted = sorted_tail version_cmp x (keys_of es) are.sorted;
       first = sorted_head version_cmp x (keys_of es) are.sorted;
-      left = λ u less. are.left u (after_on place x u are.first.0 less) ∙ find_later u (x, rec) es less;
+      left = λ u less. are.left u (after_on slot x u are.first.0 less) ∙ find_later u (x, rec) es less;
     }
 
 -- ---- what a pass knows
@@ -118,9 +119,9 @@ module _ (W : Version → Option WriteRec) (V : List ℕ → ℕ → Option Valu
   KnowsAt s (Some v) = (s.key ≡ encoded_key v.0) × (s.followed ≡ true → SeenFrom (writes_of (on v.0) (V v.0)) v.1 safe)
       × ((q : ℕ) → v.1 ≤ q → q ≤ safe → commit_is is_visible (writes_of (on v.0) (V v.0) q) ≡ true → s.followed ≡ true)
 
-  pub record Knows (s : Sieve) (place : Place) : Type 0 where
+  pub record Knows (s : Sieve) (slot : Place) : Type 0 where
     pub safe_is : s.safe ≡ safe
-    pub at : KnowsAt s place
+    pub at : KnowsAt s slot
 
   pub knows_none : (s : Sieve) → s.safe ≡ safe → s.followed ≡ false → Knows s None
   knows_none s is f = record { safe_is = is; at = f }
@@ -131,16 +132,16 @@ module _ (W : Version → Option WriteRec) (V : List ℕ → ℕ → Option Valu
     pub key : t.key ≡ encoded_key x.0
     pub same : t.safe ≡ s.safe
 
-  module _ (s : Sieve) (place : Place) (x : Version) (rec : WriteRec) (es : Entries) (knows : Knows s place) (are : AreLeft W place ((x, rec) ∷ es)) where
+  module _ (s : Sieve) (slot : Place) (x : Version) (rec : WriteRec) (es : Entries) (knows : Knows s slot) (are : AreLeft W slot ((x, rec) ∷ es)) where
     is : on x.0 x.1 ≡ Some rec
-    is = first_is W place x rec es are
+    is = first_is W slot x rec es are
 
     keys_same : (a b : List ℕ) → bytes_eq a b ≡ true → a ≡ b
     keys_same a b e = (bytes_eq-Decides a b).0 e
 
     -- a record that is followed has something visible above it
     seen_above : is_followed s x ≡ true → SeenFrom (writes_of (on x.0) (V x.0)) (x.1 + 1) safe
-    seen_above e = go place knows.at are.first.0
+    seen_above e = go slot knows.at are.first.0
       where
         both : (s.followed ≡ true) × (bytes_eq s.key (encoded_key x.0) ≡ true)
         both = and_parts s.followed (bytes_eq s.key (encoded_key x.0)) e
@@ -155,7 +156,7 @@ module _ (W : Version → Option WriteRec) (V : List ℕ → ℕ → Option Valu
 
     -- where something visible is above it, it is followed
     followed_by : (q : ℕ) → x.1 < q → q ≤ safe → visible x.0 q ≡ true → is_followed s x ≡ true
-    followed_by q lt le seen = go place knows.at are.first.0 (λ a. none_between W place x rec es are (x.0, q) a (less_newer x.0 q x.1 lt))
+    followed_by q lt le seen = go slot knows.at are.first.0 (λ a. none_between W slot x rec es are (x.0, q) a (less_newer x.0 q x.1 lt))
       where
         there : on x.0 q ≡ None → ⊥
         there none = (let h = seen_there (on x.0) (V x.0) q seen in let some = h.1 in cc (none, some))

@@ -1,6 +1,6 @@
 pub mod Flats
 pub mod NextKeys
 pub mod Sieves
-pub mod Places
+pub mod Positions
 pub mod Ceilings
 pub mod Numbered

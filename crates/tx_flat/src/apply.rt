@@ -27,8 +27,12 @@ fn leave(
     start: Ts,
     left: Left,
 ) -> Result<(), Fault>
-    ensures ok { OnOk result ((q : ℕ) → tree.get version_cmp writes.new (key.now, q) ≡ after_left (λ c. tree.get version_cmp writes.old (key.now, c)) start left q) }
-    ensures others { (k : Key) → k ≢ key.now → (q : ℕ) → tree.get version_cmp writes.new (k, q) ≡ tree.get version_cmp writes.old (k, q) }
+    ensures ok { OnOk result ((q : ℕ) → tree.get version_cmp writes.new (
+      key.now,
+      q,
+    ) ≡ after_left (λ c. tree.get version_cmp writes.old (key.now, c)) start left q) }
+    ensures others { (k : Key) → k ≢ key.now → (q : ℕ)
+        → tree.get version_cmp writes.new (k, q) ≡ tree.get version_cmp writes.old (k, q) }
     ensures same { OnErr result (writes.new.entries ≡ writes.old.entries) }
     ensures err { IfErr result (λ e. e ≡ Fault.OutOfMemory) }
 {
@@ -58,7 +62,8 @@ impl FlatCells {
     // Gives the lock another time to live.
     fn set_ttl(&mut self, alloc: Global, key: &Key, ttl: u32) -> Result<(), Fault>
         requires { Applies (cells_of (flat_content self.old key.now)) (change.Ttl ttl) }
-        ensures content { OnOk result (OnlyOn key.now (after (flat_content self.old key.now) (change.Ttl ttl)) (flat_content self.old) (flat_content self.new)) }
+        ensures content { OnOk result (OnlyOn key.now (after (flat_content self.old key.now) (change.Ttl ttl))
+            (flat_content self.old) (flat_content self.new)) }
         ensures same { OnErr result (flat_content self.new ≡ flat_content self.old) }
         ensures numbers { self.new.numbers ≡ self.old.numbers }
         ensures err { IfErr result (λ e. e ≡ Fault.OutOfMemory) }
@@ -75,7 +80,8 @@ impl FlatCells {
     // Gives the lock another minimum.
     fn set_minimum(&mut self, alloc: Global, key: &Key, min: Ts) -> Result<(), Fault>
         requires { Applies (cells_of (flat_content self.old key.now)) (change.Minimum min) }
-        ensures content { OnOk result (OnlyOn key.now (after (flat_content self.old key.now) (change.Minimum min)) (flat_content self.old) (flat_content self.new)) }
+        ensures content { OnOk result (OnlyOn key.now (after (flat_content self.old key.now) (change.Minimum min))
+            (flat_content self.old) (flat_content self.new)) }
         ensures same { OnErr result (flat_content self.new ≡ flat_content self.old) }
         ensures numbers { self.new.numbers ≡ self.old.numbers }
         ensures err { IfErr result (λ e. e ≡ Fault.OutOfMemory) }
@@ -98,7 +104,9 @@ impl FlatCells {
         overlapped_rollback: bool,
     ) -> Result<(), Fault>
         requires { Applies (cells_of (flat_content self.old key.now)) (change.Commit commit overlapped_rollback) }
-        ensures content { OnOk result (OnlyOn key.now (after (flat_content self.old key.now) (change.Commit commit overlapped_rollback)) (flat_content self.old) (flat_content self.new)) }
+        ensures content { OnOk result (OnlyOn key.now
+            (after (flat_content self.old key.now) (change.Commit commit overlapped_rollback)) (flat_content self.old)
+            (flat_content self.new)) }
         ensures same { OnErr result (flat_content self.new ≡ flat_content self.old) }
         ensures numbers { self.new.numbers ≡ self.old.numbers }
         ensures err { IfErr result (λ e. e ≡ Fault.OutOfMemory) }
@@ -127,7 +135,9 @@ impl FlatCells {
         left: Left,
     ) -> Result<(), Fault>
         requires { Applies (cells_of (flat_content self.old key.now)) (change.RollBack start removes_lock left) }
-        ensures content { OnOk result (OnlyOn key.now (after (flat_content self.old key.now) (change.RollBack start removes_lock left)) (flat_content self.old) (flat_content self.new)) }
+        ensures content { OnOk result (OnlyOn key.now
+            (after (flat_content self.old key.now) (change.RollBack start removes_lock left)) (flat_content self.old)
+            (flat_content self.new)) }
         ensures same { OnErr result (flat_content self.new ≡ flat_content self.old) }
         ensures numbers { self.new.numbers ≡ self.old.numbers }
         ensures err { IfErr result (λ e. e ≡ Fault.OutOfMemory) }
@@ -146,16 +156,18 @@ impl FlatCells {
         Ok(())
     }
 
-    /// Makes a change on a key.
-    pub(crate) fn apply_to(
+    /// Makes a change on a key, and notes no number.
+    pub(crate) fn apply_unnoted(
         &mut self,
         alloc: Global,
         key: &Key,
         change: KeyChange,
     ) -> Result<(), Fault>
         requires { Applies (cells_of (flat_content self.old key.now)) change }
-        ensures content { OnOk result (OnlyOn key.now (after (flat_content self.old key.now) change) (flat_content self.old) (flat_content self.new)) }
-        ensures cells { OnOk result (cells_of (flat_content self.new key.now) ≡ changed (cells_of (flat_content self.old key.now)) change) }
+        ensures content { OnOk result (OnlyOn key.now (after (flat_content self.old key.now) change)
+            (flat_content self.old) (flat_content self.new)) }
+        ensures cells { OnOk result (cells_of (flat_content self.new key.now)
+            ≡ changed (cells_of (flat_content self.old key.now)) change) }
         ensures same { OnErr result (flat_content self.new ≡ flat_content self.old) }
         ensures numbers { self.new.numbers ≡ self.old.numbers }
         ensures err { IfErr result (λ e. e ≡ Fault.OutOfMemory) }

@@ -1,28 +1,28 @@
 //! A timestamp for each key that no write record of it is above.
 ghost use Rattle.std.specs.Prelude.{◌≡◌, ◌<◌, ◌≤◌, List, ℕ};
-ghost use Rattle.tx_flat.specs.Ceilings.{place_of, ceiling_of};
-ghost use Rattle.tx_flat.specs.declared.ceilings.TheConstants.{PLACES};
+ghost use Rattle.tx_flat.specs.Ceilings.{slot_of, ceiling_of};
+ghost use Rattle.tx_flat.specs.declared.ceilings.TheConstants.{SLOTS};
 
 use std::marker::Model;
 use tx_types::{Key, Ts};
 
-/// How many timestamps are kept: keys share one where their last two bytes lead to one place.
-pub(crate) const PLACES: usize = 64;
+/// How many timestamps are kept: keys share one where their last two bytes lead to one slot.
+pub(crate) const SLOTS: usize = 64;
 
-/// The place of a key, by its last two bytes, in which numbered keys differ.
-pub(crate) fn place(key: &Key) -> usize
-    ensures place { result ≡ place_of key.now }
-    ensures within { result < PLACES }
+/// The slot of a key, by its last two bytes, in which numbered keys differ.
+pub(crate) fn slot(key: &Key) -> usize
+    ensures slot { result ≡ slot_of key.now }
+    ensures within { result < SLOTS }
 {
     let bytes = key.as_bytes();
     let last = bytes.len() - 1;
-    (bytes[last] as usize + 10 * bytes[last.saturating_sub(1)] as usize) % PLACES
+    (bytes[last] as usize + 10 * bytes[last.saturating_sub(1)] as usize) % SLOTS
 }
 
 /// A ceiling for each key. It only rises.
 #[derive(Drop)]
 pub(crate) struct Ceilings {
-    marks: [Ts; PLACES],
+    marks: [Ts; SLOTS],
 }
 
 impl Model for Ceilings {
@@ -35,7 +35,7 @@ impl Ceilings {
     /// All at 0.
     pub fn new() -> Ceilings {
         Ceilings {
-            marks: [Ts::ZERO; PLACES],
+            marks: [Ts::ZERO; SLOTS],
         }
     }
 
@@ -43,7 +43,7 @@ impl Ceilings {
     pub fn of(&self, key: &Key) -> Ts
         ensures { result ≡ ceiling_of self.now key.now }
     {
-        self.marks[place(key)]
+        self.marks[slot(key)]
     }
 
     /// A record of this key is put at a timestamp.
@@ -51,9 +51,9 @@ impl Ceilings {
         ensures kept { (k : List ℕ) → ceiling_of self.old k ≤ ceiling_of self.new k }
         ensures above { at ≤ ceiling_of self.new key.now }
     {
-        let place = place(key);
-        if self.marks[place] < at {
-            self.marks[place] = at;
+        let slot = slot(key);
+        if self.marks[slot] < at {
+            self.marks[slot] = at;
         }
     }
 }

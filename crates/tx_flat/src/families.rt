@@ -1,84 +1,19 @@
-//! Flat maps as the families of a region.
+//! Flat maps as the families of a region. What is seen of them stands in `sees`, what changes them
+//! in `changes`.
 use crate::FlatCells;
 use std::alloc::Global;
-use tx_cells::{Families, Fresh, KeyCopy};
-use tx_plan::{Answer, Dropped, Infos, KeyChange, NewLock, Prewrite, ReadView, Scan, TxnView};
-use tx_types::{Fault, Key, LockInfo, Ts};
+use tx_cells::{Families, Fresh, Holds};
 
-impl Families for FlatCells {
+impl Holds for FlatCells {
     ghost use Rattle.tx_flat.specs.Flats.{flat_content};
     ghost use Rattle.tx_flat.specs.Numbered.{flat_numbers};
 
     ghost content = { flat_content };
 
     ghost numbers = { flat_numbers };
-
-    fn view(&self, alloc: Global, key: &Key, start: Ts, commit: Ts) -> Result<TxnView, Fault> {
-        self.view_of(alloc, key, start, commit)
-    }
-
-    fn read(&self, alloc: Global, key: &Key, at: Ts) -> Result<ReadView, Fault> {
-        self.read_of(alloc, key, at)
-    }
-
-    fn lock_info(&self, alloc: Global, key: &Key) -> Result<Option<LockInfo>, Fault> {
-        self.lock_info_of(alloc, key)
-    }
-
-    fn scan(&self, alloc: Global, body: &Scan) -> Result<Answer, Fault> {
-        self.scan_of(alloc, body)
-    }
-
-    fn locks_below(&self, alloc: Global, safe: Ts) -> Result<Infos, Fault> {
-        self.infos_of(alloc, safe)
-    }
-
-    fn first_below(&self, alloc: Global, safe: Ts) -> Result<Option<LockInfo>, Fault> {
-        self.first_of(alloc, safe)
-    }
-
-    fn count_below(&self, alloc: Global, safe: Ts) -> Result<Dropped, Fault> {
-        let _ = alloc;
-        self.count_of(safe)
-    }
-
-    fn cells(&self, alloc: Global, key: &Key) -> Result<KeyCopy, Fault> {
-        self.copy_of(alloc, key)
-    }
-
-    fn number(&self, alloc: Global, key: &Key) -> Result<u64, Fault> {
-        self.number_of(alloc, key)
-    }
-
-    fn forget_numbers(&mut self, alloc: Global) {
-        let _ = alloc;
-        self.numbers.clear();
-    }
-
-    fn put_lock(
-        &mut self,
-        alloc: Global,
-        body: &Prewrite,
-        new: NewLock,
-        number: u64,
-    ) -> Result<(), Fault> {
-        self.put_lock_noted(alloc, body, new, number)
-    }
-
-    fn apply(
-        &mut self,
-        alloc: Global,
-        key: &Key,
-        change: KeyChange,
-        number: u64,
-    ) -> Result<(), Fault> {
-        self.apply_noted(alloc, key, change, number)
-    }
-
-    fn drop_below(&mut self, safe: Ts) {
-        self.drop_of(safe);
-    }
 }
+
+impl Families for FlatCells {}
 
 impl Fresh for FlatCells {
     fn fresh(alloc: Global) -> FlatCells {

@@ -10,7 +10,7 @@ ghost use Rattle.tx_flat.specs.Ceilings.{ceiling_of};
 ghost use Rattle.tx_cells.specs.Contents.{IsWhole};
 
 use ceilings::Ceilings;
-use numbers::Numbers;
+use numbers::KeyNumbers;
 use std::alloc::Global;
 use std::collections::BTreeMap;
 use tx_encoded::{KeyBytes, LockBytes, VersionBytes, WriteBytes};
@@ -19,17 +19,16 @@ use tx_types::Value;
 mod apply;
 mod ceilings;
 mod cells;
-mod count_below;
+mod changes;
 mod drop_below;
 mod families;
 mod front;
-mod lock_info;
 mod next_key;
 mod numbers;
 mod put_lock;
 mod read;
-mod scan;
 mod searches;
+mod sees;
 mod sieve;
 mod view;
 mod walks;
@@ -43,9 +42,14 @@ pub struct FlatCells {
     writes: BTreeMap<VersionBytes, WriteBytes>,
     values: BTreeMap<VersionBytes, Value>,
     ceilings: Ceilings,
-    numbers: Numbers,
-    ghost whole: { ∥ ((key : List ℕ) → IsWhole (record { lock = tree.get (slice_cmp nat_cmp) locks key; write = λ c. tree.get version_cmp writes (key, c); value = λ t. tree.get version_cmp values (key, t) })) ∥₁ },
-    ghost bounded: { ∥ ((key : List ℕ) (q : ℕ) → ceiling_of ceilings key < q → tree.get version_cmp writes (key, q) ≡ None) ∥₁ },
+    numbers: KeyNumbers,
+    ghost whole: { ∥ ((key : List ℕ) → IsWhole (record {
+      lock = tree.get (slice_cmp nat_cmp) locks key;
+      write = λ c. tree.get version_cmp writes (key, c);
+      value = λ t. tree.get version_cmp values (key, t);
+    })) ∥₁ },
+    ghost bounded: { ∥ ((key : List ℕ) (q : ℕ) → ceiling_of ceilings key < q
+        → tree.get version_cmp writes (key, q) ≡ None) ∥₁ },
 }
 
 impl FlatCells {

@@ -5,7 +5,7 @@ ghost use Rattle.std.specs.Map.{keys_of};
 ghost use Rattle.std.specs.Map.Iter.{deref_pair};
 ghost use Rattle.tx_types.specs.Keys.{key_lt, key_le};
 ghost use Rattle.tx_encoded.specs.Spelt.{version_cmp};
-ghost use Rattle.tx_flat.specs.Places.{coming, writes_where};
+ghost use Rattle.tx_flat.specs.Positions.{coming, writes_where};
 
 use std::alloc::{AllocError, Global};
 use std::collections::BTreeMap;

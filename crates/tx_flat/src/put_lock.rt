@@ -13,17 +13,19 @@ use tx_types::Fault;
 impl FlatCells {
     ghost use Rattle.tx_flat.specs.Flats.{flat_content};
 
-    /// Puts the lock that a prewrite asks for. A long value goes first, and comes out again where
-    /// there is no room for the lock.
-    pub(crate) fn put_lock_of(
+    /// Puts the lock that a prewrite asks for, and notes no number. A long value goes first, and
+    /// comes out again where there is no room for the lock.
+    pub(crate) fn put_unnoted(
         &mut self,
         alloc: Global,
         body: &Prewrite,
         new: NewLock,
     ) -> Result<(), Fault>
         requires { CanPut (cells_of (flat_content self.old body.now.key)) body.now new }
-        ensures content { OnOk result (OnlyOn body.now.key (put_on (flat_content self.old body.now.key) body.now new) (flat_content self.old) (flat_content self.new)) }
-        ensures cells { OnOk result (cells_of (flat_content self.new body.now.key) ≡ after_put (cells_of (flat_content self.old body.now.key)) body.now (Some new)) }
+        ensures content { OnOk result (OnlyOn body.now.key (put_on (flat_content self.old body.now.key) body.now new)
+            (flat_content self.old) (flat_content self.new)) }
+        ensures cells { OnOk result (cells_of (flat_content self.new body.now.key)
+            ≡ after_put (cells_of (flat_content self.old body.now.key)) body.now (Some new)) }
         ensures same { OnErr result (flat_content self.new ≡ flat_content self.old) }
         ensures numbers { self.new.numbers ≡ self.old.numbers }
         ensures err { IfErr result (λ e. e ≡ Fault.OutOfMemory) }

@@ -1,16 +1,14 @@
 //! What a read sees of its key.
 ghost use Rattle.std.specs.Prelude.{◌≡◌, ◌≤◌, ℕ, Some, IsSome, IfOk, IfErr};
 ghost use Rattle.tx_plan.specs.Reads.{Reads};
-ghost use Rattle.tx_plan.specs.Views.{ShowsRead};
 ghost use Rattle.tx_cells.specs.Contents.{cells_of};
 ghost use Rattle.tx_cells.specs.Histories.{IsSeen};
 
 use crate::FlatCells;
-use crate::searches::{FlatHistory, head_on, newest_seen};
+use crate::searches::{FlatHistory, newest_seen};
 use std::alloc::Global;
-use tx_cells::{Seen, seen_at};
+use tx_cells::{SeenRecord, seen_at};
 use tx_encoded::{VersionBytes, WriteBytes, seen_in};
-use tx_plan::ReadView;
 use tx_types::{Fault, Key, Ts, Value};
 
 impl FlatCells {
@@ -24,7 +22,7 @@ impl FlatCells {
         key: &Key,
         bytes: &WriteBytes,
         at: Ts,
-        seen: Seen,
+        seen: SeenRecord,
     ) -> Result<Option<Value>, Fault>
         requires seen { IsSeen (flat_content self.now key.now).write at seen.commit seen.start seen.kind }
         requires stands { (flat_content self.now key.now).write seen.commit ≡ Some bytes.now }
@@ -122,10 +120,10 @@ impl FlatCells {
         }
     }
 
-    // The value that a read at this version's timestamp sees of its key. Mostly the key's
-    // ceiling is the timestamp of its newest record, which is then found without a search of the
-    // records around it.
-    fn value_seen(
+    /// The value that a read at this version's timestamp sees of its key. Mostly the key's
+    /// ceiling is the timestamp of its newest record, which is then found without a search of the
+    /// records around it.
+    pub(crate) fn value_seen(
         &self,
         alloc: Global,
         key: &Key,
@@ -145,16 +143,5 @@ impl FlatCells {
             version.set_at(at);
         }
         self.value_searched(alloc, key, version, at)
-    }
-
-    /// What a read at this timestamp sees of its key.
-    pub(crate) fn read_of(&self, alloc: Global, key: &Key, at: Ts) -> Result<ReadView, Fault>
-        ensures shows { IfOk result (λ view. ShowsRead (cells_of (flat_content self.now key.now)) at view) }
-        ensures err { IfErr result (λ e. e ≡ Fault.OutOfMemory) }
-    {
-        let version = VersionBytes::new(alloc, key, at)?;
-        let lock = head_on(&self.locks, version.spelt());
-        let value = self.value_seen(alloc, key, version, at)?;
-        Ok(ReadView { lock, value })
     }
 }

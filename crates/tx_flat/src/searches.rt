@@ -9,7 +9,7 @@ ghost use Rattle.tx_cells.specs.Heads.{write_head, lock_head};
 ghost use Rattle.tx_cells.specs.Histories.{IsSeen, AreFitting};
 
 use std::collections::BTreeMap;
-use tx_cells::{History, Seen};
+use tx_cells::{History, SeenRecord};
 use tx_encoded::{KeyBytes, LockBytes, VersionBytes, WriteBytes, head_of, lock_head_of, seen_in};
 use tx_plan::{LockHead, RecordHead};
 use tx_types::Ts;
@@ -42,8 +42,10 @@ pub(crate) fn record_upto<'a>(
     writes: &'a BTreeMap<VersionBytes, WriteBytes>,
     bound: &VersionBytes,
 ) -> Option<(Ts, &'a WriteBytes)>
-    ensures found { IfSome result (λ x. (x.0 ≤ bound.now.1) × (tree.get version_cmp writes.now (bound.now.0, x.0) ≡ Some x.1.now)) }
-    ensures nearest { IfSome result (λ x. (q : ℕ) → q ≤ bound.now.1 → IsSome (tree.get version_cmp writes.now (bound.now.0, q)) → q ≤ x.0) }
+    ensures found { IfSome result (λ x. (x.0 ≤ bound.now.1)
+        × (tree.get version_cmp writes.now (bound.now.0, x.0) ≡ Some x.1.now)) }
+    ensures nearest { IfSome result (λ x. (q : ℕ) → q ≤ bound.now.1
+        → IsSome (tree.get version_cmp writes.now (bound.now.0, q)) → q ≤ x.0) }
     ensures none { IfNone result ((q : ℕ) → q ≤ bound.now.1 → tree.get version_cmp writes.now (bound.now.0, q) ≡ None) }
 {
     let (version, bytes) = writes.range(bound..).next()?;
@@ -77,8 +79,10 @@ fn head_upto(
     writes: &BTreeMap<VersionBytes, WriteBytes>,
     bound: &VersionBytes,
 ) -> Option<(Ts, RecordHead)>
-    ensures found { IfSome result (λ x. (x.0 ≤ bound.now.1) × (option_map write_head (tree.get version_cmp writes.now (bound.now.0, x.0)) ≡ Some x.1)) }
-    ensures nearest { IfSome result (λ x. (q : ℕ) → q ≤ bound.now.1 → IsSome (tree.get version_cmp writes.now (bound.now.0, q)) → q ≤ x.0) }
+    ensures found { IfSome result (λ x. (x.0 ≤ bound.now.1)
+        × (option_map write_head (tree.get version_cmp writes.now (bound.now.0, x.0)) ≡ Some x.1)) }
+    ensures nearest { IfSome result (λ x. (q : ℕ) → q ≤ bound.now.1
+        → IsSome (tree.get version_cmp writes.now (bound.now.0, q)) → q ≤ x.0) }
     ensures none { IfNone result ((q : ℕ) → q ≤ bound.now.1 → tree.get version_cmp writes.now (bound.now.0, q) ≡ None) }
 {
     let Some((at, bytes)) = record_upto(writes, bound) else {
@@ -92,8 +96,11 @@ fn head_upto(
 pub(crate) fn newest_seen<'a>(
     writes: &'a BTreeMap<VersionBytes, WriteBytes>,
     bound: &VersionBytes,
-) -> Option<(Seen, &'a WriteBytes)>
-    ensures seen { IfSome result (λ x. IsSeen (λ q. tree.get version_cmp writes.now (bound.now.0, q)) bound.now.1 x.0.commit x.0.start x.0.kind) }
+) -> Option<(SeenRecord, &'a WriteBytes)>
+    ensures seen { IfSome result (λ x. IsSeen (λ q. tree.get version_cmp writes.now (
+      bound.now.0,
+      q,
+    )) bound.now.1 x.0.commit x.0.start x.0.kind) }
     ensures stands { IfSome result (λ x. tree.get version_cmp writes.now (bound.now.0, x.0.commit) ≡ Some x.1.now) }
 {
     let Some((commit, bytes)) = record_upto(writes, bound) else {

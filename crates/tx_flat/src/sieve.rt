@@ -33,7 +33,8 @@ impl Sieve {
     /// Whether collection keeps the next record.
     pub fn keeps(&mut self, version: &VersionBytes, rec: &WriteBytes) -> bool
         ensures says { result ≡ is_kept self.old version.now rec.now }
-        ensures followed { self.new.followed ≡ (is_followed self.old version.now || (record_kind rec.now).is_seen && not (nat_lt self.old.safe version.now.1)) }
+        ensures followed { self.new.followed ≡ (is_followed self.old version.now || (record_kind rec.now).is_seen
+            && not (nat_lt self.old.safe version.now.1)) }
         ensures key { self.new.key ≡ encoded_key version.now.0 }
         ensures safe { self.new.safe ≡ self.old.safe }
     {

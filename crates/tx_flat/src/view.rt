@@ -1,16 +1,15 @@
 //! What a request sees of its key.
-ghost use Rattle.std.specs.Prelude.{◌≡◌, ◌<◌, ◌≤◌, ℕ, None, IsTrue, IfOk, IfErr, option_map};
+ghost use Rattle.std.specs.Prelude.{◌≡◌, ◌<◌, ◌≤◌, ℕ, None, IsTrue, option_map};
 ghost use Rattle.tx_plan.specs.Views.{Shows};
 ghost use Rattle.tx_cells.specs.Contents.{cells_of};
 ghost use Rattle.tx_cells.specs.Heads.{lock_head};
 
 use crate::FlatCells;
-use crate::searches::{FlatHistory, are_past, head_at, head_on};
-use std::alloc::Global;
+use crate::searches::{FlatHistory, are_past, head_at};
 use tx_cells::{Above, commits_above};
 use tx_encoded::VersionBytes;
 use tx_plan::{LockHead, TxnView};
-use tx_types::{Fault, Key, Ts};
+use tx_types::{Key, Ts};
 
 // Whether a ceiling is below a start and a commit.
 fn is_older(ceiling: Ts, start: Ts, commit: Ts) -> bool
@@ -23,9 +22,9 @@ fn is_older(ceiling: Ts, start: Ts, commit: Ts) -> bool
 impl FlatCells {
     ghost use Rattle.tx_flat.specs.Flats.{flat_content};
 
-    // What a request sees of this version's key, whose lock has this head.
+    /// What a request sees of this version's key, whose lock has this head.
     #[inline(never)]
-    fn view_by(
+    pub(crate) fn view_by(
         &self,
         mut version: VersionBytes,
         lock: Option<LockHead>,
@@ -53,9 +52,9 @@ impl FlatCells {
         }
     }
 
-    // Whether each record of a key is older than a start and a commit, by the greatest version that
-    // it may have. Mostly its ceiling tells, and else one search.
-    fn is_past(&self, key: &Key, greatest: &VersionBytes, start: Ts, commit: Ts) -> bool
+    /// Whether each record of a key is older than a start and a commit, by the greatest version
+    /// that it may have. Mostly its ceiling tells, and else one search.
+    pub(crate) fn is_past(&self, key: &Key, greatest: &VersionBytes, start: Ts, commit: Ts) -> bool
         requires { greatest.now ≡ (key.now, u64.MAX) }
         ensures start { IsTrue result → (q : ℕ) → start ≤ q → (flat_content self.now key.now).write q ≡ None }
         ensures commit { IsTrue result → (q : ℕ) → commit ≤ q → (flat_content self.now key.now).write q ≡ None }
@@ -64,31 +63,5 @@ impl FlatCells {
             return true;
         }
         are_past(&self.writes, greatest, start, commit)
-    }
-
-    /// What a request of the transaction that started then sees of its key, and of the record at
-    /// `commit`. Mostly all records are older.
-    pub(crate) fn view_of(
-        &self,
-        alloc: Global,
-        key: &Key,
-        start: Ts,
-        commit: Ts,
-    ) -> Result<TxnView, Fault>
-        ensures shows { IfOk result (λ view. Shows (cells_of (flat_content self.now key.now)) start commit view) }
-        ensures err { IfErr result (λ e. e ≡ Fault.OutOfMemory) }
-    {
-        let version = VersionBytes::new(alloc, key, Ts::new(u64::MAX))?;
-        let lock = head_on(&self.locks, version.spelt());
-        if self.is_past(key, &version, start, commit) {
-            return Ok(TxnView {
-                lock,
-                at_start: None,
-                at_commit: None,
-                own_commit: None,
-                newest_above: None,
-            });
-        }
-        Ok(self.view_by(version, lock, start, commit))
     }
 }

@@ -7,12 +7,13 @@ ghost use Rattle.tx_types.specs.Keys.{key_le};
 ghost use Rattle.tx_plan.specs.Walks.{IsWalk, IsLockWalk};
 ghost use Rattle.tx_cells.specs.Heads.{lock_head};
 ghost use Rattle.tx_flat.specs.Flats.{fronts_of};
-ghost use Rattle.tx_flat.specs.Places.{coming, first_of, next_key, comes_before, lock_on, locks_behind, IsPlace, Passes};
+ghost use Rattle.tx_flat.specs.Positions.{coming, first_of, next_key, comes_before, lock_on, locks_behind, IsPosition, Passes};
 
 use crate::FlatCells;
 use crate::next_key::{Record, next_front};
 use std::alloc::Global;
 use std::collections::btree_map::{Iter, Range};
+use tx_cells::Sees;
 use tx_encoded::{KeyBytes, LockBytes, VersionBytes, WriteBytes, lock_head_of};
 use tx_plan::{LockHead, LockWalk, ReadView, ReadWalk};
 use tx_types::{Fault, Key, LockInfo, Ts};
@@ -29,7 +30,7 @@ pub(crate) struct FlatReads<'a> {
     locks: Range<'a, KeyBytes, LockBytes>,
     write: Option<Record<'a>>,
     writes: Range<'a, VersionBytes, WriteBytes>,
-    ghost place: { IsPlace cells.now (coming lock locks) (coming write writes) } by { Prim.hlevel props },
+    ghost slot: { IsPosition cells.now (coming lock locks) (coming write writes) } by { Prim.hlevel props },
 }
 
 /// Whether the next lock's key lies below the next record's.
@@ -69,10 +70,13 @@ impl<'a> FlatReads<'a> {
         held: Held<'a>,
         write: Option<Record<'a>>,
     ) -> Result<(Key, ReadView), Fault>
-        requires place { IsPlace self.old.cells.now (deref_pair held ∷ self.old.locks) (coming write self.old.writes) }
+        requires slot { IsPosition self.old.cells.now (deref_pair held
+            ∷ self.old.locks) (coming write self.old.writes) }
         requires first { comes_before held.0.now (first_of (fronts_of (coming write self.old.writes))) ≡ true }
         ensures key { IfOk result (λ x. x.0 ≡ held.entry.0.now) }
-        ensures passes { IfOk result (λ x. (at : ℕ) → Passes self.old.cells.now at held.entry.0.now x.1 (coming self.new.lock self.new.locks) (coming self.new.write self.new.writes)) }
+        ensures passes { IfOk result (λ x. (at : ℕ)
+            → Passes self.old.cells.now at held.entry.0.now x.1 (coming self.new.lock self.new.locks)
+            (coming self.new.write self.new.writes)) }
         ensures same { self.new.cells.now ≡ self.old.cells.now }
         ensures err { IfErr result (λ e. e ≡ Fault.OutOfMemory) }
     {
@@ -95,10 +99,13 @@ impl<'a> FlatReads<'a> {
         newest: Record<'a>,
     ) -> Result<(Key, ReadView), Fault>
         requires ended { (self.old.lock ≡ None) × (self.old.write ≡ None) }
-        requires place { IsPlace self.old.cells.now (coming lock self.old.locks) (deref_pair newest ∷ self.old.writes) }
-        requires first { next_key (coming lock self.old.locks) (deref_pair newest ∷ self.old.writes) ≡ Some newest.0.now.0 }
+        requires slot { IsPosition self.old.cells.now (coming lock self.old.locks) (deref_pair newest
+            ∷ self.old.writes) }
+        requires first { next_key (coming lock self.old.locks) (deref_pair newest ∷ self.old.writes)
+            ≡ Some newest.0.now.0 }
         ensures key { IfOk result (λ x. x.0 ≡ newest.entry.0.now.0) }
-        ensures passes { IfOk result (λ x. Passes self.old.cells.now at newest.entry.0.now.0 x.1 (coming self.new.lock self.new.locks) (coming self.new.write self.new.writes)) }
+        ensures passes { IfOk result (λ x. Passes self.old.cells.now at newest.entry.0.now.0 x.1
+            (coming self.new.lock self.new.locks) (coming self.new.write self.new.writes)) }
         ensures same { self.new.cells.now ≡ self.old.cells.now }
         ensures err { IfErr result (λ e. e ≡ Fault.OutOfMemory) }
     {
@@ -137,7 +144,7 @@ impl<'a> ReadWalk for FlatReads<'a> {
     }
 
     fn lock_info(&self, alloc: Global, key: &Key) -> Result<Option<LockInfo>, Fault> {
-        self.cells.lock_info_of(alloc, key)
+        self.cells.lock_info(alloc, key)
     }
 }
 
@@ -164,7 +171,7 @@ impl<'a> LockWalk for FlatLocks<'a> {
     }
 
     fn lock_info(&self, alloc: Global, key: &Key) -> Result<Option<LockInfo>, Fault> {
-        self.cells.lock_info_of(alloc, key)
+        self.cells.lock_info(alloc, key)
     }
 }
 
@@ -176,7 +183,8 @@ impl FlatCells {
     /// records find its start.
     pub(crate) fn reads_from(&self, alloc: Global, from: &Key) -> Result<FlatReads<'_>, Fault>
         ensures same { IfOk result (λ walk. walk.cells.now ≡ self.now) }
-        ensures walk { IfOk result (λ walk. IsWalk (cells_in (flat_content self.now)) (key_le from.now) (rows_from self.now (next_key (coming walk.lock walk.locks) (coming walk.write walk.writes)))) }
+        ensures walk { IfOk result (λ walk. IsWalk (cells_in (flat_content self.now)) (key_le from.now)
+            (rows_from self.now (next_key (coming walk.lock walk.locks) (coming walk.write walk.writes)))) }
         ensures err { IfErr result (λ e. e ≡ Fault.OutOfMemory) }
     {
         let key = KeyBytes::new(alloc, from)?;
@@ -197,7 +205,8 @@ impl FlatCells {
     /// A walk over all locks.
     pub(crate) fn walk_locks(&self) -> FlatLocks<'_>
         ensures same { result.cells.now ≡ self.now }
-        ensures walk { IsLockWalk (cells_in (flat_content self.now)) (lock_rows_in (flat_content self.now) result.locks) }
+        ensures walk { IsLockWalk (cells_in (flat_content self.now))
+            (lock_rows_in (flat_content self.now) result.locks) }
     {
         FlatLocks {
             cells: self,

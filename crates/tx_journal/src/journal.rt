@@ -6,7 +6,7 @@ ghost use Rattle.tx_journal.specs.Known.{known};
 ghost use Rattle.tx_types.specs.Keys.{AreRising};
 
 use crate::seat::Seat;
-use crate::view::{Deal, Home, Law, Layout, Naming, Token, View, WORDS};
+use crate::view::{Deal, Home, JournalId, Law, Layout, Token, View, WORDS};
 use atomic_table::Table;
 use std::alloc::Global;
 use std::marker::{Model, PhantomData};
@@ -31,9 +31,14 @@ impl Model for Opened {
 
     ghost Value = { Opening };
 
-    ghost view = { λ o. record { table = (arc_value o.words).shared.table_id; bounds = (arc_value o.bounds).items; seats = o.seats } };
+    ghost view = { λ o. record {
+      table = (arc_value o.words).shared.table_id;
+      bounds = (arc_value o.bounds).items;
+      seats = o.seats;
+    } };
 
-    ghost invariant = { λ o. IsFirstToken (arc_value o.bounds).items o.seats (arc_value o.words).shared.table_id (arc_value o.words).shared.key o.token.table_id o.token.me };
+    ghost invariant = { λ o. IsFirstToken (arc_value o.bounds).items o.seats (arc_value o.words).shared.table_id
+        (arc_value o.words).shared.key o.token.table_id o.token.me };
 }
 
 impl Opened {
@@ -66,14 +71,14 @@ impl Opened {
 
 // The seats that nobody has taken yet, from `next` on.
 #[derive(Drop)]
-struct Dealer<J: Naming> {
+struct Dealer<J: JournalId> {
     next: u32,
     words: Arc<Home>,
     token: Token,
     of: PhantomData<J>,
 }
 
-impl<J: Naming> Model for Dealer<J> {
+impl<J: JournalId> Model for Dealer<J> {
     ghost use Rattle.std.specs.Prelude.{ℕ};
     ghost use Rattle.std.specs.Arc.{arc_value};
     ghost use Rattle.tx_journal.specs.Rules.{Belongs, IsDealersToken};
@@ -82,10 +87,11 @@ impl<J: Naming> Model for Dealer<J> {
 
     ghost view = { λ d. d.next };
 
-    ghost invariant = { λ d. Belongs J.table J.bounds (arc_value d.words).shared.table_id (arc_value d.words).shared.key d.token.table_id × IsDealersToken J.bounds J.seats d.next d.token.me };
+    ghost invariant = { λ d. Belongs J.table J.bounds (arc_value d.words).shared.table_id
+        (arc_value d.words).shared.key d.token.table_id × IsDealersToken J.bounds J.seats d.next d.token.me };
 }
 
-impl<J: Naming> Dealer<J> {
+impl<J: JournalId> Dealer<J> {
     // The next seat.
     fn seat(&mut self) -> Result<Seat<J>, Fault>
         requires { self.old < J.seats }
@@ -104,7 +110,8 @@ impl<J: Naming> Dealer<J> {
     fn seats(mut self, alloc: Global, count: u32) -> Result<Vec<Seat<J>>, Fault>
         requires { (self ≡ 0) × (count ≡ J.seats) }
         ensures count { IfOk result (λ seats. vec_len seats ≡ count) }
-        ensures seats { IfOk result (λ seats. (k : ℕ) → k < count → slice_get seats.items k ≡ Some (known k 4294967296 [])) }
+        ensures seats { IfOk result (λ seats. (k : ℕ) → k < count
+            → slice_get seats.items k ≡ Some (known k 4294967296 [])) }
         ensures err { IfErr result (λ e. e ≡ fault.OutOfMemory) }
     {
         let mut seats = Vec::with_capacity(alloc, count as usize)?;
@@ -118,12 +125,12 @@ impl<J: Naming> Dealer<J> {
 /// The journal `J`, whose seats are dealt. Contracts see the keys between its regions. Its copies
 /// share these keys.
 #[derive(Drop)]
-pub struct Journal<J: Naming> {
+pub struct Journal<J: JournalId> {
     bounds: Arc<Vec<Key>>,
     of: PhantomData<J>,
 }
 
-impl<J: Naming> Model for Journal<J> {
+impl<J: JournalId> Model for Journal<J> {
     ghost use Rattle.std.specs.Prelude.{◌≡◌, ◌<◌, List, length};
     ghost use Rattle.std.specs.Arc.{arc_value};
     ghost use Rattle.tx_types.specs.declared.key.Key.{Key};
@@ -136,7 +143,7 @@ impl<J: Naming> Model for Journal<J> {
     ghost invariant = { λ j. ((arc_value j.bounds).items ≡ J.bounds) × AreRising J.bounds × (length J.bounds < 1024) };
 }
 
-impl<J: Naming> Journal<J> {
+impl<J: JournalId> Journal<J> {
     /// The keys between its regions: fewer than 1,024, rising.
     pub fn bounds(&self) -> &[Key]
         ensures value { result.now ≡ J.bounds }
@@ -163,11 +170,12 @@ impl Opened {
     /// The journal under its name, and its seats: those of the regions first, in their order, then
     /// those for sessions. Each knows of no event, and may draw 2^32 ticks. There is a seat for
     /// each region at least.
-    pub fn named<J: Naming>(self, alloc: Global) -> Result<(Journal<J>, Vec<Seat<J>>), Fault>
+    pub fn named<J: JournalId>(self, alloc: Global) -> Result<(Journal<J>, Vec<Seat<J>>), Fault>
         requires { (self.table ≡ J.table) × (self.bounds ≡ J.bounds) × (self.seats ≡ J.seats) }
         ensures room { length J.bounds < J.seats }
         ensures count { IfOk result (λ r. vec_len r.1 ≡ J.seats) }
-        ensures seats { IfOk result (λ r. (k : ℕ) → k < J.seats → slice_get r.1.items k ≡ Some (known k 4294967296 [])) }
+        ensures seats { IfOk result (λ r. (k : ℕ) → k < J.seats
+            → slice_get r.1.items k ≡ Some (known k 4294967296 [])) }
         ensures err { IfErr result (λ e. e ≡ fault.OutOfMemory) }
     {
         let Opened {

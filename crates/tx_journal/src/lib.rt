@@ -39,4 +39,4 @@ pub use request::Request;
 pub use seat::Seat;
 pub use sender::{Lost, Sender};
 pub use told::{Told, Unnamed};
-pub use view::{Naming, Said};
+pub use view::{JournalId, StepEvent};

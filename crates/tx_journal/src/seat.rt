@@ -16,8 +16,8 @@ ghost use Rattle.tx_journal.specs.Rules.{Belongs, Owns, Adds, IsSeatsToken};
 
 use crate::told::Told;
 use crate::view::{
-    APART, Add, Advance, COUNTS, Hear, Home, Learn, Look, LookRead, MAX_TS, Naming, Said, Tell,
-    Token, WORDS, Words,
+    APART, Add, Advance, COUNTS, Hear, Home, JournalId, Learn, Look, LookRead, MAX_TS, StepEvent,
+    Tell, Token, WORDS, Words,
 };
 use std::marker::{Brand, Model, PhantomData};
 use std::sync::Arc;
@@ -28,7 +28,7 @@ use tx_types::{Fault, Ts};
 /// events that it knows: these are a world run, newest first, and have just the events of this seat
 /// that it has recorded. No list is kept.
 #[derive(Drop)]
-pub struct Seat<J: Naming> {
+pub struct Seat<J: JournalId> {
     number: SeatNo,
     left: u64,
     words: Arc<Home>,
@@ -36,7 +36,7 @@ pub struct Seat<J: Naming> {
     of: PhantomData<J>,
 }
 
-impl<J: Naming> Model for Seat<J> {
+impl<J: JournalId> Model for Seat<J> {
     ghost use Rattle.std.specs.Arc.{arc_value};
     ghost use Rattle.tx_journal.specs.Known.{Known, known};
     ghost use Rattle.tx_journal.specs.Rules.{Belongs, IsSeatsToken};
@@ -45,7 +45,8 @@ impl<J: Naming> Model for Seat<J> {
 
     ghost view = { λ s. known s.number s.left s.token.me.0.seen };
 
-    ghost invariant = { λ s. Belongs J.table J.bounds (arc_value s.words).shared.table_id (arc_value s.words).shared.key s.token.table_id × IsSeatsToken J.bounds J.seats s.number s.left s.token.me };
+    ghost invariant = { λ s. Belongs J.table J.bounds (arc_value s.words).shared.table_id
+        (arc_value s.words).shared.key s.token.table_id × IsSeatsToken J.bounds J.seats s.number s.left s.token.me };
 }
 
 // The word that counts the events of a seat.
@@ -56,31 +57,35 @@ fn count_of(seat: SeatNo) -> usize
 }
 
 // Adds the event that the call picks, by an add on this word.
-fn add<E: Said>(words: &Words, token: &mut Token, count: usize)
+fn add<E: StepEvent>(words: &Words, token: &mut Token, count: usize)
     requires table { (token.old.table_id ≡ words.now.table_id) × (words.now.table_id.words ≡ WORDS) }
     requires count { (0 < count) × (count < MAX_TS) }
     requires owns { Owns token.old.me.0 token.old.me.0.from }
-    requires right { DrawsNothing E.event × MayRecord words.now.key.bounds.items token.old.me.0.from token.old.me.0.seen E.event }
+    requires right { DrawsNothing E.event × MayRecord words.now.key.bounds.items token.old.me.0.from token.old.me.0.seen
+        E.event }
     requires unread { max_ts (E.event ∷ token.old.me.0.seen) ≡ max_ts token.old.me.0.seen }
-    ensures { (token.new.table_id ≡ token.old.table_id) × ((n : ℕ) × Adds E.event (step words.now.table_id.slots count 1 0 none) token.old.me n token.new.me) }
+    ensures { (token.new.table_id ≡ token.old.table_id)
+        × ((n : ℕ) × Adds E.event (step words.now.table_id.slots count 1 0 none) token.old.me n token.new.me) }
 {
     words.fetch_add::<Add<E>>(token, count, 1);
 }
 
 // Adds the event that the call picks, which reads up to `at`, by a raise of the greatest timestamp
 // read.
-fn raise<E: Said>(words: &Words, token: &mut Token, at: Ts)
+fn raise<E: StepEvent>(words: &Words, token: &mut Token, at: Ts)
     requires table { (token.old.table_id ≡ words.now.table_id) × (words.now.table_id.words ≡ WORDS) }
     requires owns { Owns token.old.me.0 token.old.me.0.from }
-    requires right { DrawsNothing E.event × MayRecord words.now.key.bounds.items token.old.me.0.from token.old.me.0.seen E.event }
+    requires right { DrawsNothing E.event × MayRecord words.now.key.bounds.items token.old.me.0.from token.old.me.0.seen
+        E.event }
     requires read { max_ts (E.event ∷ token.old.me.0.seen) ≡ max (max_ts token.old.me.0.seen) at }
-    ensures { (token.new.table_id ≡ token.old.table_id) × ((n : ℕ) × Adds E.event (step words.now.table_id.slots MAX_TS at 0 none) token.old.me n token.new.me) }
+    ensures { (token.new.table_id ≡ token.old.table_id)
+        × ((n : ℕ) × Adds E.event (step words.now.table_id.slots MAX_TS at 0 none) token.old.me n token.new.me) }
 {
     words.fetch_max::<Add<E>>(token, MAX_TS, at.get());
 }
 
 // Records this event, which the call picks.
-fn record_this<J: Naming, E: Said>(seat: &mut Seat<J>, event: &Event)
+fn record_this<J: JournalId, E: StepEvent>(seat: &mut Seat<J>, event: &Event)
     requires is { event.now ≡ E.event }
     requires quiet { DrawsNothing E.event }
     requires right { MayRecord J.bounds seat.old.seat seat.old.events E.event }
@@ -93,7 +98,7 @@ fn record_this<J: Naming, E: Said>(seat: &mut Seat<J>, event: &Event)
 }
 
 // Records this event, which the call picks, and raises the greatest timestamp read to `at`.
-fn raise_by_this<J: Naming, E: Said>(seat: &mut Seat<J>, event: &Event, at: Ts)
+fn raise_by_this<J: JournalId, E: StepEvent>(seat: &mut Seat<J>, event: &Event, at: Ts)
     requires is { event.now ≡ E.event }
     requires quiet { DrawsNothing E.event }
     requires right { MayRecord J.bounds seat.old.seat seat.old.events E.event }
@@ -106,10 +111,11 @@ fn raise_by_this<J: Naming, E: Said>(seat: &mut Seat<J>, event: &Event, at: Ts)
     seat.raise_read_as::<E>(at);
 }
 
-impl<J: Naming> Seat<J> {
+impl<J: JournalId> Seat<J> {
     // The seat of a token.
     pub(crate) fn of(number: SeatNo, left: u64, words: Arc<Home>, token: Token) -> Seat<J>
-        requires table { Belongs J.table J.bounds (arc_value words).shared.table_id (arc_value words).shared.key token.table_id }
+        requires table { Belongs J.table J.bounds (arc_value words).shared.table_id
+            (arc_value words).shared.key token.table_id }
         requires token { IsSeatsToken J.bounds J.seats number left token.me }
         ensures { result ≡ known number left token.me.0.seen }
     {
@@ -177,7 +183,7 @@ impl<J: Naming> Seat<J> {
     /// this seat that may follow whatever other seats did since, and that reads at `at`, or nothing
     /// above what was read. The greatest timestamp that was read rises with the event, so that it
     /// is what the events of the history say whenever it is loaded.
-    pub fn raise_read_as<E: Said>(&mut self, at: Ts)
+    pub fn raise_read_as<E: StepEvent>(&mut self, at: Ts)
         requires quiet { DrawsNothing E.event }
         requires right { MayRecord J.bounds self.old.seat self.old.events E.event }
         requires read { max_ts (E.event ∷ self.old.events) ≡ max (max_ts self.old.events) at }
@@ -205,7 +211,7 @@ impl<J: Naming> Seat<J> {
     /// Records event `E`, which exists in proofs only, by one atomic add. It has to be one of this
     /// seat that may follow whatever other seats did since, and that reads nothing above what was
     /// read.
-    pub fn record_as<E: Said>(&mut self)
+    pub fn record_as<E: StepEvent>(&mut self)
         requires quiet { DrawsNothing E.event }
         requires right { MayRecord J.bounds self.old.seat self.old.events E.event }
         requires unread { max_ts (E.event ∷ self.old.events) ≡ max_ts self.old.events }

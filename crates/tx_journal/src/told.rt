@@ -6,19 +6,19 @@ ghost use Rattle.tx_core.specs.Worlds.{IsWorldRun};
 ghost use Rattle.tx_journal.specs.Rules.{IsToldsToken};
 
 use crate::seat::Seat;
-use crate::view::{Home, Naming, Tell, Token, Words};
+use crate::view::{Home, JournalId, Tell, Token, Words};
 use std::marker::{Model, PhantomData};
 use std::sync::Arc;
 
 /// Stands for a list of events of the journal `J` that its holder has seen, a world run. It stores
 /// none of them, and no memory. Any seat of the journal makes a copy of it (`Seat::copy`).
 #[derive(Drop)]
-pub struct Told<J: Naming> {
+pub struct Told<J: JournalId> {
     token: Token,
     of: PhantomData<J>,
 }
 
-impl<J: Naming> Model for Told<J> {
+impl<J: JournalId> Model for Told<J> {
     ghost use Rattle.tx_core.specs.Histories.{History};
     ghost use Rattle.tx_journal.specs.Rules.{IsToldsToken};
 
@@ -29,7 +29,7 @@ impl<J: Naming> Model for Told<J> {
     ghost invariant = { λ t. IsToldsToken J.table J.bounds J.seats t.token.table_id t.token.me };
 }
 
-impl<J: Naming> Told<J> {
+impl<J: JournalId> Told<J> {
     // The `Told` of a token.
     pub(crate) fn of(token: Token) -> Told<J>
         requires { IsToldsToken J.table J.bounds J.seats token.table_id token.me }

@@ -54,7 +54,7 @@ pub type Words = Shared<u8, View, Layout, Law>;
 /// Which journal it is, the keys between its regions, and how many seats it has. The seats,
 /// `Told`s, requests and replies of one journal have one such parameter. A program picks it once,
 /// where it names the journal that it has opened.
-pub trait Naming {
+pub trait JournalId {
     ghost use Rattle.std.specs.Prelude.{List, ℕ};
     ghost use Rattle.atomic_table.specs.Seated.{TableId};
     ghost use Rattle.tx_types.specs.declared.key.Key.{Key};
@@ -66,7 +66,7 @@ pub trait Naming {
     ghost seats: { ℕ };
 }
 
-impl Naming for Brand {
+impl JournalId for Brand {
     ghost use Rattle.std.specs.Prelude.{[]};
     ghost use Rattle.tx_journal.specs.Rules.{no_table};
 
@@ -91,13 +91,13 @@ impl TableRule<u8, View, Layout> for Law {
 }
 
 /// The event of one step, which the step's call picks.
-pub trait Said {
+pub trait StepEvent {
     ghost use Rattle.tx_core.specs.declared.event.Event.{Event};
 
     ghost event: { Event };
 }
 
-impl Said for Brand {
+impl StepEvent for Brand {
     ghost use Rattle.tx_core.specs.declared.event.Event.TheVariants.{Stopped};
 
     ghost event = { Stopped 0 };
@@ -107,7 +107,7 @@ impl Said for Brand {
 /// recorded.
 pub struct Add<E>(PhantomData<E>);
 
-impl<E: Said> Play<u8, View> for Add<E> {
+impl<E: StepEvent> Play<u8, View> for Add<E> {
     ghost use Rattle.tx_journal.specs.Rules.{Adds};
 
     ghost then = { Adds E.event };

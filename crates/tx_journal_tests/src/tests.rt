@@ -13,13 +13,13 @@ use std::process::Abort;
 use std::test::Fail;
 use std::thread::{Threads, join, map_vec};
 use tx_core::{Answer, Body, Event, Get, RaiseSafe, RegionNo, Starts, Taken};
-use tx_journal::{AnswerWithLock, Journal, Naming, Opened, Reply, Request, Seat, Told, Unnamed};
+use tx_journal::{AnswerWithLock, Journal, JournalId, Opened, Reply, Request, Seat, Told, Unnamed};
 use tx_types::{Key, Ts};
 
 mod senders;
 
 // The number that a seat draws, and 0 where it is spent.
-fn draw<J: Naming>(seat: &mut Seat<J>, ticks: u32) -> u64
+fn draw<J: JournalId>(seat: &mut Seat<J>, ticks: u32) -> u64
     requires { 0 < ticks }
 {
     match seat.draw(ticks).ok() {
@@ -29,7 +29,7 @@ fn draw<J: Naming>(seat: &mut Seat<J>, ticks: u32) -> u64
 }
 
 // The seats of a journal.
-fn seats_of<J: Naming>(alloc: Global, opened: Opened) -> Option<Vec<Seat<J>>>
+fn seats_of<J: JournalId>(alloc: Global, opened: Opened) -> Option<Vec<Seat<J>>>
     requires { (opened.table ≡ J.table) × (opened.bounds ≡ J.bounds) × (opened.seats ≡ J.seats) }
 {
     let (journal, seats) = opened.named::<J>(alloc).ok()?;
@@ -38,7 +38,7 @@ fn seats_of<J: Naming>(alloc: Global, opened: Opened) -> Option<Vec<Seat<J>>>
 }
 
 // Records that a transaction begins at a number.
-fn record_begin<J: Naming>(seat: &mut Seat<J>, start: Ts)
+fn record_begin<J: JournalId>(seat: &mut Seat<J>, start: Ts)
     requires { MayRecord J.bounds seat.old.seat seat.old.events (Began start) }
     ensures { HasRecorded J.bounds seat.old.seat seat.old.events (Began start) seat.new.events }
 {
@@ -48,7 +48,7 @@ fn record_begin<J: Naming>(seat: &mut Seat<J>, start: Ts)
 }
 
 // Begins a transaction, and tells of it.
-fn begin<J: Naming>(mut seat: Seat<J>) -> Option<(Ts, Told<J>)>
+fn begin<J: JournalId>(mut seat: Seat<J>) -> Option<(Ts, Told<J>)>
     ensures { IfSome result (λ r. began r.1 r.0 ≡ true) }
 {
     match seat.draw(1) {
@@ -61,14 +61,14 @@ fn begin<J: Naming>(mut seat: Seat<J>) -> Option<(Ts, Told<J>)>
 }
 
 // Learns what was told, and draws.
-fn draw_after<J: Naming>(mut seat: Seat<J>, told: Told<J>) -> u64 {
+fn draw_after<J: JournalId>(mut seat: Seat<J>, told: Told<J>) -> u64 {
     seat.learn(told);
     draw(&mut seat, 1)
 }
 
 // One thread begins and hands what it has seen by its join to another: whether that one draws
 // a greater number.
-fn tell_across<J: Naming + Send + Sync, R: Threads + Sync>(
+fn tell_across<J: JournalId + Send + Sync, R: Threads + Sync>(
     rt: &R,
     first: Seat<J>,
     second: Seat<J>,
@@ -83,7 +83,7 @@ fn tell_across<J: Naming + Send + Sync, R: Threads + Sync>(
     }
 }
 
-fn tells_across<J: Naming + Send + Sync, R: Threads + Sync>(
+fn tells_across<J: JournalId + Send + Sync, R: Threads + Sync>(
     rt: &R,
     alloc: Global,
     opened: Opened,
@@ -107,7 +107,7 @@ fn told_by_another_thread(rt: HostRuntime) -> Result<(), Fail> {
 }
 
 // What a seat draws, again and again, by 1, 2 or 3 ticks.
-fn draw_often<J: Naming>(alloc: Global, mut seat: Seat<J>) -> Vec<(u64, u64)> {
+fn draw_often<J: JournalId>(alloc: Global, mut seat: Seat<J>) -> Vec<(u64, u64)> {
     let mut drawn = Vec::new(alloc);
     for i in 0..10_000_u32 {
         let ticks = i % 3 + 1;
@@ -145,7 +145,7 @@ fn is_exact(drawn: &[(u64, u64)]) -> bool {
 
 // Eight threads draw, each from its own seat. How many numbers it were, if those of all, in order,
 // follow each other by just their ticks.
-fn draw_at_once<J: Naming + Send + Sync, R: Threads + Sync>(
+fn draw_at_once<J: JournalId + Send + Sync, R: Threads + Sync>(
     rt: &R,
     alloc: Global,
     opened: Opened,
@@ -171,7 +171,7 @@ fn eight_threads_draw(rt: HostRuntime) -> Result<(), Fail> {
 }
 
 // What the only seat of a journal answers, which may draw 2^32 ticks.
-fn spend<J: Naming>(alloc: Global, opened: Opened) -> [u64; 6]
+fn spend<J: JournalId>(alloc: Global, opened: Opened) -> [u64; 6]
     requires { (opened.table ≡ J.table) × (opened.bounds ≡ J.bounds) × (opened.seats ≡ J.seats) }
 {
     let Some(mut seats) = seats_of::<J>(alloc, opened) else {
@@ -199,7 +199,7 @@ fn spent_seat_draws_nothing(rt: HostRuntime) -> Result<(), Fail> {
 }
 
 // A region that has taken nothing raises its safe point to 0.
-fn raise<J: Naming>(region: &mut Seat<J>, request: Request<J>, copy: Request<J>) -> Reply<J>
+fn raise<J: JournalId>(region: &mut Seat<J>, request: Request<J>, copy: Request<J>) -> Reply<J>
     requires region { (region.old.seat ≡ 0) × (region.old.events ≡ []) }
     requires body { request.body ≡ asks.RaiseSafe (record { region = 0; safe = 0 }) }
     requires copy { copy ≡ request }
@@ -221,7 +221,7 @@ fn raise<J: Naming>(region: &mut Seat<J>, request: Request<J>, copy: Request<J>)
 }
 
 // A session hears a reply: whether it has an answer.
-fn hear<J: Naming>(session: &mut Seat<J>, mut reply: Reply<J>) -> bool {
+fn hear<J: JournalId>(session: &mut Seat<J>, mut reply: Reply<J>) -> bool {
     session.learn(reply.tell(session));
     let heard = reply.answer().is_some();
     drop(reply);
@@ -229,7 +229,7 @@ fn hear<J: Naming>(session: &mut Seat<J>, mut reply: Reply<J>) -> bool {
 }
 
 // What a session knows, where the journal has no name.
-fn leave<J: Naming>(mut session: Seat<J>) -> Unnamed {
+fn leave<J: JournalId>(mut session: Seat<J>) -> Unnamed {
     let told = session.tell();
     let seen = told.unnamed(session);
     seen.show();
@@ -237,7 +237,7 @@ fn leave<J: Naming>(mut session: Seat<J>) -> Unnamed {
 }
 
 // A session asks the first region: whether it has an answer.
-fn ask<J: Naming>(session: &mut Seat<J>, region: &mut Seat<J>) -> bool
+fn ask<J: JournalId>(session: &mut Seat<J>, region: &mut Seat<J>) -> bool
     requires { (region.old.seat ≡ 0) × (region.old.events ≡ []) }
 {
     let raise_safe = RaiseSafe {
@@ -255,7 +255,7 @@ fn ask<J: Naming>(session: &mut Seat<J>, region: &mut Seat<J>) -> bool
 }
 
 // How many keys a copy of the journal has between its regions.
-fn bounds_of<J: Naming>(journal: &Journal<J>) -> usize {
+fn bounds_of<J: JournalId>(journal: &Journal<J>) -> usize {
     match journal.clone().ok() {
         Some(copy) => {
             let count = copy.bounds().len();
@@ -268,7 +268,7 @@ fn bounds_of<J: Naming>(journal: &Journal<J>) -> usize {
 
 // Of the seats the first is a region's, and the next a session's: whether it has an answer, and
 // what it then knows.
-fn reply_to_one<J: Naming>(alloc: Global, opened: Opened) -> Option<(bool, Unnamed)>
+fn reply_to_one<J: JournalId>(alloc: Global, opened: Opened) -> Option<(bool, Unnamed)>
     requires name { (opened.table ≡ J.table) × (opened.bounds ≡ J.bounds) × (opened.seats ≡ J.seats) }
     requires three { J.seats ≡ 3 }
 {
@@ -309,7 +309,7 @@ fn region_replies(rt: HostRuntime) -> Result<(), Fail> {
 }
 
 // A region that has taken nothing reads a key, of which it has nothing, at the last number drawn.
-fn read<J: Naming>(region: &mut Seat<J>, alloc: Global, key: Key)
+fn read<J: JournalId>(region: &mut Seat<J>, alloc: Global, key: Key)
     requires region { (region.old.seat ≡ 0) × (region.old.events ≡ []) }
     requires one { J.bounds ≡ [] }
 {
@@ -332,7 +332,7 @@ fn read<J: Naming>(region: &mut Seat<J>, alloc: Global, key: Key)
 
 // What the first region and a session load of the greatest timestamp read, before and after the
 // region reads at 3.
-fn read_once<J: Naming>(alloc: Global, opened: Opened, key: Key) -> [u64; 3]
+fn read_once<J: JournalId>(alloc: Global, opened: Opened, key: Key) -> [u64; 3]
     requires name { (opened.table ≡ J.table) × (opened.bounds ≡ J.bounds) × (opened.seats ≡ J.seats) }
     requires two { J.seats ≡ 2 }
     requires one { J.bounds ≡ [] }

@@ -1,29 +1,29 @@
--- The places once the empty ones are dropped.
+-- The positions once the empty ones are dropped.
 use Rattle.std.proofs.Common.{◌≡◌, ℕ, ◌+◌, ◌<◌, ◌≤◌, Bool, true, false, cond, ◌&&◌, eqb, zero, suc, List, [], ◌∷◌, ◌++◌, Option, None, Some, length, get_or, drop, refl, sym, ap, ◌∙◌, subst, arith, zero-add, add-zero}
 use Rattle.std.specs.Option.{is_some}
 use Rattle.std.specs.List.{filter}
 use Rattle.tx_latch.specs.Asked.{contains, cids, Lacks, Distinct}
 use Rattle.tx_latch.specs.Queues.{Link, link_of, links, commands, command_of, Chained, room_at, replaced, followers, untaken, ahead_of, last_in}
-use Rattle.tx_latch.specs.declared.queues.Entry.{Entry}
+use Rattle.tx_latch.specs.declared.queues.QueueEntry.{QueueEntry}
 use Rattle.tx_latch.proofs.Lists.{or_none, eqb_self, same_eqb}
-use Rattle.tx_latch.proofs.Places.{some_same, Distinct-places}
+use Rattle.tx_latch.proofs.Places.{some_same, Distinct-positions}
 use Rattle.tx_latch.proofs.Read.{true_false}
 
-pub squeeze-commands : (asked : List (Option Entry)) → commands (links (filter is_some asked)) ≡ commands (links asked)
+pub squeeze-commands : (asked : List (Option QueueEntry)) → commands (links (filter is_some asked)) ≡ commands (links asked)
 squeeze-commands [] = refl
 squeeze-commands (None ∷ asked) = squeeze-commands asked
 squeeze-commands (Some e ∷ asked) = ap (λ t. command_of (link_of e) ∷ t) (squeeze-commands asked)
 
--- where a place comes from
-pub squeeze : (asked : List (Option Entry)) (i : ℕ) (l : Link) → get_or (links (filter is_some asked)) i None ≡ Some l
+-- where a position comes from
+pub squeeze : (asked : List (Option QueueEntry)) (i : ℕ) (l : Link) → get_or (links (filter is_some asked)) i None ≡ Some l
     → (k : ℕ) × ((get_or (links asked) k None ≡ Some l) × (commands (drop (suc i) (links (filter is_some asked))) ≡ commands (drop (suc k) (links asked))) × (room_at asked k ≡ room_at (filter is_some asked) i))
 squeeze [] i l h = absurd (cc)
 squeeze (None ∷ asked) i l h = let r = squeeze asked i l h in (suc r.0, r.1)
 squeeze (Some e ∷ asked) zero l h = (0, (h, squeeze-commands asked, refl))
 squeeze (Some e ∷ asked) (suc i) l h = let r = squeeze asked i l h in (suc r.0, r.1)
 
--- where a place goes
-pub unsqueeze : (asked : List (Option Entry)) (k : ℕ) (l : Link) → get_or (links asked) k None ≡ Some l → (i : ℕ) × ((get_or (links (filter is_some asked)) i None ≡ Some l) × (i < length (links (filter is_some asked))))
+-- where a position goes
+pub unsqueeze : (asked : List (Option QueueEntry)) (k : ℕ) (l : Link) → get_or (links asked) k None ≡ Some l → (i : ℕ) × ((get_or (links (filter is_some asked)) i None ≡ Some l) × (i < length (links (filter is_some asked))))
 unsqueeze [] k l h = absurd (cc)
 unsqueeze (None ∷ asked) zero l h = absurd (cc)
 unsqueeze (None ∷ asked) (suc k) l h = unsqueeze asked k l h
@@ -81,13 +81,13 @@ replaced-append (Some l ∷ xs) ys from c o =
     let o' : Option ℕ = cond (eqb l.cid c && is_some o) (Some from) o in
     replaced-append xs ys (suc from) c o' ∙ ap (λ n. replaced ys n c (replaced xs (suc from) c o')) (sums (length xs) from)
 
--- what is true of the places once the empty ones are dropped and the others given
-pub compacts : (asked items : List (Option Entry)) (at at' last last' : ℕ → Option ℕ) → Chained (links asked) at last (room_at asked) → ((c i : ℕ) → at c ≡ Some i → is_some (get_or (links asked) i None) ≡ true)
+-- what is true of the positions once the empty ones are dropped and the others given
+pub compacts : (asked items : List (Option QueueEntry)) (at at' last last' : ℕ → Option ℕ) → Chained (links asked) at last (room_at asked) → ((c i : ℕ) → at c ≡ Some i → is_some (get_or (links asked) i None) ≡ true)
     → items ≡ filter is_some asked → ((c : ℕ) → at' c ≡ replaced (links items) 0 c (at c)) → ((s : ℕ) → last' s ≡ last s)
     → (Chained (links items) at' last' (room_at items) × ((c i : ℕ) → at' c ≡ Some i → is_some (get_or (links items) i None) ≡ true)) × (commands (links items) ≡ commands (links asked))
 compacts asked items at at' last last' old stands is put lasts =
     let same : commands (links items) ≡ commands (links asked) = ap (λ t. commands (links t)) is ∙ squeeze-commands asked in
-    let distinct : Distinct (commands (links items)) = subst Distinct (sym same) (Distinct-places (links asked) at (λ k. k) (λ a b z. z) old.listed) in
+    let distinct : Distinct (commands (links items)) = subst Distinct (sym same) (Distinct-positions (links asked) at (λ k. k) (λ a b z. z) old.listed) in
     let from : (i : ℕ) (l : Link) → get_or (links items) i None ≡ Some l → (k : ℕ) × ((get_or (links asked) k None ≡ Some l) × (commands (drop (suc i) (links items)) ≡ commands (drop (suc k) (links asked))) × (room_at asked k ≡ room_at items i)) =
     λ i l h. subst (λ t. (k : ℕ) × ((get_or (links asked) k None ≡ Some l) × (commands (drop (suc i) (links t)) ≡ commands (drop (suc k) (links asked))) × (room_at asked k ≡ room_at t i))) (sym is) (squeeze asked i l (ap (λ t. get_or (links t) i None) (sym is) ∙ h)) in
     let listed : (i : ℕ) (l : Link) → get_or (links items) i None ≡ Some l → at' l.cid ≡ Some i =
@@ -99,8 +99,8 @@ compacts asked items at at' last last' old stands is put lasts =
     let cid : l.0.cid ≡ c = old.found c k.0 l.0 k.1 l.1 in
     let j = unsqueeze asked k.0 l.0 l.1 in
     let j-at : get_or (links items) j.0 None ≡ Some l.0 = ap (λ t. get_or (links t) j.0 None) is ∙ j.1.0 in
-    let same-place : j.0 ≡ i = some_same j.0 i (sym (listed j.0 l.0 j-at) ∙ ap at' cid ∙ h) in
-    (l.0, cid, ap (λ n. get_or (links items) n None) (sym same-place) ∙ j-at, subst (λ n. n < length (links items)) same-place (subst (λ t. j.0 < length (links t)) (sym is) j.1.1))) in (
+    let same-position : j.0 ≡ i = some_same j.0 i (sym (listed j.0 l.0 j-at) ∙ ap at' cid ∙ h) in
+    (l.0, cid, ap (λ n. get_or (links items) n None) (sym same-position) ∙ j-at, subst (λ n. n < length (links items)) same-position (subst (λ t. j.0 < length (links t)) (sym is) j.1.1))) in (
       (
         record {
           listed = listed;

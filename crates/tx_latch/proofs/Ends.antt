@@ -1,4 +1,4 @@
--- A command added at the end of the places, and one taken out.
+-- A command added at the end of the positions, and one taken out.
 use Rattle.std.proofs.Common.{◌≡◌, ℕ, ◌+◌, ◌<◌, ◌≤◌, Bool, true, false, cond, eqb, zero, suc, List, [], ◌∷◌, ◌++◌, Option, None, Some, map, length, get_or, set, drop, refl, sym, ap, ◌∙◌, subst, arith, Result, Ok, Err}
 use Rattle.std.specs.Result.{OnErr}
 use Rattle.std.specs.Option.{option_map, is_some}
@@ -7,10 +7,10 @@ use Rattle.std.proofs.lemmas.List.{map-append, map-set, length-append, length-ma
 use Rattle.std.proofs.lemmas.Bool.{eqb-true}
 use Rattle.tx_latch.specs.Asked.{Command, contains, is_granted, is_asked, Lacks, Distinct}
 use Rattle.tx_latch.specs.Queues.{Link, link_of, links, commands, Chained, joined, count_links, is_number, room_at, room_of, ahead_of, untaken, followers, last_in}
-use Rattle.tx_latch.specs.declared.queues.Entry.{Entry}
+use Rattle.tx_latch.specs.declared.queues.QueueEntry.{QueueEntry}
 use Rattle.tx_latch.proofs.Lists.{eqb_self, Each}
 use Rattle.tx_latch.proofs.Ahead.{ahead_tells}
-use Rattle.tx_latch.proofs.Places.{some_same, Lacks-place, Distinct-places}
+use Rattle.tx_latch.proofs.Places.{some_same, Lacks-position, Distinct-positions}
 use Rattle.tx_latch.proofs.Join.{get-end, drop-end, drop-new, joins, joined-command, Distinct-push}
 
 true_false : true ≡ false → ⊥
@@ -33,17 +33,17 @@ link_none l h = cc
 
 -- the same, told otherwise
 pub chain-agree : (ls : List (Option Link)) (at at' last last' : ℕ → Option ℕ) (room wide : ℕ → ℕ) → Chained ls at last room → ((c : ℕ) → at' c ≡ at c) → ((s : ℕ) → s < 256 → last' s ≡ last s) → ((i : ℕ) → room i ≤ wide i) → Chained ls at' last' wide
-chain-agree ls at at' last last' room wide old places lasts wider = record {
-  listed = λ i l e. places l.cid ∙ old.listed i l e;
-  found = λ c i l a e. old.found c i l (sym (places c) ∙ a) e;
-  within = λ c i a. old.within c i (sym (places c) ∙ a);
+chain-agree ls at at' last last' room wide old positions lasts wider = record {
+  listed = λ i l e. positions l.cid ∙ old.listed i l e;
+  found = λ c i l a e. old.found c i l (sym (positions c) ∙ a) e;
+  within = λ c i a. old.within c i (sym (positions c) ∙ a);
   behind = old.behind;
   ahead = old.ahead;
   last_is = λ s lt. lasts s lt ∙ old.last_is s lt;
   room_is = λ i l e. (let one : length l.behind + length (untaken l.slots (commands (drop (suc i) ls))) ≤ room i = old.room_is i l e in let two : room i ≤ wide i = wider i in omega arith);
 }
 
--- an empty place at the end
+-- an empty position at the end
 pub chain-end : (ls : List (Option Link)) (at last : ℕ → Option ℕ) (room : ℕ → ℕ) → Chained ls at last room → Chained (ls ++ None ∷ []) at last room
 chain-end ls at last room old =
     let back : (i : ℕ) (l : Link) → get_or (ls ++ None ∷ []) i None ≡ Some l → get_or ls i None ≡ Some l = λ i l e. sym (get-end ls i) ∙ e in
@@ -66,10 +66,10 @@ insert_within : (ls : List (Option Link)) (at : ℕ → Option ℕ) (c i : ℕ) 
 insert_within ls at c i true h f = (let e : length ls ≡ i = some_same (length ls) i h in let n : length (ls ++ None ∷ []) ≡ length ls + 1 = length-append ls (None ∷ []) in omega arith)
 insert_within ls at c i false h f = f h
 
--- a number gets the empty place at the end
+-- a number gets the empty position at the end
 pub chain-insert : (ls : List (Option Link)) (at at' last : ℕ → Option ℕ) (room : ℕ → ℕ) (cid : ℕ) → Chained (ls ++ None ∷ []) at last room → Lacks cid (commands ls) → ((c : ℕ) → at' c ≡ cond (eqb cid c) (Some (length ls)) (at c)) → Chained (ls ++ None ∷ []) at' last room
 chain-insert ls at at' last room cid old absent put = record {
-  listed = λ i l e. put l.cid ∙ ap (λ b. cond b (Some (length ls)) (at l.cid)) (Lacks-place ls cid i l absent (sym (get-end ls i) ∙ e)) ∙ old.listed i l e;
+  listed = λ i l e. put l.cid ∙ ap (λ b. cond b (Some (length ls)) (at l.cid)) (Lacks-position ls cid i l absent (sym (get-end ls i) ∙ e)) ∙ old.listed i l e;
   found = λ c i l a e. insert_found ls at cid c i l (eqb cid c) refl (sym (put c) ∙ a) (sym (get-end ls i) ∙ e) (λ h. old.found c i l h e);
   within = λ c i a. insert_within ls at c i (eqb cid c) (sym (put c) ∙ a) (λ h. old.within c i h);
   behind = old.behind;
@@ -78,17 +78,17 @@ chain-insert ls at at' last room cid old absent put = record {
   room_is = old.room_is;
 }
 
-pub links-end : (asked : List (Option Entry)) → links (asked ++ None ∷ []) ≡ links asked ++ None ∷ []
+pub links-end : (asked : List (Option QueueEntry)) → links (asked ++ None ∷ []) ≡ links asked ++ None ∷ []
 links-end asked = map-append (option_map link_of) asked (None ∷ [])
 
-pub entry-end : (asked : List (Option Entry)) (i : ℕ) → get_or (asked ++ None ∷ []) i None ≡ get_or asked i None
+pub entry-end : (asked : List (Option QueueEntry)) (i : ℕ) → get_or (asked ++ None ∷ []) i None ≡ get_or asked i None
 entry-end [] zero = refl
 entry-end [] (suc i) = refl
 entry-end (o ∷ asked) zero = refl
 entry-end (o ∷ asked) (suc i) = entry-end asked i
 
--- after an empty place was put at the end
-pub kept-end : (asked items : List (Option Entry)) (at at' last : ℕ → Option ℕ) → Chained (links asked) at last (room_at asked) → ((c i : ℕ) → at c ≡ Some i → is_some (get_or (links asked) i None) ≡ true) → items ≡ asked ++ None ∷ [] → ((c : ℕ) → at' c ≡ at c)
+-- after an empty position was put at the end
+pub kept-end : (asked items : List (Option QueueEntry)) (at at' last : ℕ → Option ℕ) → Chained (links asked) at last (room_at asked) → ((c i : ℕ) → at c ≡ Some i → is_some (get_or (links asked) i None) ≡ true) → items ≡ asked ++ None ∷ [] → ((c : ℕ) → at' c ≡ at c)
     → Chained (links items) at' last (room_at items) × ((c i : ℕ) → at' c ≡ Some i → is_some (get_or (links items) i None) ≡ true)
 kept-end asked items at at' last old stands e same =
     let is : links items ≡ links asked ++ None ∷ [] = ap links e ∙ links-end asked in
@@ -98,7 +98,7 @@ kept-end asked items at at' last old stands e same =
     )
 
 -- after a number got it
-pub joinable-end : (asked items : List (Option Entry)) (at at' last : ℕ → Option ℕ) (cid : ℕ) → Chained (links asked) at last (room_at asked) → items ≡ asked ++ None ∷ [] → is_asked (commands (links asked)) cid ≡ false
+pub joinable-end : (asked items : List (Option QueueEntry)) (at at' last : ℕ → Option ℕ) (cid : ℕ) → Chained (links asked) at last (room_at asked) → items ≡ asked ++ None ∷ [] → is_asked (commands (links asked)) cid ≡ false
     → ((c : ℕ) → at' c ≡ cond (eqb cid c) (Some (length (links asked))) (at c)) → Chained (links items) at' last (room_at items)
 joinable-end asked items at at' last cid old e absent put =
     let is : links items ≡ links asked ++ None ∷ [] = ap links e ∙ links-end asked in
@@ -107,7 +107,7 @@ joinable-end asked items at at' last cid old e absent put =
     (chain-agree (links asked ++ None ∷ []) at' at' last last (room_at asked) (room_at items) (chain-insert (links asked) at at' last (room_at asked) cid (chain-end (links asked) at last (room_at asked) old) absent put)
     (λ c. refl) (λ s lt. refl) (λ i. le_same (room_at asked i) (room_at items i) (wide i)))
 
-pub asked-end : (asked items : List (Option Entry)) → items ≡ asked ++ None ∷ [] → commands (links items) ≡ commands (links asked)
+pub asked-end : (asked items : List (Option QueueEntry)) → items ≡ asked ++ None ∷ [] → commands (links items) ≡ commands (links asked)
 asked-end asked items e = ap commands (ap links e ∙ links-end asked) ∙ drop-end 0 (links asked)
 
 pub set-end : (g : Link → Link) (ls : List (Option Link)) (v : Option Link) → set (map (option_map g) (ls ++ None ∷ [])) (length ls) v ≡ map (option_map g) ls ++ v ∷ []
@@ -134,13 +134,13 @@ get-new g [] n = refl
 get-new g (o ∷ ls) n = get-new g ls n
 
 -- what is known of a command that was added
-pub record Added (asked items : List (Option Entry)) (at last : ℕ → Option ℕ) (cid : ℕ) (slots : List ℕ) (ahead : ℕ) : Type 0 where
+pub record Added (asked items : List (Option QueueEntry)) (at last : ℕ → Option ℕ) (cid : ℕ) (slots : List ℕ) (ahead : ℕ) : Type 0 where
   pub chained : Chained (links items) at last (room_at items)
   pub stands : (c i : ℕ) → at c ≡ Some i → is_some (get_or (links items) i None) ≡ true
   pub list : commands (links items) ≡ commands (links asked) ++ record { cid = cid; slots = slots } ∷ []
   pub first : eqb ahead 0 ≡ is_granted (commands (links items)) cid
 
-link_eq : (e : Entry) (n : ℕ) → e.ahead ≡ n → e.behind.items ≡ [] → link_of e ≡ record { cid = e.cid; slots = e.slots.items; ahead = n; behind = [] }
+link_eq : (e : QueueEntry) (n : ℕ) → e.ahead ≡ n → e.behind.items ≡ [] → link_of e ≡ record { cid = e.cid; slots = e.slots.items; ahead = n; behind = [] }
 link_eq e n h k = ap (λ a. let l : Link = record { cid = e.cid; slots = e.slots.items; ahead = a; behind = e.behind.items } in l) h ∙ ap (λ b. let l : Link = record { cid = e.cid; slots = e.slots.items; ahead = n; behind = b } in l) k
 
 only_step : (ls : List (Option Link)) (at : ℕ → Option ℕ) (cid c : ℕ) (b : Bool) → eqb cid c ≡ b → cond b (Some (length ls)) (at c) ≡ Some (length ls) → (at c ≡ Some (length ls) → length ls < length ls) → cid ≡ c
@@ -155,19 +155,19 @@ stands_step : (g : Link → Link) (ls : List (Option Link)) (n : Link) (at : ℕ
 stands_step g ls n at c i true h f = ap (λ k. is_some (get_or (map (option_map g) ls ++ Some n ∷ []) k None)) (sym (some_same (length ls) i h)) ∙ stands-last g ls n
 stands_step g ls n at c i false h f = stands-more g ls n i (f h)
 
-pub added : (asked items joined-items : List (Option Entry)) (at at' at'' last last' : ℕ → Option ℕ) (e : Entry) (n : ℕ)
+pub added : (asked items joined-items : List (Option QueueEntry)) (at at' at'' last last' : ℕ → Option ℕ) (e : QueueEntry) (n : ℕ)
     → Chained (links asked) at last (room_at asked) → ((c i : ℕ) → at c ≡ Some i → is_some (get_or (links asked) i None) ≡ true) → is_asked (commands (links asked)) e.cid ≡ false
     → items ≡ asked ++ None ∷ [] → n ≡ length asked → ((c : ℕ) → at' c ≡ cond (eqb e.cid c) (Some n) (at c))
     → links joined-items ≡ map (option_map (joined e.cid last e.slots.items)) (links items) → e.ahead ≡ count_links (λ l. list_any (λ s. is_number l.cid (last s)) e.slots.items) (links items)
     → ((s : ℕ) → s < 256 → last' s ≡ cond (contains s e.slots.items) (Some e.cid) (last s)) → ((c : ℕ) → at'' c ≡ at' c) → ((i : ℕ) → room_at items i ≤ room_at joined-items i)
     → All (λ s. s < 256) e.slots.items → e.behind.items ≡ [] → length e.slots.items ≤ room_of (Some e)
     → Added asked (set joined-items n (Some e)) at'' last' e.cid e.slots.items e.ahead
-added asked items joined-items at at' at'' last last' e n old stands absent end place put links-joined count lasts same wider small fresh own =
+added asked items joined-items at at' at'' last last' e n old stands absent end position put links-joined count lasts same wider small fresh own =
     let ls : List (Option Link) = links asked in
     let g : Link → Link = joined e.cid last e.slots.items in
     let f : Link → Bool = λ l. list_any (λ s. is_number l.cid (last s)) e.slots.items in
     let new : Link = record { cid = e.cid; slots = e.slots.items; ahead = count_links f ls; behind = [] } in
-    let len : length ls ≡ n = length-map asked (option_map link_of) ∙ sym place in
+    let len : length ls ≡ n = length-map asked (option_map link_of) ∙ sym position in
     let is : links items ≡ ls ++ None ∷ [] = ap links end ∙ links-end asked in
     let put' : (c : ℕ) → at' c ≡ cond (eqb e.cid c) (Some (length ls)) (at c) = λ c. put c ∙ ap (λ k. cond (eqb e.cid c) (Some k) (at c)) (sym len) in
     let link-is : link_of e ≡ new = link_eq e (count_links f ls) (count ∙ ap (count_links f) is ∙ count-end f ls) fresh in
@@ -181,7 +181,7 @@ added asked items joined-items at at' at'' last last' e n old stands absent end 
     let placed : at' e.cid ≡ Some (length ls) = put' e.cid ∙ ap (λ b. cond b (Some (length ls)) (at e.cid)) (eqb_self e.cid) in
     let only : (c : ℕ) → at' c ≡ Some (length ls) → e.cid ≡ c = λ c h. only_step ls at e.cid c (eqb e.cid c) refl (sym (put' c) ∙ h) (λ k. old.within c (length ls) k) in
     let long : length joined-items ≡ n + 1 = sym (length-map joined-items (option_map link_of)) ∙ ap length (links-joined ∙ ap (map (option_map g)) is) ∙ length-map (ls ++ None ∷ []) (option_map g) ∙ length-append ls (None ∷ []) ∙ ap (λ k. k + 1) len in
-    let items-final : List (Option Entry) = set joined-items n (Some e) in
+    let items-final : List (Option QueueEntry) = set joined-items n (Some e) in
     let roomy : (i : ℕ) → i < length ls → room_at items i ≤ room_at items-final i =
     λ i lt. (let k : room_at items i ≤ room_at joined-items i = wider i in
     let r : room_at items-final i ≡ room_at joined-items i = ap room_of (get_or-set_other joined-items n i (Some e) None (λ z. less_apart i (length ls) n lt len z)) in omega arith) in
@@ -191,7 +191,7 @@ added asked items joined-items at at' at'' last last' e n old stands absent end 
     joins ls at' last (room_at items) (room_at items-final) e.cid e.slots.items joinable absent placed only (each_from_all e.slots.items small) roomy own' in
     let c : Command = record { cid = e.cid; slots = e.slots.items } in
     let list : commands (links items-final) ≡ commands ls ++ c ∷ [] = ap commands final ∙ drop-new g (joined-command e.cid last e.slots.items) 0 ls new (zero_least (length ls)) in
-    let distinct : Distinct (commands ls ++ c ∷ []) = Distinct-push (commands ls) c (Distinct-places ls at (λ k. k) (λ a b z. z) old.listed) absent in
+    let distinct : Distinct (commands ls ++ c ∷ []) = Distinct-push (commands ls) c (Distinct-positions ls at (λ k. k) (λ a b z. z) old.listed) absent in
     let last-chained = subst (λ t. Chained t at' (λ s. cond (contains s e.slots.items) (Some e.cid) (last s)) (room_at items-final)) (sym final) chained in
     record {
       chained = chain-agree (links items-final) at' at'' (λ s. cond (contains s e.slots.items) (Some e.cid) (last s)) last' (room_at items-final) (room_at items-final) last-chained same lasts (λ i. le_refl (room_at items-final i));

@@ -10,9 +10,9 @@ use Rattle.tx_latch.proofs.Granted.{Lacks-both}
 use Rattle.tx_latch.proofs.Links.{followers-push}
 use Rattle.tx_latch.proofs.Last.{last_in-push, last_in-at}
 use Rattle.tx_latch.proofs.Ahead.{directly, ahead-push, ahead_at}
-use Rattle.tx_latch.proofs.Places.{from_map, commands-map, commands-append, split-at, Lacks-place, Distinct-places}
+use Rattle.tx_latch.proofs.Places.{from_map, commands-map, commands-append, split-at, Lacks-position, Distinct-positions}
 
--- a list that ends in an empty place
+-- a list that ends in an empty position
 pub get-end : (ls : List (Option Link)) (i : ℕ) → get_or (ls ++ None ∷ []) i None ≡ get_or ls i None
 get-end [] zero = refl
 get-end [] (suc i) = refl
@@ -28,13 +28,13 @@ drop-end zero ls = commands-append ls (None ∷ []) ∙ append-nil (commands ls)
 drop-end (suc n) [] = drop_nil n
 drop-end (suc n) (o ∷ ls) = drop-end n ls
 
--- the places once one is added at the end
-pub place-cases : (ls : List (Option Link)) (g : Link → Link) (n : Link) (i : ℕ) (m : Link) → get_or (map (option_map g) ls ++ Some n ∷ []) i None ≡ Some m
+-- the positions once one is added at the end
+pub position-cases : (ls : List (Option Link)) (g : Link → Link) (n : Link) (i : ℕ) (m : Link) → get_or (map (option_map g) ls ++ Some n ∷ []) i None ≡ Some m
     → ((l : Link) × (i < length ls) × (get_or ls i None ≡ Some l) × (m ≡ g l)) ⊎ ((i ≡ length ls) × (m ≡ n))
-place-cases [] g n zero m h = inr (refl, cc)
-place-cases [] g n (suc i) m h = absurd (cc)
-place-cases (o ∷ ls) g n zero m h = let r = from_map g o m h in inl (r.0, omega arith, r.1, r.2)
-place-cases (o ∷ ls) g n (suc i) m h = ⊎_elim (λ r. inl (r.0, (let lt : i < length ls = r.1 in omega arith), r.2, r.3)) (λ r. inr ((let e : i ≡ length ls = r.0 in omega arith), r.1)) (place-cases ls g n i m h)
+position-cases [] g n zero m h = inr (refl, cc)
+position-cases [] g n (suc i) m h = absurd (cc)
+position-cases (o ∷ ls) g n zero m h = let r = from_map g o m h in inl (r.0, omega arith, r.1, r.2)
+position-cases (o ∷ ls) g n (suc i) m h = ⊎_elim (λ r. inl (r.0, (let lt : i < length ls = r.1 in omega arith), r.2, r.3)) (λ r. inr ((let e : i ≡ length ls = r.0 in omega arith), r.1)) (position-cases ls g n i m h)
 
 pub drop-new : (g : Link → Link) → ((l : Link) → command_of (g l) ≡ command_of l) → (n : ℕ) (ls : List (Option Link)) (m : Link) → n ≤ length ls → commands (drop n (map (option_map g) ls ++ Some m ∷ [])) ≡ commands (drop n ls) ++ command_of m ∷ []
 drop-new g k zero ls m h = commands-append (map (option_map g) ls) (Some m ∷ []) ∙ ap (λ t. t ++ command_of m ∷ []) (commands-map g k ls)
@@ -108,7 +108,7 @@ last-meets ls last slots i l e d h small =
     (λ s lt. ap (is_number l.cid) (h s lt ∙ ap (λ t. last_in t s) whole) ∙ sym (last_in-at (commands (take i ls)) (command_of l) (commands (drop (suc i) ls)) s (subst Distinct whole d))) slots small)
     ∙ meets_mutual slots rest
 
--- what is true of the places of a list that ends in an empty one, once a command has joined
+-- what is true of the positions of a list that ends in an empty one, once a command has joined
 -- and stands there
 pub joins : (ls : List (Option Link)) (at last : ℕ → Option ℕ) (room wide : ℕ → ℕ) (cid : ℕ) (slots : List ℕ)
     → Chained (ls ++ None ∷ []) at last room → Lacks cid (commands ls) → at cid ≡ Some (length ls) → ((c : ℕ) → at c ≡ Some (length ls) → cid ≡ c)
@@ -123,7 +123,7 @@ joins ls at last room wide cid slots old absent placed only small wider own =
     let keeps : (l : Link) → command_of (g l) ≡ command_of l = joined-command cid last slots in
     let same : commands (ls ++ None ∷ []) ≡ commands ls = drop-end 0 ls in
     let there : (i : ℕ) (l : Link) → get_or ls i None ≡ Some l → get_or (ls ++ None ∷ []) i None ≡ Some l = λ i l e. get-end ls i ∙ e in
-    let distinct : Distinct (commands ls) = Distinct-places ls at (λ k. k) (λ a b e. e) (λ k l e. old.listed k l (there k l e)) in
+    let distinct : Distinct (commands ls) = Distinct-positions ls at (λ k. k) (λ a b e. e) (λ k l e. old.listed k l (there k l e)) in
     let meets-is : (i : ℕ) (l : Link) → get_or ls i None ≡ Some l → f l ≡ meets (untaken l.slots (commands (drop (suc i) ls))) slots =
     λ i l e. last-meets ls last slots i l e distinct (λ s lt. old.last_is s lt ∙ ap (λ t. last_in t s) same) small in
     let all : commands (map (option_map g) ls ++ Some n ∷ []) ≡ commands ls ++ c ∷ [] = drop-new g keeps 0 ls n (omega arith) in
@@ -134,11 +134,11 @@ joins ls at last room wide cid slots old absent placed only small wider own =
       listed = λ i m e. ⊎_elim
           (λ r. ap (λ (x : Command). at x.cid) (ap command_of r.3 ∙ keeps r.0) ∙ old.listed i r.0 (there i r.0 r.2))
           (λ r. ap (λ (x : Link). at x.cid) r.1 ∙ placed ∙ ap (λ k. Some k) (sym r.0))
-          (place-cases ls g n i m e);
+          (position-cases ls g n i m e);
       found = λ x i m a e. ⊎_elim
           (λ r. ap (λ (y : Command). y.cid) (ap command_of r.3 ∙ keeps r.0) ∙ old.found x i r.0 a (there i r.0 r.2))
           (λ r. ap (λ (y : Link). y.cid) r.1 ∙ only x (a ∙ ap (λ k. Some k) r.0))
-          (place-cases ls g n i m e);
+          (position-cases ls g n i m e);
       within = λ x i a. (let lt : i < length (ls ++ None ∷ []) = old.within x i a in
           let one : length (ls ++ None ∷ []) ≡ length ls + 1 = length-append ls (None ∷ []) in
           let two : length (map (option_map g) ls ++ Some n ∷ []) ≡ length ls + 1 = length-append (map (option_map g) ls) (Some n ∷ []) ∙ ap (λ k. k + 1) (length-map ls (option_map g)) in
@@ -151,15 +151,15 @@ joins ls at last room wide cid slots old absent placed only small wider own =
           ∙ ap (λ b. followers r.0.slots (commands (drop (suc i) ls)) ++ cond b (cid ∷ []) []) (meets-is i r.0 r.2)
           ∙ sym (ap (λ t. followers t (commands (drop (suc i) (map (option_map g) ls ++ Some n ∷ [])))) slots-same ∙ ap (followers r.0.slots) (after i r.1) ∙ followers-push r.0.slots (commands (drop (suc i) ls)) c))
           (λ r. ap (λ (y : Link). y.behind) r.1 ∙ sym (ap (λ k. followers m.slots (commands (drop (suc k) (map (option_map g) ls ++ Some n ∷ [])))) r.0 ∙ ap (followers m.slots) (drop-past g ls n)))
-          (place-cases ls g n i m e);
+          (position-cases ls g n i m e);
       ahead = λ i m e. ⊎_elim
           (λ r.
           let cid-same : m.cid ≡ r.0.cid = ap (λ (y : Command). y.cid) (ap command_of r.3 ∙ keeps r.0) in
-          let apart : eqb r.0.cid cid ≡ false = same_eqb r.0.cid cid ∙ Lacks-place ls cid i r.0 absent r.2 in
+          let apart : eqb r.0.cid cid ≡ false = same_eqb r.0.cid cid ∙ Lacks-position ls cid i r.0 absent r.2 in
           ap (λ (y : Link). y.ahead) r.3 ∙ joined-ahead cid last slots r.0 ∙ old.ahead i r.0 (there i r.0 r.2) ∙ ap (ahead_of r.0.cid) same
           ∙ sym (ap (λ k. ahead_of k (commands (map (option_map g) ls ++ Some n ∷ []))) cid-same ∙ ap (ahead_of r.0.cid) all ∙ ahead-push r.0.cid (commands ls) c apart))
           (λ r. ap (λ (y : Link). y.ahead) r.1 ∙ counted ∙ sym (ap (λ (y : Link). ahead_of y.cid (commands (map (option_map g) ls ++ Some n ∷ []))) r.1 ∙ ap (ahead_of cid) all ∙ ahead_at (commands ls) c [] (Distinct-push (commands ls) c distinct absent)))
-          (place-cases ls g n i m e);
+          (position-cases ls g n i m e);
       last_is = λ s lt. ap (cond (contains s slots) (Some cid)) (old.last_is s lt ∙ ap (λ t. last_in t s) same) ∙ sym (ap (λ t. last_in t s) all ∙ last_in-push (commands ls) c s);
       room_is = λ i m e. ⊎_elim
           (λ r.
@@ -175,5 +175,5 @@ joins ls at last room wide cid slots old absent placed only small wider own =
           (ap (λ (y : Link). y.behind) r.1)
           (ap (λ k. untaken m.slots (commands (drop (suc k) (map (option_map g) ls ++ Some n ∷ [])))) r.0 ∙ ap (untaken m.slots) (drop-past g ls n) ∙ ap (λ (y : Link). y.slots) r.1)
           (subst (λ k. length slots ≤ wide k) (sym r.0) own))
-          (place-cases ls g n i m e);
+          (position-cases ls g n i m e);
     }

@@ -9,7 +9,7 @@ use Rattle.tx_latch.proofs.Lists.{or_none}
 use Rattle.tx_latch.proofs.Links.{followers-skip, minus_keeps, minus_apart}
 use Rattle.tx_latch.proofs.Last.{last_in-around}
 use Rattle.tx_latch.proofs.Ahead.{ahead-around, Lacks-followers}
-use Rattle.tx_latch.proofs.Places.{from_map, commands-map, split-at, split-none, blocked-place, Distinct-places, link-get, some_same, eqb_apart}
+use Rattle.tx_latch.proofs.Places.{from_map, commands-map, split-at, split-none, blocked-position, Distinct-positions, link-get, some_same, eqb_apart}
 
 pub untaken-skip : (slots : List ℕ) (mid : List Command) (p : Command) (xs : List Command) → meets slots p.slots ≡ false → untaken slots (mid ++ p ∷ xs) ≡ untaken slots (mid ++ xs)
 untaken-skip slots [] p xs h = ap (λ t. untaken t xs) (minus_keeps slots p.slots h)
@@ -62,7 +62,7 @@ kept_room mb lb mf lf room wide e f h w =
     let two : length mf ≡ length lf = ap length f in
     omega arith
 
--- the places once one is empty and the others are lowered
+-- the positions once one is empty and the others are lowered
 pub leave-cases : (ls : List (Option Link)) (g : Link → Link) (i k : ℕ) (m : Link) → get_or (map (option_map g) (set ls i None)) k None ≡ Some m
     → (l : Link) × (k ≡ i → ⊥) × (get_or ls k None ≡ Some l) × (m ≡ g l)
 leave-cases ls g i k m h =
@@ -72,7 +72,7 @@ leave-cases ls g i k m h =
     (λ n. (r.0, n, sym (get_or-set_other ls i k None None n) ∙ r.1, r.2))
     (cases_eq k i)
 
--- what stands behind another place, without the one that left
+-- what stands behind another position, without the one that left
 pub behind-left : (ls : List (Option Link)) (i k : ℕ) (p : Link) → get_or ls i None ≡ Some p → (k ≡ i → ⊥)
     → (k < i × ((mid xs : List Command) × (commands (drop (suc k) ls) ≡ mid ++ command_of p ∷ xs) × (commands (drop (suc k) (set ls i None)) ≡ mid ++ xs)))
     ⊎ (commands (drop (suc k) (set ls i None)) ≡ commands (drop (suc k) ls))
@@ -88,7 +88,7 @@ behind-left ls i k p h n =
     (λ le. inr (ap commands (drop-set-lt (suc k) ls i None (omega arith))))
     (cases_lt k i)
 
--- what is true of the places once a granted command has left
+-- what is true of the positions once a granted command has left
 pub leaves : (ls : List (Option Link)) (at at' last last' : ℕ → Option ℕ) (room wide : ℕ → ℕ) (i : ℕ) (p : Link)
     → Chained ls at last room → get_or ls i None ≡ Some p → blocked (commands (take i ls)) (command_of p) ≡ false
     → ((c : ℕ) → at' c ≡ cond (eqb p.cid c) None (at c))
@@ -102,13 +102,13 @@ leaves ls at at' last last' room wide i p old here free left lasts wider =
     let xs : List Command = commands (drop (suc i) ls) in
     let whole : commands ls ≡ bs ++ command_of p ∷ xs = split-at ls i p here in
     let all : commands (map (option_map g) (set ls i None)) ≡ bs ++ xs = commands-map g keeps (set ls i None) ∙ split-none ls i in
-    let distinct : Distinct (commands ls) = Distinct-places ls at (λ k. k) (λ a b e. e) old.listed in
+    let distinct : Distinct (commands ls) = Distinct-positions ls at (λ k. k) (λ a b e. e) old.listed in
     let apart : (k : ℕ) (l : Link) → (k ≡ i → ⊥) → get_or ls k None ≡ Some l → eqb p.cid l.cid ≡ false =
     λ k l n e. eqb_apart p.cid l.cid (λ same. n (some_same k i (sym (old.listed k l e) ∙ ap at (sym same) ∙ old.listed i p here))) in
     let later : (k : ℕ) (l : Link) → commands (drop (suc k) (map (option_map g) (set ls i None))) ≡ commands (drop (suc k) (set ls i None)) =
     λ k l. ap commands (drop-map (option_map g) (suc k) (set ls i None)) ∙ commands-map g keeps (drop (suc k) (set ls i None)) in
     let apart-before : (k : ℕ) (l : Link) → k < i → get_or ls k None ≡ Some l → meets l.slots p.slots ≡ false =
-    λ k l lt e. blocked-place (take i ls) (command_of p) k l free (get_or-take i ls k None lt ∙ e) in
+    λ k l lt e. blocked-position (take i ls) (command_of p) k l free (get_or-take i ls k None lt ∙ e) in
     record {
       listed = λ k m e. (let r = leave-cases ls g i k m e in
           ap (λ (y : Link). at' y.cid) r.3 ∙ left r.0.cid ∙ ap (λ b. cond b None (at r.0.cid)) (apart k r.0 r.1 r.2) ∙ old.listed k r.0 r.2);

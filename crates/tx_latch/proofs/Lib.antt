@@ -10,7 +10,7 @@ pub mod Last
 pub mod Ahead
 -- Which commands become granted, by those that follow the one that leaves.
 pub mod Freed
--- Changes of one place, of all places, and of the end of the list of places.
+-- Changes of one position, of all positions, and of the end of the list of positions.
 pub mod Places
 -- What holds of the queues after a command joined them.
 pub mod Join
@@ -18,15 +18,15 @@ pub mod Join
 pub mod Leave
 -- One slot of a command that joins the queues.
 pub mod Steps
--- What the places tell of the list that was asked.
+-- What the positions tell of the list that was asked.
 pub mod Read
--- A command added at the end of the places, and one taken out.
+-- A command added at the end of the positions, and one taken out.
 pub mod Ends
--- A granted command taken out of the places.
+-- A granted command taken out of the positions.
 pub mod Taken
 -- Commands that need no queue.
 pub mod Lone
--- The places once the empty ones are dropped.
+-- The positions once the empty ones are dropped.
 pub mod Compact
 -- No two granted commands share a slot.
 pub mod Apart

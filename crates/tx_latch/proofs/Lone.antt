@@ -156,7 +156,7 @@ without-one q xs p ys d =
     let whole : q ++ (xs ++ p ∷ ys) ≡ (q ++ xs) ++ p ∷ ys = sym (append_assoc q xs (p ∷ ys)) in
     sym (ap (without p.cid) whole ∙ without-around (q ++ xs) p ys (subst Distinct whole d) ∙ append_assoc q xs ys)
 
--- ---- the places of such commands
+-- ---- the positions of such commands
 
 pub any_number : (x : ℕ) (ls : List Lone) → list_any (λ one. eqb x one.cid) ls ≡ contains x (cids (lones ls))
 any_number x [] = refl

@@ -7,12 +7,12 @@ use Rattle.std.proofs.lemmas.List.{length_push}
 use Rattle.std.proofs.lemmas.List.Folds.{list_any-append}
 use Rattle.std.proofs.lemmas.Bool.{eqb-true, eq-eqb}
 use Rattle.tx_latch.specs.Asked.{contains, cids, Lacks, Distinct}
-use Rattle.tx_latch.specs.Queues.{Link, untaken, last_in, is_number, commands, command_of, Chained, joined, followed, adds, link_at, at_place, count_links, HasRoom, after_slot, adds_slot}
+use Rattle.tx_latch.specs.Queues.{Link, untaken, last_in, is_number, commands, command_of, Chained, joined, followed, adds, link_at, at_position, count_links, HasRoom, after_slot, adds_slot}
 use Rattle.tx_latch.proofs.Lists.{or_none, or_false, eqb_self, same_eqb}
 use Rattle.tx_latch.proofs.Granted.{Lacks-append}
 use Rattle.tx_latch.proofs.Last.{last_in-at}
 use Rattle.tx_latch.proofs.Ahead.{Lacks-followers}
-use Rattle.tx_latch.proofs.Places.{from_map, split-at, Lacks-place, Distinct-places, link-get, some_same, none_apart, eqb_apart, map-agree, at_place-map}
+use Rattle.tx_latch.proofs.Places.{from_map, split-at, Lacks-position, Distinct-positions, link-get, some_same, none_apart, eqb_apart, map-agree, at_position-map}
 
 -- whether a link is the last in one of these slots
 abbrev pub is_last : (ℕ → Option ℕ) → List ℕ → Link → Bool
@@ -155,10 +155,10 @@ fresh ls at last room cid old absent i l e =
 
 -- one slot: the links
 pub join-links : (ls : List (Option Link)) (at last : ℕ → Option ℕ) (room : ℕ → ℕ) (cid : ℕ) (ks : List ℕ) (n b : ℕ) → Chained ls at last room → Lacks cid (commands ls) → cond (contains n ks) (Some cid) (last n) ≡ Some b
-    → at_place (at b) (followed cid) (map (option_map (joined cid last ks)) ls) ≡ map (option_map (joined cid last (ks ++ n ∷ []))) ls
+    → at_position (at b) (followed cid) (map (option_map (joined cid last ks)) ls) ≡ map (option_map (joined cid last (ks ++ n ∷ []))) ls
 join-links ls at last room cid ks n b old absent e =
-    at_place-map ls at old.listed old.found b (joined cid last ks) (followed cid) (joined cid last (ks ++ n ∷ []))
-    (λ k l t. joined-more cid last ks n b l (fresh ls at last room cid old absent k l t) (Lacks-place ls cid k l absent t) e)
+    at_position-map ls at old.listed old.found b (joined cid last ks) (followed cid) (joined cid last (ks ++ n ∷ []))
+    (λ k l t. joined-more cid last ks n b l (fresh ls at last room cid old absent k l t) (Lacks-position ls cid k l absent t) e)
 
 pub join-links-none : (ls : List (Option Link)) (last : ℕ → Option ℕ) (cid : ℕ) (ks : List ℕ) (n : ℕ) → cond (contains n ks) (Some cid) (last n) ≡ None
     → map (option_map (joined cid last ks)) ls ≡ map (option_map (joined cid last (ks ++ n ∷ []))) ls
@@ -190,7 +190,7 @@ count_place ls at last room cid ks n b i None g old absent e t =
     ∙ ap (λ o. count_links (is_last last ks) ls + cond (adds cid (option_map (joined cid last ks) o)) 1 0) (sym g)
 count_place ls at last room cid ks n b i (Some l₀) g old absent e t =
     let is : l₀.cid ≡ b = old.found b i l₀ t g in
-    let there : contains n ks ≡ false = slot_free cid last ks n b l₀ e is (Lacks-place ls cid i l₀ absent g) in
+    let there : contains n ks ≡ false = slot_free cid last ks n b l₀ e is (Lacks-position ls cid i l₀ absent g) in
     let held : last n ≡ Some b = sym (ap (λ p. cond p (Some cid) (last n)) there) ∙ e in
     let now : is_last last (ks ++ n ∷ []) l₀ ≡ true = is_last-more last ks n l₀ ∙ ap (λ o. is_last last ks l₀ || is_number l₀.cid o) held ∙ ap (λ d. is_last last ks l₀ || d) (eq-eqb l₀.cid b is) ∙ or_true (is_last last ks l₀) in
     count-one (is_last last ks) (is_last last (ks ++ n ∷ [])) ls i l₀ g now
@@ -232,9 +232,9 @@ join-room ls at last room cid ks n b i old absent small e t = λ m h add.
     let l : Link = r.0 in
     let is : l.cid ≡ b = old.found b i l t r.1 in
     let free : is_last last ks l ≡ false = adds_free cid l (is_last last ks l) (sym (ap (λ x. adds cid (Some x)) r.2) ∙ add) in
-    let there : contains n ks ≡ false = slot_free cid last ks n b l e is (Lacks-place ls cid i l absent r.1) in
+    let there : contains n ks ≡ false = slot_free cid last ks n b l e is (Lacks-position ls cid i l absent r.1) in
     let held : last n ≡ Some b = sym (ap (λ p. cond p (Some cid) (last n)) there) ∙ e in
-    let distinct : Distinct (commands ls) = Distinct-places ls at (λ k. k) (λ a b e. e) old.listed in
+    let distinct : Distinct (commands ls) = Distinct-positions ls at (λ k. k) (λ a b e. e) old.listed in
     let whole = split-at ls i l r.1 in
     let left : contains n (untaken l.slots (commands (drop (suc i) ls))) ≡ true =
     last_in-at (commands (take i ls)) (command_of l) (commands (drop (suc i) ls)) n (subst Distinct whole distinct)
@@ -266,7 +266,7 @@ count-none last (Some l ∷ ls) = let ih : 0 ≡ count_links (is_last last []) l
 
 pub after-agree : (o : Option ℕ) (at at' : ℕ → Option ℕ) (cid : ℕ) (ls : List (Option Link)) → ((c : ℕ) → at' c ≡ at c) → after_slot o at' cid ls ≡ after_slot o at cid ls
 after-agree None at at' cid ls h = refl
-after-agree (Some b) at at' cid ls h = ap (λ p. at_place p (followed cid) ls) (h b)
+after-agree (Some b) at at' cid ls h = ap (λ p. at_position p (followed cid) ls) (h b)
 
 pub adds-agree : (o : Option ℕ) (at at' : ℕ → Option ℕ) (cid : ℕ) (ls : List (Option Link)) → ((c : ℕ) → at' c ≡ at c) → adds_slot o at' cid ls ≡ adds_slot o at cid ls
 adds-agree None at at' cid ls h = refl

@@ -1,4 +1,4 @@
--- A granted command taken out of the places.
+-- A granted command taken out of the positions.
 use Rattle.std.proofs.Common.{◌≡◌, ℕ, ◌<◌, ◌≤◌, Bool, true, false, cond, not, ◌&&◌, eqb, suc, List, ◌∷◌, ◌++◌, Option, None, Some, map, get_or, set, take, drop, refl, sym, ap, ◌∙◌, subst}
 use Rattle.std.specs.Option.{option_map, is_some}
 use Rattle.std.specs.List.{filter}
@@ -9,7 +9,7 @@ use Rattle.tx_latch.specs.Queues.{Link, commands, command_of, Chained, Placed, i
 use Rattle.tx_latch.proofs.Granted.{without-around}
 use Rattle.tx_latch.proofs.Ahead.{is_granted_at}
 use Rattle.tx_latch.proofs.Freed.{freed-around}
-use Rattle.tx_latch.proofs.Places.{link-get, some_same, none_apart, split-at, split-none, commands-map, Distinct-places}
+use Rattle.tx_latch.proofs.Places.{link-get, some_same, none_apart, split-at, split-none, commands-map, Distinct-positions}
 use Rattle.tx_latch.proofs.Leave.{leaves, left_some, leave-cases}
 
 true_false : true ≡ false → ⊥
@@ -46,7 +46,7 @@ placed_listed : (ls : List (Option Link)) (at at' : ℕ → Option ℕ) (cid i k
 placed_listed ls at at' cid i k l true e left here r f g = absurd (r.0 (some_same k i (sym (f r.1) ∙ ap at (sym (eqb-true cid l.cid e)) ∙ here)))
 placed_listed ls at at' cid i k l false e left here r f g = left ∙ ap (λ b. cond b None (at l.cid)) e ∙ f r.1
 
--- the places while one is empty
+-- the positions while one is empty
 pub placed-set : (ls : List (Option Link)) (at at' last : ℕ → Option ℕ) (room : ℕ → ℕ) (cid i : ℕ) → Chained ls at last room → at cid ≡ Some i → ((c : ℕ) → at' c ≡ cond (eqb cid c) None (at c)) → Placed (set ls i None) at'
 placed-set ls at at' last room cid i old here left = (
   λ k l e. placed_listed ls at at' cid i k l (eqb cid l.cid) refl (left l.cid) here (set_get ls i k l e) (λ h. old.listed k l h) (λ h. old.found cid i l here h),
@@ -65,7 +65,7 @@ taken ls items at at' last last' room wide cid i l old stands granted here there
     let xs : List Command = commands (drop (suc i) ls) in
     let p : Command = command_of l in
     let whole : commands ls ≡ bs ++ p ∷ xs = split-at ls i l there in
-    let distinct : Distinct (bs ++ p ∷ xs) = subst Distinct whole (Distinct-places ls at (λ k. k) (λ a b z. z) old.listed) in
+    let distinct : Distinct (bs ++ p ∷ xs) = subst Distinct whole (Distinct-positions ls at (λ k. k) (λ a b z. z) old.listed) in
     let free : blocked bs p ≡ false = not_true (blocked bs p) (sym (is_granted_at bs p xs distinct) ∙ ap (λ t. is_granted t l.cid) (sym whole) ∙ ap (is_granted (commands ls)) same ∙ granted) in
     let all : commands items ≡ bs ++ xs = ap commands is ∙ commands-map (lowered_in l.behind) (λ x. refl) (set ls i None) ∙ split-none ls i in
     let follow : l.behind ≡ followers l.slots xs = old.behind i l there in

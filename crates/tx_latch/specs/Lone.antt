@@ -4,7 +4,7 @@ use Rattle.std.specs.Prelude.{List, [], ◌∷◌, ◌++◌, map}
 use Rattle.tx_latch.specs.Asked.{Command, Distinct, AreFree}
 use Rattle.tx_latch.specs.Queues.{Kept, asked_of}
 use Rattle.tx_latch.specs.declared.asked.Lone.{Lone}
-use Rattle.tx_latch.specs.declared.asked.Asked.{Asked}
+use Rattle.tx_latch.specs.declared.asked.AskedCommands.{AskedCommands}
 
 -- the command of one slot
 abbrev pub alone : Lone → Command
@@ -14,11 +14,11 @@ abbrev pub lones : List Lone → List Command
 lones ls = map alone ls
 
 -- the list that was asked
-abbrev pub all_asked : Asked → List Command
+abbrev pub all_asked : AskedCommands → List Command
 all_asked a = asked_of a.queues ++ lones a.lone.items
 
 -- what holds between calls
-pub record KeptAll (a : Asked) : Type 0 where
+pub record KeptAll (a : AskedCommands) : Type 0 where
   pub kept : Kept a.queues
   pub free : AreFree (asked_of a.queues) (lones a.lone.items)
   pub distinct : Distinct (all_asked a)

@@ -8,7 +8,7 @@ use Rattle.std.specs.Vec.{vec_capacity}
 use Rattle.std.specs.HashMap.{get}
 use Rattle.tx_types.specs.declared.limits.TheConstants.{LATCH_SLOTS}
 use Rattle.tx_latch.specs.Asked.{Command, contains, meets}
-use Rattle.tx_latch.specs.declared.queues.Entry.{Entry}
+use Rattle.tx_latch.specs.declared.queues.QueueEntry.{QueueEntry}
 use Rattle.tx_latch.specs.declared.queues.Queues.{Queues}
 
 -- these slots without the taken ones
@@ -53,30 +53,30 @@ pub record Link : Type 0 where
   pub ahead : ℕ
   pub behind : List ℕ
 
-abbrev pub link_of : Entry → Link
+abbrev pub link_of : QueueEntry → Link
 link_of e = record { cid = e.cid; slots = e.slots.items; ahead = e.ahead; behind = e.behind.items }
 
--- what is kept, by places
-abbrev pub links : List (Option Entry) → List (Option Link)
+-- what is kept, by positions
+abbrev pub links : List (Option QueueEntry) → List (Option Link)
 links asked = map (option_map link_of) asked
 
 -- the command of a link
 abbrev pub command_of : Link → Command
 command_of l = record { cid = l.cid; slots = l.slots }
 
--- the commands that stand in these places
+-- the commands that stand in these positions
 abbrev pub commands : List (Option Link) → List Command
 commands [] = []
-commands (None ∷ places) = commands places
-commands (Some l ∷ places) = command_of l ∷ commands places
+commands (None ∷ positions) = commands positions
+commands (Some l ∷ positions) = command_of l ∷ commands positions
 
--- the room of the list that is kept with the command in a place
-abbrev pub room_of : Option Entry → ℕ
+-- the room of the list that is kept with the command at a position
+abbrev pub room_of : Option QueueEntry → ℕ
 room_of None = 0
 room_of (Some e) = vec_capacity e.behind
 
--- what holds of links by place, the places by number, the last number by slot, and
--- the room by place
+-- what holds of links by position, the positions by number, the last number by slot, and
+-- the room by position
 pub record Chained (ls : List (Option Link)) (at : ℕ → Option ℕ) (last : ℕ → Option ℕ) (room : ℕ → ℕ) : Type 0 where
   -- each command is found
   pub listed : (i : ℕ) (l : Link) → slice_index_or ls i None ≡ Some l → at l.cid ≡ Some i
@@ -84,26 +84,28 @@ pub record Chained (ls : List (Option Link)) (at : ℕ → Option ℕ) (last : �
   pub found : (c i : ℕ) (l : Link) → at c ≡ Some i → slice_index_or ls i None ≡ Some l → l.cid ≡ c
   pub within : (c i : ℕ) → at c ≡ Some i → i < length ls
   -- with each are those that stand directly behind it
-  pub behind : (i : ℕ) (l : Link) → slice_index_or ls i None ≡ Some l → l.behind ≡ followers l.slots (commands (drop (suc i) ls))
+  pub behind : (i : ℕ) (l : Link) → slice_index_or ls i None ≡ Some l
+      → l.behind ≡ followers l.slots (commands (drop (suc i) ls))
   -- and the count of those that it stands directly behind
   pub ahead : (i : ℕ) (l : Link) → slice_index_or ls i None ≡ Some l → l.ahead ≡ ahead_of l.cid (commands ls)
   -- each slot has its last command
   pub last_is : (s : ℕ) → s < LATCH_SLOTS → last s ≡ last_in (commands ls) s
   -- there is room for one more behind each command in each slot in which it is the last
-  pub room_is : (i : ℕ) (l : Link) → slice_index_or ls i None ≡ Some l → length l.behind + length (untaken l.slots (commands (drop (suc i) ls))) ≤ room i
+  pub room_is : (i : ℕ) (l : Link) → slice_index_or ls i None ≡ Some l
+      → length l.behind + length (untaken l.slots (commands (drop (suc i) ls))) ≤ room i
 
--- each link is found by its number, and no other by its place
+-- each link is found by its number, and no other by its position
 abbrev pub Placed : List (Option Link) → (ℕ → Option ℕ) → Type 0
 Placed ls at =
     ((i : ℕ) (l : Link) → slice_index_or ls i None ≡ Some l → at l.cid ≡ Some i)
     × ((c i : ℕ) (l : Link) → at c ≡ Some i → slice_index_or ls i None ≡ Some l → l.cid ≡ c)
 
--- the place of a number
-abbrev pub place_of : Queues → ℕ → Option ℕ
-place_of q c = get nat_eq q.places c
+-- the position of a number
+abbrev pub position_of : Queues → ℕ → Option ℕ
+position_of q c = get nat_eq q.positions c
 
--- the room of a place
-abbrev pub room_at : List (Option Entry) → ℕ → ℕ
+-- the room of a position
+abbrev pub room_at : List (Option QueueEntry) → ℕ → ℕ
 room_at asked i = room_of (slice_index_or asked i None)
 
 -- the last number in a slot
@@ -112,11 +114,12 @@ last_of q s = slice_index_or q.last s None
 
 -- what holds of the queues, also while a command joins them
 abbrev pub Joinable : Queues → Type 0
-Joinable q = Chained (links q.asked.items) (place_of q) (last_of q) (room_at q.asked.items)
+Joinable q = Chained (links q.asked.items) (position_of q) (last_of q) (room_at q.asked.items)
 
--- and between calls: each number that has a place stands there
+-- and between calls: each number that has a position stands there
 abbrev pub Kept : Queues → Type 0
-Kept q = Joinable q × ((c i : ℕ) → place_of q c ≡ Some i → is_some (slice_index_or (links q.asked.items) i None) ≡ true)
+Kept q = Joinable q × ((c i : ℕ) → position_of q c ≡ Some i
+    → is_some (slice_index_or (links q.asked.items) i None) ≡ true)
 
 -- the list that was asked
 abbrev pub asked_of : Queues → List Command
@@ -124,18 +127,21 @@ asked_of q = commands (links q.asked.items)
 
 -- the link with one of this number behind it, which is added unless it was just now
 abbrev pub followed : ℕ → Link → Link
-followed cid l = cond (is_number cid (slice_get l.behind (length l.behind - 1))) l (record l { behind = l.behind ++ cid ∷ [] })
+followed cid l = cond (is_number cid (slice_get l.behind (length l.behind - 1))) l (record l {
+  behind = l.behind ++ cid
+      ∷ [];
+})
 
 -- the link with one less before it
 abbrev pub lowered : Link → Link
 lowered l = record l { ahead = l.ahead - 1 }
 
--- a change of the link in a place
-abbrev pub at_place : Option ℕ → (Link → Link) → List (Option Link) → List (Option Link)
-at_place None f ls = ls
-at_place (Some i) f ls = slice_set ls i (option_map f (slice_index_or ls i None))
+-- a change of the link at a position
+abbrev pub at_position : Option ℕ → (Link → Link) → List (Option Link) → List (Option Link)
+at_position None f ls = ls
+at_position (Some i) f ls = slice_set ls i (option_map f (slice_index_or ls i None))
 
--- the link in a place
+-- the link at a position
 abbrev pub link_at : Option ℕ → List (Option Link) → Option Link
 link_at None ls = None
 link_at (Some i) ls = slice_index_or ls i None
@@ -145,13 +151,16 @@ abbrev pub adds : ℕ → Option Link → Bool
 adds cid None = false
 adds cid (Some l) = not (is_number cid (slice_get l.behind (length l.behind - 1)))
 
--- whether there is room for one more behind the link of a place, where it is added
+-- whether there is room for one more behind the link of a position, where it is added
 abbrev pub HasRoom : ℕ → Option Link → ℕ → Type 0
-HasRoom cid place room = (l : Link) → place ≡ Some l → adds cid (Some l) ≡ true → length l.behind < room
+HasRoom cid position room = (l : Link) → position ≡ Some l → adds cid (Some l) ≡ true → length l.behind < room
 
 -- the link behind which one of this number is, where it was the last in one of these slots
 abbrev pub joined : ℕ → (ℕ → Option ℕ) → List ℕ → Link → Link
-joined cid last slots l = cond (list_any (λ s. is_number l.cid (last s)) slots) (record l { behind = l.behind ++ cid ∷ [] }) l
+joined cid last slots l = cond (list_any (λ s. is_number l.cid (last s)) slots) (record l {
+  behind = l.behind ++ cid
+      ∷ [];
+}) l
 
 -- the links that pass a test
 abbrev pub count_links : (Link → Bool) → List (Option Link) → ℕ
@@ -168,7 +177,7 @@ tally x (y ∷ ys) = cond (nat_eq x y) 1 0 + tally x ys
 abbrev pub lowered_in : List ℕ → Link → Link
 lowered_in cids l = record l { ahead = l.ahead - tally l.cid cids }
 
--- whether a command stands in a place with none before it
+-- whether a command stands at a position with none before it
 abbrev pub has_none_before : Option Link → Bool
 has_none_before None = false
 has_none_before (Some l) = nat_eq l.ahead 0
@@ -176,14 +185,14 @@ has_none_before (Some l) = nat_eq l.ahead 0
 -- the links after one of this number came behind the last in a slot
 abbrev pub after_slot : Option ℕ → (ℕ → Option ℕ) → ℕ → List (Option Link) → List (Option Link)
 after_slot None at cid ls = ls
-after_slot (Some b) at cid ls = at_place (at b) (followed cid) ls
+after_slot (Some b) at cid ls = at_position (at b) (followed cid) ls
 
 -- whether it is added there
 abbrev pub adds_slot : Option ℕ → (ℕ → Option ℕ) → ℕ → List (Option Link) → Bool
 adds_slot None at cid ls = false
 adds_slot (Some b) at cid ls = adds cid (link_at (at b) ls)
 
--- the place of a number that has one, once each of these links, from this place on,
+-- the position of a number that has one, once each of these links, from this position on,
 -- is given its own
 abbrev pub replaced : List (Option Link) → ℕ → ℕ → Option ℕ → Option ℕ
 replaced [] from c o = o

@@ -29,7 +29,7 @@ pub struct Lone {
 
 /// The commands that were asked, in asking order: those in the queues, and then the others.
 #[derive(Debug, Drop)]
-pub struct Asked {
+pub struct AskedCommands {
     pub queues: Queues,
     pub lone: ArrayVec<Lone, FEW>,
 }
@@ -48,20 +48,20 @@ fn has_slot(lone: &[Lone], slot: Slot) -> bool
     lone.iter().any(|one| one.slot == slot.get())
 }
 
-// The place of the command of this number.
-fn place_of(lone: &[Lone], cid: Cid) -> Option<usize>
+// The position of the command of this number.
+fn position_of(lone: &[Lone], cid: Cid) -> Option<usize>
     ensures { result ≡ position (λ one. nat_eq one.cid cid) lone.now }
 {
     lone.iter().position(|one| one.cid == cid.get())
 }
 
-impl Asked {
+impl AskedCommands {
     /// No command.
-    pub fn new(alloc: Global) -> Asked
+    pub fn new(alloc: Global) -> AskedCommands
         ensures kept { KeptAll result }
         ensures empty { all_asked result ≡ [] }
     {
-        Asked {
+        AskedCommands {
             queues: Queues::new(alloc),
             lone: ArrayVec::new(),
         }
@@ -147,7 +147,10 @@ impl Asked {
         requires kept { KeptAll self.old }
         requires absent { is_asked (all_asked self.old) cid ≡ false }
         ensures kept { KeptAll self.new }
-        ensures ok { IfOk result (λ now. all_asked self.new ≡ all_asked self.old ++ record { cid = cid; slots = slots.now } ∷ []) }
+        ensures ok { IfOk result (λ now. all_asked self.new ≡ all_asked self.old ++ record {
+          cid = cid;
+          slots = slots.now;
+        } ∷ []) }
         ensures granted { IfOk result (λ now. now ≡ is_granted (all_asked self.new) cid) }
         ensures same { OnErr result (all_asked self.new ≡ all_asked self.old) }
         ensures err { IfErr result (λ e. e ≡ Fault.OutOfMemory) }
@@ -177,7 +180,10 @@ impl Asked {
         requires kept { KeptAll self.old }
         requires absent { is_asked (all_asked self.old) cid ≡ false }
         ensures kept { KeptAll self.new }
-        ensures ok { IfOk result (λ now. all_asked self.new ≡ all_asked self.old ++ record { cid = cid; slots = slots.now } ∷ []) }
+        ensures ok { IfOk result (λ now. all_asked self.new ≡ all_asked self.old ++ record {
+          cid = cid;
+          slots = slots.now;
+        } ∷ []) }
         ensures granted { IfOk result (λ now. now ≡ is_granted (all_asked self.new) cid) }
         ensures same { OnErr result (all_asked self.new ≡ all_asked self.old) }
         ensures err { IfErr result (λ e. e ≡ Fault.OutOfMemory) }
@@ -200,9 +206,9 @@ impl Asked {
         ensures left { all_asked self.new ≡ without cid (all_asked self.old) }
         ensures freed { result.items ≡ newly_granted (all_asked self.old) (all_asked self.new) }
     {
-        match place_of(self.lone.as_slice(), cid) {
-            Some(place) => {
-                let _ = self.lone.remove(place);
+        match position_of(self.lone.as_slice(), cid) {
+            Some(position) => {
+                let _ = self.lone.remove(position);
                 Vec::new(self.queues.allocator())
             }
             None => self.queues.remove(cid),

@@ -2,7 +2,7 @@
 ghost use Rattle.std.specs.Prelude.{◌≡◌, ◌++◌, ◌∷◌, [], ◌↔◌, true, false, IsTrue, IsOk, IfOk, IfErr, OnErr};
 ghost use Rattle.tx_latch.specs.Asked.{is_asked, is_granted, newly_granted, without};
 
-use crate::asked::Asked;
+use crate::asked::AskedCommands;
 use crate::cid::Cid;
 use crate::slot::Slot;
 use std::alloc::Global;
@@ -13,7 +13,7 @@ use tx_types::Fault;
 /// no earlier one shares a slot with it. Contracts see the list of the commands.
 #[derive(Debug, Drop)]
 pub struct Latches {
-    asked: Asked,
+    asked: AskedCommands,
 }
 
 impl Model for Latches {
@@ -34,7 +34,7 @@ impl Latches {
         ensures { result ≡ [] }
     {
         Latches {
-            asked: Asked::new(alloc),
+            asked: AskedCommands::new(alloc),
         }
     }
 

@@ -6,7 +6,8 @@ ghost use Rattle.tx_latch.specs.Asked.{Command, granted};
 /// asked is granted, and so is each that shares no slot with one that asked before it, whoever asks
 /// later.
 pub fn latches_keep_apart()
-    ensures apart { (asked : List Command) (c d : Command) (slot : ℕ) → Contains (granted asked) c → Contains (granted asked) d
+    ensures apart { (asked : List Command) (c d : Command) (slot : ℕ) → Contains (granted asked) c
+        → Contains (granted asked) d
         → Contains c.slots slot → Contains d.slots slot → c ≡ d }
     ensures first { (c : Command) (later : List Command) → Contains (granted (c ∷ later)) c }
     ensures free { (before later : List Command) (c : Command)

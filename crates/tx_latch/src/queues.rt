@@ -12,14 +12,14 @@
 //! of it: a release hands out that list, and takes none.
 //!
 //! A call looks at the commands directly before or behind one in its slots, each by its number, and
-//! never at the others that wait. The places of those that left are dropped once they are more than
-//! those that are taken, which costs each command that left a constant share. So `add` and `remove`
-//! cost O(slots of the command), amortised.
+//! never at the others that wait. The positions of those that left are dropped once they are more
+//! than those that are taken, which costs each command that left a constant share. So `add` and
+//! `remove` cost O(slots of the command), amortised.
 ghost use Rattle.std.specs.Prelude.{◌≡◌, ℕ, ◌+◌, ◌-◌, ◌<◌, ◌≤◌, ◌++◌, ◌∷◌, [], ◌&&◌, true, false, IsTrue, IfOk, IfErr, OnErr, map, cond, length, Option, None, Some, slice_index_or, nat_eq};
 ghost use Rattle.std.specs.Option.{option_map, is_some};
 ghost use Rattle.std.specs.List.{list_any, All, slice_get, filter};
 ghost use Rattle.tx_latch.specs.Asked.{contains, cids, is_asked, is_granted, newly_granted, without};
-ghost use Rattle.tx_latch.specs.Queues.{Joinable, Kept, HasRoom, links, link_of, room_of, asked_of, place_of, last_of, room_at, at_place, link_at, followed, lowered, adds, joined, count_links, lowered_in, is_number, has_none_before, Placed, after_slot, adds_slot, replaced};
+ghost use Rattle.tx_latch.specs.Queues.{Joinable, Kept, HasRoom, links, link_of, room_of, asked_of, position_of, last_of, room_at, at_position, link_at, followed, lowered, adds, joined, count_links, lowered_in, is_number, has_none_before, Placed, after_slot, adds_slot, replaced};
 
 use crate::cid::Cid;
 use crate::slot::Slot;
@@ -34,7 +34,7 @@ const FEW_SLOTS: usize = 16;
 
 /// A command that stands in the list.
 #[derive(Debug, Drop)]
-pub struct Entry {
+pub struct QueueEntry {
     pub cid: Cid,
     pub slots: SmallVec<Slot, FEW_SLOTS>,
     /// How many commands it stands directly behind in one of its slots.
@@ -46,10 +46,10 @@ pub struct Entry {
 /// The commands that were asked, and the queues of the slots.
 #[derive(Debug, Drop)]
 pub struct Queues {
-    /// The commands by place, in asking order. A place is empty once its command has left.
-    pub asked: Vec<Option<Entry>>,
-    /// The place of each command, by its number.
-    pub places: HashMap<u64, usize>,
+    /// The commands by position, in asking order. A position is empty once its command has left.
+    pub asked: Vec<Option<QueueEntry>>,
+    /// The position of each command, by its number.
+    pub positions: HashMap<u64, usize>,
     /// The last command in each slot.
     pub last: [Option<Cid>; LATCH_SLOTS],
 }
@@ -62,7 +62,7 @@ impl Queues {
     {
         Queues {
             asked: Vec::new(alloc),
-            places: HashMap::new(alloc),
+            positions: HashMap::new(alloc),
             last: [None; LATCH_SLOTS],
         }
     }
@@ -72,7 +72,7 @@ impl Queues {
         *self.asked.allocator()
     }
 
-    /// Whether no command stands in the list, as far as no place is kept of one that left.
+    /// Whether no command stands in the list, as far as no position is kept of one that left.
     pub fn is_empty(&self) -> bool
         ensures { IsTrue result → asked_of self.now ≡ [] }
     {
@@ -84,7 +84,7 @@ impl Queues {
         requires { Kept self.now }
         ensures { result ≡ is_asked (asked_of self.now) cid }
     {
-        self.places.contains_key(&cid.get())
+        self.positions.contains_key(&cid.get())
     }
 
     /// Whether a command of this number is granted.
@@ -92,8 +92,8 @@ impl Queues {
         requires { Kept self.now }
         ensures { result ≡ is_granted (asked_of self.now) cid }
     {
-        match self.places.get(&cid.get()).copied() {
-            Some(place) if place < self.asked.len() => is_first(&self.asked[place]),
+        match self.positions.get(&cid.get()).copied() {
+            Some(position) if position < self.asked.len() => is_first(&self.asked[position]),
             _ => false,
         }
     }
@@ -101,16 +101,18 @@ impl Queues {
     /// Puts a command directly behind another, unless it was put there just now.
     /// Says whether it did.
     #[inline(always)]
-    fn stand_behind(&mut self, before: Cid, cid: Cid) -> bool
-        requires { (i : ℕ) → place_of self.old before ≡ Some i → HasRoom cid (slice_index_or (links self.old.asked.items) i None) (room_at self.old.asked.items i) }
-        ensures followed { links self.new.asked.items ≡ at_place (place_of self.old before) (followed cid) (links self.old.asked.items) }
-        ensures told { result ≡ adds cid (link_at (place_of self.old before) (links self.old.asked.items)) }
-        ensures places { (c : ℕ) → place_of self.new c ≡ place_of self.old c }
+    fn queue_behind(&mut self, before: Cid, cid: Cid) -> bool
+        requires { (i : ℕ) → position_of self.old before ≡ Some i
+            → HasRoom cid (slice_index_or (links self.old.asked.items) i None) (room_at self.old.asked.items i) }
+        ensures followed { links self.new.asked.items
+            ≡ at_position (position_of self.old before) (followed cid) (links self.old.asked.items) }
+        ensures told { result ≡ adds cid (link_at (position_of self.old before) (links self.old.asked.items)) }
+        ensures positions { (c : ℕ) → position_of self.new c ≡ position_of self.old c }
         ensures last { self.new.last ≡ self.old.last }
         ensures room { (i : ℕ) → room_at self.old.asked.items i ≤ room_at self.new.asked.items i }
     {
-        match self.places.get(&before.get()).copied() {
-            Some(place) if place < self.asked.len() => follow(&mut self.asked[place], cid),
+        match self.positions.get(&before.get()).copied() {
+            Some(position) if position < self.asked.len() => follow(&mut self.asked[position], cid),
             _ => false,
         }
     }
@@ -127,7 +129,7 @@ impl Queues {
     fn set_last(&mut self, slot: Slot, cid: Cid)
         ensures last { (s : ℕ) → last_of self.new s ≡ cond (nat_eq s slot) (Some cid) (last_of self.old s) }
         ensures asked { self.new.asked ≡ self.old.asked }
-        ensures places { self.new.places ≡ self.old.places }
+        ensures positions { self.new.positions ≡ self.old.positions }
     {
         self.last[usize::from(slot.get())] = Some(cid);
     }
@@ -136,15 +138,18 @@ impl Queues {
     /// behind one more.
     #[inline(always)]
     fn join_slot(&mut self, slot: Slot, cid: Cid) -> bool
-        requires { (b i : ℕ) → last_of self.old slot ≡ Some b → place_of self.old b ≡ Some i → HasRoom cid (slice_index_or (links self.old.asked.items) i None) (room_at self.old.asked.items i) }
-        ensures links { links self.new.asked.items ≡ after_slot (last_of self.old slot) (place_of self.old) cid (links self.old.asked.items) }
-        ensures told { result ≡ adds_slot (last_of self.old slot) (place_of self.old) cid (links self.old.asked.items) }
+        requires { (b i : ℕ) → last_of self.old slot ≡ Some b → position_of self.old b ≡ Some i
+            → HasRoom cid (slice_index_or (links self.old.asked.items) i None) (room_at self.old.asked.items i) }
+        ensures links { links self.new.asked.items
+            ≡ after_slot (last_of self.old slot) (position_of self.old) cid (links self.old.asked.items) }
+        ensures told { result ≡ adds_slot (last_of self.old slot) (position_of self.old) cid
+            (links self.old.asked.items) }
         ensures last { (s : ℕ) → last_of self.new s ≡ cond (nat_eq s slot) (Some cid) (last_of self.old s) }
-        ensures places { (c : ℕ) → place_of self.new c ≡ place_of self.old c }
+        ensures positions { (c : ℕ) → position_of self.new c ≡ position_of self.old c }
         ensures room { (i : ℕ) → room_at self.old.asked.items i ≤ room_at self.new.asked.items i }
     {
         let joined = match self.last(slot) {
-            Some(before) => self.stand_behind(before, cid),
+            Some(before) => self.queue_behind(before, cid),
             None => false,
         };
         self.set_last(slot, cid);
@@ -158,10 +163,12 @@ impl Queues {
         requires joinable { Joinable self.old }
         requires absent { is_asked (asked_of self.old) cid ≡ false }
         requires small { All (λ s. s < LATCH_SLOTS) slots.now }
-        ensures joined { links self.new.asked.items ≡ map (option_map (joined cid (last_of self.old) slots.now)) (links self.old.asked.items) }
-        ensures ahead { result ≡ count_links (λ l. list_any (λ s. is_number l.cid (last_of self.old s)) slots.now) (links self.old.asked.items) }
+        ensures joined { links self.new.asked.items
+            ≡ map (option_map (joined cid (last_of self.old) slots.now)) (links self.old.asked.items) }
+        ensures ahead { result ≡ count_links (λ l. list_any (λ s. is_number l.cid (last_of self.old s)) slots.now)
+            (links self.old.asked.items) }
         ensures last { (s : ℕ) → last_of self.new s ≡ cond (contains s slots.now) (Some cid) (last_of self.old s) }
-        ensures places { (c : ℕ) → place_of self.new c ≡ place_of self.old c }
+        ensures positions { (c : ℕ) → position_of self.new c ≡ position_of self.old c }
         ensures room { (i : ℕ) → room_at self.old.asked.items i ≤ room_at self.new.asked.items i }
     {
         let mut ahead: usize = 0;
@@ -177,7 +184,10 @@ impl Queues {
         requires kept { Kept self.old }
         requires absent { is_asked (asked_of self.old) cid ≡ false }
         ensures kept { Kept self.new }
-        ensures ok { IfOk result (λ now. asked_of self.new ≡ asked_of self.old ++ record { cid = cid; slots = slots.now } ∷ []) }
+        ensures ok { IfOk result (λ now. asked_of self.new ≡ asked_of self.old ++ record {
+          cid = cid;
+          slots = slots.now;
+        } ∷ []) }
         ensures granted { IfOk result (λ now. now ≡ is_granted (asked_of self.new) cid) }
         ensures same { OnErr result (asked_of self.new ≡ asked_of self.old) }
         ensures err { IfErr result (λ e. e ≡ Fault.OutOfMemory) }
@@ -185,12 +195,12 @@ impl Queues {
         let alloc = *self.asked.allocator();
         let own = SmallVec::from_slice(alloc, slots)?;
         let behind = Vec::with_capacity(alloc, slots.len())?;
-        let place = self.asked.len();
+        let position = self.asked.len();
         self.asked.push(None)?;
-        self.places.insert(cid.get(), place)?;
+        self.positions.insert(cid.get(), position)?;
         know_small(slots);
         let ahead = self.join(cid, slots);
-        self.asked[place] = Some(Entry {
+        self.asked[position] = Some(QueueEntry {
             cid,
             slots: own,
             ahead,
@@ -201,23 +211,25 @@ impl Queues {
 
     /// One stands less before the command of this number.
     fn lower(&mut self, cid: Cid)
-        ensures lowered { links self.new.asked.items ≡ at_place (place_of self.old cid) lowered (links self.old.asked.items) }
-        ensures places { (c : ℕ) → place_of self.new c ≡ place_of self.old c }
+        ensures lowered { links self.new.asked.items
+            ≡ at_position (position_of self.old cid) lowered (links self.old.asked.items) }
+        ensures positions { (c : ℕ) → position_of self.new c ≡ position_of self.old c }
         ensures last { self.new.last ≡ self.old.last }
         ensures room { (i : ℕ) → room_at self.old.asked.items i ≤ room_at self.new.asked.items i }
     {
-        if let Some(place) = self.places.get(&cid.get()).copied()
-            && place < self.asked.len()
+        if let Some(position) = self.positions.get(&cid.get()).copied()
+            && position < self.asked.len()
         {
-            lower(&mut self.asked[place]);
+            lower(&mut self.asked[position]);
         }
     }
 
     /// One stands less before each of these commands.
     fn lower_all(&mut self, cids: &[Cid])
-        requires { Placed (links self.old.asked.items) (place_of self.old) }
-        ensures lowered { links self.new.asked.items ≡ map (option_map (lowered_in cids.now)) (links self.old.asked.items) }
-        ensures places { (c : ℕ) → place_of self.new c ≡ place_of self.old c }
+        requires { Placed (links self.old.asked.items) (position_of self.old) }
+        ensures lowered { links self.new.asked.items
+            ≡ map (option_map (lowered_in cids.now)) (links self.old.asked.items) }
+        ensures positions { (c : ℕ) → position_of self.new c ≡ position_of self.old c }
         ensures last { self.new.last ≡ self.old.last }
         ensures room { (i : ℕ) → room_at self.old.asked.items i ≤ room_at self.new.asked.items i }
     {
@@ -228,9 +240,10 @@ impl Queues {
 
     /// Frees those of these slots in which a command is the last.
     fn free(&mut self, cid: Cid, slots: &[Slot])
-        ensures last { (s : ℕ) → s < LATCH_SLOTS → last_of self.new s ≡ cond (contains s slots.now && is_number cid (last_of self.old s)) None (last_of self.old s) }
+        ensures last { (s : ℕ) → s < LATCH_SLOTS → last_of self.new s
+            ≡ cond (contains s slots.now && is_number cid (last_of self.old s)) None (last_of self.old s) }
         ensures asked { self.new.asked ≡ self.old.asked }
-        ensures places { self.new.places ≡ self.old.places }
+        ensures positions { self.new.positions ≡ self.old.positions }
     {
         for slot in slots {
             let number = usize::from(slot.get());
@@ -246,12 +259,13 @@ impl Queues {
         requires granted { is_granted (asked_of self.old) cid ≡ true }
         ensures kept { Kept self.new }
         ensures left { asked_of self.new ≡ without cid (asked_of self.old) }
-        ensures freed { filter (is_granted (asked_of self.new)) result.items ≡ newly_granted (asked_of self.old) (asked_of self.new) }
+        ensures freed { filter (is_granted (asked_of self.new)) result.items
+            ≡ newly_granted (asked_of self.old) (asked_of self.new) }
     {
-        let Some(place) = self.places.remove(&cid.get()) else {
+        let Some(position) = self.positions.remove(&cid.get()) else {
             unreachable!()
         };
-        let Some(entry) = self.asked[place].take() else {
+        let Some(entry) = self.asked[position].take() else {
             unreachable!()
         };
         self.free(cid, entry.slots.as_slice());
@@ -274,68 +288,72 @@ impl Queues {
         freed
     }
 
-    /// Drops the empty places where they are more than the others, or nothing else is there: as
+    /// Drops the empty positions where they are more than the others, or nothing else is there: as
     /// many commands have left since the last time, so that each leaves for a constant cost.
     fn compact_when_sparse(&mut self)
         requires { Kept self.old }
         ensures kept { Kept self.new }
         ensures same { asked_of self.new ≡ asked_of self.old }
     {
-        if self.asked.len() / 2 > self.places.len() || self.places.is_empty() {
+        if self.asked.len() / 2 > self.positions.len() || self.positions.is_empty() {
             self.compact();
         }
     }
 
-    /// Drops the empty places.
+    /// Drops the empty positions.
     fn compact(&mut self)
         requires { Kept self.old }
         ensures kept { Kept self.new }
         ensures same { asked_of self.new ≡ asked_of self.old }
     {
-        self.asked.retain(|place| place.is_some());
-        self.place_all();
+        self.asked.retain(|position| position.is_some());
+        self.number_all();
     }
 
-    /// Gives each command the place at which it stands.
-    fn place_all(&mut self)
+    /// Gives each command the position at which it stands.
+    fn number_all(&mut self)
         ensures asked { self.new.asked ≡ self.old.asked }
         ensures last { self.new.last ≡ self.old.last }
-        ensures placed { (c : ℕ) → place_of self.new c ≡ replaced (links self.old.asked.items) 0 c (place_of self.old c) }
+        ensures placed { (c : ℕ) → position_of self.new c
+            ≡ replaced (links self.old.asked.items) 0 c (position_of self.old c) }
     {
-        for place in 0..self.asked.len() {
-            self.place_one(place);
+        for position in 0..self.asked.len() {
+            self.number_one(position);
         }
     }
 
-    /// Gives the command in a place that place.
-    fn place_one(&mut self, place: usize)
-        requires { place < length self.old.asked.items }
+    /// Gives the command at a position that position.
+    fn number_one(&mut self, position: usize)
+        requires { position < length self.old.asked.items }
         ensures asked { self.new.asked ≡ self.old.asked }
         ensures last { self.new.last ≡ self.old.last }
-        ensures placed { (c : ℕ) → place_of self.new c ≡ replaced (slice_index_or (links self.old.asked.items) place None ∷ []) place c (place_of self.old c) }
+        ensures placed { (c : ℕ) → position_of self.new c
+            ≡ replaced (slice_index_or (links self.old.asked.items) position None
+            ∷ []) position c (position_of self.old c) }
     {
-        if let Some(cid) = cid_in(&self.asked[place]) {
-            self.set_place(cid, place);
+        if let Some(cid) = cid_in(&self.asked[position]) {
+            self.set_position(cid, position);
         }
     }
 
-    /// Gives a number another place, where it has one.
-    fn set_place(&mut self, cid: Cid, place: usize)
+    /// Gives a number another position, where it has one.
+    fn set_position(&mut self, cid: Cid, position: usize)
         ensures asked { self.new.asked ≡ self.old.asked }
         ensures last { self.new.last ≡ self.old.last }
-        ensures places { (c : ℕ) → place_of self.new c ≡ cond (nat_eq cid c && is_some (place_of self.old c)) (Some place) (place_of self.old c) }
+        ensures positions { (c : ℕ) → position_of self.new c
+            ≡ cond (nat_eq cid c && is_some (position_of self.old c)) (Some position) (position_of self.old c) }
     {
-        if let Some(found) = self.places.get_mut(&cid.get()) {
-            *found = place;
+        if let Some(found) = self.positions.get_mut(&cid.get()) {
+            *found = position;
         }
     }
 }
 
-/// The number of the command in a place.
-fn cid_in(place: &Option<Entry>) -> Option<Cid>
-    ensures { result ≡ option_map (λ l. l.cid) (option_map link_of place.now) }
+/// The number of the command at a position.
+fn cid_in(position: &Option<QueueEntry>) -> Option<Cid>
+    ensures { result ≡ option_map (λ l. l.cid) (option_map link_of position.now) }
 {
-    match place {
+    match position {
         Some(entry) => Some(entry.cid),
         None => None,
     }
@@ -351,25 +369,25 @@ fn is_cid(found: Option<Cid>, cid: Cid) -> bool
     }
 }
 
-/// Whether a command stands in this place with none before it.
-fn is_first(place: &Option<Entry>) -> bool
-    ensures { result ≡ has_none_before (option_map link_of place.now) }
+/// Whether a command stands at this position with none before it.
+fn is_first(position: &Option<QueueEntry>) -> bool
+    ensures { result ≡ has_none_before (option_map link_of position.now) }
 {
-    match place {
+    match position {
         Some(entry) => entry.ahead == 0,
         None => false,
     }
 }
 
-/// Puts a command directly behind that in this place, unless it was put there just now.
+/// Puts a command directly behind that at this position, unless it was put there just now.
 /// Says whether it did.
-fn follow(place: &mut Option<Entry>, cid: Cid) -> bool
-    requires { HasRoom cid (option_map link_of place.old) (room_of place.old) }
-    ensures followed { option_map link_of place.new ≡ option_map (followed cid) (option_map link_of place.old) }
-    ensures told { result ≡ adds cid (option_map link_of place.old) }
-    ensures room { room_of place.old ≤ room_of place.new }
+fn follow(position: &mut Option<QueueEntry>, cid: Cid) -> bool
+    requires { HasRoom cid (option_map link_of position.old) (room_of position.old) }
+    ensures followed { option_map link_of position.new ≡ option_map (followed cid) (option_map link_of position.old) }
+    ensures told { result ≡ adds cid (option_map link_of position.old) }
+    ensures room { room_of position.old ≤ room_of position.new }
 {
-    let Some(entry) = place else {
+    let Some(entry) = position else {
         return false;
     };
     if ends_with(entry.behind.as_slice(), cid) {
@@ -381,12 +399,12 @@ fn follow(place: &mut Option<Entry>, cid: Cid) -> bool
     true
 }
 
-/// One stands less before the command in this place.
-fn lower(place: &mut Option<Entry>)
-    ensures lowered { option_map link_of place.new ≡ option_map lowered (option_map link_of place.old) }
-    ensures room { room_of place.old ≤ room_of place.new }
+/// One stands less before the command at this position.
+fn lower(position: &mut Option<QueueEntry>)
+    ensures lowered { option_map link_of position.new ≡ option_map lowered (option_map link_of position.old) }
+    ensures room { room_of position.old ≤ room_of position.new }
 {
-    if let Some(entry) = place {
+    if let Some(entry) = position {
         entry.ahead = entry.ahead.saturating_sub(1);
     }
 }

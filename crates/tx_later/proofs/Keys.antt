@@ -7,9 +7,10 @@ use Rattle.tx_types.specs.declared.mutation.Mutation.{Mutation}
 use Rattle.tx_plan.specs.declared.key_change.KeyChange.TheVariants as change
 use Rattle.tx_plan.specs.Cells.{Lock, CommitRecord, Write, CommitOf, Rollback, Writes, Cells, with_lock, with_write}
 use Rattle.tx_plan.specs.Own.{OwnLock, OwnCommit, OthersCommit, OwnRollback, marked, rolled, leave_rollback, without_own, roll_back, is_rollback, commit_of, lock_committed}
-use Rattle.tx_plan.specs.Changes.{CommitsAt}
+use Rattle.tx_plan.specs.Changes.{HasCommitAt}
 use Rattle.tx_plan.specs.Sound.{IsSound}
-use Rattle.tx_plan.specs.cases.Collect.{is_visible, is_put, commit_is, none_above, keeps, kept}
+use Rattle.tx_types.specs.Keys.{is_visible}
+use Rattle.tx_plan.specs.cases.Collect.{is_put, commit_is, none_above, keeps, kept}
 use Rattle.tx_plan.proofs.Sound.{sound_changed, sound_kept}
 use Rattle.tx_later.specs.Later.{IsLengthened, LockLater, WriteLater, IsLater, IsRegular}
 use Rattle.tx_later.proofs.Order.{write_same, lock_same, later_same}
@@ -114,7 +115,7 @@ commit_fine s cells lock c is stands fresh high none =
     let above = is.sound.minimum_above lock stands in
     let after = lock_committed cells c lock in
     let free = free_place cells lock c is.sound stands none in
-    let may : CommitsAt cells c (is_rollback (cells.write c)) = record { lock = lock; stands = stands; upto = upto; unconflicted = none; keeps_mark = refl } in
+    let may : HasCommitAt cells c (is_rollback (cells.write c)) = record { lock = lock; stands = stands; upto = upto; unconflicted = none; keeps_mark = refl } in
     let made = sound_changed cells (change.Commit c (is_rollback (cells.write c))) is.sound may in
     let sound : IsSound after = rw stands at made in
     let here : after.write c ≡ Some (CommitOf (commit_of lock (cells.write c))) = elim (nat_test c c) [ inl e ↦ rw e.0 refl | inr e ↦ absurd (e.1 refl) ] in

@@ -27,8 +27,10 @@ turns (_ ∷ h) n = turns h n
 -- the key had the cells that it has now: exactly where the region had taken s requests by then.
 pub record IsNoted (h : History) (n : ℕ) (k : Key) (s : ℕ) : Type 0 where
   pub low : s ≤ turns h n
-  pub same : (l : History) → Begins l h → (left l n).collected ≡ (left h n).collected → s ≤ turns l n → (left l n).cells k ≡ (left h n).cells k
-  pub changed : (l : History) → Begins l h → (left l n).collected ≡ (left h n).collected → turns l n < s → (left l n).cells k ≢ (left h n).cells k
+  pub same : (l : History) → Begins l h → (left l n).collected ≡ (left h n).collected → s ≤ turns l n
+      → (left l n).cells k ≡ (left h n).cells k
+  pub changed : (l : History) → Begins l h → (left l n).collected ≡ (left h n).collected → turns l n < s
+      → (left l n).cells k ≢ (left h n).cells k
 
 -- A key has the cells that it had, and its number; or it has others, and a number above all that
 -- were given out.

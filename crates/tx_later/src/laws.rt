@@ -13,12 +13,15 @@ ghost use Rattle.tx_later.specs.Later.{AreRegular, IsLater, GoesOn};
 /// later ones, and no state of a key comes back.
 pub fn regions_go_on()
     ensures first { AreRegular new_region }
-    ensures stays { (region : Region) (loaded top : ℕ) (body : Body) (answer : Answer) → AreRegular region → Answers region loaded top body answer → AreRegular (leaves region body answer) }
-    ensures goes_on { (region : Region) (loaded top : ℕ) (body : Body) (answer : Answer) → AreRegular region → Answers region loaded top body answer → GoesOn region (leaves region body answer) }
+    ensures stays { (region : Region) (loaded top : ℕ) (body : Body) (answer : Answer) → AreRegular region
+        → Answers region loaded top body answer → AreRegular (leaves region body answer) }
+    ensures goes_on { (region : Region) (loaded top : ℕ) (body : Body) (answer : Answer) → AreRegular region
+        → Answers region loaded top body answer → GoesOn region (leaves region body answer) }
     ensures never_back { (a b c : Cells) → IsLater a b → IsLater b c → b ≢ c → a ≢ c }
 {}
 
 /// So it is of what a region's own events leave, in each world run.
 pub fn histories_go_on()
-    ensures { (bounds : List Key) (n : ℕ) (before now : History) → IsWorldRun bounds now → Begins before now → GoesOn (left before n) (left now n) }
+    ensures { (bounds : List Key) (n : ℕ) (before now : History) → IsWorldRun bounds now → Begins before now
+        → GoesOn (left before n) (left now n) }
 {}

@@ -17,16 +17,16 @@ use Rattle.tx_core.proofs.seats.Beginnings.{begins_all, begins_more, extends_beg
 use Rattle.tx_core.proofs.seats.Staying.{among_on}
 use Rattle.tx_journal.specs.Known.{Known}
 use Rattle.tx_journal.specs.Replies.{Asked, Given}
-use Rattle.tx_transaction.specs.declared.state.Came.{Came}
-use Rattle.tx_transaction.specs.declared.state.Came.TheVariants as came
+use Rattle.tx_transaction.specs.declared.state.Response.{Response}
+use Rattle.tx_transaction.specs.declared.state.Response.TheVariants as response
 use Rattle.tx_transaction.specs.declared.state.Miss.{Miss}
 use Rattle.tx_transaction.specs.declared.state.Miss.TheVariants as miss
-use Rattle.tx_transaction.specs.Sessions.{State, scan_of, after_read}
+use Rattle.tx_transaction.specs.Sessions.{SessionState, scan_of, after_read}
 use Rattle.tx_transaction.specs.Returns.{read}
 use Rattle.tx_journal.specs.Senders.{Reached, IsWay}
-use Rattle.tx_client.specs.Learns.{came_by, came_of, Learns}
+use Rattle.tx_client.specs.Learns.{response_by, response_of, Learns}
 use Rattle.tx_client.specs.Walks.{Walk, asks, grows, ends, then_walk, Sends, look_part, part_by, part_walk, enough, scan_after, scan_from, scan_walk, lesser, greater}
-use Rattle.tx_client.specs.Facts.{WasAnswered, CameSo}
+use Rattle.tx_client.specs.Facts.{WasAnswered, RespondsSo}
 use Rattle.tx_client.proofs.Calling.{came_told}
 use Rattle.tx_laws.specs.Scans.{scan_at, SeesWhole}
 use Rattle.tx_laws.proofs.Standing.{rows_seen}
@@ -90,19 +90,19 @@ answered (Ok a) = a
 answered (Err why) = answer.Nothing
 
 -- a walk that ended otherwise did not end with rows
-other_end : (after t : State) (all : List KeyValue) (a : Answer) → is_rows a ≡ false → ◌≡◌ {A = State × Result Answer Miss} (after, Ok (answer.Rows all)) (t, Ok a) → ⊥
+other_end : (after t : SessionState) (all : List KeyValue) (a : Answer) → is_rows a ≡ false → ◌≡◌ {A = SessionState × Result Answer Miss} (after, Ok (answer.Rows all)) (t, Ok a) → ⊥
 other_end after t all a other e =
-    let same : answer.Rows all ≡ a = ap (λ (x : State × Result Answer Miss). answered x.1) e in
+    let same : answer.Rows all ≡ a = ap (λ (x : SessionState × Result Answer Miss). answered x.1) e in
     let rows_too : true ≡ is_rows a = ap is_rows same in
     cc (rows_too, other)
 
-missed_end : (after t : State) (all : List KeyValue) (why : Miss) → ◌≡◌ {A = State × Result Answer Miss} (after, Ok (answer.Rows all)) (t, Err why) → ⊥
+missed_end : (after t : SessionState) (all : List KeyValue) (why : Miss) → ◌≡◌ {A = SessionState × Result Answer Miss} (after, Ok (answer.Rows all)) (t, Err why) → ⊥
 missed_end after t all why e =
-    let same : Ok (answer.Rows all) ≡ Err why = ap (λ (x : State × Result Answer Miss). x.1) e in
+    let same : Ok (answer.Rows all) ≡ Err why = ap (λ (x : SessionState × Result Answer Miss). x.1) e in
     cc (same)
 
-rows_end : (after t : State) (all rows : List KeyValue) → ◌≡◌ {A = State × Result Answer Miss} (after, Ok (answer.Rows all)) (t, Ok (answer.Rows rows)) → all ≡ rows
-rows_end after t all rows e = ap (λ (x : State × Result Answer Miss). rows_in (answered x.1)) e
+rows_end : (after t : SessionState) (all rows : List KeyValue) → ◌≡◌ {A = SessionState × Result Answer Miss} (after, Ok (answer.Rows all)) (t, Ok (answer.Rows rows)) → all ≡ rows
+rows_end after t all rows e = ap (λ (x : SessionState × Result Answer Miss). rows_in (answered x.1)) e
 
 -- an answer is to the request that was sent
 abbrev AnswersAsked : {S : Type 0} → (S → Asked → Reached → S → Type 0) → Type 0
@@ -118,9 +118,9 @@ module _ {S : Type 0} (sends : S → Asked → Reached → S → Type 0) (bounds
   later (ends x) r k new a b sent = subst (λ (y : Known). Begins k.events y.events) (sym sent.2) (begins_all k.events)
   later (grows more short) r k new a b sent = elim sent [ inl x ↦ later short r k new a b x | inr x ↦ later more r k new a b x ]
   later (asks body more) r k new a b (reached, mid, then_known, sent, learns, rest) =
-      begins_more k.events then_known.events new.events (learnt k then_known reached learns) (later (more (came_of reached)) r then_known new mid b rest)
+      begins_more k.events then_known.events new.events (learnt k then_known reached learns) (later (more (response_of reached)) r then_known new mid b rest)
 
-  module _ (to_it : AnswersAsked sends) (k new : Known) (a b : S) (s after : State) (low high : Key) (limit : ℕ) (rows all : List KeyValue) (on : State → List KeyValue → Walk (State × Result Answer Miss)) where
+  module _ (to_it : AnswersAsked sends) (k new : Known) (a b : S) (s after : SessionState) (low high : Key) (limit : ℕ) (rows all : List KeyValue) (on : SessionState → List KeyValue → Walk (SessionState × Result Answer Miss)) where
     -- the read of the part
     abbrev asked : Body
     asked = scan_of s low high (limit - length rows)
@@ -128,16 +128,16 @@ module _ {S : Type 0} (sends : S → Asked → Reached → S → Type 0) (bounds
     -- A part has no keys; or its rows are not enough and the scan goes on; or they are.
     pub data PartGives : Type 0 where
       Empty : (none : key_lt low high ≡ false) (rest : Sends sends bounds k a (on s rows) (after, Ok (answer.Rows all)) b new) → PartGives
-      Goes : (found : List KeyValue) (t : State) (then_known : Known) (mid : S) (same : t.start ≡ s.start) (told : WasAnswered then_known.events asked (answer.Rows found))
+      Goes : (found : List KeyValue) (t : SessionState) (then_known : Known) (mid : S) (same : t.start ≡ s.start) (told : WasAnswered then_known.events asked (answer.Rows found))
           (short : length (rows ++ found) < limit) (rest : Sends sends bounds then_known mid (on t (rows ++ found)) (after, Ok (answer.Rows all)) b new) → PartGives
       Enough : (found : List KeyValue) (then_known : Known) (told : WasAnswered then_known.events asked (answer.Rows found)) (begins : Begins then_known.events new.events)
           (full : limit ≤ length (rows ++ found)) (is : all ≡ rows ++ found) → PartGives
 
     -- what follows of what came
-    abbrev follows : Came → Walk (State × Result Answer Miss)
+    abbrev follows : Response → Walk (SessionState × Result Answer Miss)
     follows c = scan_after (after_read s c) (part_by limit rows (read c)) on
 
-    joined : (then_known : Known) (mid : S) (found : List KeyValue) (t : State) → t.start ≡ s.start → WasAnswered then_known.events asked (answer.Rows found)
+    joined : (then_known : Known) (mid : S) (found : List KeyValue) (t : SessionState) → t.start ≡ s.start → WasAnswered then_known.events asked (answer.Rows found)
         → Sends sends bounds then_known mid (scan_after t (enough limit (rows ++ found)) on) (after, Ok (answer.Rows all)) b new → PartGives
     joined then_known mid found t same told sent = elim (cases_Bool (nat_lt (length (rows ++ found)) limit)) [
       | inl short ↦ (let rest : Sends sends bounds then_known mid (on t (rows ++ found)) (after, Ok (answer.Rows all)) b new = rw short at sent in
@@ -146,15 +146,15 @@ module _ {S : Type 0} (sends : S → Asked → Reached → S → Type 0) (bounds
           Enough found then_known told (subst (λ (y : Known). Begins then_known.events y.events) (sym rest.2) (begins_all then_known.events)) (ltb-false (length (rows ++ found)) limit full) (rows_end after t all (rows ++ found) rest.0))
     ]
 
-    by_answer : (then_known : Known) (mid : S) (x : Answer) → WasAnswered then_known.events asked x → Sends sends bounds then_known mid (follows (came.Said x)) (after, Ok (answer.Rows all)) b new → PartGives
-    by_answer then_known mid (answer.Rows found) told sent = joined then_known mid found (after_read s (came.Said (answer.Rows found))) refl told sent
-    by_answer then_known mid x told sent = absurd (other_end after (after_read s (came.Said x)) all x refl sent.0)
+    by_answer : (then_known : Known) (mid : S) (x : Answer) → WasAnswered then_known.events asked x → Sends sends bounds then_known mid (follows (response.Answered x)) (after, Ok (answer.Rows all)) b new → PartGives
+    by_answer then_known mid (answer.Rows found) told sent = joined then_known mid found (after_read s (response.Answered (answer.Rows found))) refl told sent
+    by_answer then_known mid x told sent = absurd (other_end after (after_read s (response.Answered x)) all x refl sent.0)
 
-    by_reply : (then_known : Known) (mid : S) (o : Option Answer) → CameSo then_known.events asked (came_by o) → Sends sends bounds then_known mid (follows (came_by o)) (after, Ok (answer.Rows all)) b new → PartGives
+    by_reply : (then_known : Known) (mid : S) (o : Option Answer) → RespondsSo then_known.events asked (response_by o) → Sends sends bounds then_known mid (follows (response_by o)) (after, Ok (answer.Rows all)) b new → PartGives
     by_reply then_known mid None told sent = absurd (missed_end after s all miss.Fault sent.0)
     by_reply then_known mid (Some x) told sent = by_answer then_known mid x told sent
 
-    by_reached : (then_known : Known) (mid : S) (reached : Reached) → sends a (record { by = k.events; body = asked }) reached mid → Learns bounds k reached then_known → Sends sends bounds then_known mid (follows (came_of reached)) (after, Ok (answer.Rows all)) b new → PartGives
+    by_reached : (then_known : Known) (mid : S) (reached : Reached) → sends a (record { by = k.events; body = asked }) reached mid → Learns bounds k reached then_known → Sends sends bounds then_known mid (follows (response_of reached)) (after, Ok (answer.Rows all)) b new → PartGives
     by_reached then_known mid (Err l) sent learns rest = absurd (missed_end after s all _ rest.0)
     by_reached then_known mid (Ok g) sent learns rest =
         by_reply then_known mid g.answer (came_told bounds g asked then_known.events learns.4 (ap (λ (q : Asked). q.body) (to_it a mid (record { by = k.events; body = asked }) g sent)) learns.3) rest
@@ -178,7 +178,7 @@ rising_rest b [] r = tt
 rising_rest b (c ∷ cs) r = r.1
 
 module _ {S : Type 0} (sends : S → Asked → Reached → S → Type 0) (bounds : List Key) (to_it : AnswersAsked sends)
-    (h : History) (run : IsWorldRun bounds h) (new : Known) (goes : Begins new.events h) (b : S) (after : State)
+    (h : History) (run : IsWorldRun bounds h) (new : Known) (goes : Begins new.events h) (b : S) (after : SessionState)
     (start : ℕ) (from to : Key) (limit : ℕ) (all : List KeyValue) where
   abbrev Whole : Type 0
   Whole = SeesRows (table_of (shadow h)).row (scan_at start from to limit all)
@@ -190,7 +190,7 @@ module _ {S : Type 0} (sends : S → Asked → Reached → S → Type 0) (bounds
   Below border k = IsTrue (key_lt k border)
 
   -- the rows of a part are what is seen there
-  part_seen : (l : History) → Begins l h → (s : State) → s.start ≡ start → (low high : Key) (rows found : List KeyValue) → WasAnswered l (scan_of s low high (limit - length rows)) (answer.Rows found)
+  part_seen : (l : History) → Begins l h → (s : SessionState) → s.start ≡ start → (low high : Key) (rows found : List KeyValue) → WasAnswered l (scan_of s low high (limit - length rows)) (answer.Rows found)
       → SeesRows (table_of (shadow h)).row record { from = low; to = high; at = start; limit = limit - length rows; rows = found }
   part_seen l begins s same low high rows found told =
       subst (λ n. SeesRows (table_of (shadow h)).row record { from = low; to = high; at = n; limit = limit - length rows; rows = found }) same
@@ -220,7 +220,7 @@ module _ {S : Type 0} (sends : S → Asked → Reached → S → Type 0) (bounds
   same_rows rows is seen = subst (λ (l : List KeyValue). SeesRows (table_of (shadow h)).row (scan_at start from to limit l)) (sym is) seen
 
   -- the last part
-  last_part : (low : Key) (s : State) → s.start ≡ start → (rows : List KeyValue) → Upto (Below low) rows → (k : Known) (a : S)
+  last_part : (low : Key) (s : SessionState) → s.start ≡ start → (rows : List KeyValue) → Upto (Below low) rows → (k : Known) (a : S)
       → PartGives sends bounds to_it k new a b s after (greater from low) to limit rows all (λ t more. ends (t, Ok (answer.Rows more))) → Whole
   last_part low s same rows so_far k a (Empty none rest) =
       same_rows rows (rows_end after s all rows rest.0)
@@ -244,9 +244,9 @@ module _ {S : Type 0} (sends : S → Asked → Reached → S → Type 0) (bounds
       (λ x e above below. lands low to x e above below) full)
 
   -- a part before the last
-  module _ (low bound : Key) (bs : List Key) (s : State) (same : s.start ≡ start) (rows : List KeyValue) (so_far : Upto (Below low) rows)
+  module _ (low bound : Key) (bs : List Key) (s : SessionState) (same : s.start ≡ start) (rows : List KeyValue) (so_far : Upto (Below low) rows)
       (ordered : (x : Key) → Has rows x → AreRising (low ∷ bound ∷ bs))
-      (rest_is : (t : State) → t.start ≡ start → (more : List KeyValue) → Upto (Below bound) more → (k : Known) (a : S) → Sends sends bounds k a (scan_from from to limit bound bs t more) (after, Ok (answer.Rows all)) b new → Whole) where
+      (rest_is : (t : SessionState) → t.start ≡ start → (more : List KeyValue) → Upto (Below bound) more → (k : Known) (a : S) → Sends sends bounds k a (scan_from from to limit bound bs t more) (after, Ok (answer.Rows all)) b new → Whole) where
     abbrev high : Key
     high = lesser to bound
 
@@ -282,7 +282,7 @@ module _ {S : Type 0} (sends : S → Asked → Reached → S → Type 0) (bounds
         (λ x e. inside low high x upto_high e)
         (λ x e above below. lands low high x e above below) full)
 
-  scans : (low : Key) (bs : List Key) → AreRising bs → (s : State) → s.start ≡ start → (rows : List KeyValue) → Upto (Below low) rows → ((x : Key) → Has rows x → AreRising (low ∷ bs))
+  scans : (low : Key) (bs : List Key) → AreRising bs → (s : SessionState) → s.start ≡ start → (rows : List KeyValue) → Upto (Below low) rows → ((x : Key) → Has rows x → AreRising (low ∷ bs))
       → (k : Known) (a : S) → Sends sends bounds k a (scan_from from to limit low bs s rows) (after, Ok (answer.Rows all)) b new → Whole
   scans low [] rising s same rows so_far ordered k a sent =
       last_part low s same rows so_far k a (part_gives sends bounds to_it k new a b s after (greater from low) to limit rows all (λ t more. ends (t, Ok (answer.Rows more))) sent)

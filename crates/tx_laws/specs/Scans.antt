@@ -10,7 +10,7 @@ use Rattle.tx_core.specs.Shadow.{shadow}
 use Rattle.tx_core.specs.Worlds.{IsWorldRun}
 use Rattle.tx_journal.specs.Known.{Known}
 use Rattle.tx_journal.specs.Replies.{Asked}
-use Rattle.tx_transaction.specs.Sessions.{State}
+use Rattle.tx_transaction.specs.Sessions.{SessionState}
 use Rattle.tx_journal.specs.Senders.{Reached}
 use Rattle.tx_client.specs.Walks.{Sends, scan_walk}
 
@@ -23,7 +23,8 @@ scan_at start from to limit rows = record { from = from; to = to; at = start; li
 -- knows.
 abbrev pub SeesWhole : {S : Type 0} → List Key → (S → Asked → Reached → S → Type 0) → Type 0
 SeesWhole {S} bounds sends =
-    (old new : Known) (a b : S) (s after : State) (from to : Key) (limit : ℕ) (rows : List KeyValue) (h : History)
+    (old new : Known) (a b : S) (s after : SessionState) (from to : Key) (limit : ℕ) (rows : List KeyValue)
+    (h : History)
     → Sends sends bounds old a (scan_walk s bounds from to limit) (after, Ok (answer.Rows rows)) b new
     → Begins new.events h → IsWorldRun bounds h
     → SeesRows (table_of (shadow h)).row (scan_at s.start from to limit rows)

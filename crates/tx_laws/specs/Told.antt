@@ -21,14 +21,16 @@ use Rattle.tx_core.specs.Worlds.{WasTold}
 -- It was told that t is committed at c: by an answer of a region, by the outcome that its session
 -- answered, or by locks that were told of and decide it.
 abbrev pub IsTold : History → ℕ → ℕ → Type 0
-IsTold h t c = WasTold h t (fate.Committed c) ⊎ (Among h (Answered t (outcome.Committed c)) ⊎ (decided h t ≡ Done (fate.Committed c)))
+IsTold h t c = WasTold h t (fate.Committed c) ⊎ (Among h (Answered t (outcome.Committed c))
+    ⊎ (decided h t ≡ Done (fate.Committed c)))
 
 -- What the answer to a read at r says of the key k: of the key that was read its value, or none; of
 -- each key that a scan covered what its rows have there.
 abbrev pub Says : Body → Answer → Key → ℕ → Option Value → Type 0
 Says (body.Get b) (Found v) k r found = (b.key ≡ k) × (b.at ≡ r) × (Some v ≡ found)
 Says (body.Get b) Nothing k r found = (b.key ≡ k) × (b.at ≡ r) × (None ≡ found)
-Says (body.Scan b) (Rows rows) k r found = IsTrue (covered (scan_read b rows) k) × (b.at ≡ r) × (value_in rows k ≡ found)
+Says (body.Scan b) (Rows rows) k r found = IsTrue (covered (scan_read b rows) k) × (b.at ≡ r)
+    × (value_in rows k ≡ found)
 Says _ _ k r found = ⊥
 
 -- the newest commit of k at most at r lies above c, and it left this

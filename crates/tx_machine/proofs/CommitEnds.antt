@@ -9,8 +9,8 @@ use Rattle.tx_types.specs.declared.mutation.Change.{Change}
 use Rattle.tx_types.specs.declared.mutation.Mutation.{Mutation}
 use Rattle.tx_types.specs.declared.mutation.Fate.{Fate}
 use Rattle.tx_types.specs.declared.mutation.Fate.TheVariants.{Committed}
-use Rattle.tx_machine.specs.declared.machine.Stage.{Stage}
-use Rattle.tx_machine.specs.declared.machine.Stage.TheVariants.{Declared}
+use Rattle.tx_machine.specs.declared.machine.TxnStage.{TxnStage}
+use Rattle.tx_machine.specs.declared.machine.TxnStage.TheVariants.{Declared}
 use Rattle.tx_machine.specs.declared.reads.Reads.{Reads}
 use Rattle.tx_machine.specs.declared.step.Step.TheVariants.{Commit}
 use Rattle.tx_machine.specs.Keys.{mutation_at}
@@ -26,7 +26,7 @@ use Rattle.tx_machine.proofs.CommitSteps.{may_commit, tells_stale, distinct_set,
 pub same_fates : (old new : Fates) → new.entries ≡ old.entries → tree.get nat_cmp new ≡ tree.get nat_cmp old
 same_fates old new e = λ i q. lookup (tree.is_at (nat_cmp q)) (e i)
 
-module _ (last : ℕ) (stages : ℕ → Option Stage) (fates : Fates) (index : Index) (reads : Reads) (t c : ℕ) (set xs : List Change)
+module _ (last : ℕ) (stages : ℕ → Option TxnStage) (fates : Fates) (index : Index) (reads : Reads) (t c : ℕ) (set xs : List Change)
     (same : xs ≡ set) (stage : stages t ≡ Some (Declared set)) (none : tree.get nat_cmp fates t ≡ None) (above : t < c) (upto : c ≤ last + 1)
     (free : InOrder index fates → (k : Key) (m : Mutation) → mutation_at xs k ≡ Some m → IsFree index fates reads t c record { key = k; mutation = m })
     (table : Table) (tells : Tells last stages (tree.get nat_cmp fates) (version_of index) (IsNoted reads) table) where

@@ -15,8 +15,8 @@ use Rattle.tx_types.specs.declared.mutation.Mutation.TheVariants as mutation
 use Rattle.tx_types.specs.declared.mutation.Fate.{Fate}
 use Rattle.tx_types.specs.declared.mutation.Fate.TheVariants.{Committed}
 use Rattle.tx_machine.specs.declared.versions.Version.{Version}
-use Rattle.tx_machine.specs.declared.machine.Stage.{Stage}
-use Rattle.tx_machine.specs.declared.machine.Stage.TheVariants.{Declared}
+use Rattle.tx_machine.specs.declared.machine.TxnStage.{TxnStage}
+use Rattle.tx_machine.specs.declared.machine.TxnStage.TheVariants.{Declared}
 use Rattle.tx_machine.specs.declared.reads.Reads.{Reads}
 use Rattle.tx_machine.specs.declared.commit.Block.{Block}
 use Rattle.tx_machine.specs.declared.commit.Block.TheVariants as block
@@ -72,7 +72,7 @@ inserts mutation.Lock h = absurd h
 done_same : (c d : ℕ) → Done (Committed c) ≡ Done (Committed d) → c ≡ d
 done_same c d e = cc
 
-module _ (last : ℕ) (stages : ℕ → Option Stage) (fates : Fates) (index : Index) (reads : Reads) (table : Table)
+module _ (last : ℕ) (stages : ℕ → Option TxnStage) (fates : Fates) (index : Index) (reads : Reads) (table : Table)
     (tells : Tells last stages (tree.get nat_cmp fates) (version_of index) (IsNoted reads) table) where
   -- ---- what is listed is what is committed
 
@@ -153,7 +153,7 @@ module _ (last : ℕ) (stages : ℕ → Option Stage) (fates : Fates) (index : I
 
   module _ (t c : ℕ) (set : List Change) (stage : stages t ≡ Some (Declared set)) where
     pub open_row : tree.get nat_cmp fates t ≡ None → table.row t ≡ Some record { changes = Some set; state = Open }
-    open_row none = tells.row t ∙ (ap (λ (s : Option Stage). row_of s (tree.get nat_cmp fates t)) stage ∙ ap (row_of (Some (Declared set))) none)
+    open_row none = tells.row t ∙ (ap (λ (s : Option TxnStage). row_of s (tree.get nat_cmp fates t)) stage ∙ ap (row_of (Some (Declared set))) none)
 
     pub may_commit : tree.get nat_cmp fates t ≡ None → t < c → c ≤ last + 1
         → ((k : Key) (m : Mutation) → mutation_at set k ≡ Some m → IsFree index fates reads t c record { key = k; mutation = m })
@@ -319,7 +319,7 @@ module _ (last : ℕ) (stages : ℕ → Option Stage) (fates : Fates) (index : I
           unfolding now
           one =
               one_row last stages (tree.get nat_cmp fates) (version_of index) (IsNoted reads) table tells t (Some set) (Done (Committed c)) stages new_fates new
-              (ap (λ (s : Option Stage). row_of s (new_fates t)) stage ∙ ap (row_of (Some (Declared set))) now_ended)
+              (ap (λ (s : Option TxnStage). row_of s (new_fates t)) stage ∙ ap (row_of (Some (Declared set))) now_ended)
               (λ q e. refl)
               (λ q e. at new_fates (tree.get nat_cmp fates) t (Committed c) was q ∙ cond_false _ _ _ e)
               refl

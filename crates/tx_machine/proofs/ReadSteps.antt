@@ -6,7 +6,7 @@ use Rattle.tx_types.specs.declared.key.Key.{Key}
 use Rattle.tx_types.specs.declared.value.Value.{Value}
 use Rattle.tx_types.specs.declared.mutation.KeyValue.{KeyValue}
 use Rattle.tx_types.specs.declared.mutation.Mutation.{Mutation}
-use Rattle.tx_machine.specs.declared.machine.Stage.{Stage}
+use Rattle.tx_machine.specs.declared.machine.TxnStage.{TxnStage}
 use Rattle.tx_machine.specs.declared.reads.Reads.{Reads}
 use Rattle.tx_machine.specs.declared.step.ScanRead.{ScanRead}
 use Rattle.tx_types.specs.Keys.{key_lt, key_le, value_in, reaches}
@@ -18,7 +18,7 @@ use Rattle.tx_machine.specs.Representation.{version_of, Tells, ListedOn}
 use Rattle.tx_machine.proofs.Basics.{cond_true, cond_false, key_test, key_same}
 use Rattle.tx_machine.proofs.CommitSteps.{on_commit, commit_on}
 
-module _ (last : ℕ) (stages : ℕ → Option Stage) (fates : Fates) (index : Index) (reads : Reads) (table : Table)
+module _ (last : ℕ) (stages : ℕ → Option TxnStage) (fates : Fates) (index : Index) (reads : Reads) (table : Table)
     (tells : Tells last stages (tree.get nat_cmp fates) (version_of index) (IsNoted reads) table) where
   -- ---- what is seen
 

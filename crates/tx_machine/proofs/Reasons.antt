@@ -16,11 +16,11 @@ use Rattle.tx_types.specs.declared.mutation.Fate.{Fate}
 use Rattle.tx_types.specs.Keys.{IsVisible, IsInsert, put_by}
 use Rattle.tx_machine.specs.declared.commit.Block.{Block}
 use Rattle.tx_machine.specs.declared.commit.Block.TheVariants as block
-use Rattle.tx_machine.specs.declared.machine.Stage.{Stage}
-use Rattle.tx_machine.specs.declared.machine.Stage.TheVariants as stage
+use Rattle.tx_machine.specs.declared.machine.TxnStage.{TxnStage}
+use Rattle.tx_machine.specs.declared.machine.TxnStage.TheVariants as stage
 use Rattle.tx_machine.specs.declared.reads.Reads.{Reads}
-use Rattle.tx_machine.specs.declared.reason.Seen.{Seen}
-use Rattle.tx_machine.specs.declared.reason.Seen.TheVariants.{Nothing, Deleted, Left}
+use Rattle.tx_machine.specs.declared.reason.SeenValue.{SeenValue}
+use Rattle.tx_machine.specs.declared.reason.SeenValue.TheVariants.{Nothing, Deleted, Left}
 use Rattle.tx_machine.specs.declared.reason.Standing.{Standing}
 use Rattle.tx_machine.specs.declared.reason.Standing.TheVariants.{Undrawn, Drawn, Begun, Declared, Ended}
 use Rattle.tx_machine.specs.declared.versions.Version.{Version}
@@ -84,7 +84,7 @@ module _ (versions : Versions) (fates : Fates) (r : ℕ) where
   pub seen_nothing : IsSeen (Listed versions fates) r Nothing → SeenIn versions fates r None
   seen_nothing none = λ m v y puts. none y.start y.at m y.listed (put_visible m v puts) y.upto
 
-  seen_value : (s : Seen) → IsSeen (Listed versions fates) r s → SeenIn versions fates r (value_of s)
+  seen_value : (s : SeenValue) → IsSeen (Listed versions fates) r s → SeenIn versions fates r (value_of s)
   seen_value Nothing x = seen_nothing x
   seen_value (Deleted by) (m, x, e) = left_by m (newest_of by m x) x.visible None e
   seen_value (Left v by) (m, x, e) = left_by m (newest_of by m x) x.visible (Some v) e
@@ -100,13 +100,13 @@ module _ (A B : ℕ → ℕ → Mutation → Type 0) (to : (u c : ℕ) (m : Muta
   left_same : (r : ℕ) (by : Writer) (m : Mutation) → LeftBy A r by m → LeftBy B r by m
   left_same r by m x = record { commits = to by.start by.commit m x.commits; visible = x.visible; upto = x.upto; newest = λ u c n y. x.newest u c n (back u c n y) }
 
-  pub seen_same : (r : ℕ) (s : Seen) → IsSeen A r s → IsSeen B r s
+  pub seen_same : (r : ℕ) (s : SeenValue) → IsSeen A r s → IsSeen B r s
   seen_same r Nothing x = λ u c m y. x u c m (back u c m y)
   seen_same r (Deleted by) (m, x, e) = (m, left_same r by m x, e)
   seen_same r (Left v by) (m, x, e) = (m, left_same r by m x, e)
 
 module _ (fates : Fates) (r : ℕ) where
-  on_value : (o : Option Versions) (s : Seen) → IsSeen (ListedOn o fates) r s → SeenOf o fates r (value_of s)
+  on_value : (o : Option Versions) (s : SeenValue) → IsSeen (ListedOn o fates) r s → SeenOf o fates r (value_of s)
   on_value None Nothing x = refl
   on_value None (Deleted by) (m, x, e) = absurd x.commits
   on_value None (Left v by) (m, x, e) = absurd x.commits
@@ -117,7 +117,7 @@ module _ (fates : Fates) (r : ℕ) where
   one_on (Some versions) a b x y = one_seen versions fates r a b x y
 
 -- what is seen of the versions of a key, as they are looked up
-pub seen_at : (fates : Fates) (r : ℕ) (o : Option Versions) (versions : Versions) (s : Seen) → o ≡ Some versions → IsSeen (Listed versions fates) r s → IsSeen (ListedOn o fates) r s
+pub seen_at : (fates : Fates) (r : ℕ) (o : Option Versions) (versions : Versions) (s : SeenValue) → o ≡ Some versions → IsSeen (Listed versions fates) r s → IsSeen (ListedOn o fates) r s
 seen_at fates r o versions s e x = subst (λ (q : Option Versions). IsSeen (ListedOn q fates) r s) (sym e) x
 
 pub seen_none : (fates : Fates) (r : ℕ) (o : Option Versions) → o ≡ None → IsSeen (ListedOn o fates) r Nothing
@@ -140,7 +140,7 @@ is_insert (mutation.Insert v) h = (v, refl)
 is_insert mutation.Delete h = absurd h
 is_insert mutation.Lock h = absurd h
 
-module _ (last : ℕ) (stages : ℕ → Option Stage) (fates : Fates) (index : Index) (reads : Reads) (table : Table)
+module _ (last : ℕ) (stages : ℕ → Option TxnStage) (fates : Fates) (index : Index) (reads : Reads) (table : Table)
     (tells : Tells last stages (tree.get nat_cmp fates) (version_of index) (IsNoted reads) table) where
   abbrev Here : Key → ℕ → ℕ → Mutation → Type 0
   Here k u c m = ListedOn (versions_of index k) fates u c m
@@ -148,29 +148,29 @@ module _ (last : ℕ) (stages : ℕ → Option Stage) (fates : Fates) (index : I
   -- ---- reads
 
   -- what the versions of a key leave is what the table's commits leave
-  pub seen_table : (k : Key) (r : ℕ) (s : Seen) → IsSeen (ListedOn (versions_of index k) fates) r s → IsSeen (Commits table.row k) r s
+  pub seen_table : (k : Key) (r : ℕ) (s : SeenValue) → IsSeen (ListedOn (versions_of index k) fates) r s → IsSeen (Commits table.row k) r s
   seen_table k r s x = seen_same (Here k) (Commits table.row k) (on_commit last stages fates index reads table tells k) (commit_on last stages fates index reads table tells k) r s x
 
-  pub shows_value : (k : Key) (r : ℕ) (s : Seen) → IsSeen (ListedOn (versions_of index k) fates) r s → Shows index fates k r (value_of s)
+  pub shows_value : (k : Key) (r : ℕ) (s : SeenValue) → IsSeen (ListedOn (versions_of index k) fates) r s → Shows index fates k r (value_of s)
   shows_value k r s x = on_value fates r (versions_of index k) s x
 
   -- the table sees nothing else
-  pub sees_one : (k : Key) (r : ℕ) (s : Seen) (found : Option Value) → IsSeen (Commits table.row k) r s → Sees table.row k r found → value_of s ≡ found
+  pub sees_one : (k : Key) (r : ℕ) (s : SeenValue) (found : Option Value) → IsSeen (Commits table.row k) r s → Sees table.row k r found → value_of s ≡ found
   sees_one k r s found x y =
       one_on fates r (versions_of index k) (value_of s) found
       (on_value fates r (versions_of index k) s (seen_same (Commits table.row k) (Here k) (commit_on last stages fates index reads table tells k) (on_commit last stages fates index reads table tells k) r s x))
       (sees_shows last stages fates index reads table tells k r found y)
 
   -- what is seen is what the step says
-  pub sees_value : (k : Key) (r : ℕ) (s : Seen) (found : Option Value) → IsSeen (ListedOn (versions_of index k) fates) r s → value_of s ≡ found → Sees table.row k r found
+  pub sees_value : (k : Key) (r : ℕ) (s : SeenValue) (found : Option Value) → IsSeen (ListedOn (versions_of index k) fates) r s → value_of s ≡ found → Sees table.row k r found
   sees_value k r s found x e = shows_sees last stages fates index reads table tells k r found (subst (λ (o : Option Value). Shows index fates k r o) e (shows_value k r s x))
 
-  pub shows_one : (k : Key) (r : ℕ) (s : Seen) (found : Option Value) → IsSeen (ListedOn (versions_of index k) fates) r s → value_of s ≡ found → Shows index fates k r found
+  pub shows_one : (k : Key) (r : ℕ) (s : SeenValue) (found : Option Value) → IsSeen (ListedOn (versions_of index k) fates) r s → value_of s ≡ found → Shows index fates k r found
   shows_one k r s found x e = subst (λ (o : Option Value). Shows index fates k r o) e (shows_value k r s x)
 
   -- ---- how far a transaction has come
 
-  stands_so : (t : ℕ) (o : Option Stage) (f : Option Fate) → table.drawn t ≡ is_some o → table.row t ≡ row_of o f → Stands table t (standing_of o f)
+  stands_so : (t : ℕ) (o : Option TxnStage) (f : Option Fate) → table.drawn t ≡ is_some o → table.row t ≡ row_of o f → Stands table t (standing_of o f)
   stands_so t None f d e = d
   stands_so t (Some stage.Drawn) f d e = (d, e)
   stands_so t (Some stage.Begun) None d e = e
@@ -191,7 +191,7 @@ module _ (last : ℕ) (stages : ℕ → Option Stage) (fates : Fates) (index : I
 
   module _ (t : ℕ) (set : List Change) (declared : stages t ≡ Some (stage.Declared set)) (going : tree.get nat_cmp fates t ≡ None) where
     pub opened : table.row t ≡ Some record { changes = Some set; state = Open }
-    opened = tells.row t ∙ (ap (λ (o : Option Stage). row_of o (tree.get nat_cmp fates t)) declared ∙ ap (row_of (Some (stage.Declared set))) going)
+    opened = tells.row t ∙ (ap (λ (o : Option TxnStage). row_of o (tree.get nat_cmp fates t)) declared ∙ ap (row_of (Some (stage.Declared set))) going)
 
     pub writes : (change : Change) → Contains set change → Writes table t change.key change.mutation
     writes change among = record { set = set; opened = opened; does = contained set change (tells.distinct t set Open opened) among }
@@ -212,7 +212,7 @@ module _ (last : ℕ) (stages : ℕ → Option Stage) (fates : Fates) (index : I
 
   -- ---- the reasons
 
-  row_drawn : (t : ℕ) (r : Row) (o : Option Stage) → table.drawn t ≡ is_some o → table.row t ≡ row_of o (tree.get nat_cmp fates t) → table.row t ≡ Some r → table.drawn t ≡ true
+  row_drawn : (t : ℕ) (r : Row) (o : Option TxnStage) → table.drawn t ≡ is_some o → table.row t ≡ row_of o (tree.get nat_cmp fates t) → table.row t ≡ Some r → table.drawn t ≡ true
   row_drawn t r None d e some = absurd (cc (sym e ∙ some))
   row_drawn t r (Some x) d e some = d
 
@@ -226,7 +226,7 @@ module _ (last : ℕ) (stages : ℕ → Option Stage) (fates : Fates) (index : I
   standing_by true None = Drawn
   standing_by true (Some row) = by_state row.state row.changes
 
-  by_maps : (o : Option Stage) (f : Option Fate) → standing_by (is_some o) (row_of o f) ≡ standing_of o f
+  by_maps : (o : Option TxnStage) (f : Option Fate) → standing_by (is_some o) (row_of o f) ≡ standing_of o f
   by_maps None f = refl
   by_maps (Some stage.Drawn) f = refl
   by_maps (Some stage.Begun) None = refl
@@ -290,12 +290,12 @@ module _ (last : ℕ) (stages : ℕ → Option Stage) (fates : Fates) (index : I
   pub declares_none : (t : ℕ) (set : List Change) → set ≡ [] → IsRefused table (Declare t set) (why.Empty t)
   declares_none t set none = ((refl, none), λ a. a.1 none)
 
-  pub reads_other : (k : Key) (r : ℕ) (found : Option Value) (s : Seen) → IsSeen (ListedOn (versions_of index k) fates) r s → value_of s ≢ found
+  pub reads_other : (k : Key) (r : ℕ) (found : Option Value) (s : SeenValue) → IsSeen (ListedOn (versions_of index k) fates) r s → value_of s ≢ found
       → IsRefused table (Read k r found) (why.Read k r found s)
   reads_other k r found s x differs =
       ((refl, refl, refl, record { sees = seen_table k r s x; other = differs }), λ a. differs (sees_one k r s found (seen_table k r s x) a.1))
 
-  pub scans_other : (s : ScanRead) (k : Key) (seen : Seen) → Differs index fates s k → IsSeen (ListedOn (versions_of index k) fates) s.at seen
+  pub scans_other : (s : ScanRead) (k : Key) (seen : SeenValue) → Differs index fates s k → IsSeen (ListedOn (versions_of index k) fates) s.at seen
       → IsRefused table (Scan s) (why.Read k s.at (value_in s.rows k) seen)
   scans_other s k seen (covers, differs) x =
       let other : value_of seen ≢ value_in s.rows k = λ e. differs (shows_one k s.at seen (value_in s.rows k) x e) in (
@@ -355,19 +355,19 @@ module _ (machine : Machine) where
   declares_ok t is here set xs same begun (Ok o) h = why_declares_set t is here set begun o (subst (λ (ys : List Change). IsOfSet t ys o) same h)
   declares_ok t is here set xs same begun (Err e) h = tt
 
-  pub why_reads : (k : Key) (r : ℕ) (found claims : Option Value) (s : Seen) (w : Why) → IsSeen (ListedOn (versions_of machine.index k) machine.fates) r s → value_of s ≢ found
+  pub why_reads : (k : Key) (r : ℕ) (found claims : Option Value) (s : SeenValue) (w : Why) → IsSeen (ListedOn (versions_of machine.index k) machine.fates) r s → value_of s ≢ found
       → claims ≡ found → w ≡ why.Read k r claims s → IsWhy machine (Read k r found) (Some w)
   why_reads k r found claims s w x differs e is = λ table tells.
       subst (λ (q : Why). IsRefused table (Read k r found) q) (sym (is ∙ ap (λ (o : Option Value). why.Read k r o s) e))
       (reads_other machine.last (tree.get nat_cmp machine.stages) machine.fates machine.index machine.reads table tells k r found s x differs)
 
-  pub why_scans : (s : ScanRead) (k : Key) (claims : Option Value) (seen : Seen) (w : Why) → Differs machine.index machine.fates s k
+  pub why_scans : (s : ScanRead) (k : Key) (claims : Option Value) (seen : SeenValue) (w : Why) → Differs machine.index machine.fates s k
       → IsSeen (ListedOn (versions_of machine.index k) machine.fates) s.at seen → claims ≡ value_in s.rows k → w ≡ why.Read k s.at claims seen → IsWhy machine (Scan s) (Some w)
   why_scans s k claims seen w differs x e is = λ table tells.
       subst (λ (q : Why). IsRefused table (Scan s) q) (sym (is ∙ ap (λ (o : Option Value). why.Read k s.at o seen) e))
       (scans_other machine.last (tree.get nat_cmp machine.stages) machine.fates machine.index machine.reads table tells s k seen differs x)
 
-  pub scans_ok : (s : ScanRead) (k : Key) (claims : Option Value) (seen : Seen) (xs : List KeyValue) → Differs machine.index machine.fates s k
+  pub scans_ok : (s : ScanRead) (k : Key) (claims : Option Value) (seen : SeenValue) (xs : List KeyValue) → Differs machine.index machine.fates s k
       → IsSeen (ListedOn (versions_of machine.index k) machine.fates) s.at seen → claims ≡ value_in xs k → xs ≡ s.rows → (r : Result Why Fault)
       → IfOk r (λ w. w ≡ why.Read k s.at claims seen) → IfOk r (λ w. IsWhy machine (Scan s) (Some w))
   scans_ok s k claims seen xs differs x e same (Ok w) is = why_scans s k claims seen w differs x (e ∙ ap (λ (ys : List KeyValue). value_in ys k) same) is
@@ -398,7 +398,7 @@ module _ (machine : Machine) where
           never_commits table tells,
         )
 
-    pub why_exists : (s : Seen) → IsSeen (ListedOn (versions_of machine.index k) machine.fates) t s → b ≡ block.Exists → IsWhy machine (Commit t c) (Some (why.Exists k t s))
+    pub why_exists : (s : SeenValue) → IsSeen (ListedOn (versions_of machine.index k) machine.fates) t s → b ≡ block.Exists → IsWhy machine (Commit t c) (Some (why.Exists k t s))
     why_exists s seen is = λ table tells.
         let x = subst (λ (x : Block). Blocks machine.index machine.fates machine.reads t c change x) is blocks in
         let here : IsSeen (ListedOn (versions_of machine.index change.key) machine.fates) t s = subst (λ (q : Key). IsSeen (ListedOn (versions_of machine.index q) machine.fates) t s) key seen in

@@ -8,8 +8,8 @@ use Rattle.tx_types.specs.declared.mutation.Mutation.{Mutation}
 use Rattle.tx_types.specs.declared.mutation.Fate.{Fate}
 use Rattle.tx_types.specs.declared.mutation.Fate.TheVariants.{Committed, Aborted}
 use Rattle.tx_machine.specs.declared.versions.Version.{Version}
-use Rattle.tx_machine.specs.declared.machine.Stage.{Stage}
-use Rattle.tx_machine.specs.declared.machine.Stage.TheVariants.{Drawn, Begun, Declared}
+use Rattle.tx_machine.specs.declared.machine.TxnStage.{TxnStage}
+use Rattle.tx_machine.specs.declared.machine.TxnStage.TheVariants.{Drawn, Begun, Declared}
 use Rattle.tx_machine.specs.declared.step.Step.TheVariants.{Begin, Declare, Abort}
 use Rattle.tx_machine.specs.Keys.{IsDistinct}
 use Rattle.tx_machine.specs.Machine.{State, Open, Done, Row, Rows, Table, Commits, Admits, after, empty, changes_in, with_row}
@@ -32,7 +32,7 @@ state_in None = None
 state_in (Some row) = Some row.state
 
 -- what a row that ended says of the maps
-pub row_done : (stage : Option Stage) (fate : Option Fate) (set : List Change) (f : Fate) → row_of stage fate ≡ Some record { changes = Some set; state = Done f } → (stage ≡ Some (Declared set)) × (fate ≡ Some f)
+pub row_done : (stage : Option TxnStage) (fate : Option Fate) (set : List Change) (f : Fate) → row_of stage fate ≡ Some record { changes = Some set; state = Done f } → (stage ≡ Some (Declared set)) × (fate ≡ Some f)
 row_done None fate set f e = absurd (cc e)
 row_done (Some Drawn) fate set f e = absurd (cc e)
 row_done (Some Begun) fate set f e = absurd (cc (ap changes_in e))
@@ -40,7 +40,7 @@ row_done (Some (Declared s)) None set f e = absurd (cc (ap state_in e))
 row_done (Some (Declared s)) (Some g) set f e = (cc (ap changes_in e), cc (ap state_in e))
 
 -- the state of a row whose transaction ended
-pub row_ended : (stage : Option Stage) (f : Fate) (changes : Option (List Change)) (state : State) → row_of stage (Some f) ≡ Some record { changes = changes; state = state } → state ≡ Done f
+pub row_ended : (stage : Option TxnStage) (f : Fate) (changes : Option (List Change)) (state : State) → row_of stage (Some f) ≡ Some record { changes = changes; state = state } → state ≡ Done f
 row_ended None f changes state e = absurd (cc e)
 row_ended (Some Drawn) f changes state e = absurd (cc e)
 row_ended (Some Begun) f changes state e = cc (ap state_in e)
@@ -66,7 +66,7 @@ same_commits old new versions same lists = record {
 
 -- ---- one row more, or another
 
-module _ (last : ℕ) (stages : ℕ → Option Stage) (fates : ℕ → Option Fate) (versions : Key → ℕ → Option Version) (noted : Key → ℕ → Type 0) (table : Table)
+module _ (last : ℕ) (stages : ℕ → Option TxnStage) (fates : ℕ → Option Fate) (versions : Key → ℕ → Option Version) (noted : Key → ℕ → Type 0) (table : Table)
     (tells : Tells last stages fates versions noted table) where
   pub not_ended : (t : ℕ) → table.row t ≡ None → fates t ≡ None
   not_ended t none = none_is (fates t) (λ f e. tells.ended t f e none)
@@ -82,7 +82,7 @@ module _ (last : ℕ) (stages : ℕ → Option Stage) (fates : ℕ → Option Fa
     row_other q e = cond_false _ _ _ e
 
     -- where the row says what the maps say of it, and nothing else of them changes
-    module _ (new_stages : ℕ → Option Stage) (new_fates : ℕ → Option Fate) (new_versions : Key → ℕ → Option Version)
+    module _ (new_stages : ℕ → Option TxnStage) (new_fates : ℕ → Option Fate) (new_versions : Key → ℕ → Option Version)
         (here : row_of (new_stages t) (new_fates t) ≡ Some record { changes = changes; state = state })
         (other_stages : (q : ℕ) → (t == q) ≡ false → new_stages q ≡ stages q)
         (other_fates : (q : ℕ) → (t == q) ≡ false → new_fates q ≡ fates q)
@@ -92,7 +92,7 @@ module _ (last : ℕ) (stages : ℕ → Option Stage) (fates : ℕ → Option Fa
       row_drawn : (q : ℕ) → table.drawn q ≡ is_some (new_stages q)
       row_drawn q = elim (nat_test t q) [
         | inl x ↦ tells.drawn q ∙ (ap (λ (y : ℕ). is_some (stages y)) (sym (x.1)) ∙ (sym drawn_here ∙ ap (λ (y : ℕ). is_some (new_stages y)) x.1))
-        | inr x ↦ tells.drawn q ∙ ap (is_some {T = Stage}) (sym (other_stages q x.0))
+        | inr x ↦ tells.drawn q ∙ ap (is_some {T = TxnStage}) (sym (other_stages q x.0))
       ]
 
       row_is : (q : ℕ) → rows q ≡ row_of (new_stages q) (new_fates q)
@@ -100,7 +100,7 @@ module _ (last : ℕ) (stages : ℕ → Option Stage) (fates : ℕ → Option Fa
         | inl x ↦ row_here q x.1 ∙ (sym here ∙ ap (λ (y : ℕ). row_of (new_stages y) (new_fates y)) x.1)
         | inr x ↦
             row_other q x.0
-            ∙ (tells.row q ∙ (ap (λ (y : Option Stage). row_of y (fates q)) (sym (other_stages q x.0)) ∙ ap (λ (y : Option Fate). row_of (new_stages q) y) (sym (other_fates q x.0))))
+            ∙ (tells.row q ∙ (ap (λ (y : Option TxnStage). row_of y (fates q)) (sym (other_stages q x.0)) ∙ ap (λ (y : Option Fate). row_of (new_stages q) y) (sym (other_fates q x.0))))
       ]
 
       row_ends : (q : ℕ) (f : Fate) → new_fates q ≡ Some f → rows q ≢ None
@@ -147,41 +147,41 @@ module _ (last : ℕ) (stages : ℕ → Option Stage) (fates : ℕ → Option Fa
 
   -- ---- begin, declare, abort
 
-  module _ (t : ℕ) (stage : stages t ≡ Some Drawn) (new : ℕ → Option Stage) (was : (q : ℕ) → new q ≡ cond (is_eq (nat_cmp t q)) (Some Begun) (stages q)) where
+  module _ (t : ℕ) (stage : stages t ≡ Some Drawn) (new : ℕ → Option TxnStage) (was : (q : ℕ) → new q ≡ cond (is_eq (nat_cmp t q)) (Some Begun) (stages q)) where
     no_row : table.row t ≡ None
-    no_row = tells.row t ∙ ap (λ (s : Option Stage). row_of s (fates t)) stage
+    no_row = tells.row t ∙ ap (λ (s : Option TxnStage). row_of s (fates t)) stage
 
     now_begun : new t ≡ Some Begun
     now_begun = at new stages t Begun was t ∙ cond_true _ _ _ (nat_same t)
 
     pub begins : Admits table (Begin t) × Tells last new fates versions noted (after table (Begin t))
     begins = (
-      (tells.drawn t ∙ ap (is_some {T = Stage}) stage, no_row),
+      (tells.drawn t ∙ ap (is_some {T = TxnStage}) stage, no_row),
       one_row t None Open new fates versions
-          (ap (λ (s : Option Stage). row_of s (fates t)) now_begun ∙ ap (row_of (Some Begun)) (not_ended t no_row))
+          (ap (λ (s : Option TxnStage). row_of s (fates t)) now_begun ∙ ap (row_of (Some Begun)) (not_ended t no_row))
           (λ q e. at new stages t Begun was q ∙ cond_false _ _ _ e)
           (λ q e. refl)
-          (ap (is_some {T = Stage}) (now_begun ∙ refl) ∙ sym (ap (is_some {T = Stage}) stage))
+          (ap (is_some {T = TxnStage}) (now_begun ∙ refl) ∙ sym (ap (is_some {T = TxnStage}) stage))
           (λ set e. absurd (cc e))
           (lists_still t None Open (λ c e. cc e) (λ set s e. absurd (cc (sym no_row ∙ e)))),
     )
 
   module _ (t : ℕ) (set : List Change) (stage : stages t ≡ Some Begun) (open_ : fates t ≡ None) (some : set ≢ []) (distinct : IsDistinct set)
-      (new : ℕ → Option Stage) (put : Stage) (same : put ≡ Declared set) (was : (q : ℕ) → new q ≡ cond (is_eq (nat_cmp t q)) (Some put) (stages q)) where
+      (new : ℕ → Option TxnStage) (put : TxnStage) (same : put ≡ Declared set) (was : (q : ℕ) → new q ≡ cond (is_eq (nat_cmp t q)) (Some put) (stages q)) where
     begun_row : table.row t ≡ Some record { changes = None; state = Open }
-    begun_row = tells.row t ∙ (ap (λ (s : Option Stage). row_of s (fates t)) stage ∙ ap (row_of (Some Begun)) open_)
+    begun_row = tells.row t ∙ (ap (λ (s : Option TxnStage). row_of s (fates t)) stage ∙ ap (row_of (Some Begun)) open_)
 
     now_declared : new t ≡ Some (Declared set)
-    now_declared = at new stages t put was t ∙ (cond_true _ _ _ (nat_same t) ∙ ap (λ (s : Stage). Some s) same)
+    now_declared = at new stages t put was t ∙ (cond_true _ _ _ (nat_same t) ∙ ap (λ (s : TxnStage). Some s) same)
 
     pub declares : Admits table (Declare t set) × Tells last new fates versions noted (after table (Declare t set))
     declares = (
       (begun_row, some, distinct),
       one_row t (Some set) Open new fates versions
-          (ap (λ (s : Option Stage). row_of s (fates t)) now_declared ∙ ap (row_of (Some (Declared set))) open_)
+          (ap (λ (s : Option TxnStage). row_of s (fates t)) now_declared ∙ ap (row_of (Some (Declared set))) open_)
           (λ q e. at new stages t put was q ∙ cond_false _ _ _ e)
           (λ q e. refl)
-          (ap (is_some {T = Stage}) now_declared ∙ sym (ap (is_some {T = Stage}) stage))
+          (ap (is_some {T = TxnStage}) now_declared ∙ sym (ap (is_some {T = TxnStage}) stage))
           (λ xs e. subst (λ (ys : List Change). IsDistinct ys) (some_same _ _ e) distinct)
           (lists_still t (Some set) Open (λ c e. cc e) (λ xs s e. absurd (cc (ap changes_in (sym begun_row ∙ e))))),
     )
@@ -206,14 +206,14 @@ module _ (last : ℕ) (stages : ℕ → Option Stage) (fates : ℕ → Option Fa
 
 -- ---- before the first step
 
-pub tells_empty : (stages : ℕ → Option Stage) (fates : ℕ → Option Fate) (versions : Key → ℕ → Option Version) (noted : Key → ℕ → Type 0)
+pub tells_empty : (stages : ℕ → Option TxnStage) (fates : ℕ → Option Fate) (versions : Key → ℕ → Option Version) (noted : Key → ℕ → Type 0)
     → ((t : ℕ) → stages t ≡ None) → ((t : ℕ) → fates t ≡ None) → ((k : Key) (q : ℕ) → versions k q ≡ None) → ((k : Key) (r : ℕ) → noted k r → ⊥)
     → Tells 0 stages fates versions noted empty
 tells_empty stages fates versions noted no_stage no_fate no_version no_read = record {
   last_is = refl;
-  drawn = λ t. sym (ap (is_some {T = Stage}) (no_stage t));
+  drawn = λ t. sym (ap (is_some {T = TxnStage}) (no_stage t));
   range = λ t e. absurd (cc e);
-  row = λ t. sym (ap (λ (s : Option Stage). row_of s (fates t)) (no_stage t));
+  row = λ t. sym (ap (λ (s : Option TxnStage). row_of s (fates t)) (no_stage t));
   ended = λ t f e none. cc (sym (no_fate t) ∙ e);
   distinct = λ t set state e. absurd (cc e);
   commits = record {

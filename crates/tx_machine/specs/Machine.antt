@@ -99,34 +99,38 @@ pub record MayCommit (table : Table) (t c : ℕ) : Type 0 where
   pub opened : table.row t ≡ Some record { changes = Some set; state = Open }
   pub above : t < c
   pub upto : c ≤ table.last + 1
-  pub unread : (k : Key) (m : Mutation) (r : ℕ) → mutation_at set k ≡ Some m → IsVisible m → IsRead table.reads k r → r < c
+  pub unread : (k : Key) (m : Mutation) (r : ℕ) → mutation_at set k ≡ Some m → IsVisible m → IsRead table.reads k r
+      → r < c
   pub fresh : (k : Key) (v : Value) → mutation_at set k ≡ Some (Insert v) → Sees table.row k t None
-  pub apart : (k : Key) (m n : Mutation) (u d : ℕ) → mutation_at set k ≡ Some m → Commits table.row k u d n → Overlap t c u d → ⊥
+  pub apart : (k : Key) (m n : Mutation) (u d : ℕ) → mutation_at set k ≡ Some m → Commits table.row k u d n
+      → Overlap t c u d → ⊥
 
 -- which steps the machine makes
 abbrev pub Admits : Table → Step → Type 0
 Admits table (Draw n) = table.last < n
 Admits table (Begin t) = (table.drawn t ≡ true) × (table.row t ≡ None)
-Admits table (Declare t set) = (table.row t ≡ Some record { changes = None; state = Open }) × (set ≢ []) × IsDistinct set
+Admits table (Declare t set) = (table.row t ≡ Some record { changes = None; state = Open }) × (set ≢ [])
+    × IsDistinct set
 Admits table (Commit t c) = MayCommit table t c
-Admits table (Abort t) = (changes : Option (List Change)) × (table.row t ≡ Some record { changes = changes; state = Open })
+Admits table (Abort t) = (changes : Option (List Change))
+    × (table.row t ≡ Some record { changes = changes; state = Open })
 Admits table (Read k r found) = (r ≤ table.last) × Sees table.row k r found
 Admits table (Scan s) = (s.at ≤ table.last) × SeesRows table.row s
-Admits table (Answer t fate) = (changes : Option (List Change)) × (table.row t ≡ Some record { changes = changes; state = Done fate })
+Admits table (Answer t fate) = (changes : Option (List Change))
+    × (table.row t ≡ Some record { changes = changes; state = Done fate })
 
 -- a table with one row changed
 abbrev pub with_row : Table → ℕ → Option (List Change) → State → Table
-with_row table t changes state =
-    record {
-      row = λ q. cond (t == q) (Some record { changes = changes; state = state }) (table.row q);
-      last = table.last;
-      drawn = table.drawn;
-      reads = table.reads;
-    }
+with_row table t changes state = record table {
+  row = λ q. cond (t == q) (Some record {
+    changes = changes;
+    state = state;
+  }) (table.row q);
+}
 
 -- a table with one read more
 abbrev pub with_read : Table → (Key → Bool) → ℕ → Table
-with_read table covers r = record { row = table.row; last = table.last; drawn = table.drawn; reads = record { covers = covers; at = r } ∷ table.reads }
+with_read table covers r = record table { reads = record { covers = covers; at = r } ∷ table.reads }
 
 -- the declared write set of a row
 abbrev pub changes_in : Option Row → Option (List Change)
@@ -135,7 +139,7 @@ changes_in (Some row) = row.changes
 
 -- the table that a step leaves
 abbrev pub after : Table → Step → Table
-after table (Draw n) = record { row = table.row; last = n; drawn = λ q. cond (n == q) true (table.drawn q); reads = table.reads }
+after table (Draw n) = record table { last = n; drawn = λ q. cond (n == q) true (table.drawn q) }
 after table (Begin t) = with_row table t None Open
 after table (Declare t set) = with_row table t (Some set) Open
 after table (Commit t c) = with_row table t (changes_in (table.row t)) (Done (Committed c))

@@ -21,7 +21,8 @@ key_test k = bytes_eq k
 
 -- a read of k at r is kept: alone or in a span
 abbrev pub KeptAt : (Key → Option ℕ) → (ℕ → Option (List Span)) → Key → ℕ → Type 0
-KeptAt points spans k r = (points k ≡ Some r) ⊎ ((xs : List Span) × (spans r ≡ Some xs) × (list_any (λ span. span_covers span k) xs ≡ true))
+KeptAt points spans k r = (points k ≡ Some r) ⊎ ((xs : List Span) × (spans r ≡ Some xs)
+    × (list_any (λ span. span_covers span k) xs ≡ true))
 
 abbrev pub IsNoted : Reads → Key → ℕ → Type 0
 IsNoted reads k r = KeptAt (tree.get (slice_cmp nat_cmp) reads.points) (tree.get nat_cmp reads.spans) k r

@@ -7,8 +7,8 @@ use Rattle.tx_types.specs.declared.mutation.Change.{Change}
 use Rattle.tx_types.specs.declared.mutation.Mutation.{Mutation}
 use Rattle.tx_types.specs.declared.mutation.Fate.{Fate}
 use Rattle.tx_machine.specs.declared.versions.Version.{Version}
-use Rattle.tx_machine.specs.declared.machine.Stage.{Stage}
-use Rattle.tx_machine.specs.declared.machine.Stage.TheVariants.{Drawn, Begun, Declared}
+use Rattle.tx_machine.specs.declared.machine.TxnStage.{TxnStage}
+use Rattle.tx_machine.specs.declared.machine.TxnStage.TheVariants.{Drawn, Begun, Declared}
 use Rattle.tx_machine.specs.declared.machine.Machine.{Machine}
 use Rattle.tx_machine.specs.declared.reads.Reads.{Reads}
 use Rattle.tx_machine.specs.declared.commit.Block.{Block}
@@ -27,7 +27,7 @@ state_of None = Open
 state_of (Some fate) = Done fate
 
 -- the row of a transaction that has come so far
-abbrev pub row_of : Option Stage → Option Fate → Option Row
+abbrev pub row_of : Option TxnStage → Option Fate → Option Row
 row_of None fate = None
 row_of (Some Drawn) fate = None
 row_of (Some Begun) fate = Some record { changes = None; state = state_of fate }
@@ -44,11 +44,14 @@ version_of index k c = version_in (versions_of index k) c
 -- each commit is listed, each version listed is what its transaction declared, and no
 -- two commits overlap
 pub record ListsCommits (rows : Rows) (versions : Key → ℕ → Option Version) : Type 0 where
-  pub listed : (k : Key) (u c : ℕ) (m : Mutation) → Commits rows k u c m → versions k c ≡ Some record { start = u; mutation = m }
+  pub listed : (k : Key) (u c : ℕ) (m : Mutation) → Commits rows k u c m
+      → versions k c ≡ Some record { start = u; mutation = m }
   pub declared : (k : Key) (c : ℕ) (v : Version) → versions k c ≡ Some v
-      → (set : List Change) × (state : State) × (rows v.start ≡ Some record { changes = Some set; state = state }) × (mutation_at set k ≡ Some v.mutation)
+      → (set : List Change) × (state : State) × (rows v.start ≡ Some record { changes = Some set; state = state })
+      × (mutation_at set k ≡ Some v.mutation)
   pub above : (k : Key) (u c : ℕ) (m : Mutation) → Commits rows k u c m → u < c
-  pub apart : (k : Key) (u c v d : ℕ) (m n : Mutation) → Commits rows k u c m → Commits rows k v d n → u ≢ v → Overlap u c v d → ⊥
+  pub apart : (k : Key) (u c v d : ℕ) (m n : Mutation) → Commits rows k u c m → Commits rows k v d n → u ≢ v
+      → Overlap u c v d → ⊥
 
 -- the reads that are kept are those that were made, and of each key the greatest
 pub record KeepsReads (reads : List Reading) (noted : Key → ℕ → Type 0) : Type 0 where
@@ -56,19 +59,22 @@ pub record KeepsReads (reads : List Reading) (noted : Key → ℕ → Type 0) : 
   pub kept : (k : Key) (r : ℕ) → IsRead reads k r → (s : ℕ) × (r ≤ s) × noted k s
 
 -- what the maps say is what a table says
-pub record Tells (last : ℕ) (stages : ℕ → Option Stage) (fates : ℕ → Option Fate) (versions : Key → ℕ → Option Version) (noted : Key → ℕ → Type 0) (table : Table) : Type 0 where
+pub record Tells (last : ℕ) (stages : ℕ → Option TxnStage) (fates : ℕ → Option Fate) (versions : Key → ℕ
+    → Option Version) (noted : Key → ℕ → Type 0) (table : Table) : Type 0 where
   pub last_is : table.last ≡ last
   pub drawn : (t : ℕ) → table.drawn t ≡ is_some (stages t)
   pub range : (t : ℕ) → table.drawn t ≡ true → t ≤ table.last
   pub row : (t : ℕ) → table.row t ≡ row_of (stages t) (fates t)
   pub ended : (t : ℕ) (fate : Fate) → fates t ≡ Some fate → table.row t ≢ None
-  pub distinct : (t : ℕ) (set : List Change) (state : State) → table.row t ≡ Some record { changes = Some set; state = state } → IsDistinct set
+  pub distinct : (t : ℕ) (set : List Change) (state : State)
+      → table.row t ≡ Some record { changes = Some set; state = state } → IsDistinct set
   pub commits : ListsCommits table.row versions
   pub reads : KeepsReads table.reads noted
 
 -- the machine represents a table
 abbrev pub Represents : Machine → Table → Type 0
-Represents machine table = Tells machine.last (tree.get nat_cmp machine.stages) (tree.get nat_cmp machine.fates) (version_of machine.index) (IsNoted machine.reads) table
+Represents machine table = Tells machine.last (tree.get nat_cmp machine.stages) (tree.get nat_cmp machine.fates)
+    (version_of machine.index) (IsNoted machine.reads) table
 
 -- the machine makes the step: its table admits it, and the machine then represents the table after
 abbrev pub Makes : Machine → Machine → Step → Type 0
@@ -110,7 +116,10 @@ Blocks index fates reads t c change block.Exists = IsInsert change.mutation × (
 
 -- the versions of all keys, with one more
 abbrev pub put_version : ℕ → ℕ → Change → (Key → ℕ → Option Version) → Key → ℕ → Option Version
-put_version t c x f k q = cond (bytes_eq x.key k) (cond (c == q) (Some record { start = t; mutation = x.mutation }) (f k q)) (f k q)
+put_version t c x f k q = cond (bytes_eq x.key k) (cond (c == q) (Some record {
+  start = t;
+  mutation = x.mutation;
+}) (f k q)) (f k q)
 
 -- with those of a write set
 abbrev pub puts : ℕ → ℕ → List Change → (Key → ℕ → Option Version) → Key → ℕ → Option Version

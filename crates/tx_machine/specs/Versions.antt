@@ -25,7 +25,8 @@ pub record Listed (versions : Versions) (fates : Fates) (u c : ℕ) (m : Mutatio
 
 -- no commit above low and at most at r puts or deletes
 abbrev pub BareBetween : Versions → Fates → ℕ → ℕ → Type 0
-BareBetween versions fates low r = (u c : ℕ) (m : Mutation) → Listed versions fates u c m → IsVisible m → low < c → c ≤ r → ⊥
+BareBetween versions fates low r = (u c : ℕ) (m : Mutation) → Listed versions fates u c m → IsVisible m → low < c
+    → c ≤ r → ⊥
 
 -- the newest put or delete at most at r does m
 pub record NewestIn (versions : Versions) (fates : Fates) (r : ℕ) (m : Mutation) : Type 0 where

@@ -12,13 +12,13 @@ use Rattle.tx_types.specs.declared.mutation.Mutation.TheVariants.{Insert}
 use Rattle.tx_types.specs.declared.mutation.Fate.{Fate}
 use Rattle.tx_types.specs.Keys.{IsVisible, put_by, value_in}
 use Rattle.tx_machine.specs.declared.machine.Machine.{Machine}
-use Rattle.tx_machine.specs.declared.machine.Stage.{Stage}
-use Rattle.tx_machine.specs.declared.machine.Stage.TheVariants as stage
+use Rattle.tx_machine.specs.declared.machine.TxnStage.{TxnStage}
+use Rattle.tx_machine.specs.declared.machine.TxnStage.TheVariants as stage
 use Rattle.tx_machine.specs.declared.step.ScanRead.{ScanRead}
 use Rattle.tx_machine.specs.declared.step.Step.{Step}
 use Rattle.tx_machine.specs.declared.step.Step.TheVariants.{Draw, Begin, Declare, Commit, Abort, Read, Scan, Answer}
-use Rattle.tx_machine.specs.declared.reason.Seen.{Seen}
-use Rattle.tx_machine.specs.declared.reason.Seen.TheVariants.{Nothing, Deleted, Left}
+use Rattle.tx_machine.specs.declared.reason.SeenValue.{SeenValue}
+use Rattle.tx_machine.specs.declared.reason.SeenValue.TheVariants.{Nothing, Deleted, Left}
 use Rattle.tx_machine.specs.declared.reason.Standing.{Standing}
 use Rattle.tx_machine.specs.declared.reason.Standing.TheVariants.{Undrawn, Drawn, Begun, Declared, Ended}
 use Rattle.tx_machine.specs.declared.reason.Why.{Why}
@@ -41,13 +41,13 @@ module _ (committed : ℕ → ℕ → Mutation → Type 0) where
     pub newest : (u c : ℕ) (n : Mutation) → committed u c n → IsVisible n → by.commit < c → c ≤ r → ⊥
 
   -- a read at r sees this, and this commit left it; nothing was left where there is none
-  abbrev pub IsSeen : ℕ → Seen → Type 0
+  abbrev pub IsSeen : ℕ → SeenValue → Type 0
   IsSeen r Nothing = (u c : ℕ) (m : Mutation) → committed u c m → IsVisible m → c ≤ r → ⊥
   IsSeen r (Deleted by) = (m : Mutation) × LeftBy r by m × (put_by m ≡ None)
   IsSeen r (Left v by) = (m : Mutation) × LeftBy r by m × (put_by m ≡ Some v)
 
 -- the value that is seen
-abbrev pub value_of : Seen → Option Value
+abbrev pub value_of : SeenValue → Option Value
 value_of Nothing = None
 value_of (Deleted by) = None
 value_of (Left v by) = Some v
@@ -59,10 +59,11 @@ Stands table t Undrawn = table.drawn t ≡ false
 Stands table t Drawn = (table.drawn t ≡ true) × (table.row t ≡ None)
 Stands table t Begun = table.row t ≡ Some record { changes = None; state = Open }
 Stands table t Declared = (set : List Change) × (table.row t ≡ Some record { changes = Some set; state = Open })
-Stands table t (Ended fate) = (changes : Option (List Change)) × (table.row t ≡ Some record { changes = changes; state = Done fate })
+Stands table t (Ended fate) = (changes : Option (List Change))
+    × (table.row t ≡ Some record { changes = changes; state = Done fate })
 
 -- as the machine's maps say it
-abbrev pub standing_of : Option Stage → Option Fate → Standing
+abbrev pub standing_of : Option TxnStage → Option Fate → Standing
 standing_of None fate = Undrawn
 standing_of (Some stage.Drawn) fate = Drawn
 standing_of (Some stage.Begun) None = Begun
@@ -94,12 +95,13 @@ AreInPlace from to (row ∷ rows) = IsKeyWithin from to row.key × AreInPlace (E
 -- k is the key of a row that does not
 abbrev pub IsMisplaced : Bound Key → Key → List KeyValue → Key → Type 0
 IsMisplaced from to [] k = ⊥
-IsMisplaced from to (row ∷ rows) k = ((row.key ≡ k) × (IsKeyWithin from to k → ⊥)) ⊎ IsMisplaced (Excluded row.key) to rows k
+IsMisplaced from to (row ∷ rows) k = ((row.key ≡ k) × (IsKeyWithin from to k → ⊥))
+    ⊎ IsMisplaced (Excluded row.key) to rows k
 
 -- ---- the reasons
 
 -- what a read at r sees of k is not what it claims
-pub record SeesOther (table : Table) (k : Key) (r : ℕ) (claims : Option Value) (seen : Seen) : Type 0 where
+pub record SeesOther (table : Table) (k : Key) (r : ℕ) (claims : Option Value) (seen : SeenValue) : Type 0 where
   pub sees : IsSeen (Commits table.row k) r seen
   pub other : value_of seen ≢ claims
 
@@ -126,12 +128,14 @@ Explains table (Commit t c) (why.Unread key at commit) = (commit ≡ c) × (c �
 Explains table (Commit t c) (why.Exists key at seen) = (at ≡ t)
     × ((v : Value) × Writes table t key (Insert v) × SeesOther table key t None seen)
 Explains table (Abort t) (why.State start is) = (start ≡ t) × Stands table t is × (is ≢ Begun) × (is ≢ Declared)
-Explains table (Read k r found) (why.Read key at claims seen) = (key ≡ k) × (at ≡ r) × (claims ≡ found) × SeesOther table k r found seen
+Explains table (Read k r found) (why.Read key at claims seen) = (key ≡ k) × (at ≡ r) × (claims ≡ found)
+    × SeesOther table k r found seen
 Explains table (Read k r found) (why.Last at last) = (at ≡ r) × (table.last ≡ last) × (last < r)
 Explains table (Scan s) (why.Last at last) = (at ≡ s.at) × (table.last ≡ last) × (last < s.at)
 Explains table (Scan s) (why.Order key) = IsMisplaced (Included s.from) s.to s.rows key
 Explains table (Scan s) (why.Count rows limit) = (rows ≡ length s.rows) × (limit ≡ s.limit) × (limit < rows)
-Explains table (Scan s) (why.Read key at claims seen) = (at ≡ s.at) × (claims ≡ value_in s.rows key) × IsTrue (covered s key)
+Explains table (Scan s) (why.Read key at claims seen) = (at ≡ s.at) × (claims ≡ value_in s.rows key)
+    × IsTrue (covered s key)
     × SeesOther table key s.at claims seen
 Explains table (Answer t fate) (why.State start is) = (start ≡ t) × StandsOther table t is (Ended fate)
 Explains table step reason = ⊥

@@ -13,7 +13,7 @@ ghost use Rattle.tx_machine.specs.Representation.{InOrder, IsFree, Blocks, Liste
 use crate::machine::Refused;
 use crate::reads::Reads;
 use crate::scan::{Index, shown};
-use crate::versions::{Fates, Version, Writer, is_visible, overlapping};
+use crate::versions::{Fates, Version, Writer, overlapping};
 use std::alloc::Global;
 use std::collections::BTreeMap;
 use tx_types::{Change, Key, Mutation, Ts};
@@ -30,7 +30,8 @@ fn is_insert(mutation: &Mutation) -> bool
 // Whether a read at the start sees no value of what the change inserts, if it inserts.
 fn is_fresh(index: &Index, fates: &Fates, t: Ts, change: &Change) -> bool
     ensures fresh { result ≡ true → IsInsert change.now.mutation → Shows index.now fates.now change.now.key t None }
-    ensures stale { result ≡ false → IsInsert change.now.mutation × (Shows index.now fates.now change.now.key t None → ⊥) }
+    ensures stale { result ≡ false → IsInsert change.now.mutation × (Shows index.now fates.now change.now.key t None
+        → ⊥) }
 {
     if !is_insert(&change.mutation) {
         return true;
@@ -40,7 +41,8 @@ fn is_fresh(index: &Index, fates: &Fates, t: Ts, change: &Change) -> bool
 
 // A listed commit of the key that would overlap.
 fn overlapping_on(index: &Index, fates: &Fates, t: Ts, c: Ts, key: &Key) -> Option<Writer>
-    ensures some { IfSome result (λ by. (m : Mutation) × ListedOn (versions_of index.now key.now) fates.now by.start by.commit m
+    ensures some { IfSome result (λ by. (m : Mutation)
+        × ListedOn (versions_of index.now key.now) fates.now by.start by.commit m
         × Overlap t c by.start by.commit) }
     ensures none { IfNone result (InOrder index.now fates.now → (u d : ℕ) (m : Mutation)
         → ListedOn (versions_of index.now key.now) fates.now u d m → Overlap t c u d → ⊥) }
@@ -80,7 +82,7 @@ fn block_of(
     if !is_fresh(index, fates, t, change) {
         return Some(Block::Exists);
     }
-    if !is_visible(&change.mutation) {
+    if !change.mutation.is_visible() {
         return None;
     }
     match reads.read_from(&change.key, c) {
@@ -99,8 +101,10 @@ pub(crate) fn first_block<'a>(
     set: &'a [Change],
 ) -> Option<(&'a Change, Block)>
     ensures free { IfNone result (InOrder index.now fates.now
-        → (k : Key) (m : Mutation) → mutation_at set.now k ≡ Some m → IsFree index.now fates.now reads.now t c record { key = k; mutation = m }) }
-    ensures blocked { IfSome result (λ x. Contains set.now x.0.now × Blocks index.now fates.now reads.now t c x.0.now x.1) }
+        → (k : Key) (m : Mutation) → mutation_at set.now k ≡ Some m
+        → IsFree index.now fates.now reads.now t c record { key = k; mutation = m }) }
+    ensures blocked { IfSome result (λ x. Contains set.now x.0.now
+        × Blocks index.now fates.now reads.now t c x.0.now x.1) }
 {
     for change in set {
         if let Some(block) = block_of(index, fates, reads, t, c, change) {
@@ -113,7 +117,8 @@ pub(crate) fn first_block<'a>(
 // Lists a version of a key at a timestamp.
 fn list(alloc: Global, index: &mut Index, key: &Key, c: Ts, version: Version) -> Result<(), Refused>
     ensures ok { OnOk result ((k : Key) (q : ℕ) → version_of index.new k q
-        ≡ cond (bytes_eq key.now k) (cond (c == q) (Some version) (version_of index.old k q)) (version_of index.old k q)) }
+        ≡ cond (bytes_eq key.now k) (cond (c == q) (Some version) (version_of index.old k q))
+        (version_of index.old k q)) }
     ensures same { OnErr result ((k : Key) (q : ℕ) → version_of index.new k q ≡ version_of index.old k q) }
     ensures err { IfErr result (λ e. e ≡ Refused.Memory) }
 {
@@ -135,8 +140,10 @@ pub(crate) fn list_all(
     c: Ts,
     set: &[Change],
 ) -> Result<(), Refused>
-    ensures all { OnOk result ((k : Key) (q : ℕ) → version_of index.new k q ≡ puts t c set.now (version_of index.old) k q) }
-    ensures some { OnErr result ((n : ℕ) × ((k : Key) (q : ℕ) → version_of index.new k q ≡ puts t c (take n set.now) (version_of index.old) k q)) }
+    ensures all { OnOk result ((k : Key) (q : ℕ) → version_of index.new k q
+        ≡ puts t c set.now (version_of index.old) k q) }
+    ensures some { OnErr result ((n : ℕ) × ((k : Key) (q : ℕ)
+        → version_of index.new k q ≡ puts t c (take n set.now) (version_of index.old) k q)) }
     ensures err { IfErr result (λ e. e ≡ Refused.Memory) }
 {
     for change in set {

@@ -16,7 +16,7 @@ mod why;
 
 pub use laws::runs_are_snapshots;
 pub use machine::{Machine, Refused};
-pub use reason::{Seen, Standing, Why};
+pub use reason::{SeenValue, Standing, Why};
 pub use step::{ScanRead, Step};
 pub use trace::{Checked, check_steps, check_trace};
 pub use versions::Writer;

@@ -27,7 +27,7 @@ use tx_types::{Changes, Fate, Fault, Key, Ts, Value};
 
 /// How far the transaction of a number that was drawn has come.
 #[derive(Drop)]
-pub(crate) enum Stage {
+pub(crate) enum TxnStage {
     Drawn,
     Begun,
     Declared(Changes),
@@ -38,7 +38,7 @@ pub(crate) enum Stage {
 pub struct Machine {
     pub(crate) alloc: Global,
     pub(crate) last: Ts,
-    pub(crate) stages: BTreeMap<Ts, Stage>,
+    pub(crate) stages: BTreeMap<Ts, TxnStage>,
     pub(crate) fates: Fates,
     pub(crate) index: Index,
     pub(crate) reads: Reads,
@@ -118,7 +118,7 @@ impl Machine {
         if n <= self.last {
             return Err(Refused::Step);
         }
-        self.stages.insert(n, Stage::Drawn)?;
+        self.stages.insert(n, TxnStage::Drawn)?;
         self.last = n;
         Ok(())
     }
@@ -130,7 +130,7 @@ impl Machine {
     {
         match self.stages.get_mut(&t) {
             Some(stage) => match stage {
-                Stage::Drawn => *stage = Stage::Begun,
+                TxnStage::Drawn => *stage = TxnStage::Begun,
                 _ => return Err(Refused::Step),
             },
             None => return Err(Refused::Step),
@@ -151,7 +151,7 @@ impl Machine {
         }
         match self.stages.get_mut(&t) {
             Some(stage) => match stage {
-                Stage::Begun => *stage = declared(set)?,
+                TxnStage::Begun => *stage = declared(set)?,
                 _ => return Err(Refused::Step),
             },
             None => return Err(Refused::Step),
@@ -191,7 +191,7 @@ impl Machine {
         ensures refused { IsErrOf result Refused.Step → Refuses self.old (Step.Commit t c) }
         ensures same { OnErr result (Keeps self.old self.new) }
     {
-        let Some(Stage::Declared(set)) = self.stages.get(&t) else {
+        let Some(TxnStage::Declared(set)) = self.stages.get(&t) else {
             return Err(Refused::Step);
         };
         let (start, commit) = (t.get(), c.get());
@@ -236,24 +236,24 @@ impl Machine {
 }
 
 // Whether the transaction has begun: then it has a row, and else none.
-fn has_begun(stages: &BTreeMap<Ts, Stage>, t: Ts) -> bool
+fn has_begun(stages: &BTreeMap<Ts, TxnStage>, t: Ts) -> bool
     ensures some { result ≡ true → (changes : Option (List Change)) × ((fate : Option Fate)
         → row_of (tree.get nat_cmp stages.now t) fate ≡ Some record { changes = changes; state = state_of fate }) }
     ensures none { result ≡ false → (fate : Option Fate) → row_of (tree.get nat_cmp stages.now t) fate ≡ None }
 {
     match stages.get(&t) {
-        None | Some(Stage::Drawn) => false,
-        Some(Stage::Begun) => true,
-        Some(Stage::Declared(_)) => true,
+        None | Some(TxnStage::Drawn) => false,
+        Some(TxnStage::Begun) => true,
+        Some(TxnStage::Declared(_)) => true,
     }
 }
 
 // The stage of a transaction that declares a write set.
-fn declared(set: &Changes) -> Result<Stage, Fault>
-    ensures ok { IfOk result (λ stage. stage ≡ Stage.Declared set.now) }
+fn declared(set: &Changes) -> Result<TxnStage, Fault>
+    ensures ok { IfOk result (λ stage. stage ≡ TxnStage.Declared set.now) }
     ensures err { IfErr result (λ e. e ≡ Fault.OutOfMemory) }
 {
-    Ok(Stage::Declared(set.clone()?))
+    Ok(TxnStage::Declared(set.clone()?))
 }
 
 // Whether a read of the key at this timestamp gives this.

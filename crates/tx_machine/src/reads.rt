@@ -58,8 +58,10 @@ impl Reads {
 
     // Where the key was read alone, at this timestamp or above.
     fn read_alone(&self, key: &Key, from: Ts) -> Option<Ts>
-        ensures some { IfSome result (λ r. (from ≤ r) × (tree.get (slice_cmp nat_cmp) self.now.points key.now ≡ Some r)) }
-        ensures none { IfNone result ((r : ℕ) → tree.get (slice_cmp nat_cmp) self.now.points key.now ≡ Some r → r < from) }
+        ensures some { IfSome result (λ r. (from ≤ r)
+            × (tree.get (slice_cmp nat_cmp) self.now.points key.now ≡ Some r)) }
+        ensures none { IfNone result ((r : ℕ) → tree.get (slice_cmp nat_cmp) self.now.points key.now ≡ Some r
+            → r < from) }
     {
         match self.points.get(key) {
             Some(at) if *at >= from => Some(*at),
@@ -133,7 +135,8 @@ fn push_at(
     span: Span,
 ) -> Result<(), Fault>
     ensures ok { OnOk result ((q : ℕ) → tree.get nat_cmp spans.new q
-        ≡ cond (at == q) (Some (unwrap_or (tree.get nat_cmp spans.old at) [] ++ span ∷ [])) (tree.get nat_cmp spans.old q)) }
+        ≡ cond (at == q) (Some (unwrap_or (tree.get nat_cmp spans.old at) [] ++ span
+        ∷ [])) (tree.get nat_cmp spans.old q)) }
     ensures same { OnErr result ((q : ℕ) → tree.get nat_cmp spans.new q ≡ tree.get nat_cmp spans.old q) }
     ensures err { IfErr result (λ e. e ≡ Fault.OutOfMemory) }
 {

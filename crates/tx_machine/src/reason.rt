@@ -4,7 +4,7 @@ use tx_types::{Fate, Key, Ts, Value};
 
 /// What a read sees of a key, and whose commit left it.
 #[derive(Debug, Drop)]
-pub enum Seen {
+pub enum SeenValue {
     /// No commit has changed the key.
     Nothing,
     /// The newest commit deleted it.
@@ -72,7 +72,7 @@ pub enum Why {
     Exists {
         key: Key,
         at: Ts,
-        seen: Seen,
+        seen: SeenValue,
     },
     /// More rows than the scan's limit.
     Count {
@@ -88,6 +88,6 @@ pub enum Why {
         key: Key,
         at: Ts,
         claims: Option<Value>,
-        seen: Seen,
+        seen: SeenValue,
     },
 }

@@ -126,7 +126,8 @@ fn row_differing<'a>(
     row: &'a KeyValue,
 ) -> Option<&'a Key>
     requires { IsFromStart (slice_cmp nat_cmp) (bound_map (λ x. x.now) from) row.now.key }
-    ensures some { IfSome result (λ key. DiffersBefore index.now fates.now at (bound_map (λ x. x.now) from.entry) row.now key.now) }
+    ensures some { IfSome result (λ key. DiffersBefore index.now fates.now at (bound_map (λ x. x.now) from.entry)
+        row.now key.now) }
     ensures none { IfNone result (IsBare index.now fates.now (bound_map (λ x. x.now) from.entry) row.now.key at
         × Shows index.now fates.now row.now.key at (Some row.now.value)) }
 {

@@ -12,7 +12,8 @@ use tx_types::Fault;
 // What a scan covered, where its rows rise and end within its range: nothing where it
 // was to give no row.
 pub(crate) fn span_of(scan: &ScanRead) -> Result<Option<Span>, Fault>
-    ensures ok { IfOk result (λ span. IsRising scan.now.rows → EndsWithin scan.now → (k : Key) → covers_of span k ≡ covered scan.now k) }
+    ensures ok { IfOk result (λ span. IsRising scan.now.rows → EndsWithin scan.now → (k : Key)
+        → covers_of span k ≡ covered scan.now k) }
     ensures err { IfErr result (λ e. e ≡ Fault.OutOfMemory) }
 {
     let rows = scan.rows.as_slice();

@@ -10,7 +10,7 @@ ghost use Rattle.tx_machine.specs.Machine.{Overlap};
 ghost use Rattle.tx_types.specs.declared.mutation.Mutation.{Mutation};
 ghost use Rattle.tx_machine.specs.Versions.{Listed, SeenIn, IsOrderly};
 ghost use Rattle.tx_machine.specs.Why.{LeftBy, IsSeen};
-ghost use Rattle.tx_machine.specs.declared.reason.Seen.TheVariants as Seen;
+ghost use Rattle.tx_machine.specs.declared.reason.SeenValue.TheVariants as SeenValue;
 ghost use Rattle.tx_types.specs.Keys.{IsVisible, put_by};
 
 use std::collections::BTreeMap;
@@ -96,27 +96,20 @@ pub(crate) fn is_committed(fates: &Fates, start: Ts, commit: Ts) -> bool
     }
 }
 
-/// Whether reads see what it does.
-pub(crate) fn is_visible(mutation: &Mutation) -> bool
-    ensures { IsTrue result ↔ IsVisible mutation.now }
-{
-    match mutation {
-        Mutation::Put(_) | Mutation::Insert(_) | Mutation::Delete => true,
-        Mutation::Lock => false,
-    }
-}
-
 /// The newest commit at this timestamp or below that puts, inserts or deletes.
 pub(crate) fn newest<'a>(versions: &'a Versions, fates: &Fates, at: Ts) -> Option<(Ts, &'a Version)>
-    ensures some { IfSome result (λ x. LeftBy (Listed versions.now fates.now) at record { start = x.1.now.start; commit = x.0 } x.1.now.mutation) }
-    ensures none { IfNone result (IsSeen (Listed versions.now fates.now) at Seen.Nothing) }
+    ensures some { IfSome result (λ x. LeftBy (Listed versions.now fates.now) at record {
+      start = x.1.now.start;
+      commit = x.0;
+    } x.1.now.mutation) }
+    ensures none { IfNone result (IsSeen (Listed versions.now fates.now) at SeenValue.Nothing) }
 {
     let mut bound = at.get();
     'versions: loop {
         let Some((commit, version)) = last_upto(versions, Ts::new(bound)) else {
             return None;
         };
-        if is_committed(fates, version.start, commit) && is_visible(&version.mutation) {
+        if is_committed(fates, version.start, commit) && version.mutation.is_visible() {
             return Some((commit, version));
         }
         if commit.get() == 0 {
@@ -155,7 +148,8 @@ pub(crate) fn overlapping(
     start: Ts,
     commit: Ts,
 ) -> Option<Writer>
-    ensures some { IfSome result (λ by. (m : Mutation) × Listed versions.now fates.now by.start by.commit m × Overlap start commit by.start by.commit) }
+    ensures some { IfSome result (λ by. (m : Mutation) × Listed versions.now fates.now by.start by.commit m
+        × Overlap start commit by.start by.commit) }
     ensures none { IfNone result (IsOrderly versions.now fates.now
         → (u d : ℕ) (m : Mutation) → Listed versions.now fates.now u d m → Overlap start commit u d → ⊥) }
 {

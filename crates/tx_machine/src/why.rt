@@ -9,12 +9,12 @@ ghost use Rattle.tx_machine.specs.Representation.{Represents, ListedOn, Blocks};
 ghost use Rattle.tx_machine.specs.Scans.{Differs};
 ghost use Rattle.tx_machine.specs.Shown.{versions_of};
 ghost use Rattle.tx_machine.specs.Why.{IsSeen, value_of, standing_of, IsOfSet, IsWhy};
-ghost use Rattle.tx_machine.specs.declared.machine.Stage.{Stage};
-ghost use Rattle.tx_machine.specs.declared.machine.Stage.TheVariants.{Declared};
+ghost use Rattle.tx_machine.specs.declared.machine.TxnStage.{TxnStage};
+ghost use Rattle.tx_machine.specs.declared.machine.TxnStage.TheVariants.{Declared};
 
 use crate::commit::{Block, first_block};
-use crate::machine::{Machine, Stage};
-use crate::reason::{Seen, Standing, Why};
+use crate::machine::{Machine, TxnStage};
+use crate::reason::{SeenValue, Standing, Why};
 use crate::scan::{Index, differing, misplaced, value_in};
 use crate::sets::repeated;
 use crate::step::{ScanRead, Step};
@@ -23,35 +23,35 @@ use std::alloc::Global;
 use tx_types::{Change, Changes, Fate, Fault, Key, Mutation, Ts, Value};
 
 // What a read of the key at this timestamp sees, and whose commit left it.
-fn seen_by(index: &Index, fates: &Fates, key: &Key, at: Ts) -> Result<Seen, Fault>
+fn seen_by(index: &Index, fates: &Fates, key: &Key, at: Ts) -> Result<SeenValue, Fault>
     ensures ok { IfOk result (λ seen. IsSeen (ListedOn (versions_of index.now key.now) fates.now) at seen) }
     ensures err { IfErr result (λ e. e ≡ Fault.OutOfMemory) }
 {
     let Some(versions) = index.get(key) else {
-        return Ok(Seen::Nothing);
+        return Ok(SeenValue::Nothing);
     };
     let Some((commit, version)) = newest(versions, fates, at) else {
-        return Ok(Seen::Nothing);
+        return Ok(SeenValue::Nothing);
     };
     let by = Writer {
         start: version.start,
         commit,
     };
     match &version.mutation {
-        Mutation::Put(value) => Ok(Seen::Left(value.clone()?, by)),
-        Mutation::Insert(inserted) => Ok(Seen::Left(inserted.clone()?, by)),
-        Mutation::Delete | Mutation::Lock => Ok(Seen::Deleted(by)),
+        Mutation::Put(value) => Ok(SeenValue::Left(value.clone()?, by)),
+        Mutation::Insert(inserted) => Ok(SeenValue::Left(inserted.clone()?, by)),
+        Mutation::Delete | Mutation::Lock => Ok(SeenValue::Deleted(by)),
     }
 }
 
-impl Seen {
+impl SeenValue {
     /// The value, where there is one.
     pub fn value(&self) -> Option<&Value>
         ensures { option_map (λ v. v.now) result ≡ value_of self.now }
     {
         match self {
-            Seen::Nothing | Seen::Deleted(_) => None,
-            Seen::Left(value, _) => Some(value),
+            SeenValue::Nothing | SeenValue::Deleted(_) => None,
+            SeenValue::Left(value, _) => Some(value),
         }
     }
 }
@@ -67,14 +67,14 @@ fn copy(value: Option<&Value>) -> Result<Option<Value>, Fault>
 }
 
 // Whether what is seen is what a read claims.
-fn is_same(seen: &Seen, claims: &Option<Value>) -> bool
+fn is_same(seen: &SeenValue, claims: &Option<Value>) -> bool
     ensures { IsTrue result ↔ (value_of seen.now ≡ claims.now) }
 {
     seen.value() == claims.as_ref()
 }
 
 // A read of the key that sees something else than it claims.
-fn read_reason(key: &Key, at: Ts, claims: Option<&Value>, seen: Seen) -> Result<Why, Fault>
+fn read_reason(key: &Key, at: Ts, claims: Option<&Value>, seen: SeenValue) -> Result<Why, Fault>
     ensures ok { IfOk result (λ why. why ≡ Why.Read key.now at (option_map (λ v. v.now) claims.entry) seen) }
     ensures err { IfErr result (λ e. e ≡ Fault.OutOfMemory) }
 {
@@ -151,11 +151,11 @@ impl Machine {
     {
         match (self.stages.get(&t), self.fates.get(&t)) {
             (None, _) => Standing::Undrawn,
-            (Some(Stage::Drawn), _) => Standing::Drawn,
-            (Some(Stage::Begun), None) => Standing::Begun,
-            (Some(Stage::Declared(_)), None) => Standing::Declared,
-            (Some(Stage::Begun), Some(fate)) => Standing::Ended(*fate),
-            (Some(Stage::Declared(_)), Some(ended)) => Standing::Ended(*ended),
+            (Some(TxnStage::Drawn), _) => Standing::Drawn,
+            (Some(TxnStage::Begun), None) => Standing::Begun,
+            (Some(TxnStage::Declared(_)), None) => Standing::Declared,
+            (Some(TxnStage::Begun), Some(fate)) => Standing::Ended(*fate),
+            (Some(TxnStage::Declared(_)), Some(ended)) => Standing::Ended(*ended),
         }
     }
 
@@ -251,14 +251,16 @@ impl Machine {
 
     // What the transaction has declared, where it is open.
     fn open_set(&self, t: Ts) -> Option<&Changes>
-        ensures some { IfSome result (λ set. (tree.get nat_cmp self.now.stages t ≡ Some (Declared set.now)) × (tree.get nat_cmp self.now.fates t ≡ None)) }
-        ensures none { IfNone result (standing_of (tree.get nat_cmp self.now.stages t) (tree.get nat_cmp self.now.fates t) ≢ Standing.Declared) }
+        ensures some { IfSome result (λ set. (tree.get nat_cmp self.now.stages t ≡ Some (Declared set.now))
+            × (tree.get nat_cmp self.now.fates t ≡ None)) }
+        ensures none { IfNone result (standing_of (tree.get nat_cmp self.now.stages t)
+            (tree.get nat_cmp self.now.fates t) ≢ Standing.Declared) }
     {
         if self.fates.get(&t).is_some() {
             return None;
         }
         match self.stages.get(&t) {
-            Some(Stage::Declared(set)) => Some(set),
+            Some(TxnStage::Declared(set)) => Some(set),
             _ => None,
         }
     }

@@ -2,23 +2,19 @@
 ghost use Rattle.std.specs.Prelude.{◌≡◌, ℕ, Some, OnOk, OnErr, IfErr};
 ghost use Rattle.std.specs.BTreeMap as tree;
 ghost use Rattle.std.specs.Ordering.{nat_cmp};
-ghost use Rattle.tx_plan.specs.Changes.{Applies, SomeLock, RaisesMinimum, CommitsAt, changed};
+ghost use Rattle.tx_plan.specs.Changes.{Applies, SomeLock, RaisesMinimum, HasCommitAt, changed};
 ghost use Rattle.tx_plan.specs.declared.key_change.KeyChange.TheVariants as change;
 ghost use Rattle.tx_cells.specs.Contents.{cells_of};
-ghost use Rattle.tx_cells.specs.Afterwards.{OnlyOn, after, after_left};
-ghost use Rattle.tx_cells.specs.Numbers.{noted_by};
-ghost use Rattle.tx_types.specs.declared.key.Key.{Key};
+ghost use Rattle.tx_cells.specs.Afterwards.{after, after_left};
 
-use crate::NestedCells;
 use crate::key::KeyFamilies;
 use std::alloc::Global;
 use tx_encoded::{
-    KeyBytes, WriteBytes, commit_record, lock_with_min, lock_with_ttl, marked_record,
-    rollback_record,
+    WriteBytes, commit_record, lock_with_min, lock_with_ttl, marked_record, rollback_record,
 };
 use tx_plan::{KeyChange, Left};
 use tx_timeline::Timeline;
-use tx_types::{Fault, Key, Ts};
+use tx_types::{Fault, Ts};
 
 /// Leaves the rollback of the transaction that started then. `OutOfMemory` leaves the records as
 /// they were.
@@ -28,7 +24,8 @@ fn leave(
     start: Ts,
     left: Left,
 ) -> Result<(), Fault>
-    ensures ok { OnOk result ((q : ℕ) → tree.get nat_cmp writes.new q ≡ after_left (tree.get nat_cmp writes.old) start left q) }
+    ensures ok { OnOk result ((q : ℕ) → tree.get nat_cmp writes.new q
+        ≡ after_left (tree.get nat_cmp writes.old) start left q) }
     ensures same { OnErr result (writes.new.entries ≡ writes.old.entries) }
     ensures err { IfErr result (λ e. e ≡ Fault.OutOfMemory) }
 {
@@ -87,7 +84,7 @@ impl KeyFamilies {
 
     // Makes a commit record of the lock. `OutOfMemory` leaves the key as it was.
     fn commit(&mut self, alloc: Global, commit: Ts, overlapped_rollback: bool) -> Result<(), Fault>
-        requires { CommitsAt (cells_of (held self.old)) commit overlapped_rollback }
+        requires { HasCommitAt (cells_of (held self.old)) commit overlapped_rollback }
         ensures ok { OnOk result (held self.new ≡ after (held self.old) (change.Commit commit overlapped_rollback)) }
         ensures same { OnErr result (held self.new ≡ held self.old) }
         ensures number { self.new.number ≡ self.old.number }
@@ -155,8 +152,14 @@ impl KeyFamilies {
         }
     }
 
-    // Makes a change, and notes the number where it is one. `OutOfMemory` leaves the key as it was.
-    fn apply(&mut self, alloc: Global, change: KeyChange, number: u64) -> Result<(), Fault>
+    /// Makes a change, and notes the number where it is one. `OutOfMemory` leaves the key as it
+    /// was.
+    pub(crate) fn apply(
+        &mut self,
+        alloc: Global,
+        change: KeyChange,
+        number: u64,
+    ) -> Result<(), Fault>
         requires { Applies (cells_of (held self.old)) change }
         ensures ok { OnOk result (held self.new ≡ after (held self.old) change) }
         ensures cells { OnOk result (cells_of (held self.new) ≡ changed (cells_of (held self.old)) change) }
@@ -167,40 +170,6 @@ impl KeyFamilies {
     {
         self.make(alloc, change)?;
         self.number = number;
-        Ok(())
-    }
-}
-
-impl NestedCells {
-    ghost use Rattle.tx_nested.specs.Nested.{nested_content, nested_numbers};
-
-    /// Makes a change on a key, and notes the number where it is one. Only a rollback can be left
-    /// on a key of which nothing is held.
-    pub(crate) fn apply_to(
-        &mut self,
-        alloc: Global,
-        key: &Key,
-        change: KeyChange,
-        number: u64,
-    ) -> Result<(), Fault>
-        requires { Applies (cells_of (nested_content self.old key.now)) change }
-        ensures content { OnOk result (OnlyOn key.now (after (nested_content self.old key.now) change) (nested_content self.old) (nested_content self.new)) }
-        ensures cells { OnOk result (cells_of (nested_content self.new key.now) ≡ changed (cells_of (nested_content self.old key.now)) change) }
-        ensures noted { OnOk result ((k : Key) → nested_numbers self.new k ≡ noted_by change (nested_numbers self.old) key.now number k) }
-        ensures same { OnErr result (nested_content self.new ≡ nested_content self.old) }
-        ensures same_numbers { OnErr result ((k : Key) → nested_numbers self.new k ≡ nested_numbers self.old k) }
-        ensures err { IfErr result (λ e. e ≡ Fault.OutOfMemory) }
-    {
-        if let KeyChange::Nothing = change {
-            return Ok(());
-        }
-        let key = KeyBytes::new(alloc, key)?;
-        if let Some(on_key) = self.keys.get_mut(&key) {
-            return on_key.apply(alloc, change, number);
-        }
-        let mut on_key = KeyFamilies::new(alloc);
-        on_key.apply(alloc, change, number)?;
-        self.keys.insert(key, on_key)?;
         Ok(())
     }
 }

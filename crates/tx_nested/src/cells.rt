@@ -5,14 +5,12 @@ ghost use Rattle.std.specs.Ordering.{nat_cmp};
 ghost use Rattle.tx_cells.specs.Contents.{cells_of};
 ghost use Rattle.tx_cells.specs.Copies.{Copies, starts_down};
 
-use crate::NestedCells;
 use crate::key::KeyFamilies;
 use crate::searches::NestedHistory;
 use std::alloc::Global;
 use std::collections::BTreeMap;
-use tx_cells::{KeyCopy, records_down};
-use tx_encoded::KeyBytes;
-use tx_types::{Fault, Items, Key, Ts, Value};
+use tx_cells::{KeyVersions, records_down};
+use tx_types::{Fault, Items, Ts, Value};
 
 /// The starts of the values, from the newest on.
 fn starts(alloc: Global, values: &BTreeMap<Ts, Value>) -> Result<Items<Ts>, Fault>
@@ -31,8 +29,8 @@ fn starts(alloc: Global, values: &BTreeMap<Ts, Value>) -> Result<Items<Ts>, Faul
 impl KeyFamilies {
     ghost use Rattle.tx_nested.specs.Nested.{held};
 
-    // What is shown of the key.
-    fn copy(&self, alloc: Global) -> Result<KeyCopy, Fault>
+    /// What is shown of the key.
+    pub(crate) fn copy(&self, alloc: Global) -> Result<KeyVersions, Fault>
         ensures copies { IfOk result (λ copy. Copies (cells_of (held self.now)) copy) }
         ensures err { IfErr result (λ e. e ≡ Fault.OutOfMemory) }
     {
@@ -42,30 +40,10 @@ impl KeyFamilies {
         };
         let records = records_down(alloc, &mut history)?;
         let values = starts(alloc, &self.values)?;
-        Ok(KeyCopy {
+        Ok(KeyVersions {
             lock,
             records,
             values,
         })
-    }
-}
-
-impl NestedCells {
-    ghost use Rattle.tx_nested.specs.Nested.{nested_content};
-
-    /// What is shown of this key.
-    pub(crate) fn copy_of(&self, alloc: Global, key: &Key) -> Result<KeyCopy, Fault>
-        ensures copies { IfOk result (λ copy. Copies (cells_of (nested_content self.now key.now)) copy) }
-        ensures err { IfErr result (λ e. e ≡ Fault.OutOfMemory) }
-    {
-        let spelt = KeyBytes::new(alloc, key)?;
-        match self.keys.get(&spelt) {
-            Some(on_key) => on_key.copy(alloc),
-            None => Ok(KeyCopy {
-                lock: None,
-                records: Items::new(alloc),
-                values: Items::new(alloc),
-            }),
-        }
     }
 }

@@ -15,7 +15,8 @@ use tx_types::Ts;
 
 /// What collection asks of the record nearest to the bound, at it or below.
 fn kind_upto(writes: &Timeline<WriteBytes>, bound: Ts) -> Option<(Ts, RecordKind)>
-    ensures found { IfSome result (λ x. (x.0 ≤ bound) × (option_map record_kind (tree.get nat_cmp writes.now x.0) ≡ Some x.1)) }
+    ensures found { IfSome result (λ x. (x.0 ≤ bound)
+        × (option_map record_kind (tree.get nat_cmp writes.now x.0) ≡ Some x.1)) }
     ensures nearest { IfSome result (λ x. (q : ℕ) → q ≤ bound → IsSome (tree.get nat_cmp writes.now q) → q ≤ x.0) }
     ensures none { IfNone result ((q : ℕ) → q ≤ bound → tree.get nat_cmp writes.now q ≡ None) }
 {
@@ -47,8 +48,10 @@ impl KeyFamilies {
 
     /// What collection at this safe point makes of the key.
     pub(crate) fn collection(&self, safe: Ts) -> KeyCollection
-        ensures kept { (q : ℕ) → q < safe → (cells_of (held self.now)).write q ≢ None → (keeps (cells_of (held self.now)).write safe q ≡ true) ↔ (result.kept ≡ Some q) }
-        ensures counts { (times : List ℕ) × DroppedOn (cells_of (held self.now)).write safe times × (result.records ≡ length times) × (result.values ≡ long_among (cells_of (held self.now)).write times) }
+        ensures kept { (q : ℕ) → q < safe → (cells_of (held self.now)).write q ≢ None
+            → (keeps (cells_of (held self.now)).write safe q ≡ true) ↔ (result.kept ≡ Some q) }
+        ensures counts { (times : List ℕ) × DroppedOn (cells_of (held self.now)).write safe times
+            × (result.records ≡ length times) × (result.values ≡ long_among (cells_of (held self.now)).write times) }
     {
         let mut records = NestedRecords { key: self };
         collect_key(&mut records, safe)

@@ -1,15 +1,13 @@
 //! Records that go.
-ghost use Rattle.std.specs.Prelude.{◌≡◌, ◌≤◌, ℕ, true, false, cond, None};
+ghost use Rattle.std.specs.Prelude.{◌≡◌, ℕ, true, false, cond, None};
 ghost use Rattle.std.specs.BTreeMap as tree;
 ghost use Rattle.std.specs.Ordering.{nat_cmp};
-ghost use Rattle.tx_types.specs.declared.key.Key.{Key};
 ghost use Rattle.tx_plan.specs.cases.Collect.{kept};
-ghost use Rattle.tx_timeline.specs.Places.{goes_below};
+ghost use Rattle.tx_timeline.specs.Indexes.{goes_below};
 ghost use Rattle.tx_cells.specs.Contents.{cells_of, nothing_held};
 ghost use Rattle.tx_cells.specs.Afterwards.{Collected};
 ghost use Rattle.tx_cells.specs.Drops.{ValuesGo, DropsValue};
 
-use crate::NestedCells;
 use crate::key::KeyFamilies;
 use std::collections::BTreeMap;
 use tx_encoded::WriteBytes;
@@ -36,7 +34,8 @@ fn drop_values(
     safe: Ts,
     stay: Option<Ts>,
 )
-    ensures { ValuesGo (tree.get nat_cmp writes.now) (goes_below safe stay) (tree.get nat_cmp values.old) (tree.get nat_cmp values.new) }
+    ensures { ValuesGo (tree.get nat_cmp writes.now) (goes_below safe stay) (tree.get nat_cmp values.old)
+        (tree.get nat_cmp values.new) }
 {
     let mut below = safe;
     'records: while let Some(at) = writes.below(below) {
@@ -55,8 +54,10 @@ fn drop_records(
     safe: Ts,
     stay: Option<Ts>,
 )
-    ensures writes { (q : ℕ) → tree.get nat_cmp writes.new q ≡ cond (goes_below safe stay q) None (tree.get nat_cmp writes.old q) }
-    ensures values { ValuesGo (tree.get nat_cmp writes.old) (goes_below safe stay) (tree.get nat_cmp values.old) (tree.get nat_cmp values.new) }
+    ensures writes { (q : ℕ) → tree.get nat_cmp writes.new q
+        ≡ cond (goes_below safe stay q) None (tree.get nat_cmp writes.old q) }
+    ensures values { ValuesGo (tree.get nat_cmp writes.old) (goes_below safe stay) (tree.get nat_cmp values.old)
+        (tree.get nat_cmp values.new) }
 {
     let kept = stay;
     drop_values(writes, values, safe, kept);
@@ -83,8 +84,8 @@ impl KeyFamilies {
         self.lock.is_none() && self.writes.is_empty() && self.values.is_empty()
     }
 
-    // Collects on the key, and tells whether something is still held of it.
-    fn collect(&mut self, safe: Ts) -> bool
+    /// Collects on the key, and tells whether something is still held of it.
+    pub(crate) fn collect(&mut self, safe: Ts) -> bool
         ensures content { Collected safe (held self.old) (held self.new) }
         ensures cells { cells_of (held self.new) ≡ kept (cells_of (held self.old)) safe }
         ensures number { self.new.number ≡ self.old.number }
@@ -92,26 +93,5 @@ impl KeyFamilies {
     {
         self.drop_below(safe);
         !self.is_empty()
-    }
-}
-
-impl NestedCells {
-    ghost use Rattle.tx_nested.specs.Nested.{held, nested_content, nested_numbers};
-
-    /// Drops what no read at this safe point or above needs any more, and the keys of which nothing
-    /// is held then.
-    pub(crate) fn drop_of(&mut self, safe: Ts)
-        ensures content { (k : Key) → Collected safe (nested_content self.old k) (nested_content self.new k) }
-        ensures cells { (k : Key) → cells_of (nested_content self.new k) ≡ kept (cells_of (nested_content self.old k)) safe }
-        ensures numbers { (k : Key) → nested_numbers self.new k ≤ nested_numbers self.old k }
-    {
-        self.keys.retain(
-            |_, on_key: &mut KeyFamilies| -> bool
-                ensures content { Collected safe (held on_key.old) (held on_key.new) }
-                ensures cells { cells_of (held on_key.new) ≡ kept (cells_of (held on_key.old)) safe }
-                ensures empty { result ≡ false → held on_key.new ≡ nothing_held }
-                ensures number { on_key.new.number ≡ on_key.old.number }
-            { on_key.collect(safe) },
-        );
     }
 }

@@ -18,7 +18,11 @@ pub(crate) struct KeyFamilies {
     pub values: BTreeMap<Ts, Value>,
     /// The number of the request that changed the key last.
     pub number: u64,
-    ghost whole: { ∥ IsWhole (record { lock = lock; write = tree.get nat_cmp writes; value = tree.get nat_cmp values }) ∥₁ },
+    ghost whole: { ∥ IsWhole (record {
+      lock = lock;
+      write = tree.get nat_cmp writes;
+      value = tree.get nat_cmp values;
+    }) ∥₁ },
 }
 
 impl KeyFamilies {

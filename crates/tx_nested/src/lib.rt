@@ -8,17 +8,16 @@ use tx_encoded::KeyBytes;
 
 mod apply;
 mod cells;
+mod changes;
 mod collection;
-mod count_below;
 mod drop_below;
 mod families;
 mod key;
 mod lock_info;
-mod number;
 mod put_lock;
 mod read;
-mod scan;
 mod searches;
+mod sees;
 mod view;
 mod walks;
 
@@ -31,7 +30,7 @@ pub struct NestedCells {
 impl NestedCells {
     ghost use Rattle.std.specs.Prelude.{◌≡◌};
     ghost use Rattle.tx_cells.specs.Contents.{nothing_held};
-    ghost use Rattle.tx_nested.specs.Nested.{nested_content, nested_numbers};
+    ghost use Rattle.tx_nested.specs.Nested.{nested_content};
 
     /// Families that hold nothing.
     pub fn new(alloc: Global) -> NestedCells

@@ -3,38 +3,20 @@ ghost use Rattle.std.specs.Prelude.{◌≡◌, IfOk, IfErr};
 ghost use Rattle.tx_plan.specs.Views.{info_on};
 ghost use Rattle.tx_cells.specs.Contents.{cells_of};
 
-use crate::NestedCells;
 use crate::key::KeyFamilies;
 use std::alloc::Global;
-use tx_encoded::KeyBytes;
 use tx_types::{Fault, Key, LockInfo};
 
 impl KeyFamilies {
     ghost use Rattle.tx_nested.specs.Nested.{held};
 
-    // What is told of the lock, where there is one.
-    fn lock_info(&self, alloc: Global, key: &Key) -> Result<Option<LockInfo>, Fault>
+    /// What is told of the lock, where there is one.
+    pub(crate) fn lock_info(&self, alloc: Global, key: &Key) -> Result<Option<LockInfo>, Fault>
         ensures info { IfOk result (λ info. info ≡ info_on (cells_of (held self.now)) key.now) }
         ensures err { IfErr result (λ e. e ≡ Fault.OutOfMemory) }
     {
         match &self.lock {
             Some(bytes) => Ok(Some(bytes.read(alloc)?.info(alloc, key)?)),
-            None => Ok(None),
-        }
-    }
-}
-
-impl NestedCells {
-    ghost use Rattle.tx_nested.specs.Nested.{nested_content};
-
-    /// What is told of the lock on this key, where there is one.
-    pub(crate) fn lock_info_of(&self, alloc: Global, key: &Key) -> Result<Option<LockInfo>, Fault>
-        ensures info { IfOk result (λ info. info ≡ info_on (cells_of (nested_content self.now key.now)) key.now) }
-        ensures err { IfErr result (λ e. e ≡ Fault.OutOfMemory) }
-    {
-        let spelt = KeyBytes::new(alloc, key)?;
-        match self.keys.get(&spelt) {
-            Some(on_key) => on_key.lock_info(alloc, key),
             None => Ok(None),
         }
     }

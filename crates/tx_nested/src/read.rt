@@ -5,14 +5,13 @@ ghost use Rattle.tx_plan.specs.Views.{ShowsRead};
 ghost use Rattle.tx_cells.specs.Contents.{cells_of};
 ghost use Rattle.tx_cells.specs.Histories.{IsSeen};
 
-use crate::NestedCells;
 use crate::key::KeyFamilies;
 use crate::searches::NestedHistory;
 use std::alloc::Global;
-use tx_cells::{Seen, seen_at};
-use tx_encoded::{KeyBytes, WriteBytes, seen_in};
+use tx_cells::{SeenRecord, seen_at};
+use tx_encoded::{WriteBytes, seen_in};
 use tx_plan::ReadView;
-use tx_types::{Fault, Key, Ts, Value};
+use tx_types::{Fault, Ts, Value};
 
 impl KeyFamilies {
     ghost use Rattle.tx_nested.specs.Nested.{held};
@@ -23,7 +22,7 @@ impl KeyFamilies {
         alloc: Global,
         bytes: &WriteBytes,
         at: Ts,
-        seen: Seen,
+        seen: SeenRecord,
     ) -> Result<Option<Value>, Fault>
         requires seen { IsSeen (held self.now).write at seen.commit seen.start seen.kind }
         requires stands { (held self.now).write seen.commit ≡ Some bytes.now }
@@ -82,24 +81,5 @@ impl KeyFamilies {
         let lock = self.lock_head();
         let value = self.value_at(alloc, at)?;
         Ok(ReadView { lock, value })
-    }
-}
-
-impl NestedCells {
-    ghost use Rattle.tx_nested.specs.Nested.{nested_content};
-
-    /// What a read at this timestamp sees of its key.
-    pub(crate) fn read_of(&self, alloc: Global, key: &Key, at: Ts) -> Result<ReadView, Fault>
-        ensures shows { IfOk result (λ view. ShowsRead (cells_of (nested_content self.now key.now)) at view) }
-        ensures err { IfErr result (λ e. e ≡ Fault.OutOfMemory) }
-    {
-        let spelt = KeyBytes::new(alloc, key)?;
-        match self.keys.get(&spelt) {
-            Some(on_key) => on_key.read(alloc, at),
-            None => Ok(ReadView {
-                lock: None,
-                value: None,
-            }),
-        }
     }
 }

@@ -22,7 +22,8 @@ pub(crate) fn head_at(writes: &Timeline<WriteBytes>, at: Ts) -> Option<RecordHea
 
 /// What is asked of the record nearest to the bound, at it or below.
 fn head_upto(writes: &Timeline<WriteBytes>, bound: Ts) -> Option<(Ts, RecordHead)>
-    ensures found { IfSome result (λ x. (x.0 ≤ bound) × (option_map write_head (tree.get nat_cmp writes.now x.0) ≡ Some x.1)) }
+    ensures found { IfSome result (λ x. (x.0 ≤ bound)
+        × (option_map write_head (tree.get nat_cmp writes.now x.0) ≡ Some x.1)) }
     ensures nearest { IfSome result (λ x. (q : ℕ) → q ≤ bound → IsSome (tree.get nat_cmp writes.now q) → q ≤ x.0) }
     ensures none { IfNone result ((q : ℕ) → q ≤ bound → tree.get nat_cmp writes.now q ≡ None) }
 {

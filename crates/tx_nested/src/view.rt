@@ -1,20 +1,18 @@
 //! What a request sees of its key.
-ghost use Rattle.std.specs.Prelude.{◌≡◌, ◌≤◌, ℕ, None, IsTrue, IfOk, IfErr, option_map};
+ghost use Rattle.std.specs.Prelude.{◌≡◌, ◌≤◌, ℕ, None, IsTrue, option_map};
 ghost use Rattle.tx_plan.specs.Views.{Shows};
 ghost use Rattle.tx_cells.specs.Contents.{cells_of, nothing_held};
 ghost use Rattle.tx_cells.specs.Heads.{lock_head};
 
-use crate::NestedCells;
 use crate::key::KeyFamilies;
 use crate::searches::{NestedHistory, head_at};
-use std::alloc::Global;
 use tx_cells::{Above, commits_above};
-use tx_encoded::{KeyBytes, lock_head_of};
+use tx_encoded::lock_head_of;
 use tx_plan::{LockHead, TxnView};
-use tx_types::{Fault, Key, Ts};
+use tx_types::Ts;
 
 /// What is seen of a key of which nothing is held.
-fn empty_view(start: Ts, commit: Ts) -> TxnView
+pub(crate) fn empty_view(start: Ts, commit: Ts) -> TxnView
     ensures { Shows (cells_of nothing_held) start commit result }
 {
     let _ = (start, commit);
@@ -71,9 +69,9 @@ impl KeyFamilies {
         }
     }
 
-    // What a request of the transaction that started then sees of the key, and of the record at
-    // `commit`. Mostly all records are older.
-    fn view(&self, start: Ts, commit: Ts) -> TxnView
+    /// What a request of the transaction that started then sees of the key, and of the record at
+    /// `commit`. Mostly all records are older.
+    pub(crate) fn view(&self, start: Ts, commit: Ts) -> TxnView
         ensures { Shows (cells_of (held self.now)) start commit result }
     {
         let lock = self.lock_head();
@@ -87,28 +85,5 @@ impl KeyFamilies {
             };
         }
         self.view_by(lock, start, commit)
-    }
-}
-
-impl NestedCells {
-    ghost use Rattle.tx_nested.specs.Nested.{nested_content};
-
-    /// What a request of the transaction that started then sees of its key, and of the
-    /// record at `commit`.
-    pub(crate) fn view_of(
-        &self,
-        alloc: Global,
-        key: &Key,
-        start: Ts,
-        commit: Ts,
-    ) -> Result<TxnView, Fault>
-        ensures shows { IfOk result (λ view. Shows (cells_of (nested_content self.now key.now)) start commit view) }
-        ensures err { IfErr result (λ e. e ≡ Fault.OutOfMemory) }
-    {
-        let spelt = KeyBytes::new(alloc, key)?;
-        match self.keys.get(&spelt) {
-            Some(on_key) => Ok(on_key.view(start, commit)),
-            None => Ok(empty_view(start, commit)),
-        }
     }
 }

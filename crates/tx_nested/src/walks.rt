@@ -8,6 +8,7 @@ use crate::NestedCells;
 use crate::key::KeyFamilies;
 use std::alloc::Global;
 use std::collections::btree_map::{Iter, Range};
+use tx_cells::Sees;
 use tx_encoded::KeyBytes;
 use tx_plan::{LockHead, LockWalk, ReadView, ReadWalk};
 use tx_types::{Fault, Key, LockInfo, Ts};
@@ -36,7 +37,7 @@ impl<'a> ReadWalk for NestedReads<'a> {
     }
 
     fn lock_info(&self, alloc: Global, key: &Key) -> Result<Option<LockInfo>, Fault> {
-        self.cells.lock_info_of(alloc, key)
+        self.cells.lock_info(alloc, key)
     }
 }
 
@@ -65,7 +66,7 @@ impl<'a> LockWalk for NestedLocks<'a> {
     }
 
     fn lock_info(&self, alloc: Global, key: &Key) -> Result<Option<LockInfo>, Fault> {
-        self.cells.lock_info_of(alloc, key)
+        self.cells.lock_info(alloc, key)
     }
 }
 
@@ -76,7 +77,8 @@ impl NestedCells {
     /// A walk over the keys from this one on.
     pub(crate) fn reads_from(&self, alloc: Global, from: &Key) -> Result<NestedReads<'_>, Fault>
         ensures same { IfOk result (λ walk. walk.cells.now ≡ self.now) }
-        ensures walk { IfOk result (λ walk. IsWalk (cells_in (nested_content self.now)) (key_le from.now) (key_rows walk.keys)) }
+        ensures walk { IfOk result (λ walk. IsWalk (cells_in (nested_content self.now)) (key_le from.now)
+            (key_rows walk.keys)) }
         ensures err { IfErr result (λ e. e ≡ Fault.OutOfMemory) }
     {
         let from = KeyBytes::new(alloc, from)?;

@@ -7,7 +7,8 @@ use Rattle.tx_types.specs.declared.mutation.Mutation.{Mutation}
 use Rattle.tx_types.specs.declared.mutation.Mutation.TheVariants.{Put, Insert, Delete, Lock}
 use Rattle.tx_plan.specs.declared.key_records.RecordKind.{RecordKind}
 use Rattle.tx_plan.specs.Cells.{Write, CommitOf, Rollback, Writes, is_long}
-use Rattle.tx_plan.specs.cases.Collect.{is_visible, is_put, commit_is, none_above, keeps}
+use Rattle.tx_types.specs.Keys.{is_visible}
+use Rattle.tx_plan.specs.cases.Collect.{is_put, commit_is, none_above, keeps}
 use Rattle.tx_plan.specs.Collecting.{NoneUpto, IsNext, DroppedOn, long_among, past}
 use Rattle.tx_plan.proofs.LockRows.{contains_next, contains_first, contains_cases, contains_none}
 

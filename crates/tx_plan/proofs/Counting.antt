@@ -22,12 +22,12 @@ abbrev on_key : Key → List ℕ → List (Key × ℕ)
 on_key k [] = []
 on_key k (q ∷ times) = (k, q) ∷ on_key k times
 
-on_key_in : (k : Key) (times : List ℕ) (place : Key × ℕ) → Contains (on_key k times) place → (k ≡ place.0) × Contains times place.1
-on_key_in k [] place c = absurd (contains_none place c)
-on_key_in k (q ∷ times) place c =
-    elim (contains_cases (k, q) (on_key k times) place c) [
+on_key_in : (k : Key) (times : List ℕ) (version : Key × ℕ) → Contains (on_key k times) version → (k ≡ version.0) × Contains times version.1
+on_key_in k [] version c = absurd (contains_none version c)
+on_key_in k (q ∷ times) version c =
+    elim (contains_cases (k, q) (on_key k times) version c) [
       | inl e ↦ (ap (λ (p : Key × ℕ). p.0) e, subst (Contains (q ∷ times)) (ap (λ (p : Key × ℕ). p.1) e) (contains_first q times))
-      | inr later ↦ (let old = on_key_in k times place later in (old.0, contains_next q times place.1 old.1))
+      | inr later ↦ (let old = on_key_in k times version later in (old.0, contains_next q times version.1 old.1))
     ]
 
 on_key_all : (k : Key) (times : List ℕ) (q : ℕ) → Contains times q → Contains (on_key k times) (k, q)
@@ -47,10 +47,10 @@ on_key_length : (k : Key) (times : List ℕ) → length (on_key k times) ≡ len
 on_key_length k [] = refl
 on_key_length k (q ∷ times) = ap suc (on_key_length k times)
 
-long_more : (cells : Key → Cells) (k : Key) (times : List ℕ) (places : List (Key × ℕ)) → long_values cells (on_key k times ++ places) ≡ long_among (cells k).write times + long_values cells places
-long_more cells k [] places = omega arith
-long_more cells k (q ∷ times) places =
-    let rest = long_more cells k times places in
+long_more : (cells : Key → Cells) (k : Key) (times : List ℕ) (versions : List (Key × ℕ)) → long_values cells (on_key k times ++ versions) ≡ long_among (cells k).write times + long_values cells versions
+long_more cells k [] versions = omega arith
+long_more cells k (q ∷ times) versions =
+    let rest = long_more cells k times versions in
     elim (cases_Bool (commit_is is_long ((cells k).write q))) [
       | inl long ↦ (rw long (omega (arith, rest)))
       | inr short ↦ (rw short rest)
@@ -60,21 +60,21 @@ long_more cells k (q ∷ times) places =
 
 pub record DroppedTo (cells : Key → Cells) (safe : ℕ) (rest : List KeyRow) (records values : ℕ) : Type 0 where
   pub left : AreLeft cells every_key rest
-  pub places : List (Key × ℕ)
-  pub once : Once places
-  pub each : (place : Key × ℕ) → Contains places place ↔ (IsTrue (comes_before rest place.0) × IsDropped cells safe place)
-  pub counted : records ≡ length places
-  pub long : values ≡ long_values cells places
+  pub versions : List (Key × ℕ)
+  pub once : Once versions
+  pub each : (version : Key × ℕ) → Contains versions version ↔ (IsTrue (comes_before rest version.0) × IsDropped cells safe version)
+  pub counted : records ≡ length versions
+  pub long : values ≡ long_values cells versions
 
-nothing_dropped : (cells : Key → Cells) (safe : ℕ) (place : Key × ℕ) → cells place.0 ≡ no_cells → IsDropped cells safe place → ⊥
-nothing_dropped cells safe place e is = is.0 (ap (λ (c : Cells). c.write place.1) e)
+nothing_dropped : (cells : Key → Cells) (safe : ℕ) (version : Key × ℕ) → cells version.0 ≡ no_cells → IsDropped cells safe version → ⊥
+nothing_dropped cells safe version e is = is.0 (ap (λ (c : Cells). c.write version.1) e)
 
 pub drop_starts : (cells : Key → Cells) (safe : ℕ) (all : List KeyRow) → IsWalk cells every_key all → DroppedTo cells safe all 0 0
 drop_starts cells safe all walk = record {
   left = left_first cells every_key all walk;
-  places = [];
+  versions = [];
   once = pairs_none;
-  each = λ place. (λ c. absurd (contains_none place c), λ h. absurd (nothing_dropped cells safe place (start_none cells every_key all place.0 walk refl h.0) h.1));
+  each = λ version. (λ c. absurd (contains_none version c), λ h. absurd (nothing_dropped cells safe version (start_none cells every_key all version.0 walk refl h.0) h.1));
   counted = refl;
   long = refl;
 }
@@ -113,21 +113,21 @@ module _ (cells : Key → Cells) (safe : ℕ) (x : KeyRow) (rest : List KeyRow) 
     λ c. subst (λ (on : Cells). (on.write q ≢ None) × (keeps on.write safe q ≡ false)) (sym (here cells x rest so.left)) ((on.each q).0 c),
   )
 
-  apart : (place : Key × ℕ) → Contains (on_key x.key times) place → Contains so.places place → ⊥
-  apart place new old = lt_itself x.key (subst (λ q. IsTrue (key_lt q x.key)) (sym (on_key_in x.key times place new).0) ((so.each place).0 old).0)
+  apart : (version : Key × ℕ) → Contains (on_key x.key times) version → Contains so.versions version → ⊥
+  apart version new old = lt_itself x.key (subst (λ q. IsTrue (key_lt q x.key)) (sym (on_key_in x.key times version new).0) ((so.each version).0 old).0)
 
-  more_in : (place : Key × ℕ) → Contains (on_key x.key times ++ so.places) place → IsTrue (comes_before rest place.0) × IsDropped cells safe place
-  more_in place c = elim (Contains-append_cases (on_key x.key times) so.places place c) [
-    | inl new ↦ (let is = on_key_in x.key times place new in (subst (λ k. IsTrue (comes_before rest k)) is.0 (first_past cells x rest so.left), subst (λ k. IsDropped cells safe (k, place.1)) is.0 ((dropped_here place.1).1 is.1)))
-    | inr old ↦ (let is = (so.each place).0 old in (still_past cells x rest so.left place.0 is.0, is.1))
+  more_in : (version : Key × ℕ) → Contains (on_key x.key times ++ so.versions) version → IsTrue (comes_before rest version.0) × IsDropped cells safe version
+  more_in version c = elim (Contains-append_cases (on_key x.key times) so.versions version c) [
+    | inl new ↦ (let is = on_key_in x.key times version new in (subst (λ k. IsTrue (comes_before rest k)) is.0 (first_past cells x rest so.left), subst (λ k. IsDropped cells safe (k, version.1)) is.0 ((dropped_here version.1).1 is.1)))
+    | inr old ↦ (let is = (so.each version).0 old in (still_past cells x rest so.left version.0 is.0, is.1))
   ]
 
-  more_all : (place : Key × ℕ) → IsTrue (comes_before rest place.0) × IsDropped cells safe place → Contains (on_key x.key times ++ so.places) place
-  more_all place is = elim (cases_past cells x rest so.left place.0 is.0) [
-    | inl lt ↦ Contains-append_right (on_key x.key times) so.places place ((so.each place).1 (lt, is.1))
+  more_all : (version : Key × ℕ) → IsTrue (comes_before rest version.0) × IsDropped cells safe version → Contains (on_key x.key times ++ so.versions) version
+  more_all version is = elim (cases_past cells x rest so.left version.0 is.0) [
+    | inl lt ↦ Contains-append_right (on_key x.key times) so.versions version ((so.each version).1 (lt, is.1))
     | inr n ↦ elim n [
-      | inl same ↦ Contains-append_left (on_key x.key times) so.places place (subst (λ k. Contains (on_key x.key times) (k, place.1)) (sym same) (on_key_all x.key times place.1 ((dropped_here place.1).0 (subst (λ k. IsDropped cells safe (k, place.1)) same is.1))))
-      | inr none ↦ absurd (nothing_dropped cells safe place none is.1)
+      | inl same ↦ Contains-append_left (on_key x.key times) so.versions version (subst (λ k. Contains (on_key x.key times) (k, version.1)) (sym same) (on_key_all x.key times version.1 ((dropped_here version.1).0 (subst (λ k. IsDropped cells safe (k, version.1)) same is.1))))
+      | inr none ↦ absurd (nothing_dropped cells safe version none is.1)
     ]
   ]
 
@@ -135,18 +135,18 @@ module _ (cells : Key → Cells) (safe : ℕ) (x : KeyRow) (rest : List KeyRow) 
   pub drop_more : DroppedTo cells safe rest (records + length times) (values + long_among x.cells.write times)
   drop_more = record {
     left = left_rest cells every_key x rest so.left;
-    places = on_key x.key times ++ so.places;
-    once = once_append (on_key x.key times) so.places (on_key_once x.key times on.once) so.once apart;
-    each = λ place. (more_in place, more_all place);
-    counted = omega (arith, so.counted, length-append (on_key x.key times) so.places, on_key_length x.key times);
-    long = omega (arith, so.long, long_more cells x.key times so.places, ap (λ (c : Cells). long_among c.write times) (here cells x rest so.left));
+    versions = on_key x.key times ++ so.versions;
+    once = once_append (on_key x.key times) so.versions (on_key_once x.key times on.once) so.once apart;
+    each = λ version. (more_in version, more_all version);
+    counted = omega (arith, so.counted, length-append (on_key x.key times) so.versions, on_key_length x.key times);
+    long = omega (arith, so.long, long_more cells x.key times so.versions, ap (λ (c : Cells). long_among c.write times) (here cells x rest so.left));
   }
 
 -- where no key is to come, these are all
-pub drop_ends : (cells : Key → Cells) (safe records values : ℕ) (so : DroppedTo cells safe [] records values) → AllDropped cells safe so.places
+pub drop_ends : (cells : Key → Cells) (safe records values : ℕ) (so : DroppedTo cells safe [] records values) → AllDropped cells safe so.versions
 drop_ends cells safe records values so = record {
   once = so.once;
-  each = λ place. (λ c. ((so.each place).0 c).1, λ is. (so.each place).1 (refl, is));
+  each = λ version. (λ c. ((so.each version).0 c).1, λ is. (so.each version).1 (refl, is));
 }
 
 -- ---- what stays on a key

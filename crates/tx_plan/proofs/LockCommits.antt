@@ -11,7 +11,7 @@ use Rattle.tx_plan.specs.Cells.{Lock, Writes, Cells}
 use Rattle.tx_plan.specs.Own.{is_rollback}
 use Rattle.tx_plan.specs.Views.{HasOwnHead}
 use Rattle.tx_plan.specs.Committing.{MayCommitAt, IsRefusal}
-use Rattle.tx_plan.specs.Changes.{CommitsAt}
+use Rattle.tx_plan.specs.Changes.{HasCommitAt}
 use Rattle.tx_plan.specs.cases.Commit.{CommitsLock, leaves_commit}
 use Rattle.tx_plan.specs.cases.ResolveLock.{ResolvesLock, leaves_resolve_lock}
 
@@ -36,7 +36,7 @@ module _ (cells : Cells) (start c : ℕ) (head : LockHead) (own : HasOwnHead cel
   not_refused done = inr (λ below. omega (arith, below, may.upto), inr (may.unconflicted, refl))
 
   -- and what it takes for granted is so
-  pub commit_applies : CommitsAt cells c (is_rollback (cells.write c))
+  pub commit_applies : HasCommitAt cells c (is_rollback (cells.write c))
   commit_applies = record {
     lock = own.lock;
     stands = own.stands.stands;

@@ -4,10 +4,10 @@ use Rattle.std.specs.Prelude.{IsTrue, bytes_eq, nat_lt, Contains, Option, None, 
 use Rattle.std.proofs.lemmas.Bool.{cases_Bool, lt-ltb, le-ltb, ltb-true}
 use Rattle.tx_types.specs.declared.key.Key.{Key}
 use Rattle.tx_types.specs.declared.lock.LockInfo.{LockInfo}
-use Rattle.tx_types.specs.Keys.{key_lt}
+use Rattle.tx_types.specs.Keys.{key_lt, KeysRise}
 use Rattle.tx_plan.specs.Cells.{Lock, Cells, info_of}
 use Rattle.tx_plan.specs.Walks.{LockRow, LocksInOrder, lock_by, IsLockWalk}
-use Rattle.tx_plan.specs.cases.LocksBelow.{IsLockBelow, AreRising, AllBelow}
+use Rattle.tx_plan.specs.cases.LocksBelow.{IsLockBelow, AllBelow}
 use Rattle.tx_plan.specs.cases.Collect.{SomeLockBelow, IsFirstBelow}
 use Rattle.tx_plan.specs.Views.{LockComesNext, info_on}
 use Rattle.tx_plan.specs.declared.view.LockHead.{LockHead}
@@ -35,6 +35,9 @@ contains_none y h = omega (arith, h.1)
 
 -- ---- the order of the keys
 
+abbrev pub Rising : List LockInfo → Type 0
+Rising infos = KeysRise (λ (info : LockInfo). info.key) infos
+
 -- a key comes before the first of these
 abbrev pub IsBeforeInfos : Key → List LockInfo → Type 0
 IsBeforeInfos k [] = Unit {0}
@@ -61,11 +64,11 @@ before_told s k (x ∷ rows) h lt =
       | inr above ↦ (rw above (before_told s k rows rest.0 (before_later k x rows lt rest.1)))
     ]
 
-rising_with : (x : LockInfo) (infos : List LockInfo) → AreRising infos → IsBeforeInfos x.key infos → AreRising (x ∷ infos)
+rising_with : (x : LockInfo) (infos : List LockInfo) → Rising infos → IsBeforeInfos x.key infos → Rising (x ∷ infos)
 rising_with x [] h lt = tt
 rising_with x (y ∷ infos) h lt = (lt, h)
 
-told_rising : (s : ℕ) (rows : List LockRow) → LocksInOrder rows → AreRising (told_below s rows)
+told_rising : (s : ℕ) (rows : List LockRow) → LocksInOrder rows → Rising (told_below s rows)
 told_rising s [] h = tt
 told_rising s (x ∷ rows) h =
     let rest = rest_in_order x rows h in
@@ -132,7 +135,7 @@ told_all cells s rows walk = record {
 
 -- ---- the first of them
 
-first_rising : (x : LockInfo) (infos : List LockInfo) (other : LockInfo) → AreRising (x ∷ infos) → Contains (x ∷ infos) other → IsTrue (key_lt other.key x.key) → ⊥
+first_rising : (x : LockInfo) (infos : List LockInfo) (other : LockInfo) → Rising (x ∷ infos) → Contains (x ∷ infos) other → IsTrue (key_lt other.key x.key) → ⊥
 first_rising x [] other h c lt = elim (contains_cases x [] other c) [ inl e ↦ lt_itself x.key (subst (λ (i : LockInfo). IsTrue (key_lt i.key x.key)) (sym e) lt) | inr later ↦ contains_none other later ]
 first_rising x (y ∷ infos) other h c lt = elim (contains_cases x (y ∷ infos) other c) [ inl e ↦ lt_itself x.key (subst (λ (i : LockInfo). IsTrue (key_lt i.key x.key)) (sym e) lt) | inr later ↦ first_rising y infos other h.1 later (lt_trans other.key x.key y.key lt h.0) ]
 

@@ -8,8 +8,8 @@ use Rattle.tx_plan.specs.declared.key_change.Left.{Left}
 use Rattle.tx_plan.specs.declared.key_change.Left.TheVariants as left
 use Rattle.tx_plan.specs.declared.key_change.NewLock.{NewLock}
 use Rattle.tx_plan.specs.Cells.{Lock, CommitRecord, Write, CommitOf, Rollback, Writes, Cells, no_cells, with_write}
-use Rattle.tx_plan.specs.Own.{OwnCommit}
-use Rattle.tx_plan.specs.Changes.{changed, Applies, IsLeft, CommitsAt, CanPut, after_left, after_put, mark, committed, put}
+use Rattle.tx_plan.specs.Own.{OwnCommit, committed}
+use Rattle.tx_plan.specs.Changes.{changed, Applies, IsLeft, HasCommitAt, CanPut, after_left, after_put, mark, put}
 use Rattle.tx_plan.specs.Sound.{IsSound}
 use Rattle.tx_plan.specs.cases.Collect.{keeps, kept}
 
@@ -83,7 +83,7 @@ commit_cases write c rec t q own = elim (cases_Bool (c == q)) [
   | inr other ↦ inr record { rec = own.rec; stands = subst (λ b. cond b (Some (CommitOf rec)) (write q) ≡ Some (CommitOf own.rec)) other own.stands; own = own.own }
 ]
 
-committed_sound : (cells : Cells) (c : ℕ) (overlapped : Bool) → IsSound cells → (is : CommitsAt cells c overlapped) → IsSound (record { lock = None; write = with_write cells.write c (CommitOf (committed is.lock overlapped)) })
+committed_sound : (cells : Cells) (c : ℕ) (overlapped : Bool) → IsSound cells → (is : HasCommitAt cells c overlapped) → IsSound (record { lock = None; write = with_write cells.write c (CommitOf (committed is.lock overlapped)) })
 committed_sound cells c overlapped s is = record {
   uncommitted = λ lock q e own. absurd (cc e);
   once = λ t q r own other. elim (at t q own) [

@@ -45,8 +45,10 @@ AnswersBy Promise region loaded (Prewrite b) a = AnswersPrewrite (region.cells b
 AnswersBy Promise region loaded (Commit b) a = AnswersCommit (region.cells b.key) region.collected b a
 AnswersBy Promise region loaded (BatchRollback b) a = AnswersBatchRollback (region.cells b.key) region.collected b a
 AnswersBy Promise region loaded (TxnHeartBeat b) a = AnswersTxnHeartBeat (region.cells b.key) region.collected b a
-AnswersBy Promise region loaded (CheckTxnStatus b) a = AnswersCheckTxnStatus (region.cells b.key) region.collected loaded b a
-AnswersBy Promise region loaded (CheckSecondaryLocks b) a = AnswersCheckSecondaryLocks (region.cells b.key) region.collected b a
+AnswersBy Promise region loaded (CheckTxnStatus b) a =
+    AnswersCheckTxnStatus (region.cells b.key) region.collected loaded b a
+AnswersBy Promise region loaded (CheckSecondaryLocks b) a =
+    AnswersCheckSecondaryLocks (region.cells b.key) region.collected b a
 AnswersBy Promise region loaded (ResolveLock b) a = AnswersResolveLock (region.cells b.key) region.collected b a
 AnswersBy Promise region loaded (RaiseSafe b) a = AnswersRaiseSafe region.safe loaded b a
 AnswersBy Promise region loaded (LocksBelow b) a = AnswersLocksBelow region.cells b a
@@ -66,12 +68,14 @@ AnswersFrom mark region loaded = AnswersBy (λ b m. m ≡ least_minimum mark b) 
 abbrev pub leaves : Region → Body → Answer → Region
 leaves region (Get b) a = leaves_get region b a
 leaves region (Scan b) a = leaves_scan region b a
-leaves region (Prewrite b) a = with_read (with_cells region b.key (leaves_prewrite (region.cells b.key) b a)) (read_by_prewrite a (region.cells b.key).lock b)
+leaves region (Prewrite b) a = with_read (with_cells region b.key (leaves_prewrite (region.cells b.key) b a))
+    (read_by_prewrite a (region.cells b.key).lock b)
 leaves region (Commit b) a = with_cells region b.key (leaves_commit (region.cells b.key) b a)
 leaves region (BatchRollback b) a = with_cells region b.key (leaves_batch_rollback (region.cells b.key) b a)
 leaves region (TxnHeartBeat b) a = with_cells region b.key (leaves_txn_heart_beat (region.cells b.key) b a)
 leaves region (CheckTxnStatus b) a = with_cells region b.key (leaves_check_txn_status (region.cells b.key) b a)
-leaves region (CheckSecondaryLocks b) a = with_cells region b.key (leaves_check_secondary_locks (region.cells b.key) b a)
+leaves region (CheckSecondaryLocks b) a = with_cells region b.key
+    (leaves_check_secondary_locks (region.cells b.key) b a)
 leaves region (ResolveLock b) a = with_cells region b.key (leaves_resolve_lock (region.cells b.key) b a)
 leaves region (RaiseSafe b) a = leaves_raise_safe region b a
 leaves region (LocksBelow b) a = region

@@ -83,7 +83,7 @@ info_of k lock = record {
 
 -- cells with another lock, or none
 abbrev pub with_lock : Cells → Option Lock → Cells
-with_lock cells lock = record { lock = lock; write = cells.write }
+with_lock cells lock = record cells { lock = lock }
 
 -- write records with another one at c
 abbrev pub with_write : Writes → ℕ → Write → Writes
@@ -91,13 +91,8 @@ with_write write c rec = λ q. cond (c == q) (Some rec) (write q)
 
 -- a region with other cells on one key
 abbrev pub with_cells : Region → Key → Cells → Region
-with_cells region k cells = record {
-  cells = λ q. cond (bytes_eq k q) cells (region.cells q);
-  max_read = region.max_read;
-  safe = region.safe;
-  collected = region.collected;
-}
+with_cells region k cells = record region { cells = λ q. cond (bytes_eq k q) cells (region.cells q) }
 
 -- a region with another greatest timestamp read
 abbrev pub with_max_read : Region → ℕ → Region
-with_max_read region max_read = record { cells = region.cells; max_read = max_read; safe = region.safe; collected = region.collected }
+with_max_read region max_read = record region { max_read = max_read }

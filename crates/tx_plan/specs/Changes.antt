@@ -9,7 +9,7 @@ use Rattle.tx_plan.specs.declared.key_change.Left.{Left}
 use Rattle.tx_plan.specs.declared.key_change.Left.TheVariants as left
 use Rattle.tx_plan.specs.declared.key_change.NewLock.{NewLock}
 use Rattle.tx_plan.specs.Cells.{Lock, CommitRecord, Write, CommitOf, Rollback, Writes, Cells, with_lock, with_write}
-use Rattle.tx_plan.specs.Own.{OwnLock, OwnCommit, OthersCommit, OwnRollback, marked, is_rollback}
+use Rattle.tx_plan.specs.Own.{OwnLock, OwnCommit, OthersCommit, OwnRollback, committed, marked, is_rollback}
 use Rattle.tx_plan.specs.cases.TxnHeartBeat.{with_ttl}
 use Rattle.tx_plan.specs.cases.CheckTxnStatus.{with_minimum}
 
@@ -17,11 +17,7 @@ use Rattle.tx_plan.specs.cases.CheckTxnStatus.{with_minimum}
 abbrev pub on_lock : Cells → (Lock → Cells) → Cells
 on_lock cells f = elim cells.lock [ None ↦ cells | Some lock ↦ f lock ]
 
--- a lock as a commit record, with or without the mark
-abbrev pub committed : Lock → Bool → CommitRecord
-committed lock overlapped = record { mutation = lock.mutation; start = lock.start; overlapped_rollback = overlapped }
-
--- what is in a place, with the mark where it is a commit record
+-- what is of a version, with the mark where it is a commit record
 abbrev pub mark : Option Write → Option Write
 mark None = None
 mark (Some Rollback) = Some Rollback
@@ -40,8 +36,14 @@ changed cells change.Nothing = cells
 changed cells (change.Lock new) = cells
 changed cells (change.Ttl ttl) = on_lock cells (λ lock. with_lock cells (Some (with_ttl lock ttl)))
 changed cells (change.Minimum min) = on_lock cells (λ lock. with_lock cells (Some (with_minimum lock min)))
-changed cells (change.Commit c overlapped) = on_lock cells (λ lock. record { lock = None; write = with_write cells.write c (CommitOf (committed lock overlapped)) })
-changed cells (change.RollBack t removes_lock left) = record { lock = cond removes_lock None cells.lock; write = after_left cells.write t left }
+changed cells (change.Commit c overlapped) = on_lock cells (λ lock. record {
+  lock = None;
+  write = with_write cells.write c (CommitOf (committed lock overlapped));
+})
+changed cells (change.RollBack t removes_lock left) = record {
+  lock = cond removes_lock None cells.lock;
+  write = after_left cells.write t left;
+}
 
 -- ---- what a change takes for granted
 
@@ -57,7 +59,7 @@ pub record RaisesMinimum (found : Option Lock) (min : ℕ) : Type 0 where
 
 -- a lock is committed at its minimum or above, where no other transaction committed, and it keeps
 -- the rollback of the transaction that started there as the mark
-pub record CommitsAt (cells : Cells) (c : ℕ) (overlapped : Bool) : Type 0 where
+pub record HasCommitAt (cells : Cells) (c : ℕ) (overlapped : Bool) : Type 0 where
   pub lock : Lock
   pub stands : cells.lock ≡ Some lock
   pub upto : lock.min ≤ c
@@ -82,7 +84,7 @@ Applies cells change.Nothing = Unit {0}
 Applies cells (change.Lock new) = ⊥
 Applies cells (change.Ttl ttl) = SomeLock cells.lock
 Applies cells (change.Minimum min) = RaisesMinimum cells.lock min
-Applies cells (change.Commit c overlapped) = CommitsAt cells c overlapped
+Applies cells (change.Commit c overlapped) = HasCommitAt cells c overlapped
 Applies cells (change.RollBack t removes_lock left) = IsRemoved cells.lock t removes_lock × IsLeft cells.write t left
 
 -- ---- prewrites

@@ -2,9 +2,10 @@
 use Rattle.std.specs.Prelude.{◌≡◌, ◌≢◌, ◌↔◌, ℕ, suc, ◌==◌, ◌+◌, ◌<◌, ◌≤◌, ◌&&◌, not, nat_lt, Bool, false, cond, List, [], ◌∷◌, AllPairs, Contains, Option, Some, None}
 use Rattle.tx_plan.specs.declared.key_records.RecordKind.{RecordKind}
 use Rattle.tx_plan.specs.Cells.{Write, Writes, Cells, is_long}
-use Rattle.tx_plan.specs.cases.Collect.{commit_is, is_put, is_visible, keeps}
+use Rattle.tx_types.specs.Keys.{is_visible}
+use Rattle.tx_plan.specs.cases.Collect.{commit_is, is_put, keeps}
 
--- what collection asks of the record in a place
+-- what collection asks of the record of a version
 pub record IsKind (found : Option Write) (kind : RecordKind) : Type 0 where
   pub puts : kind.puts ≡ commit_is is_put found
   pub is_seen : kind.is_seen ≡ commit_is is_visible found
@@ -29,7 +30,8 @@ pub record DroppedOn (write : Writes) (safe : ℕ) (times : List ℕ) : Type 0 w
 -- how many of these timestamps hold a commit record whose value lies in the `default` family
 abbrev pub long_among : Writes → List ℕ → ℕ
 long_among write [] = 0
-long_among write (q ∷ times) = cond (commit_is is_long (write q)) (suc (long_among write times)) (long_among write times)
+long_among write (q ∷ times) = cond (commit_is is_long (write q)) (suc (long_among write times))
+    (long_among write times)
 
 -- the timestamp after this one, or 0 after none
 abbrev pub past : Option ℕ → ℕ
@@ -43,4 +45,7 @@ stays (Some at) q = at == q
 
 -- the cells of a key of which all records below a timestamp went but one, if one stays
 abbrev pub without_below : Cells → ℕ → Option ℕ → Cells
-without_below cells safe stay = record { lock = cells.lock; write = λ q. cond (nat_lt q safe && not (stays stay q)) None (cells.write q) }
+without_below cells safe stay = record cells {
+  write = λ q. cond (nat_lt q safe
+      && not (stays stay q)) None (cells.write q);
+}

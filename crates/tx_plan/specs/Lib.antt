@@ -1,5 +1,6 @@
 pub mod Cells
 pub mod Reads
+pub mod Targets
 pub mod Own
 pub mod Tables
 pub mod cases

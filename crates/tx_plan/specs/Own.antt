@@ -21,7 +21,8 @@ pub record OthersCommit (write : Writes) (t c : ℕ) (rec : CommitRecord) : Type
 
 -- its rollback: a rollback at its start, or the mark on another's commit record that stands there
 abbrev pub OwnRollback : Writes → ℕ → Type 0
-OwnRollback write t = (write t ≡ Some Rollback) ⊎ ((rec : CommitRecord) × OthersCommit write t t rec × (rec.overlapped_rollback ≡ true))
+OwnRollback write t = (write t ≡ Some Rollback) ⊎ ((rec : CommitRecord) × OthersCommit write t t rec
+    × (rec.overlapped_rollback ≡ true))
 
 -- what f makes of the cells where its lock stands; else they stay
 abbrev pub on_own_lock : Cells → ℕ → (Lock → Cells) → Cells
@@ -29,7 +30,7 @@ on_own_lock cells t f = elim cells.lock [ None ↦ cells | Some lock ↦ cond (l
 
 -- a commit record with the mark
 abbrev pub marked : CommitRecord → CommitRecord
-marked rec = record { mutation = rec.mutation; start = rec.start; overlapped_rollback = true }
+marked rec = record rec { overlapped_rollback = true }
 
 -- what a rollback that is left makes of the record at its timestamp: another's commit record is
 -- marked, else a rollback stands there
@@ -40,7 +41,7 @@ rolled t (Some (CommitOf rec)) = cond (rec.start == t) Rollback (CommitOf (marke
 
 -- leave a rollback
 abbrev pub leave_rollback : Cells → ℕ → Cells
-leave_rollback cells t = record { lock = cells.lock; write = with_write cells.write t (rolled t (cells.write t)) }
+leave_rollback cells t = record cells { write = with_write cells.write t (rolled t (cells.write t)) }
 
 -- a lock, but none where it is its own
 abbrev pub without_own : Option Lock → ℕ → Option Lock
@@ -51,19 +52,26 @@ without_own (Some lock) t = cond (lock.start == t) None (Some lock)
 abbrev pub roll_back : Cells → ℕ → Cells
 roll_back cells t = with_lock (leave_rollback cells t) (without_own cells.lock t)
 
--- whether a rollback stands in a place
+-- whether a rollback stands of a version
 abbrev pub is_rollback : Option Write → Bool
 is_rollback None = false
 is_rollback (Some Rollback) = true
 is_rollback (Some (CommitOf rec)) = false
 
+-- a lock as a commit record, with or without the mark
+abbrev pub committed : Lock → Bool → CommitRecord
+committed lock overlapped = record { mutation = lock.mutation; start = lock.start; overlapped_rollback = overlapped }
+
 -- a lock's commit record, where this stood in its place: marked where that was a rollback
 abbrev pub commit_of : Lock → Option Write → CommitRecord
-commit_of lock before = record { mutation = lock.mutation; start = lock.start; overlapped_rollback = is_rollback before }
+commit_of lock before = committed lock (is_rollback before)
 
 -- commit a lock at c: it is removed, and its commit record is at c
 abbrev pub lock_committed : Cells → ℕ → Lock → Cells
-lock_committed cells c lock = record { lock = None; write = with_write cells.write c (CommitOf (commit_of lock (cells.write c))) }
+lock_committed cells c lock = record {
+  lock = None;
+  write = with_write cells.write c (CommitOf (commit_of lock (cells.write c)));
+}
 
 -- commit its lock at c, where it is there
 abbrev pub commit_lock : Cells → ℕ → ℕ → Cells

@@ -20,7 +20,8 @@ pub record Blocks (standing : Option Lock) (r : ℕ) (bypass : List ℕ) (lock :
 
 -- no put or delete stands above low and at most at r
 abbrev pub NoneWritten : Writes → ℕ → ℕ → Type 0
-NoneWritten write low r = (c : ℕ) (rec : CommitRecord) → write c ≡ Some (CommitOf rec) → IsVisible rec.mutation → low < c → c ≤ r → ⊥
+NoneWritten write low r = (c : ℕ) (rec : CommitRecord) → write c ≡ Some (CommitOf rec) → IsVisible rec.mutation
+    → low < c → c ≤ r → ⊥
 
 -- the newest put or delete at most at r puts the value v
 pub record Finds (write : Writes) (r : ℕ) (v : Value) : Type 0 where
@@ -50,7 +51,8 @@ abbrev pub covered : Scan → List KeyValue → Key → Bool
 covered b rows k = is_scanned b.from b.to b.limit rows k
 
 -- some keys were walked: no lock blocks there, and the rows, in order, are what reads of them give
-pub record Walked (cells : Key → Cells) (r : ℕ) (bypass : List ℕ) (within : Key → Bool) (rows : List KeyValue) : Type 0 where
+pub record Walked (cells : Key → Cells) (r : ℕ) (bypass : List ℕ) (within : Key
+    → Bool) (rows : List KeyValue) : Type 0 where
   pub rising : IsRising rows
   pub inside : (k : Key) (v : Value) → value_in rows k ≡ Some v → IsTrue (within k)
   pub free : (k : Key) (lock : Lock) → IsTrue (within k) → Blocks (cells k).lock r bypass lock → ⊥

@@ -16,7 +16,8 @@ pub record MayRead (safe loaded at : ℕ) : Type 0 where
 
 -- a read that does not is refused
 abbrev pub RefusesRead : ℕ → ℕ → ℕ → Answer → Type 0
-RefusesRead safe loaded at a = ((at < safe) × (a ≡ BelowSafePoint safe)) ⊎ ((at < safe → ⊥) × (loaded < at) × (a ≡ FutureTimestamp loaded))
+RefusesRead safe loaded at a = ((at < safe) × (a ≡ BelowSafePoint safe))
+    ⊎ ((at < safe → ⊥) × (loaded < at) × (a ≡ FutureTimestamp loaded))
 
 -- a refusal of a scan, or of a collection, is the table's answer, and changes nothing
 pub record RefusesScan (safe loaded : ℕ) (b : Scan) (a : Answer) : Type 0 where

@@ -3,9 +3,6 @@ use Rattle.std.specs.Prelude.{◌≡◌, ◌≢◌, ℕ, List, ◌∷◌, Option
 use Rattle.tx_types.specs.Kinds.{kind_of}
 use Rattle.tx_types.specs.declared.key.Key.{Key}
 use Rattle.tx_types.specs.declared.lock.LockInfo.{LockInfo}
-use Rattle.tx_types.specs.declared.mutation.LockKind.{LockKind}
-use Rattle.tx_types.specs.declared.mutation.LockKind.TheVariants as kind
-use Rattle.tx_types.specs.declared.mutation.Mode.TheVariants.{TwoPhase, Async}
 use Rattle.tx_plan.specs.declared.view.RecordHead.{RecordHead}
 use Rattle.tx_plan.specs.declared.view.RecordHead.TheVariants as head
 use Rattle.tx_plan.specs.declared.view.LockHead.{LockHead}
@@ -24,19 +21,23 @@ head_of (CommitOf rec) = head.Commit (kind_of rec.mutation) rec.start rec.overla
 head_of Rollback = head.Rollback
 
 abbrev pub lock_head_of : Lock → LockHead
-lock_head_of lock = record { start = lock.start; min = lock.min; ttl = lock.ttl; kind = kind_of lock.mutation; mode = lock.mode }
-
--- the minimum that an answer names of a lock with this head: 0 of a two-phase one
-abbrev pub named_in : LockHead → ℕ
-named_in head = elim head.mode [ TwoPhase ↦ 0 | Async ↦ head.min ]
+lock_head_of lock = record {
+  start = lock.start;
+  min = lock.min;
+  ttl = lock.ttl;
+  kind = kind_of lock.mutation;
+  mode = lock.mode;
+}
 
 -- a transaction that started at start, with a request that commits at commit, sees this of a key
 pub record Shows (cells : Cells) (start commit : ℕ) (view : TxnView) : Type 0 where
   pub lock : view.lock ≡ option_map lock_head_of cells.lock
   pub at_start : view.at_start ≡ option_map head_of (cells.write start)
   pub at_commit : view.at_commit ≡ option_map head_of (cells.write commit)
-  pub own_commit : MatchOption view.own_commit ((c : ℕ) → OwnCommit cells.write start c → ⊥) (λ c. OwnCommit cells.write start c)
-  pub newest : MatchOption view.newest_above (SomeAbove cells.write start → ⊥) (λ (at : CommitAt). NewestAbove cells.write start at.start at.commit)
+  pub own_commit : MatchOption view.own_commit ((c : ℕ) → OwnCommit cells.write start c
+      → ⊥) (λ c. OwnCommit cells.write start c)
+  pub newest : MatchOption view.newest_above (SomeAbove cells.write start
+      → ⊥) (λ (at : CommitAt). NewestAbove cells.write start at.start at.commit)
 
 -- a read at a timestamp sees this of a key
 pub record ShowsRead (cells : Cells) (at : ℕ) (view : ReadView) : Type 0 where
@@ -48,12 +49,6 @@ pub record HasOwnHead (found : Option Lock) (t : ℕ) (head : LockHead) : Type 0
   pub lock : Lock
   pub stands : OwnLock found t lock
   pub shown : head ≡ lock_head_of lock
-
--- reads see puts and deletes, and no locks
-abbrev pub IsSeenKind : LockKind → Type 0
-IsSeenKind kind.Put = Unit {0}
-IsSeenKind kind.Delete = Unit {0}
-IsSeenKind kind.Lock = ⊥
 
 -- a lock blocks a read at r that passes these transactions by
 abbrev pub IsBlocked : Option Lock → ℕ → List ℕ → Type 0

@@ -1,7 +1,7 @@
 -- What a walk over the keys of a region passes.
 use Rattle.std.specs.Prelude.{◌≡◌, Bool, true, cond, List, [], ◌∷◌, Option, Some, None, bytes_eq, IsTrue}
 use Rattle.tx_types.specs.declared.key.Key.{Key}
-use Rattle.tx_types.specs.Keys.{key_lt}
+use Rattle.tx_types.specs.Keys.{KeysRise}
 use Rattle.tx_plan.specs.Cells.{Lock, Cells, no_cells}
 
 -- a key and what is on it
@@ -11,9 +11,7 @@ pub record KeyRow : Type 0 where
 
 -- rows stand in the order of their keys, one of each key
 abbrev pub AreInOrder : List KeyRow → Type 0
-AreInOrder [] = Unit {0}
-AreInOrder (x ∷ []) = Unit {0}
-AreInOrder (x ∷ y ∷ rows) = IsTrue (key_lt x.key y.key) × AreInOrder (y ∷ rows)
+AreInOrder rows = KeysRise (λ (row : KeyRow). row.key) rows
 
 -- the keys of the rows pass the test
 abbrev pub KeysPass : (Key → Bool) → List KeyRow → Type 0
@@ -45,9 +43,7 @@ pub record LockRow : Type 0 where
 
 -- these rows stand in the order of their keys, one of each key
 abbrev pub LocksInOrder : List LockRow → Type 0
-LocksInOrder [] = Unit {0}
-LocksInOrder (x ∷ []) = Unit {0}
-LocksInOrder (x ∷ y ∷ rows) = IsTrue (key_lt x.key y.key) × LocksInOrder (y ∷ rows)
+LocksInOrder rows = KeysRise (λ (row : LockRow). row.key) rows
 
 -- the lock that the rows say is on a key
 abbrev pub lock_by : List LockRow → Key → Option Lock

@@ -9,7 +9,11 @@ use Rattle.tx_plan.specs.Cells.{Lock, Write, CommitOf, Rollback}
 
 -- a commit record of this mutation
 abbrev pub whole_commit : Mutation → ℕ → Bool → Write
-whole_commit whole start overlapped = CommitOf (record { mutation = whole; start = start; overlapped_rollback = overlapped })
+whole_commit whole start overlapped = CommitOf (record {
+  mutation = whole;
+  start = start;
+  overlapped_rollback = overlapped;
+})
 
 -- the write record that keeps this mutation
 abbrev pub whole_write : WriteRec → Mutation → Write

@@ -25,7 +25,8 @@ pub trait KeyRecords {
 
     /// Where the newest record at this timestamp or below is, and what collection asks of it.
     fn newest_upto(&mut self, bound: Ts) -> Option<(Ts, RecordKind)>
-        ensures newest { MatchOption result (NoneUpto (write self.old) bound) (λ x. IsNext (write self.old) bound x.0 x.1) }
+        ensures newest { MatchOption result (NoneUpto (write self.old) bound)
+            (λ x. IsNext (write self.old) bound x.0 x.1) }
         ensures same { write self.new ≡ write self.old };
 }
 
@@ -52,8 +53,10 @@ fn before(at: Ts) -> Option<Ts>
 
 /// What collection at this safe point makes of a key with these records.
 pub fn collect_key<R: KeyRecords>(key: &mut R, safe: Ts) -> KeyCollection
-    ensures kept { (q : ℕ) → q < safe → R.write key.old q ≢ None → (keeps (R.write key.old) safe q ≡ true) ↔ (result.kept ≡ Some q) }
-    ensures counts { (times : List ℕ) × DroppedOn (R.write key.old) safe times × (result.records ≡ length times) × (result.values ≡ long_among (R.write key.old) times) }
+    ensures kept { (q : ℕ) → q < safe → R.write key.old q ≢ None → (keeps (R.write key.old) safe q ≡ true)
+        ↔ (result.kept ≡ Some q) }
+    ensures counts { (times : List ℕ) × DroppedOn (R.write key.old) safe times × (result.records ≡ length times)
+        × (result.values ≡ long_among (R.write key.old) times) }
     ensures same { R.write key.new ≡ R.write key.old }
 {
     let mut followed = false;

@@ -22,7 +22,9 @@ pub fn rollback_left_again_stays()
 /// mark covers what was read in the region, neither the mark nor what the region loaded lies above
 /// the last number drawn, and a floor lies at most one above that.
 pub fn least_minimum_is_free()
-    ensures { (mark : ℕ) (region : Region) (loaded top : ℕ) (body : Body) (answer : Answer) → region.max_read ≤ mark → mark ≤ top → loaded ≤ top → floor_in body ≤ top + 1 → AnswersFrom mark region loaded body answer → Answers region loaded top body answer }
+    ensures { (mark : ℕ) (region : Region) (loaded top : ℕ) (body : Body) (answer : Answer) → region.max_read ≤ mark
+        → mark ≤ top → loaded ≤ top → floor_in body ≤ top + 1 → AnswersFrom mark region loaded body answer
+        → Answers region loaded top body answer }
 {}
 
 /// The check of an insert, which is a read at its transaction's start, leaves the least minimum as
@@ -35,7 +37,9 @@ pub fn check_leaves_the_minimum()
 /// What the cells of a key always meet stays so through each change that applies, each prewrite and
 /// each collection.
 pub fn cells_stay_sound()
-    ensures change { (cells : Cells) (change : KeyChange) → IsSound cells → Applies cells change → IsSound (changed cells change) }
-    ensures prewrite { (cells : Cells) (body : Prewrite) (new : NewLock) → IsSound cells → CanPut cells body new → IsSound (after_put cells body (Some new)) }
+    ensures change { (cells : Cells) (change : KeyChange) → IsSound cells → Applies cells change
+        → IsSound (changed cells change) }
+    ensures prewrite { (cells : Cells) (body : Prewrite) (new : NewLock) → IsSound cells → CanPut cells body new
+        → IsSound (after_put cells body (Some new)) }
     ensures collection { (cells : Cells) (safe : ℕ) → IsSound cells → IsSound (kept cells safe) }
 {}

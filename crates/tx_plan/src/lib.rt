@@ -11,6 +11,7 @@ mod laws;
 mod lists;
 mod plan;
 mod planned;
+mod target;
 mod view;
 mod walk;
 
@@ -37,7 +38,8 @@ pub use plan::raise_safe::{SafePlan, plan_raise_safe};
 pub use plan::resolve_lock::plan_resolve_lock;
 pub use plan::scan::{plan_scan, scan_refusal, scan_walk};
 pub use plan::txn_heart_beat::plan_txn_heart_beat;
-pub use planned::{Planned, PlannedAnswer};
+pub use planned::{Plan, PlannedAnswer};
+pub use target::Target;
 pub use tx_types::RegionNo;
 pub use view::{CommitAt, LockHead, ReadView, RecordHead, TxnView};
 pub use walk::{LockWalk, ReadWalk};

@@ -55,18 +55,18 @@ impl PlannedAnswer {
 /// What is answered to a command, what changes on its key, and which timestamp counts as read from
 /// then on: the greatest timestamp read rises to at least it.
 #[derive(Debug, Drop)]
-pub struct Planned {
+pub struct Plan {
     pub answer: PlannedAnswer,
     pub change: KeyChange,
     pub read: Option<Ts>,
 }
 
-impl Planned {
+impl Plan {
     /// An answer that changes nothing.
-    pub fn unchanged(answer: PlannedAnswer) -> Planned
+    pub fn unchanged(answer: PlannedAnswer) -> Plan
         ensures { result ≡ record { answer = answer; change = KeyChange.Nothing; read = None } }
     {
-        Planned {
+        Plan {
             answer,
             change: KeyChange::Nothing,
             read: None,
@@ -74,17 +74,17 @@ impl Planned {
     }
 
     /// An answer that changes nothing and names no lock.
-    pub fn given(answer: Answer) -> Planned
+    pub fn given(answer: Answer) -> Plan
         ensures { result ≡ record { answer = PlannedAnswer.Given answer; change = KeyChange.Nothing; read = None } }
     {
-        Planned::unchanged(PlannedAnswer::Given(answer))
+        Plan::unchanged(PlannedAnswer::Given(answer))
     }
 
     /// An answer that names no lock, and the change.
-    pub fn changes(answer: Answer, change: KeyChange) -> Planned
+    pub fn changes(answer: Answer, change: KeyChange) -> Plan
         ensures { result ≡ record { answer = PlannedAnswer.Given answer; change = change; read = None } }
     {
-        Planned {
+        Plan {
             answer: PlannedAnswer::Given(answer),
             change,
             read: None,

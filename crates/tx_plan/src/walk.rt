@@ -21,7 +21,8 @@ pub trait ReadWalk {
     /// The next key, and what a read at this timestamp sees of it; none where the walk has ended.
     /// After `OutOfMemory` the walk is of no more use.
     fn next(&mut self, alloc: Global, at: Ts) -> Result<Option<(Key, ReadView)>, Fault>
-        ensures next { IfOk result (λ found. MatchOption found (rest self.old ≡ []) (λ x. ComesNext (rest self.old) (rest self.new) at x.0 x.1)) }
+        ensures next { IfOk result (λ found. MatchOption found (rest self.old
+            ≡ []) (λ x. ComesNext (rest self.old) (rest self.new) at x.0 x.1)) }
         ensures same { cells self.new ≡ cells self.old }
         ensures err { IfErr result (λ e. e ≡ Fault.OutOfMemory) };
 
@@ -42,7 +43,8 @@ pub trait LockWalk {
     /// The key of the next lock, and what is asked of that lock; none where the walk has ended.
     /// After `OutOfMemory` the walk is of no more use.
     fn next(&mut self, alloc: Global) -> Result<Option<(Key, LockHead)>, Fault>
-        ensures next { IfOk result (λ found. MatchOption found (rest self.old ≡ []) (λ x. LockComesNext (rest self.old) (rest self.new) x.0 x.1)) }
+        ensures next { IfOk result (λ found. MatchOption found (rest self.old
+            ≡ []) (λ x. LockComesNext (rest self.old) (rest self.new) x.0 x.1)) }
         ensures same { cells self.new ≡ cells self.old }
         ensures err { IfErr result (λ e. e ≡ Fault.OutOfMemory) };
 

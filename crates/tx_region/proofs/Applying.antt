@@ -5,7 +5,7 @@ use Rattle.std.proofs.lemmas.Bool.{cases_lt}
 use Rattle.tx_types.specs.declared.key.Key.{Key}
 use Rattle.tx_plan.specs.declared.body.Body.{Body}
 use Rattle.tx_plan.specs.declared.answer.Answer.{Answer}
-use Rattle.tx_plan.specs.declared.planned.Planned.{Planned}
+use Rattle.tx_plan.specs.declared.planned.Plan.{Plan}
 use Rattle.tx_plan.specs.Cells.{Region}
 use Rattle.tx_plan.specs.Answers.{AnswersFrom, leaves}
 use Rattle.tx_plan.specs.Plans.{read_upto}
@@ -30,7 +30,7 @@ use Rattle.tx_region.specs.Taking.{Keeps, NeedsMark, IsMark, Knows}
 use Rattle.tx_region.specs.declared.applied.Applied.{Applied}
 use Rattle.tx_region.specs.declared.applied.Applied.TheVariants.{Done, Stale}
 use Rattle.tx_region.specs.declared.copy.Loaded.{Loaded}
-use Rattle.tx_region.specs.declared.copy.Numbers.{Numbers}
+use Rattle.tx_region.specs.declared.copy.RegionNumbers.{RegionNumbers}
 use Rattle.tx_region.proofs.Carrying.{region_by}
 use Rattle.tx_region.proofs.Copies.{planned_answers, planned_leaves, plan_still}
 use Rattle.tx_region.proofs.Taking.{may_answer, reads, tells_of}
@@ -42,7 +42,7 @@ module _ (bounds : List Key) (k : Known) (content : Content) (s c : ℕ) (count 
   pub number_low : (key : Key) → numbers key ≤ count
   number_low key = (let low = (is.noted key).low in let counted = is.count in omega (arith, low, counted))
 
-  module _ (l : History) (b : Begins l k.events) (copied : Numbers) (taken : ℕ) (loaded : Loaded) (are : AreOf l k.seat copied taken loaded) (key : Key) where
+  module _ (l : History) (b : Begins l k.events) (copied : RegionNumbers) (taken : ℕ) (loaded : Loaded) (are : AreOf l k.seat copied taken loaded) (key : Key) where
     pub key_same : StayedKey (region_by content 0 s c) (numbers key) copied taken → SameKey key (left l k.seat) (left k.events k.seat)
     key_same stayed =
         let collected : (left l k.seat).collected ≡ (left k.events k.seat).collected = sym are.collected ∙ (stayed.collected ∙ ap (λ (r : Region). r.collected) is.left) in
@@ -67,7 +67,7 @@ module _ (bounds : List Key) (k : Known) (content : Content) (s c : ℕ) (count 
 
 -- a plan that is right for what the seat's own events had left is right for what the region holds
 pub plan_holds : (bounds : List Key) (old k : Known) → HasSeen bounds k.seat old.events k.events → k.seat ≡ old.seat → (content : Content) (s c : ℕ) (taken : ℕ) (numbers : Key → ℕ) (keeps : Keeps bounds k (λ m. region_by content m s c) taken numbers)
-    (mark loaded : ℕ) (b : Body) (p : Planned) → IsPlan mark (left old.events old.seat) loaded b p → IsPlan mark (region_by content (left k.events k.seat).max_read s c) loaded b p
+    (mark loaded : ℕ) (b : Body) (p : Plan) → IsPlan mark (left old.events old.seat) loaded b p → IsPlan mark (region_by content (left k.events k.seat).max_read s c) loaded b p
 plan_holds bounds old k here number content s c taken numbers keeps mark loaded b p plan =
     subst (λ r. IsPlan mark r loaded b p) (sym (keeps.left ∙ (left_on k.seat old.events k.events here.extends ∙ ap (left old.events) number))) plan
 
@@ -75,7 +75,7 @@ plan_holds bounds old k here number content s c taken numbers keeps mark loaded 
 -- left, and its minimum lies above each read.
 module _ (bounds : List Key) (old k : Known) (here : HasSeen bounds k.seat old.events k.events) (number : k.seat ≡ old.seat) (content : Content) (s c : ℕ) (taken : ℕ) (numbers : Key → ℕ) (keeps : Keeps bounds k (λ m. region_by content m s c) taken numbers)
     (after : ℕ → Region) (mine : (m : ℕ) → (after m).max_read ≡ m) (q : Asked) (allowed : Allowed q.by q.body) (holds : Holds bounds old.seat q.body) (loaded mark : ℕ) (knows : Knows q.by old.events loaded) (marks : NeedsMark q.body → mark ≤ max_ts old.events)
-    (p : Planned) (plan : IsPlan mark (left old.events old.seat) loaded q.body p) (above : IsAbove p.change k.events) (a : Answer) (read : Option ℕ)
+    (p : Plan) (plan : IsPlan mark (left old.events old.seat) loaded q.body p) (above : IsAbove p.change k.events) (a : Answer) (read : Option ℕ)
     (out : (m : ℕ) → CarriesOut (region_by content m s c) (key_in q.body) (made q.body ((region_by content m s c).cells (key_in q.body)) p.change) p a read (after m)) where
   beyond : Begins old.events k.events
   beyond = extends_begins k.seat old.events k.events here.extends

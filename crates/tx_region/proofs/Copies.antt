@@ -30,7 +30,7 @@ use Rattle.tx_plan.specs.declared.answer.Answer.TheVariants.{Prewritten}
 use Rattle.tx_plan.specs.declared.key_change.KeyChange.{KeyChange}
 use Rattle.tx_plan.specs.declared.key_change.KeyChange.TheVariants as change
 use Rattle.tx_plan.specs.declared.key_change.NewLock.{NewLock}
-use Rattle.tx_plan.specs.declared.planned.Planned.{Planned}
+use Rattle.tx_plan.specs.declared.planned.Plan.{Plan}
 use Rattle.tx_plan.specs.Cells.{Lock, Cells, Region, with_cells}
 use Rattle.tx_plan.specs.Answers.{AnswersFrom, leaves}
 use Rattle.tx_plan.specs.Changes.{changed, Applies, new_lock, after_put, put, CanPut}
@@ -43,7 +43,7 @@ use Rattle.tx_region.specs.Calls.{Executes, CarriesOut}
 use Rattle.tx_region.specs.Copies.{IsOfKey, key_in, SameKey, SeesRead, SeesTxn, SeesPrewrite, Sees, LooksLike, made, IsPlan, promised}
 use Rattle.tx_region.specs.Taking.{NeedsMark}
 use Rattle.tx_region.specs.declared.copy.KeyView.{KeyView}
-use Rattle.tx_region.specs.declared.copy.Numbers.{Numbers}
+use Rattle.tx_region.specs.declared.copy.RegionNumbers.{RegionNumbers}
 use Rattle.tx_region.proofs.Basics.{key_test, cond_true}
 use Rattle.tx_region.proofs.Carrying.{region_by, with_same}
 
@@ -67,7 +67,7 @@ sees_same (body.LocksBelow b) one other v same sees = absurd sees
 sees_same (body.Collect b) one other v same sees = absurd sees
 
 -- where a key is the same, a region looks like the copy of the other
-pub looks_same : (b : Body) (one other : Region) (v : KeyView) (numbers : Numbers) → SameKey (key_in b) one other → LooksLike one b v numbers → LooksLike other b v numbers
+pub looks_same : (b : Body) (one other : Region) (v : KeyView) (numbers : RegionNumbers) → SameKey (key_in b) one other → LooksLike one b v numbers → LooksLike other b v numbers
 looks_same b one other v numbers same looks = record {
   sees = sees_same b one.cells other.cells v same.cells looks.sees;
   safe = looks.safe ∙ same.safe;
@@ -80,7 +80,7 @@ looks_same b one other v numbers same looks = record {
 keyed_same : (region : Region) (read : Option ℕ) (key : Key) → with_read (with_cells region key (region.cells key)) read ≡ with_read region read
 keyed_same region read key = ap (λ r. with_read r read) (with_same region key)
 
-module _ (mark loaded : ℕ) (region : Region) (numbers : Numbers) (p : Planned) where
+module _ (mark loaded : ℕ) (region : Region) (numbers : RegionNumbers) (p : Plan) where
   -- what the plan answers on a key
   abbrev on : Key → Answer
   on key = answer_with (info_on (region.cells key) key) p.answer
@@ -175,7 +175,7 @@ module _ (mark loaded : ℕ) (region : Region) (numbers : Numbers) (p : Planned)
 
 -- ---- plans that are carried out
 
-module _ (content : Content) (s c : ℕ) (after : ℕ → Region) (mark loaded : ℕ) (b : Body) (p : Planned) (a : Answer) (read : Option ℕ)
+module _ (content : Content) (s c : ℕ) (after : ℕ → Region) (mark loaded : ℕ) (b : Body) (p : Plan) (a : Answer) (read : Option ℕ)
     (out : (n : ℕ) → CarriesOut (region_by content n s c) (key_in b) (made b ((region_by content n s c).cells (key_in b)) p.change) p a read (after n)) where
   pub planned_answers : (n : ℕ) → IsPlan mark (region_by content n s c) loaded b p → AnswersFrom mark (region_by content n s c) loaded b a
   planned_answers n plan = subst (AnswersFrom mark (region_by content n s c) loaded b) (sym (out n).answer) plan.answers
@@ -265,7 +265,7 @@ module _ (cells : Cells) (safe l : ℕ) (b : Prewrite) (a : Answer) (c : KeyChan
   prewrite_still = still
 
 -- what a plan answers stays right by a greater mark that lies below the minimum that it promises
-pub plan_still : (b : Body) (region : Region) (loaded mark high : ℕ) (p : Planned) → (NeedsMark b → mark ≤ high) → IfSome (promised p.change) (λ m. high < m) → IsPlan mark region loaded b p → IsPlan high region loaded b p
+pub plan_still : (b : Body) (region : Region) (loaded mark high : ℕ) (p : Plan) → (NeedsMark b → mark ≤ high) → IfSome (promised p.change) (λ m. high < m) → IsPlan mark region loaded b p → IsPlan high region loaded b p
 plan_still b region loaded mark high p more above is = record { answers = at b more is; leaves = is.leaves; may = is.may }
   where
     cells_here : (q : Prewrite) (cells : Cells) → (with_cells region q.key cells).cells q.key ≡ cells

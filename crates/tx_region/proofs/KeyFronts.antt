@@ -86,7 +86,7 @@ tells_next n bounds fronts f count so_far next i d within =
           subst (λ j. Tells (get_or bounds j d) (get_or (fronts ++ f ∷ []) j 0)) last (subst (λ m. Tells (get_or bounds n d) (get_or (fronts ++ f ∷ []) m 0)) count (subst (Tells (get_or bounds n d)) (sym (get_or-append_seam fronts f [] 0)) (next d)))
     ]
 
--- a place between the keys that lie at a key or below it and the others
+-- an index between the keys that lie at a key or below it and the others
 pub between : (ks : List Key) → AreRising ks → (k : Key) (n : ℕ) → n ≤ length ks → ((d : Key) → 0 < n → key_le (get_or ks (n - 1) d) k ≡ true) → ((d : Key) → n < length ks → key_le (get_or ks n d) k ≡ false) → route ks k ≡ n
 between ks r k n upto reached past = count_at (λ b. key_le b k) ks n upto (below, above)
   where

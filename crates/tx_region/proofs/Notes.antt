@@ -70,8 +70,8 @@ none_or_some None = inl refl
 none_or_some (Some w) = inr (λ e. cc e)
 
 -- where nothing is dropped each key stays
-pub none_dropped : (cells : Key → Cells) (safe : ℕ) (places : List (Key × ℕ)) → AllDropped cells safe places → length places ≡ 0 → (k : Key) → cells k ≡ kept (cells k) safe
-none_dropped cells safe places all none k = λ i. record { lock = (cells k).lock; write = λ q. at q i }
+pub none_dropped : (cells : Key → Cells) (safe : ℕ) (indexes : List (Key × ℕ)) → AllDropped cells safe indexes → length indexes ≡ 0 → (k : Key) → cells k ≡ kept (cells k) safe
+none_dropped cells safe indexes all none k = λ i. record { lock = (cells k).lock; write = λ q. at q i }
   where
     empty : (ps : List (Key × ℕ)) → length ps ≡ 0 → (p : Key × ℕ) → Contains ps p → ⊥
     empty [] e p there = omega (arith, there.1)
@@ -82,12 +82,12 @@ none_dropped cells safe places all none k = λ i. record { lock = (cells k).lock
       | inl e ↦ sym (cond_true _ _ _ e)
       | inr e ↦ elim (none_or_some ((cells k).write q)) [
         | inl gone ↦ gone ∙ sym (cond_false _ _ _ e)
-        | inr some ↦ absurd (empty places none (k, q) ((all.each (k, q)).1 (some, e)))
+        | inr some ↦ absurd (empty indexes none (k, q) ((all.each (k, q)).1 (some, e)))
       ]
     ]
 
 -- where something is dropped some key does not
-pub some_dropped : (cells : Key → Cells) (safe : ℕ) (places : List (Key × ℕ)) → AllDropped cells safe places → length places ≢ 0 → ((k : Key) → cells k ≡ kept (cells k) safe) → ⊥
+pub some_dropped : (cells : Key → Cells) (safe : ℕ) (indexes : List (Key × ℕ)) → AllDropped cells safe indexes → length indexes ≢ 0 → ((k : Key) → cells k ≡ kept (cells k) safe) → ⊥
 some_dropped cells safe [] all some same = some refl
 some_dropped cells safe (p ∷ ps) all some same =
     let gone : IsDropped cells safe p = (all.each p).0 (first p ps) in

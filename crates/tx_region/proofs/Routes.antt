@@ -6,10 +6,14 @@ use Rattle.std.proofs.lemmas.Bool.{cases_Bool}
 use Rattle.std.proofs.lemmas.List.Sums.{count_by-le-length, sum_by-cons}
 use Rattle.tx_types.specs.declared.key.Key.{Key}
 use Rattle.tx_types.specs.Keys.{key_lt, key_le, AreRising}
+use Rattle.tx_plan.specs.declared.body.Body.{Body}
 use Rattle.tx_plan.specs.declared.body.Scan.{Scan}
+use Rattle.tx_plan.specs.declared.target.Target.{Target}
+use Rattle.tx_plan.specs.declared.target.Target.TheVariants.{Range}
 use Rattle.tx_plan.specs.Reads.{in_range}
+use Rattle.tx_plan.specs.Targets.{target, by_parts}
 use Rattle.tx_plan.proofs.KeyOrder.{ordered, le_lt, lt_trans, lt_itself, lt_le, le_itself, le_cases, lt_then_le}
-use Rattle.tx_core.specs.Worlds.{route}
+use Rattle.tx_core.specs.Worlds.{route, Has, Holds}
 
 and_true : (p q : Bool) → IsTrue p → IsTrue q → IsTrue (p && q)
 and_true p q a b = rw (a, b) refl
@@ -91,7 +95,7 @@ one_more j ks k n t at = (below, above)
     above zero d low high = absurd (omega arith)
     above (suc i) d low high = at.1 i d (omega arith) (omega arith)
 
--- the keys before the place that route gives lie at the key or below it, and the others above
+-- the keys before the index that route gives lie at the key or below it, and the others above
 pub route_point : (ks : List Key) → AreRising ks → (k : Key) → (n : ℕ) → route ks k ≡ n → IsPartitionPoint (λ b. key_le b k ≡ true) (λ b. key_le b k ≡ false) ks n
 route_point [] r k n is = ((λ i d low high. absurd (omega arith)), λ i d low high. absurd (omega arith))
 route_point (j ∷ ks) r k n is =
@@ -114,10 +118,17 @@ pub from_inside : (b : Scan) → IsTrue (key_lt b.from b.to) → IsTrue (in_rang
 from_inside b some = and_true (key_le b.from b.from) (key_lt b.from b.to) (le_itself b.from) some
 
 -- where a region holds a range, so does the region of its first key
-pub holds_first : (ks : List Key) (b : Scan) (n : ℕ) → ((k : Key) → IsTrue (in_range b k) → route ks k ≡ n) → (k : Key) → IsTrue (in_range b k) → route ks k ≡ route ks b.from
+holds_first : (ks : List Key) (b : Scan) (n : ℕ) → ((k : Key) → IsTrue (in_range b k) → route ks k ≡ n) → (k : Key) → IsTrue (in_range b k) → route ks k ≡ route ks b.from
 holds_first ks b n all k inside =
     let x = inside_both b k inside in
     all k inside ∙ sym (all b.from (from_inside b (le_lt b.from k b.to x.0 x.1)))
+
+-- a range that some region holds is held by the region of its first key
+pub range_held : {A B : Type 0} (key : A → Key) (scan : B → Scan) (t : Target A B) (x : B) (ks : List Key) (body : Body) (n m : ℕ)
+    → by_parts key scan t ≡ target body → t ≡ Range x → Holds ks n body → m ≡ route ks (scan x).from → Holds ks m body
+range_held key scan t x ks body n m is range held at =
+    let of : target body ≡ Range (scan x) = sym is ∙ ap (by_parts key scan) range in
+    subst (Has ks m) (sym of) (λ k inside. holds_first ks (scan x) n (subst (Has ks n) of held) k inside ∙ sym at)
 
 module _ (ks : List Key) (r : AreRising ks) (b : Scan) (n : ℕ) where
   pub empty_range : IsTrue (key_le b.to b.from) → (k : Key) → IsTrue (in_range b k) → ⊥

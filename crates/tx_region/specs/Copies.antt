@@ -8,7 +8,7 @@ use Rattle.tx_plan.specs.declared.body.Body.TheVariants as body
 use Rattle.tx_plan.specs.declared.body.Prewrite.{Prewrite}
 use Rattle.tx_plan.specs.declared.key_change.KeyChange.{KeyChange}
 use Rattle.tx_plan.specs.declared.key_change.KeyChange.TheVariants as change
-use Rattle.tx_plan.specs.declared.planned.Planned.{Planned}
+use Rattle.tx_plan.specs.declared.planned.Plan.{Plan}
 use Rattle.tx_plan.specs.Cells.{Cells, Region, with_cells}
 use Rattle.tx_plan.specs.Answers.{AnswersFrom, leaves}
 use Rattle.tx_plan.specs.Changes.{changed, Applies, new_lock, after_put, CanPut}
@@ -21,7 +21,7 @@ use Rattle.tx_core.specs.Histories.{History}
 use Rattle.tx_core.specs.ReadMarks.{max_ts}
 use Rattle.tx_region.specs.declared.copy.KeyView.{KeyView}
 use Rattle.tx_region.specs.declared.copy.KeyView.TheVariants as view
-use Rattle.tx_region.specs.declared.copy.Numbers.{Numbers}
+use Rattle.tx_region.specs.declared.copy.RegionNumbers.{RegionNumbers}
 
 -- ---- requests of one key
 
@@ -65,7 +65,8 @@ SeesTxn cells start commit _ = ⊥
 
 -- a prewrite does, and an insert sees whether a read at its start finds a value
 abbrev pub SeesPrewrite : Cells → Prewrite → KeyView → Type 0
-SeesPrewrite cells b (view.Prewrite v has) = Shows cells b.start b.start v × (IsInsert b.mutation → IsTrue has ↔ HasValue cells.write b.start)
+SeesPrewrite cells b (view.Prewrite v has) = Shows cells b.start b.start v
+    × (IsInsert b.mutation → IsTrue has ↔ HasValue cells.write b.start)
 SeesPrewrite cells b _ = ⊥
 
 -- a request does
@@ -81,7 +82,7 @@ Sees cells (body.ResolveLock b) v = SeesTxn (cells b.key) b.start (commit_in b.f
 Sees cells _ v = ⊥
 
 -- a region looks like a copy that was made for a request
-pub record LooksLike (region : Region) (b : Body) (v : KeyView) (numbers : Numbers) : Type 0 where
+pub record LooksLike (region : Region) (b : Body) (v : KeyView) (numbers : RegionNumbers) : Type 0 where
   pub sees : Sees region.cells b v
   pub safe : numbers.safe ≡ region.safe
   pub collected : numbers.collected ≡ region.collected
@@ -101,9 +102,10 @@ MayMake _ cells c = Applies cells c × Makes cells c
 
 -- What a plan for a request makes of a region, on the key of the request, is by the case table,
 -- with the least minimum above `mark`.
-pub record IsPlan (mark : ℕ) (region : Region) (loaded : ℕ) (b : Body) (p : Planned) : Type 0 where
+pub record IsPlan (mark : ℕ) (region : Region) (loaded : ℕ) (b : Body) (p : Plan) : Type 0 where
   pub answers : AnswersFrom mark region loaded b (answer_with (info_on (region.cells (key_in b)) (key_in b)) p.answer)
-  pub leaves : with_read (with_cells region (key_in b) (made b (region.cells (key_in b)) p.change)) p.read ≡ leaves region b (answer_with (info_on (region.cells (key_in b)) (key_in b)) p.answer)
+  pub leaves : with_read (with_cells region (key_in b) (made b (region.cells (key_in b)) p.change)) p.read
+      ≡ leaves region b (answer_with (info_on (region.cells (key_in b)) (key_in b)) p.answer)
   pub may : MayMake b (region.cells (key_in b)) p.change
 
 -- the minimum that a change promises: that of an async lock that is put

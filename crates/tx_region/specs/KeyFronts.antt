@@ -4,7 +4,7 @@ use Rattle.std.specs.Prelude.{◌≡◌, ℕ, ◌+◌, ◌*◌, ◌<◌, true, f
 use Rattle.tx_types.specs.declared.key.Key.{Key}
 use Rattle.tx_types.specs.Keys.{key_le}
 
--- what so many bytes from a place on spell behind a number, where zeros stand behind the last
+-- what so many bytes from an index on spell behind a number, where zeros stand behind the last
 abbrev pub spelt : ℕ → ℕ → List ℕ → ℕ → ℕ
 spelt zero i bytes a = a
 spelt (suc n) i bytes a = spelt n (suc i) bytes (a * 256 + slice_index_or bytes i 0)

@@ -2,7 +2,7 @@
 use Rattle.std.specs.Prelude.{◌≡◌, ◌⊎◌, ℕ, ◌≤◌, List, Some, IfSome, IfNone}
 use Rattle.tx_types.specs.declared.key.Key.{Key}
 use Rattle.tx_plan.specs.declared.answer.Answer.{Answer}
-use Rattle.tx_plan.specs.declared.planned.Planned.{Planned}
+use Rattle.tx_plan.specs.declared.planned.Plan.{Plan}
 use Rattle.tx_plan.specs.Cells.{Region}
 use Rattle.tx_plan.specs.Answers.{AnswersFrom}
 use Rattle.tx_core.specs.declared.event.Event.TheVariants.{Took}
@@ -17,7 +17,7 @@ use Rattle.tx_region.specs.declared.applied.Applied.{Applied}
 use Rattle.tx_region.specs.declared.applied.Applied.TheVariants.{Done, Stale}
 use Rattle.tx_region.specs.declared.copy.KeyView.{KeyView}
 use Rattle.tx_region.specs.declared.copy.Loaded.{Loaded}
-use Rattle.tx_region.specs.declared.copy.Numbers.{Numbers}
+use Rattle.tx_region.specs.declared.copy.RegionNumbers.{RegionNumbers}
 
 -- ---- copies and plans
 
@@ -26,7 +26,7 @@ pub record Copied : Type 0 where
   pub region : ℕ
   pub events : History
   pub view : KeyView
-  pub numbers : Numbers
+  pub numbers : RegionNumbers
   pub loaded : Loaded
 
 -- a plan of it
@@ -34,11 +34,11 @@ pub record PlanOf : Type 0 where
   pub region : ℕ
   pub events : History
   pub loaded : Loaded
-  pub planned : Planned
+  pub planned : Plan
 
 -- What every copy and every plan keeps: the numbers are those that the region's own events had
 -- left, of which so many were counted, and the number that was loaded was the last one.
-pub record AreOf (events : History) (n : ℕ) (numbers : Numbers) (taken : ℕ) (loaded : Loaded) : Type 0 where
+pub record AreOf (events : History) (n : ℕ) (numbers : RegionNumbers) (taken : ℕ) (loaded : Loaded) : Type 0 where
   pub safe : numbers.safe ≡ (left events n).safe
   pub collected : numbers.collected ≡ (left events n).collected
   pub count : taken ≡ turns events n
@@ -51,7 +51,8 @@ pub record IsCopyFor (q : Asked) (copy : Copied) : Type 0 where
   pub of_key : IsOfKey q.body
   pub knows : Knows q.by copy.events copy.loaded.last
   pub is_mark : IsMark q.body copy.loaded.mark copy.events
-  pub looks : (region : Region) → SameKey (key_in q.body) (left copy.events copy.region) region → LooksLike region q.body copy.view copy.numbers
+  pub looks : (region : Region) → SameKey (key_in q.body) (left copy.events copy.region) region
+      → LooksLike region q.body copy.view copy.numbers
 
 -- The plan was made for a request: in each such region it is the table's answer and change, by what
 -- was loaded at the copy.
@@ -59,7 +60,8 @@ pub record IsPlanFor (q : Asked) (plan : PlanOf) : Type 0 where
   pub of_key : IsOfKey q.body
   pub knows : Knows q.by plan.events plan.loaded.last
   pub is_mark : IsMark q.body plan.loaded.mark plan.events
-  pub plans : (region : Region) → SameKey (key_in q.body) (left plan.events plan.region) region → IsPlan plan.loaded.mark region plan.loaded.last q.body plan.planned
+  pub plans : (region : Region) → SameKey (key_in q.body) (left plan.events plan.region) region
+      → IsPlan plan.loaded.mark region plan.loaded.last q.body plan.planned
 
 -- it was made for some request
 abbrev pub IsSomePlan : PlanOf → Type 0
@@ -69,7 +71,7 @@ IsSomePlan plan = ∥ ((q : Asked) × IsPlanFor q plan) ∥₁
 
 -- since a region had counted so many requests its key, its safe point and its last collection
 -- stayed
-pub record StayedKey (region : Region) (number : ℕ) (copied : Numbers) (taken : ℕ) : Type 0 where
+pub record StayedKey (region : Region) (number : ℕ) (copied : RegionNumbers) (taken : ℕ) : Type 0 where
   pub key : number ≤ taken
   pub safe : copied.safe ≡ region.safe
   pub collected : copied.collected ≡ region.collected
@@ -78,17 +80,25 @@ pub record StayedKey (region : Region) (number : ℕ) (copied : Numbers) (taken 
 
 -- The region n, which had seen `had`, took a request with a plan whose minimum lay above each read:
 -- its event was recorded, and its answer is the table's, of what the region's own events had left.
-pub record Carried (bounds : List Key) (n : ℕ) (had : History) (loaded : ℕ) (planned : Planned) (g : Given) (a : Answer) : Type 0 where
+pub record Carried (bounds : List Key) (n : ℕ) (had : History) (loaded : ℕ) (planned : Plan) (g : Given)
+    (a : Answer) : Type 0 where
   pub marked : History
   pub seen : HasSeen bounds n had marked
   pub above : IsAbove planned.change marked
-  pub added : HasRecorded bounds n marked (Took record { region = n; body = g.request.body; loaded = loaded; answer = a }) g.events
+  pub added : HasRecorded bounds n marked (Took record {
+    region = n;
+    body = g.request.body;
+    loaded = loaded;
+    answer = a;
+  }) g.events
   pub least : AnswersFrom (max_ts marked) (left had n) loaded g.request.body a
 
 -- what comes of a plan where its key is as it was copied
-abbrev pub CarriesPlan : {J : Type 0} → List Key → ℕ → History → History → Asked → ℕ → Planned → Applied J → Type 0
-CarriesPlan bounds n had now q loaded planned (Done g) = (g.request ≡ q) × (now ≡ g.events) × IfSome g.answer (Carried bounds n had loaded planned g) × IfNone g.answer (HasSeen bounds n had now)
-CarriesPlan bounds n had now q loaded planned (Stale again) = (again ≡ q) × (IsAbove planned.change now → ⊥) × HasSeen bounds n had now
+abbrev pub CarriesPlan : {J : Type 0} → List Key → ℕ → History → History → Asked → ℕ → Plan → Applied J → Type 0
+CarriesPlan bounds n had now q loaded planned (Done g) = (g.request ≡ q) × (now ≡ g.events)
+    × IfSome g.answer (Carried bounds n had loaded planned g) × IfNone g.answer (HasSeen bounds n had now)
+CarriesPlan bounds n had now q loaded planned (Stale again) = (again ≡ q) × (IsAbove planned.change now → ⊥)
+    × HasSeen bounds n had now
 
 -- The region n, which had seen `had`, took a request with this plan: its key was as in the copy,
 -- and the minimum that the plan promises lay above each read; the answer is the table's, of what
@@ -109,5 +119,8 @@ pub record AppliedTo (bounds : List Key) (n : ℕ) (had : History) (plan : PlanO
 -- is the request again, its key is no longer as it was copied or a read has passed the minimum that
 -- the plan promises, and the region took nothing.
 abbrev pub ComesOf : {J : Type 0} → List Key → ℕ → History → History → Asked → PlanOf → Applied J → Type 0
-ComesOf bounds n had now q plan (Done g) = (g.request ≡ q) × (now ≡ g.events) × IfSome g.answer (AppliedTo bounds n had plan g) × IfNone g.answer (HasSeen bounds n had now)
-ComesOf bounds n had now q plan (Stale again) = (again ≡ q) × ((SameKey (key_in q.body) (left plan.events n) (left had n) → ⊥) ⊎ (IsAbove plan.planned.change now → ⊥)) × HasSeen bounds n had now
+ComesOf bounds n had now q plan (Done g) = (g.request ≡ q) × (now ≡ g.events)
+    × IfSome g.answer (AppliedTo bounds n had plan g) × IfNone g.answer (HasSeen bounds n had now)
+ComesOf bounds n had now q plan (Stale again) = (again ≡ q)
+    × ((SameKey (key_in q.body) (left plan.events n) (left had n) → ⊥) ⊎ (IsAbove plan.planned.change now → ⊥))
+    × HasSeen bounds n had now

@@ -17,4 +17,5 @@ region_of content records max_read = record {
 
 -- records that counted the same, and whose keys have the same numbers
 abbrev pub HasSameNumbers : {F : Type 0} → (F → Key → ℕ) → Records F → Records F → Type 0
-HasSameNumbers numbers before after = (after.taken ≡ before.taken) × ((k : Key) → numbers after.families k ≡ numbers before.families k)
+HasSameNumbers numbers before after = (after.taken ≡ before.taken)
+    × ((k : Key) → numbers after.families k ≡ numbers before.families k)

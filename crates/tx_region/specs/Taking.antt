@@ -33,7 +33,8 @@ IsMark body mark h = NeedsMark body → mark ≡ max_ts h
 
 -- The region n, which had seen `had`, learnt what the sender had seen, loaded the last number at
 -- `point`, and then, where it needs that, the greatest timestamp read; it then knew `marked`.
-pub record Loads (bounds : List Key) (n : ℕ) (had by : History) (body : Body) (loaded mark : ℕ) (marked : History) : Type 0 where
+pub record Loads (bounds : List Key) (n : ℕ) (had by : History) (body : Body) (loaded mark : ℕ)
+    (marked : History) : Type 0 where
   pub point : History
   pub here : HasSeen bounds n had point
   pub heard : Begins by point

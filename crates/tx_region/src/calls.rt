@@ -8,9 +8,9 @@ ghost use Rattle.tx_region.specs.Taking.{Answered};
 
 use crate::region::Region;
 use tx_cells::Families;
-use tx_journal::{Naming, Reply, Request};
+use tx_journal::{JournalId, Reply, Request};
 
-impl<J: Naming, F: Families> Region<J, F> {
+impl<J: JournalId, F: Families> Region<J, F> {
     /// Answers a Get.
     pub fn get(&mut self, request: Request<J>) -> Reply<J>
         requires is { IsGet request.body }

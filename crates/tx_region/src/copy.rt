@@ -15,7 +15,7 @@ pub enum KeyView {
 
 /// The safe point of a region, and the safe point of its last collection.
 #[derive(Clone, Copy, Debug)]
-pub struct Numbers {
+pub struct RegionNumbers {
     pub safe: Ts,
     pub collected: Ts,
 }

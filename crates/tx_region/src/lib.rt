@@ -14,7 +14,7 @@ mod region;
 mod routing;
 
 pub use applied::Applied;
-pub use copy::{KeyView, Loaded, Numbers};
+pub use copy::{KeyView, Loaded, RegionNumbers};
 pub use planning::is_of_key;
 pub use records::{Executed, Records};
 pub use region::{KeyCopy, Planned, Region};

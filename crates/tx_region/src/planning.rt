@@ -3,9 +3,9 @@ ghost use Rattle.std.specs.Prelude.{◌≡◌, ◌<◌, ◌↔◌, IsTrue};
 ghost use Rattle.tx_plan.specs.Cells.{Region};
 ghost use Rattle.tx_region.specs.Copies.{IsOfKey, key_in, LooksLike, IsPlan};
 
-use crate::copy::{KeyView, Loaded, Numbers};
+use crate::copy::{KeyView, Loaded, RegionNumbers};
 use tx_plan::{
-    Body, Planned, plan_batch_rollback, plan_check_secondary_locks, plan_check_txn_status,
+    Body, Plan, plan_batch_rollback, plan_check_secondary_locks, plan_check_txn_status,
     plan_commit, plan_get, plan_prewrite, plan_resolve_lock, plan_txn_heart_beat,
 };
 use tx_types::Key;
@@ -50,10 +50,11 @@ pub(crate) fn key_of(body: &Body) -> &Key
 /// What a region that looks like this copy makes of a request of one key, where its seat loaded
 /// this.
 #[inline(always)]
-pub(crate) fn plan(view: KeyView, numbers: &Numbers, loaded: &Loaded, body: &Body) -> Planned
+pub(crate) fn plan(view: KeyView, numbers: &RegionNumbers, loaded: &Loaded, body: &Body) -> Plan
     requires room { (loaded.now.last < u64.MAX) × (loaded.now.mark < u64.MAX) }
     requires seen { (region : Region) × LooksLike region body.now view numbers.now }
-    ensures { (region : Region) → LooksLike region body.now view numbers.now → IsPlan loaded.now.mark region loaded.now.last body.now result }
+    ensures { (region : Region) → LooksLike region body.now view numbers.now
+        → IsPlan loaded.now.mark region loaded.now.last body.now result }
 {
     let collected = numbers.collected;
     match (view, body) {

@@ -30,11 +30,11 @@ ghost use Rattle.tx_region.specs.Calls.{CarriesOut, Counts};
 ghost use Rattle.tx_region.specs.Copies.{IsOfKey, key_in, Sees, SeesTxn, SeesPrewrite, made, MayMake};
 ghost use Rattle.tx_region.specs.Planning.{StayedKey};
 
-use crate::copy::{KeyView, Numbers};
+use crate::copy::{KeyView, RegionNumbers};
 use std::alloc::Global;
-use tx_cells::{Families, Shown};
+use tx_cells::{Families, ShownKey};
 use tx_journal::AnswerWithLock;
-use tx_plan::{Answer, Body, KeyChange, Planned, PlannedAnswer, Prewrite};
+use tx_plan::{Answer, Body, KeyChange, Plan, PlannedAnswer, Prewrite};
 use tx_types::{Fault, Key, Mutation, Ts};
 
 /// What a command answered, and the timestamp that it read, if it read one.
@@ -94,10 +94,10 @@ impl<F: Families> Records<F> {
     }
 
     /// Its safe point, and the safe point of its last collection.
-    pub(crate) fn numbers(&self) -> Numbers
+    pub(crate) fn numbers(&self) -> RegionNumbers
         ensures { (result.safe ≡ self.now.safe) × (result.collected ≡ self.now.collected) }
     {
-        Numbers {
+        RegionNumbers {
             safe: self.safe,
             collected: self.collected,
         }
@@ -118,12 +118,12 @@ impl<F: Families> Records<F> {
     }
 
     /// What is shown of a key.
-    pub fn cells_of(&self, key: &Key) -> Result<Shown, Fault>
+    pub fn cells_of(&self, key: &Key) -> Result<ShownKey, Fault>
         ensures copies { IfOk result (λ copy. Copies ((region_of F.content self.now 0).cells key.now) copy) }
         ensures err { IfErr result (λ e. e ≡ Fault.OutOfMemory) }
     {
         let copy = self.families.cells(self.alloc, key)?;
-        Shown::new(self.alloc, copy)
+        ShownKey::new(self.alloc, copy)
     }
 
     // What a request of a transaction sees of its key.
@@ -137,7 +137,8 @@ impl<F: Families> Records<F> {
 
     // What a prewrite sees of its key.
     fn prewrite_view(&self, body: &Prewrite) -> Result<KeyView, Fault>
-        ensures ok { IfOk result (λ view. SeesPrewrite ((region_of F.content self.now 0).cells body.now.key) body.now view) }
+        ensures ok { IfOk result (λ view. SeesPrewrite ((region_of F.content self.now 0).cells body.now.key) body.now
+            view) }
         ensures err { IfErr result (λ e. e ≡ Fault.OutOfMemory) }
     {
         let view = self
@@ -149,7 +150,8 @@ impl<F: Families> Records<F> {
 
     // Whether a read at its start finds a value, where it inserts.
     fn has_value(&self, body: &Prewrite) -> Result<bool, Fault>
-        ensures ok { IfOk result (λ has. IsInsert body.now.mutation → IsTrue has ↔ HasValue ((region_of F.content self.now 0).cells body.now.key).write body.now.start) }
+        ensures ok { IfOk result (λ has. IsInsert body.now.mutation → IsTrue has
+            ↔ HasValue ((region_of F.content self.now 0).cells body.now.key).write body.now.start) }
         ensures err { IfErr result (λ e. e ≡ Fault.OutOfMemory) }
     {
         match body.mutation {
@@ -160,7 +162,8 @@ impl<F: Families> Records<F> {
 
     // Whether a read of the key at this timestamp finds a value.
     fn finds_value(&self, key: &Key, at: Ts) -> Result<bool, Fault>
-        ensures ok { IfOk result (λ has. IsTrue has ↔ HasValue ((region_of F.content self.now 0).cells key.now).write at) }
+        ensures ok { IfOk result (λ has. IsTrue has
+            ↔ HasValue ((region_of F.content self.now 0).cells key.now).write at) }
         ensures err { IfErr result (λ e. e ≡ Fault.OutOfMemory) }
     {
         let view = self.families.read(self.alloc, key, at)?;
@@ -194,9 +197,15 @@ impl<F: Families> Records<F> {
 
     /// Whether a key, the safe point and the last collection stayed since these numbers were
     /// copied, when so many requests were counted.
-    pub(crate) fn has_stayed(&self, key: &Key, copied: &Numbers, taken: u64) -> Result<bool, Fault>
+    pub(crate) fn has_stayed(
+        &self,
+        key: &Key,
+        copied: &RegionNumbers,
+        taken: u64,
+    ) -> Result<bool, Fault>
         requires { F.numbers self.now.families key.now ≤ self.now.taken }
-        ensures stayed { IfOk result (λ stayed. IsTrue stayed ↔ StayedKey (region_of F.content self.now 0) (F.numbers self.now.families key.now) copied.now taken) }
+        ensures stayed { IfOk result (λ stayed. IsTrue stayed
+            ↔ StayedKey (region_of F.content self.now 0) (F.numbers self.now.families key.now) copied.now taken) }
         ensures err { IfErr result (λ e. e ≡ Fault.OutOfMemory) }
     {
         if copied.safe != self.safe || copied.collected != self.collected {
@@ -212,7 +221,8 @@ impl<F: Families> Records<F> {
     /// The answer of a plan for this key, with what is told of the lock on it where the answer
     /// names that.
     pub(crate) fn fill_in(&self, key: &Key, answer: PlannedAnswer) -> Result<AnswerWithLock, Fault>
-        ensures answer { IfOk result (λ a. a ≡ answer_with (info_on ((region_of F.content self.now 0).cells key.now) key.now) answer) }
+        ensures answer { IfOk result (λ a. a ≡ answer_with
+            (info_on ((region_of F.content self.now 0).cells key.now) key.now) answer) }
         ensures err { IfErr result (λ e. e ≡ Fault.OutOfMemory) }
     {
         if !answer.names_lock() {
@@ -235,12 +245,14 @@ impl<F: Families> Records<F> {
     }
 
     // Carries out the plan of a read.
-    fn make_read(&self, key: &Key, planned: Planned) -> Result<Executed, Fault>
+    fn make_read(&self, key: &Key, planned: Plan) -> Result<Executed, Fault>
         requires { planned.change ≡ KeyChange.Nothing }
-        ensures ok { IfOk result (λ r. (n : ℕ) → CarriesOut (region_of F.content self.now n) key.now (changed ((region_of F.content self.now n).cells key.now) planned.change) planned r.answer r.read (region_of F.content self.now n)) }
+        ensures ok { IfOk result (λ r. (n : ℕ) → CarriesOut (region_of F.content self.now n) key.now
+            (changed ((region_of F.content self.now n).cells key.now) planned.change) planned r.answer r.read
+            (region_of F.content self.now n)) }
         ensures err { IfErr result (λ e. e ≡ Fault.OutOfMemory) }
     {
-        let Planned { answer, read, .. } = planned;
+        let Plan { answer, read, .. } = planned;
         Ok(Executed {
             answer: self.fill_in(key, answer)?,
             read,
@@ -249,9 +261,14 @@ impl<F: Families> Records<F> {
 
     // Puts the lock that the plan of a prewrite puts, if it puts one.
     fn put(&mut self, body: &Prewrite, change: KeyChange, number: u64) -> Result<(), Fault>
-        requires { IfSome (new_lock change) (λ new. CanPut ((region_of F.content self.old 0).cells body.now.key) body.now new) }
-        ensures ok { OnOk result ((n : ℕ) → region_of F.content self.new n ≡ with_cells (region_of F.content self.old n) body.now.key (after_put ((region_of F.content self.old n).cells body.now.key) body.now (new_lock change))) }
-        ensures notes { OnOk result (self.old.taken < number → NotesAll self.old.taken number (region_of F.content self.old 0).cells (F.numbers self.old.families) (region_of F.content self.new 0).cells (F.numbers self.new.families)) }
+        requires { IfSome (new_lock change) (λ new.
+            CanPut ((region_of F.content self.old 0).cells body.now.key) body.now new) }
+        ensures ok { OnOk result ((n : ℕ) → region_of F.content self.new n
+            ≡ with_cells (region_of F.content self.old n) body.now.key
+            (after_put ((region_of F.content self.old n).cells body.now.key) body.now (new_lock change))) }
+        ensures notes { OnOk result (self.old.taken < number
+            → NotesAll self.old.taken number (region_of F.content self.old 0).cells (F.numbers self.old.families)
+            (region_of F.content self.new 0).cells (F.numbers self.new.families)) }
         ensures taken { self.new.taken ≡ self.old.taken }
         ensures same { OnErr result (region_of F.content self.new ≡ region_of F.content self.old) }
         ensures same_numbers { OnErr result (HasSameNumbers F.numbers self.old self.new) }
@@ -264,16 +281,20 @@ impl<F: Families> Records<F> {
     }
 
     // Carries out the plan of a prewrite. `OutOfMemory` leaves all as it was.
-    fn make_prewrite(&mut self, body: &Prewrite, planned: Planned) -> Result<Executed, Fault>
-        requires { IfSome (new_lock planned.change) (λ new. CanPut ((region_of F.content self.old 0).cells body.now.key) body.now new) }
-        ensures ok { IfOk result (λ r. (n : ℕ) → CarriesOut (region_of F.content self.old n) body.now.key (after_put ((region_of F.content self.old n).cells body.now.key) body.now (new_lock planned.change)) planned r.answer r.read (region_of F.content self.new n)) }
+    fn make_prewrite(&mut self, body: &Prewrite, planned: Plan) -> Result<Executed, Fault>
+        requires { IfSome (new_lock planned.change)
+            (λ new. CanPut ((region_of F.content self.old 0).cells body.now.key) body.now new) }
+        ensures ok { IfOk result (λ r. (n : ℕ) → CarriesOut (region_of F.content self.old n) body.now.key
+            (after_put ((region_of F.content self.old n).cells body.now.key) body.now (new_lock planned.change)) planned
+            r.answer r.read (region_of F.content self.new n)) }
         ensures taken { OnOk result (self.new.taken ≡ self.old.taken + 1) }
-        ensures notes { OnOk result (NotesAll self.old.taken self.new.taken (region_of F.content self.old 0).cells (F.numbers self.old.families) (region_of F.content self.new 0).cells (F.numbers self.new.families)) }
+        ensures notes { OnOk result (NotesAll self.old.taken self.new.taken (region_of F.content self.old 0).cells
+            (F.numbers self.old.families) (region_of F.content self.new 0).cells (F.numbers self.new.families)) }
         ensures same { OnErr result (region_of F.content self.new ≡ region_of F.content self.old) }
         ensures same_numbers { OnErr result (HasSameNumbers F.numbers self.old self.new) }
         ensures err { IfErr result (λ e. e ≡ Fault.OutOfMemory) }
     {
-        let Planned {
+        let Plan {
             answer,
             change,
             read,
@@ -286,17 +307,20 @@ impl<F: Families> Records<F> {
     }
 
     // Carries out the plan of another request on its key. `OutOfMemory` leaves all as it was.
-    fn carry_out(&mut self, key: &Key, planned: Planned) -> Result<Executed, Fault>
+    fn carry_out(&mut self, key: &Key, planned: Plan) -> Result<Executed, Fault>
         requires applies { Applies ((region_of F.content self.old 0).cells key.now) planned.change }
         requires makes { Makes ((region_of F.content self.old 0).cells key.now) planned.change }
-        ensures ok { IfOk result (λ r. (n : ℕ) → CarriesOut (region_of F.content self.old n) key.now (changed ((region_of F.content self.old n).cells key.now) planned.change) planned r.answer r.read (region_of F.content self.new n)) }
+        ensures ok { IfOk result (λ r. (n : ℕ) → CarriesOut (region_of F.content self.old n) key.now
+            (changed ((region_of F.content self.old n).cells key.now) planned.change) planned r.answer r.read
+            (region_of F.content self.new n)) }
         ensures taken { OnOk result (self.new.taken ≡ self.old.taken + 1) }
-        ensures notes { OnOk result (NotesAll self.old.taken self.new.taken (region_of F.content self.old 0).cells (F.numbers self.old.families) (region_of F.content self.new 0).cells (F.numbers self.new.families)) }
+        ensures notes { OnOk result (NotesAll self.old.taken self.new.taken (region_of F.content self.old 0).cells
+            (F.numbers self.old.families) (region_of F.content self.new 0).cells (F.numbers self.new.families)) }
         ensures same { OnErr result (region_of F.content self.new ≡ region_of F.content self.old) }
         ensures same_numbers { OnErr result (HasSameNumbers F.numbers self.old self.new) }
         ensures err { IfErr result (λ e. e ≡ Fault.OutOfMemory) }
     {
-        let Planned {
+        let Plan {
             answer,
             change,
             read,
@@ -311,11 +335,15 @@ impl<F: Families> Records<F> {
     /// Carries out a plan for a request of a region that is as the plan takes for granted.
     /// `OutOfMemory` leaves all as it was.
     #[inline(always)]
-    pub(crate) fn make(&mut self, body: &Body, planned: Planned) -> Result<Executed, Fault>
+    pub(crate) fn make(&mut self, body: &Body, planned: Plan) -> Result<Executed, Fault>
         requires of_key { IsOfKey body.now }
         requires may { MayMake body.now ((region_of F.content self.old 0).cells (key_in body.now)) planned.change }
-        ensures ok { IfOk result (λ r. (n : ℕ) → CarriesOut (region_of F.content self.old n) (key_in body.now) (made body.now ((region_of F.content self.old n).cells (key_in body.now)) planned.change) planned r.answer r.read (region_of F.content self.new n)) }
-        ensures counts { IfOk result (λ r. Counts body.now self.old.taken (region_of F.content self.old 0).cells (F.numbers self.old.families) self.new.taken (region_of F.content self.new 0).cells (F.numbers self.new.families)) }
+        ensures ok { IfOk result (λ r. (n : ℕ) → CarriesOut (region_of F.content self.old n) (key_in body.now)
+            (made body.now ((region_of F.content self.old n).cells (key_in body.now)) planned.change) planned r.answer
+            r.read (region_of F.content self.new n)) }
+        ensures counts { IfOk result (λ r. Counts body.now self.old.taken (region_of F.content self.old 0).cells
+            (F.numbers self.old.families) self.new.taken (region_of F.content self.new 0).cells
+            (F.numbers self.new.families)) }
         ensures same { OnErr result (region_of F.content self.new ≡ region_of F.content self.old) }
         ensures same_numbers { OnErr result (HasSameNumbers F.numbers self.old self.new) }
         ensures err { IfErr result (λ e. e ≡ Fault.OutOfMemory) }

@@ -16,15 +16,15 @@ ghost use Rattle.tx_region.specs.Planning.{IsCopyFor, IsPlanFor, CarriesPlan, Co
 ghost use Rattle.tx_region.specs.Taking.{NeedsMark, IsMark, Loads, Knows, Answered};
 
 use crate::applied::Applied;
-use crate::copy::{KeyView, Loaded, Numbers};
+use crate::copy::{KeyView, Loaded, RegionNumbers};
 use crate::planning::{key_of, plan};
 use crate::records::{Executed, Records};
 use crate::routing::holds;
 use std::alloc::Global;
 use std::marker::{Brand, Model};
-use tx_cells::{Families, Shown};
+use tx_cells::{Families, ShownKey};
 use tx_core::{Answer, Body, SeatNo};
-use tx_journal::{Journal, Naming, Reply, Request, Said, Seat, Told};
+use tx_journal::{Journal, JournalId, Reply, Request, Seat, StepEvent, Told};
 use tx_plan::KeyChange;
 use tx_types::{Fault, Key, Mode, Ts};
 
@@ -32,7 +32,7 @@ use tx_types::{Fault, Key, Mode, Ts};
 /// changed: the answer can be planned of it while others have the region. It is known to be of that
 /// region, as it was after the events that it tells of.
 #[derive(Drop)]
-pub struct KeyCopy<J: Naming> {
+pub struct KeyCopy<J: JournalId> {
     /// Whose key it is.
     region: SeatNo,
     /// What the region had seen.
@@ -40,19 +40,25 @@ pub struct KeyCopy<J: Naming> {
     /// What the request sees of its key.
     view: KeyView,
     /// The region's safe point and that of its last collection.
-    numbers: Numbers,
+    numbers: RegionNumbers,
     /// How many requests the region had counted: a key whose number is greater was changed since.
     taken: u64,
     /// The last number and the greatest timestamp read, as the region loaded them.
     loaded: Loaded,
 }
 
-impl<J: Naming> Model for KeyCopy<J> {
+impl<J: JournalId> Model for KeyCopy<J> {
     ghost use Rattle.tx_region.specs.Planning.{Copied, AreOf};
 
     ghost Value = { Copied };
 
-    ghost view = { λ c. record { region = c.region; events = c.told; view = c.view; numbers = c.numbers; loaded = c.loaded } };
+    ghost view = { λ c. record {
+      region = c.region;
+      events = c.told;
+      view = c.view;
+      numbers = c.numbers;
+      loaded = c.loaded;
+    } };
 
     ghost invariant = { λ c. AreOf c.told c.region c.numbers c.taken c.loaded };
 }
@@ -60,32 +66,33 @@ impl<J: Naming> Model for KeyCopy<J> {
 /// What was planned of such a copy: the answer and the change of the case tables, for the copy and
 /// its request.
 #[derive(Drop)]
-pub struct Planned<J: Naming> {
+pub struct Planned<J: JournalId> {
     /// Whose key the copy was of.
     region: SeatNo,
     /// What the region had seen.
     told: Told<J>,
     /// The answer, the change, and the timestamp that counts as read.
-    planned: tx_plan::Planned,
+    planned: tx_plan::Plan,
     /// The region's safe point and that of its last collection, as they were copied.
-    numbers: Numbers,
+    numbers: RegionNumbers,
     /// How many requests the region had counted then.
     taken: u64,
     /// What the region had loaded then.
     loaded: Loaded,
 }
 
-impl<J: Naming> Model for Planned<J> {
+impl<J: JournalId> Model for Planned<J> {
     ghost use Rattle.tx_region.specs.Planning.{PlanOf, AreOf, IsSomePlan};
 
     ghost Value = { PlanOf };
 
     ghost view = { λ p. record { region = p.region; events = p.told; loaded = p.loaded; planned = p.planned } };
 
-    ghost invariant = { λ p. AreOf p.told p.region p.numbers p.taken p.loaded × IsSomePlan (record { region = p.region; events = p.told; loaded = p.loaded; planned = p.planned }) };
+    ghost invariant = { λ p. AreOf p.told p.region p.numbers p.taken p.loaded
+        × IsSomePlan (record { region = p.region; events = p.told; loaded = p.loaded; planned = p.planned }) };
 }
 
-impl<J: Naming> KeyCopy<J> {
+impl<J: JournalId> KeyCopy<J> {
     /// What the region makes of the request for which the copy was made.
     pub fn plan(self, request: &Request<J>) -> Planned<J>
         requires { IsCopyFor request.now self }
@@ -114,7 +121,7 @@ impl<J: Naming> KeyCopy<J> {
 
 /// A region of the journal `J`. Contracts see its seat: its number, its ticks and the events that
 /// it knows.
-pub struct Region<J: Naming, F: Families> {
+pub struct Region<J: JournalId, F: Families> {
     /// The keys between the regions, by which it tells what it holds.
     journal: Journal<J>,
     /// Records each answer as an event. Its number is the region's.
@@ -123,7 +130,7 @@ pub struct Region<J: Naming, F: Families> {
     records: Records<F>,
 }
 
-impl<J: Naming, F: Families> Model for Region<J, F> {
+impl<J: JournalId, F: Families> Model for Region<J, F> {
     ghost use Rattle.tx_journal.specs.Known.{Known};
     ghost use Rattle.tx_region.specs.Regions.{region_of};
     ghost use Rattle.tx_region.specs.Taking.{Keeps};
@@ -132,7 +139,8 @@ impl<J: Naming, F: Families> Model for Region<J, F> {
 
     ghost view = { λ r. r.seat };
 
-    ghost invariant = { λ r. Keeps J.bounds r.seat (region_of F.content r.records) r.records.taken (F.numbers r.records.families) };
+    ghost invariant = { λ r. Keeps J.bounds r.seat (region_of F.content r.records) r.records.taken
+        (F.numbers r.records.families) };
 }
 
 // Whether the answer to a request may look at the greatest timestamp that was read.
@@ -157,7 +165,7 @@ fn needs_mark(body: &Body) -> bool
 
 // The greatest timestamp that was read, where the answer to a request may look at it: the seat then
 // knows the whole history.
-fn load_mark<J: Naming>(seat: &mut Seat<J>, body: &Body) -> Ts
+fn load_mark<J: JournalId>(seat: &mut Seat<J>, body: &Body) -> Ts
     ensures same { (seat.new.seat ≡ seat.old.seat) × (seat.new.ticks ≡ seat.old.ticks) }
     ensures seen { HasSeen J.bounds seat.old.seat seat.old.events seat.new.events }
     ensures mark { IsMark body.now result seat.new.events }
@@ -190,7 +198,7 @@ fn promised(change: &KeyChange) -> Option<Ts>
 
 // Whether the minimum that a change promises lies above each read: where it promises one, the seat
 // then knows the whole history.
-fn lies_above<J: Naming>(seat: &mut Seat<J>, change: &KeyChange) -> bool
+fn lies_above<J: JournalId>(seat: &mut Seat<J>, change: &KeyChange) -> bool
     ensures same { (seat.new.seat ≡ seat.old.seat) × (seat.new.ticks ≡ seat.old.ticks) }
     ensures seen { HasSeen J.bounds seat.old.seat seat.old.events seat.new.events }
     ensures above { IsTrue result ↔ IsAbove change.now seat.new.events }
@@ -206,7 +214,7 @@ fn lies_above<J: Naming>(seat: &mut Seat<J>, change: &KeyChange) -> bool
 // Records the event that the call picks, which reads at `at`. Where nothing above that was read
 // yet, it raises the greatest timestamp read; a read at or below that, as most are, only looks at
 // it.
-fn record_read<J: Naming, E: Said>(seat: &mut Seat<J>, at: Ts)
+fn record_read<J: JournalId, E: StepEvent>(seat: &mut Seat<J>, at: Ts)
     requires quiet { DrawsNothing E.event }
     requires right { MayRecord J.bounds seat.old.seat seat.old.events E.event }
     requires read { max_ts (E.event ∷ seat.old.events) ≡ max (max_ts seat.old.events) at }
@@ -223,14 +231,19 @@ fn record_read<J: Naming, E: Said>(seat: &mut Seat<J>, at: Ts)
 // Records the event that the call picks: the region of this seat, which loaded `loaded`, answered a
 // request so, and read at `read`, if it read. The event of a read raises the greatest timestamp
 // read.
-fn record_event<J: Naming, E: Said>(
+fn record_event<J: JournalId, E: StepEvent>(
     seat: &mut Seat<J>,
     loaded: Ts,
     body: &Body,
     answer: &Answer,
     read: Option<Ts>,
 )
-    requires is { E.event ≡ events.Took record { region = seat.old.seat; body = body.now; loaded = loaded; answer = answer.now } }
+    requires is { E.event ≡ events.Took record {
+      region = seat.old.seat;
+      body = body.now;
+      loaded = loaded;
+      answer = answer.now;
+    } }
     requires right { MayRecord J.bounds seat.old.seat seat.old.events E.event }
     requires read { max_ts (E.event ∷ seat.old.events) ≡ read_upto read (max_ts seat.old.events) }
     ensures same { (seat.new.seat ≡ seat.old.seat) × (seat.new.ticks ≡ seat.old.ticks) }
@@ -247,17 +260,32 @@ fn record_event<J: Naming, E: Said>(
 
 // Records that the region of this seat, which loaded `loaded`, answered a request so, and read at
 // `read`, if it read.
-fn record_taken<J: Naming>(
+fn record_taken<J: JournalId>(
     seat: &mut Seat<J>,
     loaded: Ts,
     body: &Body,
     answer: &Answer,
     read: Option<Ts>,
 )
-    requires right { MayRecord J.bounds seat.old.seat seat.old.events (events.Took record { region = seat.old.seat; body = body.now; loaded = loaded; answer = answer.now }) }
-    requires read { max_ts (events.Took record { region = seat.old.seat; body = body.now; loaded = loaded; answer = answer.now } ∷ seat.old.events) ≡ read_upto read (max_ts seat.old.events) }
+    requires right { MayRecord J.bounds seat.old.seat seat.old.events (events.Took record {
+      region = seat.old.seat;
+      body = body.now;
+      loaded = loaded;
+      answer = answer.now;
+    }) }
+    requires read { max_ts (events.Took record {
+      region = seat.old.seat;
+      body = body.now;
+      loaded = loaded;
+      answer = answer.now;
+    } ∷ seat.old.events) ≡ read_upto read (max_ts seat.old.events) }
     ensures same { (seat.new.seat ≡ seat.old.seat) × (seat.new.ticks ≡ seat.old.ticks) }
-    ensures added { HasRecorded J.bounds seat.old.seat seat.old.events (events.Took record { region = seat.old.seat; body = body.now; loaded = loaded; answer = answer.now }) seat.new.events }
+    ensures added { HasRecorded J.bounds seat.old.seat seat.old.events (events.Took record {
+      region = seat.old.seat;
+      body = body.now;
+      loaded = loaded;
+      answer = answer.now;
+    }) seat.new.events }
 {
     record_event::<J, Brand>(seat, loaded, body, answer, read);
 }
@@ -265,20 +293,35 @@ fn record_taken<J: Naming>(
 // Records that the region of this seat, which loaded `loaded`, answered a request so, and replies
 // it.
 #[inline(always)]
-fn reply_done<J: Naming>(
+fn reply_done<J: JournalId>(
     seat: &mut Seat<J>,
     request: Request<J>,
     loaded: Ts,
     done: Executed,
 ) -> Reply<J>
-    requires right { MayRecord J.bounds seat.old.seat seat.old.events (events.Took record { region = seat.old.seat; body = request.body; loaded = loaded; answer = done.answer }) }
-    requires read { max_ts (events.Took record { region = seat.old.seat; body = request.body; loaded = loaded; answer = done.answer } ∷ seat.old.events) ≡ read_upto done.read (max_ts seat.old.events) }
+    requires right { MayRecord J.bounds seat.old.seat seat.old.events (events.Took record {
+      region = seat.old.seat;
+      body = request.body;
+      loaded = loaded;
+      answer = done.answer;
+    }) }
+    requires read { max_ts (events.Took record {
+      region = seat.old.seat;
+      body = request.body;
+      loaded = loaded;
+      answer = done.answer;
+    } ∷ seat.old.events) ≡ read_upto done.read (max_ts seat.old.events) }
     requires knows { Knows request.by seat.old.events loaded }
     ensures request { result.request ≡ request }
     ensures same { (seat.new.seat ≡ seat.old.seat) × (seat.new.ticks ≡ seat.old.ticks) }
     ensures told { seat.new.events ≡ result.events }
     ensures answer { result.answer ≡ Some done.answer }
-    ensures added { HasRecorded J.bounds seat.old.seat seat.old.events (events.Took record { region = seat.old.seat; body = request.body; loaded = loaded; answer = done.answer }) seat.new.events }
+    ensures added { HasRecorded J.bounds seat.old.seat seat.old.events (events.Took record {
+      region = seat.old.seat;
+      body = request.body;
+      loaded = loaded;
+      answer = done.answer;
+    }) seat.new.events }
 {
     let Executed { answer, read } = done;
     record_taken(seat, loaded, request.body(), answer.answer(), read);
@@ -286,7 +329,7 @@ fn reply_done<J: Naming>(
     Reply::new(request, Some(answer), told)
 }
 
-impl<J: Naming, F: Families> Region<J, F> {
+impl<J: JournalId, F: Families> Region<J, F> {
     /// A region in which nothing happened, with the next seat of its journal.
     pub fn new(alloc: Global, journal: Journal<J>, seat: Seat<J>, families: F) -> Region<J, F>
         requires seat { (seat.events ≡ []) × (seat.seat ≤ length J.bounds) }
@@ -316,7 +359,7 @@ impl<J: Naming, F: Families> Region<J, F> {
     }
 
     /// What is shown of a key.
-    pub fn cells_of(&self, key: &Key) -> Result<Shown, Fault>
+    pub fn cells_of(&self, key: &Key) -> Result<ShownKey, Fault>
         ensures copies { IfOk result (λ copy. Copies ((left self.now.events self.now.seat).cells key.now) copy) }
         ensures err { IfErr result (λ e. e ≡ Fault.OutOfMemory) }
     {
@@ -364,7 +407,8 @@ impl<J: Naming, F: Families> Region<J, F> {
         ensures request { request.new ≡ request.old }
         ensures same { (self.new.seat ≡ self.old.seat) × (self.new.ticks ≡ self.old.ticks) }
         ensures seen { HasSeen J.bounds self.old.seat self.old.events self.new.events }
-        ensures loads { Loads J.bounds self.old.seat self.old.events request.new.by request.new.body result.last result.mark self.new.events }
+        ensures loads { Loads J.bounds self.old.seat self.old.events request.new.by request.new.body result.last
+            result.mark self.new.events }
     {
         let heard = request.tell(&self.seat);
         self.seat.learn(heard);
@@ -404,7 +448,8 @@ impl<J: Naming, F: Families> Region<J, F> {
         ensures request { request.new ≡ request.old }
         ensures same { (self.new.seat ≡ self.old.seat) × (self.new.ticks ≡ self.old.ticks) }
         ensures seen { HasSeen J.bounds self.old.seat self.old.events self.new.events }
-        ensures copy { IfOk result (λ copy. IsCopyFor request.old copy × (copy.region ≡ self.new.seat) × (copy.events ≡ self.new.events)) }
+        ensures copy { IfOk result (λ copy. IsCopyFor request.old copy × (copy.region ≡ self.new.seat)
+            × (copy.events ≡ self.new.events)) }
         ensures err { IfErr result (λ e. e ≡ Fault.OutOfMemory) }
     {
         let loaded = self.load(request);
@@ -435,16 +480,18 @@ impl<J: Naming, F: Families> Region<J, F> {
     fn carry_plan(
         &mut self,
         request: Request<J>,
-        planned: tx_plan::Planned,
+        planned: tx_plan::Plan,
         loaded: &Loaded,
     ) -> Applied<J>
         requires holds { Holds J.bounds self.old.seat request.body }
         requires of_key { IsOfKey request.body }
         requires knows { Knows request.by self.old.events loaded.now.last }
         requires mark { NeedsMark request.body → loaded.now.mark ≤ max_ts self.old.events }
-        requires plan { IsPlan loaded.now.mark (left self.old.events self.old.seat) loaded.now.last request.body planned }
+        requires plan { IsPlan loaded.now.mark (left self.old.events self.old.seat) loaded.now.last request.body
+            planned }
         ensures same { (self.new.seat ≡ self.old.seat) × (self.new.ticks ≡ self.old.ticks) }
-        ensures comes { CarriesPlan J.bounds self.old.seat self.old.events self.new.events request loaded.now.last planned result }
+        ensures comes { CarriesPlan J.bounds self.old.seat self.old.events self.new.events request loaded.now.last
+            planned result }
     {
         if !self.is_above(&planned.change) {
             return Applied::Stale(request);
@@ -490,7 +537,7 @@ impl<J: Naming, F: Families> Region<J, F> {
     }
 }
 
-impl<J: Naming, F: Families + Drop> Drop for Region<J, F> {
+impl<J: JournalId, F: Families + Drop> Drop for Region<J, F> {
     fn drop(self) {
         let Self {
             journal: _,

@@ -7,7 +7,7 @@ ghost use Rattle.tx_types.specs.Keys.{AreRising};
 ghost use Rattle.tx_region.specs.KeyFronts.{AreBytes, AreFronts, front};
 
 use std::alloc::Global;
-use tx_plan::{Body, Scan};
+use tx_plan::{Body, Scan, Target};
 use tx_types::{Fault, Key};
 
 /// The number of the region of a key, where these are the keys between the regions: so many of them
@@ -41,28 +41,28 @@ pub fn fronts(alloc: Global, bounds: &[Key]) -> Result<Vec<u64>, Fault>
     ensures err { IfErr result (λ e. e ≡ OutOfMemory) }
 {
     let mut fronts = Vec::with_capacity(alloc, bounds.len())?;
-    for place in 0..bounds.len() {
-        fronts.push_reserved(front_of(&bounds[place]));
+    for index in 0..bounds.len() {
+        fronts.push_reserved(front_of(&bounds[index]));
     }
     Ok(fronts)
 }
 
-// Whether a number in a place is greater than this front, or there is none.
-fn is_past(fronts: &[u64], place: usize, front: u64) -> bool
-    ensures { IsTrue result → place < length fronts.now → front < slice_index_or fronts.now place 0 }
+// Whether a number at an index is greater than this front, or there is none.
+fn is_past(fronts: &[u64], index: usize, front: u64) -> bool
+    ensures { IsTrue result → index < length fronts.now → front < slice_index_or fronts.now index 0 }
 {
-    match fronts.get(place) {
+    match fronts.get(index) {
         Some(next) => front < *next,
         None => true,
     }
 }
 
-// Whether the number before a place is smaller than this front, or there is none.
-fn is_reached(fronts: &[u64], place: usize, front: u64) -> bool
-    requires { place ≤ length fronts.now }
-    ensures { IsTrue result → 0 < place → slice_index_or fronts.now (place - 1) 0 < front }
+// Whether the number before an index is smaller than this front, or there is none.
+fn is_reached(fronts: &[u64], index: usize, front: u64) -> bool
+    requires { index ≤ length fronts.now }
+    ensures { IsTrue result → 0 < index → slice_index_or fronts.now (index - 1) 0 < front }
 {
-    place == 0 || fronts[place - 1] < front
+    index == 0 || fronts[index - 1] < front
 }
 
 /// As `route`, with the fronts of the keys between the regions: mostly they alone tell.
@@ -72,9 +72,9 @@ pub fn route_by(fronts: &[u64], bounds: &[Key], key: &Key) -> usize
     ensures { result ≡ route bounds.now key.now }
 {
     let front = front_of(key);
-    let place = fronts.partition_point(|other| *other < front);
-    if is_past(fronts, place, front) && is_reached(fronts, place, front) {
-        place
+    let index = fronts.partition_point(|other| *other < front);
+    if is_past(fronts, index, front) && is_reached(fronts, index, front) {
+        index
     } else {
         route(bounds, key)
     }
@@ -104,19 +104,9 @@ pub(crate) fn holds(bounds: &[Key], number: u32, body: &Body) -> bool
     requires { AreRising bounds.now }
     ensures { IsTrue result ↔ Holds bounds.now number body.now }
 {
-    let key = match body {
-        Body::Scan(body) => return is_within(bounds, number as usize, body.asked()),
-        Body::RaiseSafe(body) => return body.region.get() == number,
-        Body::LocksBelow(body) => return body.region.get() == number,
-        Body::Collect(body) => return body.region.get() == number,
-        Body::Get(body) => &body.key,
-        Body::Prewrite(body) => &body.asked().key,
-        Body::Commit(body) => &body.key,
-        Body::BatchRollback(body) => &body.key,
-        Body::TxnHeartBeat(body) => &body.key,
-        Body::CheckTxnStatus(body) => &body.key,
-        Body::CheckSecondaryLocks(body) => &body.key,
-        Body::ResolveLock(body) => &body.key,
-    };
-    route(bounds, key) == number as usize
+    match body.target() {
+        Target::Key(key) => route(bounds, key) == number as usize,
+        Target::Range(scan) => is_within(bounds, number as usize, scan),
+        Target::Region(region) => region.get() == number,
+    }
 }

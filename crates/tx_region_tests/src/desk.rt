@@ -7,7 +7,7 @@ use std::alloc::Global;
 use std::mem::replace;
 use tx_cells::Fresh;
 use tx_core::{Body, Collect, RaiseSafe, RegionNo};
-use tx_journal::{Journal, Lost, Naming, Reply, Request, Seat, Sender};
+use tx_journal::{Journal, JournalId, Lost, Reply, Request, Seat, Sender};
 use tx_region::{Applied, Region, is_of_key};
 use tx_types::{Fault, Key, Ts};
 
@@ -27,7 +27,7 @@ pub enum Way {
 
 /// The region, what becomes of the next requests, those that are held, what the last of them was
 /// answered, how many plans were stale, and how often a copy was refused memory.
-pub struct Desk<J: Naming, F: Fresh> {
+pub struct Desk<J: JournalId, F: Fresh> {
     journal: Journal<J>,
     region: Region<J, F>,
     seat: Seat<J>,
@@ -38,7 +38,7 @@ pub struct Desk<J: Naming, F: Fresh> {
     refused: u32,
 }
 
-impl<J: Naming, F: Fresh> Drop for Desk<J, F> {
+impl<J: JournalId, F: Fresh> Drop for Desk<J, F> {
     fn drop(self) {
         let Self {
             journal: _,
@@ -53,7 +53,7 @@ impl<J: Naming, F: Fresh> Drop for Desk<J, F> {
     }
 }
 
-impl<J: Naming, F: Fresh> Desk<J, F> {
+impl<J: JournalId, F: Fresh> Desk<J, F> {
     /// A region in which nothing happened, and a seat for what no session asks.
     pub fn new(alloc: Global, journal: Journal<J>, of: Seat<J>, seat: Seat<J>) -> Option<Desk<J, F>>
         requires { (of.events ≡ []) × (of.seat ≤ length J.bounds) }
@@ -158,7 +158,7 @@ impl<J: Naming, F: Fresh> Desk<J, F> {
     }
 }
 
-impl<J: Naming, F: Fresh> Sender<Request<J>, Reply<J>> for Desk<J, F> {
+impl<J: JournalId, F: Fresh> Sender<Request<J>, Reply<J>> for Desk<J, F> {
     ghost use Rattle.std.specs.Prelude.{◌≡◌, IfOk};
 
     ghost fits = { λ s q. Unit {0} };

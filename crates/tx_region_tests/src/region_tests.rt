@@ -8,7 +8,7 @@ use std::marker::Brand;
 use std::test::Fail;
 use tx_cells::Fresh;
 use tx_core::Body;
-use tx_journal::{Naming, Opened, Reply, Request, Seat};
+use tx_journal::{JournalId, Opened, Reply, Request, Seat};
 use tx_nested::NestedCells;
 use tx_region::Region;
 use tx_types::Fault;
@@ -23,7 +23,7 @@ const ROWS: [(Ask, Short); 5] = [
 ];
 
 // What a session hears of a reply.
-fn hear<J: Naming>(session: &mut Seat<J>, reply: Reply<J>) -> Short {
+fn hear<J: JournalId>(session: &mut Seat<J>, reply: Reply<J>) -> Short {
     let (request, answer, told) = reply.into_parts();
     drop(request);
     session.learn(told);
@@ -31,7 +31,11 @@ fn hear<J: Naming>(session: &mut Seat<J>, reply: Reply<J>) -> Short {
 }
 
 // What a region answers to a session.
-fn ask<J: Naming, F: Fresh>(region: &mut Region<J, F>, session: &mut Seat<J>, asked: Ask) -> Short {
+fn ask<J: JournalId, F: Fresh>(
+    region: &mut Region<J, F>,
+    session: &mut Seat<J>,
+    asked: Ask,
+) -> Short {
     let body = of_region(asked);
     if !region.holds(&body) {
         return (Word::Refused, 0, 0);
@@ -40,7 +44,7 @@ fn ask<J: Naming, F: Fresh>(region: &mut Region<J, F>, session: &mut Seat<J>, as
     hear(session, region.take(request))
 }
 
-fn answers_all<J: Naming, F: Fresh>(region: &mut Region<J, F>, session: &mut Seat<J>) -> bool {
+fn answers_all<J: JournalId, F: Fresh>(region: &mut Region<J, F>, session: &mut Seat<J>) -> bool {
     for (asked, wanted) in ROWS {
         if !is(ask(region, session, asked), wanted) {
             return false;
@@ -50,7 +54,7 @@ fn answers_all<J: Naming, F: Fresh>(region: &mut Region<J, F>, session: &mut Sea
 }
 
 // Whether a region that learns what a session knows shows nothing on a key.
-fn shows_nothing<J: Naming, F: Fresh>(
+fn shows_nothing<J: JournalId, F: Fresh>(
     region: &mut Region<J, F>,
     session: &mut Seat<J>,
     alloc: Global,
@@ -65,7 +69,7 @@ fn shows_nothing<J: Naming, F: Fresh>(
 }
 
 // Of the two seats the first is the region's.
-fn answers<J: Naming, F: Fresh>(alloc: Global, opened: Opened) -> bool
+fn answers<J: JournalId, F: Fresh>(alloc: Global, opened: Opened) -> bool
     requires name { (opened.table ≡ J.table) × (opened.bounds ≡ J.bounds) × (opened.seats ≡ J.seats) }
     requires two { J.seats ≡ 2 }
 {

@@ -2,8 +2,8 @@
 use Rattle.std.specs.Prelude.{ℕ, List, codes, map}
 use Rattle.serde_json.specs.Data.{Data, Items, no_items, item, number, unsigned, string, array}
 use Rattle.serde_json.specs.View.{items_of}
-use Rattle.tx_types.specs.declared.mutation.Mode.TheVariants.{TwoPhase, Async}
 use Rattle.tx_types.specs.declared.lock.LockInfo.{LockInfo}
+use Rattle.tx_types.specs.Locks.{async_min}
 use Rattle.tx_plan.specs.declared.answer.Answer.{Answer}
 use Rattle.tx_plan.specs.declared.answer.Answer.TheVariants as answer
 use Rattle.tx_core.specs.declared.event.Outcome.{Outcome}
@@ -14,8 +14,8 @@ use Rattle.tx_client.specs.declared.resolved.Status.{Status as StatusOf}
 use Rattle.tx_client.specs.declared.resolved.Status.TheVariants as status
 use Rattle.tx_client.specs.declared.resolved.WaitCause.{WaitCause}
 use Rattle.tx_client.specs.declared.resolved.WaitCause.TheVariants as wait
-use Rattle.tx_reply.specs.declared.reply.Reply.{Reply}
-use Rattle.tx_reply.specs.declared.reply.Reply.TheVariants.{Regions, Start, Fine, Done, Drawn, Ended, Answered, Lost, Last, Status, Versions, Collected, OracleSpent, OutOfMemory, KeyLength, ValueLength, TooManyKeys, AlreadyExists}
+use Rattle.tx_reply.specs.declared.reply.ScriptReply.{ScriptReply}
+use Rattle.tx_reply.specs.declared.reply.ScriptReply.TheVariants.{Regions, Start, Fine, Done, Drawn, Ended, Answered, Lost, Last, Status, Versions, Collected, OracleSpent, OutOfMemory, KeyLength, ValueLength, TooManyKeys, AlreadyExists}
 use Rattle.tx_text.specs.Texts.{text_of}
 use Rattle.tx_text.specs.Members.{alone, with_number, row_data}
 use Rattle.tx_reply.specs.Words.{mode_word}
@@ -30,10 +30,6 @@ lock_fields info = item (text_of info.key) (item (number (unsigned info.start)) 
 abbrev pub lock_words : List ℕ → LockInfo → Items
 lock_words word info = item (string word) (lock_fields info)
 
--- the minimum that is told of a lock: 0 of a two-phase one
-abbrev pub told_minimum : LockInfo → ℕ
-told_minimum info = elim info.mode [ TwoPhase ↦ 0 | Async ↦ info.min ]
-
 -- the words of a store's answer: what was found or done, or the refusal's number and fields. What
 -- no step asks for has none
 abbrev pub answer_words : Answer → Items
@@ -45,9 +41,10 @@ answer_words (answer.Committed c) = with_number (codes "committed") c
 answer_words answer.RolledBack = alone (codes "rolled-back")
 answer_words (answer.Ttl ttl) = with_number (codes "ttl") ttl
 answer_words answer.Missing = alone (codes "missing")
-answer_words (answer.Locked info) = with_number (codes "locked") (told_minimum info)
+answer_words (answer.Locked info) = with_number (codes "locked") (async_min info.mode info.min)
 answer_words (answer.KeyIsLocked info) = lock_words (codes "E1") info
-answer_words (answer.WriteConflict start c) = item (string (codes "E2")) (item (number (unsigned start)) (item (number (unsigned c)) no_items))
+answer_words (answer.WriteConflict start c) = item (string (codes "E2"))
+    (item (number (unsigned start)) (item (number (unsigned c)) no_items))
 answer_words answer.AlreadyRolledBack = alone (codes "E3")
 answer_words (answer.AlreadyCommitted c) = with_number (codes "E4") c
 answer_words (answer.CommitTsExpired min) = with_number (codes "E5") min
@@ -87,10 +84,11 @@ status_words (status.Waiting c) = item (string (codes "waiting")) (item (string 
 
 -- how many write records, and how many values of the `default` family, a collection dropped
 abbrev pub collected_words : ℕ → ℕ → Items
-collected_words records values = item (string (codes "collected")) (item (number (unsigned records)) (item (number (unsigned values)) no_items))
+collected_words records values = item (string (codes "collected"))
+    (item (number (unsigned records)) (item (number (unsigned values)) no_items))
 
 -- the words of a reply
-abbrev pub reply_words : Reply → Items
+abbrev pub reply_words : ScriptReply → Items
 reply_words (Regions n) = with_number (codes "regions") n
 reply_words (Start t) = with_number (codes "start") t
 reply_words Fine = alone (codes "ok")

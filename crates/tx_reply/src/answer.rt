@@ -1,14 +1,14 @@
 //! What a reply line says of a region's answer.
 ghost use Rattle.std.specs.Prelude.{◌≡◌, ◌++◌, OnOk};
 ghost use Rattle.serde_json.specs.Data.{item, no_items, string};
-ghost use Rattle.tx_reply.specs.Replies.{answer_words, lock_fields, told_minimum};
+ghost use Rattle.tx_reply.specs.Replies.{answer_words, lock_fields};
 ghost use Rattle.tx_text.specs.Texts.{members_text};
 ghost use Rattle.tx_reply.specs.Words.{mode_word};
 
 use std::alloc::AllocError;
 use tx_core::Answer;
 use tx_text::{Rows, put_list, put_number, put_stamped, put_text};
-use tx_types::{LockInfo, Mode, Ts};
+use tx_types::{LockInfo, Mode};
 
 /// Appends a mode, with a comma before it.
 #[tactic(auto, unfolding(json::specs::Print::escape_byte))]
@@ -41,16 +41,6 @@ fn put_locked(out: &mut Vec<u8>, word: &[u8], info: &LockInfo) -> Result<(), All
     put_lock(out, info)
 }
 
-// The minimum that is told of a lock.
-fn told_minimum(info: &LockInfo) -> Ts
-    ensures { result ≡ told_minimum info.now }
-{
-    match info.facts().mode {
-        Mode::TwoPhase => Ts::ZERO,
-        Mode::Async => info.facts().min,
-    }
-}
-
 /// Appends the words of an answer, each with a comma before it. What no step asks for has none.
 #[tactic(auto, unfolding(json::specs::Print::escape_byte))]
 pub(crate) fn put_answer(out: &mut Vec<u8>, answer: &Answer) -> Result<(), AllocError>
@@ -71,7 +61,7 @@ pub(crate) fn put_answer(out: &mut Vec<u8>, answer: &Answer) -> Result<(), Alloc
         Answer::RolledBack => out.extend_from_slice(b",\"rolled-back\""),
         Answer::Ttl(ttl) => put_stamped(out, b",\"ttl\"", u64::from(*ttl)),
         Answer::Missing => out.extend_from_slice(b",\"missing\""),
-        Answer::Locked(info) => put_stamped(out, b",\"locked\"", told_minimum(info).get()),
+        Answer::Locked(info) => put_stamped(out, b",\"locked\"", info.facts().async_min().get()),
         Answer::KeyIsLocked(info) => put_locked(out, b",\"E1\"", info),
         Answer::WriteConflict { start, commit } => {
             put_stamped(out, b",\"E2\"", start.get())?;

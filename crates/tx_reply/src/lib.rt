@@ -7,4 +7,4 @@ mod reply;
 mod status;
 mod versions;
 
-pub use reply::{REFUSAL_BYTES, Reply, put_reply};
+pub use reply::{REFUSAL_BYTES, ScriptReply, put_reply};

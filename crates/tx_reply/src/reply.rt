@@ -9,7 +9,7 @@ use crate::answer::put_answer;
 use crate::status::put_status;
 use crate::versions::put_copy;
 use std::alloc::AllocError;
-use tx_cells::Shown;
+use tx_cells::ShownKey;
 use tx_client::Status;
 use tx_core::{Answer, Outcome, UnknownCause};
 use tx_text::{put_digits, put_end, put_number, put_stamped};
@@ -17,7 +17,7 @@ use tx_types::Ts;
 
 /// What a step answers.
 #[derive(Debug, Drop)]
-pub enum Reply {
+pub enum ScriptReply {
     /// How many regions there are.
     Regions(usize),
     Start(Ts),
@@ -35,7 +35,7 @@ pub enum Reply {
     /// What became of the transaction of a lock that was met.
     Status(Status),
     /// What is shown of a key.
-    Versions(Shown),
+    Versions(ShownKey),
     /// How many write records, and how many values of the `default` family, a collection of all
     /// regions dropped.
     Collected { records: u64, values: u64 },
@@ -80,37 +80,37 @@ fn put_collected(out: &mut Vec<u8>, records: u64, values: u64) -> Result<(), All
 }
 
 #[tactic(auto, unfolding(json::specs::Print::escape_byte))]
-fn put_words(out: &mut Vec<u8>, reply: &Reply) -> Result<(), AllocError>
+fn put_words(out: &mut Vec<u8>, reply: &ScriptReply) -> Result<(), AllocError>
     ensures { OnOk result (out.new.items ≡ out.old.items ++ members_text (reply_words reply.now)) }
 {
     match reply {
-        Reply::Regions(count) => put_stamped(out, b",\"regions\"", *count as u64),
-        Reply::Start(start) => put_stamped(out, b",\"start\"", start.get()),
-        Reply::Fine => out.extend_from_slice(b",\"ok\""),
-        Reply::Done => out.extend_from_slice(b",\"done\""),
-        Reply::Drawn(commit) => put_stamped(out, b",\"drawn\"", commit.get()),
-        Reply::Ended(outcome) => {
+        ScriptReply::Regions(count) => put_stamped(out, b",\"regions\"", *count as u64),
+        ScriptReply::Start(start) => put_stamped(out, b",\"start\"", start.get()),
+        ScriptReply::Fine => out.extend_from_slice(b",\"ok\""),
+        ScriptReply::Done => out.extend_from_slice(b",\"done\""),
+        ScriptReply::Drawn(commit) => put_stamped(out, b",\"drawn\"", commit.get()),
+        ScriptReply::Ended(outcome) => {
             out.extend_from_slice(b",\"outcome\"")?;
             put_outcome(out, *outcome)
         }
-        Reply::Answered(answer) => put_answer(out, answer),
-        Reply::Lost => out.extend_from_slice(b",\"lost\""),
-        Reply::Last(last) => put_stamped(out, b",\"last\"", last.get()),
-        Reply::Status(status) => {
+        ScriptReply::Answered(answer) => put_answer(out, answer),
+        ScriptReply::Lost => out.extend_from_slice(b",\"lost\""),
+        ScriptReply::Last(last) => put_stamped(out, b",\"last\"", last.get()),
+        ScriptReply::Status(status) => {
             out.extend_from_slice(b",\"status\"")?;
             put_status(out, *status)
         }
-        Reply::Versions(shown) => {
+        ScriptReply::Versions(shown) => {
             out.extend_from_slice(b",\"versions\"")?;
             put_copy(out, shown.copy())
         }
-        Reply::Collected { records, values } => put_collected(out, *records, *values),
-        Reply::OracleSpent => out.extend_from_slice(b",\"E11\""),
-        Reply::OutOfMemory => out.extend_from_slice(b",\"E12\""),
-        Reply::KeyLength => out.extend_from_slice(b",\"E13\""),
-        Reply::ValueLength => out.extend_from_slice(b",\"E14\""),
-        Reply::TooManyKeys => out.extend_from_slice(b",\"E15\""),
-        Reply::AlreadyExists => out.extend_from_slice(b",\"E17\""),
+        ScriptReply::Collected { records, values } => put_collected(out, *records, *values),
+        ScriptReply::OracleSpent => out.extend_from_slice(b",\"E11\""),
+        ScriptReply::OutOfMemory => out.extend_from_slice(b",\"E12\""),
+        ScriptReply::KeyLength => out.extend_from_slice(b",\"E13\""),
+        ScriptReply::ValueLength => out.extend_from_slice(b",\"E14\""),
+        ScriptReply::TooManyKeys => out.extend_from_slice(b",\"E15\""),
+        ScriptReply::AlreadyExists => out.extend_from_slice(b",\"E17\""),
     }
 }
 
@@ -119,7 +119,7 @@ fn put_words(out: &mut Vec<u8>, reply: &Reply) -> Result<(), AllocError>
 pub const REFUSAL_BYTES: usize = 32;
 
 /// Appends the line that tells a reply, with its newline.
-pub fn put_reply(out: &mut Vec<u8>, number: u64, reply: &Reply) -> Result<(), AllocError>
+pub fn put_reply(out: &mut Vec<u8>, number: u64, reply: &ScriptReply) -> Result<(), AllocError>
     ensures { OnOk result (out.new.items ≡ out.old.items ++ reply_text (number, reply_words reply.now)) }
 {
     out.push(b'[')?;

@@ -9,7 +9,7 @@ ghost use Rattle.tx_reply.specs.Versions.{head_data, lock_data, marks, record_wo
 
 use crate::answer::put_mode;
 use std::alloc::AllocError;
-use tx_cells::{KeyCopy, RecordAt};
+use tx_cells::{KeyVersions, RecordAt};
 use tx_plan::{LockHead, RecordHead};
 use tx_text::{Entries, put_digits, put_list, put_number, put_stamped};
 use tx_types::{LockKind, Ts};
@@ -75,9 +75,9 @@ fn put_record(out: &mut Vec<u8>, at: Ts, head: RecordHead) -> Result<(), AllocEr
 }
 
 // The write records of a key.
-struct Records;
+struct RecordRows;
 
-impl Entries<RecordAt> for Records {
+impl Entries<RecordAt> for RecordRows {
     ghost value = { record_data };
 
     fn put(out: &mut Vec<u8>, entry: &RecordAt) -> Result<(), AllocError> {
@@ -100,13 +100,13 @@ impl Entries<Ts> for Stamps {
 }
 
 /// Appends what is shown of a key, each part with a comma before it.
-pub(crate) fn put_copy(out: &mut Vec<u8>, copy: &KeyCopy) -> Result<(), AllocError>
+pub(crate) fn put_copy(out: &mut Vec<u8>, copy: &KeyVersions) -> Result<(), AllocError>
     ensures { OnOk result (out.new.items ≡ out.old.items ++ members_text (copy_words copy.now)) }
 {
     out.extend_from_slice(b",")?;
     put_lock(out, copy.lock)?;
     out.extend_from_slice(b",")?;
-    put_list::<_, Records>(out, copy.records.as_slice())?;
+    put_list::<_, RecordRows>(out, copy.records.as_slice())?;
     out.extend_from_slice(b",")?;
     put_list::<_, Stamps>(out, copy.values.as_slice())
 }

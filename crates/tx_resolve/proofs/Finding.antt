@@ -25,11 +25,11 @@ use Rattle.tx_core.specs.Worlds.{IsWorldRun}
 use Rattle.tx_core.specs.Laws.{WasToldOf, IsLockOf}
 use Rattle.tx_core.proofs.runs.Consequences.{told_fate}
 use Rattle.tx_core.proofs.locks.ToldLocks.{told_lock}
-use Rattle.tx_transaction.specs.declared.state.Came.{Came}
-use Rattle.tx_transaction.specs.declared.state.Came.TheVariants as came
+use Rattle.tx_transaction.specs.declared.state.Response.{Response}
+use Rattle.tx_transaction.specs.declared.state.Response.TheVariants as response
 use Rattle.tx_client.specs.declared.resolved.Status.TheVariants as status
 use Rattle.tx_client.specs.declared.resolved.WaitCause.TheVariants as cause
-use Rattle.tx_client.specs.Facts.{WasAnswered, CameSo}
+use Rattle.tx_client.specs.Facts.{WasAnswered, RespondsSo}
 use Rattle.tx_client.specs.Statuses.{Ends}
 use Rattle.tx_client.proofs.Marking.{taken_there}
 use Rattle.tx_resolve.specs.declared.found.For.{For}
@@ -122,18 +122,18 @@ module _ (bounds : List Key) (h : History) (run : IsWorldRun bounds h) where
         passes true = record { by = told.by; among = told.among; info = info; told = told.told; primary = first; own = own.0; min = refl }
         passes false = stands (is_async info.mode && is_over who info) refl
 
-    pub primary_ok : (c : Came) → CameSo h (check_of met who forced) c → IsPrimary h met.start (primary_by who c)
-    primary_ok (came.Said (answer.Committed c)) was = fate_told (check_of met who forced) (answer.Committed c) met.start (fate.Committed c) refl refl was
-    primary_ok (came.Said answer.RolledBack) was = fate_told (check_of met who forced) answer.RolledBack met.start fate.Aborted refl refl was
-    primary_ok (came.Said (answer.Locked info)) was = standing_ok info was
+    pub primary_ok : (c : Response) → RespondsSo h (check_of met who forced) c → IsPrimary h met.start (primary_by who c)
+    primary_ok (response.Answered (answer.Committed c)) was = fate_told (check_of met who forced) (answer.Committed c) met.start (fate.Committed c) refl refl was
+    primary_ok (response.Answered answer.RolledBack) was = fate_told (check_of met who forced) answer.RolledBack met.start fate.Aborted refl refl was
+    primary_ok (response.Answered (answer.Locked info)) was = standing_ok info was
     primary_ok _ was = tt
 
   -- ---- another key
 
-  pub other_ok : (t : ℕ) (key : Key) (c : Came) → CameSo h (other_of t key) c → IsOther h t key (other_by c)
-  other_ok t key (came.Said (answer.Committed c)) was = fate_told (other_of t key) (answer.Committed c) t (fate.Committed c) refl refl was
-  other_ok t key (came.Said answer.Missing) was = fate_told (other_of t key) answer.Missing t fate.Aborted refl refl was
-  other_ok t key (came.Said (answer.Locked info)) was = by_mode info.mode refl
+  pub other_ok : (t : ℕ) (key : Key) (c : Response) → RespondsSo h (other_of t key) c → IsOther h t key (other_by c)
+  other_ok t key (response.Answered (answer.Committed c)) was = fate_told (other_of t key) (answer.Committed c) t (fate.Committed c) refl refl was
+  other_ok t key (response.Answered answer.Missing) was = fate_told (other_of t key) answer.Missing t fate.Aborted refl refl was
+  other_ok t key (response.Answered (answer.Locked info)) was = by_mode info.mode refl
     where
       own : IsOwn t key info
       own = (let g = gave (other_of t key) (answer.Locked info) was in other_finds g.0 g.1 g.2 _ (answer.Locked info) info g.3 refl)
@@ -152,8 +152,8 @@ ends_so : (h : History) (t : ℕ) (end : Fate) → decided h t ≡ Done end → 
 ends_so h t (fate.Committed c) e = e
 ends_so h t fate.Aborted e = e
 
-pub settled_ok : (h : History) (t : ℕ) (end : Fate) (c : Came) → decided h t ≡ Done end → Ends h t (settled_by end c)
-settled_ok h t end came.Lost e = tt
-settled_ok h t end came.Unsaid e = tt
-settled_ok h t end (came.Said answer.Resolved) e = ends_so h t end e
-settled_ok h t end (came.Said _) e = tt
+pub settled_ok : (h : History) (t : ℕ) (end : Fate) (c : Response) → decided h t ≡ Done end → Ends h t (settled_by end c)
+settled_ok h t end response.Lost e = tt
+settled_ok h t end response.OutOfMemory e = tt
+settled_ok h t end (response.Answered answer.Resolved) e = ends_so h t end e
+settled_ok h t end (response.Answered _) e = tt

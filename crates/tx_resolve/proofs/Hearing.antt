@@ -18,11 +18,11 @@ use Rattle.tx_core.specs.Worlds.{IsWorldRun}
 use Rattle.tx_core.specs.Laws.{WasToldOf}
 use Rattle.tx_journal.specs.Known.{Known}
 use Rattle.tx_journal.specs.Replies.{Asked}
-use Rattle.tx_transaction.specs.declared.state.Came.{Came}
-use Rattle.tx_transaction.specs.declared.state.Came.TheVariants as came
+use Rattle.tx_transaction.specs.declared.state.Response.{Response}
+use Rattle.tx_transaction.specs.declared.state.Response.TheVariants as response
 use Rattle.tx_journal.specs.Senders.{Reached, LosesNothing}
-use Rattle.tx_client.specs.Learns.{came_by, came_of}
-use Rattle.tx_client.specs.Facts.{WasAnswered, CameSo}
+use Rattle.tx_client.specs.Learns.{response_by, response_of}
+use Rattle.tx_client.specs.Facts.{WasAnswered, RespondsSo}
 use Rattle.tx_client.specs.Calls.{Asks}
 use Rattle.tx_resolve.specs.Collecting.{listed_by}
 use Rattle.tx_resolve.specs.Facts.{IsToRaise, IsToList, IsToCollect}
@@ -30,53 +30,53 @@ use Rattle.tx_resolve.proofs.Finding.{gave}
 
 -- ---- what the case tables have
 
-raises : (r : Region) (l top : ℕ) (b : RaiseSafe) (a : Answer) → Answers r l top (request.RaiseSafe b) a → IsToRaise (came.Said a)
-raises r l top b a (inl x) = subst (λ (z : Answer). IsToRaise (came.Said z)) (sym x.1) tt
-raises r l top b a (inr (no0, inl x)) = subst (λ (z : Answer). IsToRaise (came.Said z)) (sym x.1) tt
-raises r l top b a (inr (no0, inr (no1, is))) = subst (λ (z : Answer). IsToRaise (came.Said z)) (sym is) tt
+raises : (r : Region) (l top : ℕ) (b : RaiseSafe) (a : Answer) → Answers r l top (request.RaiseSafe b) a → IsToRaise (response.Answered a)
+raises r l top b a (inl x) = subst (λ (z : Answer). IsToRaise (response.Answered z)) (sym x.1) tt
+raises r l top b a (inr (no0, inl x)) = subst (λ (z : Answer). IsToRaise (response.Answered z)) (sym x.1) tt
+raises r l top b a (inr (no0, inr (no1, is))) = subst (λ (z : Answer). IsToRaise (response.Answered z)) (sym is) tt
 
-lists : (r : Region) (l top : ℕ) (b : LocksBelow) (a : Answer) → Answers r l top (request.LocksBelow b) a → IsToList (came.Said a)
-lists r l top b a (infos, all, is) = subst (λ (z : Answer). IsToList (came.Said z)) (sym is) tt
+lists : (r : Region) (l top : ℕ) (b : LocksBelow) (a : Answer) → Answers r l top (request.LocksBelow b) a → IsToList (response.Answered a)
+lists r l top b a (infos, all, is) = subst (λ (z : Answer). IsToList (response.Answered z)) (sym is) tt
 
-collects : (r : Region) (l top : ℕ) (b : Collect) (a : Answer) → Answers r l top (request.Collect b) a → IsToCollect (came.Said a)
-collects r l top b a (inl x) = subst (λ (z : Answer). IsToCollect (came.Said z)) (sym x.1) tt
-collects r l top b a (inr (no0, inl (some, (info, first, is)))) = subst (λ (z : Answer). IsToCollect (came.Said z)) (sym is) tt
-collects r l top b a (inr (no0, inr (no1, (places, all, is)))) = subst (λ (z : Answer). IsToCollect (came.Said z)) (sym is) tt
+collects : (r : Region) (l top : ℕ) (b : Collect) (a : Answer) → Answers r l top (request.Collect b) a → IsToCollect (response.Answered a)
+collects r l top b a (inl x) = subst (λ (z : Answer). IsToCollect (response.Answered z)) (sym x.1) tt
+collects r l top b a (inr (no0, inl (some, (info, first, is)))) = subst (λ (z : Answer). IsToCollect (response.Answered z)) (sym is) tt
+collects r l top b a (inr (no0, inr (no1, (places, all, is)))) = subst (λ (z : Answer). IsToCollect (response.Answered z)) (sym is) tt
 
 -- ---- what comes
 
 -- nothing is lost
-pub not_lost : {S : Type 0} (sends : S → Asked → Reached → S → Type 0) → LosesNothing sends → (bounds : List Key) (k new : Known) (from to : S) (body : Body) (c : Came) → Asks sends bounds k body from to c new → c ≡ came.Lost → ⊥
+pub not_lost : {S : Type 0} (sends : S → Asked → Reached → S → Type 0) → LosesNothing sends → (bounds : List Key) (k new : Known) (from to : S) (body : Body) (c : Response) → Asks sends bounds k body from to c new → c ≡ response.Lost → ⊥
 not_lost sends lossless bounds k new from to body c a lost = go a.reached a.sent (sym a.is ∙ lost)
   where
-    said : (o : Option Answer) → came_by o ≡ came.Lost → ⊥
+    said : (o : Option Answer) → response_by o ≡ response.Lost → ⊥
     said None e = cc (e)
     said (Some x) e = cc (e)
 
-    go : (r : Reached) → sends from (record { by = k.events; body = body }) r to → came_of r ≡ came.Lost → ⊥
+    go : (r : Reached) → sends from (record { by = k.events; body = body }) r to → response_of r ≡ response.Lost → ⊥
     go (Err l) sent e = lossless from to (record { by = k.events; body = body }) l sent
     go (Ok g) sent e = said g.answer e
 
 module _ (bounds : List Key) (h : History) (run : IsWorldRun bounds h) where
-  pub to_raise : (b : RaiseSafe) (c : Came) → (c ≡ came.Lost → ⊥) → CameSo h (request.RaiseSafe b) c → IsToRaise c
-  to_raise b came.Lost not so = not refl
-  to_raise b came.Unsaid not so = tt
-  to_raise b (came.Said a) not so = (let g = gave bounds h run (request.RaiseSafe b) a so in raises g.0 g.1 g.2 b a g.3)
+  pub to_raise : (b : RaiseSafe) (c : Response) → (c ≡ response.Lost → ⊥) → RespondsSo h (request.RaiseSafe b) c → IsToRaise c
+  to_raise b response.Lost not so = not refl
+  to_raise b response.OutOfMemory not so = tt
+  to_raise b (response.Answered a) not so = (let g = gave bounds h run (request.RaiseSafe b) a so in raises g.0 g.1 g.2 b a g.3)
 
-  pub to_list : (b : LocksBelow) (c : Came) → (c ≡ came.Lost → ⊥) → CameSo h (request.LocksBelow b) c → IsToList c
-  to_list b came.Lost not so = not refl
-  to_list b came.Unsaid not so = tt
-  to_list b (came.Said a) not so = (let g = gave bounds h run (request.LocksBelow b) a so in lists g.0 g.1 g.2 b a g.3)
+  pub to_list : (b : LocksBelow) (c : Response) → (c ≡ response.Lost → ⊥) → RespondsSo h (request.LocksBelow b) c → IsToList c
+  to_list b response.Lost not so = not refl
+  to_list b response.OutOfMemory not so = tt
+  to_list b (response.Answered a) not so = (let g = gave bounds h run (request.LocksBelow b) a so in lists g.0 g.1 g.2 b a g.3)
 
-  pub to_collect : (b : Collect) (c : Came) → (c ≡ came.Lost → ⊥) → CameSo h (request.Collect b) c → IsToCollect c
-  to_collect b came.Lost not so = not refl
-  to_collect b came.Unsaid not so = tt
-  to_collect b (came.Said a) not so = (let g = gave bounds h run (request.Collect b) a so in collects g.0 g.1 g.2 b a g.3)
+  pub to_collect : (b : Collect) (c : Response) → (c ≡ response.Lost → ⊥) → RespondsSo h (request.Collect b) c → IsToCollect c
+  to_collect b response.Lost not so = not refl
+  to_collect b response.OutOfMemory not so = tt
+  to_collect b (response.Answered a) not so = (let g = gave bounds h run (request.Collect b) a so in collects g.0 g.1 g.2 b a g.3)
 
 -- the locks of an answer were told of
 pub listed_told : (h : History) (b : Body) (infos : List LockInfo) → WasAnswered h b (answer.Locks infos) → (info : LockInfo) → Contains infos info → WasToldOf h info
 listed_told h b infos was info has = record { by = was.by; among = was.among; told = subst (λ (xs : List LockInfo). Contains xs info) (ap infos_in (sym was.told)) has }
 
-pub listed_ok : (h : History) (b : LocksBelow) (c : Came) → CameSo h (request.LocksBelow b) c → IfOk (listed_by c) (λ infos. (info : LockInfo) → Contains infos info → WasToldOf h info)
-listed_ok h b (came.Said (answer.Locks infos)) was = listed_told h (request.LocksBelow b) infos was
+pub listed_ok : (h : History) (b : LocksBelow) (c : Response) → RespondsSo h (request.LocksBelow b) c → IfOk (listed_by c) (λ infos. (info : LockInfo) → Contains infos info → WasToldOf h info)
+listed_ok h b (response.Answered (answer.Locks infos)) was = listed_told h (request.LocksBelow b) infos was
 listed_ok h b _ was = tt

@@ -12,9 +12,9 @@ use Rattle.tx_core.proofs.seats.Staying.{among_on}
 use Rattle.tx_journal.specs.Known.{Known}
 use Rattle.tx_journal.specs.Replies.{Asked}
 use Rattle.tx_journal.proofs.Calls.{seen_begins}
-use Rattle.tx_transaction.specs.declared.state.Came.{Came}
+use Rattle.tx_transaction.specs.declared.state.Response.{Response}
 use Rattle.tx_journal.specs.Senders.{Reached}
-use Rattle.tx_client.specs.Learns.{came_of, Learns}
+use Rattle.tx_client.specs.Learns.{response_of, Learns}
 use Rattle.tx_client.specs.Walks.{Walk, asks, grows, ends, Sends}
 use Rattle.tx_client.specs.Calls.{Asks}
 use Rattle.tx_resolve.specs.Facts.{Knows}
@@ -42,9 +42,9 @@ module _ {S : Type 0} (sends : S → Asked → Reached → S → Type 0) (bounds
   sent_more (grows more short) k new from to r run (inr sent) = sent_more more k new from to r run sent
   sent_more (asks body more) k new from to r run (reached, mid, now, sent, learns, rest) =
       let one = learnt bounds k now reached run learns in
-      let two = sent_more (more (came_of reached)) now new mid to r one.0 rest in
+      let two = sent_more (more (response_of reached)) now new mid to r one.0 rest in
       (two.0, begins_more k.events now.events new.events one.1 two.1)
 
   -- who asks sees more
-  pub asked_more : (k new : Known) (from to : S) (body : Body) (c : Came) → IsWorldRun bounds k.events → Asks sends bounds k body from to c new → GoesOn bounds k.events new.events
+  pub asked_more : (k new : Known) (from to : S) (body : Body) (c : Response) → IsWorldRun bounds k.events → Asks sends bounds k body from to c new → GoesOn bounds k.events new.events
   asked_more k new from to body c run a = learnt bounds k new a.reached run a.learns

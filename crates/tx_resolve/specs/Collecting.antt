@@ -6,8 +6,8 @@ use Rattle.tx_types.specs.declared.fault.Fault.{Fault}
 use Rattle.tx_types.specs.declared.fault.Fault.TheVariants as fault
 use Rattle.tx_plan.specs.declared.body.Body.TheVariants as body
 use Rattle.tx_plan.specs.declared.answer.Answer.TheVariants as answer
-use Rattle.tx_transaction.specs.declared.state.Came.{Came}
-use Rattle.tx_transaction.specs.declared.state.Came.TheVariants as came
+use Rattle.tx_transaction.specs.declared.state.Response.{Response}
+use Rattle.tx_transaction.specs.declared.state.Response.TheVariants as response
 use Rattle.tx_client.specs.Walks.{Walk, asks, ends, then_walk}
 use Rattle.tx_resolve.specs.declared.found.For.TheVariants.{Collector}
 use Rattle.tx_resolve.specs.declared.collector.Counts.{Counts}
@@ -28,28 +28,32 @@ in_regions each (suc count) n a = then_walk (each n a) (on_ok (in_regions each c
 
 -- ---- one region: each answer of the case tables is handed on, and no answer is want of memory
 
-abbrev pub raised_by : Came → Result (Unit {0}) Fault
-raised_by (came.Said answer.Raised) = Ok tt
-raised_by (came.Said (answer.BelowSafePoint safe)) = Err (fault.BelowSafePoint safe)
-raised_by (came.Said (answer.FutureTimestamp last)) = Err (fault.FutureTimestamp last)
+abbrev pub raised_by : Response → Result (Unit {0}) Fault
+raised_by (response.Answered answer.Raised) = Ok tt
+raised_by (response.Answered (answer.BelowSafePoint safe)) = Err (fault.BelowSafePoint safe)
+raised_by (response.Answered (answer.FutureTimestamp last)) = Err (fault.FutureTimestamp last)
 raised_by _ = Err fault.OutOfMemory
 
-abbrev pub listed_by : Came → Result (List LockInfo) Fault
-listed_by (came.Said (answer.Locks infos)) = Ok infos
+abbrev pub listed_by : Response → Result (List LockInfo) Fault
+listed_by (response.Answered (answer.Locks infos)) = Ok infos
 listed_by _ = Err fault.OutOfMemory
 
 -- the sums, as far as 64 bits hold them
 abbrev pub added : Counts → Counts → Counts
-added x y = record { records = min (x.records + y.records) (2 ^ 64 - 1); values = min (x.values + y.values) (2 ^ 64 - 1) }
+added x y = record {
+  records = min (x.records + y.records) (2 ^ 64 - 1);
+  values = min (x.values + y.values) (2 ^ 64 - 1);
+}
 
 -- what was dropped is added to what was dropped before
-abbrev pub dropped_by : Counts → Came → Result Counts Fault
-dropped_by counts (came.Said (answer.Collected records values)) = Ok (added counts (record { records = records; values = values }))
-dropped_by counts (came.Said (answer.BelowSafePoint safe)) = Err (fault.BelowSafePoint safe)
+abbrev pub dropped_by : Counts → Response → Result Counts Fault
+dropped_by counts (response.Answered (answer.Collected records values)) =
+    Ok (added counts (record { records = records; values = values }))
+dropped_by counts (response.Answered (answer.BelowSafePoint safe)) = Err (fault.BelowSafePoint safe)
 dropped_by counts _ = Err fault.OutOfMemory
 
-abbrev pub collected_by : Counts → Came → Result Counts Fault
-collected_by counts (came.Said (answer.LocksRemain info)) = Err (fault.LocksRemain info)
+abbrev pub collected_by : Counts → Response → Result Counts Fault
+collected_by counts (response.Answered (answer.LocksRemain info)) = Err (fault.LocksRemain info)
 collected_by counts c = dropped_by counts c
 
 -- the safe point of a region rises
@@ -87,4 +91,5 @@ collects_walk bounds safe = in_regions (collect_walk safe) (length bounds + 1) 0
 -- The safe point rises in each region; then in each the locks that started below it are resolved;
 -- then each collects. The first refusal ends it.
 abbrev pub gc_walk : List Key → ℕ → Walk (Result Counts Fault)
-gc_walk bounds safe = then_walk (raises_walk bounds safe) (on_ok (λ u. then_walk (clears_walk bounds safe) (on_ok (λ v. collects_walk bounds safe))))
+gc_walk bounds safe = then_walk (raises_walk bounds safe)
+    (on_ok (λ u. then_walk (clears_walk bounds safe) (on_ok (λ v. collects_walk bounds safe))))

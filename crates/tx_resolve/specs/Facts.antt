@@ -9,8 +9,8 @@ use Rattle.tx_core.specs.Decisions.{decided, HasTwoPhaseLock}
 use Rattle.tx_core.specs.Worlds.{IsWorldRun}
 use Rattle.tx_core.specs.Laws.{WasToldOf, IsLockOf, HadAsyncLock}
 use Rattle.tx_plan.specs.declared.answer.Answer.TheVariants as answer
-use Rattle.tx_transaction.specs.declared.state.Came.{Came}
-use Rattle.tx_transaction.specs.declared.state.Came.TheVariants as came
+use Rattle.tx_transaction.specs.declared.state.Response.{Response}
+use Rattle.tx_transaction.specs.declared.state.Response.TheVariants as response
 use Rattle.tx_client.specs.Statuses.{Ends}
 use Rattle.tx_resolve.specs.declared.found.Primary.{Primary}
 use Rattle.tx_resolve.specs.declared.found.Primary.TheVariants as primary
@@ -48,28 +48,29 @@ IsOther h t key (other.Ends found) = IsOthers h t found
 -- each of these keys had an async lock, and `most` is the greatest of `least` and their minimums
 abbrev pub HadLocks : History → ℕ → List Key → ℕ → ℕ → Type 0
 HadLocks h t [] least most = most ≡ least
-HadLocks h t (key ∷ keys) least most = (minimum : ℕ) × HadAsyncLock h t key minimum × HadLocks h t keys (max least minimum) most
+HadLocks h t (key ∷ keys) least most = (minimum : ℕ) × HadAsyncLock h t key minimum
+    × HadLocks h t keys (max least minimum) most
 
 -- ---- what may come of a collector's requests, none of them lost: an answer of the tables, or none
 
-abbrev pub IsToRaise : Came → Type 0
-IsToRaise came.Unsaid = Unit {0}
-IsToRaise (came.Said answer.Raised) = Unit {0}
-IsToRaise (came.Said (answer.BelowSafePoint safe)) = Unit {0}
-IsToRaise (came.Said (answer.FutureTimestamp last)) = Unit {0}
+abbrev pub IsToRaise : Response → Type 0
+IsToRaise response.OutOfMemory = Unit {0}
+IsToRaise (response.Answered answer.Raised) = Unit {0}
+IsToRaise (response.Answered (answer.BelowSafePoint safe)) = Unit {0}
+IsToRaise (response.Answered (answer.FutureTimestamp last)) = Unit {0}
 IsToRaise _ = ⊥
 
-abbrev pub IsToList : Came → Type 0
-IsToList came.Unsaid = Unit {0}
-IsToList (came.Said (answer.Locks infos)) = Unit {0}
+abbrev pub IsToList : Response → Type 0
+IsToList response.OutOfMemory = Unit {0}
+IsToList (response.Answered (answer.Locks infos)) = Unit {0}
 IsToList _ = ⊥
 
-abbrev pub IsToDrop : Came → Type 0
-IsToDrop came.Unsaid = Unit {0}
-IsToDrop (came.Said (answer.Collected records values)) = Unit {0}
-IsToDrop (came.Said (answer.BelowSafePoint safe)) = Unit {0}
+abbrev pub IsToDrop : Response → Type 0
+IsToDrop response.OutOfMemory = Unit {0}
+IsToDrop (response.Answered (answer.Collected records values)) = Unit {0}
+IsToDrop (response.Answered (answer.BelowSafePoint safe)) = Unit {0}
 IsToDrop _ = ⊥
 
-abbrev pub IsToCollect : Came → Type 0
-IsToCollect (came.Said (answer.LocksRemain info)) = Unit {0}
+abbrev pub IsToCollect : Response → Type 0
+IsToCollect (response.Answered (answer.LocksRemain info)) = Unit {0}
 IsToCollect c = IsToDrop c

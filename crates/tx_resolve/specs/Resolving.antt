@@ -9,8 +9,8 @@ use Rattle.tx_types.specs.declared.mutation.Mode.TheVariants.{TwoPhase, Async}
 use Rattle.tx_plan.specs.declared.body.Body.{Body}
 use Rattle.tx_plan.specs.declared.body.Body.TheVariants as body
 use Rattle.tx_plan.specs.declared.answer.Answer.TheVariants as answer
-use Rattle.tx_transaction.specs.declared.state.Came.{Came}
-use Rattle.tx_transaction.specs.declared.state.Came.TheVariants as came
+use Rattle.tx_transaction.specs.declared.state.Response.{Response}
+use Rattle.tx_transaction.specs.declared.state.Response.TheVariants as response
 use Rattle.tx_client.specs.declared.resolved.Status.{Status}
 use Rattle.tx_client.specs.declared.resolved.Status.TheVariants as status
 use Rattle.tx_client.specs.declared.resolved.WaitCause.{WaitCause}
@@ -72,12 +72,12 @@ settle_of met end = body.ResolveLock record { key = met.key; start = met.start; 
 -- ---- what comes of them
 
 -- why to wait
-abbrev pub waiting_by : Came → WaitCause
-waiting_by came.Lost = cause.Reply
-waiting_by came.Unsaid = cause.OutOfMemory
-waiting_by (came.Said (answer.BelowSafePoint safe)) = cause.BelowSafePoint
-waiting_by (came.Said answer.TxnNotFound) = cause.NotFound
-waiting_by (came.Said a) = cause.Live
+abbrev pub waiting_by : Response → WaitCause
+waiting_by response.Lost = cause.Reply
+waiting_by response.OutOfMemory = cause.OutOfMemory
+waiting_by (response.Answered (answer.BelowSafePoint safe)) = cause.BelowSafePoint
+waiting_by (response.Answered answer.TxnNotFound) = cause.NotFound
+waiting_by (response.Answered a) = cause.Live
 
 abbrev pub is_async : Mode → Bool
 is_async TwoPhase = false
@@ -95,22 +95,23 @@ standing_by info None = primary.Expired info
 standing_by info (Some found) = primary.Rests found
 
 -- the primary tells a fate, or why to wait
-abbrev pub unlocked_by : Came → Primary
-unlocked_by (came.Said (answer.Committed c)) = primary.Decided (fate.Committed c)
-unlocked_by (came.Said answer.RolledBack) = primary.Decided fate.Aborted
+abbrev pub unlocked_by : Response → Primary
+unlocked_by (response.Answered (answer.Committed c)) = primary.Decided (fate.Committed c)
+unlocked_by (response.Answered answer.RolledBack) = primary.Decided fate.Aborted
 unlocked_by c = primary.Rests (status.Waiting (waiting_by c))
 
 -- or of its lock
-abbrev pub primary_by : For → Came → Primary
-primary_by who (came.Said (answer.Locked info)) = standing_by info (rests_by who info)
+abbrev pub primary_by : For → Response → Primary
+primary_by who (response.Answered (answer.Locked info)) = standing_by info (rests_by who info)
 primary_by who c = unlocked_by c
 
 -- another key: its async lock, with its minimum, leaves all open; a two-phase lock, a commit or
 -- that it is missing does not
-abbrev pub other_by : Came → Other
-other_by (came.Said (answer.Locked info)) = elim info.mode [ TwoPhase ↦ other.Ends others.FellBack | Async ↦ other.Async info.min ]
-other_by (came.Said (answer.Committed c)) = other.Ends (others.Decided (fate.Committed c))
-other_by (came.Said answer.Missing) = other.Ends (others.Decided fate.Aborted)
+abbrev pub other_by : Response → Other
+other_by (response.Answered (answer.Locked info)) =
+    elim info.mode [ TwoPhase ↦ other.Ends others.FellBack | Async ↦ other.Async info.min ]
+other_by (response.Answered (answer.Committed c)) = other.Ends (others.Decided (fate.Committed c))
+other_by (response.Answered answer.Missing) = other.Ends (others.Decided fate.Aborted)
 other_by c = other.Ends (others.Rests (waiting_by c))
 
 abbrev pub status_of : Fate → Status
@@ -119,20 +120,23 @@ status_of fate.Aborted = status.Aborted
 
 -- a fate is the status once the lock that was met is answered resolved; any other answer
 -- says why to wait
-abbrev pub settled_by : Fate → Came → Status
-settled_by end (came.Said answer.Resolved) = status_of end
+abbrev pub settled_by : Fate → Response → Status
+settled_by end (response.Answered answer.Resolved) = status_of end
 settled_by end c = status.Waiting (waiting_by c)
 
 -- ---- the walk
 
 abbrev pub primary_walk : LockInfo → For → Bool → Walk Primary
-primary_walk met who forced = grows (asks (check_of met who forced) (λ c. ends (primary_by who c))) (ends (primary.Rests (status.Waiting cause.OutOfMemory)))
+primary_walk met who forced = grows (asks (check_of met who forced) (λ c. ends (primary_by who c)))
+    (ends (primary.Rests (status.Waiting cause.OutOfMemory)))
 
 abbrev pub settle_walk : LockInfo → Fate → Walk Status
-settle_walk met end = grows (asks (settle_of met end) (λ c. ends (settled_by end c))) (ends (status.Waiting cause.OutOfMemory))
+settle_walk met end = grows (asks (settle_of met end) (λ c. ends (settled_by end c)))
+    (ends (status.Waiting cause.OutOfMemory))
 
 abbrev pub other_walk : ℕ → Key → Walk Other
-other_walk t key = grows (asks (other_of t key) (λ c. ends (other_by c))) (ends (other.Ends (others.Rests cause.OutOfMemory)))
+other_walk t key = grows (asks (other_of t key) (λ c. ends (other_by c)))
+    (ends (other.Ends (others.Rests cause.OutOfMemory)))
 
 -- an async lock, and the keys after it; or the end
 abbrev pub further : ℕ → (ℕ → Walk Others) → Other → Walk Others

@@ -18,9 +18,9 @@ ghost use Rattle.tx_resolve.specs.Facts.{IsToRaise, IsToList, IsToDrop, IsToColl
 
 use crate::found::For;
 use crate::resolver::resolve_for;
-use tx_client::{Came, ask};
+use tx_client::{Response, ask};
 use tx_core::{Answer, Body, Collect, Infos, LocksBelow, RaiseSafe, RegionNo};
-use tx_journal::{Naming, Reply, Request, Seat, Sender};
+use tx_journal::{JournalId, Reply, Request, Seat, Sender};
 use tx_types::{Fault, LockInfo, Ts};
 
 /// What a collection dropped, as far as 64 bits count it.
@@ -51,57 +51,65 @@ impl Counts {
 }
 
 // Whether a safe point was raised.
-fn raised_by(came: &Came) -> Result<(), Fault>
-    requires { IsToRaise came.now }
-    ensures { result ≡ raised_by came.now }
+fn raised_by(response: &Response) -> Result<(), Fault>
+    requires { IsToRaise response.now }
+    ensures { result ≡ raised_by response.now }
 {
-    match came {
-        Came::Said(Answer::Raised) => Ok(()),
-        Came::Said(Answer::BelowSafePoint { safe }) => Err(Fault::BelowSafePoint { safe: *safe }),
-        Came::Said(Answer::FutureTimestamp { last }) => Err(Fault::FutureTimestamp { last: *last }),
-        Came::Unsaid => Err(Fault::OutOfMemory),
+    match response {
+        Response::Answered(Answer::Raised) => Ok(()),
+        Response::Answered(Answer::BelowSafePoint { safe }) => Err(Fault::BelowSafePoint {
+            safe: *safe,
+        }),
+        Response::Answered(Answer::FutureTimestamp { last }) => Err(Fault::FutureTimestamp {
+            last: *last,
+        }),
+        Response::OutOfMemory => Err(Fault::OutOfMemory),
         _ => unreachable!(),
     }
 }
 
 // The locks that were listed.
-fn listed_by(came: Came) -> Result<Infos, Fault>
-    requires { IsToList came }
-    ensures { result ≡ listed_by came }
+fn listed_by(response: Response) -> Result<Infos, Fault>
+    requires { IsToList response }
+    ensures { result ≡ listed_by response }
 {
-    match came {
-        Came::Said(Answer::Locks(infos)) => Ok(infos),
-        Came::Unsaid => Err(Fault::OutOfMemory),
+    match response {
+        Response::Answered(Answer::Locks(infos)) => Ok(infos),
+        Response::OutOfMemory => Err(Fault::OutOfMemory),
         _ => unreachable!(),
     }
 }
 
 // What was dropped, beside what was before.
-fn dropped_by(counts: Counts, came: &Came) -> Result<Counts, Fault>
-    requires { IsToDrop came.now }
-    ensures { result ≡ dropped_by counts came.now }
+fn dropped_by(counts: Counts, response: &Response) -> Result<Counts, Fault>
+    requires { IsToDrop response.now }
+    ensures { result ≡ dropped_by counts response.now }
 {
-    match came {
-        Came::Said(Answer::Collected { records, values }) => Ok(counts.add(*records, *values)),
-        Came::Said(Answer::BelowSafePoint { safe }) => Err(Fault::BelowSafePoint { safe: *safe }),
-        Came::Unsaid => Err(Fault::OutOfMemory),
+    match response {
+        Response::Answered(Answer::Collected { records, values }) => Ok(counts.add(
+            *records, *values,
+        )),
+        Response::Answered(Answer::BelowSafePoint { safe }) => Err(Fault::BelowSafePoint {
+            safe: *safe,
+        }),
+        Response::OutOfMemory => Err(Fault::OutOfMemory),
         _ => unreachable!(),
     }
 }
 
 // The lock that remains, or what was dropped.
-fn collected_by(counts: Counts, came: Came) -> Result<Counts, Fault>
-    requires { IsToCollect came }
-    ensures { result ≡ collected_by counts came }
+fn collected_by(counts: Counts, response: Response) -> Result<Counts, Fault>
+    requires { IsToCollect response }
+    ensures { result ≡ collected_by counts response }
 {
-    match came {
-        Came::Said(Answer::LocksRemain(info)) => Err(Fault::LocksRemain(info)),
+    match response {
+        Response::Answered(Answer::LocksRemain(info)) => Err(Fault::LocksRemain(info)),
         other => dropped_by(counts, &other),
     }
 }
 
 // Raises the safe point of a region.
-fn raise<J: Naming, S: Sender<Request<J>, Reply<J>>>(
+fn raise<J: JournalId, S: Sender<Request<J>, Reply<J>>>(
     seat: &mut Seat<J>,
     region: RegionNo,
     safe: Ts,
@@ -114,12 +122,12 @@ fn raise<J: Naming, S: Sender<Request<J>, Reply<J>>>(
     ensures sends { Sends S.sends J.bounds seat.old sender.old (raise_walk safe region) result sender.new seat.new }
     ensures run { IsWorldRun J.bounds seat.new.events }
 {
-    let came = ask(seat, Body::RaiseSafe(RaiseSafe { region, safe }), sender);
-    raised_by(&came)
+    let response = ask(seat, Body::RaiseSafe(RaiseSafe { region, safe }), sender);
+    raised_by(&response)
 }
 
 // Raises the safe point of each region.
-fn raise_all<J: Naming, S: Sender<Request<J>, Reply<J>>>(
+fn raise_all<J: JournalId, S: Sender<Request<J>, Reply<J>>>(
     seat: &mut Seat<J>,
     safe: Ts,
     sender: &mut S,
@@ -137,7 +145,7 @@ fn raise_all<J: Naming, S: Sender<Request<J>, Reply<J>>>(
 }
 
 // The locks of a region that started below the safe point.
-fn list<J: Naming, S: Sender<Request<J>, Reply<J>>>(
+fn list<J: JournalId, S: Sender<Request<J>, Reply<J>>>(
     seat: &mut Seat<J>,
     region: RegionNo,
     safe: Ts,
@@ -151,12 +159,12 @@ fn list<J: Naming, S: Sender<Request<J>, Reply<J>>>(
     ensures run { IsWorldRun J.bounds seat.new.events }
     ensures told { IfOk result (λ infos. (info : Info) → Contains infos info → WasToldOf seat.new.events info) }
 {
-    let came = ask(seat, Body::LocksBelow(LocksBelow { region, safe }), sender);
-    listed_by(came)
+    let response = ask(seat, Body::LocksBelow(LocksBelow { region, safe }), sender);
+    listed_by(response)
 }
 
 // Resolves each of these locks.
-fn resolve_each<J: Naming, S: Sender<Request<J>, Reply<J>>>(
+fn resolve_each<J: JournalId, S: Sender<Request<J>, Reply<J>>>(
     seat: &mut Seat<J>,
     infos: &[LockInfo],
     sender: &mut S,
@@ -174,7 +182,7 @@ fn resolve_each<J: Naming, S: Sender<Request<J>, Reply<J>>>(
 }
 
 // Resolves the locks of a region that started below the safe point.
-fn clear<J: Naming, S: Sender<Request<J>, Reply<J>>>(
+fn clear<J: JournalId, S: Sender<Request<J>, Reply<J>>>(
     seat: &mut Seat<J>,
     region: RegionNo,
     safe: Ts,
@@ -192,7 +200,7 @@ fn clear<J: Naming, S: Sender<Request<J>, Reply<J>>>(
 }
 
 // Resolves the locks of each region that started below the safe point.
-fn clear_all<J: Naming, S: Sender<Request<J>, Reply<J>>>(
+fn clear_all<J: JournalId, S: Sender<Request<J>, Reply<J>>>(
     seat: &mut Seat<J>,
     safe: Ts,
     sender: &mut S,
@@ -210,7 +218,7 @@ fn clear_all<J: Naming, S: Sender<Request<J>, Reply<J>>>(
 }
 
 // Collects in a region.
-fn collect<J: Naming, S: Sender<Request<J>, Reply<J>>>(
+fn collect<J: JournalId, S: Sender<Request<J>, Reply<J>>>(
     seat: &mut Seat<J>,
     region: RegionNo,
     safe: Ts,
@@ -221,15 +229,16 @@ fn collect<J: Naming, S: Sender<Request<J>, Reply<J>>>(
     requires lossless { LosesNothing S.sends }
     requires run { IsWorldRun J.bounds seat.old.events }
     requires within { region ≤ length J.bounds }
-    ensures sends { Sends S.sends J.bounds seat.old sender.old (collect_walk safe region counts) result sender.new seat.new }
+    ensures sends { Sends S.sends J.bounds seat.old sender.old (collect_walk safe region counts) result sender.new
+        seat.new }
     ensures run { IsWorldRun J.bounds seat.new.events }
 {
-    let came = ask(seat, Body::Collect(Collect { region, safe }), sender);
-    collected_by(counts, came)
+    let response = ask(seat, Body::Collect(Collect { region, safe }), sender);
+    collected_by(counts, response)
 }
 
 // Collects in each region.
-fn collect_all<J: Naming, S: Sender<Request<J>, Reply<J>>>(
+fn collect_all<J: JournalId, S: Sender<Request<J>, Reply<J>>>(
     seat: &mut Seat<J>,
     safe: Ts,
     sender: &mut S,
@@ -253,7 +262,7 @@ fn collect_all<J: Naming, S: Sender<Request<J>, Reply<J>>>(
 /// yet, `LocksRemain` where a lock is left that could not be resolved, and `OutOfMemory`. What was
 /// done stays, and it may be asked again. The sender loses nothing. The rule is docs/PROTOCOL.md's,
 /// "The resolver, and collection".
-pub fn gc<J: Naming, S: Sender<Request<J>, Reply<J>>>(
+pub fn gc<J: JournalId, S: Sender<Request<J>, Reply<J>>>(
     seat: &mut Seat<J>,
     safe: Ts,
     sender: &mut S,

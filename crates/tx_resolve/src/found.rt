@@ -2,7 +2,7 @@
 ghost use Rattle.std.specs.Prelude.{◌≡◌};
 ghost use Rattle.tx_resolve.specs.Resolving.{caller_of, time_of, is_over, lets_pass, waiting_by, rests_by, standing_by, unlocked_by, primary_by, other_by, status_of, settled_by};
 
-use tx_client::{Came, Status, WaitCause};
+use tx_client::{Response, Status, WaitCause};
 use tx_core::Answer;
 use tx_types::{Fate, LockInfo, Mode, Ts};
 
@@ -91,15 +91,15 @@ pub(crate) enum Other {
 }
 
 // Why to wait.
-fn waiting_by(came: &Came) -> WaitCause
-    ensures { result ≡ waiting_by came.now }
+fn waiting_by(response: &Response) -> WaitCause
+    ensures { result ≡ waiting_by response.now }
 {
-    match came {
-        Came::Lost => WaitCause::Reply,
-        Came::Unsaid => WaitCause::OutOfMemory,
-        Came::Said(Answer::BelowSafePoint { .. }) => WaitCause::BelowSafePoint,
-        Came::Said(Answer::TxnNotFound) => WaitCause::NotFound,
-        Came::Said(_) => WaitCause::Live,
+    match response {
+        Response::Lost => WaitCause::Reply,
+        Response::OutOfMemory => WaitCause::OutOfMemory,
+        Response::Answered(Answer::BelowSafePoint { .. }) => WaitCause::BelowSafePoint,
+        Response::Answered(Answer::TxnNotFound) => WaitCause::NotFound,
+        Response::Answered(_) => WaitCause::Live,
     }
 }
 
@@ -128,39 +128,39 @@ fn standing_by(who: &For, info: LockInfo) -> Primary
 }
 
 // What the answer of a primary comes to that tells of no lock.
-fn unlocked_by(came: &Came) -> Primary
-    ensures { result ≡ unlocked_by came.now }
+fn unlocked_by(response: &Response) -> Primary
+    ensures { result ≡ unlocked_by response.now }
 {
-    match came {
-        Came::Said(Answer::Committed(commit)) => Primary::Decided(Fate::Committed(*commit)),
-        Came::Said(Answer::RolledBack) => Primary::Decided(Fate::Aborted),
+    match response {
+        Response::Answered(Answer::Committed(commit)) => Primary::Decided(Fate::Committed(*commit)),
+        Response::Answered(Answer::RolledBack) => Primary::Decided(Fate::Aborted),
         other => Primary::Rests(Status::Waiting(waiting_by(other))),
     }
 }
 
 /// What the answer of a primary comes to.
-pub(crate) fn primary_by(who: &For, came: Came) -> Primary
-    ensures { result ≡ primary_by who.now came }
+pub(crate) fn primary_by(who: &For, response: Response) -> Primary
+    ensures { result ≡ primary_by who.now response }
 {
-    match came {
-        Came::Said(Answer::Locked(info)) => standing_by(who, info),
+    match response {
+        Response::Answered(Answer::Locked(info)) => standing_by(who, info),
         other => unlocked_by(&other),
     }
 }
 
 /// What the answer of another key comes to.
-pub(crate) fn other_by(came: &Came) -> Other
-    ensures { result ≡ other_by came.now }
+pub(crate) fn other_by(response: &Response) -> Other
+    ensures { result ≡ other_by response.now }
 {
-    match came {
-        Came::Said(Answer::Locked(info)) => match info.facts().mode {
+    match response {
+        Response::Answered(Answer::Locked(info)) => match info.facts().mode {
             Mode::TwoPhase => Other::Ends(Others::FellBack),
             Mode::Async => Other::Async(info.facts().min),
         },
-        Came::Said(Answer::Committed(commit)) => {
+        Response::Answered(Answer::Committed(commit)) => {
             Other::Ends(Others::Decided(Fate::Committed(*commit)))
         }
-        Came::Said(Answer::Missing) => Other::Ends(Others::Decided(Fate::Aborted)),
+        Response::Answered(Answer::Missing) => Other::Ends(Others::Decided(Fate::Aborted)),
         other => Other::Ends(Others::Rests(waiting_by(other))),
     }
 }
@@ -176,11 +176,11 @@ fn status_of(fate: &Fate) -> Status
 }
 
 /// What a fate comes to by the answer of the lock that was given it.
-pub(crate) fn settled_by(fate: &Fate, came: &Came) -> Status
-    ensures { result ≡ settled_by fate.now came.now }
+pub(crate) fn settled_by(fate: &Fate, response: &Response) -> Status
+    ensures { result ≡ settled_by fate.now response.now }
 {
-    match came {
-        Came::Said(Answer::Resolved) => status_of(fate),
+    match response {
+        Response::Answered(Answer::Resolved) => status_of(fate),
         other => Status::Waiting(waiting_by(other)),
     }
 }

@@ -14,7 +14,7 @@ ghost use Rattle.tx_resolve.specs.Facts.{Knows, IsPrimarysLock, IsPrimary, IsOth
 use crate::found::{For, Other, Others, Primary, other_by, primary_by, settled_by};
 use tx_client::{Resolved, Status, WaitCause, ask};
 use tx_core::{Body, CheckSecondaryLocks, CheckTxnStatus, ResolveLock};
-use tx_journal::{Naming, Reply, Request, Seat, Sender};
+use tx_journal::{JournalId, Reply, Request, Seat, Sender};
 use tx_types::{Fate, Fault, Key, LockInfo, Ts};
 
 // The check of a lock's primary.
@@ -54,7 +54,7 @@ fn settle_of(met: &LockInfo, fate: &Fate) -> Result<Body, Fault>
 }
 
 // Asks the primary of a lock.
-fn ask_primary<J: Naming, S: Sender<Request<J>, Reply<J>>>(
+fn ask_primary<J: JournalId, S: Sender<Request<J>, Reply<J>>>(
     seat: &mut Seat<J>,
     met: &LockInfo,
     who: &For,
@@ -64,7 +64,8 @@ fn ask_primary<J: Naming, S: Sender<Request<J>, Reply<J>>>(
     requires way { IsWay J.bounds S.fits S.sends S.keys_between }
     requires knows { Knows J.bounds seat.old.events met.now }
     requires two_phase { forced ≡ true → HasTwoPhaseLock seat.old.events met.now.start }
-    ensures sends { Sends S.sends J.bounds seat.old sender.old (primary_walk met.now who.now forced) result sender.new seat.new }
+    ensures sends { Sends S.sends J.bounds seat.old sender.old (primary_walk met.now who.now forced) result sender.new
+        seat.new }
     ensures knows { Knows J.bounds seat.new.events met.now }
     ensures found { IsPrimary seat.new.events met.now.start result }
 {
@@ -75,7 +76,7 @@ fn ask_primary<J: Naming, S: Sender<Request<J>, Reply<J>>>(
 }
 
 // Asks another key.
-fn ask_other<J: Naming, S: Sender<Request<J>, Reply<J>>>(
+fn ask_other<J: JournalId, S: Sender<Request<J>, Reply<J>>>(
     seat: &mut Seat<J>,
     met: &LockInfo,
     key: &Key,
@@ -84,7 +85,8 @@ fn ask_other<J: Naming, S: Sender<Request<J>, Reply<J>>>(
     requires way { IsWay J.bounds S.fits S.sends S.keys_between }
     requires knows { Knows J.bounds seat.old.events met.now }
     requires allowed { Allowed seat.old.events (other_of met.now.start key.now) }
-    ensures sends { Sends S.sends J.bounds seat.old sender.old (other_walk met.now.start key.now) result sender.new seat.new }
+    ensures sends { Sends S.sends J.bounds seat.old sender.old (other_walk met.now.start key.now) result sender.new
+        seat.new }
     ensures knows { Knows J.bounds seat.new.events met.now }
     ensures found { IsOther seat.new.events met.now.start key.now result }
 {
@@ -102,7 +104,7 @@ fn greater(a: Ts, b: Ts) -> Ts
 }
 
 // Asks the other keys, which the primary's lock lists, up to the first that has no async lock.
-fn ask_others<J: Naming, S: Sender<Request<J>, Reply<J>>>(
+fn ask_others<J: JournalId, S: Sender<Request<J>, Reply<J>>>(
     seat: &mut Seat<J>,
     met: &LockInfo,
     primary: &LockInfo,
@@ -111,7 +113,8 @@ fn ask_others<J: Naming, S: Sender<Request<J>, Reply<J>>>(
     requires way { IsWay J.bounds S.fits S.sends S.keys_between }
     requires knows { Knows J.bounds seat.old.events met.now }
     requires primary { IsPrimarysLock seat.old.events met.now.start primary.now }
-    ensures sends { Sends S.sends J.bounds seat.old sender.old (others_walk met.now.start primary.now.secondaries primary.now.min) result sender.new seat.new }
+    ensures sends { Sends S.sends J.bounds seat.old sender.old
+        (others_walk met.now.start primary.now.secondaries primary.now.min) result sender.new seat.new }
     ensures knows { Knows J.bounds seat.new.events met.now }
     ensures found { IsOthers seat.new.events met.now.start result }
 {
@@ -126,7 +129,7 @@ fn ask_others<J: Naming, S: Sender<Request<J>, Reply<J>>>(
 }
 
 // Gives the lock that was met the fate of its transaction.
-fn settle<J: Naming, S: Sender<Request<J>, Reply<J>>>(
+fn settle<J: JournalId, S: Sender<Request<J>, Reply<J>>>(
     seat: &mut Seat<J>,
     met: &LockInfo,
     fate: &Fate,
@@ -135,7 +138,8 @@ fn settle<J: Naming, S: Sender<Request<J>, Reply<J>>>(
     requires way { IsWay J.bounds S.fits S.sends S.keys_between }
     requires knows { Knows J.bounds seat.old.events met.now }
     requires decided { decided seat.old.events met.now.start ≡ Done fate.now }
-    ensures sends { Sends S.sends J.bounds seat.old sender.old (settle_walk met.now fate.now) result sender.new seat.new }
+    ensures sends { Sends S.sends J.bounds seat.old sender.old (settle_walk met.now fate.now) result sender.new
+        seat.new }
     ensures ends { Ends seat.new.events met.now.start result }
 {
     let Ok(body) = settle_of(met, fate) else {
@@ -145,7 +149,7 @@ fn settle<J: Naming, S: Sender<Request<J>, Reply<J>>>(
 }
 
 // What follows the answer of a primary to a check that was forced.
-fn after_forced<J: Naming, S: Sender<Request<J>, Reply<J>>>(
+fn after_forced<J: JournalId, S: Sender<Request<J>, Reply<J>>>(
     seat: &mut Seat<J>,
     met: &LockInfo,
     primary: &Primary,
@@ -154,7 +158,8 @@ fn after_forced<J: Naming, S: Sender<Request<J>, Reply<J>>>(
     requires way { IsWay J.bounds S.fits S.sends S.keys_between }
     requires knows { Knows J.bounds seat.old.events met.now }
     requires found { IsPrimary seat.old.events met.now.start primary.now }
-    ensures sends { Sends S.sends J.bounds seat.old sender.old (after_forced met.now primary.now) result sender.new seat.new }
+    ensures sends { Sends S.sends J.bounds seat.old sender.old (after_forced met.now primary.now) result sender.new
+        seat.new }
     ensures ends { Ends seat.new.events met.now.start result }
 {
     match primary {
@@ -165,7 +170,7 @@ fn after_forced<J: Naming, S: Sender<Request<J>, Reply<J>>>(
 }
 
 // Asks the primary of a transaction that has fallen back, as if it were two-phase.
-fn force<J: Naming, S: Sender<Request<J>, Reply<J>>>(
+fn force<J: JournalId, S: Sender<Request<J>, Reply<J>>>(
     seat: &mut Seat<J>,
     met: &LockInfo,
     who: &For,
@@ -174,7 +179,8 @@ fn force<J: Naming, S: Sender<Request<J>, Reply<J>>>(
     requires way { IsWay J.bounds S.fits S.sends S.keys_between }
     requires knows { Knows J.bounds seat.old.events met.now }
     requires two_phase { HasTwoPhaseLock seat.old.events met.now.start }
-    ensures sends { Sends S.sends J.bounds seat.old sender.old (forced_walk met.now who.now) result sender.new seat.new }
+    ensures sends { Sends S.sends J.bounds seat.old sender.old (forced_walk met.now who.now) result sender.new
+        seat.new }
     ensures ends { Ends seat.new.events met.now.start result }
 {
     let primary = ask_primary(seat, met, who, true, sender);
@@ -182,7 +188,7 @@ fn force<J: Naming, S: Sender<Request<J>, Reply<J>>>(
 }
 
 // What follows the answers of the other keys.
-fn after_others<J: Naming, S: Sender<Request<J>, Reply<J>>>(
+fn after_others<J: JournalId, S: Sender<Request<J>, Reply<J>>>(
     seat: &mut Seat<J>,
     met: &LockInfo,
     who: &For,
@@ -192,7 +198,8 @@ fn after_others<J: Naming, S: Sender<Request<J>, Reply<J>>>(
     requires way { IsWay J.bounds S.fits S.sends S.keys_between }
     requires knows { Knows J.bounds seat.old.events met.now }
     requires found { IsOthers seat.old.events met.now.start others.now }
-    ensures sends { Sends S.sends J.bounds seat.old sender.old (after_others met.now who.now others.now) result sender.new seat.new }
+    ensures sends { Sends S.sends J.bounds seat.old sender.old (after_others met.now who.now others.now) result
+        sender.new seat.new }
     ensures ends { Ends seat.new.events met.now.start result }
 {
     match others {
@@ -203,7 +210,7 @@ fn after_others<J: Naming, S: Sender<Request<J>, Reply<J>>>(
 }
 
 // Asks the other keys of an async transaction whose time is over.
-fn pursue<J: Naming, S: Sender<Request<J>, Reply<J>>>(
+fn pursue<J: JournalId, S: Sender<Request<J>, Reply<J>>>(
     seat: &mut Seat<J>,
     met: &LockInfo,
     who: &For,
@@ -213,7 +220,8 @@ fn pursue<J: Naming, S: Sender<Request<J>, Reply<J>>>(
     requires way { IsWay J.bounds S.fits S.sends S.keys_between }
     requires knows { Knows J.bounds seat.old.events met.now }
     requires primary { IsPrimarysLock seat.old.events met.now.start primary.now }
-    ensures sends { Sends S.sends J.bounds seat.old sender.old (expired_walk met.now who.now primary.now) result sender.new seat.new }
+    ensures sends { Sends S.sends J.bounds seat.old sender.old (expired_walk met.now who.now primary.now) result
+        sender.new seat.new }
     ensures ends { Ends seat.new.events met.now.start result }
 {
     let others = ask_others(seat, met, primary, sender);
@@ -221,7 +229,7 @@ fn pursue<J: Naming, S: Sender<Request<J>, Reply<J>>>(
 }
 
 // What follows the answer of a primary.
-fn after_primary<J: Naming, S: Sender<Request<J>, Reply<J>>>(
+fn after_primary<J: JournalId, S: Sender<Request<J>, Reply<J>>>(
     seat: &mut Seat<J>,
     met: &LockInfo,
     who: &For,
@@ -231,7 +239,8 @@ fn after_primary<J: Naming, S: Sender<Request<J>, Reply<J>>>(
     requires way { IsWay J.bounds S.fits S.sends S.keys_between }
     requires knows { Knows J.bounds seat.old.events met.now }
     requires found { IsPrimary seat.old.events met.now.start primary.now }
-    ensures sends { Sends S.sends J.bounds seat.old sender.old (after_primary met.now who.now primary.now) result sender.new seat.new }
+    ensures sends { Sends S.sends J.bounds seat.old sender.old (after_primary met.now who.now primary.now) result
+        sender.new seat.new }
     ensures ends { Ends seat.new.events met.now.start result }
 {
     match primary {
@@ -242,7 +251,7 @@ fn after_primary<J: Naming, S: Sender<Request<J>, Reply<J>>>(
 }
 
 /// Finds what became of the transaction of a lock.
-pub(crate) fn resolve_for<J: Naming, S: Sender<Request<J>, Reply<J>>>(
+pub(crate) fn resolve_for<J: JournalId, S: Sender<Request<J>, Reply<J>>>(
     seat: &mut Seat<J>,
     met: &LockInfo,
     who: &For,
@@ -250,7 +259,8 @@ pub(crate) fn resolve_for<J: Naming, S: Sender<Request<J>, Reply<J>>>(
 ) -> Status
     requires way { IsWay J.bounds S.fits S.sends S.keys_between }
     requires knows { Knows J.bounds seat.old.events met.now }
-    ensures sends { Sends S.sends J.bounds seat.old sender.old (resolve_walk met.now who.now) result sender.new seat.new }
+    ensures sends { Sends S.sends J.bounds seat.old sender.old (resolve_walk met.now who.now) result sender.new
+        seat.new }
     ensures ends { Ends seat.new.events met.now.start result }
 {
     let primary = ask_primary(seat, met, who, false, sender);
@@ -264,7 +274,7 @@ pub(crate) fn resolve_for<J: Naming, S: Sender<Request<J>, Reply<J>>>(
 /// keys too. What was found is so in what the seat has then seen. Waiting says why: the lock lives,
 /// nothing of the transaction stands on its primary, or a reply was lost or refused below the safe
 /// point or for want of memory.
-pub fn resolve<J: Naming, S: Sender<Request<J>, Reply<J>>>(
+pub fn resolve<J: JournalId, S: Sender<Request<J>, Reply<J>>>(
     seat: &mut Seat<J>,
     met: &LockInfo,
     reader: Ts,
@@ -274,7 +284,8 @@ pub fn resolve<J: Naming, S: Sender<Request<J>, Reply<J>>>(
     requires way { IsWay J.bounds S.fits S.sends S.keys_between }
     requires told { WasToldOf seat.old.events met.now }
     ensures start { result.start ≡ met.now.start }
-    ensures sends { Sends S.sends J.bounds seat.old sender.old (resolve_walk met.now (For.Reader reader now)) result.status sender.new seat.new }
+    ensures sends { Sends S.sends J.bounds seat.old sender.old (resolve_walk met.now (For.Reader reader now))
+        result.status sender.new seat.new }
     ensures told { result.events ≡ seat.new.events }
 {
     // For proofs: what the seat has seen is a world run.

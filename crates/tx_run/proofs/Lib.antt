@@ -1,7 +1,9 @@
 -- Why a run tells what it promises.
+pub mod Answering
 pub mod Counting
 pub mod Gathering
 pub mod LineOrder
 pub mod Seating
+pub mod Sourcing
 pub mod Sums
 pub mod Writing

@@ -25,17 +25,17 @@ pub own_distinct : (last : ℕ) (jobs : List Working) → HaveOwnSeats last jobs
 own_distinct last jobs own i j a b p q e = sym (own i a p).0 ∙ e ∙ (own j b q).0
 
 -- each result is of a lower seat than those before it
-pub falling : (last : ℕ) (jobs outs : List Working) → HaveOwnSeats last jobs → length outs ≡ length jobs
-    → ((place : ℕ) (job out : Working) → slice_get jobs place ≡ Some job → slice_get outs place ≡ Some out → out.log.seat ≡ job.log.seat) → AreFalling outs
-falling last jobs outs own len kept i j d lt bound =
+pub falling : (last : ℕ) (jobs outputs : List Working) → HaveOwnSeats last jobs → length outputs ≡ length jobs
+    → ((index : ℕ) (job output : Working) → slice_get jobs index ≡ Some job → slice_get outputs index ≡ Some output → output.log.seat ≡ job.log.seat) → AreFalling outputs
+falling last jobs outputs own len kept i j d lt bound =
     let si = seat_at i (omega arith) in
     let sj = seat_at j bound in
     omega (arith, si, sj)
   where
-    seat_at : (n : ℕ) → n < length outs → (get_or outs n d).log.seat + 2 * n ≡ last
+    seat_at : (n : ℕ) → n < length outputs → (get_or outputs n d).log.seat + 2 * n ≡ last
     seat_at n b =
         let of_job = slice_get-get_or jobs n d (omega (arith, len, b)) in
-        let is = kept n (get_or jobs n d) (get_or outs n d) of_job (slice_get-get_or outs n d b) in
+        let is = kept n (get_or jobs n d) (get_or outputs n d) of_job (slice_get-get_or outputs n d b) in
         ap (λ m. m + 2 * n) is ∙ (own n (get_or jobs n d) of_job).1
 
 -- ---- seats in their order

@@ -2,7 +2,7 @@
 use Rattle.std.proofs.Common.{◌≡◌, ℕ, List, [], ◌∷◌, ◌++◌, append_assoc, sym, ap, ◌∙◌, codes}
 use Rattle.std.specs.Prelude.{decimal}
 use Rattle.json.specs.Print.{escape_byte}
-use Rattle.tx_run.specs.declared.counts.Counts.{Counts}
+use Rattle.tx_run.specs.declared.counts.RunCounts.{RunCounts}
 use Rattle.tx_run.specs.Texts.{outcomes_text}
 
 all_parts : (old t a b c d e : List ℕ) → (((((old ++ t) ++ a) ++ b) ++ c) ++ d) ++ e ≡ old ++ (t ++ (a ++ (b ++ (c ++ (d ++ e)))))
@@ -15,7 +15,7 @@ newline_last a b c d =
     ∙ ap (λ l. a ++ 44 ∷ l) (append_assoc b (44 ∷ (c ++ 44 ∷ (d ++ 93 ∷ []))) (10 ∷ [])
     ∙ ap (λ l. b ++ 44 ∷ l) (append_assoc c (44 ∷ (d ++ 93 ∷ [])) (10 ∷ []) ∙ ap (λ l. c ++ 44 ∷ l) (append_assoc d (93 ∷ []) (10 ∷ []))))
 
-pub outcomes_is : (old : List ℕ) (counts : Counts)
+pub outcomes_is : (old : List ℕ) (counts : RunCounts)
     → (((((old ++ codes "[\"outcomes\"") ++ 44 ∷ decimal counts.committed) ++ 44 ∷ decimal counts.aborted) ++ 44 ∷ decimal counts.unknown) ++ 44 ∷ decimal counts.read_only) ++ 93 ∷ 10 ∷ [] ≡ old ++ outcomes_text counts
 unfolding outcomes_text escape_byte
 outcomes_is old counts =

@@ -9,10 +9,10 @@ use Rattle.std.proofs.lemmas.Grind.{flat_map-append}
 use Rattle.tx_core.specs.Worlds.{IsWorldRun}
 use Rattle.tx_journal.specs.Known.{Seen}
 use Rattle.tx_text.specs.Output.{AppendsPart}
-use Rattle.tx_ledger.specs.declared.reply.Spoken.{Spoken}
-use Rattle.tx_ledger.specs.Outcomes.{TellsOutcomes}
-use Rattle.tx_ledger.specs.Sources.{TellsPair}
-use Rattle.tx_work.specs.declared.seeds.Total.{Total}
+use Rattle.tx_run.specs.declared.reply.LineReply.{LineReply}
+use Rattle.tx_run.specs.Outcomes.{TellsOutcomes}
+use Rattle.tx_run.specs.Pairs.{TellsPair}
+use Rattle.tx_transfer.specs.declared.total.Total.{Total}
 use Rattle.tx_run.specs.Texts.{IsTextOf, IsTextFrom, WritesPart}
 
 pub on_any_err : {T E : Type 0} (P : Type 0) (r : Result T E) → P → OnErr r P
@@ -87,6 +87,6 @@ module _ {P X : Type 0} (f : X → List ℕ) (v : P → X) (xs : List P) (i : �
 
 -- ---- of what was played
 
-pub from_played : (source old new : Option (List ℕ)) (seen : Seen) (replies : List Spoken) (total : Total) → IsWorldRun seen.bounds seen.events → TellsOutcomes seen.events replies → All (TellsPair source) replies → WritesPart old new (IsTextOf replies total) → WritesPart old new (IsTextFrom source)
+pub from_played : (source old new : Option (List ℕ)) (seen : Seen) (replies : List LineReply) (total : Total) → IsWorldRun seen.bounds seen.events → TellsOutcomes seen.events replies → All (TellsPair source) replies → WritesPart old new (IsTextOf replies total) → WritesPart old new (IsTextFrom source)
 from_played source old new seen replies total run told pairs (inl kept) = inl kept
 from_played source old new seen replies total run told pairs (inr (text, is, part)) = inr (text, inr (seen, replies, total, run, told, pairs, is), part)

@@ -1,3 +1,10 @@
-pub mod Asking
+pub mod Faults
 pub mod Jobs
+pub mod Latches
+pub mod Lines
+pub mod Logs
+pub mod Outcomes
+pub mod Pairs
+pub mod Replies
+pub mod Scripts
 pub mod Texts

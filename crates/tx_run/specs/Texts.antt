@@ -15,54 +15,54 @@ use Rattle.tx_text.specs.Faults.{fault_words}
 use Rattle.tx_text.specs.Output.{AppendsPart}
 use Rattle.tx_text.specs.Members.{reply_text}
 use Rattle.tx_text.specs.Texts.{line_text}
-use Rattle.tx_ledger.specs.declared.balance.TheConstants.{BALANCES}
-use Rattle.tx_ledger.specs.declared.reply.Reply.{Reply}
-use Rattle.tx_ledger.specs.declared.reply.Reply.TheVariants.{Said, Ended}
-use Rattle.tx_ledger.specs.declared.reply.Spoken.{Spoken}
-use Rattle.tx_ledger.specs.Faults.{TellsFault}
-use Rattle.tx_ledger.specs.Lines.{line_of}
-use Rattle.tx_ledger.specs.Outcomes.{TellsOutcomes}
-use Rattle.tx_ledger.specs.Sources.{TellsPair}
-use Rattle.tx_work.specs.declared.seeds.Total.{Total}
-use Rattle.tx_run.specs.declared.counts.Counts.{Counts}
-use Rattle.tx_run.specs.declared.play.Played.{Played}
+use Rattle.tx_transfer.specs.declared.balance.TheConstants.{BALANCES}
+use Rattle.tx_run.specs.declared.reply.LineAnswer.{LineAnswer}
+use Rattle.tx_run.specs.declared.reply.LineAnswer.TheVariants.{Plain, Ended}
+use Rattle.tx_run.specs.declared.reply.LineReply.{LineReply}
+use Rattle.tx_run.specs.Faults.{TellsFault}
+use Rattle.tx_run.specs.Lines.{line_of}
+use Rattle.tx_run.specs.Outcomes.{TellsOutcomes}
+use Rattle.tx_run.specs.Pairs.{TellsPair}
+use Rattle.tx_transfer.specs.declared.total.Total.{Total}
+use Rattle.tx_run.specs.declared.counts.RunCounts.{RunCounts}
+use Rattle.tx_run.specs.declared.play.RunResult.{RunResult}
 
 -- ---- how many lines are told each outcome
 
-abbrev pub is_committed : Reply → Bool
+abbrev pub is_committed : LineAnswer → Bool
 is_committed (Ended start (outcome.Committed c) keys) = true
 is_committed _ = false
 
-abbrev pub is_aborted : Reply → Bool
+abbrev pub is_aborted : LineAnswer → Bool
 is_aborted (Ended start outcome.Aborted keys) = true
 is_aborted _ = false
 
-abbrev pub is_unknown : Reply → Bool
+abbrev pub is_unknown : LineAnswer → Bool
 is_unknown (Ended start (outcome.Unknown why) keys) = true
 is_unknown _ = false
 
-abbrev pub is_read_only : Reply → Bool
+abbrev pub is_read_only : LineAnswer → Bool
 is_read_only (Ended start outcome.ReadOnly keys) = true
 is_read_only _ = false
 
-abbrev pub counts_of : List Spoken → Counts
+abbrev pub counts_of : List LineReply → RunCounts
 counts_of lines = record {
-  committed = count_by (λ s. is_committed s.reply) lines;
-  aborted = count_by (λ s. is_aborted s.reply) lines;
-  unknown = count_by (λ s. is_unknown s.reply) lines;
-  read_only = count_by (λ s. is_read_only s.reply) lines;
+  committed = count_by (λ s. is_committed s.answer) lines;
+  aborted = count_by (λ s. is_aborted s.answer) lines;
+  unknown = count_by (λ s. is_unknown s.answer) lines;
+  read_only = count_by (λ s. is_read_only s.answer) lines;
 }
 
 -- the counts, with the outcome that one more line is told, if it is told one
-abbrev pub counted : Counts → Reply → Counts
+abbrev pub counted : RunCounts → LineAnswer → RunCounts
 counted counts (Ended start (outcome.Committed c) keys) = record counts { committed = counts.committed + 1 }
 counted counts (Ended start outcome.Aborted keys) = record counts { aborted = counts.aborted + 1 }
 counted counts (Ended start (outcome.Unknown why) keys) = record counts { unknown = counts.unknown + 1 }
 counted counts (Ended start outcome.ReadOnly keys) = record counts { read_only = counts.read_only + 1 }
-counted counts (Said said) = counts
+counted counts (Plain plain) = counts
 
 -- one more of each fits
-pub record IsRoomy (counts : Counts) : Type 0 where
+pub record IsRoomy (counts : RunCounts) : Type 0 where
   pub committed : counts.committed + 1 < 2 ^ 64
   pub aborted : counts.aborted + 1 < 2 ^ 64
   pub unknown : counts.unknown + 1 < 2 ^ 64
@@ -70,24 +70,27 @@ pub record IsRoomy (counts : Counts) : Type 0 where
 
 -- ---- the two lines of sums
 
-unfoldable pub outcomes_text : Counts → List ℕ
-outcomes_text counts = line_text (item (string (codes "outcomes")) (item (number (unsigned counts.committed)) (item (number (unsigned counts.aborted))
+unfoldable pub outcomes_text : RunCounts → List ℕ
+outcomes_text counts = line_text (item (string (codes "outcomes"))
+    (item (number (unsigned counts.committed)) (item (number (unsigned counts.aborted))
     (item (number (unsigned counts.unknown)) (item (number (unsigned counts.read_only)) no_items)))))
 
 -- the sum of all balances in one number
 unfoldable pub total_text : Total → List ℕ
-total_text total = line_text (item (string (codes "total")) (item (number (unsigned (total.high * BALANCES + total.low))) no_items))
+total_text total = line_text (item (string (codes "total"))
+    (item (number (unsigned (total.high * BALANCES + total.low))) no_items))
 
 -- ---- the whole text
 
 -- these answers, in the order of their lines
-pub record AreInOrder (replies lines : List Spoken) : Type 0 where
+pub record AreInOrder (replies lines : List LineReply) : Type 0 where
   pub same : IsPermutation replies lines
   pub rising : IsNonDecreasingBy (λ s. s.number) lines
 
 -- a line for each of the answers and for no other, in the order of the script, and then the sums
-abbrev pub IsTextOf : List Spoken → Total → List ℕ → Type 0
-IsTextOf replies total text = (lines : List Spoken) × AreInOrder replies lines × (text ≡ flat_map line_of lines ++ (outcomes_text (counts_of lines) ++ total_text total))
+abbrev pub IsTextOf : List LineReply → Total → List ℕ → Type 0
+IsTextOf replies total text = (lines : List LineReply) × AreInOrder replies lines
+    × (text ≡ flat_map line_of lines ++ (outcomes_text (counts_of lines) ++ total_text total))
 
 -- the line of the fault that the script has, by the number of the line that has it
 abbrev pub IsFaultText : Option (List ℕ) → List ℕ → Type 0
@@ -96,12 +99,12 @@ IsFaultText source text =
 
 -- the text of a run of this script: of what it hands back, or of the fault for which nothing was
 -- played
-abbrev pub IsRunText : Option (List ℕ) → Option Played → List ℕ → Type 0
+abbrev pub IsRunText : Option (List ℕ) → Option RunResult → List ℕ → Type 0
 IsRunText source None text = IsFaultText source text
 IsRunText source (Some played) text = IsTextOf played.replies played.total text
 
 -- how a run ends: with a fault where nothing was played, or where one ended a session
-abbrev pub end_of : Option Played → End
+abbrev pub end_of : Option RunResult → End
 end_of None = Faulted
 end_of (Some played) = if played.faulted then Faulted else Well
 
@@ -109,8 +112,8 @@ end_of (Some played) = if played.faulted then Faulted else Well
 -- sessions had seen
 abbrev pub IsTextFrom : Option (List ℕ) → List ℕ → Type 0
 IsTextFrom source text = IsFaultText source text
-    ⊎ ((seen : Seen) × (replies : List Spoken) × (total : Total) × IsWorldRun seen.bounds seen.events × TellsOutcomes seen.events replies
-    × All (TellsPair source) replies × IsTextOf replies total text)
+    ⊎ ((seen : Seen) × (replies : List LineReply) × (total : Total) × IsWorldRun seen.bounds seen.events
+    × TellsOutcomes seen.events replies × All (TellsPair source) replies × IsTextOf replies total text)
 
 -- ---- what is written
 

@@ -3,56 +3,56 @@
 ghost use Rattle.std.specs.Prelude.{◌≡◌, ◌++◌, map, OnOk};
 ghost use Rattle.tx_run.specs.Texts.{IsRoomy, counted, counts_of, outcomes_text, total_text};
 
+use crate::reply::{LineAnswer, LineReply};
 use itoa::Buffer;
 use std::alloc::AllocError;
 use tx_core::Outcome;
-use tx_ledger::{BALANCES, Reply, Spoken};
 use tx_text::put_number;
-use tx_work::Total;
+use tx_transfer::{BALANCES, Total};
 
 /// How many lines are told each outcome.
 #[derive(Clone, Copy, Debug, PartialEq, Eq)]
-pub(crate) struct Counts {
+pub(crate) struct RunCounts {
     pub committed: u64,
     pub aborted: u64,
     pub unknown: u64,
     pub read_only: u64,
 }
 
-impl Counts {
+impl RunCounts {
     // Counts the outcome that one more line is told, if it is told one.
-    fn add(&mut self, reply: &Reply)
+    fn add(&mut self, answer: &LineAnswer)
         requires { IsRoomy self.old }
-        ensures { self.new ≡ counted self.old reply.now }
+        ensures { self.new ≡ counted self.old answer.now }
     {
-        match reply {
-            Reply::Ended(_, Outcome::Committed(_), _) => self.committed += 1,
-            Reply::Ended(_, Outcome::Aborted, _) => self.aborted += 1,
-            Reply::Ended(_, Outcome::Unknown(_), _) => self.unknown += 1,
-            Reply::Ended(_, Outcome::ReadOnly, _) => self.read_only += 1,
-            Reply::Said(_) => {}
+        match answer {
+            LineAnswer::Ended(_, Outcome::Committed(_), _) => self.committed += 1,
+            LineAnswer::Ended(_, Outcome::Aborted, _) => self.aborted += 1,
+            LineAnswer::Ended(_, Outcome::Unknown(_), _) => self.unknown += 1,
+            LineAnswer::Ended(_, Outcome::ReadOnly, _) => self.read_only += 1,
+            LineAnswer::Plain(_) => {}
         }
     }
 }
 
 /// How many of these lines are told each outcome.
-pub(crate) fn counts_of(lines: &[(u64, &Spoken)]) -> Counts
+pub(crate) fn counts_of(lines: &[(u64, &LineReply)]) -> RunCounts
     ensures { result ≡ counts_of (map (λ line. line.1.now) lines.now) }
 {
-    let mut counts = Counts {
+    let mut counts = RunCounts {
         committed: 0,
         aborted: 0,
         unknown: 0,
         read_only: 0,
     };
-    for (_, spoken) in lines {
-        counts.add(&spoken.reply);
+    for (_, reply) in lines {
+        counts.add(&reply.answer);
     }
     counts
 }
 
 /// Appends the line of the counts.
-pub(crate) fn put_outcomes(out: &mut Vec<u8>, counts: Counts) -> Result<(), AllocError>
+pub(crate) fn put_outcomes(out: &mut Vec<u8>, counts: RunCounts) -> Result<(), AllocError>
     ensures { OnOk result (out.new.items ≡ out.old.items ++ outcomes_text counts) }
 {
     out.extend_from_slice(b"[\"outcomes\"")?;

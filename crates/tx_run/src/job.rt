@@ -3,43 +3,46 @@
 ghost use Rattle.std.specs.Prelude.{◌≡◌, IfOk};
 ghost use Rattle.tx_run.specs.Jobs.{StaysSame};
 
-mod asking;
+mod latches;
 mod lines;
-mod moving;
+mod transfer;
 
-use crate::out::Out;
-use crate::place::Place;
+use crate::log::RunLog;
+use crate::output::JobOutput;
+use crate::script::SessionLine;
+use crate::state::JobState;
 use std::marker::Model;
 use std::mem::replace;
 use std::sync::Wait;
 use tx_cells::Families;
 use tx_client::Session;
 use tx_core::Answer;
-use tx_journal::{Naming, Seat};
+use tx_journal::{JournalId, Seat};
 use tx_latch::Slot;
-use tx_ledger::{Entry, Log, Source, Words};
-use tx_reply::Reply;
+use tx_reply::ScriptReply;
 use tx_sched::{Job, Turn};
+use tx_transfer::{
+    Collector, Context, PlainReply, Source, TransferProgress, TransferState, slots_of,
+};
 use tx_types::{Cause, Fault};
-use tx_work::{Access, After, Collector, Moving, slots_of};
 
 /// A session, the lines that are left of it, and what was answered. Contracts see its
 /// number and its log.
 #[derive(Drop)]
-pub(crate) struct ScriptJob<J: Naming, L: Source, F: Families + Drop, R: Wait + Drop> {
+pub(crate) struct ScriptJob<J: JournalId, L: Source, F: Families + Drop, R: Wait + Drop> {
     number: u32,
-    access: Access<J, F, R>,
-    place: Place<Seat<J>, Box<Session<J>>, Box<Moving<J, L>>>,
-    log: Log<J, L>,
+    context: Context<J, F, R>,
+    state: JobState<Seat<J>, Box<Session<J>>, Box<TransferState<J, L>>>,
+    log: RunLog<J, L>,
     /// The last line first.
-    lines: Vec<Entry<L>>,
+    lines: Vec<SessionLine<L>>,
     /// The slots of the lock that last stood in its way.
     met: Vec<Slot>,
     collector: Collector,
     faulted: bool,
 }
 
-impl<J: Naming, L: Source, F: Families + Drop, R: Wait + Drop> Model for ScriptJob<J, L, F, R> {
+impl<J: JournalId, L: Source, F: Families + Drop, R: Wait + Drop> Model for ScriptJob<J, L, F, R> {
     ghost use Rattle.tx_run.specs.Jobs.{Working};
 
     ghost Value = { Working };
@@ -47,25 +50,25 @@ impl<J: Naming, L: Source, F: Families + Drop, R: Wait + Drop> Model for ScriptJ
     ghost view = { λ j. record { number = j.number; log = j.log } };
 }
 
-impl<J: Naming, L: Source, F: Families + Drop, R: Wait + Drop> ScriptJob<J, L, F, R> {
+impl<J: JournalId, L: Source, F: Families + Drop, R: Wait + Drop> ScriptJob<J, L, F, R> {
     /// A job of these lines, which come in the order of the script.
     pub fn new(
         number: u32,
-        access: Access<J, F, R>,
+        context: Context<J, F, R>,
         seat: Seat<J>,
-        mut lines: Vec<Entry<L>>,
+        mut lines: Vec<SessionLine<L>>,
         collector: Collector,
     ) -> Result<ScriptJob<J, L, F, R>, Fault>
         ensures { IfOk result (λ job. (job.number ≡ number) × (job.log.seat ≡ seat.seat)) }
     {
-        let alloc = access.alloc;
+        let alloc = context.alloc;
         let mut seat = seat;
-        let log = Log::new(&mut seat, Vec::with_capacity(alloc, lines.len())?);
+        let log = RunLog::new(&mut seat, Vec::with_capacity(alloc, lines.len())?);
         lines.reverse();
         Ok(ScriptJob {
             number,
-            access,
-            place: Place::Free(seat),
+            context,
+            state: JobState::Free(seat),
             log,
             lines,
             met: Vec::new(alloc),
@@ -74,55 +77,55 @@ impl<J: Naming, L: Source, F: Families + Drop, R: Wait + Drop> ScriptJob<J, L, F
         })
     }
 
-    // Stands so from now on.
-    fn stand(&mut self, place: Place<Seat<J>, Box<Session<J>>, Box<Moving<J, L>>>)
+    // Is in this state from now on.
+    fn set_state(&mut self, state: JobState<Seat<J>, Box<Session<J>>, Box<TransferState<J, L>>>)
         ensures { StaysSame self.old self.new }
     {
-        drop(replace(&mut self.place, place));
+        drop(replace(&mut self.state, state));
     }
 
     // Keeps the answer of a line.
-    fn tell(&mut self, number: u64, words: Words)
+    fn report(&mut self, number: u64, plain: PlainReply)
         ensures { StaysSame self.old self.new }
     {
-        if let Reply::Answered(Answer::KeyIsLocked(info)) = words.reply() {
-            if let Ok(slots) = slots_of(self.access.alloc, info) {
+        if let ScriptReply::Answered(Answer::KeyIsLocked(info)) = plain.reply() {
+            if let Ok(slots) = slots_of(self.context.alloc, info) {
                 self.met = slots;
             }
         }
-        self.log.say(number, Ok(words));
+        self.log.keep(number, Ok(plain));
     }
 
     // A fault of the script ends the session.
-    fn fails(&mut self, number: u64, cause: Cause)
+    fn fail(&mut self, number: u64, cause: Cause)
         ensures { StaysSame self.old self.new }
     {
         self.faulted = true;
         self.lines.clear();
-        self.log.say(number, Err(cause));
+        self.log.keep(number, Err(cause));
     }
 
     // Keeps what came of a line.
-    fn heed(&mut self, number: u64, came: Result<Words, Cause>)
+    fn on_answer(&mut self, number: u64, answer: Result<PlainReply, Cause>)
         ensures { StaysSame self.old self.new }
     {
-        match came {
-            Ok(words) => self.tell(number, words),
-            Err(cause) => self.fails(number, cause),
+        match answer {
+            Ok(plain) => self.report(number, plain),
+            Err(cause) => self.fail(number, cause),
         }
     }
 
-    fn out(&mut self) -> Out<J, L>
-        ensures out { (result.number ≡ self.old.number) × (result.log.seat ≡ self.old.log.seat) }
+    fn output(&mut self) -> JobOutput<J, L>
+        ensures output { (result.number ≡ self.old.number) × (result.log.seat ≡ self.old.log.seat) }
     {
-        let empty = Vec::new(self.access.alloc);
-        let log = self.access.take(&mut self.log, empty);
-        Out {
+        let empty = Vec::new(self.context.alloc);
+        let log = self.log.take(self.context.resolver(), empty);
+        JobOutput {
             number: self.number,
             log,
             faulted: self.faulted,
             collected: self.collector.dropped(),
-            refusals: self.access.refusals(),
+            refusals: self.context.refusals(),
         }
     }
 
@@ -131,40 +134,40 @@ impl<J: Naming, L: Source, F: Families + Drop, R: Wait + Drop> ScriptJob<J, L, F
     fn advance(&mut self)
         ensures { StaysSame self.old self.new }
     {
-        if !self.is_moving() {
-            if let Some(entry) = self.lines.pop() {
-                self.enter(entry);
+        if !self.is_transferring() {
+            if let Some(line) = self.lines.pop() {
+                self.enter(line);
             }
         }
-        let after = self.goes_on();
-        if after != After::Goes {
-            self.ends(after);
+        let progress = self.advance_transfer();
+        if progress != TransferProgress::More {
+            self.finish_transfer(progress);
         }
     }
 
     // Collects, if it is its turn to and no transaction of its own is open.
-    fn collects(&mut self)
+    fn collect(&mut self)
         ensures { StaysSame self.old self.new }
     {
-        if matches!(&self.place, Place::Free(_)) {
-            self.collector.collect(&mut self.access);
+        if matches!(&self.state, JobState::Free(_)) {
+            self.collector.collect(&mut self.context);
         }
     }
 
-    fn is_moving(&self) -> bool {
-        matches!(&self.place, Place::Moving(..))
+    fn is_transferring(&self) -> bool {
+        matches!(&self.state, JobState::Transfer(..))
     }
 
     // Whether it has nothing left to do.
     fn is_done(&self) -> bool {
-        self.lines.is_empty() && !self.is_moving()
+        self.lines.is_empty() && !self.is_transferring()
     }
 }
 
-impl<J: Naming, L: Source, F: Families + Drop, R: Wait + Drop> Job for ScriptJob<J, L, F, R> {
+impl<J: JournalId, L: Source, F: Families + Drop, R: Wait + Drop> Job for ScriptJob<J, L, F, R> {
     ghost use Rattle.std.specs.Prelude.{◌≡◌};
 
-    type Out = Out<J, L>;
+    type Out = JobOutput<J, L>;
 
     ghost numbered = { λ j. j.number };
 
@@ -177,18 +180,18 @@ impl<J: Naming, L: Source, F: Families + Drop, R: Wait + Drop> Job for ScriptJob
     }
 
     fn slots(&self, slots: &mut Vec<Slot>) -> Result<(), Fault> {
-        match &self.place {
-            Place::Moving(moving) => moving.slots(slots),
-            Place::Live(session) => self.line_slots(session, slots),
-            Place::Free(_) | Place::Gone => Ok(()),
+        match &self.state {
+            JobState::Transfer(transfer) => transfer.slots(slots),
+            JobState::Live(session) => self.line_slots(session, slots),
+            JobState::Free(_) | JobState::Taken => Ok(()),
         }
     }
 
-    fn step(&mut self) -> Turn<Out<J, L>> {
-        self.collects();
+    fn step(&mut self) -> Turn<JobOutput<J, L>> {
+        self.collect();
         self.advance();
         if self.is_done() {
-            Turn::Done(self.out())
+            Turn::Done(self.output())
         } else {
             Turn::More
         }

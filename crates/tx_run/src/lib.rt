@@ -5,16 +5,22 @@
 
 mod counts;
 mod job;
-mod out;
-mod place;
+mod log;
+mod output;
 mod play;
+mod replies;
+mod reply;
 mod run;
+mod script;
+mod seeds;
 mod settings;
+mod state;
 mod write;
 
-pub use play::Played;
+pub use play::RunResult;
+pub use replies::Replies;
+pub use reply::{LineAnswer, LineReply};
 pub use run::run_script;
 pub use settings::Settings;
 pub use tx_cells::{Makes, Plain};
-pub use tx_ledger::{Reply, Spoken, Words};
-pub use tx_work::{Refusals, Total};
+pub use tx_transfer::{PlainReply, Refusals, Total};

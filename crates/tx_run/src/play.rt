@@ -1,28 +1,31 @@
 //! Playing a script: its seeds, and then its sessions side by side, by workers.
 ghost use Rattle.std.specs.Prelude.{◌≡◌, ◌<◌, ◌+◌, ◌*◌, ◌≤◌, All, IfOk, IfSome, OnOk, None, length, vec_len};
-ghost use Rattle.tx_ledger.specs.Outcomes.{TellsOutcomes, start_of};
+ghost use Rattle.tx_run.specs.Outcomes.{TellsOutcomes, start_of};
 ghost use Rattle.tx_run.specs.Jobs.{IsAbove, AreFalling, AreFrom, HaveOwnSeats, Joins, ComesOf};
-ghost use Rattle.tx_ledger.specs.Scripts.{IsWithin};
-ghost use Rattle.tx_ledger.specs.Sources.{TellsPair};
+ghost use Rattle.tx_run.specs.Scripts.{IsWithin};
+ghost use Rattle.tx_run.specs.Pairs.{TellsPair};
 
 use crate::job::ScriptJob;
-use crate::out::Out;
+use crate::output::JobOutput;
+use crate::replies::Replies;
+use crate::reply::{LineAnswer, LineReply};
+use crate::script::{Script, ScriptLine, SessionLine};
+use crate::seeds::play_seeds;
 use crate::settings::Settings;
 use std::alloc::Global;
 use std::marker::Brand;
 use std::sync::{Arc, Wait};
 use std::thread::Threads;
 use tx_cells::{Families, Makes, make_families};
-use tx_journal::{Naming, Opened, Seat, Unnamed};
-use tx_ledger::{Entry, Replies, Reply, Said, Script, Source, Spoken, Words};
+use tx_journal::{JournalId, Opened, Seat, Unnamed};
 use tx_sched::{Gate, run_sessions};
 use tx_store::Store;
 use tx_text::Broken;
+use tx_transfer::{Collector, Context, PlainReply, Refusals, Source, Total, read_total};
 use tx_types::Fault;
-use tx_work::{Access, Collector, Refusals, Total, play_seeds, read_total};
 
 // A store, and the seats for others than its regions.
-fn open<J: Naming, F: Families + Drop, M: Makes<F>>(
+fn open<J: JournalId, F: Families + Drop, M: Makes<F>>(
     alloc: Global,
     make: &M,
     opened: Opened,
@@ -37,10 +40,11 @@ fn open<J: Naming, F: Families + Drop, M: Makes<F>>(
 }
 
 // The last two of the seats: for a session, and for its resolver.
-fn two_seats<J: Naming>(seats: &mut Vec<Seat<J>>) -> Option<(Seat<J>, Seat<J>)>
+fn two_seats<J: JournalId>(seats: &mut Vec<Seat<J>>) -> Option<(Seat<J>, Seat<J>)>
     requires { AreFrom (length J.bounds + 1) seats.old.items }
     ensures rest { AreFrom (length J.bounds + 1) seats.new.items }
-    ensures two { IfSome result (λ two. (vec_len seats.new + 2 ≡ vec_len seats.old) × (two.0.seat ≡ length J.bounds + vec_len seats.old)) }
+    ensures two { IfSome result (λ two. (vec_len seats.new + 2 ≡ vec_len seats.old)
+        × (two.0.seat ≡ length J.bounds + vec_len seats.old)) }
 {
     let seat = seats.pop()?;
     let resolver = seats.pop()?;
@@ -48,12 +52,12 @@ fn two_seats<J: Naming>(seats: &mut Vec<Seat<J>>) -> Option<(Seat<J>, Seat<J>)>
 }
 
 // The sessions' jobs, numbered in their order, each with a seat of its own.
-fn jobs<J: Naming, L: Source, F: Families + Drop, R: Wait + Clone + Drop>(
+fn jobs<J: JournalId, L: Source, F: Families + Drop, R: Wait + Clone + Drop>(
     rt: &R,
     alloc: Global,
     store: &Arc<Store<J, F>>,
     mut seats: Vec<Seat<J>>,
-    sessions: Vec<Vec<Entry<L>>>,
+    sessions: Vec<Vec<SessionLine<L>>>,
     life_time: Option<u64>,
 ) -> Result<Vec<ScriptJob<J, L, F, R>>, Fault>
     requires seats { AreFrom (length J.bounds + 1) seats.items }
@@ -66,9 +70,9 @@ fn jobs<J: Naming, L: Source, F: Families + Drop, R: Wait + Clone + Drop>(
         let Some((seat, resolver)) = two_seats(&mut seats) else {
             return Err(Fault::OutOfMemory);
         };
-        let access = Access::new(alloc, rt.clone()?, store.clone()?, resolver);
+        let context = Context::new(alloc, rt.clone()?, store.clone()?, resolver);
         let collector = Collector::of(number, life_time);
-        jobs.push(ScriptJob::new(number, access, seat, lines, collector)?)?;
+        jobs.push(ScriptJob::new(number, context, seat, lines, collector)?)?;
         number += 1;
     }
     Ok(jobs)
@@ -76,26 +80,26 @@ fn jobs<J: Naming, L: Source, F: Families + Drop, R: Wait + Clone + Drop>(
 
 // Adds a session's log to the replies. Sessions come by falling seats. Returns whether a script
 // fault ended it.
-fn join<J: Naming, L: Source>(
-    out: Out<J, L>,
+fn join<J: JournalId, L: Source>(
+    output: JobOutput<J, L>,
     seat: &mut Seat<J>,
     replies: &mut Replies,
 ) -> Result<bool, Broken>
     requires told { TellsOutcomes seat.old.events replies.old }
-    requires above { All (λ s. IsAbove seat.old.events (out.log.seat + 1) s.reply) replies.old }
+    requires above { All (λ s. IsAbove seat.old.events (output.log.seat + 1) s.answer) replies.old }
     requires pairs { All (TellsPair L.text) replies.old }
     ensures told { OnOk result (TellsOutcomes seat.new.events replies.new) }
     ensures pairs { OnOk result (All (TellsPair L.text) replies.new) }
-    ensures above { OnOk result (All (λ s. IsAbove seat.new.events out.log.seat s.reply) replies.new) }
-    ensures joins { OnOk result (Joins seat.old.events replies.old out seat.new.events replies.new) }
+    ensures above { OnOk result (All (λ s. IsAbove seat.new.events output.log.seat s.answer) replies.new) }
+    ensures joins { OnOk result (Joins seat.old.events replies.old output seat.new.events replies.new) }
 {
-    let Out {
+    let JobOutput {
         number: _,
         log,
         faulted,
         collected: _,
         refusals: _,
-    } = out;
+    } = output;
     let (told, more, lost) = log.into_parts();
     seat.learn(told);
     if lost {
@@ -106,20 +110,20 @@ fn join<J: Naming, L: Source>(
 }
 
 // Takes over what all sessions came to: whether a fault ended one.
-fn gather<J: Naming, L: Source>(
-    outs: Vec<Out<J, L>>,
+fn gather<J: JournalId, L: Source>(
+    outputs: Vec<JobOutput<J, L>>,
     seat: &mut Seat<J>,
     replies: &mut Replies,
 ) -> Result<bool, Broken>
-    requires falling { AreFalling outs.items }
-    requires none { All (λ s. start_of s.reply ≡ None) replies.old }
+    requires falling { AreFalling outputs.items }
+    requires none { All (λ s. start_of s.answer ≡ None) replies.old }
     ensures told { OnOk result (TellsOutcomes seat.new.events replies.new) }
     ensures pairs { OnOk result (All (TellsPair L.text) replies.new) }
     ensures comes { OnOk result (ComesOf seat.new.events replies.new) }
 {
     let mut faulted = false;
-    for out in outs {
-        let fault = join(out, seat, replies)?;
+    for output in outputs {
+        let fault = join(output, seat, replies)?;
         faulted |= fault;
     }
     Ok(faulted)
@@ -133,14 +137,14 @@ fn memory(_fault: Fault) -> Broken {
 #[derive(Drop)]
 struct Lines<L: Source> {
     regions: usize,
-    seeds: Vec<Said<L>>,
-    sessions: Vec<Vec<Entry<L>>>,
+    seeds: Vec<ScriptLine<L>>,
+    sessions: Vec<Vec<SessionLine<L>>>,
 }
 
 /// What came of a script that was played. Each outcome among the answers was answered in what was
 /// seen, of a transaction of its own.
 #[derive(Drop)]
-pub struct Played {
+pub struct RunResult {
     /// The answer of each line that was reached.
     pub replies: Replies,
     /// Whether a fault of the script ended a session.
@@ -156,13 +160,13 @@ pub struct Played {
 }
 
 // The store, what the seeds send with, and the seats of the sessions.
-fn set_out<J: Naming, F: Families + Drop, M: Makes<F>, R: Wait + Clone + Drop>(
+fn set_out<J: JournalId, F: Families + Drop, M: Makes<F>, R: Wait + Clone + Drop>(
     rt: &R,
     alloc: Global,
     make: &M,
     opened: Opened,
     regions: usize,
-) -> Result<(Arc<Store<J, F>>, Access<J, F, R>, Seat<J>, Vec<Seat<J>>), Fault>
+) -> Result<(Arc<Store<J, F>>, Context<J, F, R>, Seat<J>, Vec<Seat<J>>), Fault>
     requires name { (opened.table ≡ J.table) × (opened.bounds ≡ J.bounds) × (opened.seats ≡ J.seats) }
     requires count { regions ≡ length J.bounds + 1 }
     ensures { IfOk result (λ r. AreFrom (length J.bounds + 1) r.3.items) }
@@ -172,8 +176,8 @@ fn set_out<J: Naming, F: Families + Drop, M: Makes<F>, R: Wait + Clone + Drop>(
     let Some((seat, resolver)) = two_seats(&mut seats) else {
         return Err(Fault::OutOfMemory);
     };
-    let access = Access::new(alloc, rt.clone()?, store.clone()?, resolver);
-    Ok((store, access, seat, seats))
+    let context = Context::new(alloc, rt.clone()?, store.clone()?, resolver);
+    Ok((store, context, seat, seats))
 }
 
 // Makes the sessions' lines by the workers.
@@ -184,51 +188,51 @@ fn work<J, L, F, G, R>(
     gate: &G,
     store: &Arc<Store<J, F>>,
     seats: Vec<Seat<J>>,
-    sessions: Vec<Vec<Entry<L>>>,
-) -> Result<Vec<Out<J, L>>, Fault>
+    sessions: Vec<Vec<SessionLine<L>>>,
+) -> Result<Vec<JobOutput<J, L>>, Fault>
 where
-    J: Naming + Send + Sync,
+    J: JournalId + Send + Sync,
     L: Source + Send,
     F: Families + Send + Drop,
     G: Gate + Sync,
     R: Threads + Wait + Sync + Send + Clone + Drop,
     requires seats { AreFrom (length J.bounds + 1) seats.items }
     requires few { vec_len sessions ≤ 256 }
-    ensures { IfOk result (λ outs. AreFalling outs.items) }
+    ensures { IfOk result (λ outputs. AreFalling outputs.items) }
 {
     let jobs = jobs(rt, alloc, store, seats, sessions, settings.life_time)?;
-    let outs = run_sessions(rt, alloc, settings.workers, jobs, gate)?;
-    Ok(outs)
+    let outputs = run_sessions(rt, alloc, settings.workers, jobs, gate)?;
+    Ok(outputs)
 }
 
-// The first line's answer, where it says the keys between regions.
-fn tell_regions(replies: &mut Vec<Spoken>, regions: usize) -> Result<(), Broken>
-    requires { All (λ s. start_of s.reply ≡ None) replies.old.items }
-    ensures { OnOk result (All (λ s. start_of s.reply ≡ None) replies.new.items) }
+// Adds the first line's reply, where it says the keys between regions.
+fn write_regions(replies: &mut Vec<LineReply>, regions: usize) -> Result<(), Broken>
+    requires { All (λ s. start_of s.answer ≡ None) replies.old.items }
+    ensures { OnOk result (All (λ s. start_of s.answer ≡ None) replies.new.items) }
 {
     if regions > 1 {
-        replies.push(Spoken {
+        replies.push(LineReply {
             number: 1,
-            reply: Reply::Said(Ok(Words::new(tx_reply::Reply::Regions(regions)))),
+            answer: LineAnswer::Plain(Ok(PlainReply::new(tx_reply::ScriptReply::Regions(regions)))),
         })?;
     }
     Ok(())
 }
 
 // How many write records were collected.
-fn count_collected<J: Naming, L: Source>(outs: &[Out<J, L>]) -> u64 {
+fn count_collected<J: JournalId, L: Source>(outputs: &[JobOutput<J, L>]) -> u64 {
     let mut collected: u64 = 0;
-    for out in outs {
-        collected = collected.saturating_add(out.collected);
+    for output in outputs {
+        collected = collected.saturating_add(output.collected);
     }
     collected
 }
 
 // What stood in the way of all sessions.
-fn count_refusals<J: Naming, L: Source>(outs: &[Out<J, L>]) -> Refusals {
+fn count_refusals<J: JournalId, L: Source>(outputs: &[JobOutput<J, L>]) -> Refusals {
     let mut refusals = Refusals::NONE;
-    for out in outs {
-        refusals = refusals.and(out.refusals);
+    for output in outputs {
+        refusals = refusals.and(output.refusals);
     }
     refusals
 }
@@ -242,9 +246,9 @@ fn play<J, L, F, M, G, R>(
     gate: &G,
     opened: Opened,
     script: Lines<L>,
-) -> Result<Played, Broken>
+) -> Result<RunResult, Broken>
 where
-    J: Naming + Send + Sync,
+    J: JournalId + Send + Sync,
     L: Source + Send,
     F: Families + Send + Drop,
     M: Makes<F>,
@@ -262,23 +266,23 @@ where
         seeds,
         sessions,
     } = script;
-    let Ok((store, mut access, seat, seats)) = set_out::<J, F, M, R>(
+    let Ok((store, mut context, seat, seats)) = set_out::<J, F, M, R>(
         rt, alloc, make, opened, regions,
     ) else {
         return Err(Broken::Memory);
     };
     let mut first = Vec::with_capacity(alloc, seeds.len().saturating_add(1))?;
-    tell_regions(&mut first, regions)?;
-    let mut seat = play_seeds(seat, &mut access, seeds.as_slice(), &mut first)?;
+    write_regions(&mut first, regions)?;
+    let mut seat = play_seeds(seat, &mut context, seeds.as_slice(), &mut first)?;
     let mut replies = Replies::new(alloc);
     replies.add(first)?;
-    let outs = work(rt, alloc, settings, gate, &store, seats, sessions).map_err(memory)?;
-    let collected = count_collected(outs.as_slice());
-    let refusals = count_refusals(outs.as_slice());
-    let faulted = gather(outs, &mut seat, &mut replies)?;
+    let outputs = work(rt, alloc, settings, gate, &store, seats, sessions).map_err(memory)?;
+    let collected = count_collected(outputs.as_slice());
+    let refusals = count_refusals(outputs.as_slice());
+    let faulted = gather(outputs, &mut seat, &mut replies)?;
     let told = seat.tell();
-    let (total, seat) = read_total(seat, &mut access)?;
-    Ok(Played {
+    let (total, seat) = read_total(seat, &mut context)?;
+    Ok(RunResult {
         replies,
         faulted,
         collected,
@@ -300,7 +304,7 @@ pub(crate) fn play_script<L, F, M, G, R>(
     make: &M,
     gate: &G,
     script: Script<L>,
-) -> Result<Played, Broken>
+) -> Result<RunResult, Broken>
 where
     L: Source + Send,
     F: Families + Send + Drop,

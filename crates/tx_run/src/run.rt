@@ -1,23 +1,24 @@
 //! A run, from the first byte of its script to the last of its answers.
 ghost use Rattle.std.specs.Prelude.{◌≡◌, All, IfOk, IfSome, OnErr};
-ghost use Rattle.tx_ledger.specs.Faults.{IsFaultless};
-ghost use Rattle.tx_ledger.specs.Outcomes.{TellsOutcomes};
-ghost use Rattle.tx_ledger.specs.Sources.{TellsPair};
+ghost use Rattle.tx_run.specs.Faults.{IsFaultless};
+ghost use Rattle.tx_run.specs.Outcomes.{TellsOutcomes};
+ghost use Rattle.tx_run.specs.Pairs.{TellsPair};
 ghost use Rattle.tx_run.specs.Jobs.{ComesOf};
 ghost use Rattle.tx_run.specs.Texts.{IsRunText, IsTextFrom, Writes, WritesPart, end_of};
 
-use crate::play::{Played, play_script};
+use crate::play::{RunResult, play_script};
+use crate::script::read_script;
 use crate::settings::Settings;
-use crate::write::{tell_fault, write_all};
+use crate::write::{write_all, write_fault};
 use std::alloc::Global;
 use std::io::{BufRead, Write};
 use std::marker::Brand;
 use std::sync::Wait;
 use std::thread::Threads;
 use tx_cells::{Families, Makes};
-use tx_ledger::{Source, read_script};
 use tx_sched::Gate;
 use tx_text::{Broken, End};
+use tx_transfer::Source;
 
 // Reads the script of this text, plays it, and writes what came of it.
 fn run<L, F, M, G, R, B, W>(
@@ -28,7 +29,7 @@ fn run<L, F, M, G, R, B, W>(
     gate: &G,
     reader: &mut B,
     writer: &mut W,
-) -> Result<(End, Option<Played>), Broken>
+) -> Result<(End, Option<RunResult>), Broken>
 where
     L: Source + Send,
     F: Families + Send + Drop,
@@ -49,7 +50,7 @@ where
     let script = match read_script::<L, B>(alloc, reader)? {
         Ok(script) => script,
         Err((number, cause)) => {
-            tell_fault(alloc, writer, number, cause)?;
+            write_fault(alloc, writer, number, cause)?;
             return Ok((End::Faulted, None));
         }
     };
@@ -81,7 +82,7 @@ pub fn run_script<F, M, G, R, B, W>(
     gate: &G,
     reader: &mut B,
     writer: &mut W,
-) -> Result<(End, Option<Played>), Broken>
+) -> Result<(End, Option<RunResult>), Broken>
 where
     F: Families + Send + Drop,
     M: Makes<F>,
@@ -96,7 +97,8 @@ where
         (λ r. Writes (W.contents writer.old) (W.contents writer.new) (IsRunText (B.remaining reader.old) r.1)) }
     ensures ends { IfOk result (λ r. r.0 ≡ end_of r.1) }
     ensures whole { IfOk result (λ r. IfSome r.1 (λ played. IsFaultless (B.remaining reader.old))) }
-    ensures broken { OnErr result (WritesPart (W.contents writer.old) (W.contents writer.new) (IsTextFrom (B.remaining reader.old))) }
+    ensures broken { OnErr result
+        (WritesPart (W.contents writer.old) (W.contents writer.new) (IsTextFrom (B.remaining reader.old))) }
 {
     run::<Brand, F, M, G, R, B, W>(rt, alloc, settings, make, gate, reader, writer)
 }

@@ -5,32 +5,37 @@ ghost use Rattle.std.specs.Io.KnownBytes.{Appends};
 ghost use Rattle.tx_text.specs.Faults.{fault_words};
 ghost use Rattle.tx_text.specs.Output.{AppendsPart};
 ghost use Rattle.tx_text.specs.Members.{reply_text};
-ghost use Rattle.tx_ledger.specs.Lines.{line_of};
+ghost use Rattle.tx_run.specs.Lines.{line_of};
 ghost use Rattle.tx_run.specs.Texts.{AreInOrder, IsTextOf, Writes, WritesPart, outcomes_text, total_text};
 
-use crate::counts::{Counts, counts_of, put_outcomes, put_total};
-use crate::play::Played;
+use crate::counts::{RunCounts, counts_of, put_outcomes, put_total};
+use crate::play::RunResult;
+use crate::replies::Replies;
+use crate::reply::{LineReply, put_line};
 use std::alloc::{AllocError, Global};
 use std::io::Write;
-use tx_ledger::{Replies, Spoken, put_line};
 use tx_text::{Broken, finish, put_fault, send};
+use tx_transfer::Total;
 use tx_types::Cause;
-use tx_work::Total;
 
 // Adds these answers, each with the number of its line.
-fn enter<'a>(lines: &mut Vec<(u64, &'a Spoken)>, replies: &'a [Spoken]) -> Result<(), AllocError>
+fn enter<'a>(
+    lines: &mut Vec<(u64, &'a LineReply)>,
+    replies: &'a [LineReply],
+) -> Result<(), AllocError>
     requires { All (λ line. line.0 ≡ line.1.now.number) lines.old.items }
     ensures numbers { OnOk result (All (λ line. line.0 ≡ line.1.now.number) lines.new.items) }
-    ensures lines { OnOk result (map (λ line. line.1.now) lines.new.items ≡ map (λ line. line.1.now) lines.old.items ++ replies.now) }
+    ensures lines { OnOk result
+        (map (λ line. line.1.now) lines.new.items ≡ map (λ line. line.1.now) lines.old.items ++ replies.now) }
 {
-    for spoken in replies {
-        lines.push((spoken.number, spoken))?;
+    for reply in replies {
+        lines.push((reply.number, reply))?;
     }
     Ok(())
 }
 
 // The answers in the order of their lines.
-fn in_order(alloc: Global, replies: &Replies) -> Result<Vec<(u64, &Spoken)>, AllocError>
+fn in_order(alloc: Global, replies: &Replies) -> Result<Vec<(u64, &LineReply)>, AllocError>
     ensures { IfOk result (λ lines. AreInOrder replies.now (map (λ line. line.1.now) lines.items)) }
 {
     let mut lines = Vec::new(alloc);
@@ -45,15 +50,19 @@ fn in_order(alloc: Global, replies: &Replies) -> Result<Vec<(u64, &Spoken)>, All
 fn write_lines<W: Write>(
     alloc: Global,
     writer: &mut W,
-    lines: &[(u64, &Spoken)],
+    lines: &[(u64, &LineReply)],
 ) -> Result<(), Broken>
-    ensures all { OnOk result (Appends (W.contents writer.old) (W.contents writer.new) (flat_map line_of (map (λ line. line.1.now) lines.now))) }
-    ensures part { OnErr result (AppendsPart (W.contents writer.old) (W.contents writer.new) (flat_map line_of (map (λ line. line.1.now) lines.now))) }
+    ensures all { OnOk result
+        (Appends (W.contents writer.old) (W.contents writer.new)
+        (flat_map line_of (map (λ line. line.1.now) lines.now))) }
+    ensures part { OnErr result
+        (AppendsPart (W.contents writer.old) (W.contents writer.new)
+        (flat_map line_of (map (λ line. line.1.now) lines.now))) }
 {
     let mut text = Vec::new(alloc);
-    'lines: for (_, spoken) in lines {
+    'lines: for (_, reply) in lines {
         text.clear();
-        put_line(&mut text, spoken)?;
+        put_line(&mut text, reply)?;
         send(writer, text.as_slice())?;
     }
     Ok(())
@@ -63,11 +72,13 @@ fn write_lines<W: Write>(
 fn write_sums<W: Write>(
     alloc: Global,
     writer: &mut W,
-    counts: Counts,
+    counts: RunCounts,
     total: Total,
 ) -> Result<(), Broken>
-    ensures all { OnOk result (Appends (W.contents writer.old) (W.contents writer.new) (outcomes_text counts ++ total_text total)) }
-    ensures part { OnErr result (AppendsPart (W.contents writer.old) (W.contents writer.new) (outcomes_text counts ++ total_text total)) }
+    ensures all { OnOk result
+        (Appends (W.contents writer.old) (W.contents writer.new) (outcomes_text counts ++ total_text total)) }
+    ensures part { OnErr result
+        (AppendsPart (W.contents writer.old) (W.contents writer.new) (outcomes_text counts ++ total_text total)) }
 {
     let mut text = Vec::new(alloc);
     put_outcomes(&mut text, counts)?;
@@ -81,25 +92,29 @@ fn write_sums<W: Write>(
 pub(crate) fn write_all<W: Write>(
     alloc: Global,
     writer: &mut W,
-    played: &Played,
+    played: &RunResult,
 ) -> Result<(), Broken>
-    ensures all { OnOk result (Writes (W.contents writer.old) (W.contents writer.new) (IsTextOf played.now.replies played.now.total)) }
-    ensures part { OnErr result (WritesPart (W.contents writer.old) (W.contents writer.new) (IsTextOf played.now.replies played.now.total)) }
+    ensures all { OnOk result
+        (Writes (W.contents writer.old) (W.contents writer.new) (IsTextOf played.now.replies played.now.total)) }
+    ensures part { OnErr result
+        (WritesPart (W.contents writer.old) (W.contents writer.new) (IsTextOf played.now.replies played.now.total)) }
 {
     let lines = in_order(alloc, &played.replies)?;
     write_lines(alloc, writer, lines.as_slice())?;
     write_sums(alloc, writer, counts_of(lines.as_slice()), played.total)
 }
 
-/// Tells the fault of a script that was not played.
-pub(crate) fn tell_fault<W: Write>(
+/// Writes the fault of a script that was not played.
+pub(crate) fn write_fault<W: Write>(
     alloc: Global,
     writer: &mut W,
     number: u64,
     cause: Cause,
 ) -> Result<(), Broken>
-    ensures all { OnOk result (Appends (W.contents writer.old) (W.contents writer.new) (reply_text (number, fault_words cause))) }
-    ensures part { OnErr result (AppendsPart (W.contents writer.old) (W.contents writer.new) (reply_text (number, fault_words cause))) }
+    ensures all { OnOk result
+        (Appends (W.contents writer.old) (W.contents writer.new) (reply_text (number, fault_words cause))) }
+    ensures part { OnErr result
+        (AppendsPart (W.contents writer.old) (W.contents writer.new) (reply_text (number, fault_words cause))) }
 {
     let mut text = Vec::new(alloc);
     put_fault(&mut text, number, cause)?;

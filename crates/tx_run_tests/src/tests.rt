@@ -12,7 +12,7 @@ use std::thread::Threads;
 use tx_cells::Fresh;
 use tx_flat::FlatCells;
 use tx_nested::NestedCells;
-use tx_run::{Plain, Played, Settings, run_script};
+use tx_run::{Plain, RunResult, Settings, run_script};
 use tx_sched::Open;
 use tx_text::{Broken, End};
 
@@ -23,7 +23,7 @@ fn run<F: Fresh + Send + Drop, R: Threads + Wait + Sync + Send + Clone + Drop>(
     settings: Settings,
     input: &[u8],
     output: &mut Vec<u8>,
-) -> Result<(End, Option<Played>), Broken> {
+) -> Result<(End, Option<RunResult>), Broken> {
     let mut reader = input;
     run_script::<F, _, _, _, _, _>(rt, alloc, settings, &Plain, &Open, &mut reader, output)
 }

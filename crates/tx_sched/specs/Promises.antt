@@ -5,9 +5,10 @@ use Rattle.std.specs.Prelude.{ℕ, ◌≡◌, List, [], ◌∷◌, ◌+◌, ◌*
 abbrev pub Kept : {J Out : Type 0} → (J → Out → Type 0) → (J → ℕ) → (Out → ℕ) → J → Out → Type 0
 Kept promised numbered tells job out = promised job out × (tells out ≡ numbered job)
 
--- the results are those of the jobs, place by place
+-- the results are those of the jobs, index by index
 abbrev pub AreKept : {J Out : Type 0} → (J → Out → Type 0) → List J → List Out → Type 0
-AreKept kept jobs outs = (place : ℕ) (job : _) (out : _) → slice_get jobs place ≡ Some job → slice_get outs place ≡ Some out → kept job out
+AreKept kept jobs outs = (index : ℕ) (job : _) (out : _) → slice_get jobs index ≡ Some job
+    → slice_get outs index ≡ Some out → kept job out
 
 -- each result that a job now promises was promised by another
 abbrev pub Leads : {J Out : Type 0} → (J → Out → Type 0) → J → J → Type 0
@@ -15,15 +16,16 @@ Leads promised opened job = (out : _) → promised job out → promised opened o
 
 -- no two jobs have one number
 abbrev pub AreDistinct : {J : Type 0} → (J → ℕ) → List J → Type 0
-AreDistinct number jobs = (i j : ℕ) (a b : _) → slice_get jobs i ≡ Some a → slice_get jobs j ≡ Some b → number a ≡ number b → i ≡ j
+AreDistinct number jobs = (i j : ℕ) (a b : _) → slice_get jobs i ≡ Some a → slice_get jobs j ≡ Some b
+    → number a ≡ number b → i ≡ j
 
--- a job that came of the one which opened in this place
+-- a job that came of the one which opened at this index
 abbrev pub CameOf : {J Out : Type 0} → (J → Out → Type 0) → List J → ℕ → J → Type 0
-CameOf promised jobs place job = (opened : _) × (slice_get jobs place ≡ Some opened) × Leads promised opened job
+CameOf promised jobs index job = (opened : _) × (slice_get jobs index ≡ Some opened) × Leads promised opened job
 
--- a result that the job of this place promised
+-- a result that the job of this index promised
 abbrev pub IsOf : {J Out : Type 0} → (J → Out → Type 0) → List J → ℕ → Out → Type 0
-IsOf promised jobs place out = (opened : _) × (slice_get jobs place ≡ Some opened) × promised opened out
+IsOf promised jobs index out = (opened : _) × (slice_get jobs index ≡ Some opened) × promised opened out
 
 -- how many are not there yet
 abbrev pub count_missing : {Out : Type 0} → List (Option Out) → ℕ
@@ -31,19 +33,20 @@ count_missing [] = 0
 count_missing (None ∷ outs) = 1 + count_missing outs
 count_missing (Some _ ∷ outs) = count_missing outs
 
--- each result that is there is of its place
+-- each result that is there is of its index
 abbrev pub AreOf : {J Out : Type 0} → (J → Out → Type 0) → List J → List (Option Out) → Type 0
-AreOf promised jobs outs = (place : ℕ) (out : _) → slice_index_or outs place None ≡ Some out → IsOf promised jobs place out
+AreOf promised jobs outs = (index : ℕ) (out : _) → slice_index_or outs index None ≡ Some out
+    → IsOf promised jobs index out
 
 -- a fact that need not hold once a flag is set
 abbrev pub UnlessClosed : Bool → Type 0 → Type 0
 UnlessClosed true fact = Unit {0}
 UnlessClosed false fact = fact
 
--- what is told of a job on its way: its place among the jobs, its number, and how
+-- what is told of a job on its way: its index among the jobs, its number, and how
 -- many steps it made
 pub record Ticket : Type 0 where
-  pub place : ℕ
+  pub index : ℕ
   pub number : ℕ
   pub steps : ℕ
 

@@ -8,11 +8,11 @@
 //! the run ends is shown by tests.
 #![tactic(auto)]
 
-mod bench;
 mod gate;
 mod job;
 mod pool;
 mod results;
+mod shard;
 mod task;
 mod turn;
 

@@ -5,12 +5,12 @@ ghost use Rattle.tx_sched.specs.Promises.{AreDistinct, Kept, AreKept, IsOf, AreO
 
 mod asking;
 
-use crate::bench::Bench;
 use crate::gate::Gate;
 use crate::job::Job;
 use crate::results::Results;
+use crate::shard::Shard;
 use crate::task::{Opening, Task};
-use asking::bench_of;
+use asking::shard_of;
 use crossbeam_channel::{Receiver, Sender, bounded};
 use std::alloc::Global;
 use std::collections::HashMap;
@@ -25,9 +25,9 @@ use tx_types::Fault;
 /// step went through would cost more than the step.
 const SHARE: u32 = 16;
 
-/// How many benches the latches lie on. One lock for all latches would make four workers
+/// How many shards the latches lie on. One lock for all latches would make four workers
 /// slower than one.
-const BENCHES: u8 = 16;
+const SHARDS: u8 = 16;
 
 /// What workers tell one another.
 #[derive(Drop)]
@@ -47,15 +47,15 @@ where
     /// The ready queue, with room for each job and for one `Stop`.
     queue: Sender<Message<J, N>>,
     ready: Receiver<Message<J, N>>,
-    /// The latches, those of a slot on the bench of its number modulo their count. A step asks them
+    /// The latches, those of a slot on the shard of its number modulo their count. A step asks them
     /// in rising order.
-    benches: Vec<Mutex<Bench<J, N>>>,
+    shards: Vec<Mutex<Shard<J, N>>>,
     alloc: Global,
     results: Mutex<Results<J, N>>,
     /// Rung when the results are over.
     ended: Condvar,
-    /// The place of each job, by its number.
-    places: HashMap<u32, usize>,
+    /// The index of each job, by its number.
+    indexes: HashMap<u32, usize>,
     /// Whether one worker makes all steps. Then no two are ever made at once, and none asks
     /// for its latches.
     alone: bool,
@@ -72,29 +72,29 @@ where
     {
         let count = jobs.len();
         let (queue, ready) = bounded(alloc, count.saturating_add(1))?;
-        let mut benches = Vec::with_capacity(alloc, usize::from(BENCHES))?;
-        for _ in 0..BENCHES {
-            benches.push(Mutex::new(Bench::new(alloc, count)?))?;
+        let mut shards = Vec::with_capacity(alloc, usize::from(SHARDS))?;
+        for _ in 0..SHARDS {
+            shards.push(Mutex::new(Shard::new(alloc, count)?))?;
         }
         let results = Results::new(alloc, count)?;
-        let mut places = HashMap::new(alloc);
-        let mut place = 0;
+        let mut indexes = HashMap::new(alloc);
+        let mut index = 0;
         for job in jobs {
-            places.insert(job.number(), place)?;
-            let task: Task<J, N> = Task::new(alloc, job, place)?;
+            indexes.insert(job.number(), index)?;
+            let task: Task<J, N> = Task::new(alloc, job, index)?;
             if queue.send(rt, Message::Ready(task)).is_err() {
                 return Err(Fault::OutOfMemory);
             }
-            place += 1;
+            index += 1;
         }
         Ok(Pool {
             queue,
             ready,
-            benches,
+            shards,
             alloc,
             results: Mutex::new(results),
             ended: Condvar::new(),
-            places,
+            indexes,
             alone,
         })
     }
@@ -141,7 +141,7 @@ where
     ) -> Option<Task<J, N>> {
         let task = self.latched(rt, task, slots)?;
         let cid = task.cid();
-        let place = task.place();
+        let index = task.index();
         gate.before(cid);
         let stepped = task.step();
         gate.after(cid);
@@ -149,7 +149,7 @@ where
         match stepped {
             Ok(task) => Some(task),
             Err(out) => {
-                self.finish(rt, place, out);
+                self.finish(rt, index, out);
                 None
             }
         }
@@ -159,12 +159,12 @@ where
     /// the ready queue.
     fn release<R: Wait>(&self, rt: &R, cid: Cid, slots: &[Slot]) {
         for slot in slots {
-            let Some(bench) = self.benches.get(usize::from(bench_of(*slot))) else {
+            let Some(shard) = self.shards.get(usize::from(shard_of(*slot))) else {
                 continue;
             };
-            let freed = bench.lock(rt).release(cid);
+            let freed = shard.lock(rt).release(cid);
             for cid in freed {
-                self.wake(rt, bench, cid);
+                self.wake(rt, shard, cid);
             }
         }
     }
@@ -177,22 +177,22 @@ where
     }
 
     /// Puts the job of a command, which was parked, on the ready queue as granted.
-    fn wake<R: Wait>(&self, rt: &R, bench: &Mutex<Bench<J, N>>, cid: Cid) {
-        let Some(place) = self.places.get(&((cid.get() >> 32) as u32)).copied() else {
+    fn wake<R: Wait>(&self, rt: &R, shard: &Mutex<Shard<J, N>>, cid: Cid) {
+        let Some(index) = self.indexes.get(&((cid.get() >> 32) as u32)).copied() else {
             return;
         };
-        let parked = bench.lock(rt).take(place);
+        let parked = shard.lock(rt).take(index);
         if let Some(task) = parked {
             self.put(rt, task);
         }
     }
 
-    /// Keeps the result of a place, and ends the run with the last one.
-    fn finish<R: Wait>(&self, rt: &R, place: usize, out: J::Out)
-        requires { IsOf (Kept J.promised J.numbered J.tells) N.jobs place out }
+    /// Keeps the result of an index, and ends the run with the last one.
+    fn finish<R: Wait>(&self, rt: &R, index: usize, out: J::Out)
+        requires { IsOf (Kept J.promised J.numbered J.tells) N.jobs index out }
     {
         let mut results = self.results.lock(rt);
-        results.put(place, out);
+        results.put(index, out);
         let over = results.is_over();
         drop(results);
         if over {

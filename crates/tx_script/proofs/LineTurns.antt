@@ -6,33 +6,47 @@ use Rattle.tx_types.specs.declared.fault.Cause.{Cause}
 use Rattle.tx_types.specs.declared.fault.Cause.TheVariants as cause
 use Rattle.tx_types.specs.declared.key.Key.{Key}
 use Rattle.tx_types.specs.declared.limits.TheConstants.{MAX_LINES}
-use Rattle.tx_reply.specs.declared.reply.Reply.{Reply}
-use Rattle.tx_reply.specs.declared.reply.Reply.TheVariants.{Regions}
+use Rattle.tx_reply.specs.declared.reply.ScriptReply.{ScriptReply}
+use Rattle.tx_reply.specs.declared.reply.ScriptReply.TheVariants.{Regions}
 use Rattle.tx_text.specs.Lines.{max_line, max_lines}
 use Rattle.tx_text.specs.Parts.{json_of}
 use Rattle.tx_steps.specs.Lines.{data_said, bounds_in}
-use Rattle.tx_play.specs.Steps.{Call}
-use Rattle.tx_play.specs.Scenes.{Scene, Turn, goes, stops, turn}
-use Rattle.tx_play.specs.Plays.{Leads}
-use Rattle.tx_play.specs.Places.{Held, scene_of, Goes, Turned}
-use Rattle.tx_play.proofs.Keeping.{rested}
+use Rattle.tx_engine.specs.Semantics.{EngineState, Transition, goes, stops}
+use Rattle.tx_engine.specs.Plays.{Leads}
+use Rattle.tx_engine.specs.Slots.{Held, engine_state, Goes, TurnedBy}
+use Rattle.tx_engine.proofs.Keeping.{rested}
 use Rattle.tx_script.specs.Play.{value_turn}
-use Rattle.tx_script.specs.Loops.{TurnedBy}
 
 module _ (bounds : List Key) where
   -- the engine was not asked
-  pub stops_so : (e : Held) (turn : List Bool → Scene → Turn) (c : Cause) → ((later : List Bool) → turn later (scene_of e) ≡ stops c) → Goes bounds e e (TurnedBy bounds turn (Err c) e e)
+  pub stops_so : (e : Held) (turn : List Bool → EngineState → Transition) (c : Cause)
+      → ((later : List Bool) → turn later (engine_state e) ≡ stops c)
+      → Goes bounds e e (TurnedBy bounds turn (Err c) e e)
   stops_so e turn c stop = rested bounds e e refl refl refl refl refl _ (refl, stop)
 
-  pub says_so : (e : Held) (turn : List Bool → Scene → Turn) (reply : Reply) → ((later : List Bool) → turn later (scene_of e) ≡ goes (scene_of e) reply later) → Goes bounds e e (TurnedBy bounds turn (Ok reply) e e)
-  says_so e turn reply goes_on = rested bounds e e refl refl refl refl refl _ ([], λ later. subst (Leads bounds (λ n said left. (n ≡ scene_of e) × (said ≡ reply) × (left ≡ later)) (λ c. ⊥)) (sym (goes_on later)) (refl, refl, refl))
+  pub says_so : (e : Held) (turn : List Bool → EngineState → Transition) (reply : ScriptReply)
+      → ((later : List Bool) → turn later (engine_state e) ≡ goes (engine_state e) reply later)
+      → Goes bounds e e (TurnedBy bounds turn (Ok reply) e e)
+  says_so e turn reply goes_on = rested bounds e e refl refl refl refl refl _ (
+    [],
+    λ later. subst (Leads bounds (λ n said left. (n ≡ engine_state e) × (said ≡ reply)
+        × (left ≡ later)) (λ c. ⊥)) (sym (goes_on later)) (refl, refl, refl),
+  )
 
-  turns_as : (old new : Held) (t u : List Bool → Scene → Turn) → ((refused : List Bool) → u refused (scene_of old) ≡ t refused (scene_of old)) → (r : Result Reply Cause) → TurnedBy bounds t r old new → TurnedBy bounds u r old new
-  turns_as old new t u same (Ok reply) go = (go.0, λ later. subst (Leads bounds (λ n said left. (n ≡ scene_of new) × (said ≡ reply) × (left ≡ later)) (λ c. ⊥)) (sym (same (go.0 ++ later))) (go.1 later))
+  turns_as : (old new : Held) (t u : List Bool → EngineState → Transition)
+      → ((refused : List Bool) → u refused (engine_state old) ≡ t refused (engine_state old))
+      → (r : Result ScriptReply Cause) → TurnedBy bounds t r old new → TurnedBy bounds u r old new
+  turns_as old new t u same (Ok reply) go = (
+    go.0,
+    λ later. subst (Leads bounds (λ n said left. (n ≡ engine_state new)
+        × (said ≡ reply) × (left ≡ later)) (λ c. ⊥)) (sym (same (go.0 ++ later))) (go.1 later),
+  )
   turns_as old new t u same (Err c) stop = (stop.0, λ later. same later ∙ stop.1 later)
 
   -- what a turn makes, another makes that is the same
-  pub goes_as : (old new : Held) (t u : List Bool → Scene → Turn) (r : Result Reply Cause) → ((refused : List Bool) → u refused (scene_of old) ≡ t refused (scene_of old)) → Goes bounds old new (TurnedBy bounds t r old new) → Goes bounds old new (TurnedBy bounds u r old new)
+  pub goes_as : (old new : Held) (t u : List Bool → EngineState → Transition) (r : Result ScriptReply Cause)
+      → ((refused : List Bool) → u refused (engine_state old) ≡ t refused (engine_state old))
+      → Goes bounds old new (TurnedBy bounds t r old new) → Goes bounds old new (TurnedBy bounds u r old new)
   goes_as old new t u r same g = record {
     made = g.made;
     counts = g.counts;
@@ -43,31 +57,20 @@ module _ (bounds : List Key) where
     traced = g.traced;
   }
 
-  -- a step of the engine is its turn
-  engine_turned : (old new : Held) (call : Call) (r : Result Reply Cause) → Turned bounds call r old new → TurnedBy bounds (λ refused. turn bounds refused call) r old new
-  engine_turned old new call (Ok reply) h = h
-  engine_turned old new call (Err c) h = h
-
-  pub engine_goes : (old new : Held) (call : Call) (r : Result Reply Cause) → Goes bounds old new (Turned bounds call r old new) → Goes bounds old new (TurnedBy bounds (λ refused. turn bounds refused call) r old new)
-  engine_goes old new call r g = record {
-    made = g.made;
-    counts = g.counts;
-    size = g.size;
-    seated = g.seated;
-    grows = g.grows;
-    exact = λ le. engine_turned old new call r (g.exact le);
-    traced = g.traced;
-  }
-
-by_tests : (number : ℕ) (long late : Bool) (r : Result Data Cause) (d : Data) → nat_lt max_lines number ≡ late → cond long (Err cause.Long) (cond late (Err cause.Lines) r) ≡ Ok d → number ≤ MAX_LINES
+by_tests : (number : ℕ) (long late : Bool) (r : Result Data Cause) (d : Data) → nat_lt max_lines number ≡ late
+    → cond long (Err cause.Long) (cond late (Err cause.Lines) r) ≡ Ok d → number ≤ MAX_LINES
 by_tests number true late r d is says = absurd (cc (says))
 by_tests number false true r d is says = absurd (cc (says))
 by_tests number false false r d is says = ltb-false max_lines number is
 
 -- a line that says something is not past the last
 pub early : (number : ℕ) (line : List ℕ) (d : Data) → data_said number line ≡ Ok d → number ≤ MAX_LINES
-early number line d is = by_tests number (nat_lt max_line (length line)) (nat_lt max_lines number) (ok_or (json_of line) cause.Json) d refl is
+early number line d is = by_tests number (nat_lt max_line (length line)) (nat_lt max_lines number)
+    (ok_or (json_of line) cause.Json) d refl is
 
 -- line 1 says the regions
-pub regions_turn : (bounds : List Key) (later : List Bool) (number : ℕ) (d : Data) (e : Held) (n : ℕ) → number ≡ 1 → is_some (bounds_in d) ≡ true → n ≡ length bounds + 1 → value_turn bounds later number d (scene_of e) ≡ goes (scene_of e) (Regions n) later
-regions_turn bounds later number d e n one says count = rw (one, says) (ap (λ m. goes (scene_of e) (Regions m) later) (sym count))
+pub regions_turn : (bounds : List Key) (later : List Bool) (number : ℕ) (d : Data) (e : Held) (n : ℕ) → number ≡ 1
+    → is_some (bounds_in d) ≡ true → n ≡ length bounds + 1
+    → value_turn bounds later number d (engine_state e) ≡ goes (engine_state e) (Regions n) later
+regions_turn bounds later number d e n one says count =
+    rw (one, says) (ap (λ m. goes (engine_state e) (Regions m) later) (sym count))

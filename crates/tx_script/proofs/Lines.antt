@@ -13,22 +13,23 @@ use Rattle.tx_text.specs.declared.end.End.{End}
 use Rattle.tx_text.specs.declared.end.End.TheVariants.{Well, Faulted}
 use Rattle.tx_text.specs.declared.lines.Found.{Found}
 use Rattle.tx_text.specs.declared.lines.Found.TheVariants as found
-use Rattle.tx_reply.specs.declared.reply.Reply.{Reply}
+use Rattle.tx_reply.specs.declared.reply.ScriptReply.{ScriptReply}
 use Rattle.tx_text.specs.Lines.{lines_of, max_line, Reads}
 use Rattle.tx_text.specs.Output.{BreaksText}
 use Rattle.tx_reply.specs.Replies.{reply_words}
 use Rattle.tx_text.specs.Members.{reply_text}
 use Rattle.tx_text.specs.Faults.{fault_words}
-use Rattle.tx_play.specs.Scenes.{stops}
-use Rattle.tx_play.specs.Places.{Held, scene_of, own, Goes}
-use Rattle.tx_play.specs.Openings.{IsOpening}
+use Rattle.tx_engine.specs.Semantics.{stops}
+use Rattle.tx_engine.specs.Slots.{Held, engine_state, own, Goes, TurnedBy}
+use Rattle.tx_engine.specs.Openings.{IsOpening}
 use Rattle.tx_script.specs.declared.line.Turned.TheVariants as turned
 use Rattle.tx_script.specs.Play.{line_turn}
-use Rattle.tx_script.specs.Loops.{Ahead, TurnedBy, FoundTurned, FitsFound, EndsAt, BreaksAt}
+use Rattle.tx_script.specs.Loops.{Ahead, FoundTurned, FitsFound, EndsAt, BreaksAt}
 use Rattle.tx_script.proofs.Scripts.{Counts, PlaysOn, at_first, breaks, ends_well, before_too, exactly, ends_faulted, breaks_fault, breaks_last, goes_on, breaks_reply}
 
 -- a line that is too long
-long_turn : (bounds : List Key) (later : List Bool) (number : ℕ) (line : List ℕ) (e : Held) → max_line < length line → line_turn bounds later number line (scene_of e) ≡ stops cause.Long
+long_turn : (bounds : List Key) (later : List Bool) (number : ℕ) (line : List ℕ) (e : Held) → max_line < length line
+    → line_turn bounds later number line (engine_state e) ≡ stops cause.Long
 long_turn bounds later number line e long = rw (lt-ltb max_line (length line) long) refl
 
 -- the cause is that one
@@ -45,30 +46,51 @@ module _ (bounds : List Key) (number : ℕ) (line : List ℕ) (left : Option (Li
   end_ahead found.Long ahead fits is = absurd (cc (fits))
   end_ahead found.End ahead fits is = is
 
-  end_same : (f : Found) → FitsFound f turned.End → FoundTurned bounds number f line turned.End e next → next.desk.newest ≡ e.desk.newest
+  end_same : (f : Found) → FitsFound f turned.End → FoundTurned bounds number f line turned.End e next
+      → next.network.newest ≡ e.network.newest
   end_same found.Line fits same = absurd fits
   end_same found.Long fits same = same
   end_same found.End fits same = same
 
   -- what a step made, where more is known of it
   goes_then : (P Q : Type 0) → Goes bounds e next P → (P → Q) → Goes bounds e next Q
-  goes_then P Q g on = record { made = g.made; counts = g.counts; size = g.size; seated = g.seated; grows = g.grows; exact = λ le. on (g.exact le); traced = g.traced }
+  goes_then P Q g on = record {
+    made = g.made;
+    counts = g.counts;
+    size = g.size;
+    seated = g.seated;
+    grows = g.grows;
+    exact = λ le. on (g.exact le);
+    traced = g.traced;
+  }
 
-  stop_found : (f : Found) (ahead : List (List ℕ)) (c : Cause) → FitsFound f (turned.Stops c) → Ahead f line left ahead → Goes bounds e next (FoundTurned bounds number f line (turned.Stops c) e next)
-      → (first : List ℕ) × (rest : List (List ℕ)) × First first rest ahead × Goes bounds e next (TurnedBy bounds (λ refused. line_turn bounds refused number first) (Err c) e next)
+  stop_found : (f : Found) (ahead : List (List ℕ)) (c : Cause) → FitsFound f (turned.Stops c) → Ahead f line left ahead
+      → Goes bounds e next (FoundTurned bounds number f line (turned.Stops c) e next)
+      → (first : List ℕ) × (rest : List (List ℕ)) × First first rest ahead
+      × Goes bounds e next (TurnedBy bounds (λ refused. line_turn bounds refused number first) (Err c) e next)
   stop_found found.Line ahead c fits (rest, left_is, is) goes = (line, lines_of rest, is, goes)
-  stop_found found.Long ahead c fits (first, more, long, is) goes =
-      (first, more, is, goes_then _ _ goes (λ same. (same, λ later. long_turn bounds later number first e long ∙ ap (λ d. stops d) (long_is c fits))))
+  stop_found found.Long ahead c fits (first, more, long, is) goes = (
+    first,
+    more,
+    is,
+    goes_then _ _ goes (λ same. (
+      same,
+      λ later. long_turn bounds later number first e long ∙ ap (λ d. stops d) (long_is c fits),
+    )),
+  )
   stop_found found.End ahead c fits is goes = absurd (cc (fits))
 
-  reply_found : (f : Found) (ahead : List (List ℕ)) (reply : Reply) → FitsFound f (turned.Goes reply) → Ahead f line left ahead → Goes bounds e next (FoundTurned bounds number f line (turned.Goes reply) e next)
-      → (rest : List ℕ) × (left ≡ Some rest) × First line (lines_of rest) ahead × Goes bounds e next (TurnedBy bounds (λ refused. line_turn bounds refused number line) (Ok reply) e next)
+  reply_found : (f : Found) (ahead : List (List ℕ)) (reply : ScriptReply) → FitsFound f (turned.Goes reply)
+      → Ahead f line left ahead → Goes bounds e next (FoundTurned bounds number f line (turned.Goes reply) e next)
+      → (rest : List ℕ) × (left ≡ Some rest) × First line (lines_of rest) ahead
+      × Goes bounds e next (TurnedBy bounds (λ refused. line_turn bounds refused number line) (Ok reply) e next)
   reply_found found.Line ahead reply fits (rest, left_is, is) goes = (rest, left_is, is, goes)
   reply_found found.Long ahead reply fits is goes = absurd (cc (fits))
   reply_found found.End ahead reply fits is goes = absurd (cc (fits))
 
 -- what a read found of the lines that are left
-pub reads_ahead : (f : Found) (line : List ℕ) (bytes : List ℕ) (left : Option (List ℕ)) → Reads bytes left f line → Ahead f line left (lines_of bytes)
+pub reads_ahead : (f : Found) (line : List ℕ) (bytes : List ℕ) (left : Option (List ℕ)) → Reads bytes left f line
+    → Ahead f line left (lines_of bytes)
 reads_ahead found.Line line bytes left (rest, left_is, short, is) = (rest, left_is, is)
 reads_ahead found.Long line bytes left (first, more, long, is) = (first, more, long, is)
 reads_ahead found.End line bytes left is = ap lines_of is
@@ -76,7 +98,8 @@ reads_ahead found.End line bytes left is = ap lines_of is
 module _ (bounds : List Key) (first0 : Found) (line0 : List ℕ) (left0 old : Option (List ℕ)) where
   -- whatever lines come first: these are ahead, and the others have been played
   abbrev pub On : Found → List ℕ → Option (List ℕ) → Option (List ℕ) → ℕ → Held → Type 0
-  On f line left new number e = (lines : List (List ℕ)) → Ahead first0 line0 left0 lines → (ahead : List (List ℕ)) × Ahead f line left ahead × PlaysOn bounds lines ahead old new number e
+  On f line left new number e = (lines : List (List ℕ)) → Ahead first0 line0 left0 lines → (ahead : List (List ℕ))
+      × Ahead f line left ahead × PlaysOn bounds lines ahead old new number e
 
   abbrev pub AllEnd : History → Option (List ℕ) → End → Type 0
   AllEnd h new end = (lines : List (List ℕ)) → Ahead first0 line0 left0 lines → EndsAt bounds lines h old new end
@@ -84,64 +107,92 @@ module _ (bounds : List Key) (first0 : Found) (line0 : List ℕ) (left0 old : Op
   abbrev pub AllBreak : Broken → History → Option (List ℕ) → Type 0
   AllBreak why h new = (lines : List (List ℕ)) → Ahead first0 line0 left0 lines → BreaksAt bounds lines why h old new
 
-  pub on_first : (e : Held) → IsOpening e → length e.places ≡ MAX_LIVE_SESSIONS → On first0 line0 left0 old 0 e
+  pub on_first : (e : Held) → IsOpening e → length e.slots ≡ MAX_LIVE_SESSIONS → On first0 line0 left0 old 0 e
   on_first e opens size = λ lines a. (lines, a, at_first bounds e lines old opens size)
 
-  module _ (f : Found) (line : List ℕ) (left new : Option (List ℕ)) (number : ℕ) (e : Held) (on : On f line left new number e) where
-    pub break_before : (why : Broken) (new' : Option (List ℕ)) → Keeps new new' → length e.desk.newest ≤ own e → AllBreak why e.desk.newest new'
-    break_before why new' kept le = λ lines a. (let (ahead, is, x) = on lines a in breaks bounds lines ahead old new number e x why new' kept le)
+  module _ (f : Found) (line : List ℕ) (left new : Option (List ℕ)) (number : ℕ) (e : Held)
+      (on : On f line left new number e) where
+    pub break_before : (why : Broken) (new' : Option (List ℕ)) → Keeps new new' → length e.network.newest ≤ own e
+        → AllBreak why e.network.newest new'
+    break_before why new' kept le = λ lines a. (let (ahead, is, x) = on lines a
+        in breaks bounds lines ahead old new number e x why new' kept le)
 
     module _ (next : Held) (c : Counts bounds number e) where
       -- nothing is left
-      module _ (goes : Goes bounds e next (FoundTurned bounds (number + 1) f line turned.End e next)) (fits : FitsFound f turned.End) (new' : Option (List ℕ)) (kept : Keeps new new') (le : length next.desk.newest ≤ own next) where
-        le_before : length e.desk.newest ≤ own e
+      module _ (goes : Goes bounds e next (FoundTurned bounds (number
+          + 1) f line turned.End e next)) (fits : FitsFound f turned.End) (new' : Option (List ℕ))
+          (kept : Keeps new new') (le : length next.network.newest ≤ own next) where
+        le_before : length e.network.newest ≤ own e
         le_before = before_too bounds number e next c _ goes le
 
-        same : next.desk.newest ≡ e.desk.newest
+        same : next.network.newest ≡ e.network.newest
         same = end_same bounds (number + 1) line left e next f fits (exactly bounds number e next c _ goes le)
 
-        pub end_well : AllEnd next.desk.newest new' Well
+        pub end_well : AllEnd next.network.newest new' Well
         end_well = λ lines a. (let (ahead, is, x) = on lines a in
-            subst (λ h. EndsAt bounds lines h old new' Well) (sym same) (ends_well bounds lines ahead old new number e x (end_ahead bounds (number + 1) line left e next f ahead fits is) new' kept le_before))
+            subst (λ h. EndsAt bounds lines h old new' Well) (sym same) (ends_well bounds lines ahead old new number e x
+            (end_ahead bounds (number + 1) line left e next f ahead fits is) new' kept le_before))
 
-        pub end_broken : (why : Broken) → AllBreak why next.desk.newest new'
-        end_broken why = λ lines a. subst (λ h. BreaksAt bounds lines why h old new') (sym same) (break_before why new' kept le_before lines a)
+        pub end_broken : (why : Broken) → AllBreak why next.network.newest new'
+        end_broken why = λ lines a. subst (λ h. BreaksAt bounds lines why h old new') (sym same)
+            (break_before why new' kept le_before lines a)
 
       -- a fault
-      module _ (why : Cause) (goes : Goes bounds e next (FoundTurned bounds (number + 1) f line (turned.Stops why) e next)) (fits : FitsFound f (turned.Stops why)) (le : length next.desk.newest ≤ own next) where
-        pub fault_ends : (new' new'' : Option (List ℕ)) → Appends new new' (reply_text (number + 1, fault_words why)) → Keeps new' new'' → AllEnd next.desk.newest new'' Faulted
+      module _ (why : Cause) (goes : Goes bounds e next (FoundTurned bounds (number
+          + 1) f line (turned.Stops why) e next)) (fits : FitsFound f (turned.Stops why))
+          (le : length next.network.newest ≤ own next) where
+        pub fault_ends : (new' new'' : Option (List ℕ)) → Appends new new' (reply_text (number + 1, fault_words why))
+            → Keeps new' new'' → AllEnd next.network.newest new'' Faulted
         fault_ends new' new'' sent kept = λ lines a. (let (ahead, is, x) = on lines a in
             let (first, rest, at, stop) = stop_found bounds (number + 1) line left e next f ahead why fits is goes in
-            ends_faulted bounds lines first rest old new number e next c (subst (λ l. PlaysOn bounds lines l old new number e) at x) why stop le new' new'' sent kept)
+            ends_faulted bounds lines first rest old new number e next c
+            (subst (λ l. PlaysOn bounds lines l old new number e) at x) why stop le new' new'' sent kept)
 
-        pub fault_breaks : (b : Broken) (new' : Option (List ℕ)) → BreaksText b new new' (reply_text (number + 1, fault_words why)) → AllBreak b next.desk.newest new'
+        pub fault_breaks : (b : Broken) (new' : Option (List ℕ))
+            → BreaksText b new new' (reply_text (number + 1, fault_words why)) → AllBreak b next.network.newest new'
         fault_breaks b new' text = λ lines a. (let (ahead, is, x) = on lines a in
             let (first, rest, at, stop) = stop_found bounds (number + 1) line left e next f ahead why fits is goes in
-            breaks_fault bounds lines first rest old new number e next c (subst (λ l. PlaysOn bounds lines l old new number e) at x) why stop le b new' text)
+            breaks_fault bounds lines first rest old new number e next c
+            (subst (λ l. PlaysOn bounds lines l old new number e) at x) why stop le b new' text)
 
-        pub fault_breaks_last : (b : Broken) (new' new'' : Option (List ℕ)) → Appends new new' (reply_text (number + 1, fault_words why)) → Keeps new' new'' → AllBreak b next.desk.newest new''
+        pub fault_breaks_last : (b : Broken) (new' new'' : Option (List ℕ))
+            → Appends new new' (reply_text (number + 1, fault_words why)) → Keeps new' new''
+            → AllBreak b next.network.newest new''
         fault_breaks_last b new' new'' sent kept = λ lines a. (let (ahead, is, x) = on lines a in
             let (first, rest, at, stop) = stop_found bounds (number + 1) line left e next f ahead why fits is goes in
-            breaks_last bounds lines first rest old new number e next c (subst (λ l. PlaysOn bounds lines l old new number e) at x) why stop le b new' new'' sent kept)
+            breaks_last bounds lines first rest old new number e next c
+            (subst (λ l. PlaysOn bounds lines l old new number e) at x) why stop le b new' new'' sent kept)
 
       -- a reply
-      module _ (reply : Reply) (goes : Goes bounds e next (FoundTurned bounds (number + 1) f line (turned.Goes reply) e next)) (fits : FitsFound f (turned.Goes reply)) where
-        pub reply_breaks : (b : Broken) (new' : Option (List ℕ)) → BreaksText b new new' (reply_text (number + 1, reply_words reply)) → length next.desk.newest ≤ own next → AllBreak b next.desk.newest new'
+      module _ (reply : ScriptReply) (goes : Goes bounds e next (FoundTurned bounds (number
+          + 1) f line (turned.Goes reply) e next)) (fits : FitsFound f (turned.Goes reply)) where
+        pub reply_breaks : (b : Broken) (new' : Option (List ℕ))
+            → BreaksText b new new' (reply_text (number + 1, reply_words reply)) → length next.network.newest ≤ own next
+            → AllBreak b next.network.newest new'
         reply_breaks b new' text le = λ lines a. (let (ahead, is, x) = on lines a in
             let (rest, left_is, at, go) = reply_found bounds (number + 1) line left e next f ahead reply fits is goes in
-            breaks_reply bounds lines line (lines_of rest) old new number e next c (subst (λ l. PlaysOn bounds lines l old new number e) at x) reply go b new' text le)
+            breaks_reply bounds lines line (lines_of rest) old new number e next c
+            (subst (λ l. PlaysOn bounds lines l old new number e) at x) reply go b new' text le)
 
         module _ (new' : Option (List ℕ)) (sent : Appends new new' (reply_text (number + 1, reply_words reply))) where
           -- the next line could not be read
-          pub read_breaks : (b : Broken) → length next.desk.newest ≤ own next → AllBreak b next.desk.newest new'
+          pub read_breaks : (b : Broken) → length next.network.newest ≤ own next → AllBreak b next.network.newest new'
           read_breaks b le = λ lines a. (let (ahead, is, x) = on lines a in
-              let (rest, left_is, at, go) = reply_found bounds (number + 1) line left e next f ahead reply fits is goes in
-              breaks bounds lines (lines_of rest) old new' (number + 1) next (goes_on bounds lines line (lines_of rest) old new number e next c (subst (λ l. PlaysOn bounds lines l old new number e) at x) reply go new' sent) b new' (Keeps-refl new') le)
+              let (rest, left_is, at, go) = reply_found bounds (number
+              + 1) line left e next f ahead reply fits is goes in
+              breaks bounds lines (lines_of rest) old new' (number
+              + 1) next (goes_on bounds lines line (lines_of rest) old new number e next c
+              (subst (λ l. PlaysOn bounds lines l old new number e) at x) reply go new' sent) b new'
+              (Keeps-refl new') le)
 
-          pub on_next : (f' : Found) (line' : List ℕ) (left' : Option (List ℕ)) → IfSome left (λ bytes. Reads bytes left' f' line') → On f' line' left' new' (number + 1) next
+          pub on_next : (f' : Found) (line' : List ℕ) (left' : Option (List ℕ))
+              → IfSome left (λ bytes. Reads bytes left' f' line') → On f' line' left' new' (number + 1) next
           on_next f' line' left' reads = λ lines a. (let (ahead, is, x) = on lines a in
-              let (rest, left_is, at, go) = reply_found bounds (number + 1) line left e next f ahead reply fits is goes in (
+              let (rest, left_is, at, go) = reply_found bounds (number + 1) line left e next f ahead reply fits is goes
+              in (
                 lines_of rest,
-                reads_ahead f' line' rest left' (subst (λ o. IfSome o (λ bytes. Reads bytes left' f' line')) left_is reads),
-                goes_on bounds lines line (lines_of rest) old new number e next c (subst (λ l. PlaysOn bounds lines l old new number e) at x) reply go new' sent,
+                reads_ahead f' line' rest left' (subst (λ o. IfSome o (λ bytes. Reads bytes left' f' line')) left_is
+                    reads),
+                goes_on bounds lines line (lines_of rest) old new number e next c
+                    (subst (λ l. PlaysOn bounds lines l old new number e) at x) reply go new' sent,
               ))

@@ -38,12 +38,14 @@ module _ (bounds : List Key) where
   -- lines that were played to their end: the replies of their only play were written, and
   -- what follows them
   abbrev pub EndsCheckedLines : List (List ℕ) → Option (List ℕ) → Option (List ℕ) → End → Type 0
-  EndsCheckedLines lines old new ended = (refused : List Bool) × (p : Played) × IsPlay bounds refused lines p × Appends old new (render p.replies ++ steps_told p.ended p.history) × (ended ≡ p.ended)
+  EndsCheckedLines lines old new ended = (refused : List Bool) × (p : Played) × IsPlay bounds refused lines p
+      × Appends old new (render p.replies ++ steps_told p.ended p.history) × (ended ≡ p.ended)
 
   -- lines that ended well, and then were broken off: their replies were written, and a beginning of
   -- what follows them
   abbrev pub BreaksSteps : Broken → List (List ℕ) → Option (List ℕ) → Option (List ℕ) → Type 0
-  BreaksSteps why lines old new = (refused : List Bool) × (p : Played) × (written : List ℕ) × IsPlay bounds refused lines p × (p.ended ≡ Well)
+  BreaksSteps why lines old new = (refused : List Bool) × (p : Played) × (written : List ℕ)
+      × IsPlay bounds refused lines p × (p.ended ≡ Well)
       × IsBegun why (step_lines p.history) written × Appends old new (render p.replies ++ written)
 
   -- lines that were broken off, before their end or after it

@@ -1,4 +1,3 @@
-pub mod Calls
 pub mod Play
 pub mod Checked
 pub mod Loops

@@ -13,10 +13,10 @@ use Rattle.tx_text.specs.declared.end.Broken.TheVariants.{Output}
 use Rattle.tx_text.specs.declared.end.End.{End}
 use Rattle.tx_text.specs.declared.lines.Found.{Found}
 use Rattle.tx_text.specs.declared.lines.Found.TheVariants as found
-use Rattle.tx_reply.specs.declared.reply.Reply.{Reply}
+use Rattle.tx_reply.specs.declared.reply.ScriptReply.{ScriptReply}
 use Rattle.tx_text.specs.Lines.{lines_of, max_line}
-use Rattle.tx_play.specs.Scenes.{Scene, opening, Turn, stops}
-use Rattle.tx_play.specs.Places.{Held, scene_of, own, AllSeated, GoesTo}
+use Rattle.tx_engine.specs.Semantics.{opening}
+use Rattle.tx_engine.specs.Slots.{Held, engine_state, own, AllSeated, TurnedBy}
 use Rattle.tx_script.specs.declared.line.Turned.{Turned}
 use Rattle.tx_script.specs.declared.line.Turned.TheVariants as turned
 use Rattle.tx_script.specs.Play.{line_turn, Played, Plays, render, bounds_at, EndsLines, BreaksLines}
@@ -26,7 +26,8 @@ use Rattle.tx_steps.specs.Lines.{data_said}
 -- these lines come next, by what was found of the first of them
 abbrev pub Ahead : Found → List ℕ → Option (List ℕ) → List (List ℕ) → Type 0
 Ahead found.Line line left lines = (rest : List ℕ) × (left ≡ Some rest) × (lines ≡ line ∷ lines_of rest)
-Ahead found.Long line left lines = (first : List ℕ) × (more : List (List ℕ)) × (max_line < length first) × (lines ≡ first ∷ more)
+Ahead found.Long line left lines = (first : List ℕ) × (more : List (List ℕ)) × (max_line < length first)
+    × (lines ≡ first ∷ more)
 Ahead found.End line left lines = lines ≡ []
 
 -- the keys between the regions, by what was found first
@@ -35,18 +36,15 @@ first_bounds found.Line line = bounds_at (data_said 1 line)
 first_bounds found.Long line = []
 first_bounds found.End line = []
 
--- a turn went on from the scene that the engine held to the one that it then holds, or it stopped
-abbrev pub TurnedBy : List Key → (List Bool → Scene → Turn) → Result Reply Cause → Held → Held → Type 0
-TurnedBy bounds turn (Ok reply) old new = GoesTo bounds (λ refused. turn refused (scene_of old)) reply (scene_of new)
-TurnedBy bounds turn (Err cause) old new = (new.desk.newest ≡ old.desk.newest) × ((later : List Bool) → turn later (scene_of old) ≡ stops cause)
-
 -- what came of the next line, by what was found of it
 abbrev pub FoundTurned : List Key → ℕ → Found → List ℕ → Turned → Held → Held → Type 0
 FoundTurned bounds number found.Line line turned.End old new = ⊥
-FoundTurned bounds number found.Line line (turned.Goes reply) old new = TurnedBy bounds (λ refused. line_turn bounds refused number line) (Ok reply) old new
-FoundTurned bounds number found.Line line (turned.Stops c) old new = TurnedBy bounds (λ refused. line_turn bounds refused number line) (Err c) old new
-FoundTurned bounds number found.Long line t old new = new.desk.newest ≡ old.desk.newest
-FoundTurned bounds number found.End line t old new = new.desk.newest ≡ old.desk.newest
+FoundTurned bounds number found.Line line (turned.Goes reply) old new =
+    TurnedBy bounds (λ refused. line_turn bounds refused number line) (Ok reply) old new
+FoundTurned bounds number found.Line line (turned.Stops c) old new =
+    TurnedBy bounds (λ refused. line_turn bounds refused number line) (Err c) old new
+FoundTurned bounds number found.Long line t old new = new.network.newest ≡ old.network.newest
+FoundTurned bounds number found.End line t old new = new.network.newest ≡ old.network.newest
 
 -- what may come of a line, by what was found of it
 abbrev pub FitsFound : Found → Turned → Type 0
@@ -58,20 +56,23 @@ FitsFound found.End t = t ≡ turned.End
 
 -- what is counted of an engine between two lines
 pub record Kept (bounds : List Key) (e : Held) : Type 0 where
-  pub size : length e.places ≡ MAX_LIVE_SESSIONS
+  pub size : length e.slots ≡ MAX_LIVE_SESSIONS
   pub seated : AllSeated bounds 0 e
-  pub counts : own e ≤ length e.desk.newest
+  pub counts : own e ≤ length e.network.newest
 
 module _ (bounds : List Key) (lines : List (List ℕ)) where
   -- the text of the replies of some play of the lines was written, whose events are these
   abbrev pub EndsAt : History → Option (List ℕ) → Option (List ℕ) → End → Type 0
-  EndsAt h old new ended = (refused : List Bool) × (p : Played) × Plays bounds (opening MAX_LIVE_SESSIONS) 0 refused lines p × (p.history ≡ h) × Appends old new (render p.replies) × (ended ≡ p.ended)
+  EndsAt h old new ended = (refused : List Bool) × (p : Played)
+      × Plays bounds (opening MAX_LIVE_SESSIONS) 0 refused lines p × (p.history ≡ h)
+      × Appends old new (render p.replies) × (ended ≡ p.ended)
 
   -- a beginning of the text of the replies of some play of the first lines was written, whose
   -- events are the first of these
   abbrev pub BreaksAt : Broken → History → Option (List ℕ) → Option (List ℕ) → Type 0
   BreaksAt why h old new = (refused : List Bool) × (first rest : List (List ℕ)) × (p : Played) × (written more : List ℕ)
-      × (lines ≡ first ++ rest) × Plays bounds (opening MAX_LIVE_SESSIONS) 0 refused first p × Begins p.history h × Appends old new written
+      × (lines ≡ first ++ rest) × Plays bounds (opening MAX_LIVE_SESSIONS) 0 refused first p × Begins p.history h
+      × Appends old new written
       × (render p.replies ≡ written ++ more) × ((why ≡ Output) ⊎ (more ≡ []))
 
 -- ---- what follows the replies

@@ -1,5 +1,5 @@
 -- What a script means, and what is written for it.
-use Rattle.std.specs.Prelude.{◌≡◌, ◌⊎◌, ℕ, ◌+◌, ◌==◌, ◌&&◌, List, [], ◌∷◌, ◌++◌, Bool, length, Option, Some, None, is_some, option_and_then, Result, Ok, Err, if◌then◌else◌}
+use Rattle.std.specs.Prelude.{◌≡◌, ◌⊎◌, ℕ, ◌+◌, ◌==◌, ◌&&◌, List, [], ◌∷◌, ◌++◌, Bool, length, Option, Some, None, is_some, Result, Ok, Err, if◌then◌else◌}
 use Rattle.std.specs.List.{flat_map}
 use Rattle.std.specs.Io.KnownBytes.{Appends}
 use Rattle.serde_json.specs.Data.{Data, Items}
@@ -16,17 +16,17 @@ use Rattle.tx_text.specs.declared.end.Broken.{Broken}
 use Rattle.tx_text.specs.declared.end.Broken.TheVariants.{Output}
 use Rattle.tx_text.specs.declared.end.End.{End}
 use Rattle.tx_text.specs.declared.end.End.TheVariants.{Well, Faulted}
-use Rattle.tx_reply.specs.declared.reply.Reply.TheVariants.{Regions}
+use Rattle.tx_reply.specs.declared.reply.ScriptReply.TheVariants.{Regions}
 use Rattle.tx_text.specs.Lines.{lines_of}
 use Rattle.tx_reply.specs.Replies.{reply_words}
 use Rattle.tx_text.specs.Members.{reply_text}
 use Rattle.tx_text.specs.Faults.{fault_words}
 use Rattle.tx_steps.specs.declared.program.Program.TheVariants.{Simulate}
+use Rattle.tx_steps.specs.declared.step.Step.{Step}
+use Rattle.tx_steps.specs.Steps.{Text}
 use Rattle.tx_steps.specs.Lines.{data_said, step_in, bounds_in}
-use Rattle.tx_play.specs.Steps.{Call}
-use Rattle.tx_play.specs.Scenes.{Scene, opening, Turn, goes, stops, turn}
-use Rattle.tx_play.specs.Plays.{Leads}
-use Rattle.tx_script.specs.Calls.{played}
+use Rattle.tx_engine.specs.Semantics.{EngineState, opening, Transition, goes, stops, turn}
+use Rattle.tx_engine.specs.Plays.{Leads}
 
 -- ---- the regions
 
@@ -48,23 +48,23 @@ bounds_of (line ∷ lines) = bounds_at (data_said 1 line)
 
 module _ (bounds : List Key) where
   -- the step that a value says, where it says one
-  abbrev pub call_turn : List Bool → Option Call → Scene → Turn
-  call_turn refused None scene = stops Form
-  call_turn refused (Some call) scene = turn bounds refused call scene
+  abbrev pub step_turn : List Bool → Option (Step Text) → EngineState → Transition
+  step_turn refused None engine = stops Form
+  step_turn refused (Some step) engine = turn bounds refused step engine
 
   -- line 1 may say the regions: nothing has happened yet
-  abbrev pub value_turn : List Bool → ℕ → Data → Scene → Turn
-  value_turn refused number d scene =
-      if (number == 1) && is_some (bounds_in d) then goes scene (Regions (length bounds + 1)) refused
-      else call_turn refused (option_and_then played (step_in Simulate d)) scene
+  abbrev pub value_turn : List Bool → ℕ → Data → EngineState → Transition
+  value_turn refused number d engine =
+      if (number == 1) && is_some (bounds_in d) then goes engine (Regions (length bounds + 1)) refused
+      else step_turn refused (step_in Simulate d) engine
 
-  abbrev pub said_turn : List Bool → ℕ → Result Data Cause → Scene → Turn
-  said_turn refused number (Ok d) scene = value_turn refused number d scene
-  said_turn refused number (Err c) scene = stops c
+  abbrev pub said_turn : List Bool → ℕ → Result Data Cause → EngineState → Transition
+  said_turn refused number (Ok d) engine = value_turn refused number d engine
+  said_turn refused number (Err c) engine = stops c
 
   -- what the line of this number leads to
-  abbrev pub line_turn : List Bool → ℕ → List ℕ → Scene → Turn
-  line_turn refused number line scene = said_turn refused number (data_said number line) scene
+  abbrev pub line_turn : List Bool → ℕ → List ℕ → EngineState → Transition
+  line_turn refused number line engine = said_turn refused number (data_said number line) engine
 
 -- ---- scripts
 
@@ -79,26 +79,31 @@ abbrev pub before : ℕ × Items → Played → Played
 before reply p = record { replies = reply ∷ p.replies; history = p.history; ended = p.ended }
 
 -- nothing more is played
-abbrev pub ending : Scene → Played
-ending scene = record { replies = []; history = scene.stage.history; ended = Well }
+abbrev pub ending : EngineState → Played
+ending engine = record { replies = []; history = engine.network.history; ended = Well }
 
 -- the line of this number is a fault, which ends the script
-abbrev pub faulted : Scene → ℕ → Cause → Played
-faulted scene number cause = record { replies = (number, fault_words cause) ∷ []; history = scene.stage.history; ended = Faulted }
+abbrev pub faulted : EngineState → ℕ → Cause → Played
+faulted engine number cause = record {
+  replies = (number, fault_words cause) ∷ [];
+  history = engine.network.history;
+  ended = Faulted;
+}
 
 -- the text of replies
 abbrev pub render : List (ℕ × Items) → List ℕ
 render replies = flat_map reply_text replies
 
 module _ (bounds : List Key) where
-  -- Lines are played from a scene on, the first with the number after this one: each leads to its
-  -- reply and to the scene of the next; a fault ends the script.
-  abbrev pub Plays : Scene → ℕ → List Bool → List (List ℕ) → Played → Type 0
-  Plays scene number refused [] p = p ≡ ending scene
-  Plays scene number refused (line ∷ lines) p =
-      Leads bounds (λ next said left. (q : Played) × Plays next (number + 1) left lines q × (p ≡ before (number + 1, reply_words said) q))
-      (λ cause. p ≡ faulted scene (number + 1) cause)
-      (line_turn bounds refused (number + 1) line scene)
+  -- Lines are played from an engine state on, the first with the number after this one: each leads
+  -- to its reply and to the engine state of the next; a fault ends the script.
+  abbrev pub Plays : EngineState → ℕ → List Bool → List (List ℕ) → Played → Type 0
+  Plays engine number refused [] p = p ≡ ending engine
+  Plays engine number refused (line ∷ lines) p =
+      Leads bounds (λ next said left. (q : Played) × Plays next (number + 1) left lines q
+      × (p ≡ before (number + 1, reply_words said) q))
+      (λ cause. p ≡ faulted engine (number + 1) cause)
+      (line_turn bounds refused (number + 1) line engine)
 
   -- What lines mean over regions with these bounds, where the calls that `refused` names met want
   -- of memory: they mean nothing else, and their events are a run of the protocol. So the steps of
@@ -113,13 +118,16 @@ module _ (bounds : List Key) where
 
   -- lines that were played to their end: the text of their replies was written, and nothing else
   abbrev pub EndsLines : List (List ℕ) → Option (List ℕ) → Option (List ℕ) → End → Type 0
-  EndsLines lines old new ended = (refused : List Bool) × (p : Played) × IsPlay refused lines p × Appends old new (render p.replies) × (ended ≡ p.ended)
+  EndsLines lines old new ended = (refused : List Bool) × (p : Played) × IsPlay refused lines p
+      × Appends old new (render p.replies) × (ended ≡ p.ended)
 
   -- lines that were broken off: a beginning of the text of the first of them was written, whole
   -- replies unless a write failed
   abbrev pub BreaksLines : Broken → List (List ℕ) → Option (List ℕ) → Option (List ℕ) → Type 0
-  BreaksLines why lines old new = (refused : List Bool) × (first rest : List (List ℕ)) × (p : Played) × (written more : List ℕ)
-      × (lines ≡ first ++ rest) × IsPlay refused first p × Appends old new written × (render p.replies ≡ written ++ more)
+  BreaksLines why lines old new = (refused : List Bool) × (first rest : List (List ℕ)) × (p : Played)
+      × (written more : List ℕ)
+      × (lines ≡ first ++ rest) × IsPlay refused first p × Appends old new written
+      × (render p.replies ≡ written ++ more)
       × ((why ≡ Output) ⊎ (more ≡ []))
 
 -- an ended script has written the text of its replies, and nothing else

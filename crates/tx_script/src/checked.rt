@@ -18,9 +18,11 @@ use tx_text::{Broken, End, finish, send};
 use tx_trace::Trace;
 
 // Writes the line of each step.
-fn tell_steps<W: Write>(alloc: Global, writer: &mut W, steps: &[Step]) -> Result<(), Broken>
-    ensures all { OnOk result (Appends (W.contents writer.old) (W.contents writer.new) (concat (map step_text steps.now))) }
-    ensures part { IfErr result (λ why. AppendsBegun why (W.contents writer.old) (W.contents writer.new) (map step_text steps.now)) }
+fn write_steps<W: Write>(alloc: Global, writer: &mut W, steps: &[Step]) -> Result<(), Broken>
+    ensures all { OnOk result (Appends (W.contents writer.old) (W.contents writer.new)
+        (concat (map step_text steps.now))) }
+    ensures part { IfErr result (λ why. AppendsBegun why (W.contents writer.old) (W.contents writer.new)
+        (map step_text steps.now)) }
 {
     let mut text = Vec::new(alloc);
     'steps: for step in steps {
@@ -44,10 +46,12 @@ fn judge(alloc: Global, steps: &[Step]) -> Result<Verdict, Broken>
 }
 
 // Writes what the checker says.
-fn tell_verdict<W: Write>(alloc: Global, writer: &mut W, steps: &[Step]) -> Result<(), Broken>
+fn write_verdict<W: Write>(alloc: Global, writer: &mut W, steps: &[Step]) -> Result<(), Broken>
     requires run { IsRun (reverse steps.now) }
-    ensures all { OnOk result (Appends (W.contents writer.old) (W.contents writer.new) (line_text (words Verdict.Yes))) }
-    ensures part { IfErr result (λ why. AppendsBegun why (W.contents writer.old) (W.contents writer.new) (line_text (words Verdict.Yes) ∷ [])) }
+    ensures all { OnOk result (Appends (W.contents writer.old) (W.contents writer.new)
+        (line_text (words Verdict.Yes))) }
+    ensures part { IfErr result (λ why. AppendsBegun why (W.contents writer.old) (W.contents writer.new)
+        (line_text (words Verdict.Yes) ∷ [])) }
 {
     let verdict = judge(alloc, steps)?;
     let text = verdict_line(alloc, verdict)?;
@@ -56,42 +60,49 @@ fn tell_verdict<W: Write>(alloc: Global, writer: &mut W, steps: &[Step]) -> Resu
 }
 
 // Writes the steps of a run, and that they are one.
-fn tell_run<W: Write>(alloc: Global, writer: &mut W, steps: &[Step]) -> Result<(), Broken>
+fn write_run<W: Write>(alloc: Global, writer: &mut W, steps: &[Step]) -> Result<(), Broken>
     requires run { IsRun (reverse steps.now) }
-    ensures all { OnOk result (Appends (W.contents writer.old) (W.contents writer.new) (concat (map step_text steps.now ++ line_text (words Verdict.Yes) ∷ []))) }
-    ensures part { IfErr result (λ why. AppendsBegun why (W.contents writer.old) (W.contents writer.new) (map step_text steps.now ++ line_text (words Verdict.Yes) ∷ [])) }
+    ensures all { OnOk result (Appends (W.contents writer.old) (W.contents writer.new) (concat (map step_text steps.now
+        ++ line_text (words Verdict.Yes) ∷ []))) }
+    ensures part { IfErr result (λ why. AppendsBegun why (W.contents writer.old) (W.contents writer.new)
+        (map step_text steps.now ++ line_text (words Verdict.Yes) ∷ [])) }
 {
-    tell_steps(alloc, writer, steps)?;
-    tell_verdict(alloc, writer, steps)
+    write_steps(alloc, writer, steps)?;
+    write_verdict(alloc, writer, steps)
 }
 
 // Writes the steps of a run that were kept, and that they are one. `Memory` where they were not
 // kept for want of it.
-fn tell_trace<W: Write>(alloc: Global, writer: &mut W, trace: Option<Trace>) -> Result<(), Broken>
+fn write_trace<W: Write>(alloc: Global, writer: &mut W, trace: Option<Trace>) -> Result<(), Broken>
     requires run { IfSome trace (λ t. IsRun t.steps) }
-    ensures all { OnOk result ((h : History) → AreOf h trace → Appends (W.contents writer.old) (W.contents writer.new) (concat (step_lines h))) }
-    ensures part { IfErr result (λ why. (h : History) → AreOf h trace → AppendsBegun why (W.contents writer.old) (W.contents writer.new) (step_lines h)) }
+    ensures all { OnOk result ((h : History) → AreOf h trace
+        → Appends (W.contents writer.old) (W.contents writer.new) (concat (step_lines h))) }
+    ensures part { IfErr result (λ why. (h : History) → AreOf h trace
+        → AppendsBegun why (W.contents writer.old) (W.contents writer.new) (step_lines h)) }
 {
     let Some(trace) = trace else {
         return Err(Broken::Memory);
     };
-    tell_run(alloc, writer, trace.steps())
+    write_run(alloc, writer, trace.steps())
 }
 
 /// Writes what follows the replies of a script that ended so: where it ended well, the steps of its
 /// run that were kept, and that they are one. `Memory` where they were not kept for want of it.
-pub(crate) fn tell_rest<W: Write>(
+pub(crate) fn write_rest<W: Write>(
     alloc: Global,
     writer: &mut W,
     end: End,
     trace: Option<Trace>,
 ) -> Result<(), Broken>
     requires run { IfSome trace (λ t. IsRun t.steps) }
-    ensures all { OnOk result ((h : History) → AreOf h trace → Appends (W.contents writer.old) (W.contents writer.new) (steps_told end h)) }
-    ensures part { IfErr result (λ why. (end ≡ End.Well) × ((h : History) → AreOf h trace → AppendsBegun why (W.contents writer.old) (W.contents writer.new) (step_lines h))) }
+    ensures all { OnOk result ((h : History) → AreOf h trace
+        → Appends (W.contents writer.old) (W.contents writer.new) (steps_told end h)) }
+    ensures part { IfErr result (λ why. (end ≡ End.Well)
+        × ((h : History) → AreOf h trace → AppendsBegun why (W.contents writer.old) (W.contents writer.new)
+        (step_lines h))) }
 {
     match end {
-        End::Well => tell_trace(alloc, writer, trace),
+        End::Well => write_trace(alloc, writer, trace),
         End::Faulted | End::No => Ok(()),
     }
 }

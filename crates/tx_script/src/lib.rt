@@ -3,11 +3,12 @@
 //! means, which is its only play, whose events are a run of the protocol. `simulate_checked` also
 //! writes the machine's steps that are read off that run, and that they are a run of the machine.
 //!
+//! Here users find scripts: `simulate`, `check` of tx_check, and how either ends.
+//!
 //! A line is one JSON array, which `tx_text` reads and writes; `tx_steps` has the steps of
-//! scripts, and `tx_play` the engine.
+//! scripts, and `tx_engine` the engine.
 #![tactic(auto)]
 
-mod call;
 mod checked;
 mod line;
 mod opening;
@@ -15,4 +16,5 @@ mod script;
 
 pub use opening::{simulate, simulate_checked};
 pub use tx_cells::{Makes, Plain};
+pub use tx_check::{check, check_with_reason};
 pub use tx_text::{Broken, End};

@@ -1,5 +1,5 @@
 //! One line of a script, from its bytes to its reply.
-ghost use Rattle.std.specs.Prelude.{◌≡◌, ◌≤◌, option_and_then, option_map, is_some, OnOk, IfOk, IfErr, OnErr};
+ghost use Rattle.std.specs.Prelude.{◌≡◌, ◌≤◌, option_map, is_some, OnOk, IfOk, IfErr, OnErr};
 ghost use Rattle.tx_types.specs.declared.limits.TheConstants as limits;
 ghost use Rattle.std.specs.Io.KnownBytes.{Appends};
 ghost use Rattle.tx_text.specs.Faults.{fault_words};
@@ -8,18 +8,16 @@ ghost use Rattle.tx_reply.specs.Replies.{reply_words};
 ghost use Rattle.tx_text.specs.Members.{reply_text};
 ghost use Rattle.tx_steps.specs.Steps.{asked};
 ghost use Rattle.tx_steps.specs.Lines.{data_of, bounds_in};
-ghost use Rattle.tx_play.specs.Places.{AllSeated, Goes};
-ghost use Rattle.tx_script.specs.Calls.{played};
-ghost use Rattle.tx_script.specs.Play.{call_turn, value_turn, line_turn};
-ghost use Rattle.tx_script.specs.Loops.{TurnedBy, FoundTurned, FitsFound};
+ghost use Rattle.tx_engine.specs.Slots.{AllSeated, Goes, TurnedBy};
+ghost use Rattle.tx_script.specs.Play.{step_turn, value_turn, line_turn};
+ghost use Rattle.tx_script.specs.Loops.{FoundTurned, FitsFound};
 
-use crate::call::call;
 use std::alloc::Global;
 use std::io::Write;
 use tx_cells::Families;
-use tx_journal::Naming;
-use tx_play::Engine;
-use tx_reply::{Reply, put_reply};
+use tx_engine::Engine;
+use tx_journal::JournalId;
+use tx_reply::{ScriptReply, put_reply};
 use tx_steps::{Line, Program, Step};
 use tx_text::{Broken, Found, Parts, put_fault, send};
 use tx_types::Cause;
@@ -28,22 +26,21 @@ use tx_types::Cause;
 #[derive(Drop)]
 pub(crate) enum Turned {
     End,
-    Goes(Reply),
+    Goes(ScriptReply),
     Stops(Cause),
 }
 
 // Plays a step, where there is one.
-fn play_step<J: Naming, F: Families>(
+fn play_step<J: JournalId, F: Families>(
     engine: &mut Engine<J, F>,
-    step: Option<Step<'_>>,
-) -> Result<Reply, Cause>
+    step: Option<Step<&str>>,
+) -> Result<ScriptReply, Cause>
     requires ready { AllSeated J.bounds 1 engine.old }
-    ensures goes { Goes J.bounds engine.old engine.new (TurnedBy J.bounds (λ refused. call_turn J.bounds refused (option_and_then played (option_map asked step.entry))) result engine.old engine.new) }
+    ensures goes { Goes J.bounds engine.old engine.new
+        (TurnedBy J.bounds (λ refused. step_turn J.bounds refused (option_map asked step.entry)) result engine.old
+        engine.new) }
 {
-    let Some(said) = step else {
-        return Err(Cause::Form);
-    };
-    match call(said) {
+    match step {
         None => Err(Cause::Form),
         Some(step) => engine.play(&step),
     }
@@ -62,31 +59,34 @@ fn says_regions(alloc: Global, said: &Line<'_, '_>) -> Result<bool, Broken>
 }
 
 // Plays the value of the line of this number.
-fn play_said<J: Naming, F: Families>(
+fn play_said<J: JournalId, F: Families>(
     alloc: Global,
     engine: &mut Engine<J, F>,
     number: u64,
     said: &Line<'_, '_>,
-) -> Result<Result<Reply, Cause>, Broken>
+) -> Result<Result<ScriptReply, Cause>, Broken>
     requires ready { AllSeated J.bounds 1 engine.old }
-    ensures goes { IfOk result (λ turned. Goes J.bounds engine.old engine.new (TurnedBy J.bounds (λ refused. value_turn J.bounds refused number (data_of said.now)) turned engine.old engine.new)) }
+    ensures goes { IfOk result (λ turned. Goes J.bounds engine.old engine.new
+        (TurnedBy J.bounds (λ refused. value_turn J.bounds refused number (data_of said.now)) turned engine.old
+        engine.new)) }
     ensures same { OnErr result (engine.new ≡ engine.old) }
 {
     if number == 1 && says_regions(alloc, said)? {
-        return Ok(Ok(Reply::Regions(engine.regions())));
+        return Ok(Ok(ScriptReply::Regions(engine.regions())));
     }
     Ok(play_step(engine, said.step(Program::Simulate)))
 }
 
 // Plays the line of this number.
-fn play_line<J: Naming, F: Families>(
+fn play_line<J: JournalId, F: Families>(
     alloc: Global,
     engine: &mut Engine<J, F>,
     number: u64,
     line: &[u8],
-) -> Result<Result<Reply, Cause>, Broken>
+) -> Result<Result<ScriptReply, Cause>, Broken>
     requires ready { AllSeated J.bounds 1 engine.old }
-    ensures goes { IfOk result (λ turned. Goes J.bounds engine.old engine.new (TurnedBy J.bounds (λ refused. line_turn J.bounds refused number line.now) turned engine.old engine.new)) }
+    ensures goes { IfOk result (λ turned. Goes J.bounds engine.old engine.new
+        (TurnedBy J.bounds (λ refused. line_turn J.bounds refused number line.now) turned engine.old engine.new)) }
     ensures early { IfOk result (λ turned. OnOk turned (number ≤ limits.MAX_LINES)) }
     ensures same { OnErr result (engine.new ≡ engine.old) }
 {
@@ -99,7 +99,7 @@ fn play_line<J: Naming, F: Families>(
 
 /// Plays the line of this number, by what was found of it.
 #[inline(always)]
-pub(crate) fn play_found<J: Naming, F: Families>(
+pub(crate) fn play_found<J: JournalId, F: Families>(
     alloc: Global,
     engine: &mut Engine<J, F>,
     number: u64,
@@ -107,9 +107,11 @@ pub(crate) fn play_found<J: Naming, F: Families>(
     line: &[u8],
 ) -> Result<Turned, Broken>
     requires ready { AllSeated J.bounds 1 engine.old }
-    ensures goes { IfOk result (λ turned. Goes J.bounds engine.old engine.new (FoundTurned J.bounds number found line.now turned engine.old engine.new)) }
+    ensures goes { IfOk result (λ turned. Goes J.bounds engine.old engine.new
+        (FoundTurned J.bounds number found line.now turned engine.old engine.new)) }
     ensures fits { IfOk result (λ turned. FitsFound found turned) }
-    ensures early { IfOk result (λ turned. (reply : Reply) → turned ≡ Turned.Goes reply → number ≤ limits.MAX_LINES) }
+    ensures early { IfOk result (λ turned. (reply : ScriptReply) → turned ≡ Turned.Goes reply
+        → number ≤ limits.MAX_LINES) }
     ensures same { OnErr result (engine.new ≡ engine.old) }
 {
     match found {
@@ -124,14 +126,20 @@ pub(crate) fn play_found<J: Naming, F: Families>(
 
 /// Writes the line of a reply, or the first few bytes of it before a failure. It is made in `text`,
 /// which is kept from line to line.
-pub(crate) fn tell<W: Write>(
+pub(crate) fn write_reply<W: Write>(
     writer: &mut W,
     text: &mut Vec<u8>,
     number: u64,
-    reply: &Reply,
+    reply: &ScriptReply,
 ) -> Result<(), Broken>
-    ensures all { OnOk result (Appends (W.contents writer.old) (W.contents writer.new) (reply_text (number, reply_words reply.now))) }
-    ensures part { IfErr result (λ e. BreaksText e (W.contents writer.old) (W.contents writer.new) (reply_text (number, reply_words reply.now))) }
+    ensures all { OnOk result (Appends (W.contents writer.old) (W.contents writer.new) (reply_text (
+      number,
+      reply_words reply.now,
+    ))) }
+    ensures part { IfErr result (λ e. BreaksText e (W.contents writer.old) (W.contents writer.new) (reply_text (
+      number,
+      reply_words reply.now,
+    ))) }
 {
     text.clear();
     put_reply(text, number, reply)?;
@@ -141,14 +149,20 @@ pub(crate) fn tell<W: Write>(
 /// Writes the line of a fault, or the first few bytes of it before a failure.
 #[cold]
 #[inline(never)]
-pub(crate) fn tell_fault<W: Write>(
+pub(crate) fn write_fault<W: Write>(
     writer: &mut W,
     text: &mut Vec<u8>,
     number: u64,
     cause: Cause,
 ) -> Result<(), Broken>
-    ensures all { OnOk result (Appends (W.contents writer.old) (W.contents writer.new) (reply_text (number, fault_words cause))) }
-    ensures part { IfErr result (λ e. BreaksText e (W.contents writer.old) (W.contents writer.new) (reply_text (number, fault_words cause))) }
+    ensures all { OnOk result (Appends (W.contents writer.old) (W.contents writer.new) (reply_text (
+      number,
+      fault_words cause,
+    ))) }
+    ensures part { IfErr result (λ e. BreaksText e (W.contents writer.old) (W.contents writer.new) (reply_text (
+      number,
+      fault_words cause,
+    ))) }
 {
     text.clear();
     put_fault(text, number, cause)?;

@@ -13,8 +13,8 @@ use std::alloc::Global;
 use std::io::{BufRead, Write};
 use std::marker::Brand;
 use tx_cells::{Families, Makes, make_families};
-use tx_journal::{Naming, Opened};
-use tx_play::engine_of;
+use tx_engine::engine_of;
+use tx_journal::{JournalId, Opened};
 use tx_steps::Line;
 use tx_text::{Broken, End, Found, Parts, read_line};
 use tx_types::Key;
@@ -41,7 +41,7 @@ fn bounds_at(alloc: Global, first: Found, line: &[u8]) -> Result<Vec<Key>, Broke
 }
 
 // Plays a script over a journal that was opened, and has no other user.
-fn over<J: Naming, F: Families + Drop, R: BufRead, W: Write>(
+fn over<J: JournalId, F: Families + Drop, R: BufRead, W: Write>(
     alloc: Global,
     opened: Opened,
     families: Vec<F>,
@@ -55,9 +55,11 @@ fn over<J: Naming, F: Families + Drop, R: BufRead, W: Write>(
     requires few { vec_len families ≡ length opened.bounds + 1 }
     requires seats { opened.seats ≡ length opened.bounds + 2 + limits.MAX_LIVE_SESSIONS }
     requires empty { All (λ f. F.content f ≡ (λ k. nothing_held)) families.items }
-    ensures ends { IfOk result (λ end. (lines : List (List ℕ)) → Ahead first line.old.items (R.remaining reader.old) lines
+    ensures ends { IfOk result (λ end. (lines : List (List ℕ))
+        → Ahead first line.old.items (R.remaining reader.old) lines
         → EndsAsked checks opened.bounds lines (W.contents writer.old) (W.contents writer.new) end) }
-    ensures breaks { IfErr result (λ why. (lines : List (List ℕ)) → Ahead first line.old.items (R.remaining reader.old) lines
+    ensures breaks { IfErr result (λ why. (lines : List (List ℕ))
+        → Ahead first line.old.items (R.remaining reader.old) lines
         → BreaksAsked checks opened.bounds why lines (W.contents writer.old) (W.contents writer.new)) }
 {
     let Ok((journal, seats)) = opened.named::<J>(alloc) else {
@@ -82,9 +84,11 @@ fn play<F: Families + Drop, M: Makes<F>, R: BufRead, W: Write>(
     checks: bool,
 ) -> Result<End, Broken>
     ensures ends { IfOk result (λ end. IfSome (R.remaining reader.old)
-        (λ input. EndsAsked checks (bounds_of (lines_of input)) (lines_of input) (W.contents writer.old) (W.contents writer.new) end)) }
+        (λ input. EndsAsked checks (bounds_of (lines_of input)) (lines_of input) (W.contents writer.old)
+        (W.contents writer.new) end)) }
     ensures breaks { IfErr result (λ why. IfSome (R.remaining reader.old)
-        (λ input. BreaksAsked checks (bounds_of (lines_of input)) why (lines_of input) (W.contents writer.old) (W.contents writer.new))) }
+        (λ input. BreaksAsked checks (bounds_of (lines_of input)) why (lines_of input) (W.contents writer.old)
+        (W.contents writer.new))) }
 {
     let mut line = Vec::new(alloc);
     let first = read_line(reader, &mut line)?;

@@ -2,27 +2,27 @@
 ghost use Rattle.std.specs.Prelude.{◌≡◌, ◌≤◌, ◌+◌, ℕ, List, length, IfOk, IfErr};
 ghost use Rattle.tx_types.specs.declared.limits.TheConstants as limits;
 ghost use Rattle.tx_core.specs.Worlds.{IsWorldRun};
-ghost use Rattle.tx_play.specs.Places.{AllSeated, own};
-ghost use Rattle.tx_play.specs.Openings.{IsOpening};
-ghost use Rattle.tx_post.specs.Posts.{IsTraced};
+ghost use Rattle.tx_engine.specs.Slots.{AllSeated, own};
+ghost use Rattle.tx_engine.specs.Openings.{IsOpening};
+ghost use Rattle.tx_network.specs.Networks.{IsTraced};
 ghost use Rattle.tx_script.specs.Play.{EndsLines, BreaksLines};
 ghost use Rattle.tx_script.specs.Checked.{EndsCheckedLines, BreaksCheckedLines};
 ghost use Rattle.tx_script.specs.Loops.{Ahead, Kept, EndsAt, BreaksAt};
 
-use crate::checked::tell_rest;
-use crate::line::{Turned, play_found, tell, tell_fault};
+use crate::checked::write_rest;
+use crate::line::{Turned, play_found, write_fault, write_reply};
 use std::alloc::Global;
 use std::io::{BufRead, Write};
 use tx_cells::Families;
-use tx_journal::Naming;
-use tx_play::Engine;
+use tx_engine::Engine;
+use tx_journal::JournalId;
 use tx_reply::REFUSAL_BYTES;
 use tx_text::{Broken, End, Found, finish, read_line};
 use tx_trace::Trace;
 use tx_types::limits::MAX_LINES;
 
 // Plays the lines that come next, one after another: the first is in `line`, as it was found.
-fn play_lines<J: Naming, F: Families, R: BufRead, W: Write>(
+fn play_lines<J: JournalId, F: Families, R: BufRead, W: Write>(
     alloc: Global,
     engine: &mut Engine<J, F>,
     reader: &mut R,
@@ -31,14 +31,17 @@ fn play_lines<J: Naming, F: Families, R: BufRead, W: Write>(
     line: &mut Vec<u8>,
 ) -> Result<End, Broken>
     requires opening { IsOpening engine.old }
-    requires places { length engine.old.places ≡ limits.MAX_LIVE_SESSIONS }
+    requires slots { length engine.old.slots ≡ limits.MAX_LIVE_SESSIONS }
     requires ready { AllSeated J.bounds (limits.MAX_LINES + 1) engine.old }
     ensures kept { Kept J.bounds engine.new }
-    ensures traced { length engine.new.desk.newest ≤ own engine.new → IsTraced engine.old.desk → IsTraced engine.new.desk }
-    ensures ends { IfOk result (λ end. length engine.new.desk.newest ≤ own engine.new → (lines : List (List ℕ)) → Ahead first line.old.items (R.remaining reader.old) lines
-        → EndsAt J.bounds lines engine.new.desk.newest (W.contents writer.old) (W.contents writer.new) end) }
-    ensures breaks { IfErr result (λ why. length engine.new.desk.newest ≤ own engine.new → (lines : List (List ℕ)) → Ahead first line.old.items (R.remaining reader.old) lines
-        → BreaksAt J.bounds lines why engine.new.desk.newest (W.contents writer.old) (W.contents writer.new)) }
+    ensures traced { length engine.new.network.newest ≤ own engine.new → IsTraced engine.old.network
+        → IsTraced engine.new.network }
+    ensures ends { IfOk result (λ end. length engine.new.network.newest ≤ own engine.new → (lines : List (List ℕ))
+        → Ahead first line.old.items (R.remaining reader.old) lines
+        → EndsAt J.bounds lines engine.new.network.newest (W.contents writer.old) (W.contents writer.new) end) }
+    ensures breaks { IfErr result (λ why. length engine.new.network.newest ≤ own engine.new → (lines : List (List ℕ))
+        → Ahead first line.old.items (R.remaining reader.old) lines
+        → BreaksAt J.bounds lines why engine.new.network.newest (W.contents writer.old) (W.contents writer.new)) }
 {
     let mut text = Vec::with_capacity(alloc, REFUSAL_BYTES)?;
     let mut number = 0;
@@ -51,10 +54,10 @@ fn play_lines<J: Naming, F: Families, R: BufRead, W: Write>(
             }
             Turned::Goes(reply) => {
                 number += 1;
-                tell(writer, &mut text, number, &reply)?;
+                write_reply(writer, &mut text, number, &reply)?;
             }
             Turned::Stops(cause) => {
-                tell_fault(writer, &mut text, number + 1, cause)?;
+                write_fault(writer, &mut text, number + 1, cause)?;
                 finish(writer)?;
                 return Ok(End::Faulted);
             }
@@ -65,12 +68,12 @@ fn play_lines<J: Naming, F: Families, R: BufRead, W: Write>(
 
 // Ends the play: nobody else acted, so that what is newest is no more than was made here, and a run
 // of the protocol. The machine's steps of it, where they were kept.
-fn close<J: Naming, F: Families + Drop>(engine: Engine<J, F>) -> Option<Trace>
+fn close<J: JournalId, F: Families + Drop>(engine: Engine<J, F>) -> Option<Trace>
     requires kept { Kept J.bounds engine }
     requires seats { J.seats ≡ length J.bounds + 2 + limits.MAX_LIVE_SESSIONS }
-    ensures came { length engine.desk.newest ≤ own engine }
-    ensures run { IsWorldRun J.bounds engine.desk.newest }
-    ensures trace { result ≡ engine.desk.trace }
+    ensures came { length engine.network.newest ≤ own engine }
+    ensures run { IsWorldRun J.bounds engine.network.newest }
+    ensures trace { result ≡ engine.network.trace }
 {
     let mut engine = engine;
     let trace = engine.take_trace();
@@ -82,7 +85,7 @@ fn close<J: Naming, F: Families + Drop>(engine: Engine<J, F>) -> Option<Trace>
 /// Plays the lines that come next in one thread, the first of which is in `line`, as it was found.
 /// What it has then written is the text of the only play of the lines, whose history is a run of
 /// the protocol; broken off, it has written a beginning of the text of the first lines.
-pub(crate) fn simulate_over<J: Naming, F: Families + Drop, R: BufRead, W: Write>(
+pub(crate) fn simulate_over<J: JournalId, F: Families + Drop, R: BufRead, W: Write>(
     alloc: Global,
     engine: Engine<J, F>,
     reader: &mut R,
@@ -91,12 +94,14 @@ pub(crate) fn simulate_over<J: Naming, F: Families + Drop, R: BufRead, W: Write>
     line: &mut Vec<u8>,
 ) -> Result<End, Broken>
     requires opening { IsOpening engine }
-    requires places { length engine.places ≡ limits.MAX_LIVE_SESSIONS }
+    requires slots { length engine.slots ≡ limits.MAX_LIVE_SESSIONS }
     requires ready { AllSeated J.bounds (limits.MAX_LINES + 1) engine }
     requires seats { J.seats ≡ length J.bounds + 2 + limits.MAX_LIVE_SESSIONS }
-    ensures ends { IfOk result (λ end. (lines : List (List ℕ)) → Ahead first line.old.items (R.remaining reader.old) lines
+    ensures ends { IfOk result (λ end. (lines : List (List ℕ))
+        → Ahead first line.old.items (R.remaining reader.old) lines
         → EndsLines J.bounds lines (W.contents writer.old) (W.contents writer.new) end) }
-    ensures breaks { IfErr result (λ why. (lines : List (List ℕ)) → Ahead first line.old.items (R.remaining reader.old) lines
+    ensures breaks { IfErr result (λ why. (lines : List (List ℕ))
+        → Ahead first line.old.items (R.remaining reader.old) lines
         → BreaksLines J.bounds why lines (W.contents writer.old) (W.contents writer.new)) }
 {
     let mut engine = engine;
@@ -107,7 +112,7 @@ pub(crate) fn simulate_over<J: Naming, F: Families + Drop, R: BufRead, W: Write>
 
 /// Plays such lines with a check: where the script ended well, the machine's steps of its run
 /// follow its replies, and that they are a run.
-pub(crate) fn check_over<J: Naming, F: Families + Drop, R: BufRead, W: Write>(
+pub(crate) fn check_over<J: JournalId, F: Families + Drop, R: BufRead, W: Write>(
     alloc: Global,
     engine: Engine<J, F>,
     reader: &mut R,
@@ -116,12 +121,14 @@ pub(crate) fn check_over<J: Naming, F: Families + Drop, R: BufRead, W: Write>(
     line: &mut Vec<u8>,
 ) -> Result<End, Broken>
     requires opening { IsOpening engine }
-    requires places { length engine.places ≡ limits.MAX_LIVE_SESSIONS }
+    requires slots { length engine.slots ≡ limits.MAX_LIVE_SESSIONS }
     requires ready { AllSeated J.bounds (limits.MAX_LINES + 1) engine }
     requires seats { J.seats ≡ length J.bounds + 2 + limits.MAX_LIVE_SESSIONS }
-    ensures ends { IfOk result (λ end. (lines : List (List ℕ)) → Ahead first line.old.items (R.remaining reader.old) lines
+    ensures ends { IfOk result (λ end. (lines : List (List ℕ))
+        → Ahead first line.old.items (R.remaining reader.old) lines
         → EndsCheckedLines J.bounds lines (W.contents writer.old) (W.contents writer.new) end) }
-    ensures breaks { IfErr result (λ why. (lines : List (List ℕ)) → Ahead first line.old.items (R.remaining reader.old) lines
+    ensures breaks { IfErr result (λ why. (lines : List (List ℕ))
+        → Ahead first line.old.items (R.remaining reader.old) lines
         → BreaksCheckedLines J.bounds why lines (W.contents writer.old) (W.contents writer.new)) }
 {
     let mut engine = engine;
@@ -129,6 +136,6 @@ pub(crate) fn check_over<J: Naming, F: Families + Drop, R: BufRead, W: Write>(
     let ended = play_lines(alloc, &mut engine, reader, writer, first, line);
     let trace = close(engine);
     let end = ended?;
-    tell_rest(alloc, writer, end, trace)?;
+    write_rest(alloc, writer, end, trace)?;
     Ok(end)
 }

@@ -5,7 +5,7 @@ use std::io::{BufRead, Write};
 use std::process::Abort;
 use std::test::Fail;
 use tx_flat::FlatCells;
-use tx_reply::{REFUSAL_BYTES, Reply, put_reply};
+use tx_reply::{REFUSAL_BYTES, ScriptReply, put_reply};
 use tx_script::{Broken, End, Plain};
 
 /// Plays a script over flat maps.
@@ -195,7 +195,7 @@ fn want_of_memory_has_a_line_of_its_own(rt: HostRuntime) -> Result<(), Fail> {
         (u64::MAX, "[18446744073709551615,\"E12\"]\n"),
     ] {
         text.clear();
-        put_reply(&mut text, number, &Reply::OutOfMemory)?;
+        put_reply(&mut text, number, &ScriptReply::OutOfMemory)?;
         assert_eq!(rt; text.as_slice(), line.as_bytes());
         assert!(rt; line.len() <= REFUSAL_BYTES);
     }

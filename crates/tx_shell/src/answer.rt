@@ -1,16 +1,16 @@
 //! A command over an input and an output: what was written is handed on before more is read.
-use crate::asked::Asked;
+use crate::asked::Invocation;
 use crate::perform::perform;
 use std::cell::RefCell;
 use std::io::{BufWriter, Read, Write};
 use std::sync::Wait;
 use std::thread::Threads;
-use tx_command::{Asking, Counted, Erasing, Noted, Noting, Recent, Shared, reason};
+use tx_command::{Asking, Counted, Erasing, NotedFaults, Noting, Recent, Shared, reason};
 use tx_text::{Broken, End};
 
 // Says on standard error why lines are faults. What cannot be said there is left out: the line of
 // each fault is written all the same.
-fn explain<I>(asked: &Asked<'_>, faults: &[Noted], lines: &Recent<I>) {
+fn explain<I>(asked: &Invocation<'_>, faults: &[NotedFaults], lines: &Recent<I>) {
     asked.progress.erase();
     let host = asked.host;
     'faults: for fault in faults {
@@ -23,7 +23,12 @@ fn explain<I>(asked: &Asked<'_>, faults: &[Noted], lines: &Recent<I>) {
 
 /// Does what is asked over an input and an output. What was written is handed on each time before
 /// more of the input is read.
-pub(crate) fn answer<R, I, O>(rt: &R, asked: &Asked<'_>, input: I, output: O) -> Result<End, Broken>
+pub(crate) fn answer<R, I, O>(
+    rt: &R,
+    asked: &Invocation<'_>,
+    input: I,
+    output: O,
+) -> Result<End, Broken>
 where
     R: AllocGlobal + Threads + Wait + Sync + Send + Clone + Drop,
     I: Read + Drop,

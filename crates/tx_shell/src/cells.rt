@@ -3,48 +3,50 @@ use std::alloc::Global;
 use std::io::{BufRead, Write};
 use std::sync::Wait;
 use std::thread::Threads;
-use tx_command::Cells;
+use tx_command::CellsKind;
 use tx_flat::FlatCells;
 use tx_nested::NestedCells;
-use tx_run::{Plain, Played, Settings, run_script};
+use tx_run::{Plain, RunResult, Settings, run_script};
 use tx_sched::Gate;
 use tx_script::{Broken, End, simulate, simulate_checked};
 
 /// `txkv simulate`.
 pub(crate) fn simulate_over<B: BufRead, W: Write>(
     alloc: Global,
-    cells: Cells,
+    cells: CellsKind,
     reader: &mut B,
     writer: &mut W,
 ) -> Result<End, Broken> {
     match cells {
-        Cells::Flat => simulate::<FlatCells, _, _, _>(alloc, &Plain, reader, writer),
-        Cells::Nested => simulate::<NestedCells, _, _, _>(alloc, &Plain, reader, writer),
+        CellsKind::Flat => simulate::<FlatCells, _, _, _>(alloc, &Plain, reader, writer),
+        CellsKind::Nested => simulate::<NestedCells, _, _, _>(alloc, &Plain, reader, writer),
     }
 }
 
 /// `txkv simulate --check`.
 pub(crate) fn simulate_checked_over<B: BufRead, W: Write>(
     alloc: Global,
-    cells: Cells,
+    cells: CellsKind,
     reader: &mut B,
     writer: &mut W,
 ) -> Result<End, Broken> {
     match cells {
-        Cells::Flat => simulate_checked::<FlatCells, _, _, _>(alloc, &Plain, reader, writer),
-        Cells::Nested => simulate_checked::<NestedCells, _, _, _>(alloc, &Plain, reader, writer),
+        CellsKind::Flat => simulate_checked::<FlatCells, _, _, _>(alloc, &Plain, reader, writer),
+        CellsKind::Nested => simulate_checked::<NestedCells, _, _, _>(
+            alloc, &Plain, reader, writer,
+        ),
     }
 }
 
 /// `txkv run`: how it ended, and what was played.
 pub(crate) fn run_over<R, G, B, W>(
     rt: &R,
-    cells: Cells,
+    cells: CellsKind,
     settings: Settings,
     gate: &G,
     reader: &mut B,
     writer: &mut W,
-) -> Result<(End, Option<Played>), Broken>
+) -> Result<(End, Option<RunResult>), Broken>
 where
     R: AllocGlobal + Threads + Wait + Sync + Send + Clone + Drop,
     G: Gate + Sync,
@@ -53,10 +55,10 @@ where
 {
     let alloc = rt.alloc();
     match cells {
-        Cells::Flat => run_script::<FlatCells, _, _, _, _, _>(
+        CellsKind::Flat => run_script::<FlatCells, _, _, _, _, _>(
             rt, alloc, settings, &Plain, gate, reader, writer,
         ),
-        Cells::Nested => run_script::<NestedCells, _, _, _, _, _>(
+        CellsKind::Nested => run_script::<NestedCells, _, _, _, _, _>(
             rt, alloc, settings, &Plain, gate, reader, writer,
         ),
     }

@@ -1,5 +1,5 @@
 //! What each command does with its input.
-use crate::asked::Asked;
+use crate::asked::Invocation;
 use crate::cells::{run_over, simulate_checked_over, simulate_over};
 use crate::stats::stats_of;
 use crate::watching::Watching;
@@ -8,12 +8,12 @@ use std::sync::Wait;
 use std::thread::Threads;
 use std::time::{Duration, Instant};
 use tx_check::{check, check_with_reason};
-use tx_command::{Steps, Task};
-use tx_run::{Played, Settings};
+use tx_command::{CommandTask, Steps};
+use tx_run::{RunResult, Settings};
 use tx_text::{Broken, End};
 
 // Tells what was played in so much time. What cannot be told is left out.
-fn tell(host: HostRuntime, played: &Played, elapsed: Duration) {
+fn report(host: HostRuntime, played: &RunResult, elapsed: Duration) {
     let stats = stats_of(played, elapsed);
     let refusals = played.refusals;
     let _ = eprint!(host; "{stats}");
@@ -24,7 +24,7 @@ fn tell(host: HostRuntime, played: &Played, elapsed: Duration) {
 // Runs the sessions of a script side by side.
 fn run<R, I, O>(
     rt: &R,
-    asked: &Asked<'_>,
+    asked: &Invocation<'_>,
     settings: Settings,
     reader: &mut I,
     writer: &mut O,
@@ -41,7 +41,7 @@ where
     let (end, played) = run_over(rt, asked.job.cells, settings, &gate, reader, writer)?;
     if let (true, Some(played), Ok(began)) = (asked.job.has_stats, &played, began) {
         if let Ok(elapsed) = began.elapsed(&asked.host) {
-            tell(asked.host, played, elapsed);
+            report(asked.host, played, elapsed);
         }
     }
     drop(played);
@@ -51,7 +51,7 @@ where
 /// Does what is asked over these streams.
 pub(crate) fn perform<R, I, O>(
     rt: &R,
-    asked: &Asked<'_>,
+    asked: &Invocation<'_>,
     reader: &mut I,
     writer: &mut O,
 ) -> Result<End, Broken>
@@ -63,14 +63,14 @@ where
     let alloc = rt.alloc();
     let cells = asked.job.cells;
     match asked.job.task {
-        Task::Simulate => simulate_over(alloc, cells, reader, writer),
-        Task::SimulateChecked => simulate_checked_over(alloc, cells, reader, writer),
-        Task::SimulateSteps => {
+        CommandTask::Simulate => simulate_over(alloc, cells, reader, writer),
+        CommandTask::SimulateChecked => simulate_checked_over(alloc, cells, reader, writer),
+        CommandTask::SimulateSteps => {
             simulate_checked_over(alloc, cells, reader, &mut Steps::new(writer))
         }
-        Task::Check => check(alloc, reader, writer),
-        Task::CheckWithReason => check_with_reason(alloc, reader, writer),
-        Task::Run(workers, life_time) => {
+        CommandTask::Check => check(alloc, reader, writer),
+        CommandTask::CheckWithReason => check_with_reason(alloc, reader, writer),
+        CommandTask::Run(workers, life_time) => {
             let settings = Settings { workers, life_time };
             run(rt, asked, settings, reader, writer)
         }

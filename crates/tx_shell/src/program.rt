@@ -1,6 +1,6 @@
 //! The program: its words, its streams, and the status with which it ends.
 use crate::answer::answer;
-use crate::asked::Asked;
+use crate::asked::Invocation;
 use clap::error::ErrorKind;
 use log::sink::Console;
 use log::{LevelFilter, Log, Logged, warn};
@@ -11,11 +11,13 @@ use std::rt::Files;
 use std::sync::Wait;
 use std::thread::Threads;
 use std::{env, fs, io};
-use tx_command::{Job, Progress, Shown, Terminals, job_of, message_of, parse, shown_at, status_of};
+use tx_command::{
+    CommandLine, Display, ProgressLine, Terminals, job_of, message_of, parse, shown_at, status_of,
+};
 use tx_text::{Broken, End};
 
 // Does what is asked over the input that is named.
-fn run<R>(rt: &R, asked: &Asked<'_>) -> Result<End, Broken>
+fn run<R>(rt: &R, asked: &Invocation<'_>) -> Result<End, Broken>
 where
     R: Input + Files + Print + Eprint + AllocGlobal + Threads + Wait + Sync + Send + Clone + Drop,
 {
@@ -42,7 +44,7 @@ fn words<R: Env + AllocGlobal>(rt: &R) -> io::Result<Vec<String>> {
 
 // A request for help or the version ends well, on standard output; a fault of the command line is
 // told on standard error.
-fn tell<R: Print + Eprint>(rt: &R, error: &clap::Error) -> Result<End, Broken> {
+fn report<R: Print + Eprint>(rt: &R, error: &clap::Error) -> Result<End, Broken> {
     if error.kind() == ErrorKind::OutOfMemory {
         Err(Broken::Memory)
     } else if error.print(rt).is_err() {
@@ -67,7 +69,7 @@ fn unread<R: Eprint>(rt: &R, error: &io::Error) -> Result<End, Broken> {
 }
 
 // Does a job, and shows on standard error what is to be seen of it meanwhile.
-fn start<R>(rt: &R, host: HostRuntime, job: Job<'_>) -> Result<End, Broken>
+fn start<R>(rt: &R, host: HostRuntime, job: CommandLine<'_>) -> Result<End, Broken>
 where
     R: Input + Files + Print + Eprint + AllocGlobal + Threads + Wait + Sync + Send + Clone + Drop,
 {
@@ -77,11 +79,11 @@ where
         error: host.stderr().is_terminal(),
     };
     let shown = shown_at(job, terminals);
-    let progress = Progress::new(host, shown == Shown::Progress);
-    let asked = Asked {
+    let progress = ProgressLine::new(host, shown == Display::ProgressLine);
+    let asked = Invocation {
         host,
         job,
-        prompts: shown == Shown::Prompts,
+        prompts: shown == Display::Prompts,
         progress: &progress,
     };
     run(rt, &asked)
@@ -98,7 +100,7 @@ where
         Err(error) => unread(rt, &error),
         Ok(words) => match parse(rt.alloc(), words.as_slice()) {
             Ok(matches) => start(rt, host, job_of(&matches)),
-            Err(error) => tell(rt, &error),
+            Err(error) => report(rt, &error),
         },
     };
     if let Err(broken) = &end {

@@ -2,11 +2,11 @@
 use std::time::Duration;
 use tx_command::Stats;
 use tx_core::Outcome;
-use tx_run::{Played, Reply, Spoken};
+use tx_run::{LineAnswer, LineReply, RunResult};
 
 // Counts the outcome of a line, if it is told one.
-fn count(stats: &mut Stats, reply: &Reply) {
-    let Reply::Ended(_, outcome, keys) = reply else {
+fn count(stats: &mut Stats, answer: &LineAnswer) {
+    let LineAnswer::Ended(_, outcome, keys) = answer else {
         return;
     };
     let told = match outcome {
@@ -22,14 +22,14 @@ fn count(stats: &mut Stats, reply: &Reply) {
 }
 
 // Counts the outcomes of these lines.
-fn count_all(stats: &mut Stats, lines: &[Spoken]) {
-    for spoken in lines {
-        count(stats, &spoken.reply);
+fn count_all(stats: &mut Stats, lines: &[LineReply]) {
+    for reply in lines {
+        count(stats, &reply.answer);
     }
 }
 
 /// What was played in so much time.
-pub(crate) fn stats_of(played: &Played, elapsed: Duration) -> Stats {
+pub(crate) fn stats_of(played: &RunResult, elapsed: Duration) -> Stats {
     let mut stats = Stats {
         collected: played.collected,
         elapsed,

@@ -1,12 +1,12 @@
 //! What counts the steps of a run.
-use tx_command::Progress;
+use tx_command::ProgressLine;
 use tx_latch::Cid;
 use tx_sched::Gate;
 
 /// A gate that counts each step, where the progress is told.
 #[derive(Clone, Copy)]
 pub(crate) struct Watching<'a> {
-    pub progress: &'a Progress,
+    pub progress: &'a ProgressLine,
 }
 
 impl Gate for Watching<'_> {

@@ -19,16 +19,16 @@ use Rattle.tx_core.proofs.seats.Beginnings.{extends_all}
 use Rattle.tx_journal.specs.Known.{Known, HasSeen, HasRecorded, HasDrawn}
 use Rattle.tx_journal.specs.Replies.{Asked}
 use Rattle.tx_journal.proofs.Calls.{drawn_recorded}
-use Rattle.tx_transaction.specs.declared.state.Came.{Came}
-use Rattle.tx_transaction.specs.declared.state.Came.TheVariants.{Lost, Unsaid, Said}
+use Rattle.tx_transaction.specs.declared.state.Response.{Response}
+use Rattle.tx_transaction.specs.declared.state.Response.TheVariants.{Lost, OutOfMemory, Answered}
 use Rattle.tx_transaction.specs.declared.state.Miss.{Miss}
 use Rattle.tx_transaction.specs.declared.state.Phase.{Phase}
 use Rattle.tx_transaction.specs.declared.state.Due.{Due}
 use Rattle.tx_transaction.specs.Buffers.{buffered}
-use Rattle.tx_transaction.specs.Sessions.{State, after_came, after_read, with_passed, read_of, scan_of}
+use Rattle.tx_transaction.specs.Sessions.{SessionState, after_response, after_read, with_passed, read_of, scan_of}
 use Rattle.tx_transaction.specs.Returns.{read}
 use Rattle.tx_journal.specs.Senders.{Reached}
-use Rattle.tx_client.specs.Learns.{came_of, Learns}
+use Rattle.tx_client.specs.Learns.{response_of, Learns}
 use Rattle.tx_client.specs.Walks.{Walk, asks, grows, ends, then_walk, Sends, due_walk, part_by, part_walk, get_by, get_walk, enough, scan_after, scan_from, scan_walk, greater, lesser}
 use Rattle.tx_client.specs.Calls.{Seated, HasHeard, BeganAt, Draws, DeclaredWith, RecordsDeclared}
 use Rattle.tx_client.specs.declared.resolved.Status.{Status}
@@ -114,13 +114,13 @@ module _ {S : Type 0} (sends : S → Asked → Reached → S → Type 0) (bounds
   sent_goes (grows more short) k new from to r (inl sent) = sent_goes short k new from to r sent
   sent_goes (grows more short) k new from to r (inr sent) = sent_goes more k new from to r sent
   sent_goes (asks body more) k new from to r (reached, mid, now, sent, learns, rest) =
-      goes_more k now new (learnt bounds k now reached learns) (sent_goes (more (came_of reached)) now new mid to r rest)
+      goes_more k now new (learnt bounds k now reached learns) (sent_goes (more (response_of reached)) now new mid to r rest)
 
 -- ---- where a walk ends
 
 -- each end of a walk is so
 abbrev EndsIn : {R : Type 0} → (R → Type 0) → Walk R → Type 0
-EndsIn P (asks body more) = (c : Came) → EndsIn P (more c)
+EndsIn P (asks body more) = (c : Response) → EndsIn P (more c)
 EndsIn P (grows more short) = EndsIn P more × EndsIn P short
 EndsIn P (ends r) = P r
 
@@ -130,65 +130,65 @@ module _ {S : Type 0} (sends : S → Asked → Reached → S → Type 0) (bounds
   sent_ends P (grows more short) k new from to r all (inl sent) = sent_ends P short k new from to r all.1 sent
   sent_ends P (grows more short) k new from to r all (inr sent) = sent_ends P more k new from to r all.0 sent
   sent_ends P (asks body more) k new from to r all (reached, mid, now, sent, learns, rest) =
-      sent_ends P (more (came_of reached)) now new mid to r (all (came_of reached)) rest
+      sent_ends P (more (response_of reached)) now new mid to r (all (response_of reached)) rest
 
 -- ---- sessions
 
 -- the transaction is the same, and declares the same
-record Stays (old new : State) : Type 0 where
+record Stays (old new : SessionState) : Type 0 where
   start : new.start ≡ old.start
   declared : new.declared ≡ old.declared
   placed : new.placed ≡ old.placed
 
-stays_itself : (s : State) → Stays s s
+stays_itself : (s : SessionState) → Stays s s
 stays_itself s = record { start = refl; declared = refl; placed = refl }
 
-stays_came : (s : State) (x : Phase) (i : ℕ) (c : Came) → Stays s (after_came s x i c)
-stays_came s x i Lost = record { start = refl; declared = refl; placed = refl }
-stays_came s x i Unsaid = record { start = refl; declared = refl; placed = refl }
-stays_came s x i (Said a) = record { start = refl; declared = refl; placed = refl }
+stays_response : (s : SessionState) (x : Phase) (i : ℕ) (c : Response) → Stays s (after_response s x i c)
+stays_response s x i Lost = record { start = refl; declared = refl; placed = refl }
+stays_response s x i OutOfMemory = record { start = refl; declared = refl; placed = refl }
+stays_response s x i (Answered a) = record { start = refl; declared = refl; placed = refl }
 
-stays_due : (s : State) (x : Phase) (due : Option Due) → EndsIn (λ (r : State × Result (Option Answer) Miss). Stays s r.0) (due_walk s x due)
+stays_due : (s : SessionState) (x : Phase) (due : Option Due) → EndsIn (λ (r : SessionState × Result (Option Answer) Miss). Stays s r.0) (due_walk s x due)
 stays_due s x None = stays_itself s
-stays_due s x (Some due) = ((λ c. stays_came s x due.place c), stays_itself s)
+stays_due s x (Some due) = ((λ c. stays_response s x due.index c), stays_itself s)
 
 -- and what is entered is the same
-record Reads (old new : State) : Type 0 where
+record Reads (old new : SessionState) : Type 0 where
   stays : Stays old new
   buffer : new.buffer ≡ old.buffer
 
-reads_itself : (s : State) → Reads s s
+reads_itself : (s : SessionState) → Reads s s
 reads_itself s = record { stays = stays_itself s; buffer = refl }
 
-reads_came : (s : State) (c : Came) → Reads s (after_read s c)
-reads_came s Lost = reads_itself s
-reads_came s Unsaid = reads_itself s
-reads_came s (Said a) = record { stays = record { start = refl; declared = refl; placed = refl }; buffer = refl }
+reads_response : (s : SessionState) (c : Response) → Reads s (after_read s c)
+reads_response s Lost = reads_itself s
+reads_response s OutOfMemory = reads_itself s
+reads_response s (Answered a) = record { stays = record { start = refl; declared = refl; placed = refl }; buffer = refl }
 
-reads_more : (a b c : State) → Reads a b → Reads b c → Reads a c
+reads_more : (a b c : SessionState) → Reads a b → Reads b c → Reads a c
 reads_more a b c p q = record {
   stays = record { start = q.stays.start ∙ p.stays.start; declared = q.stays.declared ∙ p.stays.declared; placed = q.stays.placed ∙ p.stays.placed };
   buffer = q.buffer ∙ p.buffer;
 }
 
-abbrev HasRead : {R : Type 0} → State → State × R → Type 0
+abbrev HasRead : {R : Type 0} → SessionState → SessionState × R → Type 0
 HasRead s r = Reads s r.0
 
-reads_by : (s : State) (key : Key) (o : Option Mutation) → EndsIn (HasRead s) (get_by s key o)
+reads_by : (s : SessionState) (key : Key) (o : Option Mutation) → EndsIn (HasRead s) (get_by s key o)
 reads_by s key (Some (mutation.Put v)) = (reads_itself s, reads_itself s)
 reads_by s key (Some (mutation.Insert v)) = (reads_itself s, reads_itself s)
 reads_by s key (Some mutation.Delete) = reads_itself s
-reads_by s key (Some mutation.Lock) = ((λ c. reads_came s c), reads_itself s)
-reads_by s key None = ((λ c. reads_came s c), reads_itself s)
+reads_by s key (Some mutation.Lock) = ((λ c. reads_response s c), reads_itself s)
+reads_by s key None = ((λ c. reads_response s c), reads_itself s)
 
 -- who goes on from a state with the rows so far
 abbrev OnRows : Type 0
-OnRows = State → List KeyValue → Walk (State × Result Answer Miss)
+OnRows = SessionState → List KeyValue → Walk (SessionState × Result Answer Miss)
 
-abbrev KeepsRead : State → OnRows → Type 0
-KeepsRead s on = (t : State) (rows : List KeyValue) → Reads s t → EndsIn (HasRead s) (on t rows)
+abbrev KeepsRead : SessionState → OnRows → Type 0
+KeepsRead s on = (t : SessionState) (rows : List KeyValue) → Reads s t → EndsIn (HasRead s) (on t rows)
 
-reads_after : (s t : State) (limit : ℕ) (rows : List KeyValue) (r : Result Answer Miss) (on : OnRows) → KeepsRead s on → Reads s t → EndsIn (HasRead s) (scan_after t (part_by limit rows r) on)
+reads_after : (s t : SessionState) (limit : ℕ) (rows : List KeyValue) (r : Result Answer Miss) (on : OnRows) → KeepsRead s on → Reads s t → EndsIn (HasRead s) (scan_after t (part_by limit rows r) on)
 reads_after s t limit rows (Ok (Rows found)) on keeps is = by (nat_lt (length (rows ++ found)) limit) refl
   where
     by : (b : Bool) → nat_lt (length (rows ++ found)) limit ≡ b → EndsIn (HasRead s) (scan_after t (enough limit (rows ++ found)) on)
@@ -197,14 +197,14 @@ reads_after s t limit rows (Ok (Rows found)) on keeps is = by (nat_lt (length (r
 reads_after s t limit rows (Ok _) on keeps is = is
 reads_after s t limit rows (Err why) on keeps is = is
 
-reads_part : (s t : State) (low high : Key) (limit : ℕ) (rows : List KeyValue) (on : OnRows) → KeepsRead s on → Reads s t → EndsIn (HasRead s) (then_walk (part_walk t low high limit rows) (λ x. scan_after x.0 x.1 on))
+reads_part : (s t : SessionState) (low high : Key) (limit : ℕ) (rows : List KeyValue) (on : OnRows) → KeepsRead s on → Reads s t → EndsIn (HasRead s) (then_walk (part_walk t low high limit rows) (λ x. scan_after x.0 x.1 on))
 reads_part s t low high limit rows on keeps is = by (key_lt low high) refl
   where
     by : (b : Bool) → key_lt low high ≡ b → EndsIn (HasRead s) (then_walk (part_walk t low high limit rows) (λ x. scan_after x.0 x.1 on))
-    by true e = rw e ((λ c. reads_after s (after_read t c) limit rows (read c) on keeps (reads_more s t (after_read t c) is (reads_came t c))), is)
+    by true e = rw e ((λ c. reads_after s (after_read t c) limit rows (read c) on keeps (reads_more s t (after_read t c) is (reads_response t c))), is)
     by false e = rw e (keeps t rows is, is)
 
-reads_scan : (s : State) (from to : Key) (limit : ℕ) (low : Key) (bounds : List Key) → KeepsRead s (scan_from from to limit low bounds)
+reads_scan : (s : SessionState) (from to : Key) (limit : ℕ) (low : Key) (bounds : List Key) → KeepsRead s (scan_from from to limit low bounds)
 reads_scan s from to limit low [] t rows is = reads_part s t (greater from low) to limit rows (λ u all. ends (u, Ok (Rows all))) (λ u all keeps. keeps) is
 reads_scan s from to limit low (bound ∷ bounds) t rows is =
     reads_part s t (greater from low) (lesser to bound) limit rows (scan_from from to limit bound bounds) (reads_scan s from to limit bound bounds) is
@@ -228,10 +228,10 @@ module _ {S : Type 0} (sends : S → Asked → Reached → S → Type 0) (bounds
   pub follows_due : (old new : Seated) (from to : S) (x : Phase) (due : Option Due) (r : Result (Option Answer) Miss) → Sends sends bounds old.seat from (due_walk old.state x due) (new.state, r) to new.seat → Follows old new
   follows_due old new from to x due r sent =
       let w = due_walk old.state x due in
-      let stays = sent_ends sends bounds (λ (y : State × Result (Option Answer) Miss). Stays old.state y.0) w old.seat new.seat from to (new.state, r) (stays_due old.state x due) sent in
+      let stays = sent_ends sends bounds (λ (y : SessionState × Result (Option Answer) Miss). Stays old.state y.0) w old.seat new.seat from to (new.state, r) (stays_due old.state x due) sent in
       record { seat = sent_goes sends bounds w old.seat new.seat from to (new.state, r) sent; start = stays.start; declared = stays.declared; placed = stays.placed }
 
-  read_follows : (old new : Seated) (from to : S) (w : Walk (State × Result Answer Miss)) (r : Result Answer Miss) → EndsIn (HasRead old.state) w → Sends sends bounds old.seat from w (new.state, r) to new.seat → Follows old new × (new.state.buffer ≡ old.state.buffer)
+  read_follows : (old new : Seated) (from to : S) (w : Walk (SessionState × Result Answer Miss)) (r : Result Answer Miss) → EndsIn (HasRead old.state) w → Sends sends bounds old.seat from w (new.state, r) to new.seat → Follows old new × (new.state.buffer ≡ old.state.buffer)
   read_follows old new from to w r all sent =
       let reads = sent_ends sends bounds (HasRead old.state) w old.seat new.seat from to (new.state, r) all sent in
       (record { seat = sent_goes sends bounds w old.seat new.seat from to (new.state, r) sent; start = reads.stays.start; declared = reads.stays.declared; placed = reads.stays.placed }, reads.buffer)
@@ -245,14 +245,14 @@ module _ {S : Type 0} (sends : S → Asked → Reached → S → Type 0) (bounds
   follows_scan old new from to low high limit r sent = read_follows old new from to (scan_walk old.state bounds low high limit) r (reads_scan old.state low high limit low bounds old.state [] (reads_itself old.state)) sent
 
 -- a session learns what was found
-passed_stays : (s : State) (t : ℕ) (may : Bool) → Reads s (with_passed s t may)
+passed_stays : (s : SessionState) (t : ℕ) (may : Bool) → Reads s (with_passed s t may)
 passed_stays s t false = reads_itself s
 passed_stays s t true = record { stays = record { start = refl; declared = refl; placed = refl }; buffer = refl }
 
 pub follows_learn : (bounds : List Key) (old new : Seated) (t : ℕ) (may : Bool) (told : History) → new.state ≡ with_passed old.state t may → HasHeard bounds old.seat told new.seat → Follows old new × (new.state.buffer ≡ old.state.buffer)
-follows_learn bounds old new t may told is heard =
-    let reads = subst (λ (z : State). Reads old.state z) (sym is) (passed_stays old.state t may) in
-    (record { seat = heard_goes bounds old.seat new.seat told heard; start = reads.stays.start; declared = reads.stays.declared; placed = reads.stays.placed }, reads.buffer)
+follows_learn bounds old new t may told is after_answer =
+    let reads = subst (λ (z : SessionState). Reads old.state z) (sym is) (passed_stays old.state t may) in
+    (record { seat = heard_goes bounds old.seat new.seat told after_answer; start = reads.stays.start; declared = reads.stays.declared; placed = reads.stays.placed }, reads.buffer)
 
 -- a seat resolves a lock
 pub resolves_goes : {S : Type 0} (sends : S → Asked → Reached → S → Type 0) (bounds : List Key) (k new : Known) (from to : S) (met : Stopping) (reader now : ℕ) (result : Status) → Resolves sends bounds k from met reader now result to new → GoesOn k new
@@ -266,7 +266,7 @@ follows_learnt bounds old new t may told (Err e) ok same = (follows_same old new
 
 -- it draws its commit timestamp
 pub follows_draw : (bounds : List Key) (old new : Seated) (c : ℕ) → new.state ≡ record old.state { drawn = Some c } → Draws bounds old.seat c new.seat → Follows old new
-follows_draw bounds old new c is draws = record { seat = draws_goes bounds old.seat new.seat c draws; start = ap (λ (z : State). z.start) is; declared = ap (λ (z : State). z.declared) is; placed = ap (λ (z : State). z.placed) is }
+follows_draw bounds old new c is draws = record { seat = draws_goes bounds old.seat new.seat c draws; start = ap (λ (z : SessionState). z.start) is; declared = ap (λ (z : SessionState). z.declared) is; placed = ap (λ (z : SessionState). z.placed) is }
 
 -- a seat sees all that was drawn, and then resolves a lock
 pub resolved_goes : {S : Type 0} (sends : S → Asked → Reached → S → Type 0) (bounds : List Key) (old mid new : Known) (from to : S) (met : Stopping) (reader now : ℕ) (result : Status) → mid.seat ≡ old.seat → HasSeen bounds old.seat old.events mid.events → Resolves sends bounds mid from met reader now result to new → GoesOn old new

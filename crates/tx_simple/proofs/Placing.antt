@@ -14,7 +14,7 @@ use Rattle.tx_core.proofs.runs.CommitOrder.{answered_before_on}
 use Rattle.tx_core.proofs.runs.Consequences.{decided_declared}
 use Rattle.tx_transaction.specs.declared.state.Terms.{Terms}
 use Rattle.tx_transaction.specs.Buffers.{Entries, not_empty}
-use Rattle.tx_transaction.specs.Sessions.{State, is_declared, has_primary, finish_of}
+use Rattle.tx_transaction.specs.Sessions.{SessionState, is_declared, has_primary, finish_of}
 use Rattle.tx_client.specs.Calls.{Seated, Records, IsDecidedSo}
 use Rattle.tx_client.specs.Facts.{standing}
 use Rattle.tx_client.specs.Order.{IsDrawnAfter, CommitsAbove}
@@ -23,7 +23,7 @@ use Rattle.tx_simple.specs.Updates.{GoesOn, Follows, Writes, Ends, CommitsAboveT
 use Rattle.tx_simple.proofs.Going.{goes_more, goes_begins}
 
 -- what declares nothing has no primary
-pub nothing_declared : (s : State) → is_declared s ≡ false → has_primary s ≡ false
+pub nothing_declared : (s : SessionState) → is_declared s ≡ false → has_primary s ≡ false
 nothing_declared s none = ap (λ (b : Bool). b && not_empty s.buffer) none
 
 -- what declared nothing, and goes on, has declared nothing

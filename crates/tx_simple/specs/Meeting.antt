@@ -12,11 +12,11 @@ use Rattle.tx_resolve.specs.Reading.{read_walk}
 
 -- a seat has learnt what was told: it knows that too, what it knew before, and of its own nothing
 -- new
-pub record HasLearnt (bounds : List Key) (old : Known) (heard : History) (new : Known) : Type 0 where
+pub record HasLearnt (bounds : List Key) (old : Known) (after_answer : History) (new : Known) : Type 0 where
   pub seat : new.seat ≡ old.seat
   pub ticks : new.ticks ≡ old.ticks
   pub seen : HasSeen bounds old.seat old.events new.events
-  pub told : Begins heard new.events
+  pub told : Begins after_answer new.events
 
 module _ {S : Type 0} (sends : S → Asked → Reached → S → Type 0) (bounds : List Key) where
   -- The seat learns of the lock, and then sends exactly the resolver's walk.

@@ -60,8 +60,8 @@ CommitsAboveTold told outcome.Aborted = Unit {0}
 CommitsAboveTold told (outcome.Unknown why) = Unit {0}
 CommitsAboveTold told outcome.ReadOnly = Unit {0}
 
--- A session over this seat, which knew `old`, has ended, and none before it had an effect: a session
--- that began at t and has seen more has this outcome, which the seat recorded; a fate is
+-- A session over this seat, which knew `old`, has ended, and none before it had an effect: a
+-- session that began at t and has seen more has this outcome, which the seat recorded; a fate is
 -- decided so, and a commit is in order, above each that the seat was told of before.
 pub record Ends (bounds : List Key) (old : Known) (t : ℕ) (end : Outcome) (new : Known) : Type 0 where
   pub session : Seated

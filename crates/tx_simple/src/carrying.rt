@@ -3,7 +3,7 @@ use crate::running::{Begun, Running};
 use crate::stopping::{Stop, stop_by};
 use tx_client::{Miss, Status, WaitCause};
 use tx_core::Answer;
-use tx_journal::{Naming, Reply, Request, Sender};
+use tx_journal::{JournalId, Reply, Request, Sender};
 use tx_types::limits::MAX_KEYS;
 
 /// How many requests of one kind a transaction sends at most: one of each key, and as many again.
@@ -14,7 +14,7 @@ const LOST: u32 = 16;
 
 // What is left to do.
 #[derive(Clone, Copy, Debug, PartialEq, Eq)]
-enum Left {
+enum ToDo {
     /// Nothing.
     Nothing,
     /// More requests.
@@ -24,25 +24,25 @@ enum Left {
 }
 
 // What a prewrite leaves to do.
-fn prewritten(came: Result<Option<Answer>, Miss>) -> Result<Left, Stop> {
-    match came? {
-        None => Ok(Left::Nothing),
-        Some(Answer::Prewritten(_) | Answer::AlreadyCommitted { .. }) => Ok(Left::More),
-        Some(Answer::KeyIsLocked(_)) => Ok(Left::Locked),
+fn prewritten(response: Result<Option<Answer>, Miss>) -> Result<ToDo, Stop> {
+    match response? {
+        None => Ok(ToDo::Nothing),
+        Some(Answer::Prewritten(_) | Answer::AlreadyCommitted { .. }) => Ok(ToDo::More),
+        Some(Answer::KeyIsLocked(_)) => Ok(ToDo::Locked),
         Some(refusal) => Err(stop_by(refusal)),
     }
 }
 
 // What a commit leaves to do.
-fn committed(came: Result<Option<Answer>, Miss>) -> Result<Left, Stop> {
-    match came? {
-        None => Ok(Left::Nothing),
-        Some(Answer::Committed(_) | Answer::CommitTsExpired { .. }) => Ok(Left::More),
+fn committed(response: Result<Option<Answer>, Miss>) -> Result<ToDo, Stop> {
+    match response? {
+        None => Ok(ToDo::Nothing),
+        Some(Answer::Committed(_) | Answer::CommitTsExpired { .. }) => Ok(ToDo::More),
         Some(refusal) => Err(stop_by(refusal)),
     }
 }
 
-impl<'a, J: Naming, S: Sender<Request<J>, Reply<J>>, B: Begun> Running<'a, J, S, B> {
+impl<'a, J: JournalId, S: Sender<Request<J>, Reply<J>>, B: Begun> Running<'a, J, S, B> {
     // Resolves the lock in the way of a prewrite: it goes on where the lock is gone.
     fn unlock(&mut self) -> Result<(), Stop> {
         match self.clear()? {
@@ -53,12 +53,12 @@ impl<'a, J: Naming, S: Sender<Request<J>, Reply<J>>, B: Begun> Running<'a, J, S,
     }
 
     // Makes the next prewrite.
-    fn prewrite_step(&mut self) -> Result<Left, Stop> {
+    fn prewrite_step(&mut self) -> Result<ToDo, Stop> {
         if !self.is_declared() {
-            return Ok(Left::Nothing);
+            return Ok(ToDo::Nothing);
         }
         let left = prewritten(self.prewrite())?;
-        if left == Left::Locked {
+        if left == ToDo::Locked {
             self.unlock()?;
         }
         Ok(left)
@@ -67,7 +67,7 @@ impl<'a, J: Naming, S: Sender<Request<J>, Reply<J>>, B: Begun> Running<'a, J, S,
     // Locks each key.
     fn prewrite_all(&mut self) -> Result<(), Stop> {
         for _ in 0..REQUESTS {
-            if self.prewrite_step()? == Left::Nothing {
+            if self.prewrite_step()? == ToDo::Nothing {
                 return Ok(());
             }
         }
@@ -75,7 +75,7 @@ impl<'a, J: Naming, S: Sender<Request<J>, Reply<J>>, B: Begun> Running<'a, J, S,
     }
 
     // Makes the next commit, at a timestamp that is drawn where none is.
-    fn commit_step(&mut self) -> Result<Left, Stop> {
+    fn commit_step(&mut self) -> Result<ToDo, Stop> {
         self.draw()?;
         if !self.can_commit() {
             return Err(Stop::Conflict);
@@ -86,7 +86,7 @@ impl<'a, J: Naming, S: Sender<Request<J>, Reply<J>>, B: Begun> Running<'a, J, S,
     // Commits each key, the primary first.
     fn commit_all(&mut self) -> Result<(), Stop> {
         for _ in 0..REQUESTS {
-            if self.commit_step()? == Left::Nothing {
+            if self.commit_step()? == ToDo::Nothing {
                 return Ok(());
             }
         }

@@ -9,20 +9,20 @@ ghost use Rattle.tx_simple.specs.Endings.{EndsFrom, IsOpen};
 use crate::stopping::Stop;
 use tx_client::Session;
 use tx_core::Outcome;
-use tx_journal::{Naming, Seat};
+use tx_journal::{JournalId, Seat};
 use tx_types::Ts;
 
 /// The seats of who runs updates: one begins their transactions, the other resolves the locks in
 /// their way.
 #[derive(Drop)]
-pub struct Seats<J: Naming> {
+pub struct Seats<J: JournalId> {
     pub begins: Seat<J>,
     pub resolves: Seat<J>,
 }
 
 /// How the transaction ended that ran last.
 #[derive(Drop)]
-pub struct Ended<J: Naming> {
+pub struct Ended<J: JournalId> {
     /// Its start timestamp.
     pub start: Ts,
     /// What `finish` answered.
@@ -34,7 +34,7 @@ pub struct Ended<J: Naming> {
 
 /// There is no outcome.
 #[derive(Drop)]
-pub enum Unended<J: Naming> {
+pub enum Unended<J: JournalId> {
     /// The ticks of the seat that begins are spent: no transaction began.
     Spent(Seats<J>),
     /// Nothing is decided, and no answer is missing: memory was refused to the session itself. The
@@ -46,7 +46,7 @@ pub enum Unended<J: Naming> {
     },
 }
 
-impl<J: Naming> Ended<J> {
+impl<J: JournalId> Ended<J> {
     /// Whether the transaction changed nothing, for good, and one that begins later may go further.
     pub fn may_pass(&self) -> bool
         ensures { result ≡ true → IsWithoutEffect self.now.outcome }
@@ -73,7 +73,7 @@ impl<J: Naming> Ended<J> {
 
 // Finishes a transaction that has gone as far as it goes.
 #[inline(always)]
-pub(crate) fn finished<J: Naming>(
+pub(crate) fn finished<J: JournalId>(
     session: Session<J>,
     resolves: Seat<J>,
     stop: Option<Stop>,

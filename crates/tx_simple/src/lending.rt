@@ -7,7 +7,7 @@ use crate::stopping::{Stop, stop_by};
 use std::alloc::Global;
 use tx_client::{Miss, Status, WaitCause};
 use tx_core::Answer;
-use tx_journal::{Naming, Reply, Request, Sender};
+use tx_journal::{JournalId, Reply, Request, Sender};
 use tx_types::limits::MAX_SCAN_ROWS;
 use tx_types::{Key, KeyValues, Ts, Value};
 
@@ -67,7 +67,7 @@ pub trait Tx {
 
 /// A running session that declares nothing yet.
 #[derive(Drop)]
-pub(crate) struct Lent<'a, J: Naming, S: Sender<Request<J>, Reply<J>>, B: Begun> {
+pub(crate) struct Lent<'a, J: JournalId, S: Sender<Request<J>, Reply<J>>, B: Begun> {
     running: Running<'a, J, S, B>,
     ghost open: { is_declared B.session.state ≡ false },
 }
@@ -89,7 +89,7 @@ fn rows_in(answer: Answer) -> Result<KeyValues, Stop> {
     }
 }
 
-impl<'a, J: Naming, S: Sender<Request<J>, Reply<J>>, B: Begun> Lent<'a, J, S, B> {
+impl<'a, J: JournalId, S: Sender<Request<J>, Reply<J>>, B: Begun> Lent<'a, J, S, B> {
     /// Lends what sets out here.
     pub(crate) fn new(running: Running<'a, J, S, B>) -> Lent<'a, J, S, B>
         requires { is_declared B.session.state ≡ false }
@@ -104,10 +104,10 @@ impl<'a, J: Naming, S: Sender<Request<J>, Reply<J>>, B: Begun> Lent<'a, J, S, B>
     }
 
     // What a read answered; none where a lock was in its way that it may pass by now.
-    fn passed(&mut self, came: Result<Answer, Miss>) -> Result<Option<Answer>, Stop>
+    fn passed(&mut self, response: Result<Answer, Miss>) -> Result<Option<Answer>, Stop>
         ensures { self.new.running.state.buffer ≡ self.old.running.state.buffer }
     {
-        match came? {
+        match response? {
             Answer::KeyIsLocked(_) => match self.running.clear()? {
                 Status::Waiting(why) => Err(Stop::Waits(why)),
                 _ => Ok(None),
@@ -120,20 +120,20 @@ impl<'a, J: Naming, S: Sender<Request<J>, Reply<J>>, B: Begun> Lent<'a, J, S, B>
     fn look(&mut self, key: &Key) -> Result<Option<Answer>, Stop>
         ensures { self.new.running.state.buffer ≡ self.old.running.state.buffer }
     {
-        let came = self.running.get(key);
-        self.passed(came)
+        let response = self.running.get(key);
+        self.passed(response)
     }
 
     // Reads a range, once.
     fn look_over(&mut self, from: &Key, to: &Key, limit: u32) -> Result<Option<Answer>, Stop>
         ensures { self.new.running.state.buffer ≡ self.old.running.state.buffer }
     {
-        let came = self.running.scan(from, to, limit);
-        self.passed(came)
+        let response = self.running.scan(from, to, limit);
+        self.passed(response)
     }
 }
 
-impl<'a, J: Naming, S: Sender<Request<J>, Reply<J>>, B: Begun> Tx for Lent<'a, J, S, B> {
+impl<'a, J: JournalId, S: Sender<Request<J>, Reply<J>>, B: Begun> Tx for Lent<'a, J, S, B> {
     ghost buffer = { λ t. t.running.state.buffer };
 
     fn alloc(&self) -> Global {

@@ -6,7 +6,6 @@ mod ending;
 mod lending;
 mod meeting;
 mod running;
-mod sends;
 mod stopping;
 mod trying;
 mod updating;

@@ -6,13 +6,13 @@ ghost use Rattle.tx_transaction.specs.Sessions.{is_declared, can_commit, can_abo
 ghost use Rattle.tx_journal.specs.Senders.{IsWay};
 ghost use Rattle.tx_simple.specs.Updates.{Follows, GoesOn};
 
-use crate::sends;
+use crate::meeting::clear_met;
 use crate::stopping::Stop;
 use std::alloc::Global;
 use std::marker::{Brand, Model, PhantomData};
 use tx_client::{Miss, Session, Status};
 use tx_core::Answer;
-use tx_journal::{Naming, Reply, Request, Seat, Sender};
+use tx_journal::{JournalId, Reply, Request, Seat, Sender};
 use tx_types::{Fault, Key, Ts, Value};
 
 /// Where a session sets out. The call that runs it picks this.
@@ -40,7 +40,7 @@ impl Begun for Brand {
 /// A session under way. Contracts see the session. It goes on from where it set out: what it has
 /// declared there, it declares.
 #[derive(Drop)]
-pub(crate) struct Running<'a, J: Naming, S: Sender<Request<J>, Reply<J>>, B: Begun> {
+pub(crate) struct Running<'a, J: JournalId, S: Sender<Request<J>, Reply<J>>, B: Begun> {
     alloc: Global,
     session: Session<J>,
     resolver: Seat<J>,
@@ -48,7 +48,7 @@ pub(crate) struct Running<'a, J: Naming, S: Sender<Request<J>, Reply<J>>, B: Beg
     of: PhantomData<B>,
 }
 
-impl<'a, J: Naming, S: Sender<Request<J>, Reply<J>>, B: Begun> Model for Running<'a, J, S, B> {
+impl<'a, J: JournalId, S: Sender<Request<J>, Reply<J>>, B: Begun> Model for Running<'a, J, S, B> {
     ghost use Rattle.tx_client.specs.Calls.{Seated};
     ghost use Rattle.tx_journal.specs.Senders.{IsWay};
     ghost use Rattle.tx_simple.specs.Updates.{Follows, GoesOn};
@@ -61,7 +61,18 @@ impl<'a, J: Naming, S: Sender<Request<J>, Reply<J>>, B: Begun> Model for Running
         × Follows B.session t.session × GoesOn B.resolver t.resolver };
 }
 
-impl<'a, J: Naming, S: Sender<Request<J>, Reply<J>>, B: Begun> Running<'a, J, S, B> {
+// Draws the commit timestamp, where it may be drawn.
+fn draw_commit<J: JournalId>(session: &mut Session<J>) -> Result<(), Fault>
+    ensures { Follows session.old session.new }
+{
+    if !session.can_draw() {
+        return Ok(());
+    }
+    session.draw_commit()?;
+    Ok(())
+}
+
+impl<'a, J: JournalId, S: Sender<Request<J>, Reply<J>>, B: Begun> Running<'a, J, S, B> {
     /// It sets out here.
     pub(crate) fn new(
         alloc: Global,
@@ -133,20 +144,14 @@ impl<'a, J: Naming, S: Sender<Request<J>, Reply<J>>, B: Begun> Running<'a, J, S,
     pub(crate) fn get(&mut self, key: &Key) -> Result<Answer, Miss>
         ensures { self.new.state.buffer ≡ self.old.state.buffer }
     {
-        sends::get(&mut self.session, key, self.sender)
+        self.session.get(key, self.sender)
     }
 
     /// Reads a range.
     pub(crate) fn scan(&mut self, from: &Key, to: &Key, limit: u32) -> Result<Answer, Miss>
         ensures { self.new.state.buffer ≡ self.old.state.buffer }
     {
-        sends::scan(
-            &mut self.session,
-            self.alloc,
-            (from, to),
-            limit,
-            self.sender,
-        )
+        self.session.scan(self.alloc, from, to, limit, self.sender)
     }
 
     /// Resolves the lock that last stood in its way, at the last timestamp that was drawn, and
@@ -154,37 +159,37 @@ impl<'a, J: Naming, S: Sender<Request<J>, Reply<J>>, B: Begun> Running<'a, J, S,
     pub(crate) fn clear(&mut self) -> Result<Status, Stop>
         ensures { self.new.state.buffer ≡ self.old.state.buffer }
     {
-        sends::clear(&mut self.session, &mut self.resolver, self.sender)
+        clear_met(&mut self.session, &mut self.resolver, self.sender)
     }
 
     /// Sends the prewrite that is due.
     pub(crate) fn prewrite(&mut self) -> Result<Option<Answer>, Miss>
         requires { is_declared self.old.state ≡ true }
     {
-        sends::prewrite(&mut self.session, self.alloc, self.sender)
+        self.session.prewrite_next(self.alloc, self.sender)
     }
 
     /// Draws the commit timestamp, where it may be drawn.
     pub(crate) fn draw(&mut self) -> Result<(), Fault> {
-        sends::draw(&mut self.session)
+        draw_commit(&mut self.session)
     }
 
     /// Sends the commit that is due.
     pub(crate) fn commit(&mut self) -> Result<Option<Answer>, Miss>
         requires { can_commit self.old.state ≡ true }
     {
-        sends::commit(&mut self.session, self.sender)
+        self.session.commit_next(self.sender)
     }
 
     /// Sends what an abort has due.
     pub(crate) fn abort(&mut self) -> Result<Option<Answer>, Miss>
         requires { can_abort self.old.state ≡ true }
     {
-        sends::abort(&mut self.session, self.sender)
+        self.session.abort_next(self.sender)
     }
 }
 
-impl<'a, J: Naming, S: Sender<Request<J>, Reply<J>>, B: Begun> Running<'a, J, S, B> {
+impl<'a, J: JournalId, S: Sender<Request<J>, Reply<J>>, B: Begun> Running<'a, J, S, B> {
     /// Enters a put.
     pub(crate) fn put(&mut self, key: Key, value: Value) -> Result<(), Fault>
         requires { is_declared B.session.state ≡ false }

@@ -13,13 +13,13 @@ use crate::updating::Work;
 use std::alloc::Global;
 use std::marker::Brand;
 use tx_client::{Session, Terms};
-use tx_journal::{Naming, Reply, Request, Seat, Sender};
+use tx_journal::{JournalId, Reply, Request, Seat, Sender};
 
 // A session after what was done in it, the seat that resolved for it, and how that went.
 type Done<J> = (Session<J>, Seat<J>, Result<(), Stop>);
 
 // Has a work read, and enter what it writes, from where the call picks.
-fn applied<J: Naming, S: Sender<Request<J>, Reply<J>>, W: Work, B: Begun>(
+fn applied<J: JournalId, S: Sender<Request<J>, Reply<J>>, W: Work, B: Begun>(
     alloc: Global,
     session: Session<J>,
     resolver: Seat<J>,
@@ -41,7 +41,7 @@ fn applied<J: Naming, S: Sender<Request<J>, Reply<J>>, W: Work, B: Begun>(
 }
 
 // Has a work read, and enter what it writes.
-fn apply<J: Naming, S: Sender<Request<J>, Reply<J>>, W: Work>(
+fn apply<J: JournalId, S: Sender<Request<J>, Reply<J>>, W: Work>(
     alloc: Global,
     session: Session<J>,
     resolver: Seat<J>,
@@ -57,7 +57,7 @@ fn apply<J: Naming, S: Sender<Request<J>, Reply<J>>, W: Work>(
 }
 
 // Carries what is declared to its end, from where the call picks.
-fn carried<J: Naming, S: Sender<Request<J>, Reply<J>>, B: Begun>(
+fn carried<J: JournalId, S: Sender<Request<J>, Reply<J>>, B: Begun>(
     alloc: Global,
     session: Session<J>,
     resolver: Seat<J>,
@@ -76,7 +76,7 @@ fn carried<J: Naming, S: Sender<Request<J>, Reply<J>>, B: Begun>(
 }
 
 // Carries what is declared to its end.
-fn carry<J: Naming, S: Sender<Request<J>, Reply<J>>>(
+fn carry<J: JournalId, S: Sender<Request<J>, Reply<J>>>(
     alloc: Global,
     session: Session<J>,
     resolver: Seat<J>,
@@ -90,7 +90,7 @@ fn carry<J: Naming, S: Sender<Request<J>, Reply<J>>>(
 }
 
 // Declares what is entered, if anything is, and carries it to its end.
-fn write<J: Naming, S: Sender<Request<J>, Reply<J>>>(
+fn write<J: JournalId, S: Sender<Request<J>, Reply<J>>>(
     alloc: Global,
     mut session: Session<J>,
     resolver: Seat<J>,
@@ -112,7 +112,7 @@ fn write<J: Naming, S: Sender<Request<J>, Reply<J>>>(
 }
 
 // Does a work in a session that has just begun, as far as it goes.
-fn run<J: Naming, S: Sender<Request<J>, Reply<J>>, W: Work>(
+fn run<J: JournalId, S: Sender<Request<J>, Reply<J>>, W: Work>(
     alloc: Global,
     session: Session<J>,
     resolver: Seat<J>,
@@ -133,7 +133,7 @@ fn run<J: Naming, S: Sender<Request<J>, Reply<J>>, W: Work>(
 }
 
 /// Does a work in one transaction.
-pub(crate) fn try_once<J: Naming, S: Sender<Request<J>, Reply<J>>, W: Work>(
+pub(crate) fn try_once<J: JournalId, S: Sender<Request<J>, Reply<J>>, W: Work>(
     alloc: Global,
     seats: Seats<J>,
     terms: &Terms,

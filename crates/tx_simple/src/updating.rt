@@ -9,7 +9,7 @@ use crate::stopping::Stop;
 use crate::trying::try_once;
 use std::alloc::Global;
 use tx_client::Terms;
-use tx_journal::{Naming, Reply, Request, Sender};
+use tx_journal::{JournalId, Reply, Request, Sender};
 
 /// What a transaction is to do.
 pub trait Work {
@@ -21,16 +21,17 @@ pub trait Work {
 
 /// Does a work in a transaction: begins it, has the work read and enter what it writes, declares
 /// that under these terms and commits it, in either mode. A lock in the way is resolved, as at the
-/// last timestamp that was drawn: it is rolled back where it is past its time. Where the transaction
-/// is for certain without effect, and one that begins later may go further (`Stop::may_pass`), the
-/// work is done anew in another, up to `again` times. Each try draws one tick for its start, one
-/// for what it declares and, in two phases, one for each commit timestamp that it tries.
+/// last timestamp that was drawn: it is rolled back where it is past its time. Where the
+/// transaction is for certain without effect, and one that begins later may go further
+/// (`Stop::may_pass`), the work is done anew in another, up to `again` times. Each try draws one
+/// tick for its start, one for what it declares and, in two phases, one for each commit timestamp
+/// that it tries.
 ///
 /// What it answers of the transaction that ran last is what `finish` answered, and means as much:
 /// a commit or an abort is decided. A commit lies above each commit that the seat had been told of
 /// before the call. `Err` where there is no outcome. The terms' bounds are those of `declare`: at
 /// most 1,024 keys, of an async transaction 256; it stops as `Refused` beyond.
-pub fn update<J: Naming, S: Sender<Request<J>, Reply<J>>, W: Work>(
+pub fn update<J: JournalId, S: Sender<Request<J>, Reply<J>>, W: Work>(
     alloc: Global,
     mut seats: Seats<J>,
     terms: Terms,

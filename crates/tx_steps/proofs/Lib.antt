@@ -2,4 +2,5 @@
 pub mod FirstMembers
 pub mod ReadKeys
 pub mod ManyMembers
+pub mod Apart
 pub mod RisingBounds

@@ -10,8 +10,16 @@ use Rattle.tx_steps.specs.declared.program.Program.{Program}
 use Rattle.tx_steps.specs.declared.transfer.TheConstants.{MAX_AMOUNT}
 use Rattle.tx_steps.specs.declared.word.Word.{Word}
 use Rattle.tx_steps.specs.declared.word.Word.TheVariants as word
-use Rattle.tx_steps.specs.Steps.{Sent, Asked, Act, last_of, one_text, one_number, text_in, number_in, within, way_said, way_word, sends_said, get_said, range_said, scan_said, heartbeat_said, put_said, insert_said, mode_said, max_said, declare_said, act_said, read_said, tick_said, seed_said, moved_said, transfer_said, acts_said, said, word_said, any_said, step_said}
-use Rattle.tx_steps.specs.Steps as steps
+use Rattle.tx_steps.specs.Steps.{Text, IsApart, last_of, one_text, one_number, text_in, number_in, within, delivery_said, delivery_word, sends_said, get_said, range_said, scan_said, heartbeat_said, put_said, insert_said, mode_said, max_said, declare_said, op_said, read_said, tick_said, seed_said, moved_said, transfer_said, acts_said, said, word_said, any_said, step_said}
+use Rattle.tx_steps.specs.declared.transfer.Transfer.{Transfer}
+use Rattle.tx_steps.specs.declared.delivery.Delivery.{Delivery}
+use Rattle.tx_steps.specs.declared.delivery.Delivery.TheVariants as delivery
+use Rattle.tx_steps.specs.declared.call.Call.{Call}
+use Rattle.tx_steps.specs.declared.call.Call.TheVariants as call
+use Rattle.tx_steps.specs.declared.op.Op.{Op}
+use Rattle.tx_steps.specs.declared.op.Op.TheVariants as op
+use Rattle.tx_steps.specs.declared.step.Step.{Step}
+use Rattle.tx_steps.specs.declared.step.Step.TheVariants as step
 use Rattle.tx_steps.specs.Lines.{step_in, bounds_in}
 use Rattle.tx_steps.specs.Bounds.{after_regions, list_said, bounds_said}
 
@@ -64,8 +72,8 @@ one_text_more a b r = text_then last_of a (item b r) (λ s. refl)
 one_number_more : (a b : Data) (r : Items) → one_number (item a (item b r)) ≡ None
 one_number_more a b r = number_then last_of a (item b r) (λ n. refl)
 
-way_more : (a b c : Data) (r : Items) → way_said (item a (item b (item c r))) ≡ None
-way_more a b c r = none_of _ (as_str a) (λ w. both_none _ _ _ (ap (option_map steps.held) (one_text_more b c r)) (none_of _ (way_word w) (λ y. refl)))
+delivery_more : (a b c : Data) (r : Items) → delivery_said (item a (item b (item c r))) ≡ None
+delivery_more a b c r = none_of _ (as_str a) (λ w. both_none _ _ _ (ap (option_map delivery.Held) (one_text_more b c r)) (none_of _ (delivery_word w) (λ y. refl)))
 
 max_more : (m : Mode) (a b : Data) (r : Items) → max_said m (item a (item b r)) ≡ None
 max_more TwoPhase a b r = refl
@@ -73,96 +81,96 @@ max_more Async a b r = ap (option_map Some) (one_number_more a b r)
 
 -- ---- what a session sends
 
-sends_more : (what : Sent) (a b c d : Data) (r : Items) → sends_said what (item a (item b (item c (item d r)))) ≡ None
-sends_more what a b c d r = text_then _ a _ (λ s. ap (option_map (steps.send s what)) (way_more b c d r))
+sends_more : (what : Call Text) (a b c d : Data) (r : Items) → sends_said what (item a (item b (item c (item d r)))) ≡ None
+sends_more what a b c d r = text_then _ a _ (λ s. ap (option_map (step.Send s what)) (delivery_more b c d r))
 
 get_more : (a b c d e : Data) (r : Items) → get_said (item a (item b (item c (item d (item e r))))) ≡ None
-get_more a b c d e r = text_then _ a _ (λ s. text_then _ b _ (λ k. ap (option_map (steps.send s (steps.get k))) (way_more c d e r)))
+get_more a b c d e r = text_then _ a _ (λ s. text_then _ b _ (λ k. ap (option_map (step.Send s (call.Get k))) (delivery_more c d e r)))
 
 heartbeat_more : (a b c d e : Data) (r : Items) → heartbeat_said (item a (item b (item c (item d (item e r))))) ≡ None
-heartbeat_more a b c d e r = text_then _ a _ (λ s. within_then 0 MAX_TTL _ b _ (λ n. ap (option_map (steps.send s (steps.heartbeat n))) (way_more c d e r)))
+heartbeat_more a b c d e r = text_then _ a _ (λ s. within_then 0 MAX_TTL _ b _ (λ n. ap (option_map (step.Send s (call.Heartbeat n))) (delivery_more c d e r)))
 
-range_then : (f : Sent × Items → Option Asked) (from to limit : Data) (ds : Items) → ((x : Sent) → f (x, ds) ≡ None) → option_and_then f (range_said (item from (item to (item limit ds)))) ≡ None
+range_then : (f : Call Text × Items → Option (Step Text)) (from to limit : Data) (ds : Items) → ((x : Call Text) → f (x, ds) ≡ None) → option_and_then f (range_said (item from (item to (item limit ds)))) ≡ None
 range_then f from to limit ds gone = by_from (as_str from)
   where
-    by_limit : (s t : List ℕ) (n : ℕ) (b : Bool) → option_and_then f (option_map (λ (l : ℕ × Items). (steps.scan s t l.0, l.1)) (if b then Some (n, ds) else None)) ≡ None
-    by_limit s t n true = gone (steps.scan s t n)
+    by_limit : (s t : List ℕ) (n : ℕ) (b : Bool) → option_and_then f (option_map (λ (l : ℕ × Items). (call.Scan s t l.0, l.1)) (if b then Some (n, ds) else None)) ≡ None
+    by_limit s t n true = gone (call.Scan s t n)
     by_limit s t n false = refl
 
     by_number : (s t : List ℕ) (o : Option ℕ)
-        → option_and_then f (option_map (λ (l : ℕ × Items). (steps.scan s t l.0, l.1)) (option_and_then (λ (n : ℕ × Items). if nat_le 1 n.0 && nat_le n.0 MAX_SCAN_ROWS then Some n else None) (option_map (λ n. (n, ds)) o))) ≡ None
+        → option_and_then f (option_map (λ (l : ℕ × Items). (call.Scan s t l.0, l.1)) (option_and_then (λ (n : ℕ × Items). if nat_le 1 n.0 && nat_le n.0 MAX_SCAN_ROWS then Some n else None) (option_map (λ n. (n, ds)) o))) ≡ None
     by_number s t None = refl
     by_number s t (Some n) = by_limit s t n (nat_le 1 n && nat_le n MAX_SCAN_ROWS)
 
     by_to : (s : List ℕ) (o : Option (List ℕ))
-        → option_and_then f (option_and_then (λ (t : List ℕ × Items). option_map (λ (l : ℕ × Items). (steps.scan s t.0 l.0, l.1)) (within 1 MAX_SCAN_ROWS t.1)) (option_map (λ t. (t, item limit ds)) o)) ≡ None
+        → option_and_then f (option_and_then (λ (t : List ℕ × Items). option_map (λ (l : ℕ × Items). (call.Scan s t.0 l.0, l.1)) (within 1 MAX_SCAN_ROWS t.1)) (option_map (λ t. (t, item limit ds)) o)) ≡ None
     by_to s None = refl
     by_to s (Some t) = by_number s t (option_and_then as_u64 (as_number limit))
 
     by_from : (o : Option (List ℕ))
-        → option_and_then f (option_and_then (λ (g : List ℕ × Items). option_and_then (λ (t : List ℕ × Items). option_map (λ (l : ℕ × Items). (steps.scan g.0 t.0 l.0, l.1)) (within 1 MAX_SCAN_ROWS t.1)) (text_in g.1)) (option_map (λ g. (g, item to (item limit ds))) o)) ≡ None
+        → option_and_then f (option_and_then (λ (g : List ℕ × Items). option_and_then (λ (t : List ℕ × Items). option_map (λ (l : ℕ × Items). (call.Scan g.0 t.0 l.0, l.1)) (within 1 MAX_SCAN_ROWS t.1)) (text_in g.1)) (option_map (λ g. (g, item to (item limit ds))) o)) ≡ None
     by_from None = refl
     by_from (Some s) = by_to s (as_str to)
 
 scan_more : (a b c d e g h : Data) (r : Items) → scan_said (item a (item b (item c (item d (item e (item g (item h r))))))) ≡ None
-scan_more a b c d e g h r = text_then _ a _ (λ s. range_then _ b c d _ (λ x. ap (option_map (steps.send s x)) (way_more e g h r)))
+scan_more a b c d e g h r = text_then _ a _ (λ s. range_then _ b c d _ (λ x. ap (option_map (step.Send s x)) (delivery_more e g h r)))
 
 -- ---- what a session does by itself
 
 put_more : (a b c : Data) (r : Items) → put_said (item a (item b (item c r))) ≡ None
-put_more a b c r = text_then _ a _ (λ k. ap (option_map (steps.put k)) (one_text_more b c r))
+put_more a b c r = text_then _ a _ (λ k. ap (option_map (op.Put k)) (one_text_more b c r))
 
 insert_more : (a b c : Data) (r : Items) → insert_said (item a (item b (item c r))) ≡ None
-insert_more a b c r = text_then _ a _ (λ k. ap (option_map (steps.insert k)) (one_text_more b c r))
+insert_more a b c r = text_then _ a _ (λ k. ap (option_map (op.Insert k)) (one_text_more b c r))
 
 declare_more : (a b c d : Data) (r : Items) → declare_said (item a (item b (item c (item d r)))) ≡ None
-declare_more a b c d r = text_then _ a _ (λ w. none_of _ (mode_said w) (λ m. within_then 0 MAX_TTL _ b _ (λ n. ap (option_map (steps.declare m n)) (max_more m c d r))))
+declare_more a b c d r = text_then _ a _ (λ w. none_of _ (mode_said w) (λ m. within_then 0 MAX_TTL _ b _ (λ n. ap (option_map (op.Declare m n)) (max_more m c d r))))
 
-act_more : (x : Word) (a b c d : Data) (r : Items) → act_said x (item a (item b (item c (item d r)))) ≡ None
+act_more : (x : Word) (a b c d : Data) (r : Items) → op_said x (item a (item b (item c (item d r)))) ≡ None
 act_more word.Put a b c d r = put_more a b c (item d r)
 act_more word.Insert a b c d r = insert_more a b c (item d r)
-act_more word.Delete a b c d r = ap (option_map steps.delete) (one_text_more a b (item c (item d r)))
-act_more word.Lock a b c d r = ap (option_map steps.lock) (one_text_more a b (item c (item d r)))
+act_more word.Delete a b c d r = ap (option_map op.Delete) (one_text_more a b (item c (item d r)))
+act_more word.Lock a b c d r = ap (option_map op.Lock) (one_text_more a b (item c (item d r)))
 act_more word.Declare a b c d r = declare_more a b c d r
 act_more word.Draw a b c d r = refl
 act_more word.Finish a b c d r = refl
 act_more word.Stop a b c d r = refl
-act_more word.Resolve a b c d r = ap (option_map steps.resolve) (one_number_more a b (item c (item d r)))
+act_more word.Resolve a b c d r = ap (option_map op.Resolve) (one_number_more a b (item c (item d r)))
 act_more _ a b c d r = refl
 
 acts_more : (x : Word) (s a b c d : Data) (r : Items) → acts_said x (item s (item a (item b (item c (item d r))))) ≡ None
-acts_more x s a b c d r = text_then _ s _ (λ name. ap (option_map (steps.act name)) (act_more x a b c d r))
+acts_more x s a b c d r = text_then _ s _ (λ name. ap (option_map (step.Act name)) (act_more x a b c d r))
 
 -- ---- the others
 
 read_more : (a b c : Data) (r : Items) → read_said (item a (item b (item c r))) ≡ None
-read_more a b c r = text_then _ a _ (λ k. ap (option_map (steps.read k)) (one_number_more b c r))
+read_more a b c r = text_then _ a _ (λ k. ap (option_map (step.Read k)) (one_number_more b c r))
 
 tick_more : (a b : Data) (r : Items) → tick_said (item a (item b r)) ≡ None
 tick_more a b r = within_then 1 MAX_TICK _ a _ (λ n. refl)
 
 seed_more : (a b c : Data) (r : Items) → seed_said (item a (item b (item c r))) ≡ None
-seed_more a b c r = text_then _ a _ (λ k. ap (option_map (steps.seed k)) (one_text_more b c r))
+seed_more a b c r = text_then _ a _ (λ k. ap (option_map (step.Seed k)) (one_text_more b c r))
 
 moved_more : (a b c d e : Data) (r : Items) → moved_said (item a (item b (item c (item d (item e r))))) ≡ None
 moved_more a b c d e r = text_then _ a _ (λ f. text_then _ b _ (λ t. within_then 1 MAX_AMOUNT _ c _ (λ n. none_two _ mode_said _ (one_text_more d e r))))
 
 transfer_more : (s a b c d e : Data) (r : Items) → transfer_said (item s (item a (item b (item c (item d (item e r)))))) ≡ None
-transfer_more s a b c d e r = text_then _ s _ (λ name. ap (option_map (steps.transfer name)) (moved_more a b c d e r))
+transfer_more s a b c d e r = text_then _ s _ (λ name. ap (option_map (step.Transfer name)) (moved_more a b c d e r))
 
 said_more : (x : Word) (a b c d e g h : Data) (r : Items) → said x (item a (item b (item c (item d (item e (item g (item h r))))))) ≡ None
-said_more word.Begin a b c d e g h r = ap (option_map steps.begin) (one_text_more a b _)
+said_more word.Begin a b c d e g h r = ap (option_map step.Begin) (one_text_more a b _)
 said_more word.Get a b c d e g h r = get_more a b c d e _
 said_more word.Scan a b c d e g h r = scan_more a b c d e g h r
-said_more word.Prewrite a b c d e g h r = sends_more steps.prewrite a b c d _
-said_more word.Commit a b c d e g h r = sends_more steps.commit a b c d _
-said_more word.Abort a b c d e g h r = sends_more steps.abort a b c d _
+said_more word.Prewrite a b c d e g h r = sends_more call.Prewrite a b c d _
+said_more word.Commit a b c d e g h r = sends_more call.Commit a b c d _
+said_more word.Abort a b c d e g h r = sends_more call.Abort a b c d _
 said_more word.Heartbeat a b c d e g h r = heartbeat_more a b c d e _
-said_more word.Deliver a b c d e g h r = ap (option_map steps.deliver) (one_text_more a b _)
+said_more word.Deliver a b c d e g h r = ap (option_map step.Deliver) (one_text_more a b _)
 said_more word.Read a b c d e g h r = read_more a b c _
-said_more word.Versions a b c d e g h r = ap (option_map steps.versions) (one_text_more a b _)
+said_more word.Versions a b c d e g h r = ap (option_map step.Versions) (one_text_more a b _)
 said_more word.Tick a b c d e g h r = tick_more a b _
-said_more word.Gc a b c d e g h r = ap (option_map steps.gc) (one_number_more a b _)
+said_more word.Gc a b c d e g h r = ap (option_map step.Gc) (one_number_more a b _)
 said_more word.Seed a b c d e g h r = seed_more a b c _
 said_more word.Transfer a b c d e g h r = transfer_more a b c d e g _
 said_more word.Put a b c d e g h r = acts_more word.Put a b c d e _

@@ -10,7 +10,8 @@ use Rattle.tx_steps.specs.Steps.{text_in, none_left}
 
 -- a text of 1 to 512 bytes
 abbrev pub key_in : Data → Option Key
-key_in d = option_and_then (λ text. if nat_le MIN_KEY_BYTES (length text) && nat_le (length text) MAX_KEY_BYTES then Some text else None) (as_str d)
+key_in d = option_and_then (λ text. if nat_le MIN_KEY_BYTES (length text) && nat_le (length text) MAX_KEY_BYTES
+    then Some text else None) (as_str d)
 
 -- all of them, where each is a key
 abbrev pub all_keys : Items → Option (List Key)
@@ -30,11 +31,13 @@ is_count n = nat_lt 0 n && nat_lt n MAX_REGIONS
 -- the list after the word, and nothing more
 abbrev pub after_regions : Items → Option Items
 after_regions no_items = None
-after_regions (item d ds) = option_and_then (λ ks. if none_left ds && is_count (count ks) then Some ks else None) (as_array d)
+after_regions (item d ds) = option_and_then (λ ks. if none_left ds && is_count (count ks) then Some ks
+    else None) (as_array d)
 
 abbrev pub list_said : Items → Option Items
 list_said ds = option_and_then (λ w. if bytes_eq w.0 (codes "regions") then after_regions w.1 else None) (text_in ds)
 
 -- the keys between the regions
 abbrev pub bounds_said : Items → Option (List Key)
-bounds_said ds = option_and_then (λ items. option_and_then (λ ks. if are_rising ks then Some ks else None) (all_keys items)) (list_said ds)
+bounds_said ds = option_and_then (λ items. option_and_then (λ ks. if are_rising ks then Some ks
+    else None) (all_keys items)) (list_said ds)

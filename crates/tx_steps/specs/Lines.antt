@@ -12,7 +12,8 @@ use Rattle.tx_text.specs.Parts.{json_of, parts_items}
 use Rattle.tx_steps.specs.declared.line.Line.{Line}
 use Rattle.tx_steps.specs.declared.line.Line.TheVariants.{Plain, Other}
 use Rattle.tx_steps.specs.declared.program.Program.{Program}
-use Rattle.tx_steps.specs.Steps.{Asked, step_said}
+use Rattle.tx_steps.specs.declared.step.Step.{Step}
+use Rattle.tx_steps.specs.Steps.{Text, step_said}
 use Rattle.tx_steps.specs.Bounds.{bounds_said}
 
 -- the value that was read
@@ -27,7 +28,7 @@ data_said number line = if nat_lt max_line (length line) then Err Long
     else ok_or (json_of line) Json)
 
 -- the step that a value says in a program's scripts
-abbrev pub step_in : Program → Data → Option Asked
+abbrev pub step_in : Program → Data → Option (Step Text)
 step_in program d = option_and_then (step_said program) (as_array d)
 
 -- the keys between the regions that a value says

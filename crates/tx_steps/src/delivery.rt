@@ -1,14 +1,14 @@
 //! What becomes of a request on its way to the store.
 ghost use Rattle.std.specs.Prelude.{◌≡◌, option_map};
 ghost use Rattle.tx_text.specs.Parts.{parts_items};
-ghost use Rattle.tx_steps.specs.Steps.{way, is_taken, way_word, way_said};
+ghost use Rattle.tx_steps.specs.Steps.{delivered, is_taken, delivery_word as word_in, delivery_said};
 
 use crate::members::{last_text, none_left, text};
 use tx_text::Part;
 
 /// What becomes of a request.
-#[derive(Clone, Copy, Debug)]
-pub enum Delivery<'a> {
+#[derive(Clone, Copy, Debug, Drop)]
+pub enum Delivery<S> {
     /// The store takes it, and its reply comes.
     Taken,
     /// The store never takes it.
@@ -18,21 +18,21 @@ pub enum Delivery<'a> {
     /// The store takes it twice in a row, and the second reply comes.
     Repeated,
     /// It is kept under a name and not taken.
-    Held(&'a str),
+    Held(S),
 }
 
-impl Delivery<'_> {
+impl Delivery<&str> {
     /// Whether the request simply arrives.
     pub fn is_taken(&self) -> bool
-        ensures { result ≡ is_taken (way self.now) }
+        ensures { result ≡ is_taken (delivered self.now) }
     {
         matches!(self, Delivery::Taken)
     }
 }
 
 // The words that stand alone.
-fn delivery_word<'a>(word: &str) -> Option<Delivery<'a>>
-    ensures { option_map way result ≡ way_word word.now }
+fn delivery_word<'a>(word: &str) -> Option<Delivery<&'a str>>
+    ensures { option_map delivered result ≡ word_in word.now }
 {
     if word == "lose" {
         Some(Delivery::Lost)
@@ -47,8 +47,8 @@ fn delivery_word<'a>(word: &str) -> Option<Delivery<'a>>
 
 // The delivery that a word says, where there is one.
 #[inline(never)]
-fn told<'a>(members: &[Part<'a>]) -> Option<Delivery<'a>>
-    ensures { option_map way result ≡ way_said (parts_items members.now) }
+fn said_delivery<'a>(members: &[Part<'a>]) -> Option<Delivery<&'a str>>
+    ensures { option_map delivered result ≡ delivery_said (parts_items members.now) }
 {
     if none_left(members) {
         return Some(Delivery::Taken);
@@ -63,12 +63,12 @@ fn told<'a>(members: &[Part<'a>]) -> Option<Delivery<'a>>
 
 /// The delivery that the last members of a step say: none is `Taken`.
 #[inline(always)]
-pub(crate) fn delivery_of<'a>(members: &[Part<'a>]) -> Option<Delivery<'a>>
-    ensures { option_map way result ≡ way_said (parts_items members.now) }
+pub(crate) fn delivery_of<'a>(members: &[Part<'a>]) -> Option<Delivery<&'a str>>
+    ensures { option_map delivered result ≡ delivery_said (parts_items members.now) }
 {
     if none_left(members) {
         Some(Delivery::Taken)
     } else {
-        told(members)
+        said_delivery(members)
     }
 }

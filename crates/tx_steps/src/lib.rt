@@ -7,23 +7,23 @@
 //! for the keys of `regions`.
 #![tactic(auto)]
 
-mod action;
 mod bounds;
+mod call;
 mod delivery;
 mod line;
 mod members;
+mod op;
 mod program;
-mod request;
 mod runs;
 mod step;
 mod transfer;
 mod word;
 
-pub use action::Action;
 pub use bounds::bounds_of;
+pub use call::Call;
 pub use delivery::Delivery;
 pub use line::Line;
+pub use op::Op;
 pub use program::Program;
-pub use request::Request;
 pub use step::{Step, step_of};
 pub use transfer::{MAX_AMOUNT, Transfer};

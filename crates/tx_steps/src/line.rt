@@ -1,9 +1,9 @@
 //! A line of a script, as it was read: what it says is a step, or there is a cause
 //! why it says none.
-ghost use Rattle.std.specs.Prelude.{◌≡◌, option_map, Some, None, if◌then◌else◌, Ok, Err, IfOk, IfErr, MatchResult};
+ghost use Rattle.std.specs.Prelude.{◌≡◌, option_map, Some, None, if◌then◌else◌, Ok, Err, IfOk, IfErr, IfSome, MatchResult};
 ghost use Rattle.serde_json.specs.View.{view};
 ghost use Rattle.tx_types.specs.declared.fault.Fault.TheVariants as fault;
-ghost use Rattle.tx_steps.specs.Steps.{asked};
+ghost use Rattle.tx_steps.specs.Steps.{asked, IsApart};
 ghost use Rattle.tx_steps.specs.Lines.{data_of, data_said, step_in, bounds_in};
 
 use crate::bounds::bounds_of;
@@ -22,16 +22,16 @@ pub enum Line<'p, 'a> {
     Other(Value),
 }
 
-// Puts the step that a value says in a program's scripts into `place`, and tells
+// Puts the step that a value says in a program's scripts into `out`, and tells
 // whether it says one.
 #[cold]
 #[inline(never)]
-fn put_step_of_value<'s>(program: Program, value: &'s Value, place: &mut Step<'s>) -> bool
-    ensures { (if result then Some (asked place.new) else None) ≡ step_in program (view value.now) }
+fn put_step_of_value<'s>(program: Program, value: &'s Value, out: &mut Step<&'s str>) -> bool
+    ensures { (if result then Some (asked out.new) else None) ≡ step_in program (view value.now) }
 {
     match parts_of(value) {
         None => false,
-        Some(parts) => put_step(program, parts.as_slice(), place),
+        Some(parts) => put_step(program, parts.as_slice(), out),
     }
 }
 
@@ -46,7 +46,8 @@ impl<'p, 'a> Line<'p, 'a> {
         line: &'a [u8],
         parts: &'p mut Parts<'a>,
     ) -> Result<Result<Line<'p, 'a>, Cause>, Broken>
-        ensures { IfOk result (λ found. MatchResult found (λ l. data_said number line.now ≡ Ok (data_of l)) (λ cause. data_said number line.now ≡ Err cause)) }
+        ensures { IfOk result (λ found. MatchResult found (λ l. data_said number line.now
+            ≡ Ok (data_of l)) (λ cause. data_said number line.now ≡ Err cause)) }
     {
         if line.len() > MAX_LINE_BYTES {
             return Ok(Err(Cause::Long));
@@ -63,22 +64,23 @@ impl<'p, 'a> Line<'p, 'a> {
         }
     }
 
-    // Puts the step that it says in a program's scripts into `place`, and tells
+    // Puts the step that it says in a program's scripts into `out`, and tells
     // whether it says one.
-    fn put_step<'s>(&'s self, program: Program, place: &mut Step<'s>) -> bool
-        ensures { (if result then Some (asked place.new) else None) ≡ step_in program (data_of self.now) }
+    fn put_step<'s>(&'s self, program: Program, out: &mut Step<&'s str>) -> bool
+        ensures { (if result then Some (asked out.new) else None) ≡ step_in program (data_of self.now) }
     {
         match self {
-            Line::Plain(parts) => put_step(program, parts, place),
-            Line::Other(value) => put_step_of_value(program, value, place),
+            Line::Plain(parts) => put_step(program, parts, out),
+            Line::Other(value) => put_step_of_value(program, value, out),
         }
     }
 
     /// The step that it says in a program's scripts, where it says one. Where it says none, and no
-    /// bounds either, the cause is `Form`.
+    /// bounds either, the cause is `Form`. The keys of a transfer differ.
     #[inline(always)]
-    pub fn step(&self, program: Program) -> Option<Step<'_>>
-        ensures { option_map asked result ≡ step_in program (data_of self.now) }
+    pub fn step(&self, program: Program) -> Option<Step<&str>>
+        ensures said { option_map asked result ≡ step_in program (data_of self.now) }
+        ensures apart { IfSome result (λ step. IsApart (asked step)) }
     {
         let mut step = Step::Tick(0);
         if self.put_step(program, &mut step) {

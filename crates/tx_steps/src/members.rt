@@ -27,7 +27,8 @@ pub(crate) fn within<'m, 'a>(
     high: u32,
     members: &'m [Part<'a>],
 ) -> Option<(u32, &'m [Part<'a>])>
-    ensures { option_map (λ found. (found.0, parts_items found.1.now)) result ≡ within_in low high (parts_items members.now) }
+    ensures { option_map (λ found. (found.0, parts_items found.1.now)) result
+        ≡ within_in low high (parts_items members.now) }
 {
     let (found, rest) = number(members)?;
     if found >= low && found <= u64::from(high) {
@@ -44,7 +45,8 @@ pub(crate) fn between<'m, 'a>(
     high: u64,
     members: &'m [Part<'a>],
 ) -> Option<(u64, &'m [Part<'a>])>
-    ensures { option_map (λ found. (found.0, parts_items found.1.now)) result ≡ within_in low high (parts_items members.now) }
+    ensures { option_map (λ found. (found.0, parts_items found.1.now)) result
+        ≡ within_in low high (parts_items members.now) }
 {
     let (found, rest) = number(members)?;
     if found >= low && found <= high {

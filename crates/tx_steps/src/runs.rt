@@ -3,14 +3,14 @@ ghost use Rattle.std.specs.Prelude.{◌≡◌, option_map};
 ghost use Rattle.tx_text.specs.Parts.{parts_items};
 ghost use Rattle.tx_steps.specs.Steps.{asked, moved, moved_said, seed_said, transfer_said};
 
-use crate::action::mode_of;
 use crate::members::{between, last_text, text};
+use crate::op::mode_of;
 use crate::step::Step;
 use crate::transfer::{MAX_AMOUNT, Transfer};
 use tx_text::Part;
 
 // What is moved.
-fn moved<'a>(members: &[Part<'a>]) -> Option<Transfer<'a>>
+fn moved<'a>(members: &[Part<'a>]) -> Option<Transfer<&'a str>>
     ensures { option_map moved result ≡ moved_said (parts_items members.now) }
 {
     let (from, rest) = text(members)?;
@@ -29,22 +29,22 @@ fn moved<'a>(members: &[Part<'a>]) -> Option<Transfer<'a>>
     }
 }
 
-/// Puts the step `transfer` into `place`.
+/// Puts the step `transfer` into `out`.
 #[inline(never)]
-pub(crate) fn transfers<'a>(members: &[Part<'a>], place: &mut Step<'a>) -> Option<()>
-    ensures { option_map (λ _. asked place.new) result ≡ transfer_said (parts_items members.now) }
+pub(crate) fn transfers<'a>(members: &[Part<'a>], out: &mut Step<&'a str>) -> Option<()>
+    ensures { option_map (λ _. asked out.new) result ≡ transfer_said (parts_items members.now) }
 {
     let (name, rest) = text(members)?;
-    *place = Step::Transfer(name, moved(rest)?);
+    *out = Step::Transfer(name, moved(rest)?);
     Some(())
 }
 
-/// Puts the step `seed` into `place`.
+/// Puts the step `seed` into `out`.
 #[inline(never)]
-pub(crate) fn seed<'a>(members: &[Part<'a>], place: &mut Step<'a>) -> Option<()>
-    ensures { option_map (λ _. asked place.new) result ≡ seed_said (parts_items members.now) }
+pub(crate) fn seed<'a>(members: &[Part<'a>], out: &mut Step<&'a str>) -> Option<()>
+    ensures { option_map (λ _. asked out.new) result ≡ seed_said (parts_items members.now) }
 {
     let (key, rest) = text(members)?;
-    *place = Step::Seed(key, last_text(rest)?);
+    *out = Step::Seed(key, last_text(rest)?);
     Some(())
 }

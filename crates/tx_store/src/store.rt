@@ -17,8 +17,8 @@ use std::alloc::Global;
 use std::hint::spin_loop;
 use std::sync::{Mutex, MutexGuard, Wait};
 use tx_cells::Families;
-use tx_core::{Body, RegionNo};
-use tx_journal::{Journal, Naming, Opened, Reply, Request, Seat};
+use tx_core::{Body, RegionNo, Target};
+use tx_journal::{Journal, JournalId, Opened, Reply, Request, Seat};
 use tx_region::{Applied, KeyCopy, Planned, Region, fronts, is_of_key, route_by};
 use tx_types::{Fault, Key};
 
@@ -32,35 +32,35 @@ const TRIES: u32 = 3;
 /// A region behind its lock. Two locks lie in different lines of memory, so that threads in two
 /// regions do not write the same line.
 #[derive(Drop)]
-struct Locked<J: Naming, F: Families> {
+struct LockedRegion<J: JournalId, F: Families> {
     region: Mutex<Region<J, F>>,
     apart: [u64; 16],
 }
 
 /// The regions of a journal. What lies under a lock is known by its type alone, and not by its
-/// place.
+/// index.
 #[derive(Drop)]
-pub struct Store<J: Naming, F: Families> {
+pub struct Store<J: JournalId, F: Families> {
     /// The keys between the regions.
     journal: Journal<J>,
     /// The fronts of the keys between the regions, by which the region of a key is mostly found
     /// with no look at these keys.
     fronts: Vec<u64>,
     /// The regions in the order of their keys, each under its lock.
-    regions: Vec<Locked<J, F>>,
+    regions: Vec<LockedRegion<J, F>>,
     ghost few: { length J.bounds < 1024 },
     ghost tell: { AreFronts J.bounds fronts.items },
     ghost each: { vec_len regions ≡ length J.bounds + 1 },
 }
 
-// Whether a region is the one of this place.
-fn is_at<J: Naming, F: Families>(region: &Region<J, F>, place: usize) -> bool
-    ensures { IsTrue result ↔ (region.now.seat ≡ place) }
+// Whether a region is the one of this index.
+fn is_at<J: JournalId, F: Families>(region: &Region<J, F>, index: usize) -> bool
+    ensures { IsTrue result ↔ (region.now.seat ≡ index) }
 {
-    region.number().get() as usize == place
+    region.number().get() as usize == index
 }
 
-impl<J: Naming, F: Families + Drop> Store<J, F> {
+impl<J: JournalId, F: Families + Drop> Store<J, F> {
     /// A store over the regions of a journal, of which nothing has happened: with the seat of each,
     /// in their order, and families that hold nothing. `OutOfMemory` drops what was handed in.
     pub fn new(
@@ -81,7 +81,7 @@ impl<J: Naming, F: Families + Drop> Store<J, F> {
                 unreachable!()
             };
             let region = Region::new(alloc, journal.clone()?, seat, empty);
-            regions.push(Locked {
+            regions.push(LockedRegion {
                 region: Mutex::new(region),
                 apart: [0; 16],
             })?;
@@ -127,53 +127,44 @@ impl<J: Naming, F: Families + Drop> Store<J, F> {
     pub fn route(&self, key: &Key) -> RegionNo
         ensures { result ≡ route J.bounds key.now }
     {
-        RegionNo::new(self.place(key) as u32)
+        RegionNo::new(self.index(key) as u32)
     }
 
-    // The place of the region of a key.
-    fn place(&self, key: &Key) -> usize
+    // The index of the region of a key.
+    fn index(&self, key: &Key) -> usize
         ensures { (result ≡ route J.bounds key.now) × (result ≤ length J.bounds) }
     {
         route_by(self.fronts.as_slice(), self.journal.bounds(), key)
     }
 
-    // The place of the region that holds what a request speaks of.
-    fn place_of(&self, body: &Body) -> usize
+    // The index of the region that holds what a request speaks of.
+    fn index_of(&self, body: &Body) -> usize
         requires { IsHeld J.bounds body.now }
         ensures { (result ≤ length J.bounds) × Holds J.bounds result body.now }
     {
-        match body {
-            Body::Get(body) => self.place(&body.key),
-            Body::Scan(body) => self.place(&body.asked().from),
-            Body::Prewrite(body) => self.place(&body.asked().key),
-            Body::Commit(body) => self.place(&body.key),
-            Body::BatchRollback(body) => self.place(&body.key),
-            Body::TxnHeartBeat(body) => self.place(&body.key),
-            Body::CheckTxnStatus(body) => self.place(&body.key),
-            Body::CheckSecondaryLocks(body) => self.place(&body.key),
-            Body::ResolveLock(body) => self.place(&body.key),
-            Body::RaiseSafe(body) => body.region.get() as usize,
-            Body::LocksBelow(body) => body.region.get() as usize,
-            Body::Collect(body) => body.region.get() as usize,
+        match body.target() {
+            Target::Key(key) => self.index(key),
+            Target::Range(scan) => self.index(&scan.from),
+            Target::Region(region) => region.get() as usize,
         }
     }
 
     // A region, once no other call has it.
-    fn locked<R: Wait>(&self, rt: &R, place: usize) -> MutexGuard<'_, Region<J, F>>
-        requires { place ≤ length J.bounds }
+    fn locked<R: Wait>(&self, rt: &R, index: usize) -> MutexGuard<'_, Region<J, F>>
+        requires { index ≤ length J.bounds }
     {
-        match self.regions[place].region.try_lock() {
+        match self.regions[index].region.try_lock() {
             Some(region) => region,
-            None => self.locked_late(rt, place),
+            None => self.locked_late(rt, index),
         }
     }
 
     // A region that another call has.
     #[inline(never)]
-    fn locked_late<R: Wait>(&self, rt: &R, place: usize) -> MutexGuard<'_, Region<J, F>>
-        requires { place ≤ length J.bounds }
+    fn locked_late<R: Wait>(&self, rt: &R, index: usize) -> MutexGuard<'_, Region<J, F>>
+        requires { index ≤ length J.bounds }
     {
-        let region = &self.regions[place].region;
+        let region = &self.regions[index].region;
         for _ in 0..LOOKS {
             spin_loop();
             if let Some(region) = region.try_lock() {
@@ -187,17 +178,17 @@ impl<J: Naming, F: Families + Drop> Store<J, F> {
     fn copy_at<R: Wait>(
         &self,
         rt: &R,
-        place: usize,
+        index: usize,
         request: &mut Request<J>,
     ) -> Result<KeyCopy<J>, Fault>
-        requires place { place ≤ length J.bounds }
+        requires index { index ≤ length J.bounds }
         requires of_key { IsOfKey request.old.body }
         ensures same { request.new ≡ request.old }
-        ensures copy { IfOk result (λ copy. IsCopyFor request.old copy × (copy.region ≡ place)) }
+        ensures copy { IfOk result (λ copy. IsCopyFor request.old copy × (copy.region ≡ index)) }
     {
         for _ in rt.forever() {
-            let mut region = self.locked(rt, place);
-            if is_at(&*region, place) {
+            let mut region = self.locked(rt, index);
+            if is_at(&*region, index) {
                 return region.copy_key(request);
             }
         }
@@ -208,18 +199,18 @@ impl<J: Naming, F: Families + Drop> Store<J, F> {
     fn apply_at<R: Wait>(
         &self,
         rt: &R,
-        place: usize,
+        index: usize,
         request: Request<J>,
         plan: Planned<J>,
     ) -> Applied<J>
-        requires place { place ≤ length J.bounds }
-        requires holds { Holds J.bounds place request.body }
-        requires of { IsPlanFor request plan × (plan.region ≡ place) }
+        requires index { index ≤ length J.bounds }
+        requires holds { Holds J.bounds index request.body }
+        requires of { IsPlanFor request plan × (plan.region ≡ index) }
         ensures { GivesBack request result }
     {
         for _ in rt.forever() {
-            let mut region = self.locked(rt, place);
-            if is_at(&*region, place) {
+            let mut region = self.locked(rt, index);
+            if is_at(&*region, index) {
                 return region.apply(request, plan);
             }
         }
@@ -229,14 +220,14 @@ impl<J: Naming, F: Families + Drop> Store<J, F> {
     // Answers a request in the region that holds it, which plans it while no other call has the
     // region.
     #[inline(never)]
-    fn take_at<R: Wait>(&self, rt: &R, place: usize, request: Request<J>) -> Reply<J>
-        requires place { place ≤ length J.bounds }
-        requires holds { Holds J.bounds place request.body }
+    fn take_at<R: Wait>(&self, rt: &R, index: usize, request: Request<J>) -> Reply<J>
+        requires index { index ≤ length J.bounds }
+        requires holds { Holds J.bounds index request.body }
         ensures { result.request ≡ request }
     {
         for _ in rt.forever() {
-            let mut region = self.locked(rt, place);
-            if is_at(&*region, place) {
+            let mut region = self.locked(rt, index);
+            if is_at(&*region, index) {
                 return region.take(request);
             }
         }
@@ -246,23 +237,23 @@ impl<J: Naming, F: Families + Drop> Store<J, F> {
     // Answers a request of one key in the region that holds it. It is planned of a copy, while
     // other calls may have the region; where the plan is no longer right, three times, the request
     // is planned while no other call has it.
-    fn run_at<R: Wait>(&self, rt: &R, place: usize, mut request: Request<J>) -> Reply<J>
-        requires place { place ≤ length J.bounds }
-        requires holds { Holds J.bounds place request.body }
+    fn run_at<R: Wait>(&self, rt: &R, index: usize, mut request: Request<J>) -> Reply<J>
+        requires index { index ≤ length J.bounds }
+        requires holds { Holds J.bounds index request.body }
         requires of_key { IsOfKey request.body }
         ensures { result.request ≡ request }
     {
         for _try in 0..TRIES {
-            let Ok(copy) = self.copy_at(rt, place, &mut request) else {
+            let Ok(copy) = self.copy_at(rt, index, &mut request) else {
                 break;
             };
             let plan = copy.plan(&request);
-            match self.apply_at(rt, place, request, plan) {
+            match self.apply_at(rt, index, request, plan) {
                 Applied::Done(reply) => return reply,
                 Applied::Stale(again) => request = again,
             }
         }
-        self.take_at(rt, place, request)
+        self.take_at(rt, index, request)
     }
 
     /// Hands a request to the region that holds what it speaks of, once no other call has that
@@ -271,11 +262,11 @@ impl<J: Naming, F: Families + Drop> Store<J, F> {
         requires { IsHeld J.bounds request.body }
         ensures { result.request ≡ request }
     {
-        let place = self.place_of(request.body());
+        let index = self.index_of(request.body());
         if is_of_key(request.body()) {
-            self.run_at(rt, place, request)
+            self.run_at(rt, index, request)
         } else {
-            self.take_at(rt, place, request)
+            self.take_at(rt, index, request)
         }
     }
 }

@@ -4,18 +4,18 @@ ghost use Rattle.tx_journal.specs.Senders.{IsWay, LosesNothing};
 use crate::store::Store;
 use std::sync::Wait;
 use tx_cells::Families;
-use tx_journal::{Lost, Naming, Reply, Request, Sender};
+use tx_journal::{JournalId, Lost, Reply, Request, Sender};
 use tx_types::Key;
 
 /// A way to the regions of a store. Each request waits until no other call has its region, and is
 /// taken there once: none is lost, and none comes late.
 #[derive(Drop)]
-pub struct Wire<'a, J: Naming, F: Families + Drop, R: Wait> {
+pub struct Wire<'a, J: JournalId, F: Families + Drop, R: Wait> {
     rt: &'a R,
     store: &'a Store<J, F>,
 }
 
-impl<'a, J: Naming, F: Families + Drop, R: Wait> Wire<'a, J, F, R> {
+impl<'a, J: JournalId, F: Families + Drop, R: Wait> Wire<'a, J, F, R> {
     /// The way to the regions of this store.
     pub fn new(rt: &'a R, store: &'a Store<J, F>) -> Wire<'a, J, F, R> {
         Wire { rt, store }
@@ -24,14 +24,17 @@ impl<'a, J: Naming, F: Families + Drop, R: Wait> Wire<'a, J, F, R> {
     /// For proofs: it takes what some region holds, a reply is to the request that was sent, and
     /// none is lost. It does nothing when it runs.
     pub fn show(&self)
-        ensures way { IsWay J.bounds ⟦<Wire<'a, J, F, R> as Sender<Request<J>, Reply<J>>>⟧.fits ⟦<Wire<'a, J, F, R> as Sender<Request<J>, Reply<J>>>⟧.sends ⟦<Wire<'a, J, F, R> as Sender<Request<J>, Reply<J>>>⟧.keys_between }
+        ensures way { IsWay J.bounds
+            ⟦<Wire<'a, J, F, R> as Sender<Request<J>, Reply<J>>>⟧.fits
+            ⟦<Wire<'a, J, F, R> as Sender<Request<J>, Reply<J>>>⟧.sends
+            ⟦<Wire<'a, J, F, R> as Sender<Request<J>, Reply<J>>>⟧.keys_between }
         ensures loses { LosesNothing ⟦<Wire<'a, J, F, R> as Sender<Request<J>, Reply<J>>>⟧.sends }
     {
         let _ = self.rt;
     }
 }
 
-impl<'a, J: Naming, F: Families + Drop, R: Wait> Sender<Request<J>, Reply<J>>
+impl<'a, J: JournalId, F: Families + Drop, R: Wait> Sender<Request<J>, Reply<J>>
     for Wire<'a, J, F, R> {
     ghost use Rattle.tx_store.specs.Stores.{Replies, TakesHeld};
 

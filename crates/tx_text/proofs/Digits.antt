@@ -113,8 +113,8 @@ number_begins from bytes s e lt within same digits lexed low high ends =
     let n = e - s in
     let first : drop s bytes ≡ x ∷ xs = drop_more bytes s 0 (omega arith) in
     let last : drop e bytes ≡ y ∷ ys = drop_more bytes e 0 within in
-    let place : s + n ≡ e = omega arith in
-    let rest : drop n (x ∷ xs) ≡ y ∷ ys = ap (drop n) (sym first) ∙ drop-drop n s bytes ∙ ap (λ k. drop k bytes) place ∙ last in
+    let position : s + n ≡ e = omega arith in
+    let rest : drop n (x ∷ xs) ≡ y ∷ ys = ap (drop n) (sym first) ∙ drop-drop n s bytes ∙ ap (λ k. drop k bytes) position ∙ last in
     let begun = digits_begin x low high xs n y ys (ap (prefix_len is_ascii_digit) (sym first) ∙ digits) (omega arith) (omega (arith, ap length first, length-drop s bytes)) (ap (lex in_word) (sym first) ∙ lexed ∙ ap (lex in_word) last) ends rest in
     same ∙ ap (lex between) first ∙ begun ∙ ap (λ l. token (number (take n l)) ∷ lex between (y ∷ ys)) (sym first) ∙ ap (λ l. token (number (slice_range bytes s e)) ∷ lex between l) (sym last)
 

@@ -86,10 +86,10 @@ comma_between xs ys same = same
 slice_more : (bytes : List ℕ) (from at : ℕ) → from ≤ at → at < length bytes → slice_range bytes from at ++ get_or bytes at 0 ∷ [] ≡ slice_range bytes from (at + 1)
 slice_more bytes from at le h =
     let next : suc (at - from) ≡ at + 1 - from = omega arith in
-    let place : from + (at - from) ≡ at = omega arith in
+    let position : from + (at - from) ≡ at = omega arith in
     sym (ap (λ n. take n (drop from bytes)) (sym next)
     ∙ take-suc (drop from bytes) (at - from) 0 (omega (arith, length-drop from bytes))
-    ∙ ap (λ x. take (at - from) (drop from bytes) ++ x ∷ []) (get_or-drop from bytes (at - from) 0 ∙ ap (λ n. get_or bytes n 0) place))
+    ∙ ap (λ x. take (at - from) (drop from bytes) ++ x ∷ []) (get_or-drop from bytes (at - from) 0 ∙ ap (λ n. get_or bytes n 0) position))
 
 pub space_more : (from bytes : List ℕ) (at : ℕ) → at < length bytes → get_or bytes at 0 ≡ 32 → Same from (drop at bytes) → Same from (drop (at + 1) bytes)
 space_more from bytes at h e same =

@@ -6,8 +6,8 @@ use Rattle.serde_json.specs.Read.{read}
 use Rattle.serde_json.specs.View.{view, items_of}
 use Rattle.tx_text.specs.declared.part.Part.{Part}
 use Rattle.tx_text.specs.declared.part.Part.TheVariants.{Text, Number, Null, Other}
-use Rattle.tx_text.specs.declared.listed.Row.{Row}
-use Rattle.tx_text.specs.declared.listed.Row.TheVariants.{Pair, Triple}
+use Rattle.tx_text.specs.declared.listed.ListItem.{ListItem}
+use Rattle.tx_text.specs.declared.listed.ListItem.TheVariants.{Pair, Triple}
 use Rattle.tx_text.specs.declared.listed.Scanned.{Scanned}
 use Rattle.tx_text.specs.declared.listed.Scanned.TheVariants.{Plain, Listed}
 
@@ -27,12 +27,12 @@ abbrev pub parts_items : List Part → Items
 parts_items parts = items_of (map part_data parts)
 
 -- a row: the array of its strings
-abbrev pub row_data : Row → Data
+abbrev pub row_data : ListItem → Data
 row_data (Pair a b) = array (item (string a.now) (item (string b.now) no_items))
 row_data (Triple a b c) = array (item (string a.now) (item (string b.now) (item (string c.now) no_items)))
 
 -- members, and after them the array of rows
-abbrev pub listed_items : List Part → List Row → Items
+abbrev pub listed_items : List Part → List ListItem → Items
 listed_items parts rows = items_of (map part_data parts ++ array (items_of (map row_data rows)) ∷ [])
 
 -- plain members, and what comes after them

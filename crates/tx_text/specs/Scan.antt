@@ -6,8 +6,8 @@ use Rattle.json.specs.Token.{Token, begin_array, end_array}
 use Rattle.json.specs.Lex.{Lexeme, token, comma, between, in_string, lex}
 use Rattle.json.specs.Text.{content, plain, prepend}
 use Rattle.tx_text.specs.declared.part.Part.{Part}
-use Rattle.tx_text.specs.declared.listed.Row.{Row}
-use Rattle.tx_text.specs.declared.listed.Row.TheVariants.{Pair, Triple}
+use Rattle.tx_text.specs.declared.listed.ListItem.{ListItem}
+use Rattle.tx_text.specs.declared.listed.ListItem.TheVariants.{Pair, Triple}
 use Rattle.tx_text.specs.Parts.{part_data}
 
 -- within a string, xs goes on as ys past the bytes s, which stand for themselves
@@ -25,7 +25,8 @@ Begins xs l ys = lex between xs ≡ l ∷ lex between ys
 
 -- a number that reads as n comes first in xs, and then the lexemes of ys
 abbrev pub BeginsNumber : List ℕ → ℕ → List ℕ → Type 0
-BeginsNumber xs n ys = (digits : List ℕ) × Begins xs (token (Token.number digits)) ys × (number_of digits ≡ Some (unsigned n))
+BeginsNumber xs n ys = (digits : List ℕ) × Begins xs (token (Token.number digits)) ys
+    × (number_of digits ≡ Some (unsigned n))
 
 -- a number or a word may end before this byte: a comma, a bracket or a space
 abbrev pub EndsWord : ℕ → Type 0
@@ -64,20 +65,22 @@ pub record ReadParts (line : List ℕ) (parts : List Part) (left : List ℕ) : T
   pub lexed : lex between line ≡ token begin_array ∷ before leaves (lex between left)
 
 -- the lexemes of a row, and what comes then
-abbrev pub row_lexemes : Row → List Lexeme → List Lexeme
-row_lexemes (Pair a b) rest = token begin_array ∷ token (Token.string a.now) ∷ comma ∷ token (Token.string b.now) ∷ token end_array ∷ rest
-row_lexemes (Triple a b c) rest = token begin_array ∷ token (Token.string a.now) ∷ comma ∷ token (Token.string b.now) ∷ comma ∷ token (Token.string c.now) ∷ token end_array ∷ rest
+abbrev pub row_lexemes : ListItem → List Lexeme → List Lexeme
+row_lexemes (Pair a b) rest = token begin_array ∷ token (Token.string a.now) ∷ comma ∷ token (Token.string b.now)
+    ∷ token end_array ∷ rest
+row_lexemes (Triple a b c) rest = token begin_array ∷ token (Token.string a.now) ∷ comma ∷ token (Token.string b.now)
+    ∷ comma ∷ token (Token.string c.now) ∷ token end_array ∷ rest
 
 -- the lexemes of rows with a comma between them, the bracket after them, and what comes then
-abbrev pub rows_lexemes : List Row → List Lexeme → List Lexeme
+abbrev pub rows_lexemes : List ListItem → List Lexeme → List Lexeme
 rows_lexemes [] rest = token end_array ∷ rest
 rows_lexemes (r ∷ []) rest = row_lexemes r (token end_array ∷ rest)
 rows_lexemes (r ∷ s ∷ rows) rest = row_lexemes r (comma ∷ rows_lexemes (s ∷ rows) rest)
 
 -- this row comes first in xs, and then the lexemes of ys
-abbrev pub BeginsRow : List ℕ → Row → List ℕ → Type 0
+abbrev pub BeginsRow : List ℕ → ListItem → List ℕ → Type 0
 BeginsRow xs row ys = lex between xs ≡ row_lexemes row (lex between ys)
 
 -- the array of these rows comes first in xs, and then the lexemes of ys
-abbrev pub BeginsRows : List ℕ → List Row → List ℕ → Type 0
+abbrev pub BeginsRows : List ℕ → List ListItem → List ℕ → Type 0
 BeginsRows xs rows ys = lex between xs ≡ token begin_array ∷ rows_lexemes rows (lex between ys)

@@ -23,7 +23,7 @@ pub use end::{Broken, End};
 pub use fault::put_fault;
 pub use lines::{Found, read_line};
 pub use list::{Entries, put_list};
-pub use listed::{Row, Scanned, scanned_with_rows};
+pub use listed::{ListItem, Scanned, scanned_with_rows};
 pub use output::{finish, send};
 pub use part::{MAX_PARTS, Part, Parts, parts_of};
 pub use rows::Rows;

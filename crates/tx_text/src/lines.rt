@@ -40,7 +40,8 @@ fn before_newline(bytes: &[u8]) -> (usize, bool)
 
 // Takes what is at hand, up to the first newline.
 fn take_some<R: BufRead>(reader: &mut R, line: &mut Vec<u8>) -> Result<Took, Broken>
-    ensures { IfOk result (λ took. Takes (R.remaining reader.old) (R.remaining reader.new) line.old.items line.new.items took) }
+    ensures { IfOk result (λ took. Takes (R.remaining reader.old) (R.remaining reader.new) line.old.items line.new.items
+        took) }
 {
     let available = match reader.fill_buf() {
         Ok(available) => available,

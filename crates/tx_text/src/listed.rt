@@ -11,7 +11,7 @@ use std::alloc::Global;
 
 /// A row: an array of two or three strings.
 #[derive(Clone, Copy, Debug, Drop)]
-pub enum Row<'a> {
+pub enum ListItem<'a> {
     Pair(&'a str, &'a str),
     Triple(&'a str, &'a str, &'a str),
 }
@@ -22,11 +22,11 @@ pub enum Scanned<'a> {
     /// Nothing: they are all.
     Plain,
     /// One more member, the list of these rows.
-    Listed(Vec<Row<'a>>),
+    Listed(Vec<ListItem<'a>>),
 }
 
 // The row from here on, with what comes after it.
-fn row_at(line: &str, from: usize) -> Option<(Row<'_>, usize)>
+fn row_at(line: &str, from: usize) -> Option<(ListItem<'_>, usize)>
     requires { from ≤ length line.now }
     ensures range { IfSome result (λ found. found.1 ≤ length line.now) }
     ensures begins { IfSome result (λ found. BeginsRow (drop from line.now) found.0 (drop found.1 line.now)) }
@@ -36,17 +36,17 @@ fn row_at(line: &str, from: usize) -> Option<(Row<'_>, usize)>
     let next = pass(line, after_first, b',')?;
     let (second, after_second) = string(line, next)?;
     if let Some(end) = pass(line, after_second, b']') {
-        return Some((Row::Pair(first, second), end));
+        return Some((ListItem::Pair(first, second), end));
     }
     let last = pass(line, after_second, b',')?;
     let (third, after_third) = string(line, last)?;
     let end = pass(line, after_third, b']')?;
-    Some((Row::Triple(first, second, third), end))
+    Some((ListItem::Triple(first, second, third), end))
 }
 
 // The list of rows from here on, with what comes after it. Where there is no room for them
 // it says nothing.
-fn rows_at(alloc: Global, line: &str, from: usize) -> Option<(Vec<Row<'_>>, usize)>
+fn rows_at(alloc: Global, line: &str, from: usize) -> Option<(Vec<ListItem<'_>>, usize)>
     requires { from ≤ length line.now }
     ensures range { IfSome result (λ found. found.1 ≤ length line.now) }
     ensures begins { IfSome result (λ found. BeginsRows (drop from line.now) found.0.items (drop found.1 line.now)) }
@@ -84,8 +84,8 @@ pub fn scanned_with_rows<'a>(
     let Ok(text) = str::from_utf8(line) else {
         return None;
     };
-    let place = leading(text, parts)?;
-    let Some(at) = place else {
+    let position = leading(text, parts)?;
+    let Some(at) = position else {
         return Some(Scanned::Plain);
     };
     let (rows, end) = rows_at(alloc, text, at)?;

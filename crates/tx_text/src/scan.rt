@@ -103,7 +103,8 @@ pub(crate) fn pass(line: &str, from: usize, byte: u8) -> Option<usize>
 pub(crate) fn string(line: &str, from: usize) -> Option<(&str, usize)>
     requires { from ≤ length line.now }
     ensures range { IfSome result (λ found. found.1 ≤ length line.now) }
-    ensures begins { IfSome result (λ found. Begins (drop from line.now) (token (string_token found.0.now)) (drop found.1 line.now)) }
+    ensures begins { IfSome result (λ found. Begins (drop from line.now) (token (string_token found.0.now))
+        (drop found.1 line.now)) }
 {
     let start = pass(line, from, b'"')?;
     let bytes = line.as_bytes();
@@ -205,11 +206,11 @@ fn member(line: &str, from: usize) -> Option<(Part<'_>, usize)>
     Some((Part::Null, after))
 }
 
-/// Puts the plain members of a line's array into `parts`, up to its end, or up to the place of the
-/// first that is none.
+/// Puts the plain members of a line's array into `parts`, up to its end, or up to the position of
+/// the first that is none.
 pub(crate) fn leading<'a>(line: &'a str, parts: &mut Parts<'a>) -> Option<Option<usize>>
     requires { parts.old.items ≡ [] }
-    ensures { IfSome result (λ place. MatchOption place
+    ensures { IfSome result (λ position. MatchOption position
         (read line.now ≡ Some (array (parts_items parts.new.items)))
         (λ at. (at ≤ length line.now) × ReadParts line.now parts.new.items (drop at line.now))) }
 {

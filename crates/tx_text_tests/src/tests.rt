@@ -1,43 +1,43 @@
 use std::alloc::Global;
-use tx_cells::{KeyCopy, RecordAt, Shown};
+use tx_cells::{KeyVersions, RecordAt, ShownKey};
 use tx_check::put_step;
 use tx_client::{Status, WaitCause};
 use tx_core::Answer;
 use tx_machine::{ScanRead, Step};
 use tx_plan::{LockHead, RecordHead};
-use tx_reply::{Reply, put_reply};
+use tx_reply::{ScriptReply, put_reply};
 use tx_types::{
     Change, Changes, Fate, Fault, Items, Key, KeyValue, KeyValues, LockFacts, LockInfo, LockKind,
     Mode, Mutation, Secondaries, Ts, Value,
 };
 
 // Whether this is the line of a reply.
-fn says(rt: &HostRuntime, number: u64, reply: &Reply, line: &str) -> bool {
+fn says(rt: &HostRuntime, number: u64, reply: &ScriptReply, line: &str) -> bool {
     let mut text = Vec::new(rt.alloc());
     put_reply(&mut text, number, reply).is_ok() && text.as_slice() == line.as_bytes()
 }
 
 #[test]
 fn replies_without_lists(rt: HostRuntime) {
-    assert!(rt; says(&rt, 1, &Reply::Regions(4), "[1,\"regions\",4]\n"));
-    assert!(rt; says(&rt, 10, &Reply::Lost, "[10,\"lost\"]\n"));
-    let last = Reply::Last(Ts::new(4_294_967_296));
+    assert!(rt; says(&rt, 1, &ScriptReply::Regions(4), "[1,\"regions\",4]\n"));
+    assert!(rt; says(&rt, 10, &ScriptReply::Lost, "[10,\"lost\"]\n"));
+    let last = ScriptReply::Last(Ts::new(4_294_967_296));
     assert!(rt; says(&rt, 2, &last, "[2,\"last\",4294967296]\n"));
     drop(last);
-    let collected = Reply::Collected {
+    let collected = ScriptReply::Collected {
         records: 2,
         values: 1,
     };
     assert!(rt; says(&rt, 22, &collected, "[22,\"collected\",2,1]\n"));
     drop(collected);
-    assert!(rt; says(&rt, 3, &Reply::OracleSpent, "[3,\"E11\"]\n"));
+    assert!(rt; says(&rt, 3, &ScriptReply::OracleSpent, "[3,\"E11\"]\n"));
 }
 
 // A session refuses an insert over its own buffer, and a region one over a value: both print alone.
 #[test]
 fn refused_inserts(rt: HostRuntime) {
-    assert!(rt; says(&rt, 18, &Reply::AlreadyExists, "[18,\"E17\"]\n"));
-    let refused = Reply::Answered(Answer::AlreadyExists);
+    assert!(rt; says(&rt, 18, &ScriptReply::AlreadyExists, "[18,\"E17\"]\n"));
+    let refused = ScriptReply::Answered(Answer::AlreadyExists);
     assert!(rt; says(&rt, 10, &refused, "[10,\"E17\"]\n"));
 }
 
@@ -71,7 +71,7 @@ fn statuses(rt: HostRuntime) {
             "[11,\"status\",\"waiting\",\"E12\"]\n",
         ),
     ] {
-        assert!(rt; says(&rt, 11, &Reply::Status(status), line));
+        assert!(rt; says(&rt, 11, &ScriptReply::Status(status), line));
     }
 }
 
@@ -92,7 +92,7 @@ fn lock_on(rt: &HostRuntime, mode: Mode) -> Result<LockInfo, Fault> {
 
 fn says_locked(rt: &HostRuntime, mode: Mode, line: &str) -> bool {
     match lock_on(rt, mode) {
-        Ok(info) => says(rt, 14, &Reply::Answered(Answer::Locked(info)), line),
+        Ok(info) => says(rt, 14, &ScriptReply::Answered(Answer::Locked(info)), line),
         Err(_) => false,
     }
 }
@@ -124,7 +124,7 @@ fn rows_of(rt: &HostRuntime, pairs: &[(&[u8], &[u8])]) -> Result<KeyValues, Faul
 
 fn says_rows(rt: &HostRuntime, pairs: &[(&[u8], &[u8])], line: &str) -> bool {
     match rows_of(rt, pairs) {
-        Ok(rows) => says(rt, 12, &Reply::Answered(Answer::Rows(rows)), line),
+        Ok(rows) => says(rt, 12, &ScriptReply::Answered(Answer::Rows(rows)), line),
         Err(_) => false,
     }
 }
@@ -157,7 +157,7 @@ fn copy_of(
     kind: Option<LockKind>,
     records: &[RecordAt],
     values: &[Ts],
-) -> Result<Shown, Fault> {
+) -> Result<ShownKey, Fault> {
     let lock = kind.map(|kind| LockHead {
         start: Ts::new(1),
         min: Ts::new(2),
@@ -165,12 +165,12 @@ fn copy_of(
         kind,
         mode: Mode::Async,
     });
-    let copy = KeyCopy {
+    let copy = KeyVersions {
         lock,
         records: list(rt.alloc(), records)?,
         values: list(rt.alloc(), values)?,
     };
-    Shown::new(rt.alloc(), copy)
+    ShownKey::new(rt.alloc(), copy)
 }
 
 fn says_versions(
@@ -181,7 +181,7 @@ fn says_versions(
     line: &str,
 ) -> bool {
     match copy_of(rt, kind, records, values) {
-        Ok(copy) => says(rt, 21, &Reply::Versions(copy), line),
+        Ok(copy) => says(rt, 21, &ScriptReply::Versions(copy), line),
         Err(_) => false,
     }
 }

@@ -13,12 +13,12 @@ use Rattle.std.proofs.lemmas.List.Kept.{IsStrictlySortedBy-filter}
 use Rattle.std.proofs.lemmas.Map.{lookup-insert, lookup-set_value, keys-set_value, none_passes_from_lookup}
 use Rattle.std.proofs.lemmas.Map.Entries.{lookup-filter-keys}
 use Rattle.std.proofs.lemmas.Map.Keys.{sorted_tail}
-use Rattle.tx_timeline.specs.Places.{IsPlace, goes_below}
+use Rattle.tx_timeline.specs.Indexes.{IsIndex, goes_below}
 use Rattle.tx_timeline.proofs.Rising.{Rises, all_of, rises}
 use Rattle.tx_timeline.proofs.Finding.{is_less, is_greater, one_time, find, found_here, none_at, over_place}
 
 module _ {X : Type 0} where
-  -- ---- a value is put in the place of another
+  -- ---- a value is put in the index of another
 
   set_is : (es : List (ℕ × X)) (i t : ℕ) (x y : X) → Rises es → slice_get es i ≡ Some (t, y) → set es i (t, x) ≡ set_value (is_at (nat_cmp t)) es x
   set_is [] i t x y s h = absurd (cc h)
@@ -56,7 +56,7 @@ module _ {X : Type 0} where
     rises_put es i t x s.1 (λ j d lt p. under (suc j) d (omega arith) p) (λ j d le p. over (suc j) d (omega arith) p),
   )
 
-  module _ (es : List (ℕ × X)) (t i : ℕ) (x : X) (s : Rises es) (at : IsPlace es t i) (other : (e : ℕ × X) → slice_get es i ≡ Some e → e.0 ≡ t → ⊥) where
+  module _ (es : List (ℕ × X)) (t i : ℕ) (x : X) (s : Rises es) (at : IsIndex es t i) (other : (e : ℕ × X) → slice_get es i ≡ Some e → e.0 ≡ t → ⊥) where
     pub rises_insert : Rises (insert es i (t, x))
     rises_insert = rises_put es i t x s at.below (over_place es t i s at other)
 

@@ -1,4 +1,4 @@
--- What look-ups find among entries that rise, by their places.
+-- What look-ups find among entries that rise, by their indexes.
 use Rattle.std.proofs.Common.{◌≡◌, ◌≢◌, ◌⊎◌, inl, inr, ℕ, zero, suc, ◌-◌, ◌<◌, ◌≤◌, List, [], ◌∷◌, length, Option, Some, None, Result, Ok, Err, slice_get, true, refl, sym, ap, ◌∙◌, arith}
 use Rattle.std.specs.Prelude.{IsSome, IfSome, IfNone, OnErr, is_some}
 use Rattle.std.specs.BTreeMap.{is_at}
@@ -11,7 +11,7 @@ use Rattle.std.proofs.lemmas.Cmp.{nat_cmp_total, eq_by_cmp_equiv}
 use Rattle.std.proofs.lemmas.Map.Entries.{place_from_lookup, lookup_from_place, lookup_at_gap}
 use Rattle.std.proofs.lemmas.Map.Keys.{IsDistinct-from_sorted}
 use Rattle.std.proofs.lemmas.Option.{slice_get_within}
-use Rattle.tx_timeline.specs.Places.{IsPlace, value_of}
+use Rattle.tx_timeline.specs.Indexes.{IsIndex, value_of}
 use Rattle.tx_timeline.proofs.Rising.{Rises, rises_to, is_there, is_other}
 
 pub is_less : (x y : ℕ) → x < y → nat_cmp x y ≡ Less
@@ -35,11 +35,11 @@ module _ {X : Type 0} where
   nothing : (o : Option X) → IsSome o → o ≡ None → ⊥
   nothing o some none = (let h = ap is_some none in cc (some, h))
 
-  -- the entry in a place is found
+  -- the entry at an index is found
   pub found_here : (es : List (ℕ × X)) (i t : ℕ) (x : X) → Rises es → slice_get es i ≡ Some (t, x) → find t es ≡ Some x
   found_here es i t x s h = lookup_from_place (eq_by_cmp_equiv nat_cmp_total) es i t x (IsDistinct-from_sorted nat_cmp (keys_of es) s) h
 
-  -- what is found has a place
+  -- what is found has an index
   pub found_place : (es : List (ℕ × X)) (q : ℕ) → IsSome (find q es) → (i : ℕ) × (x : X) × (slice_get es i ≡ Some (q, x))
   found_place es q some = go (find q es) refl
     where
@@ -50,7 +50,7 @@ module _ {X : Type 0} where
   pub none_found : (es : List (ℕ × X)) (q : ℕ) → es ≡ [] → find q es ≡ None
   none_found es q none = ap (find q) none
 
-  -- nothing is found between the entries before a place and the one there
+  -- nothing is found between the entries before an index and the one there
   none_between : (es : List (ℕ × X)) (i q : ℕ) → Rises es → ((j : ℕ) (e : ℕ × X) → j < i → slice_get es j ≡ Some e → e.0 < q) → ((e : ℕ × X) → slice_get es i ≡ Some e → q < e.0) → find q es ≡ None
   none_between es i q s under over = lookup_at_gap nat_cmp_total q es i s (λ j e lt p. is_greater q e.0 (under j e lt p)) (λ e p. is_less q e.0 (over e p))
 
@@ -61,8 +61,8 @@ module _ {X : Type 0} where
       let within = slice_get_within es p.0 (q, p.1) p.2 in
       rises_to es p.0 (length es - 1) (q, p.1) e s (omega arith) p.2 last
 
-  module _ (es : List (ℕ × X)) (t i : ℕ) (s : Rises es) (at : IsPlace es t i) where
-    -- the entry in the place of t is of another timestamp
+  module _ (es : List (ℕ × X)) (t i : ℕ) (s : Rises es) (at : IsIndex es t i) where
+    -- the entry in the index of t is of another timestamp
     abbrev pub IsOther : Type 0
     IsOther = (e : ℕ × X) → slice_get es i ≡ Some e → e.0 ≢ t
 
@@ -75,7 +75,7 @@ module _ {X : Type 0} where
     pub none_at : IsOther → find t es ≡ None
     none_at other = none_between es i t s at.below (λ e p. over_place other i e (omega arith) p)
 
-    -- a look-up at t finds what its place holds
+    -- a look-up at t finds what its index holds
     pub held_is : value_of t (slice_get es i) ≡ find t es
     held_is = go (value_of t (slice_get es i)) refl
       where
@@ -83,7 +83,7 @@ module _ {X : Type 0} where
         go None e = e ∙ sym (none_at (is_other t (slice_get es i) e))
         go (Some x) e = e ∙ sym (found_here es i t x s (is_there t (slice_get es i) x e))
 
-    -- no entry is before the place
+    -- no entry is before the index
     module _ (first : (i ≡ 0) ⊎ (length es < i)) where
       at_start : i ≡ 0
       at_start = elim first [ inl none ↦ none | inr past ↦ absurd (omega (arith, at.within)) ]
@@ -97,7 +97,7 @@ module _ {X : Type 0} where
         | inr ge ↦ (let same : q ≡ t = omega arith in ap (λ (u : ℕ). find u es) same ∙ none_at other)
       ]
 
-    -- the entry before the place
+    -- the entry before the index
     module _ (e : ℕ × X) (h : (i - 1 < i) × (slice_get es (i - 1) ≡ Some e)) where
       pub before_found : (e.0 < t) × (find e.0 es ≡ Some e.1)
       before_found = (at.below (i - 1) e h.0 h.1, found_here es (i - 1) e.0 e.1 s h.1)

@@ -1,6 +1,6 @@
--- Entries by their places.
+-- Entries by their indexes.
 mod Rising
--- Look-ups by places.
+-- Look-ups by indexes.
 mod Finding
 -- What a change leaves.
 mod Changing

@@ -1,4 +1,4 @@
--- Entries whose timestamps rise, by their places.
+-- Entries whose timestamps rise, by their indexes.
 use Rattle.std.proofs.Common.{◌≡◌, ◌≢◌, inl, inr, ℕ, zero, suc, ◌-◌, ◌<◌, ◌≤◌, eqb, true, false, List, [], ◌∷◌, length, get_or, Option, Some, None, slice_get, refl, sym, ap, subst, ◌∙◌, arith}
 use Rattle.std.specs.Option.{option_copied, is_some}
 use Rattle.std.specs.Map.{keys_of}
@@ -12,7 +12,7 @@ use Rattle.std.proofs.lemmas.Bool.{cases_Bool, cases_lt, eq-eqb, eqb-true, cond-
 use Rattle.std.proofs.lemmas.Cmp.{ranked, by_ranked}
 use Rattle.std.proofs.lemmas.Map.Keys.{sorted_head, sorted_tail, ge_from_not_lt}
 use Rattle.std.proofs.lemmas.Option.{slice_get_within, slice_get-get_or, get_or_from_slice_get}
-use Rattle.tx_timeline.specs.Places.{IsPlace, value_of}
+use Rattle.tx_timeline.specs.Indexes.{IsIndex, value_of}
 
 -- the entries' timestamps rise
 abbrev pub Rises : {X : Type 0} → List (ℕ × X) → Type 0
@@ -54,7 +54,7 @@ module _ {X : Type 0} where
     | inr ge ↦ (let same : i ≡ j = omega arith in omega (arith, ap (λ (x : ℕ × X). x.0) (one_place es i j d e same p q)))
   ]
 
-  -- ---- the entry in a place
+  -- ---- the entry at an index
 
   pub is_there : (t : ℕ) (o : Option (ℕ × X)) (x : X) → value_of t o ≡ Some x → o ≡ Some (t, x)
   is_there t None x h = absurd (cc h)
@@ -88,9 +88,9 @@ module _ {X : Type 0} where
         go None f h = is_other t (slice_get fs i) (ap (λ (ds : List (ℕ × X)). value_of t (slice_get ds i)) seen ∙ sym f)
         go (Some x) f h = absurd (cc h)
 
-  -- ---- places
+  -- ---- indexes
 
-  pub place_in_none : (es : List (ℕ × X)) (t : ℕ) → es ≡ [] → IsPlace es t 0
+  pub place_in_none : (es : List (ℕ × X)) (t : ℕ) → es ≡ [] → IsIndex es t 0
   place_in_none es t none = record {
     within = omega arith;
     below = λ j e lt p. absurd (omega (arith, lt));
@@ -100,7 +100,7 @@ module _ {X : Type 0} where
   module _ (es : List (ℕ × X)) (t : ℕ) (s : Rises es) where
     module _ (e : ℕ × X) (last : slice_get es (length es - 1) ≡ Some e) where
       -- behind the last
-      pub place_past : e.0 < t → IsPlace es t (length es)
+      pub place_past : e.0 < t → IsIndex es t (length es)
       place_past lt = record {
         within = omega arith;
         below = λ j d within p. omega (arith, rises_to es j (length es - 1) d e s (omega arith) p last);
@@ -108,7 +108,7 @@ module _ {X : Type 0} where
       }
 
       -- at the last
-      pub place_last : e.0 ≡ t → IsPlace es t (length es - 1)
+      pub place_last : e.0 ≡ t → IsIndex es t (length es - 1)
       place_last same = record {
         within = omega arith;
         below = λ j d within p. omega (arith, rises es j (length es - 1) d e s within p last);
@@ -124,12 +124,12 @@ module _ {X : Type 0} where
         let lower = rises_to es i j (get_or es i d) (get_or es j d) s le p q in
         is_lt_from_lt (get_or es i d).0 t (omega arith)
 
-  -- the same place in the same entries
-  pub carried : (es fs : List (ℕ × X)) (t i j : ℕ) → es ≡ fs → i ≡ j → IsPlace es t i → IsPlace fs t j
-  carried es fs t i j seen same p = subst (λ (ds : List (ℕ × X)). IsPlace ds t j) seen (subst (IsPlace es t) same p)
+  -- the same index in the same entries
+  pub carried : (es fs : List (ℕ × X)) (t i j : ℕ) → es ≡ fs → i ≡ j → IsIndex es t i → IsIndex fs t j
+  carried es fs t i j seen same p = subst (λ (ds : List (ℕ × X)). IsIndex ds t j) seen (subst (IsIndex es t) same p)
 
   -- where a search ends
-  pub place_split : (es : List (ℕ × X)) (t i : ℕ) → i ≤ length es → IsPartitionPoint (λ (e : ℕ × X). is_lt (nat_cmp e.0 t) ≡ true) (λ (e : ℕ × X). is_lt (nat_cmp e.0 t) ≡ false) es i → IsPlace es t i
+  pub place_split : (es : List (ℕ × X)) (t i : ℕ) → i ≤ length es → IsPartitionPoint (λ (e : ℕ × X). is_lt (nat_cmp e.0 t) ≡ true) (λ (e : ℕ × X). is_lt (nat_cmp e.0 t) ≡ false) es i → IsIndex es t i
   place_split es t i within h = record {
     within = within;
     below = λ j e lt p. subst (λ (y : ℕ × X). y.0 < t) (get_or_from_slice_get es j e e p) (lt_from_is_lt _ _ (h.0 j e (omega arith) lt));

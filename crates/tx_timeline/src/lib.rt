@@ -4,7 +4,7 @@
 ghost use Rattle.std.specs.Prelude.{◌≡◌, ◌↔◌, ◌⊎◌, ℕ, ◌-◌, ◌<◌, ◌≤◌, not, cond, [], length, Some, None, IsSome, IfSome, IfNone, IsTrue, OnOk, OnErr, IfErr, slice_get, option_copied};
 ghost use Rattle.std.specs.BTreeMap as tree;
 ghost use Rattle.std.specs.Ordering.{nat_cmp, is_eq};
-ghost use Rattle.tx_timeline.specs.Places.{IsPlace, value_of, goes_below};
+ghost use Rattle.tx_timeline.specs.Indexes.{IsIndex, value_of, goes_below};
 
 use std::alloc::Global;
 use std::marker::Model;
@@ -62,8 +62,8 @@ impl<X> Timeline<X> {
 
     // How many entries are below a timestamp. Takes constant time if the last one is, or is at it,
     // and else logarithmic.
-    fn place(&self, at: Ts) -> usize
-        ensures place { IsPlace self.now.entries at result }
+    fn index(&self, at: Ts) -> usize
+        ensures index { IsIndex self.now.entries at result }
         ensures ordered { tree.IsOrdered nat_cmp self.now }
     {
         let Some((last, _)) = self.entries.last() else {
@@ -78,25 +78,26 @@ impl<X> Timeline<X> {
         self.entries.partition_point(|entry| entry.0 < at)
     }
 
-    // What the entry in a place holds, if it is at this timestamp.
-    fn value_in(&self, place: usize, at: Ts) -> Option<&X>
-        ensures { option_copied result ≡ value_of at (slice_get self.now.entries place) }
+    // What the entry at an index holds, if it is at this timestamp.
+    fn value_in(&self, index: usize, at: Ts) -> Option<&X>
+        ensures { option_copied result ≡ value_of at (slice_get self.now.entries index) }
     {
-        match self.entries.get(place) {
+        match self.entries.get(index) {
             Some((found, x)) if *found == at => Some(x),
             _ => None,
         }
     }
 
-    // The entry in front of a place.
-    fn before(&self, place: usize) -> Option<(Ts, &X)>
-        ensures entry { IfSome result (λ x. (place - 1 < place) × (slice_get self.now.entries (place - 1) ≡ Some (x.0, x.1.now))) }
-        ensures none { IfNone result ((place ≡ 0) ⊎ (length self.now.entries < place)) }
+    // The entry in front of an index.
+    fn before(&self, index: usize) -> Option<(Ts, &X)>
+        ensures entry { IfSome result (λ x. (index - 1 < index)
+            × (slice_get self.now.entries (index - 1) ≡ Some (x.0, x.1.now))) }
+        ensures none { IfNone result ((index ≡ 0) ⊎ (length self.now.entries < index)) }
     {
-        if place == 0 {
+        if index == 0 {
             return None;
         }
-        let (at, x) = self.entries.get(place - 1)?;
+        let (at, x) = self.entries.get(index - 1)?;
         Some((*at, x))
     }
 
@@ -105,7 +106,7 @@ impl<X> Timeline<X> {
     pub fn get(&self, at: Ts) -> Option<&X>
         ensures { option_copied result ≡ tree.get nat_cmp self.now at }
     {
-        self.value_in(self.place(at), at)
+        self.value_in(self.index(at), at)
     }
 
     /// The last entry, in constant time.
@@ -125,10 +126,10 @@ impl<X> Timeline<X> {
         ensures nearest { IfSome result (λ x. (q : ℕ) → q ≤ bound → IsSome (tree.get nat_cmp self.now q) → q ≤ x.0) }
         ensures none { IfNone result ((q : ℕ) → q ≤ bound → tree.get nat_cmp self.now q ≡ None) }
     {
-        let place = self.place(bound);
-        match self.value_in(place, bound) {
+        let index = self.index(bound);
+        match self.value_in(index, bound) {
             Some(x) => Some((bound, x)),
-            None => self.before(place),
+            None => self.before(index),
         }
     }
 
@@ -139,8 +140,8 @@ impl<X> Timeline<X> {
         ensures newest { IfSome result (λ at. (q : ℕ) → at < q → q < bound → tree.get nat_cmp self.now q ≡ None) }
         ensures none { IfNone result ((q : ℕ) → q < bound → tree.get nat_cmp self.now q ≡ None) }
     {
-        let place = self.place(bound);
-        match self.before(place) {
+        let index = self.index(bound);
+        match self.before(index) {
             Some(last) => Some(last.0),
             None => None,
         }
@@ -152,27 +153,29 @@ impl<X: Drop> Timeline<X> {
     /// at the last timestamp or above, apart from a growth, and else moves the later entries up.
     /// `OutOfMemory` leaves the map as it was, and comes only where nothing was at the timestamp.
     pub fn insert(&mut self, at: Ts, x: X) -> Result<(), Fault>
-        ensures updates { OnOk result ((q : ℕ) → tree.get nat_cmp self.new q ≡ cond (is_eq (nat_cmp at q)) (Some x) (tree.get nat_cmp self.old q)) }
+        ensures updates { OnOk result ((q : ℕ) → tree.get nat_cmp self.new q
+            ≡ cond (is_eq (nat_cmp at q)) (Some x) (tree.get nat_cmp self.old q)) }
         ensures same { OnErr result (self.new.entries ≡ self.old.entries) }
         ensures absent { OnErr result (tree.get nat_cmp self.old at ≡ None) }
         ensures err { IfErr result (λ e. e ≡ Fault.OutOfMemory) }
     {
-        let place = self.place(at);
-        if self.value_in(place, at).is_some() {
-            self.entries[place] = (at, x);
+        let index = self.index(at);
+        if self.value_in(index, at).is_some() {
+            self.entries[index] = (at, x);
             return Ok(());
         }
-        if place == self.entries.len() {
+        if index == self.entries.len() {
             self.entries.push((at, x))?;
             return Ok(());
         }
-        self.entries.insert(place, (at, x))?;
+        self.entries.insert(index, (at, x))?;
         Ok(())
     }
 
     /// Drops all entries below a timestamp but the one at `stay`, in one pass over them.
     pub fn keep_above(&mut self, safe: Ts, stay: Option<Ts>)
-        ensures { (q : ℕ) → tree.get nat_cmp self.new q ≡ cond (goes_below safe stay q) None (tree.get nat_cmp self.old q) }
+        ensures { (q : ℕ) → tree.get nat_cmp self.new q
+            ≡ cond (goes_below safe stay q) None (tree.get nat_cmp self.old q) }
     {
         self.entries.retain(|entry| is_kept(entry.0, safe, stay));
     }

@@ -18,7 +18,7 @@ use Rattle.tx_core.proofs.runs.Consequences.{told_fate}
 use Rattle.tx_core.proofs.seats.Beginnings.{begins_all}
 use Rattle.tx_core.proofs.seats.StaysDecided.{decided_on}
 use Rattle.tx_trace.specs.declared.pending.Pending.{Pending}
-use Rattle.tx_trace.specs.declared.log.Log.{Log}
+use Rattle.tx_trace.specs.declared.log.TraceLog.{TraceLog}
 use Rattle.tx_trace.specs.Pending.{Accepted, Awaits}
 use Rattle.tx_trace.specs.Logs.{Stands, HasSteps, steps_of, kept_in, ended, Writes, Ends, Tells}
 use Rattle.tx_trace.proofs.Effects.{effect_on, accepted_apart, decision_apart}
@@ -58,7 +58,7 @@ module _ (bounds : List Key) (h : History) (x : Taken) (run : IsWorldRun bounds 
   quiet_decided : effect_in h x ≡ NoEffect → (t : ℕ) → decided (Took x ∷ h) t ≡ decided h t
   quiet_decided none t = ap (λ e. first_decided (decision (set_at h t) (accepted (Took x ∷ h) t) e t) (decided h t)) none
 
-  module _ (old new : Log) (f : HasSteps h old) where
+  module _ (old new : TraceLog) (f : HasSteps h old) where
     -- another transaction stands as it did
     others_stand : (t : ℕ) → start_in x.body ≢ Some t → (d : Declaration) → declared h t ≡ Some d → kept_in new t ≡ kept_in old t → Stands (decided (Took x ∷ h) t) d (accepted (Took x ∷ h) t) (kept_in new t)
     others_stand t apart d is same = stands_by (decided h t) (decided (Took x ∷ h) t) d (accepted h t) (accepted (Took x ∷ h) t) (kept_in old t) (kept_in new t) (other_decided t apart) (other_accepted t apart) same (f.pending t d is)

@@ -19,7 +19,7 @@ use Rattle.tx_core.proofs.runs.AllRuns.{run_told}
 use Rattle.tx_trace.specs.declared.pending.Locks.{Locks}
 use Rattle.tx_trace.specs.declared.pending.Pending.{Pending}
 use Rattle.tx_trace.specs.declared.pending.Pending.TheVariants as pending
-use Rattle.tx_trace.specs.declared.log.Log.{Log}
+use Rattle.tx_trace.specs.declared.log.TraceLog.{TraceLog}
 use Rattle.tx_trace.specs.Pending.{Accepted, AwaitsLocks, Awaits, AreAll, IsFirst}
 use Rattle.tx_trace.specs.Logs.{Stands, Keeps, Tracks, kept_in, checked_in, Enters}
 use Rattle.tx_trace.proofs.Minimums.{greatest_none}
@@ -57,7 +57,7 @@ module _ (d : Declaration) (some : d.changes ≢ []) (accepted : Accepted) (none
 
 -- ---- the declaration
 
-module _ (bounds : List Key) (h : History) (d : Declaration) (run : IsWorldRun bounds (Declared d ∷ h)) (old new : Log) (f : Keeps h old) (enters : Enters d old new) where
+module _ (bounds : List Key) (h : History) (d : Declaration) (run : IsWorldRun bounds (Declared d ∷ h)) (old new : TraceLog) (f : Keeps h old) (enters : Enters d old new) where
   inv : Inv (view bounds h)
   inv = (run_told bounds h run.0).0.sound.inv
 

@@ -24,7 +24,7 @@ use Rattle.tx_core.proofs.requests.Good.{took}
 use Rattle.tx_core.proofs.runs.AllRuns.{run_told}
 use Rattle.tx_core.proofs.view.HistoryView.{view}
 use Rattle.tx_core.proofs.view.View.{Inv, never_accepted}
-use Rattle.tx_trace.specs.declared.log.Log.{Log}
+use Rattle.tx_trace.specs.declared.log.TraceLog.{TraceLog}
 use Rattle.tx_trace.specs.Pending.{Kept}
 use Rattle.tx_trace.specs.Logs.{Keeps, HasSteps, Tracks, steps_of, kept_in, checked_in, Locked, Accepts}
 use Rattle.tx_trace.proofs.Effects.{stays_by}
@@ -125,7 +125,7 @@ module _ (bounds : List Key) (h : History) (n : ℕ) (b : Prewrite) (l m : ℕ) 
       let same : of ≡ d = some_same of d (sym run.1.allowed.stands ∙ (ap (declared h) (start_is t k e) ∙ is)) in
       some_same b.mutation (mutation.Insert v) (sym run.1.allowed.mutation ∙ (ap (mutation_at of.changes) (key_is t k e) ∙ (ap (λ (y : Declaration). mutation_at y.changes k) same ∙ ins)))
 
-  module _ (some : of.changes ≢ []) (old new : Log) (f : Keeps h old) (a : Accepts b m old new) where
+  module _ (some : of.changes ≢ []) (old new : TraceLog) (f : Keeps h old) (a : Accepts b m old new) where
     unaccepted : (v : Value) → b.mutation ≡ mutation.Insert v → checked_in old b.start b.key ≡ false → accepted h b.start b.key ≡ None
     unaccepted v ins unchecked = none_of (accepted h b.start b.key) (λ was. (let e = f.1.inserts b.start of b.key v run.1.allowed.stands (run.1.allowed.mutation ∙ ap Some ins) was in cc (e, unchecked)))
 

@@ -22,7 +22,7 @@ use Rattle.tx_core.proofs.Basics.{nat_test, nat_same, key_test, key_same, some_s
 use Rattle.tx_core.proofs.requests.Good.{took}
 use Rattle.tx_core.proofs.runs.Consequences.{accepted_two_phase, prewritten_accepted}
 use Rattle.tx_trace.specs.declared.pending.Pending.{Pending}
-use Rattle.tx_trace.specs.declared.log.Log.{Log}
+use Rattle.tx_trace.specs.declared.log.TraceLog.{TraceLog}
 use Rattle.tx_trace.specs.Pending.{Awaits, Turns}
 use Rattle.tx_trace.specs.Logs.{Stands, HasSteps, steps_of, kept_in, Closes, Locked}
 use Rattle.tx_trace.proofs.Waiting.{IsNew, Gains, comes}
@@ -103,7 +103,7 @@ module _ (bounds : List Key) (h : History) (n : ℕ) (b : Prewrite) (l m : ℕ) 
 
   -- ---- what is kept
 
-  module _ (old new : Log) (f : HasSteps h old) (seen : List Step) (checks : checking (body.Prewrite b) (effect_in h x) ≡ seen) where
+  module _ (old new : TraceLog) (f : HasSteps h old) (seen : List Step) (checks : checking (body.Prewrite b) (effect_in h x) ≡ seen) where
     others_of : (p : Option Pending) (kept : ℕ → Option Pending) → ((q : ℕ) → kept q ≡ cond (t == q) p (kept_in old q)) → (q : ℕ) → q ≢ t → kept q ≡ kept_in old q
     others_of p kept changed q apart = changed q ∙ elim (nat_test t q) [ inl y ↦ absurd (apart (sym y.1)) | inr y ↦ cond_false (t == q) p (kept_in old q) y.0 ]
 

@@ -9,7 +9,7 @@ use Rattle.std.specs.declared.cmp.Ordering.TheVariants.{Less, Equal, Greater}
 use Rattle.std.specs.Ordering.{is_eq, ordering_then}
 use Rattle.tx_types.specs.declared.key.Key.{Key}
 use Rattle.tx_core.specs.Decisions.{accepted, decided}
-use Rattle.tx_trace.specs.declared.log.Log.{Log}
+use Rattle.tx_trace.specs.declared.log.TraceLog.{TraceLog}
 use Rattle.tx_trace.specs.Logs.{Stands, steps_of, kept_in, checked_in, by_start, Stays}
 use Rattle.tx_trace.proofs.KeySets.{at_is}
 
@@ -40,7 +40,7 @@ on_err_is (Ok x) A a = tt
 on_err_is (Err e) A a = a
 
 -- a log with the same parts
-pub stays_same : (old new : Log) → steps_of new ≡ steps_of old → ((t : ℕ) → kept_in new t ≡ kept_in old t) → ((t : ℕ) (k : Key) → checked_in new t k ≡ checked_in old t k) → Stays old new
+pub stays_same : (old new : TraceLog) → steps_of new ≡ steps_of old → ((t : ℕ) → kept_in new t ≡ kept_in old t) → ((t : ℕ) (k : Key) → checked_in new t k ≡ checked_in old t k) → Stays old new
 stays_same old new steps kept still h f = (
   record { shadows = steps ∙ f.0.shadows; pending = λ t d is. subst (Stands (decided h t) d (accepted h t)) (sym (kept t)) (f.0.pending t d is) },
   record { accepts = λ t k e. f.1.accepts t k (sym (still t k) ∙ e); inserts = λ t d k v is ins some. still t k ∙ f.1.inserts t d k v is ins some },

@@ -14,7 +14,7 @@ use Rattle.tx_core.specs.Histories.{History}
 use Rattle.tx_core.specs.Decisions.{accepted, decided}
 use Rattle.tx_trace.specs.declared.pending.Pending.{Pending}
 use Rattle.tx_trace.specs.declared.pending.Pending.TheVariants as pending
-use Rattle.tx_trace.specs.declared.log.Log.{Log}
+use Rattle.tx_trace.specs.declared.log.TraceLog.{TraceLog}
 use Rattle.tx_trace.specs.Logs.{Stands, Keeps, GoesOn, kept_in, Stays as Remains}
 use Rattle.tx_trace.specs.Traces.{Noted, waits_of, pending_of, noted, kept_of, Traces, Adds, Stays}
 use Rattle.tx_trace.proofs.Requests.{on_ok}
@@ -27,20 +27,20 @@ seen : (t : ℕ) (entries : List (ℕ × Pending)) → kept_of (map (λ e. (e.0,
 seen t [] = refl
 seen t (e ∷ es) = elim (cases_Bool (tree.is_at (nat_cmp t) e.0)) [ inl x ↦ rw x (ap Some (there_and_back e.1)) | inr x ↦ rw x (seen t es) ]
 
-kept_is : (log : Log) (t : ℕ) → kept_of (noted log).waits t ≡ kept_in log t
+kept_is : (log : TraceLog) (t : ℕ) → kept_of (noted log).waits t ≡ kept_in log t
 kept_is log t = seen t log.pending.entries
 
-pub outward : (h : History) (log : Log) → Keeps h log → Traces h (noted log)
+pub outward : (h : History) (log : TraceLog) → Keeps h log → Traces h (noted log)
 outward h log k = (record { shadows = k.0.shadows; pending = λ t d is. subst (Stands (decided h t) d (accepted h t)) (sym (kept_is log t)) (k.0.pending t d is) }, k.1)
 
-pub inward : (h : History) (log : Log) → Traces h (noted log) → Keeps h log
+pub inward : (h : History) (log : TraceLog) → Traces h (noted log) → Keeps h log
 inward h log k = (record { shadows = k.0.shadows; pending = λ t d is. subst (Stands (decided h t) d (accepted h t)) (kept_is log t) (k.0.pending t d is) }, k.1)
 
 -- what is said of a log is said of its trace
-pub adds_out : (old new : Log) (e : Event) → GoesOn old e new → Adds (noted old) e (noted new)
+pub adds_out : (old new : TraceLog) (e : Event) → GoesOn old e new → Adds (noted old) e (noted new)
 adds_out old new e goes bounds h run t = outward (e ∷ h) new (goes bounds h run (inward h old t))
 
-pub stays_out : (old new : Log) → Remains old new → Stays (noted old) (noted new)
+pub stays_out : (old new : TraceLog) → Remains old new → Stays (noted old) (noted new)
 stays_out old new same h t = outward h new (same h (inward h old t))
 
 pub on_err : {T E : Type 0} (r : Result T E) (A B : Type 0) → (A → B) → OnErr r A → OnErr r B
@@ -49,7 +49,7 @@ on_err (Err e) A B f a = f a
 
 -- ---- by what a call gave
 
-module _ {E : Type 0} (r : Result (Unit {0}) E) (old new : Log) (o : Noted) (is : noted old ≡ o) where
+module _ {E : Type 0} (r : Result (Unit {0}) E) (old new : TraceLog) (o : Noted) (is : noted old ≡ o) where
   pub adds_view : (e : Event) → OnOk r (GoesOn old e new) → OnOk r (Adds o e (noted new))
   adds_view e ok = subst (λ (n : Noted). OnOk r (Adds n e (noted new))) is (on_ok r (GoesOn old e new) (Adds (noted old) e (noted new)) (adds_out old new e) ok)
 

@@ -28,7 +28,7 @@ use Rattle.tx_core.specs.Worlds.{IsWorldRun}
 use Rattle.tx_core.specs.Shadow.{checking, reading}
 use Rattle.tx_core.proofs.Basics.{some_of}
 use Rattle.tx_core.proofs.requests.Good.{took}
-use Rattle.tx_trace.specs.declared.log.Log.{Log}
+use Rattle.tx_trace.specs.declared.log.TraceLog.{TraceLog}
 use Rattle.tx_trace.specs.Logs.{steps_of, checked_in, Keeps, Tracks, GoesOn, Writes, Tells, Prewrites}
 use Rattle.tx_trace.proofs.Answering.{reads, tells}
 use Rattle.tx_trace.proofs.Effects.{none_put}
@@ -41,10 +41,10 @@ on_ok (Err e) A B f a = tt
 
 -- the trace goes on with this request and answer, of whatever region and with
 -- whatever number loaded
-abbrev pub Follow : Log → Body → Answer → Log → Type 0
+abbrev pub Follow : TraceLog → Body → Answer → TraceLog → Type 0
 Follow old body a new = (x : Taken) → x.body ≡ body → x.answer ≡ a → GoesOn old (Took x) new
 
-module _ (old new : Log) where
+module _ (old new : TraceLog) where
   of_taken : (body : Body) (a : Answer) → ((bounds : List Key) (h : History) (n l : ℕ) → IsWorldRun bounds (Took (took n body l a) ∷ h) → Keeps h old → Keeps (Took (took n body l a) ∷ h) new) → Follow old body a new
   of_taken body a all x e f bounds h run t =
       let same : took x.region body x.loaded a ≡ x = λ i. record { region = x.region; body = sym e i; loaded = x.loaded; answer = sym f i } in
@@ -129,7 +129,7 @@ module _ (old new : Log) where
 
 -- ---- requests of a whole region
 
-pub region_adds : (old : Log) (asked : Body) (a : Answer) → start_in asked ≡ None → reading asked a ≡ [] → ((e : Effect) → checking asked e ≡ []) → ((b : Prewrite) → asked ≢ body.Prewrite b) → Follow old asked a old
+pub region_adds : (old : TraceLog) (asked : Body) (a : Answer) → start_in asked ≡ None → reading asked a ≡ [] → ((e : Effect) → checking asked e ≡ []) → ((b : Prewrite) → asked ≢ body.Prewrite b) → Follow old asked a old
 region_adds old asked a none unread unchecked other = of_taken old old asked a (λ bounds h n l run t. (
   reads bounds h (took n asked l a) run old old t.0 none (unchecked (effect_in h (took n asked l a))) (record { steps = sym (ap (λ r. r ++ steps_of old) unread); same = λ q. refl; still = λ q k. refl }),
   apart_tracks old old h (took n asked l a) (λ b m e f. other b e) (λ q k. refl) t.1,

@@ -26,7 +26,7 @@ use Rattle.tx_core.specs.Decisions.{accepted, decided, fate_in}
 use Rattle.tx_core.specs.Worlds.{IsWorldRun}
 use Rattle.tx_core.specs.Shadow.{shadow}
 use Rattle.tx_trace.specs.declared.pending.Pending.{Pending}
-use Rattle.tx_trace.specs.declared.log.Log.{Log}
+use Rattle.tx_trace.specs.declared.log.TraceLog.{TraceLog}
 use Rattle.tx_trace.specs.Pending.{Accepted, Awaits, Kept, IsFirst, AcceptsIn}
 
 -- a declared transaction that is not decided is kept with what it waits for, one that is
@@ -50,14 +50,15 @@ Checked = ℕ → Key → Bool
 -- insert is checked where it is first accepted, whatever is decided of its transaction.
 pub record Tracks (h : History) (checked : Checked) : Type 0 where
   pub accepts : (t : ℕ) (k : Key) → checked t k ≡ true → accepted h t k ≢ None
-  pub inserts : (t : ℕ) (d : Declaration) (k : Key) (v : Value) → declared h t ≡ Some d → mutation_at d.changes k ≡ Some (Insert v) → accepted h t k ≢ None → checked t k ≡ true
+  pub inserts : (t : ℕ) (d : Declaration) (k : Key) (v : Value) → declared h t ≡ Some d
+      → mutation_at d.changes k ≡ Some (Insert v) → accepted h t k ≢ None → checked t k ≡ true
 
 -- the steps, newest first
-abbrev pub steps_of : Log → List Step
+abbrev pub steps_of : TraceLog → List Step
 steps_of log = reverse log.steps.items
 
 -- what it keeps
-abbrev pub kept_in : Log → Kept
+abbrev pub kept_in : TraceLog → Kept
 kept_in log = tree.get nat_cmp log.pending
 
 -- the order of the pairs of a start and a key
@@ -65,23 +66,23 @@ abbrev pub by_start : ℕ × Key → ℕ × Key → Ordering
 by_start p q = ordering_then (nat_cmp p.0 q.0) (slice_cmp nat_cmp p.1 q.1)
 
 -- which keys it has as checked
-abbrev pub checked_in : Log → Checked
+abbrev pub checked_in : TraceLog → Checked
 checked_in log t k = sorted.contains by_start log.checked (t, k)
 
 -- its steps and what it keeps are of the history
-abbrev pub HasSteps : History → Log → Type 0
+abbrev pub HasSteps : History → TraceLog → Type 0
 HasSteps h log = Follows h (steps_of log) (kept_in log)
 
 -- The log is of the history: it has just the steps of the machine that are read off it.
-abbrev pub Keeps : History → Log → Type 0
+abbrev pub Keeps : History → TraceLog → Type 0
 Keeps h log = HasSteps h log × Tracks h (checked_in log)
 
 -- The log goes on with an event, whatever run it is of.
-abbrev pub GoesOn : Log → Event → Log → Type 0
+abbrev pub GoesOn : TraceLog → Event → TraceLog → Type 0
 GoesOn old e new = (bounds : List Key) (h : History) → IsWorldRun bounds (e ∷ h) → Keeps h old → Keeps (e ∷ h) new
 
 -- the log is of the histories that it was of
-abbrev pub Stays : Log → Log → Type 0
+abbrev pub Stays : TraceLog → TraceLog → Type 0
 Stays old new = (h : History) → Keeps h old → Keeps h new
 
 -- ---- parts of an event
@@ -92,13 +93,13 @@ ended t (Committed c) = step.Commit t c
 ended t Aborted = step.Abort t
 
 -- some steps are added, and what is kept is the same
-pub record Writes (more : List Step) (old new : Log) : Type 0 where
+pub record Writes (more : List Step) (old new : TraceLog) : Type 0 where
   pub steps : steps_of new ≡ more ++ steps_of old
   pub same : (t : ℕ) → kept_in new t ≡ kept_in old t
   pub still : (t : ℕ) (k : Key) → checked_in new t k ≡ checked_in old t k
 
 -- a transaction that is kept is decided: its step is added, and it is kept no more
-pub record Decides (t : ℕ) (end : Fate) (old new : Log) : Type 0 where
+pub record Decides (t : ℕ) (end : Fate) (old new : TraceLog) : Type 0 where
   pub was : Pending
   pub before : kept_in old t ≡ Some was
   pub steps : steps_of new ≡ ended t end ∷ steps_of old
@@ -106,54 +107,57 @@ pub record Decides (t : ℕ) (end : Fate) (old new : Log) : Type 0 where
   pub still : (q : ℕ) (k : Key) → checked_in new q k ≡ checked_in old q k
 
 -- a transaction is decided, if it is kept
-abbrev pub Ends : ℕ → Fate → Log → Log → Type 0
+abbrev pub Ends : ℕ → Fate → TraceLog → TraceLog → Type 0
 Ends t end old new = ((kept_in old t ≡ None) × Writes [] old new) ⊎ Decides t end old new
 
 -- an answer that tells a fate decides
-abbrev pub Tells : ℕ → Option Fate → Log → Log → Type 0
+abbrev pub Tells : ℕ → Option Fate → TraceLog → TraceLog → Type 0
 Tells t None old new = Writes [] old new
 Tells t (Some end) old new = Ends t end old new
 
 -- a transaction is committed, where that is completed: its step is added, and it is kept no more
-abbrev pub Closes : ℕ → List Step → Kept → Log → Option ℕ → Type 0
+abbrev pub Closes : ℕ → List Step → Kept → TraceLog → Option ℕ → Type 0
 Closes t steps between new None = (steps_of new ≡ steps) × ((q : ℕ) → kept_in new q ≡ between q)
-Closes t steps between new (Some c) = (steps_of new ≡ step.Commit t c ∷ steps) × ((q : ℕ) → kept_in new q ≡ cond (t == q) None (between q))
+Closes t steps between new (Some c) = (steps_of new ≡ step.Commit t c ∷ steps)
+    × ((q : ℕ) → kept_in new q ≡ cond (t == q) None (between q))
 
 -- A key of a transaction is locked with the minimum m, after these steps and where these are kept:
 -- where the transaction is kept, the key is accepted, and the last key commits it.
-pub record Locked (t : ℕ) (k : Key) (m : ℕ) (steps : List Step) (kept : Kept) (new : Log) : Type 0 where
+pub record Locked (t : ℕ) (k : Key) (m : ℕ) (steps : List Step) (kept : Kept) (new : TraceLog) : Type 0 where
   pub between : Kept
   pub commit : Option ℕ
   pub accepts : AcceptsIn t k m kept between commit
   pub closes : Closes t steps between new commit
 
 -- the read of an insert's check is added, and its key is checked from now on
-pub record Reads (b : Prewrite) (old new : Log) : Type 0 where
+pub record Reads (b : Prewrite) (old new : TraceLog) : Type 0 where
   pub inserts : check_by b.mutation b.start ≡ Some b.start
   pub first : checked_in old b.start b.key ≡ false
   pub steps : steps_of new ≡ step.Read b.key b.start None ∷ steps_of old
   pub same : (t : ℕ) → kept_in new t ≡ kept_in old t
-  pub keys : (t : ℕ) (k : Key) → checked_in new t k ≡ cond ((b.start == t) && bytes_eq b.key k) true (checked_in old t k)
+  pub keys : (t : ℕ) (k : Key) → checked_in new t k
+      ≡ cond ((b.start == t) && bytes_eq b.key k) true (checked_in old t k)
 
 -- A prewrite was accepted: where it inserts a key that is not checked yet, the read of its check is
 -- added.
-abbrev pub Checks : Prewrite → Log → Log → Type 0
-Checks b old new = ((check_by b.mutation b.start ≡ None) × Writes [] old new) ⊎ (((checked_in old b.start b.key ≡ true) × Writes [] old new) ⊎ Reads b old new)
+abbrev pub Checks : Prewrite → TraceLog → TraceLog → Type 0
+Checks b old new = ((check_by b.mutation b.start ≡ None) × Writes [] old new)
+    ⊎ (((checked_in old b.start b.key ≡ true) × Writes [] old new) ⊎ Reads b old new)
 
 -- a prewrite is accepted with the minimum m: its check comes before what its lock decides
-pub record Accepts (b : Prewrite) (m : ℕ) (old new : Log) : Type 0 where
-  pub between : Log
+pub record Accepts (b : Prewrite) (m : ℕ) (old new : TraceLog) : Type 0 where
+  pub between : TraceLog
   pub checks : Checks b old between
   pub locks : Locked b.start b.key m (steps_of between) (kept_in between) new
   pub still : (t : ℕ) (k : Key) → checked_in new t k ≡ checked_in between t k
 
 -- a prewrite is answered
-abbrev pub Prewrites : Prewrite → Answer → Log → Log → Type 0
+abbrev pub Prewrites : Prewrite → Answer → TraceLog → TraceLog → Type 0
 Prewrites b (Prewritten m) old new = Accepts b m old new
 Prewrites b a old new = Tells b.start (fate_in a) old new
 
 -- a transaction is kept from its declaration on
-pub record Enters (d : Declaration) (old new : Log) : Type 0 where
+pub record Enters (d : Declaration) (old new : TraceLog) : Type 0 where
   pub first : Pending
   pub is : IsFirst d first
   pub steps : steps_of new ≡ step.Declare d.start d.changes ∷ steps_of old

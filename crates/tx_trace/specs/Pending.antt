@@ -11,6 +11,7 @@ use Rattle.tx_types.specs.declared.mutation.Mode.TheVariants.{TwoPhase, Async}
 use Rattle.tx_machine.specs.Keys.{mutation_at}
 use Rattle.tx_core.specs.declared.event.Declaration.{Declaration}
 use Rattle.tx_core.specs.Decisions.{Acceptance}
+use Rattle.tx_core.specs.Laws.{greatest_of}
 use Rattle.tx_trace.specs.declared.pending.Locks.{Locks}
 use Rattle.tx_trace.specs.declared.pending.Pending.{Pending}
 use Rattle.tx_trace.specs.declared.pending.Pending.TheVariants as pending
@@ -32,8 +33,7 @@ minimum_in (Some by) = by.lock.min
 
 -- the greatest minimum of the keys of a set that are accepted
 abbrev pub greatest_in : Accepted → List Change → ℕ
-greatest_in accepted [] = 0
-greatest_in accepted (c ∷ cs) = max (minimum_in (accepted c.key)) (greatest_in accepted cs)
+greatest_in accepted set = greatest_of (λ k. minimum_in (accepted k)) set
 
 -- a key of the set was accepted two-phase
 pub record HasTwoPhase (set : List Change) (accepted : Accepted) : Type 0 where
@@ -89,7 +89,8 @@ Completes locks (Some commit) = ((k : Key) → has locks.left k ≡ false) × (c
 abbrev pub Accepts : Pending → Key → ℕ → Pending → Option ℕ → Type 0
 Accepts pending.Primary k m new commit = (new ≡ pending.Primary) × (commit ≡ None)
 Accepts (pending.Locks old) k m pending.Primary commit = (has old.left k ≡ true) × (m ≡ 0) × (commit ≡ None)
-Accepts (pending.Locks old) k m (pending.Locks new) commit = ((has old.left k ≡ false) × (new ≡ old) × (commit ≡ None)) ⊎ (Takes old k m new × Completes new commit)
+Accepts (pending.Locks old) k m (pending.Locks new) commit = ((has old.left k ≡ false) × (new ≡ old) × (commit ≡ None))
+    ⊎ (Takes old k m new × Completes new commit)
 
 -- ---- of all transactions
 
@@ -107,4 +108,5 @@ pub record Turns (t : ℕ) (k : Key) (m : ℕ) (old new : Kept) (commit : Option
 
 -- if it is kept, its key k is accepted
 abbrev pub AcceptsIn : ℕ → Key → ℕ → Kept → Kept → Option ℕ → Type 0
-AcceptsIn t k m old new commit = ((old t ≡ None) × ((q : ℕ) → new q ≡ old q) × (commit ≡ None)) ⊎ Turns t k m old new commit
+AcceptsIn t k m old new commit = ((old t ≡ None) × ((q : ℕ) → new q ≡ old q) × (commit ≡ None))
+    ⊎ Turns t k m old new commit

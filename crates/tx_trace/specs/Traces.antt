@@ -11,7 +11,7 @@ use Rattle.tx_core.specs.Histories.{History}
 use Rattle.tx_core.specs.Worlds.{IsWorldRun}
 use Rattle.tx_trace.specs.declared.pending.Pending.{Pending}
 use Rattle.tx_trace.specs.declared.pending.Pending.TheVariants as pending
-use Rattle.tx_trace.specs.declared.log.Log.{Log}
+use Rattle.tx_trace.specs.declared.log.TraceLog.{TraceLog}
 use Rattle.tx_trace.specs.Pending.{Kept}
 use Rattle.tx_trace.specs.Logs.{Follows, Checked, Tracks, by_start}
 
@@ -36,8 +36,12 @@ pending_of None = pending.Primary
 pending_of (Some x) = pending.Locks (record { left = record { keys = x.0 }; min = x.1 })
 
 -- what a log has
-abbrev pub noted : Log → Noted
-noted log = record { steps = reverse log.steps.items; waits = map (λ e. (e.0, waits_of e.1)) log.pending.entries; checked = log.checked.keys }
+abbrev pub noted : TraceLog → Noted
+noted log = record {
+  steps = reverse log.steps.items;
+  waits = map (λ e. (e.0, waits_of e.1)) log.pending.entries;
+  checked = log.checked.keys;
+}
 
 -- what each transaction waits for
 abbrev pub kept_of : List (ℕ × Waits) → Kept

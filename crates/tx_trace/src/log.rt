@@ -13,14 +13,14 @@ ghost use Rattle.tx_trace.specs.Logs.{Keeps, GoesOn, Stays, steps_of, kept_in, c
 use crate::pending::{Pending, accept_in};
 use std::alloc::Global;
 use std::collections::{BTreeMap, BTreeSet};
-use tx_core::{Answer, Body, Declaration, Get, Outcome, Prewrite, Scan};
+use tx_core::{Answer, Body, Declaration, Get, Outcome, Prewrite, Scan, fate_in};
 use tx_machine::{ScanRead, Step};
 use tx_types::{Fate, Fault, Key, Mutation, Ts};
 
 /// The machine's steps of the events so far, oldest first, what each transaction that is declared
 /// and not decided waits for, and which keys were checked that a transaction inserts.
 #[derive(Drop)]
-pub(crate) struct Log {
+pub(crate) struct TraceLog {
     alloc: Global,
     steps: Vec<Step>,
     pending: BTreeMap<Ts, Pending>,
@@ -45,24 +45,12 @@ fn declaring(of: &Declaration) -> Result<Step, Fault>
     Ok(Step::Declare(of.start, of.changes.clone()?))
 }
 
-// The fate that an answer tells of the transaction that its request names, if it tells one.
-fn fate_told(answer: &Answer) -> Option<Fate>
-    ensures { result ≡ fate_in answer.now }
-{
-    match answer {
-        Answer::Committed(commit) => Some(Fate::Committed(*commit)),
-        Answer::AlreadyCommitted { commit } => Some(Fate::Committed(*commit)),
-        Answer::RolledBack | Answer::Missing | Answer::AlreadyRolledBack => Some(Fate::Aborted),
-        _ => None,
-    }
-}
-
-impl Log {
+impl TraceLog {
     /// The log of no event.
-    pub fn new(alloc: Global) -> Log
+    pub fn new(alloc: Global) -> TraceLog
         ensures { Keeps [] result }
     {
-        Log {
+        TraceLog {
             alloc,
             steps: Vec::new(alloc),
             pending: BTreeMap::new(alloc),
@@ -120,7 +108,7 @@ impl Log {
         ensures same { OnErr result (Stays self.old self.new) }
         ensures err { IfErr result (λ e. e ≡ Fault.OutOfMemory) }
     {
-        match fate_told(answer) {
+        match fate_in(answer) {
             Some(fate) => self.end(start, fate),
             None => Ok(()),
         }
@@ -222,7 +210,8 @@ impl Log {
 
     /// Goes on with a request that a region took, and its answer.
     pub fn took(&mut self, body: &Body, answer: &Answer) -> Result<(), Fault>
-        ensures ok { OnOk result ((x : Taken) → x.body ≡ body.now → x.answer ≡ answer.now → GoesOn self.old (event.Took x) self.new) }
+        ensures ok { OnOk result ((x : Taken) → x.body ≡ body.now → x.answer ≡ answer.now
+            → GoesOn self.old (event.Took x) self.new) }
         ensures same { OnErr result (Stays self.old self.new) }
         ensures err { IfErr result (λ e. e ≡ Fault.OutOfMemory) }
     {

@@ -4,7 +4,7 @@ ghost use Rattle.tx_core.specs.declared.event.Event.TheVariants as event;
 ghost use Rattle.tx_core.specs.declared.event.Taken.{Taken};
 ghost use Rattle.tx_trace.specs.Traces.{Traces, Adds, Stays};
 
-use crate::log::Log;
+use crate::log::TraceLog;
 use std::alloc::Global;
 use std::marker::Model;
 use tx_core::{Answer, Body, Declaration, Event, Outcome};
@@ -17,7 +17,7 @@ use tx_types::{Fault, Ts};
 /// and not decided.
 #[derive(Drop)]
 pub struct Trace {
-    log: Log,
+    log: TraceLog,
 }
 
 impl Model for Trace {
@@ -34,7 +34,7 @@ impl Trace {
         ensures { Traces [] result }
     {
         Trace {
-            log: Log::new(alloc),
+            log: TraceLog::new(alloc),
         }
     }
 
@@ -49,7 +49,8 @@ impl Trace {
     /// Goes on with a request that a region took, and its answer.
     #[inline(never)]
     pub fn took(&mut self, body: &Body, answer: &Answer) -> Result<(), Fault>
-        ensures ok { OnOk result ((x : Taken) → x.body ≡ body.now → x.answer ≡ answer.now → Adds self.old (event.Took x) self.new) }
+        ensures ok { OnOk result ((x : Taken) → x.body ≡ body.now → x.answer ≡ answer.now
+            → Adds self.old (event.Took x) self.new) }
         ensures same { OnErr result (Stays self.old self.new) }
         ensures err { IfErr result (λ e. e ≡ Fault.OutOfMemory) }
     {

@@ -1,4 +1,4 @@
--- The buffer by places: what it declares, and what stands in it.
+-- The buffer by indexes: what it declares, and what stands in it.
 use Rattle.std.proofs.Common.{◌≡◌, ℕ, ◌+◌, ◌<◌, ◌≤◌, inl, inr, zero, suc, Bool, true, false, cond, map, length, nat_lt, List, [], ◌∷◌, Option, Some, None, bytes_eq, refl, ap, subst, ◌∙◌, arith}
 use Rattle.tx_types.specs.declared.key.Key.{Key}
 use Rattle.tx_types.specs.declared.mutation.Change.{Change}
@@ -13,27 +13,27 @@ use Rattle.tx_core.proofs.Basics.{key_test, key_same}
 use Rattle.tx_transaction.specs.declared.state.Terms.{Terms}
 use Rattle.tx_transaction.specs.declared.state.Phase.{Phase}
 use Rattle.tx_transaction.specs.declared.state.Progress.{Progress}
-use Rattle.tx_transaction.specs.Buffers.{Entries, touched, changes_of, keys_of, key_at, mutation_in, with_progress, wants, place_from, first_place, fresh}
+use Rattle.tx_transaction.specs.Buffers.{Entries, touched, changes_of, keys_of, key_at, mutation_in, with_progress, wants, index_from, first_index, fresh}
 use Rattle.tx_transaction.specs.Sessions.{others_at, declaration, declaration_of, Few}
 use Rattle.tx_types.specs.declared.limits.TheConstants.{MAX_ASYNC_KEYS}
 
--- ---- places
+-- ---- indexes
 
-place_within : (n : ℕ) (x : Phase) (es : Entries) (j : ℕ) → place_from n x es ≡ Some j → (n ≤ j) × (j < n + length es)
+place_within : (n : ℕ) (x : Phase) (es : Entries) (j : ℕ) → index_from n x es ≡ Some j → (n ≤ j) × (j < n + length es)
 place_within n x [] j e = absurd (cc (e))
 place_within n x (a ∷ es) j e = go (wants x a.1.progress) refl (place_within (n + 1) x es j)
   where
-    go : (b : Bool) → wants x a.1.progress ≡ b → (place_from (n + 1) x es ≡ Some j → (n + 1 ≤ j) × (j < n + 1 + length es)) → (n ≤ j) × (j < n + length (a ∷ es))
+    go : (b : Bool) → wants x a.1.progress ≡ b → (index_from (n + 1) x es ≡ Some j → (n + 1 ≤ j) × (j < n + 1 + length es)) → (n ≤ j) × (j < n + length (a ∷ es))
     go true is rest = (let now : Some n ≡ Some j = rw is at e in let same : n ≡ j = cc (now) in (omega (arith, same), omega (arith, same)))
-    go false is rest = (let old : place_from (n + 1) x es ≡ Some j = rw is at e in let r = rest old in (omega (arith, r.0), omega (arith, r.1)))
+    go false is rest = (let old : index_from (n + 1) x es ≡ Some j = rw is at e in let r = rest old in (omega (arith, r.0), omega (arith, r.1)))
 
--- a place that is found is one of the buffer
-pub first_within : (x : Phase) (es : Entries) (j : ℕ) → first_place x es ≡ Some j → j < length es
+-- an index that is found is one of the buffer
+pub first_within : (x : Phase) (es : Entries) (j : ℕ) → first_index x es ≡ Some j → j < length es
 first_within x es j e = omega (arith, (place_within 0 x es j e).1)
 
 -- ---- write sets
 
--- what a write set does to the key of a place
+-- what a write set does to the key of an index
 pub mutation_there : (es : Entries) (i : ℕ) → i < length es → IsDistinct (changes_of es) → mutation_at (changes_of es) (key_at es i) ≡ Some (mutation_in es i)
 mutation_there [] i lt d = absurd (omega (arith, lt))
 mutation_there (e ∷ es) zero lt d = rw (key_same e.0) refl
@@ -44,7 +44,7 @@ mutation_there (e ∷ es) (suc i) lt d =
       | inr y ↦ rw y.0 rest
     ]
 
--- the key of the first place is the primary, that of no other is
+-- the key of the first index is the primary, that of no other is
 pub first_there : (es : Entries) → 0 < length es → is_first (changes_of es) (key_at es 0) ≡ true
 first_there [] lt = absurd (omega (arith, lt))
 first_there (e ∷ es) lt = key_same e.0

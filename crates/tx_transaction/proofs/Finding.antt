@@ -3,7 +3,7 @@ use Rattle.std.proofs.Common.{◌≡◌, ℕ, ◌<◌, zero, suc, true, false, l
 use Rattle.std.specs.Map.{lookup}
 use Rattle.tx_types.specs.declared.key.Key.{Key}
 use Rattle.tx_core.proofs.Basics.{key_test, key_same}
-use Rattle.tx_transaction.specs.declared.state.Entry.{Entry}
+use Rattle.tx_transaction.specs.declared.state.BufferEntry.{BufferEntry}
 use Rattle.tx_transaction.specs.Buffers.{Entries, key_at, mutation_in, buffered}
 
 -- a key is the same either way round
@@ -14,14 +14,14 @@ turned j k = elim (key_test j k) [
 ]
 
 -- what the map finds is what is buffered
-pub found : (es : Entries) (k : Key) → option_map (λ (e : Entry). e.mutation) (lookup (λ q. bytes_eq k q) es) ≡ buffered es k
+pub found : (es : Entries) (k : Key) → option_map (λ (e : BufferEntry). e.mutation) (lookup (λ q. bytes_eq k q) es) ≡ buffered es k
 found [] k = refl
 found (e ∷ es) k = elim (key_test e.0 k) [
   | inl x ↦ rw (x.0, sym (turned e.0 k) ∙ x.0) refl
   | inr x ↦ rw (x.0, sym (turned e.0 k) ∙ x.0) (found es k)
 ]
 
--- the first place of a key is where it is found
+-- the first index of a key is where it is found
 pub first_there : (es : Entries) (k : Key) (i : ℕ) → i < length es → ((j : ℕ) → j < i → bytes_eq (key_at es j) k ≡ false) → bytes_eq (key_at es i) k ≡ true → buffered es k ≡ Some (mutation_in es i)
 first_there [] k i lt below here = absurd (omega arith)
 first_there (e ∷ es) k zero lt below here = rw here refl

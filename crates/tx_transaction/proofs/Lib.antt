@@ -1,8 +1,8 @@
--- The buffer by places.
+-- The buffer by indexes.
 pub mod Places
 -- Keys that are looked up in a buffer.
 pub mod Finding
--- The buffer by places: what it declares, and what stands in it.
+-- The buffer by indexes: what it declares, and what stands in it.
 pub mod Entries
 -- What is known of a fate stays, and which rollbacks are due.
 pub mod Turns

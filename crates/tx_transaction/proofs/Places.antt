@@ -1,4 +1,4 @@
--- The buffer by places.
+-- The buffer by indexes.
 use Rattle.std.proofs.Common.{◌++◌, ◌||◌, ◌≤◌, max, inl, inr, take, nat_eq, bytes_eq, ◌≡◌, ℕ, ◌+◌, ◌<◌, zero, suc, Bool, true, false, length, List, [], ◌∷◌, Some, None, refl, sym, ap, ◌∙◌, arith}
 use Rattle.std.specs.Prelude.{slice_get}
 use Rattle.std.specs.Map.{values_of, keys_of}
@@ -11,37 +11,37 @@ use Rattle.indexmap.specs.Layout.{set_value_at}
 use Rattle.tx_types.specs.declared.key.Key.{Key}
 use Rattle.tx_transaction.specs.declared.state.Phase.{Phase}
 use Rattle.tx_transaction.specs.declared.state.Progress.{Progress}
-use Rattle.tx_transaction.specs.declared.state.Entry.{Entry}
-use Rattle.tx_transaction.specs.Buffers.{Entries, changes_of, keys_of as keys_in, key_at, mutation_in, progress_at, with_progress, wants, place_from, is_zero, has_two_phase_lock, async_minimum, promised_from, promised, not_empty}
+use Rattle.tx_transaction.specs.declared.state.BufferEntry.{BufferEntry}
+use Rattle.tx_transaction.specs.Buffers.{Entries, changes_of, keys_of as keys_in, key_at, mutation_in, progress_at, with_progress, wants, index_from, is_zero, has_two_phase_lock, async_minimum, promised_from, promised, not_empty}
 use Rattle.tx_transaction.specs.Sessions.{others_at}
 use Rattle.tx_types.specs.declared.mutation.Mode.TheVariants.{Async}
 
-pub place_found : (n : ℕ) (x : Phase) (es : Entries) (i : ℕ) → i < length es → ((k : ℕ) → k < i → wants x (progress_at es k) ≡ false) → wants x (progress_at es i) ≡ true → place_from n x es ≡ Some (n + i)
+pub place_found : (n : ℕ) (x : Phase) (es : Entries) (i : ℕ) → i < length es → ((k : ℕ) → k < i → wants x (progress_at es k) ≡ false) → wants x (progress_at es i) ≡ true → index_from n x es ≡ Some (n + i)
 place_found n x [] i lt below here = absurd (omega arith)
 place_found n x (e ∷ es) zero lt below here = rw here (ap (λ m. Some m) (omega arith))
 place_found n x (e ∷ es) (suc i) lt below here = rw (below 0 (omega arith)) (place_found (n + 1) x es i (omega arith) (λ k l. below (suc k) (omega arith)) here ∙ ap (λ m. Some m) (omega arith))
 
-pub place_none : (n : ℕ) (x : Phase) (es : Entries) → ((k : ℕ) → k < length es → wants x (progress_at es k) ≡ false) → place_from n x es ≡ None
+pub place_none : (n : ℕ) (x : Phase) (es : Entries) → ((k : ℕ) → k < length es → wants x (progress_at es k) ≡ false) → index_from n x es ≡ None
 place_none n x [] below = refl
 place_none n x (e ∷ es) below = rw (below 0 (omega arith)) (place_none (n + 1) x es (λ k l. below (suc k) (omega arith)))
 
-pub first_found : (x : Phase) (es : Entries) (i : ℕ) → i < length es → ((k : ℕ) → k < i → wants x (progress_at es k) ≡ false) → wants x (progress_at es i) ≡ true → Some i ≡ place_from 0 x es
+pub first_found : (x : Phase) (es : Entries) (i : ℕ) → i < length es → ((k : ℕ) → k < i → wants x (progress_at es k) ≡ false) → wants x (progress_at es i) ≡ true → Some i ≡ index_from 0 x es
 first_found x es i lt below here = sym (place_found 0 x es i lt below here ∙ ap (λ m. Some m) (omega arith))
 
-pub pair_at : (es : Entries) (i : ℕ) (p : Key × Entry) → Some p ≡ slice_get es i → (key_at es i ≡ p.0) × (mutation_in es i ≡ p.1.mutation) × (progress_at es i ≡ p.1.progress)
+pub pair_at : (es : Entries) (i : ℕ) (p : Key × BufferEntry) → Some p ≡ slice_get es i → (key_at es i ≡ p.0) × (mutation_in es i ≡ p.1.mutation) × (progress_at es i ≡ p.1.progress)
 pair_at [] i p e = absurd (cc (e))
-pair_at (x ∷ es) zero p e = let same : p ≡ x = cc (e) in (ap (λ (q : Key × Entry). q.0) (sym same), ap (λ (q : Key × Entry). q.1.mutation) (sym same), ap (λ (q : Key × Entry). q.1.progress) (sym same))
+pair_at (x ∷ es) zero p e = let same : p ≡ x = cc (e) in (ap (λ (q : Key × BufferEntry). q.0) (sym same), ap (λ (q : Key × BufferEntry). q.1.mutation) (sym same), ap (λ (q : Key × BufferEntry). q.1.progress) (sym same))
 pair_at (x ∷ es) (suc i) p e = pair_at es i p e
 
-pub noted : (es : Entries) (i : ℕ) (v : Entry) (p : Progress) → Some v ≡ slice_get (values_of es) i → set_value_at es i (record { mutation = v.mutation; progress = p }) ≡ with_progress es i p
+pub noted : (es : Entries) (i : ℕ) (v : BufferEntry) (p : Progress) → Some v ≡ slice_get (values_of es) i → set_value_at es i (record { mutation = v.mutation; progress = p }) ≡ with_progress es i p
 noted [] i v p e = refl
-noted (x ∷ es) zero v p e = let same : v ≡ x.1 = cc (e) in ap (λ (w : Entry). (x.0, record { mutation = w.mutation; progress = p }) ∷ es) same
+noted (x ∷ es) zero v p e = let same : v ≡ x.1 = cc (e) in ap (λ (w : BufferEntry). (x.0, record { mutation = w.mutation; progress = p }) ∷ es) same
 noted (x ∷ es) (suc i) v p e = ap (λ (l : Entries). x ∷ l) (noted es i v p e)
 
--- the progress of a place is that of its value
-pub progress_there : (es : Entries) (i : ℕ) (v : Entry) → Some v ≡ slice_get (values_of es) i → v.progress ≡ progress_at es i
+-- the progress of an index is that of its value
+pub progress_there : (es : Entries) (i : ℕ) (v : BufferEntry) → Some v ≡ slice_get (values_of es) i → v.progress ≡ progress_at es i
 progress_there [] i v e = absurd (cc (e))
-progress_there (x ∷ es) zero v e = let same : v ≡ x.1 = cc (e) in ap (λ (w : Entry). w.progress) same
+progress_there (x ∷ es) zero v e = let same : v ≡ x.1 = cc (e) in ap (λ (w : BufferEntry). w.progress) same
 progress_there (x ∷ es) (suc i) v e = progress_there es i v e
 
 -- no key of the buffer comes twice
@@ -80,7 +80,7 @@ pub two_phase_nowhere : (es : Entries) → ((k : ℕ) → k < length es → is_z
 two_phase_nowhere [] none = refl
 two_phase_nowhere (x ∷ es) none = rw (none 0 (omega arith)) (two_phase_nowhere es (λ k lt. none (suc k) (omega arith)))
 
--- the entries from a place on
+-- the entries from an index on
 abbrev pub rest : ℕ → Entries → Entries
 rest zero es = es
 rest (suc i) [] = []
@@ -121,7 +121,7 @@ front zero es = []
 front (suc i) [] = []
 front (suc i) (e ∷ es) = e.0 ∷ front i es
 
--- those below a place, but for the first
+-- those below an index, but for the first
 abbrev pub others_below : ℕ → Entries → List Key
 others_below zero es = []
 others_below (suc i) [] = []

@@ -3,6 +3,7 @@
 use Rattle.std.specs.Prelude.{ℕ, ◌+◌, zero, suc, max, nat_lt, ◌||◌, ◌&&◌, Bool, true, false, not, cond, List, [], ◌∷◌, length, Option, Some, None, is_some, option_map, bytes_eq}
 use Rattle.indexmap.specs.IndexMap.{insert_entry}
 use Rattle.tx_types.specs.declared.limits.TheConstants.{MAX_KEYS}
+use Rattle.tx_types.specs.Keys.{is_visible}
 use Rattle.tx_types.specs.declared.key.Key.{Key}
 use Rattle.tx_types.specs.declared.value.Value.{Value}
 use Rattle.tx_types.specs.declared.mutation.Change.{Change}
@@ -11,10 +12,10 @@ use Rattle.tx_types.specs.declared.mutation.Mutation.TheVariants as mutation
 use Rattle.tx_transaction.specs.declared.state.Phase.{Phase}
 use Rattle.tx_transaction.specs.declared.state.Phase.TheVariants as phase
 use Rattle.tx_transaction.specs.declared.state.Progress.{Progress}
-use Rattle.tx_transaction.specs.declared.state.Entry.{Entry}
+use Rattle.tx_transaction.specs.declared.state.BufferEntry.{BufferEntry}
 
 abbrev pub Entries : Type 0
-Entries = List (Key × Entry)
+Entries = List (Key × BufferEntry)
 
 -- ---- keys and what is done to them
 
@@ -22,7 +23,7 @@ Entries = List (Key × Entry)
 abbrev pub no_progress : Progress
 no_progress = record { sent = false; accepted = None; committed = false; rolled = false }
 
-abbrev pub fresh : Mutation → Entry
+abbrev pub fresh : Mutation → BufferEntry
 fresh m = record { mutation = m; progress = no_progress }
 
 -- what is done to a key, where it is in the buffer
@@ -31,15 +32,9 @@ buffered [] k = None
 buffered (e ∷ es) k = cond (bytes_eq e.0 k) (Some e.1.mutation) (buffered es k)
 
 -- a read of a key is answered from the buffer where a put, an insert or a delete of it is there
-abbrev pub is_change : Mutation → Bool
-is_change (mutation.Put v) = true
-is_change (mutation.Insert v) = true
-is_change mutation.Delete = true
-is_change mutation.Lock = false
-
 abbrev pub is_known : Option Mutation → Bool
 is_known None = false
-is_known (Some m) = is_change m
+is_known (Some m) = is_visible m
 
 -- what a put enters: an insert that is there stays one, with the new value
 abbrev pub put_over : Option Mutation → Value → Mutation
@@ -84,7 +79,7 @@ abbrev pub keys_of : Entries → List Key
 keys_of [] = []
 keys_of (e ∷ es) = e.0 ∷ keys_of es
 
--- ---- places, counted from 0
+-- ---- indexes, counted from 0
 
 abbrev pub key_at : Entries → ℕ → Key
 key_at [] i = []
@@ -103,7 +98,7 @@ progress_at (e ∷ es) (suc i) = progress_at es i
 
 abbrev pub with_progress : Entries → ℕ → Progress → Entries
 with_progress [] i p = []
-with_progress (e ∷ es) zero p = (e.0, record { mutation = e.1.mutation; progress = p }) ∷ es
+with_progress (e ∷ es) zero p = (e.0, record e.1 { progress = p }) ∷ es
 with_progress (e ∷ es) (suc i) p = e ∷ with_progress es i p
 
 -- whether the phase has something left to send of a key: a prewrite until one is accepted, a commit
@@ -113,13 +108,13 @@ wants phase.Prewrite p = not (is_some p.accepted)
 wants phase.Commit p = not p.committed
 wants phase.Abort p = p.sent && not p.rolled
 
-abbrev pub place_from : ℕ → Phase → Entries → Option ℕ
-place_from n x [] = None
-place_from n x (e ∷ es) = cond (wants x e.1.progress) (Some n) (place_from (n + 1) x es)
+abbrev pub index_from : ℕ → Phase → Entries → Option ℕ
+index_from n x [] = None
+index_from n x (e ∷ es) = cond (wants x e.1.progress) (Some n) (index_from (n + 1) x es)
 
--- the place of the first such key
-abbrev pub first_place : Phase → Entries → Option ℕ
-first_place x es = place_from 0 x es
+-- the index of the first such key
+abbrev pub first_index : Phase → Entries → Option ℕ
+first_index x es = index_from 0 x es
 
 -- ---- what was accepted
 
@@ -142,7 +137,11 @@ async_minimum (Some (suc m)) = Some (suc m)
 -- the greatest of n and the minimums of the async locks, if each key has one
 abbrev pub promised_from : ℕ → Entries → Option ℕ
 promised_from n [] = Some n
-promised_from n (e ∷ es) = elim (async_minimum e.1.progress.accepted) [ None ↦ None | Some m ↦ promised_from (max n m) es ]
+promised_from n (e ∷ es) = elim (async_minimum e.1.progress.accepted) [
+  | None ↦ None
+  | Some m ↦ promised_from
+      (max n m) es
+]
 
 -- the greatest minimum, where each key has an async lock
 abbrev pub promised : Entries → Option ℕ

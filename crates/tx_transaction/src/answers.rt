@@ -1,24 +1,10 @@
 //! What an answer does to a session's state.
 ghost use Rattle.std.specs.Prelude.{◌≡◌};
-ghost use Rattle.tx_core.specs.Decisions.{fate_in};
-ghost use Rattle.tx_transaction.specs.Sessions.{committed_by, cause_of, drawn_after, sent_by, marked_by, minimum_in};
+ghost use Rattle.tx_transaction.specs.Sessions.{committed_by, cause_of, drawn_after, sent_by, marked_by};
 
 use crate::state::{Phase, Progress};
 use tx_core::{Answer, UnknownCause};
-use tx_types::{Fate, LockInfo, Mode, Ts};
-
-/// What it tells of the transaction's fate.
-pub(crate) fn settled(answer: &Answer) -> Option<Fate>
-    ensures { result ≡ fate_in answer.now }
-{
-    match answer {
-        Answer::Committed(commit) | Answer::AlreadyCommitted { commit } => {
-            Some(Fate::Committed(*commit))
-        }
-        Answer::RolledBack | Answer::AlreadyRolledBack | Answer::Missing => Some(Fate::Aborted),
-        _ => None,
-    }
-}
+use tx_types::{Fate, Ts};
 
 /// Why it tells nothing of the fate.
 pub(crate) fn cause(answer: &Answer) -> Option<UnknownCause>
@@ -49,16 +35,6 @@ pub(crate) fn mark_sent(phase: Phase, progress: &mut Progress)
     }
 }
 
-// The minimum that a lock counts with.
-fn minimum(info: &LockInfo) -> Ts
-    ensures { result ≡ minimum_in info.now }
-{
-    match info.facts().mode {
-        Mode::TwoPhase => Ts::ZERO,
-        Mode::Async => info.facts().min,
-    }
-}
-
 /// Marks what an answer says of its key, for which a request went out.
 pub(crate) fn mark(phase: Phase, answer: &Answer, progress: &mut Progress)
     ensures { progress.new ≡ marked_by phase answer.now (sent_by phase progress.old) }
@@ -68,7 +44,7 @@ pub(crate) fn mark(phase: Phase, answer: &Answer, progress: &mut Progress)
         (Phase::Prewrite, Answer::Prewritten(minimum)) => progress.accepted = Some(*minimum),
         (Phase::Commit, Answer::Committed(_)) => progress.committed = true,
         (Phase::Abort, Answer::RolledBack | Answer::Missing) => progress.rolled = true,
-        (Phase::Abort, Answer::Locked(info)) => progress.accepted = Some(minimum(info)),
+        (Phase::Abort, Answer::Locked(info)) => progress.accepted = Some(info.facts().async_min()),
         _ => {}
     }
 }

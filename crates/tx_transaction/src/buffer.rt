@@ -2,18 +2,18 @@
 ghost use Rattle.std.specs.Prelude.{◌≡◌, ◌<◌, ◌≤◌, not, length, is_some, IfOk, IfErr, IfSome, OnOk, OnErr, max, option_map, bytes_eq};
 ghost use Rattle.tx_machine.specs.Keys.{IsDistinct};
 ghost use Rattle.tx_types.specs.declared.mutation.Mode.TheVariants.{Async};
-ghost use Rattle.tx_transaction.specs.Buffers.{key_at, mutation_in, progress_at, with_progress, first_place, wants, is_full, is_change, is_known, not_empty, changes_of, touched, buffered, put_over, insert_over, inserted, has_two_phase_lock, async_minimum, promised, is_zero};
+ghost use Rattle.tx_transaction.specs.Buffers.{key_at, mutation_in, progress_at, with_progress, first_index, wants, is_full, is_known, not_empty, changes_of, touched, buffered, put_over, insert_over, inserted, has_two_phase_lock, async_minimum, promised, is_zero};
 ghost use Rattle.tx_transaction.specs.Sessions.{others_at, sent_by, marked_by};
 
 use crate::answers::{mark, mark_sent};
-use crate::state::{Entry, Phase, Progress};
+use crate::state::{BufferEntry, Phase, Progress};
 use indexmap::IndexMap;
 use std::alloc::Global;
 use tx_core::Answer;
 use tx_types::limits::MAX_KEYS;
 use tx_types::{Change, Changes, Fault, Key, Mutation, Secondaries, Ts, Value};
 
-pub(crate) type Buffer = IndexMap<Key, Entry>;
+pub(crate) type Buffer = IndexMap<Key, BufferEntry>;
 
 /// So many keys are compared in less than one is hashed.
 const FEW: usize = 4;
@@ -37,7 +37,7 @@ pub(crate) fn touch(buffer: &mut Buffer, key: Key, mutation: Mutation) -> Result
         committed: false,
         rolled: false,
     };
-    buffer.insert(key, Entry { mutation, progress })?;
+    buffer.insert(key, BufferEntry { mutation, progress })?;
     Ok(())
 }
 
@@ -76,7 +76,7 @@ pub(crate) fn insert_over(buffer: &Buffer, key: &Key, value: Value) -> Option<Mu
     }
 }
 
-// Whether the key at a place has these bytes.
+// Whether the key at an index has these bytes.
 fn is_at(buffer: &Buffer, i: usize, key: &[u8]) -> bool
     requires { i < length buffer.now.entries }
     ensures { result ≡ bytes_eq (key_at buffer.now.entries i) key.now }
@@ -87,17 +87,7 @@ fn is_at(buffer: &Buffer, i: usize, key: &[u8]) -> bool
     }
 }
 
-// Whether it changes what is read.
-fn is_change(mutation: &Mutation) -> bool
-    ensures { result ≡ is_change mutation.now }
-{
-    match mutation {
-        Mutation::Put(_) | Mutation::Insert(_) | Mutation::Delete => true,
-        Mutation::Lock => false,
-    }
-}
-
-// What is done to the key at a place.
+// What is done to the key at an index.
 fn mutation_at(buffer: &Buffer, i: usize) -> &Mutation
     requires { i < length buffer.now.entries }
     ensures { result.now ≡ mutation_in buffer.now.entries i }
@@ -125,7 +115,7 @@ pub(crate) fn is_known(buffer: &Buffer, key: &[u8]) -> bool
     ensures { result ≡ is_known (buffered buffer.now.entries key.now) }
 {
     match seek(buffer, key) {
-        Some(mutation) => is_change(mutation),
+        Some(mutation) => mutation.is_visible(),
         None => false,
     }
 }
@@ -157,9 +147,9 @@ fn wants_more(phase: Phase, progress: Progress) -> bool
     }
 }
 
-/// The place of the first key of which the phase has something left to send.
-pub(crate) fn place_of(buffer: &Buffer, phase: Phase) -> Option<usize>
-    ensures place { result ≡ first_place phase buffer.now.entries }
+/// The index of the first key of which the phase has something left to send.
+pub(crate) fn index_of(buffer: &Buffer, phase: Phase) -> Option<usize>
+    ensures index { result ≡ first_index phase buffer.now.entries }
     ensures within { IfSome result (λ i. i < length buffer.now.entries) }
 {
     for i in 0..buffer.len() {
@@ -170,7 +160,7 @@ pub(crate) fn place_of(buffer: &Buffer, phase: Phase) -> Option<usize>
     None
 }
 
-/// The key at a place.
+/// The key at an index.
 pub(crate) fn key_at(buffer: &Buffer, i: usize) -> &Key
     requires { i < length buffer.now.entries }
     ensures { result.now ≡ key_at buffer.now.entries i }
@@ -181,7 +171,7 @@ pub(crate) fn key_at(buffer: &Buffer, i: usize) -> &Key
     }
 }
 
-/// A copy of the key at a place.
+/// A copy of the key at an index.
 pub(crate) fn key_of(buffer: &Buffer, i: usize) -> Result<Key, Fault>
     requires { i < length buffer.now.entries }
     ensures ok { IfOk result (λ k. k ≡ key_at buffer.now.entries i) }
@@ -193,7 +183,7 @@ pub(crate) fn key_of(buffer: &Buffer, i: usize) -> Result<Key, Fault>
     }
 }
 
-/// A copy of the mutation at a place.
+/// A copy of the mutation at an index.
 pub(crate) fn mutation_of(buffer: &Buffer, i: usize) -> Result<Mutation, Fault>
     requires { i < length buffer.now.entries }
     ensures ok { IfOk result (λ m. m ≡ mutation_in buffer.now.entries i) }
@@ -215,20 +205,22 @@ pub(crate) fn progress_of(buffer: &Buffer, i: usize) -> Progress
     }
 }
 
-/// Notes what was sent and answered for the key at a place.
+/// Notes what was sent and answered for the key at an index.
 pub(crate) fn note(buffer: &mut Buffer, i: usize, phase: Phase, answer: &Answer)
     requires { i < length buffer.old.entries }
-    ensures { buffer.new.entries ≡ with_progress buffer.old.entries i (marked_by phase answer.now (sent_by phase (progress_at buffer.old.entries i))) }
+    ensures { buffer.new.entries ≡ with_progress buffer.old.entries i
+        (marked_by phase answer.now (sent_by phase (progress_at buffer.old.entries i))) }
 {
     if let Some(entry) = buffer.get_index_mut(i) {
         mark(phase, answer, &mut entry.progress);
     }
 }
 
-/// Notes that a request was sent for the key at a place.
+/// Notes that a request was sent for the key at an index.
 pub(crate) fn note_sent(buffer: &mut Buffer, i: usize, phase: Phase)
     requires { i < length buffer.old.entries }
-    ensures { buffer.new.entries ≡ with_progress buffer.old.entries i (sent_by phase (progress_at buffer.old.entries i)) }
+    ensures { buffer.new.entries ≡ with_progress buffer.old.entries i
+        (sent_by phase (progress_at buffer.old.entries i)) }
 {
     if let Some(entry) = buffer.get_index_mut(i) {
         mark_sent(phase, &mut entry.progress);

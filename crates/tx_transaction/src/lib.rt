@@ -9,5 +9,5 @@ mod state;
 mod transaction;
 
 pub use laws::{decision_stays, rollback_once_aborted};
-pub use state::{Came, Due, Entry, Miss, Phase, Progress, Terms};
+pub use state::{BufferEntry, Due, Miss, Phase, Progress, Response, Terms};
 pub use transaction::Transaction;

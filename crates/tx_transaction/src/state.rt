@@ -35,20 +35,20 @@ pub struct Progress {
 
 /// What a session does to a key, and how far it is.
 #[derive(Debug, Drop)]
-pub struct Entry {
+pub struct BufferEntry {
     pub mutation: Mutation,
     pub progress: Progress,
 }
 
 /// What came of a request.
 #[derive(Debug, Drop)]
-pub enum Came {
+pub enum Response {
     /// No reply.
     Lost,
     /// A reply without an answer: the region was refused memory.
-    Unsaid,
+    OutOfMemory,
     /// An answer.
-    Said(Answer),
+    Answered(Answer),
 }
 
 /// Why a call has no answer.
@@ -60,9 +60,9 @@ pub enum Miss {
     Fault,
 }
 
-/// A request that is due, and the place of its key in the buffer.
+/// A request that is due, and the index of its key in the buffer.
 #[derive(Debug, Drop)]
 pub struct Due {
-    pub place: usize,
+    pub index: usize,
     pub body: Body,
 }

@@ -5,8 +5,8 @@ ghost use Rattle.tx_transaction.specs.Sessions.{begun, is_declared, has_primary,
 ghost use Rattle.tx_transaction.specs.declared.state.Miss.TheVariants as miss;
 ghost use Rattle.tx_transaction.specs.Returns.{IsBuffered};
 
+mod answering;
 mod fate;
-mod hearing;
 mod next;
 mod requests;
 
@@ -58,13 +58,23 @@ pub struct Transaction {
 }
 
 impl Model for Transaction {
-    ghost use Rattle.tx_transaction.specs.Sessions.{State};
+    ghost use Rattle.tx_transaction.specs.Sessions.{SessionState};
     ghost use Rattle.std.specs.Prelude.{◌<◌};
     ghost use Rattle.tx_transaction.specs.Sessions.{Few};
 
-    ghost Value = { State };
+    ghost Value = { SessionState };
 
-    ghost view = { λ t. record { start = t.start; buffer = t.buffer.entries; declared = t.declared; placed = t.placed; bypass = t.bypass; met = t.met; drawn = t.drawn; decision = t.decision; cause = t.cause } };
+    ghost view = { λ t. record {
+      start = t.start;
+      buffer = t.buffer.entries;
+      declared = t.declared;
+      placed = t.placed;
+      bypass = t.bypass;
+      met = t.met;
+      drawn = t.drawn;
+      decision = t.decision;
+      cause = t.cause;
+    } };
 
     ghost invariant = { λ t. Few t.declared t.buffer.entries × (t.placed < 18446744073709551615) };
 }
@@ -144,9 +154,11 @@ impl Transaction {
     /// Enters a change of a key into the buffer. A key that is there keeps its place.
     pub fn touch(&mut self, key: Key, mutation: Mutation) -> Result<(), Fault>
         requires { is_declared self.old ≡ false }
-        ensures ok { OnOk result ((is_full self.old.buffer key ≡ false) × (self.new ≡ record self.old { buffer = touched self.old.buffer key mutation })) }
+        ensures ok { OnOk result ((is_full self.old.buffer key ≡ false)
+            × (self.new ≡ record self.old { buffer = touched self.old.buffer key mutation })) }
         ensures same { OnErr result (self.new ≡ self.old) }
-        ensures err { IfErr result (λ e. ((e ≡ Fault.OutOfMemory) × (is_full self.old.buffer key ≡ false)) ⊎ ((e ≡ Fault.TooManyKeys) × (is_full self.old.buffer key ≡ true))) }
+        ensures err { IfErr result (λ e. ((e ≡ Fault.OutOfMemory) × (is_full self.old.buffer key ≡ false))
+            ⊎ ((e ≡ Fault.TooManyKeys) × (is_full self.old.buffer key ≡ true))) }
     {
         if is_full(&self.buffer, &key) {
             return Err(Fault::TooManyKeys);
@@ -158,9 +170,14 @@ impl Transaction {
     /// with the new value.
     pub fn put(&mut self, key: Key, value: Value) -> Result<(), Fault>
         requires { is_declared self.old ≡ false }
-        ensures ok { OnOk result ((is_full self.old.buffer key ≡ false) × (self.new ≡ record self.old { buffer = touched self.old.buffer key (put_over (buffered self.old.buffer key) value) })) }
+        ensures ok { OnOk result ((is_full self.old.buffer key ≡ false)
+            × (self.new ≡ record self.old {
+              buffer = touched self.old.buffer key
+                  (put_over (buffered self.old.buffer key) value);
+            })) }
         ensures same { OnErr result (self.new ≡ self.old) }
-        ensures err { IfErr result (λ e. ((e ≡ Fault.OutOfMemory) × (is_full self.old.buffer key ≡ false)) ⊎ ((e ≡ Fault.TooManyKeys) × (is_full self.old.buffer key ≡ true))) }
+        ensures err { IfErr result (λ e. ((e ≡ Fault.OutOfMemory) × (is_full self.old.buffer key ≡ false))
+            ⊎ ((e ≡ Fault.TooManyKeys) × (is_full self.old.buffer key ≡ true))) }
     {
         let mutation = put_over(&self.buffer, &key, value);
         self.touch(key, mutation)
@@ -170,9 +187,14 @@ impl Transaction {
     /// is refused.
     pub fn insert(&mut self, key: Key, value: Value) -> Result<(), Fault>
         requires { is_declared self.old ≡ false }
-        ensures ok { OnOk result ((is_full self.old.buffer key ≡ false) × (inserted self.old.buffer key value ≡ Some self.new.buffer) × (self.new ≡ record self.old { buffer = self.new.buffer })) }
+        ensures ok { OnOk result ((is_full self.old.buffer key ≡ false)
+            × (inserted self.old.buffer key value ≡ Some self.new.buffer)
+            × (self.new ≡ record self.old { buffer = self.new.buffer })) }
         ensures same { OnErr result (self.new ≡ self.old) }
-        ensures err { IfErr result (λ e. ((e ≡ Fault.OutOfMemory) × (is_some (inserted self.old.buffer key value) ≡ true) × (is_full self.old.buffer key ≡ false)) ⊎ ((e ≡ Fault.TooManyKeys) × (is_full self.old.buffer key ≡ true)) ⊎ ((e ≡ Fault.AlreadyExists) × (inserted self.old.buffer key value ≡ None))) }
+        ensures err { IfErr result (λ e. ((e ≡ Fault.OutOfMemory)
+            × (is_some (inserted self.old.buffer key value) ≡ true) × (is_full self.old.buffer key ≡ false))
+            ⊎ ((e ≡ Fault.TooManyKeys) × (is_full self.old.buffer key ≡ true))
+            ⊎ ((e ≡ Fault.AlreadyExists) × (inserted self.old.buffer key value ≡ None))) }
     {
         let Some(mutation) = insert_over(&self.buffer, &key, value) else {
             return Err(Fault::AlreadyExists);
@@ -183,9 +205,11 @@ impl Transaction {
     /// Enters a lock of a key that is not in the buffer.
     pub fn lock(&mut self, key: Key) -> Result<(), Fault>
         requires { is_declared self.old ≡ false }
-        ensures ok { OnOk result ((is_full self.old.buffer key ≡ false) × (self.new ≡ record self.old { buffer = locked self.old.buffer key })) }
+        ensures ok { OnOk result ((is_full self.old.buffer key ≡ false)
+            × (self.new ≡ record self.old { buffer = locked self.old.buffer key })) }
         ensures same { OnErr result (self.new ≡ self.old) }
-        ensures err { IfErr result (λ e. ((e ≡ Fault.OutOfMemory) × (is_full self.old.buffer key ≡ false)) ⊎ ((e ≡ Fault.TooManyKeys) × (is_full self.old.buffer key ≡ true))) }
+        ensures err { IfErr result (λ e. ((e ≡ Fault.OutOfMemory) × (is_full self.old.buffer key ≡ false))
+            ⊎ ((e ≡ Fault.TooManyKeys) × (is_full self.old.buffer key ≡ true))) }
     {
         if find(&self.buffer, &key).is_some() {
             return Ok(());

@@ -1,5 +1,5 @@
 -- Keys in order, ranges of keys, rows by key, and which changes of a key reads see.
-use Rattle.std.specs.Prelude.{◌&&◌, ◌||◌, ℕ, Bool, false, cond, List, [], ◌∷◌, length, Option, Some, None, bytes_eq, nat_lt, IsTrue}
+use Rattle.std.specs.Prelude.{◌&&◌, ◌||◌, ℕ, Bool, true, false, cond, List, [], ◌∷◌, length, Option, Some, None, bytes_eq, nat_lt, IsTrue}
 use Rattle.std.specs.Cmp.Lexicographic.{slice_cmp}
 use Rattle.std.specs.Ordering.{nat_cmp, is_le, is_lt}
 use Rattle.tx_types.specs.declared.key.Key.{Key}
@@ -7,6 +7,7 @@ use Rattle.tx_types.specs.declared.value.Value.{Value}
 use Rattle.tx_types.specs.declared.mutation.KeyValue.{KeyValue}
 use Rattle.tx_types.specs.declared.mutation.Mutation.{Mutation}
 use Rattle.tx_types.specs.declared.mutation.Mutation.TheVariants.{Put, Insert, Delete, Lock}
+use Rattle.tx_types.specs.Kinds.{IsSeenKind, kind_of}
 
 -- keys are ordered as their bytes are
 abbrev pub key_lt : Key → Key → Bool
@@ -19,17 +20,19 @@ key_le j k = is_le (slice_cmp nat_cmp j k)
 abbrev pub is_between : Key → Key → Key → Bool
 is_between from to k = key_le from k && key_lt k to
 
--- keys rise: each lies above the one before it
+-- the keys of these rise: each lies above the one before it
+abbrev pub KeysRise : {A : Type 0} → (A → Key) → List A → Type 0
+KeysRise key [] = Unit {0}
+KeysRise key (x ∷ []) = Unit {0}
+KeysRise key (x ∷ y ∷ xs) = IsTrue (key_lt (key x) (key y)) × KeysRise key (y ∷ xs)
+
+-- keys rise
 abbrev pub AreRising : List Key → Type 0
-AreRising [] = Unit {0}
-AreRising (k ∷ []) = Unit {0}
-AreRising (j ∷ k ∷ ks) = IsTrue (key_lt j k) × AreRising (k ∷ ks)
+AreRising ks = KeysRise (λ (k : Key). k) ks
 
 -- rows are in the order of their keys
 abbrev pub IsRising : List KeyValue → Type 0
-IsRising [] = Unit {0}
-IsRising (x ∷ []) = Unit {0}
-IsRising (x ∷ y ∷ rows) = IsTrue (key_lt x.key y.key) × IsRising (y ∷ rows)
+IsRising rows = KeysRise (λ (row : KeyValue). row.key) rows
 
 -- the value that rows give a key
 abbrev pub value_in : List KeyValue → Key → Option Value
@@ -48,10 +51,14 @@ is_scanned from to limit rows k = is_between from to k && (nat_lt (length rows) 
 
 -- reads see puts, inserts and deletes, and no locks
 abbrev pub IsVisible : Mutation → Type 0
-IsVisible (Put v) = Unit {0}
-IsVisible (Insert v) = Unit {0}
-IsVisible Delete = Unit {0}
-IsVisible Lock = ⊥
+IsVisible m = IsSeenKind (kind_of m)
+
+-- the same, as a test
+abbrev pub is_visible : Mutation → Bool
+is_visible (Put v) = true
+is_visible (Insert v) = true
+is_visible Delete = true
+is_visible Lock = false
 
 -- the value that a mutation leaves on its key, if it leaves one
 abbrev pub put_by : Mutation → Option Value

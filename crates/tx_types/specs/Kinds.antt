@@ -13,6 +13,12 @@ kind_of (whole.Insert v) = lock.Put
 kind_of whole.Delete = lock.Delete
 kind_of whole.Lock = lock.Lock
 
+-- reads see puts and deletes, and no locks
+abbrev pub IsSeenKind : LockKind → Type 0
+IsSeenKind lock.Put = Unit {0}
+IsSeenKind lock.Delete = Unit {0}
+IsSeenKind lock.Lock = ⊥
+
 -- a mutation as a lock and a commit record have it: an insert whose check has passed is a put
 abbrev pub as_locked : Mutation → Mutation
 as_locked (whole.Put v) = whole.Put v

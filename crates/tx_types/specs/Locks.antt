@@ -1,5 +1,5 @@
 -- What is told of a lock.
-use Rattle.std.specs.Prelude.{List, []}
+use Rattle.std.specs.Prelude.{ℕ, List, []}
 use Rattle.tx_types.specs.declared.key.Key.{Key}
 use Rattle.tx_types.specs.declared.mutation.Mode.{Mode}
 use Rattle.tx_types.specs.declared.mutation.Mode.TheVariants as mode
@@ -13,6 +13,10 @@ use Rattle.tx_types.specs.Kinds.{stored_kind}
 abbrev pub mode_of : LockMode → Mode
 mode_of TwoPhase = mode.TwoPhase
 mode_of (Async others) = mode.Async
+
+-- the minimum that counts of a lock of this mode, which has this one: 0 of a two-phase lock
+abbrev pub async_min : Mode → ℕ → ℕ
+async_min how min = elim how [ mode.TwoPhase ↦ 0 | mode.Async ↦ min ]
 
 -- the other keys that a lock lists
 abbrev pub secondaries_of : LockMode → List Key

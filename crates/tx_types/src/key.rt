@@ -43,7 +43,8 @@ impl Key {
     /// `OutOfMemory` where there is no room for a copy of them.
     pub fn new(alloc: Global, bytes: &[u8]) -> Result<Key, Fault>
         ensures ok { IfOk result (λ key. key ≡ bytes.now) }
-        ensures length { IsErrOf result Fault.KeyLength ↔ ((length bytes.now < MIN_KEY_BYTES) ⊎ (MAX_KEY_BYTES < length bytes.now)) }
+        ensures length { IsErrOf result Fault.KeyLength
+            ↔ ((length bytes.now < MIN_KEY_BYTES) ⊎ (MAX_KEY_BYTES < length bytes.now)) }
         ensures err { IfErr result (λ e. (e ≡ Fault.KeyLength) ⊎ (e ≡ Fault.OutOfMemory)) }
     {
         if bytes.len() < MIN_KEY_BYTES || bytes.len() > MAX_KEY_BYTES {

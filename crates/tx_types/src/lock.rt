@@ -1,6 +1,6 @@
 //! Locks, and what is told of them.
 ghost use Rattle.std.specs.Prelude.{◌≡◌, IfOk, IfErr};
-ghost use Rattle.tx_types.specs.Locks.{mode_of, info_of};
+ghost use Rattle.tx_types.specs.Locks.{async_min, mode_of, info_of};
 
 use crate::fault::Fault;
 use crate::key::Key;
@@ -98,6 +98,13 @@ pub struct LockFacts {
 }
 
 impl LockFacts {
+    /// The minimum of an async lock, 0 of a two-phase one.
+    pub fn async_min(&self) -> Ts
+        ensures { result ≡ async_min self.now.mode self.now.min }
+    {
+        self.mode.async_min(self.min)
+    }
+
     /// A copy. `OutOfMemory` is its only fault.
     pub fn clone(&self) -> Result<LockFacts, Fault>
         ensures ok { IfOk result (λ copy. copy ≡ self.now) }

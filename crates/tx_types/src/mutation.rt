@@ -1,6 +1,8 @@
 //! What transactions do to keys, and the kinds of locks and records.
-ghost use Rattle.std.specs.Prelude.{◌≡◌, IfOk, IfErr};
+ghost use Rattle.std.specs.Prelude.{◌≡◌, ◌↔◌, IsTrue, IfOk, IfErr};
+ghost use Rattle.tx_types.specs.Keys.{IsVisible, is_visible};
 ghost use Rattle.tx_types.specs.Kinds.{kind_of, stored_kind};
+ghost use Rattle.tx_types.specs.Locks.{async_min};
 
 use crate::fault::Fault;
 use crate::key::Key;
@@ -29,6 +31,17 @@ impl Mutation {
             Mutation::Put(_) | Mutation::Insert(_) => LockKind::Put,
             Mutation::Delete => LockKind::Delete,
             Mutation::Lock => LockKind::Lock,
+        }
+    }
+
+    /// Whether reads see what it does: puts, inserts and deletes, and no locks.
+    pub fn is_visible(&self) -> bool
+        ensures test { result ≡ is_visible self.now }
+        ensures seen { IsTrue result ↔ IsVisible self.now }
+    {
+        match self {
+            Mutation::Put(_) | Mutation::Insert(_) | Mutation::Delete => true,
+            Mutation::Lock => false,
         }
     }
 
@@ -91,6 +104,19 @@ pub enum Mode {
     TwoPhase,
     /// Once every key is locked.
     Async,
+}
+
+impl Mode {
+    /// The minimum that counts of a lock of this mode, which has this one: 0 of a two-phase lock,
+    /// whose minimum promises nothing.
+    pub fn async_min(self, min: Ts) -> Ts
+        ensures { result ≡ async_min self min }
+    {
+        match self {
+            Mode::TwoPhase => Ts::ZERO,
+            Mode::Async => min,
+        }
+    }
 }
 
 /// What has become of a transaction that ended.

@@ -44,7 +44,8 @@ fn short_of(bytes: &[u8]) -> Short
 fn short_of_two(front: &[u8], back: &[u8]) -> Short
     requires { length front.now + length back.now ≤ MAX_SHORT_BYTES }
     ensures len { result.len ≡ length front.now + length back.now }
-    ensures bytes { result.bytes ≡ (front.now ++ back.now) ++ replicate (MAX_SHORT_BYTES - (length front.now + length back.now)) 0 }
+    ensures bytes { result.bytes ≡ (front.now ++ back.now)
+        ++ replicate (MAX_SHORT_BYTES - (length front.now + length back.now)) 0 }
 {
     let mut kept = [0; MAX_SHORT_BYTES];
     let len = front.len() + back.len();
@@ -59,29 +60,29 @@ fn short_of_two(front: &[u8], back: &[u8]) -> Short
 // Bytes, by how many they are. All but few lie behind one pointer, so that a text is
 // three words large.
 #[derive(Drop)]
-enum Kept {
+enum Storage {
     Short(Short),
     Slice(ArcSlice<u8>),
     Long(Arc<Bytes>),
 }
 
 // These bytes, which are not few, where they lie.
-fn kept_of(bytes: Vec<u8>) -> Result<Kept, AllocError>
+fn kept_of(bytes: Vec<u8>) -> Result<Storage, AllocError>
     requires { MAX_SHORT_BYTES < length bytes.items }
     ensures { IfOk result (λ kept. bytes_of kept ≡ bytes.items) }
 {
     if bytes.len() <= MAX_SLICE_BYTES {
-        return Ok(Kept::Slice(ArcSlice::from_vec(bytes)?));
+        return Ok(Storage::Slice(ArcSlice::from_vec(bytes)?));
     }
     let alloc = *bytes.allocator();
     let bytes = Bytes::from_vec(bytes)?;
-    Ok(Kept::Long(Arc::new(alloc, bytes)?))
+    Ok(Storage::Long(Arc::new(alloc, bytes)?))
 }
 
 /// Bytes. Up to 22 stand in the value itself, which is three words large; a copy of more shares
 /// them. Contracts see the bytes.
 pub struct Text {
-    kept: Kept,
+    kept: Storage,
 }
 
 impl Model for Text {
@@ -107,7 +108,7 @@ impl Text {
         ensures ok { IfOk result (λ text. text ≡ bytes.now) }
     {
         let kept = if bytes.len() <= MAX_SHORT_BYTES {
-            Kept::Short(short_of(bytes))
+            Storage::Short(short_of(bytes))
         } else {
             kept_of(Vec::from_slice(alloc, bytes)?)?
         };
@@ -119,7 +120,7 @@ impl Text {
         ensures ok { IfOk result (λ text. text ≡ bytes.items) }
     {
         let kept = if bytes.len() <= MAX_SHORT_BYTES {
-            Kept::Short(short_of(bytes.as_slice()))
+            Storage::Short(short_of(bytes.as_slice()))
         } else {
             kept_of(bytes)?
         };
@@ -131,7 +132,7 @@ impl Text {
         ensures ok { IfOk result (λ text. text ≡ front.now ++ back.now) }
     {
         if front.len() <= MAX_SHORT_BYTES && back.len() <= MAX_SHORT_BYTES - front.len() {
-            let kept = Kept::Short(short_of_two(front, back));
+            let kept = Storage::Short(short_of_two(front, back));
             return Ok(Text { kept });
         }
         let mut bytes = Vec::with_capacity(alloc, front.len().saturating_add(back.len()))?;
@@ -147,9 +148,9 @@ impl Text {
     {
         let mut first = [0; 8];
         match &self.kept {
-            Kept::Short(short) => first.copy_from_slice(&short.bytes[..8]),
-            Kept::Slice(bytes) => first.copy_from_slice(&bytes.as_slice()[..8]),
-            Kept::Long(bytes) => first.copy_from_slice(&bytes.as_slice()[..8]),
+            Storage::Short(short) => first.copy_from_slice(&short.bytes[..8]),
+            Storage::Slice(bytes) => first.copy_from_slice(&bytes.as_slice()[..8]),
+            Storage::Long(bytes) => first.copy_from_slice(&bytes.as_slice()[..8]),
         }
         first
     }
@@ -159,9 +160,9 @@ impl Text {
         ensures { result.now ≡ self.now }
     {
         match &self.kept {
-            Kept::Short(short) => &short.bytes[..short.len as usize],
-            Kept::Slice(bytes) => bytes.as_slice(),
-            Kept::Long(bytes) => bytes.as_slice(),
+            Storage::Short(short) => &short.bytes[..short.len as usize],
+            Storage::Slice(bytes) => bytes.as_slice(),
+            Storage::Long(bytes) => bytes.as_slice(),
         }
     }
 }
@@ -171,9 +172,9 @@ impl Clone for Text {
 
     fn clone(&self) -> Result<Text, AllocError> {
         let kept = match &self.kept {
-            Kept::Short(short) => Kept::Short(*short),
-            Kept::Slice(bytes) => Kept::Slice(bytes.clone()?),
-            Kept::Long(bytes) => Kept::Long(Arc::try_clone(bytes)?),
+            Storage::Short(short) => Storage::Short(*short),
+            Storage::Slice(bytes) => Storage::Slice(bytes.clone()?),
+            Storage::Long(bytes) => Storage::Long(Arc::try_clone(bytes)?),
         };
         Ok(Text { kept })
     }

@@ -8,7 +8,7 @@ use crate::tests::steps::At;
 use std::alloc::Global;
 use tx_cells::Families;
 use tx_plan::{
-    BatchRollback, Commit, Dropped, KeyChange, Planned, Prewrite, plan_batch_rollback, plan_commit,
+    BatchRollback, Commit, Dropped, KeyChange, Plan, Prewrite, plan_batch_rollback, plan_commit,
     plan_prewrite,
 };
 use tx_types::{Fault, Key, Mode, Mutation, Secondaries, Ts, Value};
@@ -51,7 +51,7 @@ fn put_lock<F: Families>(
 }
 
 // The change alone.
-fn change_of(planned: Planned) -> KeyChange
+fn change_of(planned: Plan) -> KeyChange
     ensures { result ≡ planned.change }
 {
     let change = planned.change;

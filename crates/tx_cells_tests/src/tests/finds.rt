@@ -1,7 +1,7 @@
 //! What is found in the families.
 use crate::tests::steps::{At, Range, Record};
 use std::alloc::Global;
-use tx_cells::{Families, KeyCopy};
+use tx_cells::{Families, KeyVersions};
 use tx_plan::{Answer, Infos, LockHead, ReadView, RecordHead, Scan, Starts};
 use tx_types::{Fault, Key, LockInfo, Ts};
 
@@ -33,7 +33,7 @@ fn start_of(lock: Option<LockHead>) -> u64 {
     }
 }
 
-fn is_copy(copy: &KeyCopy, start: u64, counts: (usize, usize)) -> bool {
+fn is_copy(copy: &KeyVersions, start: u64, counts: (usize, usize)) -> bool {
     start_of(copy.lock) == start
         && (copy.records.as_slice().len(), copy.values.as_slice().len()) == counts
 }

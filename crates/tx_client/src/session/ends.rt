@@ -16,11 +16,11 @@ use super::Session;
 use crate::resolved::{Decision, Met, Resolved};
 use std::marker::Brand;
 use tx_core::Outcome;
-use tx_journal::{Naming, Said, Seat};
+use tx_journal::{JournalId, Seat, StepEvent};
 use tx_types::{Fault, LockInfo, Ts};
 
 // Records the event that the call picks: a session answered this outcome.
-fn record_outcome<J: Naming, E: Said>(seat: &mut Seat<J>, start: Ts, outcome: &Outcome)
+fn record_outcome<J: JournalId, E: StepEvent>(seat: &mut Seat<J>, start: Ts, outcome: &Outcome)
     requires is { E.event ≡ Answered start outcome.now }
     requires right { MayRecord J.bounds seat.old.seat seat.old.events E.event }
     ensures { Records J.bounds seat.old E.event seat.new }
@@ -31,7 +31,7 @@ fn record_outcome<J: Naming, E: Said>(seat: &mut Seat<J>, start: Ts, outcome: &O
 }
 
 // Records the event that the call picks: the session of this seat stopped.
-fn record_end<J: Naming, E: Said>(seat: &mut Seat<J>)
+fn record_end<J: JournalId, E: StepEvent>(seat: &mut Seat<J>)
     requires is { E.event ≡ Stopped seat.old.seat }
     requires right { MayRecord J.bounds seat.old.seat seat.old.events E.event }
     ensures { Records J.bounds seat.old E.event seat.new }
@@ -40,7 +40,7 @@ fn record_end<J: Naming, E: Said>(seat: &mut Seat<J>)
 }
 
 // Records what was answered.
-fn record_answered<J: Naming>(seat: &mut Seat<J>, start: Ts, outcome: &Outcome)
+fn record_answered<J: JournalId>(seat: &mut Seat<J>, start: Ts, outcome: &Outcome)
     requires { MayRecord J.bounds seat.old.seat seat.old.events (Answered start outcome.now) }
     ensures { Records J.bounds seat.old (Answered start outcome.now) seat.new }
 {
@@ -48,14 +48,14 @@ fn record_answered<J: Naming>(seat: &mut Seat<J>, start: Ts, outcome: &Outcome)
 }
 
 // Records that a session stopped.
-fn record_stopped<J: Naming>(seat: &mut Seat<J>)
+fn record_stopped<J: JournalId>(seat: &mut Seat<J>)
     requires { MayRecord J.bounds seat.old.seat seat.old.events (Stopped seat.old.seat) }
     ensures { Records J.bounds seat.old (Stopped seat.old.seat) seat.new }
 {
     record_end::<J, Brand>(seat);
 }
 
-impl<J: Naming> Session<J> {
+impl<J: JournalId> Session<J> {
     // The outcome, where there is one.
     fn outcome(&self) -> Option<Outcome>
         ensures { result ≡ finish_of self.now.state }
@@ -66,7 +66,11 @@ impl<J: Naming> Session<J> {
     /// What is known of its transaction's fate, with what proves it.
     pub fn decision(&mut self) -> Option<Decision<J>>
         ensures same { self.new ≡ self.old }
-        ensures decision { result ≡ option_map (λ fate. record { start = self.old.state.start; fate = fate; events = self.old.seat.events }) self.old.state.decision }
+        ensures decision { result ≡ option_map (λ fate. record {
+          start = self.old.state.start;
+          fate = fate;
+          events = self.old.seat.events;
+        }) self.old.state.decision }
     {
         let fate = self.transaction.decision()?;
         let told = self.seat.tell();
@@ -77,7 +81,8 @@ impl<J: Naming> Session<J> {
     /// terms, once it has declared, and else nothing. It does nothing when it runs.
     pub fn show(&self)
         ensures run { IsWorldRun J.bounds self.now.seat.events }
-        ensures stands { declared self.now.seat.events self.now.state.start ≡ standing self.now.state.start self.now.state.placed self.now.state.buffer self.now.state.declared }
+        ensures stands { declared self.now.seat.events self.now.state.start
+            ≡ standing self.now.state.start self.now.state.placed self.now.state.buffer self.now.state.declared }
     {
         let _ = &self.transaction;
     }
@@ -100,7 +105,10 @@ impl<J: Naming> Session<J> {
     /// A copy of that lock, with what proves that it stood there.
     pub fn met(&mut self) -> Result<Option<Met<J>>, Fault>
         ensures same { self.new ≡ self.old }
-        ensures ok { IfOk result (λ met. met ≡ option_map (λ info. record { info = info; events = self.old.seat.events }) self.old.state.met) }
+        ensures ok { IfOk result (λ met. met ≡ option_map (λ info. record {
+          info = info;
+          events = self.old.seat.events;
+        }) self.old.state.met) }
         ensures err { IfErr result (λ e. e ≡ fault.OutOfMemory) }
     {
         let Some(info) = self.transaction.met()? else {
@@ -114,9 +122,12 @@ impl<J: Naming> Session<J> {
     /// commits above its start. Only where that is one more it takes memory. `OutOfMemory` leaves
     /// the session as it was.
     pub fn learn(&mut self, resolved: Resolved<J>) -> Result<(), Fault>
-        ensures ok { OnOk result ((self.new.state ≡ with_passed self.old.state resolved.start (lies_above resolved.status self.old.state.start)) × HasHeard J.bounds self.old.seat resolved.events self.new.seat) }
+        ensures ok { OnOk result ((self.new.state ≡ with_passed self.old.state resolved.start
+            (lies_above resolved.status self.old.state.start))
+            × HasHeard J.bounds self.old.seat resolved.events self.new.seat) }
         ensures same { OnErr result (self.new ≡ self.old) }
-        ensures err { IfErr result (λ e. (e ≡ fault.OutOfMemory) × (notes_one self.old.state resolved.start (lies_above resolved.status self.old.state.start) ≡ true)) }
+        ensures err { IfErr result (λ e. (e ≡ fault.OutOfMemory)
+            × (notes_one self.old.state resolved.start (lies_above resolved.status self.old.state.start) ≡ true)) }
     {
         let (start, status, told) = resolved.into_parts();
         let may = status.lies_above(self.transaction.start());
@@ -142,7 +153,9 @@ impl<J: Naming> Session<J> {
     /// session comes back.
     #[inline(always)]
     pub fn finish(self) -> Result<(Outcome, Seat<J>), Session<J>>
-        ensures ended { IfOk result (λ r. (finish_of self.state ≡ Some r.0) × Records J.bounds self.seat (Answered self.state.start r.0) r.1 × IsDecidedSo self.seat.events self.state.start r.0) }
+        ensures ended { IfOk result (λ r. (finish_of self.state ≡ Some r.0)
+            × Records J.bounds self.seat (Answered self.state.start r.0) r.1
+            × IsDecidedSo self.seat.events self.state.start r.0) }
         ensures in_order { IfOk result (λ r. CommitsAbove self.seat.events self.state.placed r.0) }
         ensures open_yet { IfErr result (λ s. (finish_of self.state ≡ None) × (s ≡ self)) }
     {

@@ -3,23 +3,23 @@ ghost use Rattle.std.specs.Prelude.{◌≡◌, ◌≤◌, ◌⊎◌, ◌++◌, �
 ghost use Rattle.tx_types.specs.declared.fault.Fault.TheVariants as fault;
 ghost use Rattle.tx_core.specs.Allowed.{Allowed};
 ghost use Rattle.tx_transaction.specs.declared.state.Miss.TheVariants as miss;
-ghost use Rattle.tx_client.specs.declared.part.Part.TheVariants as part;
+ghost use Rattle.tx_client.specs.declared.part.ScanPart.TheVariants as part;
 ghost use Rattle.tx_transaction.specs.Sessions.{read_of};
 ghost use Rattle.tx_journal.specs.Senders.{IsHeld, IsWay};
 ghost use Rattle.tx_client.specs.Rooms.{HasRoom, IsScan, HasUpto};
 ghost use Rattle.tx_client.specs.Walks.{Sends, look_walk, get_walk, part_walk, look_part, part_by, scan_walk, part_of, low_of, high_of, enough, lesser, greater};
 
-use crate::asking::Heard;
-use crate::part::Part;
+use crate::asking::Answering;
+use crate::part::ScanPart;
 use crate::session::Session;
 use std::alloc::Global;
 use std::convert::TryFrom;
 use tx_core::{Answer, Body};
-use tx_journal::{Naming, Reply, Request, Sender};
+use tx_journal::{JournalId, Reply, Request, Sender};
 use tx_transaction::Miss;
 use tx_types::{Fault, Key, KeyValue, KeyValues};
 
-impl<J: Naming> Session<J> {
+impl<J: JournalId> Session<J> {
     // Sends a read.
     fn look<S: Sender<Request<J>, Reply<J>>>(
         &mut self,
@@ -29,11 +29,14 @@ impl<J: Naming> Session<J> {
         requires way { IsWay J.bounds S.fits S.sends S.keys_between }
         requires held { IsHeld J.bounds body }
         requires allowed { Allowed self.old.seat.events body }
-        ensures sends { Sends S.sends J.bounds self.old.seat sender.old (look_walk self.old.state body) (self.new.state, result) sender.new self.new.seat }
+        ensures sends { Sends S.sends J.bounds self.old.seat sender.old (look_walk self.old.state body) (
+          self.new.state,
+          result,
+        ) sender.new self.new.seat }
         ensures upto { (n : ℕ) → IsScan n body → HasUpto n result }
     {
-        let Heard { came, lock } = self.ask(body, sender);
-        self.transaction.after_read(came, lock)
+        let Answering { response, lock } = self.ask(body, sender);
+        self.transaction.after_read(response, lock)
     }
 
     // Reads a key of the store.
@@ -43,7 +46,12 @@ impl<J: Naming> Session<J> {
         sender: &mut S,
     ) -> Result<Answer, Miss>
         requires way { IsWay J.bounds S.fits S.sends S.keys_between }
-        ensures { (result ≡ Err miss.Fault) × (self.new ≡ self.old) × (sender.new ≡ sender.old) ⊎ Sends S.sends J.bounds self.old.seat sender.old (look_walk self.old.state (read_of self.old.state key.now)) (self.new.state, result) sender.new self.new.seat }
+        ensures { (result ≡ Err miss.Fault) × (self.new ≡ self.old) × (sender.new ≡ sender.old)
+            ⊎ Sends S.sends J.bounds self.old.seat sender.old
+            (look_walk self.old.state (read_of self.old.state key.now)) (
+              self.new.state,
+              result,
+            ) sender.new self.new.seat }
     {
         match self.transaction.read(key) {
             Ok(body) => self.look(body, sender),
@@ -59,7 +67,10 @@ impl<J: Naming> Session<J> {
         sender: &mut S,
     ) -> Result<Answer, Miss>
         requires way { IsWay J.bounds S.fits S.sends S.keys_between }
-        ensures { Sends S.sends J.bounds self.old.seat sender.old (get_walk self.old.state key.now) (self.new.state, result) sender.new self.new.seat }
+        ensures { Sends S.sends J.bounds self.old.seat sender.old (get_walk self.old.state key.now) (
+          self.new.state,
+          result,
+        ) sender.new self.new.seat }
     {
         match self.transaction.answer_of(key) {
             Some(result) => result,
@@ -108,13 +119,13 @@ fn high_key(bounds: &[Key], n: usize, to: &Key) -> Result<Key, Fault>
 }
 
 // Whether the rows so far are enough.
-fn enough(limit: u32, rows: KeyValues) -> Part
+fn enough(limit: u32, rows: KeyValues) -> ScanPart
     ensures { result ≡ enough limit rows }
 {
     if rows.as_slice().len() < limit as usize {
-        Part::More(rows)
+        ScanPart::More(rows)
     } else {
-        Part::Done(Ok(Answer::Rows(rows)))
+        ScanPart::Done(Ok(Answer::Rows(rows)))
     }
 }
 
@@ -146,14 +157,14 @@ fn joined(mut rows: Vec<KeyValue>, found: KeyValues) -> KeyValues
 }
 
 // What a part comes to by what its read answered.
-fn part_by(limit: u32, rows: Vec<KeyValue>, answered: Result<Answer, Miss>) -> Part
+fn part_by(limit: u32, rows: Vec<KeyValue>, answered: Result<Answer, Miss>) -> ScanPart
     requires room { HasRoom rows (limit - length rows.items) }
     requires upto { HasUpto (limit - length rows.items) answered }
     ensures { result ≡ part_by limit rows.items answered }
 {
     match answered {
         Ok(Answer::Rows(found)) => enough(limit, joined(rows, found)),
-        other => Part::Done(other),
+        other => ScanPart::Done(other),
     }
 }
 
@@ -167,7 +178,7 @@ fn left(limit: u32, rows: &KeyValues) -> u32
     }
 }
 
-impl<J: Naming> Session<J> {
+impl<J: JournalId> Session<J> {
     // The read of the part of a range that lies in the region n, where it is not empty.
     fn part_of(
         &self,
@@ -179,7 +190,8 @@ impl<J: Naming> Session<J> {
         limit: u32,
     ) -> Result<Option<Body>, Fault>
         requires { n ≤ length bounds.now }
-        ensures ok { IfOk result (λ body. body ≡ part_of self.now.state (greater from.now (low_of from.now bounds.now n)) (high_of to.now bounds.now n) limit) }
+        ensures ok { IfOk result (λ body. body ≡ part_of self.now.state
+            (greater from.now (low_of from.now bounds.now n)) (high_of to.now bounds.now n) limit) }
         ensures allowed { IfOk result (λ body. IfSome body (λ b. Allowed self.now.seat.events b)) }
         ensures err { IfErr result (λ e. e ≡ fault.OutOfMemory) }
     {
@@ -199,15 +211,17 @@ impl<J: Naming> Session<J> {
         limit: u32,
         rows: KeyValues,
         sender: &mut S,
-    ) -> Part
+    ) -> ScanPart
         requires way { IsWay J.bounds S.fits S.sends S.keys_between }
         requires held { IsHeld J.bounds body }
         requires allowed { Allowed self.old.seat.events body }
         requires left { IsScan (limit - length rows) body }
-        ensures { (result ≡ part.Done (Err miss.Fault)) × (self.new ≡ self.old) × (sender.new ≡ sender.old) ⊎ Sends S.sends J.bounds self.old.seat sender.old (look_part self.old.state body limit rows) (self.new.state, result) sender.new self.new.seat }
+        ensures { (result ≡ part.Done (Err miss.Fault)) × (self.new ≡ self.old) × (sender.new ≡ sender.old)
+            ⊎ Sends S.sends J.bounds self.old.seat sender.old (look_part self.old.state body limit rows)
+            (self.new.state, result) sender.new self.new.seat }
     {
         let Ok(rows) = with_room(limit, rows) else {
-            return Part::Done(Err(Miss::Fault));
+            return ScanPart::Done(Err(Miss::Fault));
         };
         let answered = self.look(body, sender);
         part_by(limit, rows, answered)
@@ -223,15 +237,17 @@ impl<J: Naming> Session<J> {
         limit: u32,
         rows: KeyValues,
         sender: &mut S,
-    ) -> Part
+    ) -> ScanPart
         requires way { IsWay J.bounds S.fits S.sends S.keys_between }
         requires within { n ≤ length J.bounds }
-        ensures { Sends S.sends J.bounds self.old.seat sender.old (part_walk self.old.state (greater from.now (low_of from.now J.bounds n)) (high_of to.now J.bounds n) limit rows) (self.new.state, result) sender.new self.new.seat }
+        ensures { Sends S.sends J.bounds self.old.seat sender.old
+            (part_walk self.old.state (greater from.now (low_of from.now J.bounds n)) (high_of to.now J.bounds n) limit
+            rows) (self.new.state, result) sender.new self.new.seat }
     {
         let left = left(limit, &rows);
         match self.part_of(alloc, sender.bounds(), n, from, to, left) {
-            Err(_) => Part::Done(Err(Miss::Fault)),
-            Ok(None) => Part::More(rows),
+            Err(_) => ScanPart::Done(Err(Miss::Fault)),
+            Ok(None) => ScanPart::More(rows),
             Ok(Some(body)) => self.look_part(body, limit, rows, sender),
         }
     }
@@ -249,13 +265,17 @@ impl<J: Naming> Session<J> {
         sender: &mut S,
     ) -> Result<Answer, Miss>
         requires way { IsWay J.bounds S.fits S.sends S.keys_between }
-        ensures { Sends S.sends J.bounds self.old.seat sender.old (scan_walk self.old.state J.bounds from.now to.now limit) (self.new.state, result) sender.new self.new.seat }
+        ensures { Sends S.sends J.bounds self.old.seat sender.old
+            (scan_walk self.old.state J.bounds from.now to.now limit) (
+              self.new.state,
+              result,
+            ) sender.new self.new.seat }
     {
         let mut rows = KeyValues::new(alloc);
         for n in 0..sender.bounds().len() + 1 {
             match self.read_part(alloc, n, from, to, limit, rows, sender) {
-                Part::More(more) => rows = more,
-                Part::Done(result) => return result,
+                ScanPart::More(more) => rows = more,
+                ScanPart::Done(result) => return result,
             }
         }
         Ok(Answer::Rows(rows))

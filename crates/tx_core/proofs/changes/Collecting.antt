@@ -4,12 +4,12 @@ use Rattle.std.proofs.lemmas.Bool.{cases_Bool, and_parts, and_cases, or_cases, n
 use Rattle.tx_types.specs.declared.key.Key.{Key}
 use Rattle.tx_types.specs.declared.mutation.Mutation.{Mutation}
 use Rattle.tx_types.specs.declared.mutation.Mutation.TheVariants as mutation
-use Rattle.tx_types.specs.Keys.{IsVisible}
+use Rattle.tx_types.specs.Keys.{IsVisible, is_visible}
 use Rattle.tx_plan.specs.Cells.{Lock, CommitRecord, Write, CommitOf, Rollback, Writes, Cells}
 use Rattle.tx_plan.specs.Own.{OwnRollback}
 use Rattle.tx_core.proofs.Basics.{nat_test, chosen, cond_true, cond_false, or_false}
 use Rattle.tx_core.proofs.view.View.{View, Inv, Does, IsCommitted, Written, Held, Gone, one_does, gone_by}
-use Rattle.tx_plan.specs.cases.Collect.{keeps, kept, commit_is, is_visible, is_put, none_above}
+use Rattle.tx_plan.specs.cases.Collect.{keeps, kept, commit_is, is_put, none_above}
 use Rattle.tx_core.proofs.view.Ends.{Ends}
 
 -- what stands on these keys is collected up to the safe point

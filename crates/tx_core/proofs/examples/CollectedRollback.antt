@@ -110,16 +110,16 @@ raises = record { region = omega arith; allowed = tt; holds = refl; loaded = las
 
 -- ---- what goes
 
-abbrev places : List (Key × ℕ)
-places = (a, 3) ∷ (a, 4) ∷ []
+abbrev versions : List (Key × ℕ)
+versions = (a, 3) ∷ (a, 4) ∷ []
 
 abbrev Drops : Key × ℕ → Type 0
 Drops = IsDropped (left full 0).cells 6
 
-all_dropped : AllDropped (left full 0).cells 6 places
-all_dropped = record { once = once; each = λ place. (λ c. drops place c.0 c.1 c.2, λ d. within place.0 place.1 d) }
+all_dropped : AllDropped (left full 0).cells 6 versions
+all_dropped = record { once = once; each = λ version. (λ c. drops version c.0 c.1 c.2, λ d. within version.0 version.1 d) }
   where
-    once : (i j : ℕ) (d : Key × ℕ) → i < j → j < length places → slice_index_or places i d ≢ slice_index_or places j d
+    once : (i j : ℕ) (d : Key × ℕ) → i < j → j < length versions → slice_index_or versions i d ≢ slice_index_or versions j d
     once zero zero d low high e = omega (arith, low)
     once zero (suc zero) d low high e = omega (arith, ap (λ (p : Key × ℕ). p.1) e)
     once zero (suc (suc j)) d low high e = omega (arith, high)
@@ -127,12 +127,12 @@ all_dropped = record { once = once; each = λ place. (λ c. drops place c.0 c.1 
     once (suc i) (suc zero) d low high e = omega (arith, low)
     once (suc i) (suc (suc j)) d low high e = omega (arith, high)
 
-    drops : (place : Key × ℕ) (n : ℕ) → n < length places → slice_index_or places n place ≡ place → Drops place
-    drops place zero low e = subst Drops e (λ none. (cc (none)), refl)
-    drops place (suc zero) low e = subst Drops e (λ none. (cc (none)), refl)
-    drops place (suc (suc n)) low e = absurd (omega (arith, low))
+    drops : (version : Key × ℕ) (n : ℕ) → n < length versions → slice_index_or versions n version ≡ version → Drops version
+    drops version zero low e = subst Drops e (λ none. (cc (none)), refl)
+    drops version (suc zero) low e = subst Drops e (λ none. (cc (none)), refl)
+    drops version (suc (suc n)) low e = absurd (omega (arith, low))
 
-    within : (k : Key) (q : ℕ) → Drops (k, q) → Contains places (k, q)
+    within : (k : Key) (q : ℕ) → Drops (k, q) → Contains versions (k, q)
     within k q d =
         elim (key_test a k) [
           | inl e ↦ elim (nat_test 3 q) [
@@ -151,7 +151,7 @@ collects = record {
   allowed = tt;
   holds = refl;
   loaded = last_was full;
-  answers = inr (λ other. other refl, inr (λ some. unlocked some.0 some.1, (places, all_dropped, refl)));
+  answers = inr (λ other. other refl, inr (λ some. unlocked some.0 some.1, (versions, all_dropped, refl)));
 }
   where
     unlocked : (info : LockInfo) → IsLockBelow (left full 0).cells 6 info → ⊥

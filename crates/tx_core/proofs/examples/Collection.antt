@@ -56,7 +56,7 @@ collects = record {
   allowed = tt;
   holds = refl;
   loaded = last_was raised_run;
-  answers = inr (λ other. other refl, inr (λ some. unlocked some.0 some.1, ([], record { once = λ i j d low high. absurd (omega (arith, high)); each = λ place. (λ c. absurd (omega (arith, c.1)), λ d. absurd (drops_none place.0 place.1 d)) }, refl)));
+  answers = inr (λ other. other refl, inr (λ some. unlocked some.0 some.1, ([], record { once = λ i j d low high. absurd (omega (arith, high)); each = λ version. (λ c. absurd (omega (arith, c.1)), λ d. absurd (drops_none version.0 version.1 d)) }, refl)));
 }
   where
     unlocked : (info : LockInfo) → IsLockBelow (left raised_run 0).cells 4 info → ⊥

@@ -1,6 +1,6 @@
 -- The lock of an accepted prewrite, and: a transaction of which each key had an async lock is
 -- committed at the greatest of their minimums.
-use Rattle.std.proofs.Common.{◌≡◌, ◌≢◌, ℕ, ◌==◌, inl, inr, Bool, true, false, cond, List, [], ◌∷◌, Option, Some, None, bytes_eq, refl, sym, ap, subst, ◌∙◌}
+use Rattle.std.proofs.Common.{◌≡◌, ◌≢◌, ℕ, ◌==◌, inl, inr, Bool, true, false, cond, List, [], ◌∷◌, Option, Some, None, bytes_eq, refl, sym, ap, subst, ◌∙◌, arith}
 use Rattle.tx_types.specs.declared.key.Key.{Key}
 use Rattle.tx_types.specs.declared.mutation.Change.{Change}
 use Rattle.tx_types.specs.declared.mutation.Fate.TheVariants as fate
@@ -123,7 +123,7 @@ each_in P set (c ∷ cs) within all =
 
 greatest_is : (acceptance : Key → Option Acceptance) (min : Key → ℕ) (set : List Change) → set ≢ [] → Each (λ k. async_minimum (acceptance k) ≡ Some (min k)) set → greatest acceptance set ≡ Some (greatest_of min set)
 greatest_is acceptance min [] some each = absurd (some refl)
-greatest_is acceptance min (c ∷ []) some each = each.0
+greatest_is acceptance min (c ∷ []) some each = each.0 ∙ ap Some (omega arith)
 greatest_is acceptance min (c ∷ d ∷ cs) some each =
     (let rest = greatest_is acceptance min (d ∷ cs) (λ e. cc (e)) each.1 in λ i. greater (each.0 i) (rest i))
 

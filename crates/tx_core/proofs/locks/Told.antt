@@ -264,4 +264,4 @@ module _ (bounds : List Key) (h : History) (good : Good bounds h) (before : Told
   pub collect_tells : (n l : ℕ) (b : Collect) (a : Answer) → Answers (left h n) l (last h) (body.Collect b) a → AllShown a
   collect_tells n l b a (inl x) = nothing a (ap infos_in x.1)
   collect_tells n l b a (inr (no0, inl (some, (info, first, e)))) = one a info (ap infos_in e) (subst (IsShown h (shown_in h)) (sym first.stands.told) (standing n info.key first.stands.lock first.stands.stands))
-  collect_tells n l b a (inr (no0, inr (free, (places, dropped, e)))) = nothing a (ap infos_in e)
+  collect_tells n l b a (inr (no0, inr (free, (versions, dropped, e)))) = nothing a (ap infos_in e)

@@ -150,7 +150,7 @@ module _ (r : Region) where
   tells l top (body.Collect b) a (inr (no0, inl (some, (told, first, e)))) = λ info c. (
       let same : told ≡ info = contains_one told info (subst (λ xs. Contains xs info) (ap infos_in e) c) in
       subst (λ y. Stands (leaves r (body.Collect b) y) info) (sym e) (subst (Stands r) same (first.stands.lock, first.stands.stands, first.stands.told)))
-  tells l top (body.Collect b) a (inr (no0, inr (free, (places, dropped, e)))) = nothing (body.Collect b) a _ e refl
+  tells l top (body.Collect b) a (inr (no0, inr (free, (versions, dropped, e)))) = nothing (body.Collect b) a _ e refl
 
 -- ---- what every world run says of a lock that was told of
 

@@ -50,5 +50,5 @@ module _ (bounds : List Key) (h : History) (good : Good bounds h) (n : ℕ) (l :
   pub next_collect : (a : Answer) → AnswersCollect (left h n).cells (left h n).safe b a → Next bounds h (took n (body.Collect b) l a)
   next_collect a (inl x) = silent a (BelowSafePoint (left h n).safe) x.1 (still bounds h good n l (body.Collect b) (BelowSafePoint (left h n).safe) (record { unnamed = refl; none = λ cells. refl; untold = λ u m. refl; unread = λ before. refl; unseen = refl; unnoted = λ e before. refl; unchecked = λ e. refl; floor = λ r. refl }) (λ r. refl) tt)
   next_collect a (inr (no0, inl (some, (info, first, e)))) = silent a (LocksRemain info) e (still bounds h good n l (body.Collect b) (LocksRemain info) (record { unnamed = refl; none = λ cells. refl; untold = λ u m. refl; unread = λ before. refl; unseen = refl; unnoted = λ e before. refl; unchecked = λ e. refl; floor = λ r. refl }) (λ r. refl) tt)
-  next_collect a (inr (no0, inr (free, (places, dropped, e)))) =
-      silent a (Collected (length places) (long_values (left h n).cells places)) e (collects (length places) (long_values (left h n).cells places) (elim (nat_test b.safe (left h n).safe) [ inl x ↦ x.1 | inr x ↦ absurd (no0 x.1) ]) free)
+  next_collect a (inr (no0, inr (free, (versions, dropped, e)))) =
+      silent a (Collected (length versions) (long_values (left h n).cells versions)) e (collects (length versions) (long_values (left h n).cells versions) (elim (nat_test b.safe (left h n).safe) [ inl x ↦ x.1 | inr x ↦ absurd (no0 x.1) ]) free)

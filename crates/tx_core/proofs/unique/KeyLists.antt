@@ -5,10 +5,7 @@ use Rattle.std.specs.Prelude.{AllPairs, Contains, IsTrue, slice_index_or}
 use Rattle.std.specs.List.{filter}
 use Rattle.std.proofs.lemmas.Bool.{cases_Bool}
 use Rattle.tx_types.specs.declared.key.Key.{Key}
-use Rattle.tx_types.specs.declared.mutation.KeyValue.{KeyValue}
-use Rattle.tx_types.specs.declared.lock.LockInfo.{LockInfo}
-use Rattle.tx_types.specs.Keys.{key_lt, IsRising}
-use Rattle.tx_plan.specs.cases.LocksBelow.{AreRising}
+use Rattle.tx_types.specs.Keys.{key_lt, KeysRise}
 use Rattle.tx_plan.proofs.KeyOrder.{lt_trans, lt_itself, lt_back}
 
 -- ---- members
@@ -149,14 +146,8 @@ module _ {X : Type 0} (key : X → Key) where
             ]
           ]
 
--- rows of a scan
-pub rows_in_order : (rows : List KeyValue) → IsRising rows → InOrder (λ (r : KeyValue). r.key) rows
-rows_in_order [] h = tt
-rows_in_order (x ∷ []) h = order_one (λ (r : KeyValue). r.key) x
-rows_in_order (x ∷ y ∷ rows) h = order_more (λ (r : KeyValue). r.key) x y rows h.0 (rows_in_order (y ∷ rows) h.1)
-
--- locks that are told of
-pub infos_in_order : (infos : List LockInfo) → AreRising infos → InOrder (λ (i : LockInfo). i.key) infos
-infos_in_order [] h = tt
-infos_in_order (x ∷ []) h = order_one (λ (i : LockInfo). i.key) x
-infos_in_order (x ∷ y ∷ infos) h = order_more (λ (i : LockInfo). i.key) x y infos h.0 (infos_in_order (y ∷ infos) h.1)
+-- things whose keys rise, as the rows of a scan and the locks that are told of
+pub rising_in_order : {X : Type 0} (key : X → Key) (xs : List X) → KeysRise key xs → InOrder key xs
+rising_in_order key [] h = tt
+rising_in_order key (x ∷ []) h = order_one key x
+rising_in_order key (x ∷ y ∷ xs) h = order_more key x y xs h.0 (rising_in_order key (y ∷ xs) h.1)

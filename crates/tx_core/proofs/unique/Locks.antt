@@ -15,7 +15,7 @@ use Rattle.tx_plan.specs.cases.LocksBelow.{AnswersLocksBelow}
 use Rattle.tx_plan.specs.cases.Collect.{commit_is, AllDropped, long_values, IsFirstBelow, AnswersCollect}
 use Rattle.tx_plan.proofs.KeyOrder.{ordered}
 use Rattle.tx_core.proofs.unique.Cases.{one_case, same, alike, one_lock}
-use Rattle.tx_core.proofs.unique.KeyLists.{contains_passing, passing_contained, Once, once_pairs, once_filter, fewer, order_once, one_list, infos_in_order}
+use Rattle.tx_core.proofs.unique.KeyLists.{contains_passing, passing_contained, Once, once_pairs, once_filter, fewer, order_once, one_list, rising_in_order}
 
 -- ---- locks
 
@@ -24,8 +24,8 @@ pub one_locks : (cells : Key → Cells) (q : LocksBelow) (a b : Answer) → Answ
 one_locks cells q a b (xs, x, is) (ys, y, also) =
     let within : (info : LockInfo) → Contains xs info → Contains ys info = λ info c. y.each info (x.stand info c) in
     let around : (info : LockInfo) → Contains ys info → Contains xs info = λ info c. x.each info (y.stand info c) in
-    let right = infos_in_order ys y.rising in
-    alike Locks xs ys a b (one_list (λ (i : LockInfo). i.key) xs ys (infos_in_order xs x.rising) right within (fewer ys xs (order_once (λ (i : LockInfo). i.key) ys right) around)) is also
+    let right = rising_in_order (λ (i : LockInfo). i.key) ys y.rising in
+    alike Locks xs ys a b (one_list (λ (i : LockInfo). i.key) xs ys (rising_in_order (λ (i : LockInfo). i.key) xs x.rising) right within (fewer ys xs (order_once (λ (i : LockInfo). i.key) ys right) around)) is also
 
 module _ (cells : Key → Cells) (safe : ℕ) where
   -- one lock is the first
@@ -46,15 +46,15 @@ module _ (cells : Key → Cells) (safe : ℕ) where
   -- ---- counts
 
   abbrev has_value : Key × ℕ → Bool
-  has_value place = commit_is is_long ((cells place.0).write place.1)
+  has_value version = commit_is is_long ((cells version.0).write version.1)
 
   -- the values that go are those of the places that hold one
-  value_places : (places : List (Key × ℕ)) → length (filter has_value places) ≡ long_values cells places
+  value_places : (versions : List (Key × ℕ)) → length (filter has_value versions) ≡ long_values cells versions
   value_places [] = refl
-  value_places (x ∷ places) =
+  value_places (x ∷ versions) =
       elim (cases_Bool (has_value x)) [
-        | inl long ↦ (rw long (ap suc (value_places places)))
-        | inr short ↦ (rw short (value_places places))
+        | inl long ↦ (rw long (ap suc (value_places versions)))
+        | inr short ↦ (rw short (value_places versions))
       ]
 
   -- of two lists of what is dropped neither is longer, nor has more values
@@ -64,11 +64,11 @@ module _ (cells : Key → Cells) (safe : ℕ) where
       once : Once xs
       once = once_pairs xs x.once
 
-      within : (place : Key × ℕ) → Contains xs place → Contains ys place
-      within place c = (y.each place).1 ((x.each place).0 c)
+      within : (version : Key × ℕ) → Contains xs version → Contains ys version
+      within version c = (y.each version).1 ((x.each version).0 c)
 
-      passing : (place : Key × ℕ) → Contains (filter has_value xs) place → Contains (filter has_value ys) place
-      passing place c = let both = passing_contained has_value xs place c in contains_passing has_value ys place (within place both.0) both.1
+      passing : (version : Key × ℕ) → Contains (filter has_value xs) version → Contains (filter has_value ys) version
+      passing version c = let both = passing_contained has_value xs version c in contains_passing has_value ys version (within version both.0) both.1
 
   one_count : (a b : Answer) → (xs : List (Key × ℕ)) × AllDropped cells safe xs × (a ≡ Collected (length xs) (long_values cells xs)) → (ys : List (Key × ℕ)) × AllDropped cells safe ys × (b ≡ Collected (length ys) (long_values cells ys)) → a ≡ b
   one_count a b (xs, x, is) (ys, y, also) =

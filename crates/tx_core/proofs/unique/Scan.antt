@@ -14,7 +14,7 @@ use Rattle.tx_plan.specs.cases.Scan.{GivesRows, MeetsLock, AnswersScan}
 use Rattle.tx_plan.proofs.KeyOrder.{ordered, lt_le, le_itself, lt_other, same_key, key_same}
 use Rattle.tx_core.proofs.Basics.{or_false, some_same}
 use Rattle.tx_core.proofs.unique.Cases.{one_case, same, alike, one_lock, one_read}
-use Rattle.tx_core.proofs.unique.KeyLists.{contains_none, contains_first, contains_next, contains_cases, fewer, InOrder, order_once, one_list, rows_in_order}
+use Rattle.tx_core.proofs.unique.KeyLists.{contains_none, contains_first, contains_next, contains_cases, fewer, InOrder, order_once, one_list, rising_in_order}
 
 -- ---- rows by key
 
@@ -78,16 +78,16 @@ module _ (cells : Key → Cells) (b : Scan) where
   -- what one walk has, another over that key has
   walked_row : (f g : Key → Bool) (x y : List KeyValue) → Walked cells b.at b.bypass f x → Walked cells b.at b.bypass g y → (r : KeyValue) → Contains x r → IsTrue (g r.key) → Contains y r
   walked_row f g x y p q r c there =
-      let given = row_given x (rows_in_order x p.rising) r c in
+      let given = row_given x (rising_in_order (λ (r : KeyValue). r.key) x p.rising) r c in
       given_row y r (one_read (cells r.key).write b.at (value_in y r.key) (value_in x r.key) (q.read r.key there) (p.read r.key (p.inside r.key r.value given)) ∙ given)
 
   -- each row of a walk lies where it walked
   row_inside : (f : Key → Bool) (x : List KeyValue) → Walked cells b.at b.bypass f x → (r : KeyValue) → Contains x r → IsTrue (f r.key)
-  row_inside f x p r c = p.inside r.key r.value (row_given x (rows_in_order x p.rising) r c)
+  row_inside f x p r c = p.inside r.key r.value (row_given x (rising_in_order (λ (r : KeyValue). r.key) x p.rising) r c)
 
   -- a walk is no longer than one that has its rows
   walk_fewer : (f : Key → Bool) (x y : List KeyValue) → Walked cells b.at b.bypass f x → ((r : KeyValue) → Contains x r → Contains y r) → length x ≤ length y
-  walk_fewer f x y p all = fewer x y (order_once (λ (r : KeyValue). r.key) x (rows_in_order x p.rising)) all
+  walk_fewer f x y p all = fewer x y (order_once (λ (r : KeyValue). r.key) x (rising_in_order (λ (r : KeyValue). r.key) x p.rising)) all
 
   abbrev IsDone : List KeyValue → Type 0
   IsDone rows = Walked cells b.at b.bypass (covered b rows) rows
@@ -104,7 +104,7 @@ module _ (cells : Key → Cells) (b : Scan) where
 
   -- two scans are the same where one has all rows of the other
   same_rows : (x y : List KeyValue) → length y ≤ b.limit → IsDone x → IsDone y → ((r : KeyValue) → Contains x r → Contains y r) → x ≡ y
-  same_rows x y upto p q all = one_list (λ (r : KeyValue). r.key) x y (rows_in_order x p.rising) (rows_in_order y q.rising) all (no_longer (cases_lt (length x) b.limit))
+  same_rows x y upto p q all = one_list (λ (r : KeyValue). r.key) x y (rising_in_order (λ (r : KeyValue). r.key) x p.rising) (rising_in_order (λ (r : KeyValue). r.key) y q.rising) all (no_longer (cases_lt (length x) b.limit))
     where
       no_longer : (length x < b.limit) ⊎ (b.limit ≤ length x) → length y ≤ length x
       no_longer (inl lt) = walk_fewer (covered b y) y x q (λ r c. done_row y x q p r c (or_left (nat_lt (length x) b.limit) (reaches x r.key) (lt-ltb (length x) b.limit lt)))

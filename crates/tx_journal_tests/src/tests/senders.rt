@@ -7,7 +7,7 @@ use std::marker::Brand;
 use std::mem::replace;
 use std::test::Fail;
 use tx_core::{Body, RaiseSafe, RegionNo};
-use tx_journal::{Naming, Opened, Reply, Request, Seat, Told};
+use tx_journal::{JournalId, Opened, Reply, Request, Seat, Told};
 use tx_types::Ts;
 
 // A way from requests to replies.
@@ -17,13 +17,13 @@ trait Sender<Q, R> {
 
 // A region that is refused memory for each answer, what it last replied, and the last request.
 #[derive(Drop)]
-struct Post<J: Naming> {
+struct Post<J: JournalId> {
     region: Seat<J>,
     newest: Told<J>,
     held: Option<Request<J>>,
 }
 
-impl<J: Naming> Sender<Request<J>, Reply<J>> for Post<J> {
+impl<J: JournalId> Sender<Request<J>, Reply<J>> for Post<J> {
     fn send(&mut self, mut request: Request<J>) -> Option<Reply<J>> {
         let copy = request.clone(&self.region).ok();
         drop(replace(&mut self.held, copy));
@@ -36,11 +36,11 @@ impl<J: Naming> Sender<Request<J>, Reply<J>> for Post<J> {
 
 // Who asks.
 #[derive(Drop)]
-struct Session<J: Naming> {
+struct Session<J: JournalId> {
     seat: Seat<J>,
 }
 
-impl<J: Naming> Session<J> {
+impl<J: JournalId> Session<J> {
     // Asks a region, and learns its reply.
     fn get<S: Sender<Request<J>, Reply<J>>>(&mut self, sender: &mut S) -> bool {
         let raise_safe = RaiseSafe {
@@ -59,7 +59,7 @@ impl<J: Naming> Session<J> {
 }
 
 // The history of a reply.
-fn told_of<J: Naming>(reply: Reply<J>) -> Told<J> {
+fn told_of<J: JournalId>(reply: Reply<J>) -> Told<J> {
     let (request, answer, told) = reply.into_parts();
     drop(request);
     drop(answer);
@@ -68,12 +68,12 @@ fn told_of<J: Naming>(reply: Reply<J>) -> Told<J> {
 
 // A session and its way.
 #[derive(Drop)]
-struct Engine<J: Naming> {
+struct Engine<J: JournalId> {
     session: Session<J>,
     post: Post<J>,
 }
 
-impl<J: Naming> Engine<J> {
+impl<J: JournalId> Engine<J> {
     fn new(session: Seat<J>, mut region: Seat<J>) -> Engine<J> {
         let newest = region.tell();
         Engine {
@@ -91,14 +91,14 @@ impl<J: Naming> Engine<J> {
     }
 }
 
-fn ask<J: Naming>(session: Seat<J>, region: Seat<J>) -> bool {
+fn ask<J: JournalId>(session: Seat<J>, region: Seat<J>) -> bool {
     let mut engine = Engine::new(session, region);
     let came = engine.get();
     drop(engine);
     came
 }
 
-fn asks<J: Naming>(alloc: Global, opened: Opened) -> bool
+fn asks<J: JournalId>(alloc: Global, opened: Opened) -> bool
     requires { (opened.table ≡ J.table) × (opened.bounds ≡ J.bounds) × (opened.seats ≡ J.seats) }
 {
     let Some(mut seats) = seats_of::<J>(alloc, opened) else {

@@ -14,15 +14,7 @@ IsExpired lock current = lock.start + lock.ttl < current
 
 -- a lock with another minimum
 abbrev pub with_minimum : Lock → ℕ → Lock
-with_minimum lock min = record {
-  mutation = lock.mutation;
-  mode = lock.mode;
-  secondaries = lock.secondaries;
-  start = lock.start;
-  min = min;
-  ttl = lock.ttl;
-  primary = lock.primary;
-}
+with_minimum lock min = record lock { min = min }
 
 -- The cases where the transaction's lock stands: an async lock is told unless the check is forced;
 -- an expired one is rolled back; one whose minimum is at most the caller's timestamp is pushed
@@ -51,5 +43,6 @@ AnswersCheckTxnStatus cells collected loaded b a =
 -- lock that it tells of has the minimum of the answer, and is otherwise as it was.
 abbrev pub leaves_check_txn_status : Cells → CheckTxnStatus → Answer → Cells
 leaves_check_txn_status cells b RolledBack = roll_back cells b.start
-leaves_check_txn_status cells b (Locked info) = on_own_lock cells b.start (λ lock. with_lock cells (Some (with_minimum lock info.min)))
+leaves_check_txn_status cells b (Locked info) = on_own_lock cells b.start
+    (λ lock. with_lock cells (Some (with_minimum lock info.min)))
 leaves_check_txn_status cells b _ = cells

@@ -8,27 +8,20 @@ use Rattle.tx_plan.specs.declared.body.Collect.{Collect}
 use Rattle.tx_plan.specs.declared.answer.Answer.{Answer}
 use Rattle.tx_plan.specs.declared.answer.Answer.TheVariants.{Collected, BelowSafePoint, LocksRemain}
 use Rattle.tx_plan.specs.Tables.{Case}
-use Rattle.tx_types.specs.Keys.{key_lt}
+use Rattle.tx_types.specs.Keys.{key_lt, is_visible}
 use Rattle.tx_plan.specs.Cells.{Write, CommitOf, Rollback, Writes, Cells, Region, is_long}
 use Rattle.tx_plan.specs.cases.LocksBelow.{IsLockBelow}
 
 -- ---- which records stay
 
--- whether a mutation puts or deletes
-abbrev pub is_visible : Mutation → Bool
-is_visible (Put v) = true
-is_visible (Insert v) = true
-is_visible Delete = true
-is_visible Lock = false
-
--- whether it puts
+-- whether a mutation puts
 abbrev pub is_put : Mutation → Bool
 is_put (Put v) = true
 is_put (Insert v) = true
 is_put Delete = false
 is_put Lock = false
 
--- whether the commit record that stands in a place, if one does, passes the test
+-- whether the commit record that stands of a version, if one does, passes the test
 abbrev pub commit_is : (Mutation → Bool) → Option Write → Bool
 commit_is test None = false
 commit_is test (Some Rollback) = false
@@ -46,23 +39,25 @@ keeps write safe q = not (nat_lt q safe) || commit_is is_put (write q) && none_a
 
 -- the cells of a key after collection
 abbrev pub kept : Cells → ℕ → Cells
-kept cells safe = record { lock = cells.lock; write = λ q. cond (keeps cells.write safe q) (cells.write q) None }
+kept cells safe = record cells { write = λ q. cond (keeps cells.write safe q) (cells.write q) None }
 
 -- ---- what is counted
 
--- a place that collection empties: a key and a timestamp
+-- a version that collection empties: a key and a timestamp
 abbrev pub IsDropped : (Key → Cells) → ℕ → Key × ℕ → Type 0
-IsDropped cells safe place = ((cells place.0).write place.1 ≢ None) × (keeps (cells place.0).write safe place.1 ≡ false)
+IsDropped cells safe version = ((cells version.0).write version.1 ≢ None)
+    × (keeps (cells version.0).write safe version.1 ≡ false)
 
--- all the places that collection empties, each once
-pub record AllDropped (cells : Key → Cells) (safe : ℕ) (places : List (Key × ℕ)) : Type 0 where
-  pub once : AllPairs (λ x y. x ≢ y) places
-  pub each : (place : Key × ℕ) → Contains places place ↔ IsDropped cells safe place
+-- all the versions that collection empties, each once
+pub record AllDropped (cells : Key → Cells) (safe : ℕ) (versions : List (Key × ℕ)) : Type 0 where
+  pub once : AllPairs (λ x y. x ≢ y) versions
+  pub each : (version : Key × ℕ) → Contains versions version ↔ IsDropped cells safe version
 
--- how many of these places hold a commit record whose value stands in the `default` family
+-- how many of these versions hold a commit record whose value stands in the `default` family
 abbrev pub long_values : (Key → Cells) → List (Key × ℕ) → ℕ
 long_values cells [] = 0
-long_values cells (x ∷ xs) = cond (commit_is is_long ((cells x.0).write x.1)) (suc (long_values cells xs)) (long_values cells xs)
+long_values cells (x ∷ xs) = cond (commit_is is_long ((cells x.0).write x.1)) (suc (long_values cells xs))
+    (long_values cells xs)
 
 -- ---- the table
 
@@ -82,10 +77,14 @@ abbrev pub AnswersCollect : (Key → Cells) → ℕ → Collect → Answer → T
 AnswersCollect cells safe b a =
     Case (b.safe ≢ safe) (a ≡ BelowSafePoint safe)
     (Case (SomeLockBelow cells b.safe) ((info : LockInfo) × IsFirstBelow cells b.safe info × (a ≡ LocksRemain info))
-    ((places : List (Key × ℕ)) × AllDropped cells b.safe places × (a ≡ Collected (length places) (long_values cells places))))
+    ((versions : List (Key × ℕ)) × AllDropped cells b.safe versions
+    × (a ≡ Collected (length versions) (long_values cells versions))))
 
 -- Where it has collected, the records that are not kept are gone, on every key, and the region has
 -- collected up to there.
 abbrev pub leaves_collect : Region → Collect → Answer → Region
-leaves_collect region b (Collected records values) = record { cells = λ k. kept (region.cells k) b.safe; max_read = region.max_read; safe = region.safe; collected = b.safe }
+leaves_collect region b (Collected records values) = record region {
+  cells = λ k. kept (region.cells k) b.safe;
+  collected = b.safe;
+}
 leaves_collect region b _ = region

@@ -20,7 +20,8 @@ CommitsLock write start commit lock done a =
 abbrev pub AnswersCommit : Cells → ℕ → Commit → Answer → Type 0
 AnswersCommit cells collected b a =
     Case (b.start < collected) (a ≡ BelowSafePoint collected)
-    (CaseOf (λ lock. OwnLock cells.lock b.start lock) (λ lock. CommitsLock cells.write b.start b.commit lock (Committed b.commit) a)
+    (CaseOf (λ lock. OwnLock cells.lock b.start lock) (λ lock. CommitsLock cells.write b.start b.commit lock
+    (Committed b.commit) a)
     (CaseOf (λ c. OwnCommit cells.write b.start c) (λ c. a ≡ Committed c)
     (Case (OwnRollback cells.write b.start) (a ≡ AlreadyRolledBack)
     (a ≡ TxnLockNotFound))))

@@ -1,11 +1,11 @@
 -- LocksBelow: the locks of a region that started below a timestamp.
-use Rattle.std.specs.Prelude.{◌≡◌, ℕ, ◌<◌, List, [], ◌∷◌, Contains, IsTrue, Some}
+use Rattle.std.specs.Prelude.{◌≡◌, ℕ, ◌<◌, List, Contains, Some}
 use Rattle.tx_types.specs.declared.key.Key.{Key}
 use Rattle.tx_types.specs.declared.lock.LockInfo.{LockInfo}
 use Rattle.tx_plan.specs.declared.body.LocksBelow.{LocksBelow}
 use Rattle.tx_plan.specs.declared.answer.Answer.{Answer}
 use Rattle.tx_plan.specs.declared.answer.Answer.TheVariants.{Locks}
-use Rattle.tx_types.specs.Keys.{key_lt}
+use Rattle.tx_types.specs.Keys.{KeysRise}
 use Rattle.tx_plan.specs.Cells.{Lock, Cells, info_of}
 
 -- what is told of a lock that stands in the region and started below s
@@ -15,15 +15,9 @@ pub record IsLockBelow (cells : Key → Cells) (s : ℕ) (info : LockInfo) : Typ
   pub told : info ≡ info_of info.key lock
   pub below : lock.start < s
 
--- locks stand in the order of their keys
-abbrev pub AreRising : List LockInfo → Type 0
-AreRising [] = Unit {0}
-AreRising (x ∷ []) = Unit {0}
-AreRising (x ∷ y ∷ infos) = IsTrue (key_lt x.key y.key) × AreRising (y ∷ infos)
-
 -- the region's locks that started below s, all of them, keys rising
 pub record AllBelow (cells : Key → Cells) (s : ℕ) (infos : List LockInfo) : Type 0 where
-  pub rising : AreRising infos
+  pub rising : KeysRise (λ (info : LockInfo). info.key) infos
   pub stand : (info : LockInfo) → Contains infos info → IsLockBelow cells s info
   pub each : (info : LockInfo) → IsLockBelow cells s info → Contains infos info
 

@@ -6,6 +6,7 @@ use Rattle.tx_types.specs.declared.mutation.Mutation.TheVariants as mutation
 use Rattle.tx_types.specs.declared.mutation.Mode.TheVariants.{TwoPhase, Async}
 use Rattle.tx_types.specs.Keys.{IsInsert}
 use Rattle.tx_types.specs.Kinds.{as_locked}
+use Rattle.tx_types.specs.Locks.{async_min}
 use Rattle.tx_plan.specs.declared.body.Prewrite.{Prewrite}
 use Rattle.tx_plan.specs.declared.answer.Answer.{Answer}
 use Rattle.tx_plan.specs.declared.answer.Answer.TheVariants.{Prewritten, KeyIsLocked, WriteConflict, AlreadyRolledBack, AlreadyCommitted, BelowSafePoint, FutureTimestamp, AlreadyExists}
@@ -31,7 +32,7 @@ IsWithin (Some max_commit) m = m ≤ max_commit
 
 -- the minimum that an answer names: 0 of a two-phase lock
 abbrev pub named_minimum : Lock → ℕ
-named_minimum lock = elim lock.mode [ TwoPhase ↦ 0 | Async ↦ lock.min ]
+named_minimum lock = async_min lock.mode lock.min
 
 -- a commit record stands above t
 pub record SomeAbove (write : Writes) (t : ℕ) : Type 0 where
@@ -66,7 +67,8 @@ AnswersPrewrite cells safe loaded Promise b a =
     (Case (OwnRollback cells.write b.start) (a ≡ AlreadyRolledBack)
     (CaseOf (λ c. OwnCommit cells.write b.start c) (λ c. a ≡ AlreadyCommitted c)
     (CaseOf (λ lock. cells.lock ≡ Some lock) (λ lock. a ≡ KeyIsLocked (info_of b.key lock))
-    (Case (SomeAbove cells.write b.start) ((start c : ℕ) × NewestAbove cells.write b.start start c × (a ≡ WriteConflict start c))
+    (Case (SomeAbove cells.write b.start) ((start c : ℕ) × NewestAbove cells.write b.start start c
+    × (a ≡ WriteConflict start c))
     (Case (IsInsert b.mutation × HasValue cells.write b.start) (a ≡ AlreadyExists)
     (Case (b.mode ≡ Async) ((m : ℕ) × Promise m × Case (IsWithin b.max_commit m) (a ≡ Prewritten m) (a ≡ Prewritten 0))
     (a ≡ Prewritten 0)))))))))

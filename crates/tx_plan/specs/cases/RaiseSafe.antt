@@ -15,5 +15,5 @@ AnswersRaiseSafe safe loaded b a =
 
 -- Where it is raised, it is the one that was asked for.
 abbrev pub leaves_raise_safe : Region → RaiseSafe → Answer → Region
-leaves_raise_safe region b Raised = record { cells = region.cells; max_read = region.max_read; safe = b.safe; collected = region.collected }
+leaves_raise_safe region b Raised = record region { safe = b.safe }
 leaves_raise_safe region b _ = region

@@ -18,15 +18,7 @@ AnswersTxnHeartBeat cells collected b a =
 
 -- a lock with another time to live
 abbrev pub with_ttl : Lock → ℕ → Lock
-with_ttl lock ttl = record {
-  mutation = lock.mutation;
-  mode = lock.mode;
-  secondaries = lock.secondaries;
-  start = lock.start;
-  min = lock.min;
-  ttl = ttl;
-  primary = lock.primary;
-}
+with_ttl lock ttl = record lock { ttl = ttl }
 
 -- The transaction's lock has the time to live of the answer.
 abbrev pub leaves_txn_heart_beat : Cells → TxnHeartBeat → Answer → Cells

@@ -11,27 +11,32 @@ use crate::answer::Answer;
 use crate::body::BatchRollback;
 use crate::plan::own::own_lock;
 use crate::plan::rolling::roll_back;
-use crate::planned::Planned;
+use crate::planned::Plan;
 use crate::view::TxnView;
 use tx_types::Ts;
 
 /// The answer to a BatchRollback that sees this of its key, in a region that collected up to
 /// `collected`, and the change. `BelowSafePoint` where the transaction started below that,
 /// `AlreadyCommitted` where it is committed on the key and has no lock there.
-pub fn plan_batch_rollback(view: &TxnView, collected: Ts, body: &BatchRollback) -> Planned
-    ensures answers { (cells : Cells) (commit : ℕ) → Shows cells body.now.start commit view.now → AnswersBatchRollback cells collected body.now (answer_with (info_on cells body.now.key) result.answer) }
-    ensures leaves { (cells : Cells) (commit : ℕ) → Shows cells body.now.start commit view.now → changed cells result.change ≡ leaves_batch_rollback cells body.now (answer_with (info_on cells body.now.key) result.answer) }
-    ensures applies { (cells : Cells) (commit : ℕ) → Shows cells body.now.start commit view.now → Applies cells result.change }
-    ensures makes { (cells : Cells) (commit : ℕ) → Shows cells body.now.start commit view.now → Makes cells result.change }
+pub fn plan_batch_rollback(view: &TxnView, collected: Ts, body: &BatchRollback) -> Plan
+    ensures answers { (cells : Cells) (commit : ℕ) → Shows cells body.now.start commit view.now
+        → AnswersBatchRollback cells collected body.now (answer_with (info_on cells body.now.key) result.answer) }
+    ensures leaves { (cells : Cells) (commit : ℕ) → Shows cells body.now.start commit view.now
+        → changed cells result.change ≡ leaves_batch_rollback cells body.now
+        (answer_with (info_on cells body.now.key) result.answer) }
+    ensures applies { (cells : Cells) (commit : ℕ) → Shows cells body.now.start commit view.now
+        → Applies cells result.change }
+    ensures makes { (cells : Cells) (commit : ℕ) → Shows cells body.now.start commit view.now
+        → Makes cells result.change }
     ensures unread { result.read ≡ None }
 {
     if body.start < collected {
-        return Planned::given(Answer::BelowSafePoint { safe: collected });
+        return Plan::given(Answer::BelowSafePoint { safe: collected });
     }
     if own_lock(view, body.start).is_none() {
         if let Some(commit) = view.own_commit {
-            return Planned::given(Answer::AlreadyCommitted { commit });
+            return Plan::given(Answer::AlreadyCommitted { commit });
         }
     }
-    Planned::changes(Answer::RolledBack, roll_back(view, body.start))
+    Plan::changes(Answer::RolledBack, roll_back(view, body.start))
 }

@@ -12,32 +12,33 @@ use crate::answer::Answer;
 use crate::body::CheckSecondaryLocks;
 use crate::plan::own::own_lock;
 use crate::plan::rolling::leave_rollback;
-use crate::planned::{Planned, PlannedAnswer};
+use crate::planned::{Plan, PlannedAnswer};
 use crate::view::TxnView;
 use tx_types::Ts;
 
 /// The answer to a CheckSecondaryLocks that sees this of its key, in a region that collected up to
 /// `collected`, and the change: where there is nothing of the transaction, its rollback is left.
 /// `BelowSafePoint` where it started below `collected`.
-pub fn plan_check_secondary_locks(
-    view: &TxnView,
-    collected: Ts,
-    body: &CheckSecondaryLocks,
-) -> Planned
-    ensures answers { (cells : Cells) (commit : ℕ) → Shows cells body.now.start commit view.now → AnswersCheckSecondaryLocks cells collected body.now (answer_with (info_on cells body.now.key) result.answer) }
-    ensures leaves { (cells : Cells) (commit : ℕ) → Shows cells body.now.start commit view.now → changed cells result.change ≡ leaves_check_secondary_locks cells body.now (answer_with (info_on cells body.now.key) result.answer) }
-    ensures applies { (cells : Cells) (commit : ℕ) → Shows cells body.now.start commit view.now → Applies cells result.change }
-    ensures makes { (cells : Cells) (commit : ℕ) → Shows cells body.now.start commit view.now → Makes cells result.change }
+pub fn plan_check_secondary_locks(view: &TxnView, collected: Ts, body: &CheckSecondaryLocks) -> Plan
+    ensures answers { (cells : Cells) (commit : ℕ) → Shows cells body.now.start commit view.now
+        → AnswersCheckSecondaryLocks cells collected body.now (answer_with (info_on cells body.now.key) result.answer) }
+    ensures leaves { (cells : Cells) (commit : ℕ) → Shows cells body.now.start commit view.now
+        → changed cells result.change ≡ leaves_check_secondary_locks cells body.now
+        (answer_with (info_on cells body.now.key) result.answer) }
+    ensures applies { (cells : Cells) (commit : ℕ) → Shows cells body.now.start commit view.now
+        → Applies cells result.change }
+    ensures makes { (cells : Cells) (commit : ℕ) → Shows cells body.now.start commit view.now
+        → Makes cells result.change }
     ensures unread { result.read ≡ None }
 {
     if body.start < collected {
-        return Planned::given(Answer::BelowSafePoint { safe: collected });
+        return Plan::given(Answer::BelowSafePoint { safe: collected });
     }
     if let Some(lock) = own_lock(view, body.start) {
-        return Planned::unchanged(PlannedAnswer::Locked { min: lock.min });
+        return Plan::unchanged(PlannedAnswer::Locked { min: lock.min });
     }
     if let Some(commit) = view.own_commit {
-        return Planned::given(Answer::Committed(commit));
+        return Plan::given(Answer::Committed(commit));
     }
-    Planned::changes(Answer::Missing, leave_rollback(view, body.start))
+    Plan::changes(Answer::Missing, leave_rollback(view, body.start))
 }

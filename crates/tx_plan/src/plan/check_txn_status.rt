@@ -12,7 +12,7 @@ use crate::body::CheckTxnStatus;
 use crate::key_change::KeyChange;
 use crate::plan::own::{is_rolled_back, own_lock};
 use crate::plan::rolling::roll_back;
-use crate::planned::{Planned, PlannedAnswer};
+use crate::planned::{Plan, PlannedAnswer};
 use crate::view::{LockHead, TxnView};
 use tx_types::{Mode, Ts};
 
@@ -27,52 +27,65 @@ pub fn plan_check_txn_status(
     collected: Ts,
     loaded: Ts,
     body: &CheckTxnStatus,
-) -> Planned
+) -> Plan
     requires room { loaded < u64.MAX }
-    ensures answers { (cells : Cells) (commit : ℕ) → Shows cells body.now.start commit view.now → AnswersCheckTxnStatus cells collected loaded body.now (answer_with (info_on cells body.now.key) result.answer) }
-    ensures leaves { (cells : Cells) (commit : ℕ) → Shows cells body.now.start commit view.now → changed cells result.change ≡ leaves_check_txn_status cells body.now (answer_with (info_on cells body.now.key) result.answer) }
-    ensures applies { (cells : Cells) (commit : ℕ) → Shows cells body.now.start commit view.now → Applies cells result.change }
-    ensures makes { (cells : Cells) (commit : ℕ) → Shows cells body.now.start commit view.now → Makes cells result.change }
+    ensures answers { (cells : Cells) (commit : ℕ) → Shows cells body.now.start commit view.now
+        → AnswersCheckTxnStatus cells collected loaded body.now
+        (answer_with (info_on cells body.now.key) result.answer) }
+    ensures leaves { (cells : Cells) (commit : ℕ) → Shows cells body.now.start commit view.now
+        → changed cells result.change ≡ leaves_check_txn_status cells body.now
+        (answer_with (info_on cells body.now.key) result.answer) }
+    ensures applies { (cells : Cells) (commit : ℕ) → Shows cells body.now.start commit view.now
+        → Applies cells result.change }
+    ensures makes { (cells : Cells) (commit : ℕ) → Shows cells body.now.start commit view.now
+        → Makes cells result.change }
     ensures unread { result.read ≡ None }
 {
     if body.start < collected {
-        return Planned::given(Answer::BelowSafePoint { safe: collected });
+        return Plan::given(Answer::BelowSafePoint { safe: collected });
     }
     if loaded < body.caller {
-        return Planned::given(Answer::FutureTimestamp { last: loaded });
+        return Plan::given(Answer::FutureTimestamp { last: loaded });
     }
     if let Some(lock) = own_lock(view, body.start) {
         return check_lock(view, &lock, body);
     }
     if let Some(commit) = view.own_commit {
-        return Planned::given(Answer::Committed(commit));
+        return Plan::given(Answer::Committed(commit));
     }
     if is_rolled_back(view, body.start) || body.rollback_if_not_exist {
-        return Planned::changes(Answer::RolledBack, roll_back(view, body.start));
+        return Plan::changes(Answer::RolledBack, roll_back(view, body.start));
     }
-    Planned::given(Answer::TxnNotFound)
+    Plan::given(Answer::TxnNotFound)
 }
 
 // The answer where the transaction has its lock on the key, and the change.
-fn check_lock(view: &TxnView, lock: &LockHead, body: &CheckTxnStatus) -> Planned
+fn check_lock(view: &TxnView, lock: &LockHead, body: &CheckTxnStatus) -> Plan
     requires room { body.now.caller < u64.MAX }
-    ensures answers { (cells : Cells) (commit : ℕ) → Shows cells body.now.start commit view.now → (own : HasOwnHead cells.lock body.now.start lock.now) → ChecksLock body.now own.lock (answer_with (info_on cells body.now.key) result.answer) }
-    ensures leaves { (cells : Cells) (commit : ℕ) → Shows cells body.now.start commit view.now → HasOwnHead cells.lock body.now.start lock.now → changed cells result.change ≡ leaves_check_txn_status cells body.now (answer_with (info_on cells body.now.key) result.answer) }
-    ensures applies { (cells : Cells) (commit : ℕ) → Shows cells body.now.start commit view.now → HasOwnHead cells.lock body.now.start lock.now → Applies cells result.change }
-    ensures makes { (cells : Cells) (commit : ℕ) → Shows cells body.now.start commit view.now → HasOwnHead cells.lock body.now.start lock.now → Makes cells result.change }
+    ensures answers { (cells : Cells) (commit : ℕ) → Shows cells body.now.start commit view.now
+        → (own : HasOwnHead cells.lock body.now.start lock.now)
+        → ChecksLock body.now own.lock (answer_with (info_on cells body.now.key) result.answer) }
+    ensures leaves { (cells : Cells) (commit : ℕ) → Shows cells body.now.start commit view.now
+        → HasOwnHead cells.lock body.now.start lock.now
+        → changed cells result.change ≡ leaves_check_txn_status cells body.now
+        (answer_with (info_on cells body.now.key) result.answer) }
+    ensures applies { (cells : Cells) (commit : ℕ) → Shows cells body.now.start commit view.now
+        → HasOwnHead cells.lock body.now.start lock.now → Applies cells result.change }
+    ensures makes { (cells : Cells) (commit : ℕ) → Shows cells body.now.start commit view.now
+        → HasOwnHead cells.lock body.now.start lock.now → Makes cells result.change }
     ensures unread { result.read ≡ None }
 {
     if lock.mode == Mode::Async && !body.force_sync_commit {
-        return Planned::unchanged(PlannedAnswer::Locked { min: lock.min });
+        return Plan::unchanged(PlannedAnswer::Locked { min: lock.min });
     }
     if is_expired(lock, body.current) {
-        return Planned::changes(Answer::RolledBack, roll_back(view, body.start));
+        return Plan::changes(Answer::RolledBack, roll_back(view, body.start));
     }
     if body.caller < lock.min {
-        return Planned::unchanged(PlannedAnswer::Locked { min: lock.min });
+        return Plan::unchanged(PlannedAnswer::Locked { min: lock.min });
     }
     let min = Ts::new(body.caller.get() + 1);
-    Planned {
+    Plan {
         answer: PlannedAnswer::Locked { min },
         change: KeyChange::Minimum(min),
         read: None,

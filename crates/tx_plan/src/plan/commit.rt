@@ -11,7 +11,7 @@ use crate::answer::Answer;
 use crate::body::Commit;
 use crate::plan::committing::{commit_lock, commit_refusal};
 use crate::plan::own::{is_rolled_back, own_lock};
-use crate::planned::Planned;
+use crate::planned::Plan;
 use crate::view::TxnView;
 use tx_types::Ts;
 
@@ -20,30 +20,34 @@ use tx_types::Ts;
 /// there: `CommitTsExpired` below the lock's minimum, `WriteConflict` where another's commit record
 /// is at the commit timestamp. Without its lock: `AlreadyRolledBack` where its rollback is there,
 /// `TxnLockNotFound` where nothing of it is.
-pub fn plan_commit(view: &TxnView, collected: Ts, body: &Commit) -> Planned
-    ensures answers { (cells : Cells) → Shows cells body.now.start body.now.commit view.now → AnswersCommit cells collected body.now (answer_with (info_on cells body.now.key) result.answer) }
-    ensures leaves { (cells : Cells) → Shows cells body.now.start body.now.commit view.now → changed cells result.change ≡ leaves_commit cells body.now (answer_with (info_on cells body.now.key) result.answer) }
-    ensures applies { (cells : Cells) → Shows cells body.now.start body.now.commit view.now → Applies cells result.change }
+pub fn plan_commit(view: &TxnView, collected: Ts, body: &Commit) -> Plan
+    ensures answers { (cells : Cells) → Shows cells body.now.start body.now.commit view.now
+        → AnswersCommit cells collected body.now (answer_with (info_on cells body.now.key) result.answer) }
+    ensures leaves { (cells : Cells) → Shows cells body.now.start body.now.commit view.now
+        → changed cells result.change ≡ leaves_commit cells body.now
+        (answer_with (info_on cells body.now.key) result.answer) }
+    ensures applies { (cells : Cells) → Shows cells body.now.start body.now.commit view.now
+        → Applies cells result.change }
     ensures makes { (cells : Cells) → Shows cells body.now.start body.now.commit view.now → Makes cells result.change }
     ensures unread { result.read ≡ None }
 {
     if body.start < collected {
-        return Planned::given(Answer::BelowSafePoint { safe: collected });
+        return Plan::given(Answer::BelowSafePoint { safe: collected });
     }
     if let Some(lock) = own_lock(view, body.start) {
         return match commit_refusal(view, &lock, body.start, body.commit) {
-            Some(refusal) => Planned::given(refusal),
-            None => Planned::changes(
+            Some(refusal) => Plan::given(refusal),
+            None => Plan::changes(
                 Answer::Committed(body.commit),
                 commit_lock(view, body.commit),
             ),
         };
     }
     if let Some(commit) = view.own_commit {
-        return Planned::given(Answer::Committed(commit));
+        return Plan::given(Answer::Committed(commit));
     }
     if is_rolled_back(view, body.start) {
-        return Planned::given(Answer::AlreadyRolledBack);
+        return Plan::given(Answer::AlreadyRolledBack);
     }
-    Planned::given(Answer::TxnLockNotFound)
+    Plan::given(Answer::TxnLockNotFound)
 }

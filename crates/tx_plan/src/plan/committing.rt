@@ -13,7 +13,9 @@ use tx_types::Ts;
 /// Why the transaction's lock is not committed at `commit`: `CommitTsExpired` below the lock's
 /// minimum, `WriteConflict` where another transaction committed at that timestamp.
 pub fn commit_refusal(view: &TxnView, lock: &LockHead, start: Ts, commit: Ts) -> Option<Answer>
-    ensures { (cells : Cells) → Shows cells start commit view.now → (own : HasOwnHead cells.lock start lock.now) → MatchOption result (MayCommitAt cells.write start commit own.lock) (λ a. RefusesCommit cells.write start commit own.lock a) }
+    ensures { (cells : Cells) → Shows cells start commit view.now → (own : HasOwnHead cells.lock start lock.now)
+        → MatchOption result (MayCommitAt cells.write start commit own.lock)
+        (λ a. RefusesCommit cells.write start commit own.lock a) }
 {
     if commit < lock.min {
         return Some(Answer::CommitTsExpired { min: lock.min });
@@ -31,7 +33,8 @@ pub fn commit_refusal(view: &TxnView, lock: &LockHead, start: Ts, commit: Ts) ->
 
 /// The lock is committed at `commit`, of which the view shows the record.
 pub fn commit_lock(view: &TxnView, commit: Ts) -> KeyChange
-    ensures { (cells : Cells) (start : ℕ) → Shows cells start commit view.now → result ≡ KeyChange.Commit commit (is_rollback (cells.write commit)) }
+    ensures { (cells : Cells) (start : ℕ) → Shows cells start commit view.now
+        → result ≡ KeyChange.Commit commit (is_rollback (cells.write commit)) }
 {
     KeyChange::Commit {
         commit,

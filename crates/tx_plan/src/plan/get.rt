@@ -9,7 +9,7 @@ use crate::answer::Answer;
 use crate::body::Get;
 use crate::key_change::KeyChange;
 use crate::plan::reads::{is_blocked, read_refusal};
-use crate::planned::{Planned, PlannedAnswer};
+use crate::planned::{Plan, PlannedAnswer};
 use crate::view::ReadView;
 use tx_types::Ts;
 
@@ -17,13 +17,16 @@ use tx_types::Ts;
 /// loaded `loaded`. `BelowSafePoint` where the read lies below the safe point, `FutureTimestamp`
 /// where it lies above `loaded`, `KeyIsLocked` where a lock blocks it. A read that is not refused
 /// by its timestamp counts, also where a lock stopped it.
-pub fn plan_get(view: ReadView, safe: Ts, loaded: Ts, body: &Get) -> Planned
-    ensures answers { (cells : Cells) → ShowsRead cells body.now.at view → AnswersGet cells safe loaded body.now (answer_with (info_on cells body.now.key) result.answer) }
-    ensures leaves { (cells : Cells) → ShowsRead cells body.now.at view → (region : Region) → leaves_get region body.now (answer_with (info_on cells body.now.key) result.answer) ≡ with_read region result.read }
+pub fn plan_get(view: ReadView, safe: Ts, loaded: Ts, body: &Get) -> Plan
+    ensures answers { (cells : Cells) → ShowsRead cells body.now.at view
+        → AnswersGet cells safe loaded body.now (answer_with (info_on cells body.now.key) result.answer) }
+    ensures leaves { (cells : Cells) → ShowsRead cells body.now.at view → (region : Region)
+        → leaves_get region body.now (answer_with (info_on cells body.now.key) result.answer)
+        ≡ with_read region result.read }
     ensures same { result.change ≡ KeyChange.Nothing }
 {
     if let Some(refusal) = read_refusal(body.at, safe, loaded) {
-        return Planned::given(refusal);
+        return Plan::given(refusal);
     }
     let ReadView { lock, value } = view;
     let answer = if is_blocked(&lock, body.at, &body.bypass) {
@@ -34,7 +37,7 @@ pub fn plan_get(view: ReadView, safe: Ts, loaded: Ts, body: &Get) -> Planned
             None => PlannedAnswer::Given(Answer::Nothing),
         }
     };
-    Planned {
+    Plan {
         answer,
         change: KeyChange::Nothing,
         read: Some(body.at),

@@ -34,7 +34,8 @@ pub fn first_below<L: LockWalk + Drop>(
     safe: Ts,
 ) -> Result<Option<LockInfo>, Fault>
     requires { IsLockWalk (L.cells walk) (L.rest walk) }
-    ensures first { IfOk result (λ found. MatchOption found (SomeLockBelow (L.cells walk) safe → ⊥) (λ info. IsFirstBelow (L.cells walk) safe info)) }
+    ensures first { IfOk result (λ found. MatchOption found (SomeLockBelow (L.cells walk) safe
+        → ⊥) (λ info. IsFirstBelow (L.cells walk) safe info)) }
     ensures err { IfErr result (λ e. e ≡ Fault.OutOfMemory) }
 {
     'locks: while let Some((key, lock)) = walk.next(alloc)? {

@@ -9,7 +9,9 @@ use tx_types::Ts;
 
 /// The transaction's lock, where it is on the key.
 pub fn own_lock(view: &TxnView, start: Ts) -> Option<LockHead>
-    ensures { (cells : Cells) (commit : ℕ) → Shows cells start commit view.now → MatchOption result ((lock : Lock) → OwnLock cells.lock start lock → ⊥) (λ head. HasOwnHead cells.lock start head) }
+    ensures { (cells : Cells) (commit : ℕ) → Shows cells start commit view.now
+        → MatchOption result ((lock : Lock) → OwnLock cells.lock start lock
+        → ⊥) (λ head. HasOwnHead cells.lock start head) }
 {
     match view.lock {
         Some(lock) if lock.start == start => Some(lock),
@@ -19,7 +21,8 @@ pub fn own_lock(view: &TxnView, start: Ts) -> Option<LockHead>
 
 /// Whether the transaction is rolled back on the key.
 pub fn is_rolled_back(view: &TxnView, start: Ts) -> bool
-    ensures { (cells : Cells) (commit : ℕ) → Shows cells start commit view.now → IsTrue result ↔ OwnRollback cells.write start }
+    ensures { (cells : Cells) (commit : ℕ) → Shows cells start commit view.now → IsTrue result
+        ↔ OwnRollback cells.write start }
 {
     match view.at_start {
         Some(RecordHead::Rollback) => true,

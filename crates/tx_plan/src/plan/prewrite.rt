@@ -6,15 +6,15 @@ ghost use Rattle.tx_plan.specs.Cells.{Cells};
 ghost use Rattle.tx_plan.specs.Changes.{new_lock, after_put, CanPut};
 ghost use Rattle.tx_plan.specs.Locking.{AnswersLock};
 ghost use Rattle.tx_plan.specs.Plans.{answer_with};
-ghost use Rattle.tx_plan.specs.Views.{Shows, info_on, named_in};
+ghost use Rattle.tx_plan.specs.Views.{Shows, info_on};
 ghost use Rattle.tx_plan.specs.cases.Prewrite.{AnswersPrewrite, leaves_prewrite, read_by_prewrite, check_by, HasValue, least_minimum, IsWithin};
 
 use crate::answer::Answer;
 use crate::body::Prewrite;
 use crate::key_change::{KeyChange, NewLock};
 use crate::plan::own::{is_rolled_back, own_lock};
-use crate::planned::{Planned, PlannedAnswer};
-use crate::view::{LockHead, TxnView};
+use crate::planned::{Plan, PlannedAnswer};
+use crate::view::TxnView;
 use tx_types::{Mode, Mutation, Ts};
 
 /// The answer to a Prewrite that sees this of its key, on which a read at its start finds a value
@@ -34,40 +34,47 @@ pub fn plan_prewrite(
     loaded: Ts,
     mark: Ts,
     body: &Prewrite,
-) -> Planned
+) -> Plan
     requires room { loaded < u64.MAX }
     requires above { mark < u64.MAX }
-    ensures answers { (cells : Cells) (commit : ℕ) → Shows cells body.now.start commit view.now → (IsInsert body.now.mutation → IsTrue has_value ↔ HasValue cells.write body.now.start) → AnswersPrewrite cells safe loaded (λ m. m ≡ least_minimum mark body.now) body.now (answer_with (info_on cells body.now.key) result.answer) }
-    ensures leaves { (cells : Cells) (commit : ℕ) → Shows cells body.now.start commit view.now → after_put cells body.now (new_lock result.change) ≡ leaves_prewrite cells body.now (answer_with (info_on cells body.now.key) result.answer) }
-    ensures applies { (cells : Cells) (commit : ℕ) → Shows cells body.now.start commit view.now → IfSome (new_lock result.change) (λ new. CanPut cells body.now new) }
-    ensures read { (cells : Cells) (commit : ℕ) → Shows cells body.now.start commit view.now → result.read ≡ read_by_prewrite (answer_with (info_on cells body.now.key) result.answer) cells.lock body.now }
+    ensures answers { (cells : Cells) (commit : ℕ) → Shows cells body.now.start commit view.now
+        → (IsInsert body.now.mutation → IsTrue has_value ↔ HasValue cells.write body.now.start)
+        → AnswersPrewrite cells safe loaded (λ m. m
+        ≡ least_minimum mark body.now) body.now (answer_with (info_on cells body.now.key) result.answer) }
+    ensures leaves { (cells : Cells) (commit : ℕ) → Shows cells body.now.start commit view.now
+        → after_put cells body.now (new_lock result.change)
+        ≡ leaves_prewrite cells body.now (answer_with (info_on cells body.now.key) result.answer) }
+    ensures applies { (cells : Cells) (commit : ℕ) → Shows cells body.now.start commit view.now
+        → IfSome (new_lock result.change) (λ new. CanPut cells body.now new) }
+    ensures read { (cells : Cells) (commit : ℕ) → Shows cells body.now.start commit view.now
+        → result.read ≡ read_by_prewrite (answer_with (info_on cells body.now.key) result.answer) cells.lock body.now }
 {
     if body.start < safe {
-        return Planned::given(Answer::BelowSafePoint { safe });
+        return Plan::given(Answer::BelowSafePoint { safe });
     }
     if loaded < body.start {
-        return Planned::given(Answer::FutureTimestamp { last: loaded });
+        return Plan::given(Answer::FutureTimestamp { last: loaded });
     }
     if let Some(lock) = own_lock(view, body.start) {
-        return Planned::given(Answer::Prewritten(named_minimum(&lock)));
+        return Plan::given(Answer::Prewritten(lock.mode.async_min(lock.min)));
     }
     if is_rolled_back(view, body.start) {
-        return Planned::given(Answer::AlreadyRolledBack);
+        return Plan::given(Answer::AlreadyRolledBack);
     }
     if let Some(commit) = view.own_commit {
-        return Planned::given(Answer::AlreadyCommitted { commit });
+        return Plan::given(Answer::AlreadyCommitted { commit });
     }
     if view.lock.is_some() {
-        return Planned::unchanged(PlannedAnswer::KeyIsLocked);
+        return Plan::unchanged(PlannedAnswer::KeyIsLocked);
     }
     if let Some(newest) = view.newest_above {
-        return Planned::given(Answer::WriteConflict {
+        return Plan::given(Answer::WriteConflict {
             start: newest.start,
             commit: newest.commit,
         });
     }
     if finds_value(&body.mutation, has_value) {
-        return Planned {
+        return Plan {
             answer: PlannedAnswer::Given(Answer::AlreadyExists),
             change: KeyChange::Nothing,
             read: Some(body.start),
@@ -96,29 +103,23 @@ fn check(body: &Prewrite) -> Option<Ts>
     }
 }
 
-// The minimum that an answer names of a lock that is there.
-fn named_minimum(lock: &LockHead) -> Ts
-    ensures { result ≡ named_in lock.now }
-{
-    match lock.mode {
-        Mode::TwoPhase => Ts::ZERO,
-        Mode::Async => lock.min,
-    }
-}
-
 // The answer of a free key, and the lock that is put.
-fn lock_key(mark: Ts, body: &Prewrite) -> Planned
+fn lock_key(mark: Ts, body: &Prewrite) -> Plan
     requires room { body.now.start < u64.MAX }
     requires above { mark < u64.MAX }
-    ensures answers { (info : Option LockInfo) → AnswersLock (λ m. m ≡ least_minimum mark body.now) body.now (answer_with info result.answer) }
-    ensures leaves { (cells : Cells) → cells.lock ≡ None → after_put cells body.now (new_lock result.change) ≡ leaves_prewrite cells body.now (answer_with (info_on cells body.now.key) result.answer) }
+    ensures answers { (info : Option LockInfo) → AnswersLock (λ m. m
+        ≡ least_minimum mark body.now) body.now (answer_with info result.answer) }
+    ensures leaves { (cells : Cells) → cells.lock ≡ None
+        → after_put cells body.now (new_lock result.change)
+        ≡ leaves_prewrite cells body.now (answer_with (info_on cells body.now.key) result.answer) }
     ensures minimum { IfSome (new_lock result.change) (λ new. body.now.start < new.min) }
-    ensures read { (cells : Cells) → cells.lock ≡ None → result.read ≡ read_by_prewrite (answer_with (info_on cells body.now.key) result.answer) cells.lock body.now }
+    ensures read { (cells : Cells) → cells.lock ≡ None
+        → result.read ≡ read_by_prewrite (answer_with (info_on cells body.now.key) result.answer) cells.lock body.now }
 {
     let above = mark.get().max(body.start.get()) + 1;
     let min = Ts::new(above.max(body.floor.get()));
     if body.mode == Mode::Async && is_within(body.max_commit, min) {
-        return Planned {
+        return Plan {
             answer: PlannedAnswer::Given(Answer::Prewritten(min)),
             change: KeyChange::Lock(NewLock {
                 mode: Mode::Async,
@@ -127,7 +128,7 @@ fn lock_key(mark: Ts, body: &Prewrite) -> Planned
             read: check(body),
         };
     }
-    Planned {
+    Plan {
         answer: PlannedAnswer::Given(Answer::Prewritten(Ts::ZERO)),
         change: KeyChange::Lock(NewLock {
             mode: Mode::TwoPhase,

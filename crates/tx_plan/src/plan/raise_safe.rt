@@ -20,7 +20,8 @@ pub struct SafePlan {
 /// `BelowSafePoint` where it lies below the region's: then the safe point stays.
 pub fn plan_raise_safe(safe: Ts, loaded: Ts, body: &RaiseSafe) -> SafePlan
     ensures answer { AnswersRaiseSafe safe loaded body.now result.answer }
-    ensures leaves { (region : Region) → region.safe ≡ safe → leaves_raise_safe region body.now result.answer ≡ record region { safe = result.safe } }
+    ensures leaves { (region : Region) → region.safe ≡ safe
+        → leaves_raise_safe region body.now result.answer ≡ record region { safe = result.safe } }
 {
     if body.safe > loaded {
         return SafePlan {

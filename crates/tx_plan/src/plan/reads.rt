@@ -2,7 +2,8 @@
 ghost use Rattle.std.specs.Prelude.{◌≡◌, ◌↔◌, IsTrue, Option, MatchOption, Contains, option_map};
 ghost use Rattle.tx_plan.specs.Cells.{Lock};
 ghost use Rattle.tx_plan.specs.Refusals.{MayRead, RefusesRead};
-ghost use Rattle.tx_plan.specs.Views.{IsBlocked, IsSeenKind, lock_head_of};
+ghost use Rattle.tx_plan.specs.Views.{IsBlocked, lock_head_of};
+ghost use Rattle.tx_types.specs.Kinds.{IsSeenKind};
 
 use crate::answer::Answer;
 use crate::lists::Starts;
@@ -26,7 +27,8 @@ pub fn read_refusal(at: Ts, safe: Ts, loaded: Ts) -> Option<Answer>
 /// Whether the lock on a key, of which this is asked, blocks a read at this timestamp that passes
 /// these transactions by.
 pub fn is_blocked(lock: &Option<LockHead>, at: Ts, bypass: &Starts) -> bool
-    ensures { (found : Option Lock) → lock.now ≡ option_map lock_head_of found → IsTrue result ↔ IsBlocked found at bypass.now }
+    ensures { (found : Option Lock) → lock.now ≡ option_map lock_head_of found → IsTrue result
+        ↔ IsBlocked found at bypass.now }
 {
     match lock {
         Some(lock) => is_seen(lock.kind) && lock.min <= at && !is_among(bypass, lock.start),

@@ -13,7 +13,7 @@ use crate::body::ResolveLock;
 use crate::plan::committing::{commit_lock, commit_refusal};
 use crate::plan::own::own_lock;
 use crate::plan::rolling::roll_back;
-use crate::planned::Planned;
+use crate::planned::Plan;
 use crate::view::TxnView;
 use tx_types::{Fate, Ts};
 
@@ -22,24 +22,29 @@ use tx_types::{Fate, Ts};
 /// is committed and has its lock on the key: `CommitTsExpired` below the lock's minimum,
 /// `WriteConflict` where another transaction committed at the commit timestamp. Where it has no
 /// lock there is nothing to do.
-pub fn plan_resolve_lock(view: &TxnView, collected: Ts, body: &ResolveLock) -> Planned
-    ensures answers { (cells : Cells) → Shows cells body.now.start (commit_in body.now.fate) view.now → AnswersResolveLock cells collected body.now (answer_with (info_on cells body.now.key) result.answer) }
-    ensures leaves { (cells : Cells) → Shows cells body.now.start (commit_in body.now.fate) view.now → changed cells result.change ≡ leaves_resolve_lock cells body.now (answer_with (info_on cells body.now.key) result.answer) }
-    ensures applies { (cells : Cells) → Shows cells body.now.start (commit_in body.now.fate) view.now → Applies cells result.change }
-    ensures makes { (cells : Cells) → Shows cells body.now.start (commit_in body.now.fate) view.now → Makes cells result.change }
+pub fn plan_resolve_lock(view: &TxnView, collected: Ts, body: &ResolveLock) -> Plan
+    ensures answers { (cells : Cells) → Shows cells body.now.start (commit_in body.now.fate) view.now
+        → AnswersResolveLock cells collected body.now (answer_with (info_on cells body.now.key) result.answer) }
+    ensures leaves { (cells : Cells) → Shows cells body.now.start (commit_in body.now.fate) view.now
+        → changed cells result.change ≡ leaves_resolve_lock cells body.now
+        (answer_with (info_on cells body.now.key) result.answer) }
+    ensures applies { (cells : Cells) → Shows cells body.now.start (commit_in body.now.fate) view.now
+        → Applies cells result.change }
+    ensures makes { (cells : Cells) → Shows cells body.now.start (commit_in body.now.fate) view.now
+        → Makes cells result.change }
     ensures unread { result.read ≡ None }
 {
     if body.start < collected {
-        return Planned::given(Answer::BelowSafePoint { safe: collected });
+        return Plan::given(Answer::BelowSafePoint { safe: collected });
     }
     let Some(lock) = own_lock(view, body.start) else {
-        return Planned::given(Answer::Resolved);
+        return Plan::given(Answer::Resolved);
     };
     match body.fate {
-        Fate::Aborted => Planned::changes(Answer::Resolved, roll_back(view, body.start)),
+        Fate::Aborted => Plan::changes(Answer::Resolved, roll_back(view, body.start)),
         Fate::Committed(commit) => match commit_refusal(view, &lock, body.start, commit) {
-            Some(refusal) => Planned::given(refusal),
-            None => Planned::changes(Answer::Resolved, commit_lock(view, commit)),
+            Some(refusal) => Plan::given(refusal),
+            None => Plan::changes(Answer::Resolved, commit_lock(view, commit)),
         },
     }
 }

@@ -13,7 +13,8 @@ use tx_types::Ts;
 
 // How the transaction's rollback is left: the mark goes on another's commit record alone.
 fn left_of(view: &TxnView, start: Ts) -> Left
-    ensures writes { (cells : Cells) (commit : ℕ) → Shows cells start commit view.now → after_left cells.write start result ≡ (leave_rollback cells start).write }
+    ensures writes { (cells : Cells) (commit : ℕ) → Shows cells start commit view.now
+        → after_left cells.write start result ≡ (leave_rollback cells start).write }
     ensures is { (cells : Cells) (commit : ℕ) → Shows cells start commit view.now → IsLeft cells.write start result }
     ensures new { (cells : Cells) (commit : ℕ) → Shows cells start commit view.now → IsNewOr cells.write start result }
 {
@@ -33,8 +34,10 @@ fn left_of(view: &TxnView, start: Ts) -> Left
 
 // A rollback, which is a change where it removes a lock or does not stand yet.
 fn rolls(start: Ts, removes_lock: bool, left: Left) -> KeyChange
-    ensures leaves { (cells : Cells) → changed cells result ≡ changed cells (KeyChange.RollBack start removes_lock left) }
-    ensures applies { (cells : Cells) → Applies cells (KeyChange.RollBack start removes_lock left) → Applies cells result }
+    ensures leaves { (cells : Cells) → changed cells result
+        ≡ changed cells (KeyChange.RollBack start removes_lock left) }
+    ensures applies { (cells : Cells) → Applies cells (KeyChange.RollBack start removes_lock left)
+        → Applies cells result }
     ensures makes { (cells : Cells) → IsNewOr cells.write start left → Makes cells result }
 {
     match left {
@@ -50,7 +53,8 @@ fn rolls(start: Ts, removes_lock: bool, left: Left) -> KeyChange
 /// Leaves the transaction's rollback; a lock on the key stays. Where its rollback stands, nothing
 /// changes.
 pub fn leave_rollback(view: &TxnView, start: Ts) -> KeyChange
-    ensures leaves { (cells : Cells) (commit : ℕ) → Shows cells start commit view.now → changed cells result ≡ leave_rollback cells start }
+    ensures leaves { (cells : Cells) (commit : ℕ) → Shows cells start commit view.now
+        → changed cells result ≡ leave_rollback cells start }
     ensures applies { (cells : Cells) (commit : ℕ) → Shows cells start commit view.now → Applies cells result }
     ensures makes { (cells : Cells) (commit : ℕ) → Shows cells start commit view.now → Makes cells result }
 {
@@ -60,7 +64,8 @@ pub fn leave_rollback(view: &TxnView, start: Ts) -> KeyChange
 /// Rolls the transaction back: its lock goes where it is there, and its rollback is left. Where it
 /// has no lock and its rollback stands, nothing changes.
 pub fn roll_back(view: &TxnView, start: Ts) -> KeyChange
-    ensures leaves { (cells : Cells) (commit : ℕ) → Shows cells start commit view.now → changed cells result ≡ roll_back cells start }
+    ensures leaves { (cells : Cells) (commit : ℕ) → Shows cells start commit view.now
+        → changed cells result ≡ roll_back cells start }
     ensures applies { (cells : Cells) (commit : ℕ) → Shows cells start commit view.now → Applies cells result }
     ensures makes { (cells : Cells) (commit : ℕ) → Shows cells start commit view.now → Makes cells result }
 {

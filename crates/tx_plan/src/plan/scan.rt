@@ -13,7 +13,7 @@ use crate::answer::Answer;
 use crate::body::Scan;
 use crate::key_change::KeyChange;
 use crate::plan::reads::{is_blocked, read_refusal};
-use crate::planned::{Planned, PlannedAnswer};
+use crate::planned::{Plan, PlannedAnswer};
 use crate::view::ReadView;
 use crate::walk::ReadWalk;
 use std::alloc::Global;
@@ -28,7 +28,8 @@ pub fn scan_walk<W: ReadWalk + Drop>(
     body: &Scan,
 ) -> Result<Answer, Fault>
     requires { IsWalk (W.cells walk) (key_le body.now.from) (W.rest walk) }
-    ensures answer { IfOk result (λ answer. MeetsLock (W.cells walk) body.now answer ⊎ GivesRows (W.cells walk) body.now answer) }
+    ensures answer { IfOk result (λ answer. MeetsLock (W.cells walk) body.now answer
+        ⊎ GivesRows (W.cells walk) body.now answer) }
     ensures err { IfErr result (λ e. e ≡ Fault.OutOfMemory) }
 {
     let mut rows = KeyValues::new(alloc);
@@ -62,12 +63,16 @@ pub fn scan_refusal(safe: Ts, loaded: Ts, body: &Scan) -> Option<Answer>
 
 /// The answer to a Scan that was not refused, where the families answered this. The read counts,
 /// also where a lock stopped it.
-pub fn plan_scan(answer: Answer, body: &Scan) -> Planned
-    ensures answers { (cells : Key → Cells) (safe loaded : ℕ) → MayRead safe loaded body.now.at → MeetsLock cells body.now answer ⊎ GivesRows cells body.now answer → AnswersScan cells safe loaded body.now (answer_with None result.answer) }
-    ensures leaves { (cells : Key → Cells) → MeetsLock cells body.now answer ⊎ GivesRows cells body.now answer → (region : Region) → leaves_scan region body.now (answer_with None result.answer) ≡ with_read region result.read }
+pub fn plan_scan(answer: Answer, body: &Scan) -> Plan
+    ensures answers { (cells : Key → Cells) (safe loaded : ℕ) → MayRead safe loaded body.now.at
+        → MeetsLock cells body.now answer ⊎ GivesRows cells body.now answer
+        → AnswersScan cells safe loaded body.now (answer_with None result.answer) }
+    ensures leaves { (cells : Key → Cells) → MeetsLock cells body.now answer ⊎ GivesRows cells body.now answer
+        → (region : Region) → leaves_scan region body.now (answer_with None result.answer)
+        ≡ with_read region result.read }
     ensures same { result.change ≡ KeyChange.Nothing }
 {
-    Planned {
+    Plan {
         answer: PlannedAnswer::Given(answer),
         change: KeyChange::Nothing,
         read: Some(body.at),

@@ -11,7 +11,7 @@ use crate::answer::Answer;
 use crate::body::TxnHeartBeat;
 use crate::key_change::KeyChange;
 use crate::plan::own::own_lock;
-use crate::planned::Planned;
+use crate::planned::Plan;
 use crate::view::TxnView;
 use tx_types::Ts;
 
@@ -19,21 +19,26 @@ use tx_types::Ts;
 /// `collected`, and the change: a time to live never falls, and one that does not rise is no
 /// change. `BelowSafePoint` where the transaction started below `collected`, `TxnLockNotFound`
 /// where it has no lock on the key.
-pub fn plan_txn_heart_beat(view: &TxnView, collected: Ts, body: &TxnHeartBeat) -> Planned
-    ensures answers { (cells : Cells) (commit : ℕ) → Shows cells body.now.start commit view.now → AnswersTxnHeartBeat cells collected body.now (answer_with (info_on cells body.now.key) result.answer) }
-    ensures leaves { (cells : Cells) (commit : ℕ) → Shows cells body.now.start commit view.now → changed cells result.change ≡ leaves_txn_heart_beat cells body.now (answer_with (info_on cells body.now.key) result.answer) }
-    ensures applies { (cells : Cells) (commit : ℕ) → Shows cells body.now.start commit view.now → Applies cells result.change }
-    ensures makes { (cells : Cells) (commit : ℕ) → Shows cells body.now.start commit view.now → Makes cells result.change }
+pub fn plan_txn_heart_beat(view: &TxnView, collected: Ts, body: &TxnHeartBeat) -> Plan
+    ensures answers { (cells : Cells) (commit : ℕ) → Shows cells body.now.start commit view.now
+        → AnswersTxnHeartBeat cells collected body.now (answer_with (info_on cells body.now.key) result.answer) }
+    ensures leaves { (cells : Cells) (commit : ℕ) → Shows cells body.now.start commit view.now
+        → changed cells result.change ≡ leaves_txn_heart_beat cells body.now
+        (answer_with (info_on cells body.now.key) result.answer) }
+    ensures applies { (cells : Cells) (commit : ℕ) → Shows cells body.now.start commit view.now
+        → Applies cells result.change }
+    ensures makes { (cells : Cells) (commit : ℕ) → Shows cells body.now.start commit view.now
+        → Makes cells result.change }
     ensures unread { result.read ≡ None }
 {
     if body.start < collected {
-        return Planned::given(Answer::BelowSafePoint { safe: collected });
+        return Plan::given(Answer::BelowSafePoint { safe: collected });
     }
     match own_lock(view, body.start) {
         Some(lock) if lock.ttl < body.ttl => {
-            Planned::changes(Answer::Ttl(body.ttl), KeyChange::Ttl(body.ttl))
+            Plan::changes(Answer::Ttl(body.ttl), KeyChange::Ttl(body.ttl))
         }
-        Some(lock) => Planned::given(Answer::Ttl(lock.ttl)),
-        None => Planned::given(Answer::TxnLockNotFound),
+        Some(lock) => Plan::given(Answer::Ttl(lock.ttl)),
+        None => Plan::given(Answer::TxnLockNotFound),
     }
 }

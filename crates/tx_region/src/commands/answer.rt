@@ -18,8 +18,11 @@ impl<F: Families> Records<F> {
     fn answer_on_key(&mut self, loaded: &Loaded, body: &Body) -> Result<Executed, Fault>
         requires of_key { IsOfKey body.now }
         requires room { (loaded.now.last < u64.MAX) × (loaded.now.mark < u64.MAX) }
-        ensures ok { IfOk result (λ r. Executes loaded.now.mark (region_of F.content self.old) loaded.now.last body.now r.answer r.read (region_of F.content self.new)) }
-        ensures counts { IfOk result (λ r. Counts body.now self.old.taken (region_of F.content self.old 0).cells (F.numbers self.old.families) self.new.taken (region_of F.content self.new 0).cells (F.numbers self.new.families)) }
+        ensures ok { IfOk result (λ r. Executes loaded.now.mark (region_of F.content self.old) loaded.now.last body.now
+            r.answer r.read (region_of F.content self.new)) }
+        ensures counts { IfOk result (λ r. Counts body.now self.old.taken (region_of F.content self.old 0).cells
+            (F.numbers self.old.families) self.new.taken (region_of F.content self.new 0).cells
+            (F.numbers self.new.families)) }
         ensures same { OnErr result (region_of F.content self.new ≡ region_of F.content self.old) }
         ensures same_numbers { OnErr result (HasSameNumbers F.numbers self.old self.new) }
         ensures err { IfErr result (λ e. e ≡ Fault.OutOfMemory) }
@@ -35,8 +38,11 @@ impl<F: Families> Records<F> {
     #[inline(always)]
     pub fn answer(&mut self, loaded: Ts, mark: Ts, body: &Body) -> Result<Executed, Fault>
         requires room { (loaded < u64.MAX) × (mark < u64.MAX) }
-        ensures ok { IfOk result (λ r. Executes mark (region_of F.content self.old) loaded body.now r.answer r.read (region_of F.content self.new)) }
-        ensures counts { IfOk result (λ r. Counts body.now self.old.taken (region_of F.content self.old 0).cells (F.numbers self.old.families) self.new.taken (region_of F.content self.new 0).cells (F.numbers self.new.families)) }
+        ensures ok { IfOk result (λ r. Executes mark (region_of F.content self.old) loaded body.now r.answer r.read
+            (region_of F.content self.new)) }
+        ensures counts { IfOk result (λ r. Counts body.now self.old.taken (region_of F.content self.old 0).cells
+            (F.numbers self.old.families) self.new.taken (region_of F.content self.new 0).cells
+            (F.numbers self.new.families)) }
         ensures always { TakesNoMemory body.now → IsOk result }
         ensures same { OnErr result (region_of F.content self.new ≡ region_of F.content self.old) }
         ensures same_numbers { OnErr result (HasSameNumbers F.numbers self.old self.new) }

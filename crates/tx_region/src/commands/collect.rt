@@ -16,10 +16,17 @@ impl<F: Families> Records<F> {
     // Drops what collection at this point drops, which is so many records. Where that is nothing,
     // as at the point of the last collection, no number is forgotten.
     fn drop_below(&mut self, safe: Ts, records: u64)
-        requires { (places : List (Key × ℕ)) × AllDropped (region_of F.content self.old 0).cells safe places × (records ≡ length places) }
-        ensures cells { (k : Key) → (region_of F.content self.new 0).cells k ≡ kept ((region_of F.content self.old 0).cells k) safe }
-        ensures notes { ((k : Key) → ((region_of F.content self.old 0).cells k ≡ (region_of F.content self.new 0).cells k) × (F.numbers self.old.families k ≡ F.numbers self.new.families k)) ⊎ Drops (region_of F.content self.old 0).cells (F.numbers self.old.families) (region_of F.content self.new 0).cells (F.numbers self.new.families) }
-        ensures same { (self.new.alloc ≡ self.old.alloc) × (self.new.safe ≡ self.old.safe) × (self.new.collected ≡ self.old.collected) × (self.new.taken ≡ self.old.taken) }
+        requires { (indexes : List (Key × ℕ)) × AllDropped (region_of F.content self.old 0).cells safe indexes
+            × (records ≡ length indexes) }
+        ensures cells { (k : Key) → (region_of F.content self.new 0).cells k
+            ≡ kept ((region_of F.content self.old 0).cells k) safe }
+        ensures notes { ((k : Key) → ((region_of F.content self.old 0).cells k
+            ≡ (region_of F.content self.new 0).cells k)
+            × (F.numbers self.old.families k ≡ F.numbers self.new.families k))
+            ⊎ Drops (region_of F.content self.old 0).cells (F.numbers self.old.families)
+            (region_of F.content self.new 0).cells (F.numbers self.new.families) }
+        ensures same { (self.new.alloc ≡ self.old.alloc) × (self.new.safe ≡ self.old.safe)
+            × (self.new.collected ≡ self.old.collected) × (self.new.taken ≡ self.old.taken) }
     {
         if records == 0 {
             return;
@@ -31,8 +38,11 @@ impl<F: Families> Records<F> {
     /// before the first drop.
     #[inline(never)]
     pub fn collect(&mut self, body: &Collect) -> Result<Executed, Fault>
-        ensures ok { (mark loaded : ℕ) → IfOk result (λ r. Executes mark (region_of F.content self.old) loaded (request.Collect body.now) r.answer r.read (region_of F.content self.new)) }
-        ensures counts { IfOk result (λ r. Counts (request.Collect body.now) self.old.taken (region_of F.content self.old 0).cells (F.numbers self.old.families) self.new.taken (region_of F.content self.new 0).cells (F.numbers self.new.families)) }
+        ensures ok { (mark loaded : ℕ) → IfOk result (λ r. Executes mark (region_of F.content self.old) loaded
+            (request.Collect body.now) r.answer r.read (region_of F.content self.new)) }
+        ensures counts { IfOk result (λ r. Counts (request.Collect body.now) self.old.taken
+            (region_of F.content self.old 0).cells (F.numbers self.old.families) self.new.taken
+            (region_of F.content self.new 0).cells (F.numbers self.new.families)) }
         ensures same { OnErr result (region_of F.content self.new ≡ region_of F.content self.old) }
         ensures same_numbers { OnErr result (HasSameNumbers F.numbers self.old self.new) }
         ensures err { IfErr result (λ e. e ≡ Fault.OutOfMemory) }

@@ -13,8 +13,11 @@ impl<F: Families> Records<F> {
     /// Answers a LocksBelow. Nothing changes.
     #[inline(never)]
     pub fn locks_below(&self, body: &LocksBelow) -> Result<Executed, Fault>
-        ensures ok { (mark loaded : ℕ) → IfOk result (λ r. Executes mark (region_of F.content self.now) loaded (request.LocksBelow body.now) r.answer r.read (region_of F.content self.now)) }
-        ensures counts { IfOk result (λ r. Counts (request.LocksBelow body.now) self.now.taken (region_of F.content self.now 0).cells (F.numbers self.now.families) self.now.taken (region_of F.content self.now 0).cells (F.numbers self.now.families)) }
+        ensures ok { (mark loaded : ℕ) → IfOk result (λ r. Executes mark (region_of F.content self.now) loaded
+            (request.LocksBelow body.now) r.answer r.read (region_of F.content self.now)) }
+        ensures counts { IfOk result (λ r. Counts (request.LocksBelow body.now) self.now.taken
+            (region_of F.content self.now 0).cells (F.numbers self.now.families) self.now.taken
+            (region_of F.content self.now 0).cells (F.numbers self.now.families)) }
         ensures err { IfErr result (λ e. e ≡ Fault.OutOfMemory) }
     {
         let infos = self.families.locks_below(self.alloc, body.safe)?;

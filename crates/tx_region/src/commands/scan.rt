@@ -14,8 +14,11 @@ impl<F: Families> Records<F> {
     /// Answers a Scan, by a seat that loaded `loaded`. `OutOfMemory` leaves the region as it was.
     #[inline(never)]
     pub fn scan(&mut self, loaded: Ts, body: &Scan) -> Result<Executed, Fault>
-        ensures ok { (mark : ℕ) → IfOk result (λ r. Executes mark (region_of F.content self.old) loaded (request.Scan body.now) r.answer r.read (region_of F.content self.new)) }
-        ensures counts { IfOk result (λ r. Counts (request.Scan body.now) self.old.taken (region_of F.content self.old 0).cells (F.numbers self.old.families) self.new.taken (region_of F.content self.new 0).cells (F.numbers self.new.families)) }
+        ensures ok { (mark : ℕ) → IfOk result (λ r. Executes mark (region_of F.content self.old) loaded
+            (request.Scan body.now) r.answer r.read (region_of F.content self.new)) }
+        ensures counts { IfOk result (λ r. Counts (request.Scan body.now) self.old.taken
+            (region_of F.content self.old 0).cells (F.numbers self.old.families) self.new.taken
+            (region_of F.content self.new 0).cells (F.numbers self.new.families)) }
         ensures same_numbers { OnErr result (HasSameNumbers F.numbers self.old self.new) }
         ensures same { OnErr result (region_of F.content self.new ≡ region_of F.content self.old) }
         ensures err { IfErr result (λ e. e ≡ Fault.OutOfMemory) }

@@ -8,7 +8,7 @@ use std::alloc::Global;
 use tx_cells::Fresh;
 use tx_client::{Miss, Session, Terms};
 use tx_core::Answer;
-use tx_journal::{Naming, Opened, Seat};
+use tx_journal::{JournalId, Opened, Seat};
 use tx_simple::resolve_met;
 use tx_types::{Fault, Key, Mode, Ts, Value};
 
@@ -45,7 +45,7 @@ pub const SILENT: Short = (Word::Silent, 0, 0);
 pub type Played = (bool, Short, u32, u32);
 
 // A seat for what no session does, the seats of sessions before they begin, and the sessions.
-struct Seats<J: Naming> {
+struct Seats<J: JournalId> {
     clerk: Seat<J>,
     free: Vec<Seat<J>>,
     sessions: Vec<Session<J>>,
@@ -81,7 +81,7 @@ fn terms(mode: Mode) -> Terms {
     }
 }
 
-fn put<J: Naming>(alloc: Global, session: &mut Session<J>, key: &[u8]) -> Result<(), Fault>
+fn put<J: JournalId>(alloc: Global, session: &mut Session<J>, key: &[u8]) -> Result<(), Fault>
     requires { is_declared session.old.state ≡ false }
 {
     let key = Key::new(alloc, key)?;
@@ -89,14 +89,14 @@ fn put<J: Naming>(alloc: Global, session: &mut Session<J>, key: &[u8]) -> Result
     session.put(key, value)
 }
 
-fn delete<J: Naming>(alloc: Global, session: &mut Session<J>, key: &[u8]) -> Result<(), Fault>
+fn delete<J: JournalId>(alloc: Global, session: &mut Session<J>, key: &[u8]) -> Result<(), Fault>
     requires { is_declared session.old.state ≡ false }
 {
     session.delete(Key::new(alloc, key)?)
 }
 
 // What a session does by itself.
-fn prepares<J: Naming>(alloc: Global, session: &mut Session<J>, act: Act) -> Short {
+fn prepares<J: JournalId>(alloc: Global, session: &mut Session<J>, act: Act) -> Short {
     match act {
         Act::Put(key) => {
             if !session.is_declared() {
@@ -124,7 +124,7 @@ fn prepares<J: Naming>(alloc: Global, session: &mut Session<J>, act: Act) -> Sho
 }
 
 // What a session asks of the region.
-fn asks<J: Naming, F: Fresh>(
+fn asks<J: JournalId, F: Fresh>(
     alloc: Global,
     session: &mut Session<J>,
     act: Act,
@@ -149,7 +149,7 @@ fn asks<J: Naming, F: Fresh>(
 }
 
 // The lock that a session met is resolved for its reads, at a time.
-fn resolves<J: Naming, F: Fresh>(
+fn resolves<J: JournalId, F: Fresh>(
     clerk: &mut Seat<J>,
     session: &mut Session<J>,
     now: u64,
@@ -162,7 +162,7 @@ fn resolves<J: Naming, F: Fresh>(
     }
 }
 
-fn begin<J: Naming>(alloc: Global, seats: &mut Seats<J>) -> bool {
+fn begin<J: JournalId>(alloc: Global, seats: &mut Seats<J>) -> bool {
     let Some(seat) = seats.free.pop() else {
         return false;
     };
@@ -176,7 +176,7 @@ fn begin<J: Naming>(alloc: Global, seats: &mut Seats<J>) -> bool {
 }
 
 // What a session that began does.
-fn acts<J: Naming, F: Fresh>(
+fn acts<J: JournalId, F: Fresh>(
     alloc: Global,
     desk: &mut Desk<J, F>,
     seats: &mut Seats<J>,
@@ -194,7 +194,7 @@ fn acts<J: Naming, F: Fresh>(
 }
 
 // What is heard of a step.
-fn step<J: Naming, F: Fresh>(
+fn step<J: JournalId, F: Fresh>(
     alloc: Global,
     desk: &mut Desk<J, F>,
     seats: &mut Seats<J>,
@@ -219,7 +219,7 @@ fn step<J: Naming, F: Fresh>(
 }
 
 // Whether each step is heard so.
-fn plays<J: Naming, F: Fresh>(
+fn plays<J: JournalId, F: Fresh>(
     alloc: Global,
     desk: &mut Desk<J, F>,
     seats: &mut Seats<J>,
@@ -234,7 +234,11 @@ fn plays<J: Naming, F: Fresh>(
 }
 
 /// What comes of the steps, in a region in which nothing happened.
-pub fn played<J: Naming, F: Fresh>(alloc: Global, opened: Opened, steps: &[Step]) -> Option<Played>
+pub fn played<J: JournalId, F: Fresh>(
+    alloc: Global,
+    opened: Opened,
+    steps: &[Step],
+) -> Option<Played>
     requires name { (opened.table ≡ J.table) × (opened.bounds ≡ J.bounds) × (opened.seats ≡ J.seats) }
     requires six { J.seats ≡ 6 }
 {

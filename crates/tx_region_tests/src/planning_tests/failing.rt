@@ -4,7 +4,7 @@ ghost use Rattle.tx_cells.specs.Contents.{nothing_held};
 
 use std::alloc::Global;
 use std::sync::atomic::{AtomicU64, Ordering};
-use tx_cells::{Families, Fresh, KeyCopy};
+use tx_cells::{Changes, Families, Fresh, Holds, KeyVersions, Sees};
 use tx_plan::{Answer, Dropped, Infos, KeyChange, NewLock, Prewrite, ReadView, Scan, TxnView};
 use tx_types::{Fault, Key, LockInfo, Ts};
 
@@ -27,11 +27,13 @@ impl<F, const N: u64> Failing<F, N> {
     }
 }
 
-impl<F: Fresh, const N: u64> Families for Failing<F, N> {
+impl<F: Fresh, const N: u64> Holds for Failing<F, N> {
     ghost content = { λ m. F.content m.cells };
 
     ghost numbers = { λ m. F.numbers m.cells };
+}
 
+impl<F: Fresh, const N: u64> Sees for Failing<F, N> {
     fn view(&self, alloc: Global, key: &Key, start: Ts, commit: Ts) -> Result<TxnView, Fault> {
         self.count()?;
         self.cells.view(alloc, key, start, commit)
@@ -67,7 +69,7 @@ impl<F: Fresh, const N: u64> Families for Failing<F, N> {
         self.cells.count_below(alloc, safe)
     }
 
-    fn cells(&self, alloc: Global, key: &Key) -> Result<KeyCopy, Fault> {
+    fn cells(&self, alloc: Global, key: &Key) -> Result<KeyVersions, Fault> {
         self.count()?;
         self.cells.cells(alloc, key)
     }
@@ -76,7 +78,9 @@ impl<F: Fresh, const N: u64> Families for Failing<F, N> {
         self.count()?;
         self.cells.number(alloc, key)
     }
+}
 
+impl<F: Fresh, const N: u64> Changes for Failing<F, N> {
     fn forget_numbers(&mut self, alloc: Global) {
         self.cells.forget_numbers(alloc);
     }
@@ -107,6 +111,8 @@ impl<F: Fresh, const N: u64> Families for Failing<F, N> {
         self.cells.drop_below(safe);
     }
 }
+
+impl<F: Fresh, const N: u64> Families for Failing<F, N> {}
 
 impl<F: Fresh, const N: u64> Fresh for Failing<F, N> {
     fn fresh(alloc: Global) -> Self {

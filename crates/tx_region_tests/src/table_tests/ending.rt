@@ -18,7 +18,7 @@ const COMMIT_8: Ask = Commit(b'k', 5, 8);
 
 const COMMITTED_8: Short = (Committed, 8, 0);
 
-const COMMIT: [Row; 11] = [
+const COMMIT: [Row; 12] = [
     (COLLECTED, COMMIT_8, BELOW, BARE),
     (PUSHED, Commit(b'k', 5, 6), (CommitTsExpired, 7, 0), LOCK_7),
     (PUSHED, Commit(b'k', 5, 7), (Committed, 7, 0), AT_7),
@@ -30,6 +30,7 @@ const COMMIT: [Row; 11] = [
     (MARKED, COMMIT_8, ALREADY_ROLLED_BACK, MARK_5),
     (FREE, COMMIT_8, LOCK_NOT_FOUND, BARE),
     (OTHERS, COMMIT_8, LOCK_NOT_FOUND, LOCK_5),
+    (SHARED, COMMIT_8, LOCK_NOT_FOUND, AT_5),
 ];
 
 const ROLL_BACK: Ask = BatchRollback(b'k', 5);
@@ -76,11 +77,12 @@ const SETTLE_8: Ask = ResolveLock(b'k', 5, 8);
 
 const SETTLE_ABORTED: Ask = ResolveLock(b'k', 5, 0);
 
-const RESOLVE_LOCK: [Row; 11] = [
+const RESOLVE_LOCK: [Row; 12] = [
     (COLLECTED, SETTLE_8, BELOW, BARE),
     (FREE, SETTLE_8, RESOLVED, BARE),
     (OTHERS, SETTLE_ABORTED, RESOLVED, LOCK_5),
     (DONE, SETTLE_8, RESOLVED, AT_8),
+    (UNDONE, SETTLE_8, RESOLVED, AT_5),
     (OWN, SETTLE_ABORTED, RESOLVED, AT_5),
     (OWN_LONG, SETTLE_ABORTED, RESOLVED, AT_5),
     (OWN_AND_START, SETTLE_ABORTED, RESOLVED, MARK_5),

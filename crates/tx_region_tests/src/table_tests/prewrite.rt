@@ -77,7 +77,7 @@ const DELETED: &[Ask] = &[
 ];
 
 // An insert reads at its start, 5, where it finds a value, and where its lock is put.
-const INSERTS: [RegionRow; 10] = [
+const INSERTS: [RegionRow; 12] = [
     (FREE, INSERT, LOCKED, [5, 0, 0]),
     (READ, INSERT, LOCKED, [11, 0, 0]),
     (VALUE, INSERT, EXISTS, [5, 0, 0]),
@@ -85,9 +85,11 @@ const INSERTS: [RegionRow; 10] = [
     (LOCKED_SINCE, INSERT, EXISTS, [5, 0, 0]),
     (DELETED, INSERT, LOCKED, [5, 0, 0]),
     (OWN, INSERT, LOCKED, [0, 0, 0]),
+    (OWN_OVER_A_VALUE, INSERT, LOCKED, [0, 0, 0]),
     (OTHERS, INSERT, (KeyIsLocked, 4, 5), [0, 0, 0]),
     (NEWER, INSERT, (WriteConflict, 8, 10), [0, 0, 0]),
     (UNDONE, INSERT, ALREADY_ROLLED_BACK, [0, 0, 0]),
+    (DONE, INSERT, (AlreadyCommitted, 8, 0), [0, 0, 0]),
 ];
 
 #[test]

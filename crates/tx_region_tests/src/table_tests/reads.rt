@@ -23,11 +23,18 @@ const DELETES: &[Ask] = &[Prewrite(b'k', 5, Delete)];
 
 const LOCKS: &[Ask] = &[Prewrite(b'k', 5, Lock)];
 
+// A lock that changes nothing over a value of one byte.
+const LOCKS_A_VALUE: &[Ask] = &[
+    Prewrite(b'k', 1, Put(1)),
+    Commit(b'k', 1, 2),
+    Prewrite(b'k', 5, Lock),
+];
+
 const BELOW_3: Short = (BelowSafePoint, 3, 0);
 
 const MET: Short = (KeyIsLocked, 5, 6);
 
-const GET: [RegionRow; 18] = [
+const GET: [RegionRow; 21] = [
     (SAFE, Get(b'k', 2, 0), BELOW_3, [0, 3, 0]),
     (SAFE, Get(b'k', 3, 0), NOTHING, [3, 3, 0]),
     (FREE, Get(b'k', 21, 0), FUTURE, [0, 0, 0]),
@@ -40,6 +47,9 @@ const GET: [RegionRow; 18] = [
     (ASYNC, Get(b'k', 7, 0), (KeyIsLocked, 5, 7), [7, 0, 0]),
     (OWN, Get(b'k', 6, 5), NOTHING, [6, 0, 0]),
     (OWN, Get(b'k', 6, 4), MET, [6, 0, 0]),
+    (OWN_OVER_A_VALUE, Get(b'k', 5, 0), (Found, 1, 0), [5, 0, 0]),
+    (OWN_OVER_A_VALUE, Get(b'k', 6, 5), (Found, 1, 0), [6, 0, 0]),
+    (LOCKS_A_VALUE, Get(b'k', 6, 0), (Found, 1, 0), [6, 0, 0]),
     (VERSIONS, Get(b'k', 1, 0), NOTHING, [1, 0, 0]),
     (VERSIONS, Get(b'k', 2, 0), (Found, 1, 0), [2, 0, 0]),
     (VERSIONS, Get(b'k', 3, 0), (Found, 1, 0), [3, 0, 0]),
@@ -73,10 +83,11 @@ const NO_ROW: Short = (Rows, 0, 0);
 
 const BLOCKED: Short = (KeyIsLocked, 6, 7);
 
-const SCAN: [RegionRow; 14] = [
+const SCAN: [RegionRow; 15] = [
     (SAFE, Scan(b'a', b'z', 2, 9, 0), BELOW_3, [0, 3, 0]),
     (SAFE, Scan(b'a', b'z', 3, 9, 0), NO_ROW, [3, 3, 0]),
     (KEYS, Scan(b'a', b'z', 21, 9, 0), FUTURE, [0, 0, 0]),
+    (FREE, Scan(b'a', b'z', 20, 9, 0), NO_ROW, [20, 0, 0]),
     (KEYS, Scan(b'a', b'z', 7, 9, 0), BLOCKED, [7, 0, 0]),
     (KEYS, Scan(b'd', b'e', 7, 9, 0), BLOCKED, [7, 0, 0]),
     (KEYS, Scan(b'a', b'z', 7, 9, 6), LAST_IS_C, [7, 0, 0]),

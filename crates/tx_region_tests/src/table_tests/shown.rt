@@ -1,5 +1,5 @@
 //! What a region answers, and what it then holds, in words and numbers.
-use tx_cells::{KeyCopy, RecordAt, Shown};
+use tx_cells::{KeyVersions, RecordAt, ShownKey};
 use tx_plan::{Answer, Infos, RecordHead};
 use tx_types::{Fault, KeyValues, LockInfo};
 
@@ -173,7 +173,7 @@ fn newest(records: &[RecordAt]) -> (u64, u64) {
     }
 }
 
-fn stand(copy: &KeyCopy) -> Stand {
+fn stand(copy: &KeyVersions) -> Stand {
     let (min, ttl) = match copy.lock {
         Some(lock) => (lock.min.get(), u64::from(lock.ttl)),
         None => (0, 0),
@@ -190,7 +190,7 @@ fn stand(copy: &KeyCopy) -> Stand {
 }
 
 /// What is shown to stand there.
-pub fn stands(shown: Result<Shown, Fault>) -> Option<Stand> {
+pub fn stands(shown: Result<ShownKey, Fault>) -> Option<Stand> {
     let shown = shown.ok()?;
     let found = stand(shown.copy());
     drop(shown);

@@ -12,6 +12,13 @@ pub const OWN: &[Ask] = &[Prewrite(b'k', 5, Put(1))];
 /// The same, whose value stands apart.
 pub const OWN_LONG: &[Ask] = &[Prewrite(b'k', 5, Put(300))];
 
+/// Its lock over a value of one byte that was put at 2.
+pub const OWN_OVER_A_VALUE: &[Ask] = &[
+    Prewrite(b'k', 1, Put(1)),
+    Commit(b'k', 1, 2),
+    Prewrite(b'k', 5, Put(300)),
+];
+
 /// It was pushed to the minimum 7.
 pub const PUSHED: &[Ask] = &[Prewrite(b'k', 5, Put(1)), Check(b'k', 5, 6, 5)];
 

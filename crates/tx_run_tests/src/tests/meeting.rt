@@ -6,7 +6,7 @@ use std::sync::atomic::{AtomicU64, Ordering};
 use std::sync::{Arc, Wait};
 use std::test::Fail;
 use std::thread::{Threads, yield_now};
-use tx_cells::{Families, KeyCopy};
+use tx_cells::{Changes, Families, Holds, KeyVersions, Sees};
 use tx_nested::NestedCells;
 use tx_plan::{Answer, Dropped, Infos, KeyChange, NewLock, Prewrite, ReadView, Scan, TxnView};
 use tx_run::{Makes, Settings, run_script};
@@ -83,13 +83,15 @@ impl Makes<Meeting> for Arc<Place> {
     }
 }
 
-impl Families for Meeting {
+impl Holds for Meeting {
     ghost use Rattle.tx_nested.specs.Nested.{nested_content, nested_numbers};
 
     ghost content = { λ m. nested_content m.cells };
 
     ghost numbers = { λ m. nested_numbers m.cells };
+}
 
+impl Sees for Meeting {
     fn view(&self, alloc: Global, key: &Key, start: Ts, commit: Ts) -> Result<TxnView, Fault> {
         self.place.visit(key);
         self.cells.view(alloc, key, start, commit)
@@ -119,14 +121,16 @@ impl Families for Meeting {
         self.cells.count_below(alloc, safe)
     }
 
-    fn cells(&self, alloc: Global, key: &Key) -> Result<KeyCopy, Fault> {
+    fn cells(&self, alloc: Global, key: &Key) -> Result<KeyVersions, Fault> {
         self.cells.cells(alloc, key)
     }
 
     fn number(&self, alloc: Global, key: &Key) -> Result<u64, Fault> {
         self.cells.number(alloc, key)
     }
+}
 
+impl Changes for Meeting {
     fn forget_numbers(&mut self, alloc: Global) {
         self.cells.forget_numbers(alloc);
     }
@@ -155,6 +159,8 @@ impl Families for Meeting {
         self.cells.drop_below(safe);
     }
 }
+
+impl Families for Meeting {}
 
 /// A session locks a key of the first region, and another one of the second.
 static TWO_REGIONS: &str = "[\"regions\",[\"b\"]]

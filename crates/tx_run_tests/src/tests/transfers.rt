@@ -9,7 +9,7 @@ use tx_cells::Fresh;
 use tx_core::Outcome;
 use tx_flat::FlatCells;
 use tx_nested::NestedCells;
-use tx_run::{Played, Reply, Settings, Spoken};
+use tx_run::{LineAnswer, LineReply, RunResult, Settings};
 use tx_text::{Broken, End};
 
 // Ten accounts with 100 each, in four regions, and so many transfers of 1 by each of these
@@ -56,17 +56,21 @@ struct Sums {
 }
 
 // Adds the answers of a part.
-fn add_part(sums: &mut Sums, replies: &[Spoken]) {
+fn add_part(sums: &mut Sums, replies: &[LineReply]) {
     sums.answers = sums.answers.wrapping_add(replies.len());
-    for spoken in replies {
-        match &spoken.reply {
-            Reply::Said(_) => {}
-            Reply::Ended(_, Outcome::Committed(_), _) => sums.committed = sums
+    for reply in replies {
+        match &reply.answer {
+            LineAnswer::Plain(_) => {}
+            LineAnswer::Ended(_, Outcome::Committed(_), _) => sums.committed = sums
                 .committed
                 .wrapping_add(1),
-            Reply::Ended(_, Outcome::Aborted, _) => sums.aborted = sums.aborted.wrapping_add(1),
-            Reply::Ended(_, Outcome::Unknown(_), _) => sums.unknown = sums.unknown.wrapping_add(1),
-            Reply::Ended(_, Outcome::ReadOnly, _) => sums.read_only = sums
+            LineAnswer::Ended(_, Outcome::Aborted, _) => sums.aborted = sums
+                .aborted
+                .wrapping_add(1),
+            LineAnswer::Ended(_, Outcome::Unknown(_), _) => sums.unknown = sums
+                .unknown
+                .wrapping_add(1),
+            LineAnswer::Ended(_, Outcome::ReadOnly, _) => sums.read_only = sums
                 .read_only
                 .wrapping_add(1),
         }
@@ -93,7 +97,7 @@ fn count_lines(text: &[u8]) -> usize {
     text.iter().filter(|byte| **byte == b'\n').count()
 }
 
-fn sums_of(alloc: Global, played: &Played, text: &[u8]) -> Result<Sums, AllocError> {
+fn sums_of(alloc: Global, played: &RunResult, text: &[u8]) -> Result<Sums, AllocError> {
     let mut sums = Sums {
         answers: 0,
         committed: 0,
@@ -115,7 +119,7 @@ fn sums_of(alloc: Global, played: &Played, text: &[u8]) -> Result<Sums, AllocErr
 // The sums of a run that ended well.
 fn sums_after(
     alloc: Global,
-    ended: Result<(End, Option<Played>), Broken>,
+    ended: Result<(End, Option<RunResult>), Broken>,
     text: &[u8],
 ) -> Result<Option<Sums>, Broken> {
     match ended? {
@@ -132,7 +136,7 @@ fn sums_after(
 }
 
 // How many answers there are.
-pub(super) fn answers_of(played: &Played) -> usize {
+pub(super) fn answers_of(played: &RunResult) -> usize {
     let mut count = 0_usize;
     for part in played.replies.parts() {
         count = count.wrapping_add(part.as_slice().len());

@@ -1,17 +1,17 @@
-//! How a step asks for its latches: bench by bench, in rising order.
+//! How a step asks for its latches: shard by shard, in rising order.
 ghost use Rattle.std.specs.Prelude.{◌≡◌, IfErr};
 ghost use Rattle.tx_types.specs.declared.fault.Fault.TheVariants.{OutOfMemory};
 
-use super::{BENCHES, Pool};
+use super::{Pool, SHARDS};
 use crate::job::Job;
 use crate::task::{Opening, Task};
 use std::sync::Wait;
 use tx_latch::Slot;
 use tx_types::Fault;
 
-/// The bench of a slot.
-pub(super) fn bench_of(slot: Slot) -> u8 {
-    slot.get() % BENCHES
+/// The shard of a slot.
+pub(super) fn shard_of(slot: Slot) -> u8 {
+    slot.get() % SHARDS
 }
 
 impl<J: Job, N: Opening<J>> Pool<J, N>
@@ -36,7 +36,7 @@ where
         }
         let asked = match slots.as_slice() {
             [] => Ok(Some(task)),
-            [only] => self.ask_part(rt, bench_of(*only), slots.as_slice(), task),
+            [only] => self.ask_part(rt, shard_of(*only), slots.as_slice(), task),
             [one, other] => self.ask_two(rt, *one, *other, task),
             all => self.ask_each(rt, all, task),
         };
@@ -49,24 +49,24 @@ where
         }
     }
 
-    /// Asks for the slots that a step has on a bench, unless they were asked for already. None
+    /// Asks for the slots that a step has on a shard, unless they were asked for already. None
     /// where the job is parked.
     fn ask_part<R: Wait>(
         &self,
         rt: &R,
-        bench: u8,
+        shard: u8,
         slots: &[Slot],
         task: Task<J, N>,
     ) -> Result<Option<Task<J, N>>, Fault>
         ensures err { IfErr result (λ e. e ≡ OutOfMemory) }
     {
-        if task.asked() > bench {
+        if task.asked() > shard {
             return Ok(Some(task));
         }
-        self.ask(rt, bench, slots, task)
+        self.ask(rt, shard, slots, task)
     }
 
-    /// Asks for the two slots of a step, that of the lower bench first. None where
+    /// Asks for the two slots of a step, that of the lower shard first. None where
     /// the job is parked.
     fn ask_two<R: Wait>(
         &self,
@@ -77,21 +77,21 @@ where
     ) -> Result<Option<Task<J, N>>, Fault>
         ensures err { IfErr result (λ e. e ≡ OutOfMemory) }
     {
-        if bench_of(one) == bench_of(other) {
-            return self.ask_part(rt, bench_of(one), &[one, other], task);
+        if shard_of(one) == shard_of(other) {
+            return self.ask_part(rt, shard_of(one), &[one, other], task);
         }
-        let (low, high) = if bench_of(one) < bench_of(other) {
+        let (low, high) = if shard_of(one) < shard_of(other) {
             (one, other)
         } else {
             (other, one)
         };
-        match self.ask_part(rt, bench_of(low), &[low], task)? {
-            Some(task) => self.ask_part(rt, bench_of(high), &[high], task),
+        match self.ask_part(rt, shard_of(low), &[low], task)? {
+            Some(task) => self.ask_part(rt, shard_of(high), &[high], task),
             None => Ok(None),
         }
     }
 
-    /// Asks for the slots of a step, bench by bench, from the first that was not asked yet. None
+    /// Asks for the slots of a step, shard by shard, from the first that was not asked yet. None
     /// where the job is parked.
     fn ask_each<R: Wait>(
         &self,
@@ -102,12 +102,12 @@ where
         ensures err { IfErr result (λ e. e ≡ OutOfMemory) }
     {
         let mut task = task;
-        for bench in task.asked()..BENCHES {
-            let part = self.part(slots, bench)?;
+        for shard in task.asked()..SHARDS {
+            let part = self.part(slots, shard)?;
             if part.is_empty() {
                 continue;
             }
-            match self.ask(rt, bench, part.as_slice(), task)? {
+            match self.ask(rt, shard, part.as_slice(), task)? {
                 Some(granted) => task = granted,
                 None => return Ok(None),
             }
@@ -115,32 +115,32 @@ where
         Ok(Some(task))
     }
 
-    /// Those of the slots that belong to a bench.
-    fn part(&self, slots: &[Slot], bench: u8) -> Result<Vec<Slot>, Fault>
+    /// Those of the slots that belong to a shard.
+    fn part(&self, slots: &[Slot], shard: u8) -> Result<Vec<Slot>, Fault>
         ensures err { IfErr result (λ e. e ≡ OutOfMemory) }
     {
         let mut part = Vec::new(self.alloc);
         for slot in slots {
-            if bench_of(*slot) == bench {
+            if shard_of(*slot) == shard {
                 part.push(*slot)?;
             }
         }
         Ok(part)
     }
 
-    /// Asks for slots of one bench. None where the job is parked there.
+    /// Asks for slots of one shard. None where the job is parked there.
     fn ask<R: Wait>(
         &self,
         rt: &R,
-        bench: u8,
+        shard: u8,
         slots: &[Slot],
         mut task: Task<J, N>,
     ) -> Result<Option<Task<J, N>>, Fault>
         ensures err { IfErr result (λ e. e ≡ OutOfMemory) }
     {
-        task.ask_from(bench.saturating_add(1));
-        match self.benches.get(usize::from(bench)) {
-            Some(bench) => bench.lock(rt).ask(task.cid(), slots, task),
+        task.ask_from(shard.saturating_add(1));
+        match self.shards.get(usize::from(shard)) {
+            Some(shard) => shard.lock(rt).ask(task.cid(), slots, task),
             None => Ok(Some(task)),
         }
     }

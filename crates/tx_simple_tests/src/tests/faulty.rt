@@ -3,7 +3,7 @@ ghost use Rattle.tx_journal.specs.Senders.{IsWay};
 
 use std::mem::replace;
 use std::sync::Wait;
-use tx_journal::{Lost, Naming, Reply, Request, Seat, Sender};
+use tx_journal::{JournalId, Lost, Reply, Request, Seat, Sender};
 use tx_nested::NestedCells;
 use tx_store::Wire;
 use tx_types::Key;
@@ -23,14 +23,14 @@ pub enum Turn {
 
 /// A way that has its turn after so many requests that go plainly.
 #[derive(Drop)]
-pub struct Faulty<'a, J: Naming, R: Wait> {
+pub struct Faulty<'a, J: JournalId, R: Wait> {
     wire: Wire<'a, J, NestedCells, R>,
     seat: Seat<J>,
     spared: u32,
     turn: Turn,
 }
 
-impl<'a, J: Naming, R: Wait> Faulty<'a, J, R> {
+impl<'a, J: JournalId, R: Wait> Faulty<'a, J, R> {
     pub fn new(
         wire: Wire<'a, J, NestedCells, R>,
         seat: Seat<J>,
@@ -62,7 +62,7 @@ impl<'a, J: Naming, R: Wait> Faulty<'a, J, R> {
     }
 }
 
-impl<'a, J: Naming, R: Wait> Sender<Request<J>, Reply<J>> for Faulty<'a, J, R> {
+impl<'a, J: JournalId, R: Wait> Sender<Request<J>, Reply<J>> for Faulty<'a, J, R> {
     ghost use Rattle.std.specs.Prelude.{◌≡◌, IfOk};
     ghost use Rattle.tx_journal.specs.Senders.{IsHeld};
 

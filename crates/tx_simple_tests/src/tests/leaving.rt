@@ -2,13 +2,13 @@
 use std::alloc::Global;
 use std::sync::Wait;
 use tx_client::{Session, Terms};
-use tx_journal::{Naming, Seat};
+use tx_journal::{JournalId, Seat};
 use tx_nested::NestedCells;
 use tx_store::{Store, Wire};
 use tx_types::{Key, Mode, Value};
 
 // Enters a put of 7 on the key `a`, and declares it: whether that went well.
-fn declare<J: Naming>(session: &mut Session<J>, alloc: Global, ttl: u32) -> bool {
+fn declare<J: JournalId>(session: &mut Session<J>, alloc: Global, ttl: u32) -> bool {
     if session.is_declared() {
         return false;
     }
@@ -24,7 +24,7 @@ fn declare<J: Naming>(session: &mut Session<J>, alloc: Global, ttl: u32) -> bool
 }
 
 /// Leaves a lock on the key `a`, in two phases, that lives so many ticks.
-pub fn leave_lock<J: Naming, R: Wait>(
+pub fn leave_lock<J: JournalId, R: Wait>(
     rt: &R,
     store: &Store<J, NestedCells>,
     alloc: Global,

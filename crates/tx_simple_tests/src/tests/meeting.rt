@@ -9,14 +9,14 @@ use std::sync::Wait;
 use std::test::Fail;
 use tx_client::{Session, Status};
 use tx_core::Answer;
-use tx_journal::{Naming, Opened, Seat};
+use tx_journal::{JournalId, Opened, Seat};
 use tx_nested::NestedCells;
 use tx_simple::resolve_met;
 use tx_store::{Store, Wire};
 use tx_types::{Key, Ts};
 
 // What a read of the key `a` answers, in a word.
-fn look<J: Naming, R: Wait>(
+fn look<J: JournalId, R: Wait>(
     session: &mut Session<J>,
     alloc: Global,
     wire: &mut Wire<'_, J, NestedCells, R>,
@@ -36,7 +36,7 @@ fn look<J: Naming, R: Wait>(
 }
 
 // Resolves the lock that it met, this long after its start: what was found, in a word.
-fn clear<J: Naming, R: Wait>(
+fn clear<J: JournalId, R: Wait>(
     session: &mut Session<J>,
     seat: &mut Seat<J>,
     wire: &mut Wire<'_, J, NestedCells, R>,
@@ -62,7 +62,7 @@ fn clear<J: Naming, R: Wait>(
 }
 
 // A session meets the lock, has it resolved, and reads again.
-fn reads<'a, J: Naming, R: Wait>(
+fn reads<'a, J: JournalId, R: Wait>(
     rt: &'a R,
     store: &'a Store<J, NestedCells>,
     alloc: Global,
@@ -82,7 +82,7 @@ fn reads<'a, J: Naming, R: Wait>(
     Some((first, found, then))
 }
 
-fn resolves<J: Naming, R: Wait>(
+fn resolves<J: JournalId, R: Wait>(
     rt: &R,
     alloc: Global,
     opened: Opened,

@@ -5,7 +5,7 @@ ghost use Rattle.tx_nested.specs.Nested.{nested_content};
 ghost use Rattle.tx_types.specs.Keys.{AreRising};
 
 use std::alloc::Global;
-use tx_journal::{Naming, Opened, Seat};
+use tx_journal::{JournalId, Opened, Seat};
 use tx_nested::NestedCells;
 use tx_simple::Seats;
 use tx_store::Store;
@@ -31,7 +31,8 @@ pub fn journal(alloc: Global) -> Option<Opened>
 
 // The maps of the regions, which hold nothing.
 fn families(alloc: Global) -> Option<Vec<NestedCells>>
-    ensures { IfSome result (λ both. (vec_len both ≡ 2) × All (λ f. nested_content f ≡ (λ k. nothing_held)) both.items) }
+    ensures { IfSome result (λ both. (vec_len both ≡ 2)
+        × All (λ f. nested_content f ≡ (λ k. nothing_held)) both.items) }
 {
     let mut both = Vec::with_capacity(alloc, 2).ok()?;
     both.push(NestedCells::new(alloc)).ok()?;
@@ -40,7 +41,7 @@ fn families(alloc: Global) -> Option<Vec<NestedCells>>
 }
 
 /// The store, and the seats.
-pub fn open<J: Naming>(
+pub fn open<J: JournalId>(
     alloc: Global,
     opened: Opened,
 ) -> Option<(Store<J, NestedCells>, Vec<Seat<J>>)>
@@ -52,7 +53,7 @@ pub fn open<J: Naming>(
 }
 
 /// The next two seats.
-pub fn pair<J: Naming>(seats: &mut Vec<Seat<J>>) -> Option<Seats<J>> {
+pub fn pair<J: JournalId>(seats: &mut Vec<Seat<J>>) -> Option<Seats<J>> {
     let begins = seats.pop()?;
     let resolves = seats.pop()?;
     Some(Seats { begins, resolves })

@@ -9,7 +9,7 @@ use std::alloc::Global;
 use std::marker::Brand;
 use std::sync::Wait;
 use std::test::Fail;
-use tx_journal::{Naming, Opened, Seat};
+use tx_journal::{JournalId, Opened, Seat};
 use tx_nested::NestedCells;
 use tx_simple::Seats;
 use tx_store::{Store, Wire};
@@ -218,7 +218,7 @@ const CASES: [Case; 18] = [
 ];
 
 // What the key `a` has.
-fn last_of<J: Naming, R: Wait>(
+fn last_of<J: JournalId, R: Wait>(
     rt: &R,
     store: &Store<J, NestedCells>,
     alloc: Global,
@@ -232,7 +232,7 @@ fn last_of<J: Naming, R: Wait>(
 }
 
 // Puts 5 on the key `a`.
-fn put_value<J: Naming, R: Wait>(
+fn put_value<J: JournalId, R: Wait>(
     rt: &R,
     store: &Store<J, NestedCells>,
     alloc: Global,
@@ -246,7 +246,7 @@ fn put_value<J: Naming, R: Wait>(
 }
 
 // What stands there before; the seats of a rival are left.
-fn prepare<J: Naming, R: Wait>(
+fn prepare<J: JournalId, R: Wait>(
     rt: &R,
     store: &Store<J, NestedCells>,
     alloc: Global,
@@ -273,7 +273,7 @@ fn prepare<J: Naming, R: Wait>(
 }
 
 // Runs the update of a case: how it ends, how often it was done, and the seats.
-fn update_in<J: Naming, R: Wait>(
+fn update_in<J: JournalId, R: Wait>(
     rt: &R,
     store: &Store<J, NestedCells>,
     alloc: Global,
@@ -297,7 +297,7 @@ fn update_in<J: Naming, R: Wait>(
 }
 
 // Whether a case ends as it says.
-fn ends_so<J: Naming, R: Wait>(
+fn ends_so<J: JournalId, R: Wait>(
     rt: &R,
     store: &Store<J, NestedCells>,
     alloc: Global,
@@ -314,7 +314,7 @@ fn ends_so<J: Naming, R: Wait>(
     Some(ended == ends && done == calls && found == last)
 }
 
-fn plays<J: Naming, R: Wait>(rt: &R, alloc: Global, opened: Opened, case: &Case) -> Option<bool>
+fn plays<J: JournalId, R: Wait>(rt: &R, alloc: Global, opened: Opened, case: &Case) -> Option<bool>
     requires name { (opened.table ≡ J.table) × (opened.bounds ≡ J.bounds) × (opened.seats ≡ J.seats) }
     requires counts { (length J.bounds ≡ 1) × (J.seats ≡ 8) }
 {

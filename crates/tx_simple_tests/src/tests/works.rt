@@ -5,7 +5,7 @@ use std::alloc::Global;
 use std::sync::Wait;
 use tx_client::Terms;
 use tx_core::Outcome;
-use tx_journal::{Naming, Reply, Request, Sender};
+use tx_journal::{JournalId, Reply, Request, Sender};
 use tx_nested::NestedCells;
 use tx_simple::{Seats, Stop, Tx, Work, update};
 use tx_store::{Store, Wire};
@@ -87,7 +87,7 @@ impl Work for Doing {
 /// A deed that the first time lets a rival put 9 on the key `a`, and commit that, before it is
 /// done.
 #[derive(Drop)]
-pub struct Contended<'a, J: Naming, R: Wait> {
+pub struct Contended<'a, J: JournalId, R: Wait> {
     pub rt: &'a R,
     pub store: &'a Store<J, NestedCells>,
     pub alloc: Global,
@@ -95,7 +95,7 @@ pub struct Contended<'a, J: Naming, R: Wait> {
     pub doing: Doing,
 }
 
-impl<'a, J: Naming, R: Wait> Work for Contended<'a, J, R> {
+impl<'a, J: JournalId, R: Wait> Work for Contended<'a, J, R> {
     fn apply<T: Tx>(&mut self, tx: &mut T) -> Result<(), Stop> {
         if let Some(seats) = self.rival.take() {
             let mut wire = Wire::new(self.rt, self.store);
@@ -137,7 +137,7 @@ fn words(outcome: &Outcome, stop: Option<&Stop>) -> (&'static str, &'static str)
 
 /// Runs an update in this mode, with locks that live so long, and tries it again so often: how
 /// the last try ended, in words, and the seats.
-pub fn run<J: Naming, S: Sender<Request<J>, Reply<J>>, W: Work>(
+pub fn run<J: JournalId, S: Sender<Request<J>, Reply<J>>, W: Work>(
     alloc: Global,
     seats: Seats<J>,
     how: (Mode, u32),

@@ -17,7 +17,7 @@ use tx_cells::Fresh;
 use tx_client::Session;
 use tx_core::Answer;
 use tx_flat::FlatCells;
-use tx_journal::{Naming, Opened, Seat};
+use tx_journal::{JournalId, Opened, Seat};
 use tx_nested::NestedCells;
 use tx_store::{Store, Wire};
 use tx_types::{Key, Mode};
@@ -26,7 +26,7 @@ use tx_types::{Key, Mode};
 const TURNS: u64 = 10_000_000;
 
 // Begins, and reads a key of the other region.
-fn read<J: Naming, F: Fresh, R: Wait>(
+fn read<J: JournalId, F: Fresh, R: Wait>(
     rt: &R,
     store: &Store<J, Chased<F>>,
     alloc: Global,
@@ -42,7 +42,7 @@ fn read<J: Naming, F: Fresh, R: Wait>(
 }
 
 // Reads until the other thread is done.
-fn read_on<J: Naming, F: Fresh, R: Wait>(
+fn read_on<J: JournalId, F: Fresh, R: Wait>(
     rt: &R,
     store: &Store<J, Chased<F>>,
     alloc: Global,
@@ -69,7 +69,7 @@ fn promised(answer: &Answer) -> Option<u64> {
 }
 
 // Prewrites a key asynchronously: the minimum that its lock promises.
-fn prewrite<J: Naming, F: Fresh, R: Wait>(
+fn prewrite<J: JournalId, F: Fresh, R: Wait>(
     rt: &R,
     store: &Store<J, Chased<F>>,
     alloc: Global,
@@ -90,7 +90,7 @@ fn prewrite<J: Naming, F: Fresh, R: Wait>(
 }
 
 // One prewrites, and then the other is done.
-fn prewrite_and_end<J: Naming, F: Fresh, R: Wait>(
+fn prewrite_and_end<J: JournalId, F: Fresh, R: Wait>(
     rt: &R,
     store: &Store<J, Chased<F>>,
     alloc: Global,
@@ -110,7 +110,7 @@ fn chase_at_once<J, F, R>(
     chase: &Chase,
 ) -> Option<u64>
 where
-    J: Naming + Send + Sync,
+    J: JournalId + Send + Sync,
     F: Fresh + Send,
     R: Threads + Wait + Sync,
 {
@@ -123,7 +123,7 @@ where
     minimum
 }
 
-fn chases<J: Naming + Send + Sync, F: Fresh + Send, R: Threads + Wait + Sync>(
+fn chases<J: JournalId + Send + Sync, F: Fresh + Send, R: Threads + Wait + Sync>(
     rt: &R,
     alloc: Global,
     opened: Opened,

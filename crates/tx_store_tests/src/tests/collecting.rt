@@ -13,7 +13,7 @@ use tx_cells::{Families, Fresh};
 use tx_client::{Session, Terms};
 use tx_core::Answer;
 use tx_flat::FlatCells;
-use tx_journal::{Naming, Opened, Seat};
+use tx_journal::{JournalId, Opened, Seat};
 use tx_nested::NestedCells;
 use tx_resolve::gc;
 use tx_store::{Store, Wire};
@@ -29,7 +29,12 @@ const TERMS: Terms = Terms {
 };
 
 // Enters a put of this value, and fixes the write set.
-fn declare<J: Naming>(session: &mut Session<J>, alloc: Global, key: &[u8], value: &[u8]) -> bool {
+fn declare<J: JournalId>(
+    session: &mut Session<J>,
+    alloc: Global,
+    key: &[u8],
+    value: &[u8],
+) -> bool {
     let (Ok(key), Ok(value)) = (Key::new(alloc, key), Value::new(alloc, value)) else {
         return false;
     };
@@ -40,7 +45,7 @@ fn declare<J: Naming>(session: &mut Session<J>, alloc: Global, key: &[u8], value
 }
 
 // Whether the one key that is due was locked.
-fn locks<J: Naming, F: Families + Drop, R: Wait>(
+fn locks<J: JournalId, F: Families + Drop, R: Wait>(
     session: &mut Session<J>,
     alloc: Global,
     wire: &mut Wire<'_, J, F, R>,
@@ -55,7 +60,7 @@ fn locks<J: Naming, F: Families + Drop, R: Wait>(
 }
 
 // Whether the one key that is due was committed.
-fn commits<J: Naming, F: Families + Drop, R: Wait>(
+fn commits<J: JournalId, F: Families + Drop, R: Wait>(
     session: &mut Session<J>,
     wire: &mut Wire<'_, J, F, R>,
 ) -> bool {
@@ -70,7 +75,7 @@ fn commits<J: Naming, F: Families + Drop, R: Wait>(
 
 // Puts a value on a key in a transaction of its own: whether it committed, and the seat. None where
 // the seat is spent.
-fn put<J: Naming, F: Families + Drop, R: Wait>(
+fn put<J: JournalId, F: Families + Drop, R: Wait>(
     rt: &R,
     store: &Store<J, F>,
     alloc: Global,
@@ -96,7 +101,7 @@ fn is_due(answer: &Answer, at: Ts) -> bool {
 }
 
 // Reads a key at a fresh timestamp.
-fn reads<J: Naming, F: Families + Drop, R: Wait>(
+fn reads<J: JournalId, F: Families + Drop, R: Wait>(
     rt: &R,
     store: &Store<J, F>,
     alloc: Global,
@@ -117,7 +122,7 @@ fn reads<J: Naming, F: Families + Drop, R: Wait>(
 }
 
 // Reads the seeded key in each round.
-fn read_on<J: Naming, F: Families + Drop, R: Wait>(
+fn read_on<J: JournalId, F: Families + Drop, R: Wait>(
     rt: &R,
     store: &Store<J, F>,
     alloc: Global,
@@ -137,7 +142,7 @@ fn read_on<J: Naming, F: Families + Drop, R: Wait>(
 
 // Puts another key in each round: how often it committed. A collection beside it may end what has
 // not committed yet.
-fn put_on<J: Naming, F: Families + Drop, R: Wait>(
+fn put_on<J: JournalId, F: Families + Drop, R: Wait>(
     rt: &R,
     store: &Store<J, F>,
     alloc: Global,
@@ -155,7 +160,7 @@ fn put_on<J: Naming, F: Families + Drop, R: Wait>(
 }
 
 // Whether a collection ended as it may: with its counts, or at a lock that came between.
-fn collects<J: Naming, F: Families + Drop, R: Wait>(
+fn collects<J: JournalId, F: Families + Drop, R: Wait>(
     rt: &R,
     store: &Store<J, F>,
     seat: &mut Seat<J>,
@@ -173,7 +178,7 @@ fn collects<J: Naming, F: Families + Drop, R: Wait>(
 }
 
 // Collects in each round.
-fn collect_on<J: Naming, F: Families + Drop, R: Wait>(
+fn collect_on<J: JournalId, F: Families + Drop, R: Wait>(
     rt: &R,
     store: &Store<J, F>,
     mut seat: Seat<J>,
@@ -197,7 +202,7 @@ fn side_by_side<J, F, R>(
     others: (Seat<J>, Seat<J>),
 ) -> bool
 where
-    J: Naming + Send + Sync,
+    J: JournalId + Send + Sync,
     F: Families + Drop + Send,
     R: Threads + Wait + Sync,
     requires few { length J.bounds < 1024 }
@@ -232,7 +237,7 @@ fn run_over<J, F, R>(
     mut seats: Vec<Seat<J>>,
 ) -> Option<bool>
 where
-    J: Naming + Send + Sync,
+    J: JournalId + Send + Sync,
     F: Families + Drop + Send,
     R: Threads + Wait + Sync,
     requires few { length J.bounds < 1024 }
@@ -248,7 +253,7 @@ where
 // Opens a store of two regions over such families, with seats for four.
 fn collects_beside<J, F, R>(rt: &R, alloc: Global, opened: Opened) -> Option<bool>
 where
-    J: Naming + Send + Sync,
+    J: JournalId + Send + Sync,
     F: Fresh + Send,
     R: Threads + Wait + Sync,
     requires name { (opened.table ≡ J.table) × (opened.bounds ≡ J.bounds) × (opened.seats ≡ J.seats) }

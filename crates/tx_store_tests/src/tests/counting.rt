@@ -12,7 +12,7 @@ use tx_cells::{Families, Fresh};
 use tx_client::Session;
 use tx_core::Answer;
 use tx_flat::FlatCells;
-use tx_journal::{Naming, Opened, Seat};
+use tx_journal::{JournalId, Opened, Seat};
 use tx_nested::NestedCells;
 use tx_store::{Store, Wire};
 use tx_types::{Key, Mode};
@@ -36,7 +36,7 @@ fn number_of(answer: &Answer) -> Option<u32> {
 }
 
 // What the key has at the session's start, where no lock is in the way.
-fn number<J: Naming, F: Families + Drop, R: Wait>(
+fn number<J: JournalId, F: Families + Drop, R: Wait>(
     session: &mut Session<J>,
     alloc: Global,
     wire: &mut Wire<J, F, R>,
@@ -51,7 +51,7 @@ fn number<J: Naming, F: Families + Drop, R: Wait>(
 }
 
 // Puts one more on the key: whether that committed.
-fn add<J: Naming, F: Families + Drop, R: Wait>(
+fn add<J: JournalId, F: Families + Drop, R: Wait>(
     session: &mut Session<J>,
     alloc: Global,
     wire: &mut Wire<J, F, R>,
@@ -67,7 +67,7 @@ fn add<J: Naming, F: Families + Drop, R: Wait>(
 }
 
 // Tries to add in a transaction of its own.
-fn round<J: Naming, F: Families + Drop, R: Wait>(
+fn round<J: JournalId, F: Families + Drop, R: Wait>(
     rt: &R,
     store: &Store<J, F>,
     alloc: Global,
@@ -80,7 +80,7 @@ fn round<J: Naming, F: Families + Drop, R: Wait>(
 }
 
 // Tries so often: how many additions committed.
-fn rounds<J: Naming, F: Families + Drop, R: Wait>(
+fn rounds<J: JournalId, F: Families + Drop, R: Wait>(
     rt: &R,
     store: &Store<J, F>,
     alloc: Global,
@@ -98,7 +98,7 @@ fn rounds<J: Naming, F: Families + Drop, R: Wait>(
 }
 
 // What the key has in the end.
-fn last<J: Naming, F: Families + Drop, R: Wait>(
+fn last<J: JournalId, F: Families + Drop, R: Wait>(
     rt: &R,
     store: &Store<J, F>,
     alloc: Global,
@@ -120,7 +120,7 @@ fn add_at_once<J, F, R>(
     two: Seat<J>,
 ) -> Option<(u32, u32)>
 where
-    J: Naming + Send + Sync,
+    J: JournalId + Send + Sync,
     F: Families + Drop + Send,
     R: Threads + Wait + Sync,
 {
@@ -136,7 +136,7 @@ where
     Some((first.saturating_add(second), last))
 }
 
-fn adds<J: Naming + Send + Sync, F: Fresh + Send, R: Threads + Wait + Sync>(
+fn adds<J: JournalId + Send + Sync, F: Fresh + Send, R: Threads + Wait + Sync>(
     rt: &R,
     alloc: Global,
     opened: Opened,

@@ -13,12 +13,12 @@ use std::test::Fail;
 use std::thread::{Threads, join};
 use tx_client::Session;
 use tx_core::Answer;
-use tx_journal::{Naming, Opened, Seat};
+use tx_journal::{JournalId, Opened, Seat};
 use tx_store::{Store, Wire};
 use tx_types::Mode;
 
 // Sends a prewrite, which goes through `Store::run`: whether it was accepted.
-fn prewrite<J: Naming, R: Wait>(
+fn prewrite<J: JournalId, R: Wait>(
     session: &mut Session<J>,
     alloc: Global,
     wire: &mut Wire<J, Meeting, R>,
@@ -33,7 +33,7 @@ fn prewrite<J: Naming, R: Wait>(
 }
 
 // Begins, and locks a key: whether that was accepted.
-fn lock<J: Naming, R: Wait>(
+fn lock<J: JournalId, R: Wait>(
     rt: &R,
     store: &Store<J, Meeting>,
     alloc: Global,
@@ -51,7 +51,7 @@ fn lock<J: Naming, R: Wait>(
 }
 
 // Two threads lock these keys: whether both were accepted.
-fn lock_at_once<J: Naming + Send + Sync, R: Threads + Wait + Sync>(
+fn lock_at_once<J: JournalId + Send + Sync, R: Threads + Wait + Sync>(
     rt: &R,
     store: &Store<J, Meeting>,
     alloc: Global,
@@ -68,7 +68,7 @@ fn lock_at_once<J: Naming + Send + Sync, R: Threads + Wait + Sync>(
 
 // Two threads lock keys of the regions, whose look-ups look for each other: whether both were
 // accepted.
-fn locks_at_once<J: Naming + Send + Sync, R: Threads + Wait + Sync>(
+fn locks_at_once<J: JournalId + Send + Sync, R: Threads + Wait + Sync>(
     rt: &R,
     alloc: Global,
     opened: Opened,
@@ -78,7 +78,8 @@ fn locks_at_once<J: Naming + Send + Sync, R: Threads + Wait + Sync>(
 ) -> bool
     requires name { (opened.table ≡ J.table) × (opened.bounds ≡ J.bounds) × (opened.seats ≡ J.seats) }
     requires counts { (length J.bounds ≡ 1) × (J.seats ≡ 4) }
-    requires empty { (nested_content first.cells ≡ (λ k. nothing_held)) × (nested_content second.cells ≡ (λ k. nothing_held)) }
+    requires empty { (nested_content first.cells ≡ (λ k. nothing_held))
+        × (nested_content second.cells ≡ (λ k. nothing_held)) }
 {
     let Some((store, mut seats)) = open::<J, Meeting>(alloc, opened, first, second) else {
         return false;

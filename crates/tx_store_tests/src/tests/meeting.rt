@@ -7,7 +7,7 @@ use std::alloc::Global;
 use std::sync::Arc;
 use std::sync::atomic::{AtomicU64, Ordering};
 use std::thread::yield_now;
-use tx_cells::{Families, KeyCopy};
+use tx_cells::{Changes, Families, Holds, KeyVersions, Sees};
 use tx_nested::NestedCells;
 use tx_plan::{Answer, Dropped, Infos, KeyChange, NewLock, Prewrite, ReadView, Scan, TxnView};
 use tx_types::{Fault, Key, LockInfo, Ts};
@@ -78,7 +78,8 @@ pub struct Meeting {
 impl Meeting {
     /// Families that hold nothing, for two regions.
     pub fn two(alloc: Global, place: &Arc<Place>) -> Option<(Meeting, Meeting)>
-        ensures { IfSome result (λ two. (nested_content two.0.cells ≡ (λ k. nothing_held)) × (nested_content two.1.cells ≡ (λ k. nothing_held))) }
+        ensures { IfSome result (λ two. (nested_content two.0.cells ≡ (λ k. nothing_held))
+            × (nested_content two.1.cells ≡ (λ k. nothing_held))) }
     {
         let first = Meeting::at(alloc, place)?;
         let second = Meeting::at(alloc, place)?;
@@ -96,13 +97,15 @@ impl Meeting {
     }
 }
 
-impl Families for Meeting {
+impl Holds for Meeting {
     ghost use Rattle.tx_nested.specs.Nested.{nested_content, nested_numbers};
 
     ghost content = { λ m. nested_content m.cells };
 
     ghost numbers = { λ m. nested_numbers m.cells };
+}
 
+impl Sees for Meeting {
     fn view(&self, alloc: Global, key: &Key, start: Ts, commit: Ts) -> Result<TxnView, Fault> {
         self.place.visit(key);
         self.cells.view(alloc, key, start, commit)
@@ -132,14 +135,16 @@ impl Families for Meeting {
         self.cells.count_below(alloc, safe)
     }
 
-    fn cells(&self, alloc: Global, key: &Key) -> Result<KeyCopy, Fault> {
+    fn cells(&self, alloc: Global, key: &Key) -> Result<KeyVersions, Fault> {
         self.cells.cells(alloc, key)
     }
 
     fn number(&self, alloc: Global, key: &Key) -> Result<u64, Fault> {
         self.cells.number(alloc, key)
     }
+}
 
+impl Changes for Meeting {
     fn forget_numbers(&mut self, alloc: Global) {
         self.cells.forget_numbers(alloc);
     }
@@ -168,3 +173,5 @@ impl Families for Meeting {
         self.cells.drop_below(safe);
     }
 }
+
+impl Families for Meeting {}

@@ -5,7 +5,7 @@ ghost use Rattle.tx_types.specs.Keys.{AreRising};
 
 use std::alloc::Global;
 use tx_cells::Families;
-use tx_journal::{Naming, Opened, Seat};
+use tx_journal::{JournalId, Opened, Seat};
 use tx_store::Store;
 use tx_types::Key;
 
@@ -35,7 +35,7 @@ fn both<F: Families + Drop>(alloc: Global, first: F, second: F) -> Option<Vec<F>
 }
 
 /// A store over these families, and the seats for sessions.
-pub fn open<J: Naming, F: Families + Drop>(
+pub fn open<J: JournalId, F: Families + Drop>(
     alloc: Global,
     opened: Opened,
     first: F,

@@ -3,12 +3,17 @@ use std::alloc::Global;
 use std::sync::Wait;
 use tx_cells::Families;
 use tx_client::{Session, Terms};
-use tx_journal::Naming;
+use tx_journal::JournalId;
 use tx_store::Wire;
 use tx_types::{Key, Mode, Ts, Value};
 
 /// Enters a put of this value into the buffer: whether that went well.
-pub fn enter<J: Naming>(session: &mut Session<J>, alloc: Global, key: &[u8], value: &[u8]) -> bool {
+pub fn enter<J: JournalId>(
+    session: &mut Session<J>,
+    alloc: Global,
+    key: &[u8],
+    value: &[u8],
+) -> bool {
     if session.is_declared() {
         return false;
     }
@@ -19,7 +24,7 @@ pub fn enter<J: Naming>(session: &mut Session<J>, alloc: Global, key: &[u8], val
 }
 
 /// Fixes the write set: whether that went well.
-pub fn declare<J: Naming>(session: &mut Session<J>, mode: Mode) -> bool {
+pub fn declare<J: JournalId>(session: &mut Session<J>, mode: Mode) -> bool {
     let terms = Terms {
         mode,
         ttl: 10,
@@ -29,7 +34,7 @@ pub fn declare<J: Naming>(session: &mut Session<J>, mode: Mode) -> bool {
 }
 
 /// Sends the prewrites of so many keys: whether each was answered.
-pub fn prewrite<J: Naming, F: Families + Drop, R: Wait>(
+pub fn prewrite<J: JournalId, F: Families + Drop, R: Wait>(
     session: &mut Session<J>,
     alloc: Global,
     wire: &mut Wire<J, F, R>,
@@ -48,7 +53,7 @@ pub fn prewrite<J: Naming, F: Families + Drop, R: Wait>(
 }
 
 /// Draws a commit timestamp, and sends the commits of so many keys there.
-pub fn commit<J: Naming, F: Families + Drop, R: Wait>(
+pub fn commit<J: JournalId, F: Families + Drop, R: Wait>(
     session: &mut Session<J>,
     wire: &mut Wire<J, F, R>,
     keys: u32,

@@ -11,14 +11,14 @@ use std::thread::{Threads, join};
 use tx_cells::Families;
 use tx_client::Session;
 use tx_core::Answer;
-use tx_journal::{Naming, Opened, Seat, Told};
+use tx_journal::{JournalId, Opened, Seat, Told};
 use tx_nested::NestedCells;
 use tx_store::{Store, Wire};
 use tx_types::{Key, Mode, Ts};
 
 // Puts `x` on `a` and `y` on `z`, which lie in different regions: when it committed, and
 // what tells of it.
-fn put_both<J: Naming, F: Families + Drop, R: Wait>(
+fn put_both<J: JournalId, F: Families + Drop, R: Wait>(
     rt: &R,
     store: &Store<J, F>,
     alloc: Global,
@@ -48,7 +48,7 @@ fn is_byte(answer: &Answer, byte: u8) -> bool {
 }
 
 // Whether a key has this value at the session's start.
-fn reads<J: Naming, F: Families + Drop, R: Wait>(
+fn reads<J: JournalId, F: Families + Drop, R: Wait>(
     session: &mut Session<J>,
     alloc: Global,
     wire: &mut Wire<J, F, R>,
@@ -69,7 +69,7 @@ fn reads<J: Naming, F: Families + Drop, R: Wait>(
 }
 
 // Begins above the commit, and reads both values.
-fn read_both<J: Naming, F: Families + Drop, R: Wait>(
+fn read_both<J: JournalId, F: Families + Drop, R: Wait>(
     rt: &R,
     store: &Store<J, F>,
     alloc: Global,
@@ -88,7 +88,7 @@ fn read_both<J: Naming, F: Families + Drop, R: Wait>(
 }
 
 // Learns what was told, and reads.
-fn read_after<J: Naming, F: Families + Drop, R: Wait>(
+fn read_after<J: JournalId, F: Families + Drop, R: Wait>(
     rt: &R,
     store: &Store<J, F>,
     alloc: Global,
@@ -108,7 +108,7 @@ fn tell_across<J, F, R>(
     two: Seat<J>,
 ) -> bool
 where
-    J: Naming + Send + Sync,
+    J: JournalId + Send + Sync,
     F: Families + Drop + Send,
     R: Threads + Wait + Sync,
 {
@@ -122,7 +122,7 @@ where
     }
 }
 
-fn tells_across<J: Naming + Send + Sync, R: Threads + Wait + Sync>(
+fn tells_across<J: JournalId + Send + Sync, R: Threads + Wait + Sync>(
     rt: &R,
     alloc: Global,
     opened: Opened,

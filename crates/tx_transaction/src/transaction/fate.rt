@@ -1,11 +1,11 @@
 //! What may be done of a transaction, and what is known of its fate.
 ghost use Rattle.std.specs.Prelude.{◌≡◌, true, IfOk, IfErr, OnOk, OnErr, is_some, option_map};
 ghost use Rattle.tx_transaction.specs.declared.state.Phase.TheVariants as phase;
-ghost use Rattle.tx_transaction.specs.Buffers.{first_place};
+ghost use Rattle.tx_transaction.specs.Buffers.{first_index};
 ghost use Rattle.tx_transaction.specs.Sessions.{can_draw, may_commit, can_commit, may_abort, can_abort, notes_one, with_passed, finish_of};
 
 use super::Transaction;
-use crate::buffer::{has_keys, has_two_phase_lock, place_of};
+use crate::buffer::{has_keys, has_two_phase_lock, index_of};
 use crate::state::Phase;
 use tx_core::Outcome;
 use tx_types::{Fate, Fault, LockInfo, Mode, Ts};
@@ -18,7 +18,7 @@ impl Transaction {
         self.decision.is_none()
             && self.drawn.is_none()
             && self.has_primary()
-            && place_of(&self.buffer, Phase::Prewrite).is_none()
+            && index_of(&self.buffer, Phase::Prewrite).is_none()
             && has_two_phase_lock(&self.buffer)
     }
 
@@ -49,12 +49,12 @@ impl Transaction {
 
     // Whether an abort may be asked, where something was declared in this mode.
     fn may_abort(&self, mode: Mode) -> bool
-        ensures { result ≡ may_abort self.now.decision mode (first_place phase.Prewrite self.now.buffer) }
+        ensures { result ≡ may_abort self.now.decision mode (first_index phase.Prewrite self.now.buffer) }
     {
         match self.decision {
             None => match mode {
                 Mode::TwoPhase => true,
-                Mode::Async => place_of(&self.buffer, Phase::Prewrite).is_some(),
+                Mode::Async => index_of(&self.buffer, Phase::Prewrite).is_some(),
             },
             Some(Fate::Committed(_)) => false,
             Some(Fate::Aborted) => true,

@@ -1,27 +1,27 @@
-//! Which key the next request of a transaction is of.
-ghost use Rattle.std.specs.Prelude.{◌≡◌, ◌<◌, length, IfSome, option_map};
-ghost use Rattle.tx_transaction.specs.Next.{due_key, due_place, open_place, primary_of};
+//! Whether a request of a phase is due, and which key it is of.
+ghost use Rattle.std.specs.Prelude.{◌≡◌, ◌<◌, length, is_some, IfSome, option_map};
+ghost use Rattle.tx_transaction.specs.Next.{due, due_key, due_index, open_index, primary_of};
 
 use super::Transaction;
-use crate::buffer::{has_keys, key_at, place_of};
+use crate::buffer::{has_keys, index_of, key_at};
 use crate::state::Phase;
 use tx_types::{Fate, Key, Mode};
 
 impl Transaction {
-    // The place of the prewrite that is due.
-    fn prewrite_place(&self) -> Option<usize>
-        ensures place { result ≡ due_place self.now Phase.Prewrite }
+    // The index of the prewrite that is due.
+    fn prewrite_index(&self) -> Option<usize>
+        ensures index { result ≡ due_index self.now Phase.Prewrite }
         ensures within { IfSome result (λ i. i < length self.now.buffer) }
     {
         if self.declared.is_none() {
             return None;
         }
-        place_of(&self.buffer, Phase::Prewrite)
+        index_of(&self.buffer, Phase::Prewrite)
     }
 
-    // The place of the commit that is due.
-    fn commit_place(&self) -> Option<usize>
-        ensures place { result ≡ due_place self.now Phase.Commit }
+    // The index of the commit that is due.
+    fn commit_index(&self) -> Option<usize>
+        ensures index { result ≡ due_index self.now Phase.Commit }
         ensures within { IfSome result (λ i. i < length self.now.buffer) }
     {
         if !self.has_primary() {
@@ -32,14 +32,14 @@ impl Transaction {
                 Some(_) => Some(0),
                 None => None,
             },
-            Some(Fate::Committed(_)) => place_of(&self.buffer, Phase::Commit),
+            Some(Fate::Committed(_)) => index_of(&self.buffer, Phase::Commit),
             Some(Fate::Aborted) => None,
         }
     }
 
-    // The place of what may decide.
-    fn open_place(&self) -> Option<usize>
-        ensures place { result ≡ open_place self.now }
+    // The index of what may decide.
+    fn open_index(&self) -> Option<usize>
+        ensures index { result ≡ open_index self.now }
         ensures within { IfSome result (λ i. i < length self.now.buffer) }
     {
         let Some(terms) = self.declared else {
@@ -50,32 +50,46 @@ impl Transaction {
         }
         match terms.mode {
             Mode::TwoPhase => Some(0),
-            Mode::Async => place_of(&self.buffer, Phase::Prewrite),
+            Mode::Async => index_of(&self.buffer, Phase::Prewrite),
         }
     }
 
-    // The place of the request of an abort that is due.
-    fn abort_place(&self) -> Option<usize>
-        ensures place { result ≡ due_place self.now Phase.Abort }
+    // The index of the request of an abort that is due.
+    fn abort_index(&self) -> Option<usize>
+        ensures index { result ≡ due_index self.now Phase.Abort }
         ensures within { IfSome result (λ i. i < length self.now.buffer) }
     {
         match self.decision {
-            None => self.open_place(),
+            None => self.open_index(),
             Some(Fate::Committed(_)) => None,
-            Some(Fate::Aborted) => place_of(&self.buffer, Phase::Abort),
+            Some(Fate::Aborted) => index_of(&self.buffer, Phase::Abort),
         }
+    }
+
+    // The index of the request of a phase that is due.
+    fn due_index(&self, phase: Phase) -> Option<usize>
+        ensures index { result ≡ due_index self.now phase }
+        ensures within { IfSome result (λ i. i < length self.now.buffer) }
+    {
+        match phase {
+            Phase::Prewrite => self.prewrite_index(),
+            Phase::Commit => self.commit_index(),
+            Phase::Abort => self.abort_index(),
+        }
+    }
+
+    /// Whether a request of a phase is due.
+    pub fn is_due(&self, phase: Phase) -> bool
+        ensures { result ≡ is_some (due self.now phase) }
+    {
+        self.due_index(phase).is_some()
     }
 
     /// The key that the next request of a phase is of, where one is due.
     pub fn due_key(&self, phase: Phase) -> Option<&Key>
         ensures { option_map (λ k. k.now) result ≡ due_key self.now phase }
     {
-        let place = match phase {
-            Phase::Prewrite => self.prewrite_place(),
-            Phase::Commit => self.commit_place(),
-            Phase::Abort => self.abort_place(),
-        };
-        match place {
+        match self.due_index(phase) {
             Some(i) => Some(key_at(&self.buffer, i)),
             None => None,
         }

@@ -6,7 +6,7 @@ ghost use Rattle.tx_transaction.specs.Buffers.{not_empty};
 ghost use Rattle.tx_transaction.specs.Sessions.{has_primary, declaration_of, exceeds, others_at, prewrite_of, due_prewrite, due_commit, due_abort, commit_at, check_at, rollback_at, heartbeat_of, read_of, scan_of, abort_open};
 
 use super::Transaction;
-use crate::buffer::{has_keys, key_of, mutation_of, other_keys, place_of};
+use crate::buffer::{has_keys, index_of, key_of, mutation_of, other_keys};
 use crate::state::{Due, Phase, Terms};
 use std::alloc::Global;
 use tx_core::{
@@ -16,13 +16,13 @@ use tx_core::{
 use tx_types::{Fate, Fault, Key, Mode, Secondaries, Ts};
 
 impl Transaction {
-    // The other keys that the prewrite of a place lists.
-    fn others_at(&self, alloc: Global, terms: &Terms, place: usize) -> Result<Secondaries, Fault>
+    // The other keys that the prewrite of an index lists.
+    fn others_at(&self, alloc: Global, terms: &Terms, index: usize) -> Result<Secondaries, Fault>
         requires { exceeds self.now.buffer terms.now ≡ false }
-        ensures ok { IfOk result (λ keys. keys ≡ others_at terms.now.mode self.now.buffer place) }
+        ensures ok { IfOk result (λ keys. keys ≡ others_at terms.now.mode self.now.buffer index) }
         ensures err { IfErr result (λ e. e ≡ Fault.OutOfMemory) }
     {
-        if terms.mode == Mode::Async && place == 0 {
+        if terms.mode == Mode::Async && index == 0 {
             return other_keys(alloc, &self.buffer);
         }
         Ok(Secondaries::new(alloc))
@@ -38,17 +38,17 @@ impl Transaction {
         }
     }
 
-    // The prewrite of the key at a place.
-    fn prewrite_at(&self, alloc: Global, terms: &Terms, place: usize) -> Result<Prewrite, Fault>
-        requires within { place < length self.now.buffer }
+    // The prewrite of the key at an index.
+    fn prewrite_at(&self, alloc: Global, terms: &Terms, index: usize) -> Result<Prewrite, Fault>
+        requires within { index < length self.now.buffer }
         requires few { exceeds self.now.buffer terms.now ≡ false }
-        ensures ok { IfOk result (λ body. request.Prewrite body ≡ (prewrite_of self.now terms.now place).body) }
+        ensures ok { IfOk result (λ body. request.Prewrite body ≡ (prewrite_of self.now terms.now index).body) }
         ensures err { IfErr result (λ e. e ≡ Fault.OutOfMemory) }
     {
-        let key = key_of(&self.buffer, place)?;
-        let mutation = mutation_of(&self.buffer, place)?;
+        let key = key_of(&self.buffer, index)?;
+        let mutation = mutation_of(&self.buffer, index)?;
         let primary = key_of(&self.buffer, 0)?;
-        let others = self.others_at(alloc, terms, place)?;
+        let others = self.others_at(alloc, terms, index)?;
         Ok(Prewrite {
             key,
             mutation,
@@ -65,53 +65,43 @@ impl Transaction {
     /// The prewrite that is due: of the first key in buffer order that has no accepted lock.
     pub fn due_prewrite(&self, alloc: Global) -> Result<Option<Due>, Fault>
         ensures ok { IfOk result (λ due. due ≡ due_prewrite self.now) }
-        ensures within { IfOk result (λ due. IfSome due (λ d. d.place < length self.now.buffer)) }
+        ensures within { IfOk result (λ due. IfSome due (λ d. d.index < length self.now.buffer)) }
         ensures err { IfErr result (λ e. e ≡ Fault.OutOfMemory) }
         ensures some { OnErr result (is_some (due_prewrite self.now) ≡ true) }
     {
         let Some(terms) = &self.declared else {
             return Ok(None);
         };
-        let Some(place) = place_of(&self.buffer, Phase::Prewrite) else {
+        let Some(index) = index_of(&self.buffer, Phase::Prewrite) else {
             return Ok(None);
         };
-        let body = self.prewrite_at(alloc, terms, place)?;
+        let body = self.prewrite_at(alloc, terms, index)?;
         let body = Body::Prewrite(BoxedPrewrite::new(alloc, body)?);
-        Ok(Some(Due { place, body }))
+        Ok(Some(Due { index, body }))
     }
 
-    /// Whether a prewrite is due.
-    pub fn has_prewrite(&self) -> bool
-        ensures { result ≡ is_some (due_prewrite self.now) }
-    {
-        if self.declared.is_none() {
-            return false;
-        }
-        place_of(&self.buffer, Phase::Prewrite).is_some()
-    }
-
-    // The commit of the key at a place, if there is one.
-    fn commit_at(&self, place: Option<usize>, commit: Ts) -> Result<Option<Due>, Fault>
-        requires { IfSome place (λ i. i < length self.now.buffer) }
-        ensures ok { IfOk result (λ due. due ≡ commit_at self.now commit place) }
-        ensures within { IfOk result (λ due. IfSome due (λ d. d.place < length self.now.buffer)) }
+    // The commit of the key at an index, if there is one.
+    fn commit_at(&self, index: Option<usize>, commit: Ts) -> Result<Option<Due>, Fault>
+        requires { IfSome index (λ i. i < length self.now.buffer) }
+        ensures ok { IfOk result (λ due. due ≡ commit_at self.now commit index) }
+        ensures within { IfOk result (λ due. IfSome due (λ d. d.index < length self.now.buffer)) }
         ensures err { IfErr result (λ e. e ≡ Fault.OutOfMemory) }
-        ensures some { OnErr result (is_some place ≡ true) }
+        ensures some { OnErr result (is_some index ≡ true) }
     {
-        let Some(place) = place else {
+        let Some(index) = index else {
             return Ok(None);
         };
-        let key = key_of(&self.buffer, place)?;
+        let key = key_of(&self.buffer, index)?;
         let start = self.start;
         let body = Body::Commit(Commit { key, start, commit });
-        Ok(Some(Due { place, body }))
+        Ok(Some(Due { index, body }))
     }
 
     /// The commit that is due: of the primary at the drawn timestamp, and once the transaction is
     /// committed of each key in buffer order.
     pub fn due_commit(&self) -> Result<Option<Due>, Fault>
         ensures ok { IfOk result (λ due. due ≡ due_commit self.now) }
-        ensures within { IfOk result (λ due. IfSome due (λ d. d.place < length self.now.buffer)) }
+        ensures within { IfOk result (λ due. IfSome due (λ d. d.index < length self.now.buffer)) }
         ensures err { IfErr result (λ e. e ≡ Fault.OutOfMemory) }
         ensures some { OnErr result (is_some (due_commit self.now) ≡ true) }
     {
@@ -124,66 +114,53 @@ impl Transaction {
                 None => Ok(None),
             },
             Some(Fate::Committed(commit)) => {
-                self.commit_at(place_of(&self.buffer, Phase::Commit), commit)
+                self.commit_at(index_of(&self.buffer, Phase::Commit), commit)
             }
             Some(Fate::Aborted) => Ok(None),
         }
     }
 
-    /// Whether a commit is due.
-    pub fn has_commit(&self) -> bool
-        ensures { result ≡ is_some (due_commit self.now) }
-    {
-        if !self.has_primary() {
-            return false;
-        }
-        match self.decision {
-            None => self.drawn.is_some(),
-            Some(Fate::Committed(_)) => place_of(&self.buffer, Phase::Commit).is_some(),
-            Some(Fate::Aborted) => false,
-        }
-    }
-
-    // The rollback of the key at a place, if there is one.
-    fn rollback_at(&self, place: Option<usize>) -> Result<Option<Due>, Fault>
-        requires { IfSome place (λ i. i < length self.now.buffer) }
-        ensures ok { IfOk result (λ due. due ≡ rollback_at self.now place) }
-        ensures within { IfOk result (λ due. IfSome due (λ d. d.place < length self.now.buffer)) }
+    // The rollback of the key at an index, if there is one.
+    fn rollback_at(&self, index: Option<usize>) -> Result<Option<Due>, Fault>
+        requires { IfSome index (λ i. i < length self.now.buffer) }
+        ensures ok { IfOk result (λ due. due ≡ rollback_at self.now index) }
+        ensures within { IfOk result (λ due. IfSome due (λ d. d.index < length self.now.buffer)) }
         ensures err { IfErr result (λ e. e ≡ Fault.OutOfMemory) }
-        ensures some { OnErr result (is_some place ≡ true) }
+        ensures some { OnErr result (is_some index ≡ true) }
     {
-        let Some(place) = place else {
+        let Some(index) = index else {
             return Ok(None);
         };
-        let key = key_of(&self.buffer, place)?;
+        let key = key_of(&self.buffer, index)?;
         let start = self.start;
         let body = Body::BatchRollback(BatchRollback { key, start });
-        Ok(Some(Due { place, body }))
+        Ok(Some(Due { index, body }))
     }
 
-    // The check of the key at a place, if there is one.
-    fn check_at(&self, place: Option<usize>) -> Result<Option<Due>, Fault>
-        requires { IfSome place (λ i. i < length self.now.buffer) }
-        ensures ok { IfOk result (λ due. due ≡ check_at self.now place) }
-        ensures within { IfOk result (λ due. IfSome due (λ d. d.place < length self.now.buffer)) }
+    // The check of the key at an index, if there is one.
+    fn check_at(&self, index: Option<usize>) -> Result<Option<Due>, Fault>
+        requires { IfSome index (λ i. i < length self.now.buffer) }
+        ensures ok { IfOk result (λ due. due ≡ check_at self.now index) }
+        ensures within { IfOk result (λ due. IfSome due (λ d. d.index < length self.now.buffer)) }
         ensures err { IfErr result (λ e. e ≡ Fault.OutOfMemory) }
-        ensures some { OnErr result (is_some place ≡ true) }
+        ensures some { OnErr result (is_some index ≡ true) }
     {
-        let Some(place) = place else {
+        let Some(index) = index else {
             return Ok(None);
         };
-        let key = key_of(&self.buffer, place)?;
+        let key = key_of(&self.buffer, index)?;
         let start = self.start;
         let body = Body::CheckSecondaryLocks(CheckSecondaryLocks { key, start });
-        Ok(Some(Due { place, body }))
+        Ok(Some(Due { index, body }))
     }
 
     // What may decide.
     fn abort_open(&self) -> Result<Option<Due>, Fault>
         ensures ok { IfOk result (λ due. due ≡ abort_open self.now self.now.declared (not_empty self.now.buffer)) }
-        ensures within { IfOk result (λ due. IfSome due (λ d. d.place < length self.now.buffer)) }
+        ensures within { IfOk result (λ due. IfSome due (λ d. d.index < length self.now.buffer)) }
         ensures err { IfErr result (λ e. e ≡ Fault.OutOfMemory) }
-        ensures some { OnErr result (is_some (abort_open self.now self.now.declared (not_empty self.now.buffer)) ≡ true) }
+        ensures some { OnErr result (is_some (abort_open self.now self.now.declared (not_empty self.now.buffer))
+            ≡ true) }
     {
         let Some(terms) = self.declared else {
             return Ok(None);
@@ -193,7 +170,7 @@ impl Transaction {
         }
         match terms.mode {
             Mode::TwoPhase => self.rollback_at(Some(0)),
-            Mode::Async => self.check_at(place_of(&self.buffer, Phase::Prewrite)),
+            Mode::Async => self.check_at(index_of(&self.buffer, Phase::Prewrite)),
         }
     }
 
@@ -201,41 +178,14 @@ impl Transaction {
     /// rollback of each key that was sent.
     pub fn due_abort(&self) -> Result<Option<Due>, Fault>
         ensures ok { IfOk result (λ due. due ≡ due_abort self.now) }
-        ensures within { IfOk result (λ due. IfSome due (λ d. d.place < length self.now.buffer)) }
+        ensures within { IfOk result (λ due. IfSome due (λ d. d.index < length self.now.buffer)) }
         ensures err { IfErr result (λ e. e ≡ Fault.OutOfMemory) }
         ensures some { OnErr result (is_some (due_abort self.now) ≡ true) }
     {
         match self.decision {
             None => self.abort_open(),
             Some(Fate::Committed(_)) => Ok(None),
-            Some(Fate::Aborted) => self.rollback_at(place_of(&self.buffer, Phase::Abort)),
-        }
-    }
-
-    // Whether something that may decide is due.
-    fn has_open(&self) -> bool
-        ensures { result ≡ is_some (abort_open self.now self.now.declared (not_empty self.now.buffer)) }
-    {
-        let Some(terms) = self.declared else {
-            return false;
-        };
-        if !has_keys(&self.buffer) {
-            return false;
-        }
-        match terms.mode {
-            Mode::TwoPhase => true,
-            Mode::Async => place_of(&self.buffer, Phase::Prewrite).is_some(),
-        }
-    }
-
-    /// Whether something of an abort is due.
-    pub fn has_abort(&self) -> bool
-        ensures { result ≡ is_some (due_abort self.now) }
-    {
-        match self.decision {
-            None => self.has_open(),
-            Some(Fate::Committed(_)) => false,
-            Some(Fate::Aborted) => place_of(&self.buffer, Phase::Abort).is_some(),
+            Some(Fate::Aborted) => self.rollback_at(index_of(&self.buffer, Phase::Abort)),
         }
     }
 

@@ -1,5 +1,5 @@
 use Rattle.std.proofs.Common.{◌≡◌, Ok, rules}
-use Rattle.tx_check.specs.declared.checker.Turn.TheVariants.{Made, Refused}
+use Rattle.tx_check.specs.declared.checker.LineTurn.TheVariants.{Made, Refused}
 use Rattle.tx_text.specs.Lines.{lines_of}
 use Rattle.tx_check.specs.Check.{step_in}
 use Rattle.tx_check.specs.Turns.{Turns}

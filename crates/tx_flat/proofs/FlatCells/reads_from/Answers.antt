@@ -5,11 +5,11 @@ use Rattle.std.specs.Ordering.{nat_cmp}
 use Rattle.std.specs.Cmp.Lexicographic.{slice_cmp}
 use Rattle.tx_types.specs.Keys.{key_le}
 use Rattle.tx_flat.specs.Flats.{flat_content}
-use Rattle.tx_flat.specs.Places.{coming, locks_where, writes_where, next_key}
+use Rattle.tx_flat.specs.Positions.{coming, locks_where, writes_where, next_key}
 use Rattle.tx_encoded.specs.Spelt.{version_cmp}
 use Rattle.tx_cells.proofs.Facts.{fitting, whole_at}
 use Rattle.tx_flat.proofs.HeldKeys.{walk_from}
-use Rattle.tx_flat.proofs.Places.{le_upward, place, first_held, searched_from, searched_lock, coming_is}
+use Rattle.tx_flat.proofs.Positions.{le_upward, slot, first_held, searched_from, searched_lock, coming_is}
 use Rattle.tx_flat.proofs.FlatCells.reads_from.Goals as goal
 
 pub invariant_of-result : goal.invariant_of-result
@@ -26,7 +26,7 @@ invariant_of-result c =
     ∙ c.range-writes.ensures.between tt
     ∙ ap (λ (v : List ℕ × ℕ). entries_between version_cmp (Included v) Unbounded flat.writes.entries) (c.in_ok-newest.ensures ∙ ap (λ (n : ℕ). (from, n)) c.new-2.ensures)
     ∙ searched_from from flat.writes.entries (λ u rec f. fitting (flat_content flat u.0) (whole_at (flat_content flat) flat.whole u.0) u.1 rec f) in
-    record { place = place flat (key_le from) (le_upward from) _ _ c.range-locks.ensures.ordered c.range-writes.ensures.ordered locks writes }
+    record { slot = slot flat (key_le from) (le_upward from) _ _ c.range-locks.ensures.ordered c.range-writes.ensures.ordered locks writes }
 
 pub returns-clause-walk : goal.returns-clause-walk
 returns-clause-walk c =

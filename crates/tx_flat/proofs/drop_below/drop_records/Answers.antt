@@ -15,7 +15,7 @@ returns c = λ value k q.
     let W = tree.get version_cmp c.args.writes.now in
     let V = λ (j : List ℕ). value in
     let all : Sifted (λ v. keeps_at W V c.args.safe v ≡ false) c.args.writes.now.entries c.retain.new.self.entries (k, q) =
-    sifts _ (λ f es. (place : Place) × Knows W V c.args.safe f.0.now place × AreLeft W place es)
+    sifts _ (λ f es. (slot : Place) × Knows W V c.args.safe f.0.now slot × AreLeft W slot es)
     (λ v. keeps_at W V c.args.safe v ≡ false)
     (λ f e es b w g i t.
     let m = t.called.met in

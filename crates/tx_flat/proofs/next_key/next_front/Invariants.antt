@@ -1,4 +1,4 @@
-use Rattle.tx_flat.proofs.Places.{AreBehind}
+use Rattle.tx_flat.proofs.Positions.{AreBehind}
 use Rattle.tx_flat.proofs.next_key.next_front.Given as goal
 
 abbrev pub invariant-steps : goal.invariant-steps

@@ -11,13 +11,13 @@ use Rattle.tx_flat.proofs.numbers.note_back.Goals as goal
 
 pub index_mut-requires : goal.index_mut-requires
 index_mut-requires c =
-    let within : c.args.earlier.place < length c.args.numbers.now.items = slice_get_within c.args.numbers.now.items c.args.earlier.place c.requires.at c.requires.found in
+    let within : c.args.earlier.slot < length c.args.numbers.now.items = slice_get_within c.args.numbers.now.items c.args.earlier.slot c.requires.at c.requires.found in
     omega (arith, within, c.args.numbers.now.ok.0)
 
 pub note_back_in-requires : goal.note_back_in-requires
 note_back_in-requires c =
     let xs = c.args.numbers.now.items in
-    let i = c.args.earlier.place in
+    let i = c.args.earlier.slot in
     let m = c.index_mut.result.now in
     let within : i < length xs = slice_get_within xs i c.requires.at c.requires.found in
     let same : Some c.requires.at ≡ Some m = sym c.requires.found ∙ slice_get_read xs (length xs) i m refl within c.index_mut.ensures.value in
@@ -26,7 +26,7 @@ note_back_in-requires c =
 pub returns : goal.returns
 returns c = λ k.
     let xs = c.args.numbers.now.items in
-    let i = c.args.earlier.place in
+    let i = c.args.earlier.slot in
     let within : i < length xs = slice_get_within xs i c.requires.at c.requires.found in
     placed_noted xs i c.index_mut.result.now c.note_back_in.new.numbers within c.index_mut.ensures.value c.args.earlier.key c.args.earlier.before (sym c.requires.is)
     c.note_back_in.ensures k

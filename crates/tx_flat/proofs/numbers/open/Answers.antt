@@ -5,8 +5,8 @@ use Rattle.tx_flat.specs.Numbered.{numbers_among}
 use Rattle.tx_flat.proofs.FlatNumbers.{empty_more}
 use Rattle.tx_flat.proofs.numbers.open.Goals as goal
 
-pub places-preserved : goal.places-preserved
-places-preserved c = λ k.
+pub slots-preserved : goal.slots-preserved
+slots-preserved c = λ k.
     ap (λ (xs : List (BTreeMap Key ℕ)). numbers_among xs k) c.in_ok-push.ensures.items
-    ∙ empty_more c.places.numbers.items c.new.result c.new.ensures.empty k
-    ∙ c.places.invariant k
+    ∙ empty_more c.slots.numbers.items c.new.result c.new.ensures.empty k
+    ∙ c.slots.invariant k

@@ -6,7 +6,7 @@ use Rattle.tx_journal_tests.proofs.tests.begin.Goals as goal
 
 pub record_begin-requires : goal.record_begin-requires
 record_begin-requires g c =
-    let bounds = g.J.Naming.bounds in
+    let bounds = g.J.JournalId.bounds in
     let start = c.in-Ok.start in
     let new = c.draw.new.self in
     let seat = c.args.seat in

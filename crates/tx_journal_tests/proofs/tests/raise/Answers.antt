@@ -27,7 +27,7 @@ may_raise bounds l n g e =
 
 pub record-requires-clause-right : goal.record-requires-clause-right
 record-requires-clause-right g c =
-    let bounds = g.J.Naming.bounds in
+    let bounds = g.J.JournalId.bounds in
     let m = c.learn.new.self.events in
     let l = c.last-loaded.new.self.events in
     let first : HasSeen bounds 0 [] m = subst (λ (p : ℕ × History). HasSeen bounds p.0 p.1 m) (λ i. (c.requires.region.0 i, c.requires.region.1 i)) c.learn.ensures.seen in
@@ -52,7 +52,7 @@ record-requires-clause-unread g c =
 
 pub new-requires : goal.new-requires
 new-requires g c =
-    let bounds = g.J.Naming.bounds in
+    let bounds = g.J.JournalId.bounds in
     let m = c.learn.new.self.events in
     let l = c.last-loaded.new.self.events in
     let asked = c.args.request in

@@ -4,7 +4,7 @@ use Rattle.tx_machine.proofs.commit.block_of.Goals as goal
 pub returns-then-not-is_visible-clause-free : goal.returns-then-not-is_visible-clause-free
 returns-then-not-is_visible-clause-free c ordered =
     free_hidden c.args.index.now c.args.fates.now c.args.reads.now c.args.t c.args.c c.args.change.now
-    (c.in_default.ensures.none ordered) (λ seen. cc (c.is_visible.ensures.1 seen, c.if-not-is_visible.true))
+    (c.in_default.ensures.none ordered) (λ seen. cc (c.is_visible.ensures.seen.1 seen, c.if-not-is_visible.true))
 
 pub returns-in-None-clause-free : goal.returns-in-None-clause-free
 returns-in-None-clause-free c ordered =

@@ -10,8 +10,8 @@ use Rattle.tx_region.proofs.region.record_read.Goals as goal
 
 pub raise_read_as-requires : goal.raise_read_as-requires
 raise_read_as-requires g c =
-    let bounds = g.J.Naming.bounds in
-    let e = g.E.Said.event in
+    let bounds = g.J.JournalId.bounds in
+    let e = g.E.StepEvent.event in
     let old = c.args.seat.now in
     let mid = c.max_ts.new.self in
     let seen = c.max_ts.ensures.seen in
@@ -23,8 +23,8 @@ raise_read_as-requires g c =
 
 pub record_as-requires : goal.record_as-requires
 record_as-requires g c =
-    let bounds = g.J.Naming.bounds in
-    let e = g.E.Said.event in
+    let bounds = g.J.JournalId.bounds in
+    let e = g.E.StepEvent.event in
     let old = c.args.seat.now in
     let mid = c.max_ts.new.self in
     let seen = c.max_ts.ensures.seen in
@@ -38,8 +38,8 @@ record_as-requires g c =
 
 pub returns-then-lt-clause-added : goal.returns-then-lt-clause-added
 returns-then-lt-clause-added g c =
-    let bounds = g.J.Naming.bounds in
-    let e = g.E.Said.event in
+    let bounds = g.J.JournalId.bounds in
+    let e = g.E.StepEvent.event in
     let old = c.args.seat.now in
     let mid = c.max_ts.new.self in
     let new = c.raise_read_as.new.self.events in
@@ -47,8 +47,8 @@ returns-then-lt-clause-added g c =
 
 pub returns-else-lt-clause-added : goal.returns-else-lt-clause-added
 returns-else-lt-clause-added g c =
-    let bounds = g.J.Naming.bounds in
-    let e = g.E.Said.event in
+    let bounds = g.J.JournalId.bounds in
+    let e = g.E.StepEvent.event in
     let old = c.args.seat.now in
     let mid = c.max_ts.new.self in
     let new = c.record_as.new.self.events in

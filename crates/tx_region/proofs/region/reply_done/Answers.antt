@@ -9,7 +9,7 @@ use Rattle.tx_region.proofs.region.reply_done.Goals as goal
 
 pub new-requires : goal.new-requires
 new-requires g c =
-    let bounds = g.J.Naming.bounds in
+    let bounds = g.J.JournalId.bounds in
     let old = c.args.seat.now in
     let a = c.args.done.answer in
     let q = c.args.request in

@@ -6,9 +6,9 @@ pub returns-then-is_reached : goal.returns-then-is_reached
 returns-then-is_reached c =
     let bounds = c.args.bounds.now in
     let k = c.args.key.now in
-    let n = c.partition_point-place.result in
+    let n = c.partition_point-index.result in
     let count = c.requires.fronts.0 in
-    let upto = c.partition_point-place.ensures.bound in
+    let upto = c.partition_point-index.ensures.bound in
     let is = c.front_of-front.ensures.value in
     let bytes = c.front_of-front.ensures.bytes in
     sym (between bounds c.requires.rising k n (omega (arith, upto, count)) (

@@ -27,12 +27,12 @@ returns-in-Ends-clause-sends g c =
     let i = c.loop-key.key-index in
     let t = c.args.met.now.start in
     let left = next_of keys i (i + 1) c.key-item.result refl c.loop-key-test.true c.key-item.is in
-    subst (λ (ks : List Key). Sends g.S.Sender.sends g.J.Naming.bounds c.args.seat.now c.args.sender.now (others_walk t ks c.args.primary.now.min) c.in-Ends.found c.ask_other.new.sender c.ask_other.new.seat) items
-    (end_asked g.S.Sender.sends g.J.Naming.bounds c.args.seat.now c.args.sender.now (others_walk t keys c.args.primary.now.min) t c.loop-key.seat c.loop-key.sender c.key-item.result (drop (i + 1) keys) (drop i keys) c.loop-key.most c.in-Ends.found c.ask_other.new.seat c.ask_other.new.sender left c.loop-key.invariant.sends c.in-Ends.ensures.sends)
+    subst (λ (ks : List Key). Sends g.S.Sender.sends g.J.JournalId.bounds c.args.seat.now c.args.sender.now (others_walk t ks c.args.primary.now.min) c.in-Ends.found c.ask_other.new.sender c.ask_other.new.seat) items
+    (end_asked g.S.Sender.sends g.J.JournalId.bounds c.args.seat.now c.args.sender.now (others_walk t keys c.args.primary.now.min) t c.loop-key.seat c.loop-key.sender c.key-item.result (drop (i + 1) keys) (drop i keys) c.loop-key.most c.in-Ends.found c.ask_other.new.seat c.ask_other.new.sender left c.loop-key.invariant.sends c.in-Ends.ensures.sends)
 
 pub loop-key-preserved : goal.loop-key-preserved
 loop-key-preserved g c =
-    let bounds = g.J.Naming.bounds in
+    let bounds = g.J.JournalId.bounds in
     let keys : List Key = c.as_slice-key-items.result.now in
     let i = c.loop-key.key-index in
     let t = c.args.met.now.start in
@@ -58,4 +58,4 @@ returns-clause-found g c =
     let t = c.args.met.now.start in
     let all : take c.loop-key.key-index keys ≡ c.args.primary.now.secondaries = all_keys keys c.loop-key.key-index c.loop-key-test.false ∙ (c.as_slice-key-items.ensures ∙ ap (λ (x : LockInfo). x.secondaries) c.facts-2.ensures) in
     let locks = subst (λ (ks : List Key). HadLocks c.loop-key.seat.events t ks c.args.primary.now.min c.loop-key.most) all c.loop-key.invariant.locks in
-    decided_greatest g.J.Naming.bounds c.loop-key.seat.events c.loop-key.invariant.knows.run t c.args.primary.now c.loop-key.most c.loop-key.invariant.primary locks
+    decided_greatest g.J.JournalId.bounds c.loop-key.seat.events c.loop-key.invariant.knows.run t c.args.primary.now c.loop-key.most c.loop-key.invariant.primary locks

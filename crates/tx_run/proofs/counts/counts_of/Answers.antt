@@ -6,17 +6,17 @@ use Rattle.tx_run.proofs.counts.counts_of.Goals as goal
 
 pub add-requires : goal.add-requires
 add-requires c =
-    let i = c.loop-spoken.spoken-index in
+    let i = c.loop-reply.reply-index in
     let lines = map (λ p. p.1.now) c.args.lines.now in
     let len = length-map c.args.lines.now (λ p. p.1.now) in
     let short = length-take-le i lines (omega (arith, len)) in
-    subst IsRoomy (sym c.loop-spoken.invariant) (roomy (take i lines) (omega (arith, short)))
+    subst IsRoomy (sym c.loop-reply.invariant) (roomy (take i lines) (omega (arith, short)))
 
-pub loop-spoken-preserved : goal.loop-spoken-preserved
-loop-spoken-preserved c =
-    let i = c.loop-spoken.spoken-index in
+pub loop-reply-preserved : goal.loop-reply-preserved
+loop-reply-preserved c =
+    let i = c.loop-reply.reply-index in
     let lines = map (λ p. p.1.now) c.args.lines.now in
-    let d = c.loop-spoken-item.result.1.now in
+    let d = c.loop-reply-item.result.1.now in
     let len = length-map c.args.lines.now (λ p. p.1.now) in
-    let at : get_or lines i d ≡ d = get_or-map (λ p. p.1.now) c.args.lines.now i c.loop-spoken-item.result d c.loop-spoken-test.true ∙ ap (λ p. p.1.now) (sym c.loop-spoken-item.is) in
-    c.add.ensures ∙ ap (λ counts. counted counts d.reply) c.loop-spoken.invariant ∙ ap (λ s. counted (counts_of (take i lines)) s.reply) (sym at) ∙ sym (counted_more lines i d (omega (arith, len)))
+    let at : get_or lines i d ≡ d = get_or-map (λ p. p.1.now) c.args.lines.now i c.loop-reply-item.result d c.loop-reply-test.true ∙ ap (λ p. p.1.now) (sym c.loop-reply-item.is) in
+    c.add.ensures ∙ ap (λ counts. counted counts d.answer) c.loop-reply.invariant ∙ ap (λ s. counted (counts_of (take i lines)) s.answer) (sym at) ∙ sym (counted_more lines i d (omega (arith, len)))

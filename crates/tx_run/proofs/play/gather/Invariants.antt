@@ -3,9 +3,9 @@ use Rattle.tx_run.specs.Jobs.{AreJoined}
 use Rattle.tx_run.proofs.Gathering.{AreLeft}
 use Rattle.tx_run.proofs.play.gather.Given as goal
 
-abbrev pub invariant-loop-out : goal.invariant-loop-out
-invariant-loop-out g l = record {
-  left : AreLeft g.L.Source.text l.seat.events l.replies l.out-iterator.rest.items;
-  split : l.fn.outs.items ≡ l.yielded ++ l.out-iterator.rest.items;
+abbrev pub invariant-loop-output : goal.invariant-loop-output
+invariant-loop-output g l = record {
+  left : AreLeft g.L.Source.text l.seat.events l.replies l.output-iterator.rest.items;
+  split : l.fn.outputs.items ≡ l.yielded ++ l.output-iterator.rest.items;
   joined : AreJoined l.fn.replies l.seat.events l.replies l.yielded;
 }

@@ -5,7 +5,7 @@ use Rattle.tx_run.proofs.play.jobs.Goals as goal
 
 pub loop-lines-preserved : goal.loop-lines-preserved
 loop-lines-preserved g c =
-    let last = length g.J.Naming.bounds + vec_len c.args.seats in
+    let last = length g.J.JournalId.bounds + vec_len c.args.seats in
     let before = c.loop-lines.invariant in
     let two = c.in-Some-two_seats.ensures.two in
     let job = c.in_ok-new.field-0 in

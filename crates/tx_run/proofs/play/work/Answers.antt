@@ -3,10 +3,10 @@ use Rattle.tx_run.proofs.Seating.{own_distinct, falling}
 use Rattle.tx_run.proofs.play.work.Goals as goal
 
 pub run_sessions-requires-clause-distinct : goal.run_sessions-requires-clause-distinct
-run_sessions-requires-clause-distinct g c κs within = own_distinct (length g.J.Naming.bounds + vec_len c.args.seats) c.in_ok-jobs.jobs.items c.in_ok-jobs.ensures
+run_sessions-requires-clause-distinct g c κs within = own_distinct (length g.J.JournalId.bounds + vec_len c.args.seats) c.in_ok-jobs.jobs.items c.in_ok-jobs.ensures
 
 pub returns : goal.returns
 returns g c =
-    falling (length g.J.Naming.bounds + vec_len c.args.seats) c.in_ok-jobs.jobs.items c.in_ok-outs.outs.items c.in_ok-jobs.ensures
-    (omega (arith, c.in_ok-outs.ensures.count, c.in_ok-outs.outs.ok.0, c.in_ok-jobs.jobs.ok.0))
-    (λ place job out p q. (c.in_ok-outs.ensures.each place job out p q).0)
+    falling (length g.J.JournalId.bounds + vec_len c.args.seats) c.in_ok-jobs.jobs.items c.in_ok-outputs.outputs.items c.in_ok-jobs.ensures
+    (omega (arith, c.in_ok-outputs.ensures.count, c.in_ok-outputs.outputs.ok.0, c.in_ok-jobs.jobs.ok.0))
+    (λ index job output p q. (c.in_ok-outputs.ensures.each index job output p q).0)

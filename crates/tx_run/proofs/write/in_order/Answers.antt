@@ -1,6 +1,6 @@
 use Rattle.std.proofs.Common.{◌≡◌, ◌++◌, sym, ap, ◌∙◌, take, take_all, rules, arith}
 use Rattle.std.proofs.lemmas.List.Sorted.{IsNonDecreasingBy-from_sort_by_key}
-use Rattle.tx_ledger.specs.Replies.{all_of}
+use Rattle.tx_run.specs.Replies.{all_of}
 use Rattle.tx_run.proofs.LineOrder.{all_of_more, in_order}
 use Rattle.tx_run.proofs.write.in_order.Goals as goal
 

@@ -1,5 +1,5 @@
 use Rattle.std.proofs.Common.{◌≡◌, ◌++◌, All, map, take}
-use Rattle.tx_ledger.specs.Replies.{all_of}
+use Rattle.tx_run.specs.Replies.{all_of}
 use Rattle.tx_run.proofs.write.in_order.Given as goal
 
 abbrev pub invariant-loop-part : goal.invariant-loop-part

@@ -2,7 +2,7 @@ use Rattle.std.proofs.Common.{◌≡◌, inl, inr, ◌++◌, List, ℕ, map, ref
 use Rattle.std.specs.List.{flat_map}
 use Rattle.std.specs.Io.KnownBytes.{Appends}
 use Rattle.std.proofs.KnownBytes.{Appends-trans}
-use Rattle.tx_ledger.specs.Lines.{line_of}
+use Rattle.tx_run.specs.Lines.{line_of}
 use Rattle.tx_text.specs.Output.{AppendsPart}
 use Rattle.tx_run.specs.Texts.{outcomes_text, total_text, counts_of}
 use Rattle.tx_run.proofs.Writing.{on_any_err, on_ok, on_err, part_first, part_then}

@@ -1,8 +1,8 @@
 use Rattle.std.proofs.Common.{map, take}
 use Rattle.std.specs.List.{flat_map}
 use Rattle.std.specs.Io.KnownBytes.{Appends}
-use Rattle.tx_ledger.specs.Lines.{line_of}
+use Rattle.tx_run.specs.Lines.{line_of}
 use Rattle.tx_run.proofs.write.write_lines.Given as goal
 
 abbrev pub invariant-lines : goal.invariant-lines
-invariant-lines g l = Appends (g.W.Write.contents l.fn.writer) (g.W.Write.contents l.writer) (flat_map line_of (take l.spoken-index (map (λ p. p.1.now) l.lines)))
+invariant-lines g l = Appends (g.W.Write.contents l.fn.writer) (g.W.Write.contents l.writer) (flat_map line_of (take l.reply-index (map (λ p. p.1.now) l.lines)))

@@ -4,7 +4,9 @@ use Rattle.tx_steps.proofs.RisingBounds.{fits}
 use Rattle.tx_script.proofs.opening.bounds_at.Goals as goal
 
 pub returns-clause-rising : goal.returns-clause-rising
-returns-clause-rising c = (fits (data_of c.in-Ok.said) c.in-Ok-Some.bounds.items (sym c.in-Ok-Some.ensures.ok ∙ ap (option_map (λ (b : _). b.items)) c.in-Ok-Some.field-0-is)).0
+returns-clause-rising c = (fits (data_of c.in-Ok.said) c.in-Ok-Some.bounds.items
+    (sym c.in-Ok-Some.ensures.ok ∙ ap (option_map (λ (b : _). b.items)) c.in-Ok-Some.field-0-is)).0
 
 pub returns-clause-few : goal.returns-clause-few
-returns-clause-few c = (fits (data_of c.in-Ok.said) c.in-Ok-Some.bounds.items (sym c.in-Ok-Some.ensures.ok ∙ ap (option_map (λ (b : _). b.items)) c.in-Ok-Some.field-0-is)).1
+returns-clause-few c = (fits (data_of c.in-Ok.said) c.in-Ok-Some.bounds.items
+    (sym c.in-Ok-Some.ensures.ok ∙ ap (option_map (λ (b : _). b.items)) c.in-Ok-Some.field-0-is)).1

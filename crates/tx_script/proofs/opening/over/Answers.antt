@@ -5,22 +5,37 @@ use Rattle.tx_types.specs.declared.limits.TheConstants.{MAX_LINES}
 use Rattle.tx_script.specs.Play.{EndsLines, BreaksLines}
 use Rattle.tx_script.specs.Checked.{EndsCheckedLines, BreaksCheckedLines}
 use Rattle.tx_script.specs.Loops.{EndsAsked, BreaksAsked}
-use Rattle.tx_play.proofs.Dealt.{dealt_all}
+use Rattle.tx_engine.proofs.Dealt.{dealt_all}
 use Rattle.tx_script.proofs.Ending.{then_ok, then_err}
 use Rattle.tx_script.proofs.Checking.{breaks_first_asked}
 use Rattle.tx_script.proofs.opening.over.Goals as goal
 
 pub returns-in_default-clause-breaks : goal.returns-in_default-clause-breaks
-returns-in_default-clause-breaks g c lines a = breaks_first_asked c.args.checks c.args.opened.bounds _ lines (g.W.Write.contents c.args.writer.now) _ (Keeps-refl _)
+returns-in_default-clause-breaks g c lines a = breaks_first_asked c.args.checks c.args.opened.bounds _ lines
+    (g.W.Write.contents c.args.writer.now) _ (Keeps-refl _)
 
 pub returns-in_default-engine_of-clause-breaks : goal.returns-in_default-engine_of-clause-breaks
-returns-in_default-engine_of-clause-breaks g c lines a = breaks_first_asked c.args.checks c.args.opened.bounds _ lines (g.W.Write.contents c.args.writer.now) _ (Keeps-refl _)
+returns-in_default-engine_of-clause-breaks g c lines a =
+    breaks_first_asked c.args.checks c.args.opened.bounds _ lines (g.W.Write.contents c.args.writer.now) _
+    (Keeps-refl _)
 
 pub engine_of-requires-clause-dealt : goal.engine_of-requires-clause-dealt
-engine_of-requires-clause-dealt g c = dealt_all c.in-Ok.seats.items g.J.Naming.seats (omega (arith, c.in-Ok.ensures.count, c.in-Ok.seats.ok.0)) c.in-Ok.ensures.seats
+engine_of-requires-clause-dealt g c = dealt_all c.in-Ok.seats.items g.J.JournalId.seats (omega (
+  arith,
+  c.in-Ok.ensures.count,
+  c.in-Ok.seats.ok.0,
+)) c.in-Ok.ensures.seats
 
-pub check_over-requires-clause-places : goal.check_over-requires-clause-places
-check_over-requires-clause-places g c = omega (arith, c.in-Ok-engine_of.ensures.size, c.in-Ok.ensures.count, c.in-Ok.seats.ok.0, c.requires.named.2, ap length c.requires.named.1, c.requires.seats)
+pub check_over-requires-clause-slots : goal.check_over-requires-clause-slots
+check_over-requires-clause-slots g c = omega (
+  arith,
+  c.in-Ok-engine_of.ensures.size,
+  c.in-Ok.ensures.count,
+  c.in-Ok.seats.ok.0,
+  c.requires.named.2,
+  ap length c.requires.named.1,
+  c.requires.seats,
+)
 
 pub check_over-requires-clause-ready : goal.check_over-requires-clause-ready
 check_over-requires-clause-ready g c = c.in-Ok-engine_of.ensures.ready (MAX_LINES + 1) (omega arith)
@@ -28,31 +43,52 @@ check_over-requires-clause-ready g c = c.in-Ok-engine_of.ensures.ready (MAX_LINE
 pub check_over-requires-clause-seats : goal.check_over-requires-clause-seats
 check_over-requires-clause-seats g c = omega (arith, c.requires.named.2, ap length c.requires.named.1, c.requires.seats)
 
-pub simulate_over-requires-clause-places : goal.simulate_over-requires-clause-places
-simulate_over-requires-clause-places g c = omega (arith, c.in-Ok-engine_of.ensures.size, c.in-Ok.ensures.count, c.in-Ok.seats.ok.0, c.requires.named.2, ap length c.requires.named.1, c.requires.seats)
+pub simulate_over-requires-clause-slots : goal.simulate_over-requires-clause-slots
+simulate_over-requires-clause-slots g c = omega (
+  arith,
+  c.in-Ok-engine_of.ensures.size,
+  c.in-Ok.ensures.count,
+  c.in-Ok.seats.ok.0,
+  c.requires.named.2,
+  ap length c.requires.named.1,
+  c.requires.seats,
+)
 
 pub simulate_over-requires-clause-ready : goal.simulate_over-requires-clause-ready
 simulate_over-requires-clause-ready g c = c.in-Ok-engine_of.ensures.ready (MAX_LINES + 1) (omega arith)
 
 pub simulate_over-requires-clause-seats : goal.simulate_over-requires-clause-seats
-simulate_over-requires-clause-seats g c = omega (arith, c.requires.named.2, ap length c.requires.named.1, c.requires.seats)
+simulate_over-requires-clause-seats g c = omega (
+  arith,
+  c.requires.named.2,
+  ap length c.requires.named.1,
+  c.requires.seats,
+)
 
 pub returns-then-checks-clause-ends : goal.returns-then-checks-clause-ends
 returns-then-checks-clause-ends g c = then_ok _ _ c.check_over.result c.check_over.ensures.ends
-    (λ end h lines a. subst (λ (b : Bool). EndsAsked b c.args.opened.bounds lines (g.W.Write.contents c.args.writer.now) (g.W.Write.contents c.check_over.new.writer) end) (sym c.if-checks.true)
-    (subst (λ (bounds : List Key). EndsCheckedLines bounds lines (g.W.Write.contents c.args.writer.now) (g.W.Write.contents c.check_over.new.writer) end) (sym c.requires.named.1) (h lines a)))
+    (λ end h lines a. subst (λ (b : Bool). EndsAsked b c.args.opened.bounds lines (g.W.Write.contents c.args.writer.now)
+    (g.W.Write.contents c.check_over.new.writer) end) (sym c.if-checks.true)
+    (subst (λ (bounds : List Key). EndsCheckedLines bounds lines (g.W.Write.contents c.args.writer.now)
+    (g.W.Write.contents c.check_over.new.writer) end) (sym c.requires.named.1) (h lines a)))
 
 pub returns-then-checks-clause-breaks : goal.returns-then-checks-clause-breaks
 returns-then-checks-clause-breaks g c = then_err _ _ c.check_over.result c.check_over.ensures.breaks
-    (λ why h lines a. subst (λ (b : Bool). BreaksAsked b c.args.opened.bounds why lines (g.W.Write.contents c.args.writer.now) (g.W.Write.contents c.check_over.new.writer)) (sym c.if-checks.true)
-    (subst (λ (bounds : List Key). BreaksCheckedLines bounds why lines (g.W.Write.contents c.args.writer.now) (g.W.Write.contents c.check_over.new.writer)) (sym c.requires.named.1) (h lines a)))
+    (λ why h lines a. subst (λ (b : Bool). BreaksAsked b c.args.opened.bounds why lines
+    (g.W.Write.contents c.args.writer.now) (g.W.Write.contents c.check_over.new.writer)) (sym c.if-checks.true)
+    (subst (λ (bounds : List Key). BreaksCheckedLines bounds why lines (g.W.Write.contents c.args.writer.now)
+    (g.W.Write.contents c.check_over.new.writer)) (sym c.requires.named.1) (h lines a)))
 
 pub returns-else-checks-clause-ends : goal.returns-else-checks-clause-ends
 returns-else-checks-clause-ends g c = then_ok _ _ c.simulate_over.result c.simulate_over.ensures.ends
-    (λ end h lines a. subst (λ (b : Bool). EndsAsked b c.args.opened.bounds lines (g.W.Write.contents c.args.writer.now) (g.W.Write.contents c.simulate_over.new.writer) end) (sym c.if-checks.false)
-    (subst (λ (bounds : List Key). EndsLines bounds lines (g.W.Write.contents c.args.writer.now) (g.W.Write.contents c.simulate_over.new.writer) end) (sym c.requires.named.1) (h lines a)))
+    (λ end h lines a. subst (λ (b : Bool). EndsAsked b c.args.opened.bounds lines (g.W.Write.contents c.args.writer.now)
+    (g.W.Write.contents c.simulate_over.new.writer) end) (sym c.if-checks.false)
+    (subst (λ (bounds : List Key). EndsLines bounds lines (g.W.Write.contents c.args.writer.now)
+    (g.W.Write.contents c.simulate_over.new.writer) end) (sym c.requires.named.1) (h lines a)))
 
 pub returns-else-checks-clause-breaks : goal.returns-else-checks-clause-breaks
 returns-else-checks-clause-breaks g c = then_err _ _ c.simulate_over.result c.simulate_over.ensures.breaks
-    (λ why h lines a. subst (λ (b : Bool). BreaksAsked b c.args.opened.bounds why lines (g.W.Write.contents c.args.writer.now) (g.W.Write.contents c.simulate_over.new.writer)) (sym c.if-checks.false)
-    (subst (λ (bounds : List Key). BreaksLines bounds why lines (g.W.Write.contents c.args.writer.now) (g.W.Write.contents c.simulate_over.new.writer)) (sym c.requires.named.1) (h lines a)))
+    (λ why h lines a. subst (λ (b : Bool). BreaksAsked b c.args.opened.bounds why lines
+    (g.W.Write.contents c.args.writer.now) (g.W.Write.contents c.simulate_over.new.writer)) (sym c.if-checks.false)
+    (subst (λ (bounds : List Key). BreaksLines bounds why lines (g.W.Write.contents c.args.writer.now)
+    (g.W.Write.contents c.simulate_over.new.writer)) (sym c.requires.named.1) (h lines a)))

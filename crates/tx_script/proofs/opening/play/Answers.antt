@@ -11,16 +11,24 @@ use Rattle.tx_script.proofs.Checking.{breaks_first_asked}
 use Rattle.tx_script.proofs.opening.play.Goals as goal
 
 pub returns-in_err-first-clause-breaks : goal.returns-in_err-first-clause-breaks
-returns-in_err-first-clause-breaks g c = if_any_err _ (λ why. any_some _ (g.R.Read.remaining c.args.reader.now) (λ input. breaks_first_asked c.args.checks (bounds_of (lines_of input)) why (lines_of input) (g.W.Write.contents c.args.writer.now) _ (Keeps-refl _)))
+returns-in_err-first-clause-breaks g c = if_any_err _ (λ why. any_some _ (g.R.Read.remaining c.args.reader.now)
+    (λ input. breaks_first_asked c.args.checks (bounds_of (lines_of input)) why (lines_of input)
+    (g.W.Write.contents c.args.writer.now) _ (Keeps-refl _)))
 
 pub returns-in_err-bounds-clause-breaks : goal.returns-in_err-bounds-clause-breaks
-returns-in_err-bounds-clause-breaks g c = if_any_err _ (λ why. any_some _ (g.R.Read.remaining c.args.reader.now) (λ input. breaks_first_asked c.args.checks (bounds_of (lines_of input)) why (lines_of input) (g.W.Write.contents c.args.writer.now) _ (Keeps-refl _)))
+returns-in_err-bounds-clause-breaks g c = if_any_err _ (λ why. any_some _ (g.R.Read.remaining c.args.reader.now)
+    (λ input. breaks_first_asked c.args.checks (bounds_of (lines_of input)) why (lines_of input)
+    (g.W.Write.contents c.args.writer.now) _ (Keeps-refl _)))
 
 pub returns-in_default-clause-breaks : goal.returns-in_default-clause-breaks
-returns-in_default-clause-breaks g c = any_some _ (g.R.Read.remaining c.args.reader.now) (λ input. breaks_first_asked c.args.checks (bounds_of (lines_of input)) _ (lines_of input) (g.W.Write.contents c.args.writer.now) _ (Keeps-refl _))
+returns-in_default-clause-breaks g c = any_some _ (g.R.Read.remaining c.args.reader.now)
+    (λ input. breaks_first_asked c.args.checks (bounds_of (lines_of input)) _ (lines_of input)
+    (g.W.Write.contents c.args.writer.now) _ (Keeps-refl _))
 
 pub returns-in_default-new-clause-breaks : goal.returns-in_default-new-clause-breaks
-returns-in_default-new-clause-breaks g c = any_some _ (g.R.Read.remaining c.args.reader.now) (λ input. breaks_first_asked c.args.checks (bounds_of (lines_of input)) _ (lines_of input) (g.W.Write.contents c.args.writer.now) _ (Keeps-refl _))
+returns-in_default-new-clause-breaks g c = any_some _ (g.R.Read.remaining c.args.reader.now)
+    (λ input. breaks_first_asked c.args.checks (bounds_of (lines_of input)) _ (lines_of input)
+    (g.W.Write.contents c.args.writer.now) _ (Keeps-refl _))
 
 pub over-requires-clause-named : goal.over-requires-clause-named
 over-requires-clause-named g c = (refl, refl, refl)
@@ -31,11 +39,14 @@ returns-clause-ends g c =
     let left = g.R.Read.remaining c.read_line.new.reader in
     let old = g.W.Write.contents c.args.writer.now in
     let new = g.W.Write.contents c.over.new.writer in
-    let said : c.in-Ok-new.opened.bounds ≡ first_bounds c.in_ok-first.first line = c.in-Ok-new.ensures.ok.0 ∙ c.in_ok-bounds.ensures.bounds ∙ ap (first_bounds c.in_ok-first.first) c.as_slice.ensures.value in
+    let said : c.in-Ok-new.opened.bounds ≡ first_bounds c.in_ok-first.first line =
+    c.in-Ok-new.ensures.ok.0 ∙ c.in_ok-bounds.ensures.bounds ∙ ap (first_bounds c.in_ok-first.first)
+    c.as_slice.ensures.value in
     then_ok _ _ c.over.result c.over.ensures.ends
     (λ end h. if_some _ _ (g.R.Read.remaining c.args.reader.now)
     (λ input reads. (let ahead = reads_ahead c.in_ok-first.first line input left reads in
-    subst (λ (bounds : List Key). EndsAsked c.args.checks bounds (lines_of input) old new end) (said ∙ bounds_ahead c.in_ok-first.first line left (lines_of input) ahead) (h (lines_of input) ahead)))
+    subst (λ (bounds : List Key). EndsAsked c.args.checks bounds (lines_of input) old new end)
+    (said ∙ bounds_ahead c.in_ok-first.first line left (lines_of input) ahead) (h (lines_of input) ahead)))
     c.in_ok-first.ensures.reads)
 
 pub returns-clause-breaks : goal.returns-clause-breaks
@@ -44,9 +55,12 @@ returns-clause-breaks g c =
     let left = g.R.Read.remaining c.read_line.new.reader in
     let old = g.W.Write.contents c.args.writer.now in
     let new = g.W.Write.contents c.over.new.writer in
-    let said : c.in-Ok-new.opened.bounds ≡ first_bounds c.in_ok-first.first line = c.in-Ok-new.ensures.ok.0 ∙ c.in_ok-bounds.ensures.bounds ∙ ap (first_bounds c.in_ok-first.first) c.as_slice.ensures.value in
+    let said : c.in-Ok-new.opened.bounds ≡ first_bounds c.in_ok-first.first line =
+    c.in-Ok-new.ensures.ok.0 ∙ c.in_ok-bounds.ensures.bounds ∙ ap (first_bounds c.in_ok-first.first)
+    c.as_slice.ensures.value in
     then_err _ _ c.over.result c.over.ensures.breaks
     (λ why h. if_some _ _ (g.R.Read.remaining c.args.reader.now)
     (λ input reads. (let ahead = reads_ahead c.in_ok-first.first line input left reads in
-    subst (λ (bounds : List Key). BreaksAsked c.args.checks bounds why (lines_of input) old new) (said ∙ bounds_ahead c.in_ok-first.first line left (lines_of input) ahead) (h (lines_of input) ahead)))
+    subst (λ (bounds : List Key). BreaksAsked c.args.checks bounds why (lines_of input) old new)
+    (said ∙ bounds_ahead c.in_ok-first.first line left (lines_of input) ahead) (h (lines_of input) ahead)))
     c.in_ok-first.ensures.reads)

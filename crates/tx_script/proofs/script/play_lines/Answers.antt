@@ -2,8 +2,8 @@ use Rattle.std.proofs.Common.{◌≤◌, ◌+◌, length, sym, subst, arith}
 use Rattle.std.proofs.KnownBytes.{Keeps-refl}
 use Rattle.tx_types.specs.declared.limits.TheConstants.{MAX_LINES}
 use Rattle.tx_text.specs.declared.end.Broken.{Broken}
-use Rattle.tx_play.specs.Places.{Held, own, Goes}
-use Rattle.tx_post.specs.Posts.{IsTraced}
+use Rattle.tx_engine.specs.Slots.{Held, own, Goes}
+use Rattle.tx_network.specs.Networks.{IsTraced}
 use Rattle.tx_script.specs.declared.line.Turned.TheVariants as turned
 use Rattle.tx_script.specs.Loops.{FoundTurned, FitsFound, Kept}
 use Rattle.tx_script.proofs.Scripts.{counts_first, kept, ready, still, kept_after, traced_on, if_err_is, if_any_err}
@@ -12,146 +12,344 @@ use Rattle.tx_script.proofs.script.play_lines.Goals as goal
 
 pub returns-in_err-text-clause-kept : goal.returns-in_err-text-clause-kept
 returns-in_err-text-clause-kept g c =
-    let counts = counts_first g.J.Naming.bounds c.args.engine.now c.requires.opening c.requires.places c.requires.ready in
-    kept g.J.Naming.bounds 0 c.args.engine.now counts
+    let counts = counts_first g.J.JournalId.bounds c.args.engine.now c.requires.opening c.requires.slots
+    c.requires.ready in
+    kept g.J.JournalId.bounds 0 c.args.engine.now counts
 
 pub returns-in_err-text-clause-breaks : goal.returns-in_err-text-clause-breaks
 returns-in_err-text-clause-breaks g c =
-    let on = on_first g.J.Naming.bounds c.args.first c.args.line.now.items (g.R.Read.remaining c.args.reader.now) (g.W.Write.contents c.args.writer.now) c.args.engine.now c.requires.opening c.requires.places in
-    let f : (why : Broken) → length c.args.engine.now.desk.newest ≤ own c.args.engine.now → AllBreak g.J.Naming.bounds c.args.first c.args.line.now.items (g.R.Read.remaining c.args.reader.now) (g.W.Write.contents c.args.writer.now) why c.args.engine.now.desk.newest (g.W.Write.contents c.args.writer.now) = λ why le. (break_before g.J.Naming.bounds c.args.first c.args.line.now.items (g.R.Read.remaining c.args.reader.now) (g.W.Write.contents c.args.writer.now) c.args.first c.args.line.now.items (g.R.Read.remaining c.args.reader.now) (g.W.Write.contents c.args.writer.now) 0 c.args.engine.now on why (g.W.Write.contents c.args.writer.now) (Keeps-refl _) le) in
+    let on = on_first g.J.JournalId.bounds c.args.first c.args.line.now.items (g.R.Read.remaining c.args.reader.now)
+    (g.W.Write.contents c.args.writer.now) c.args.engine.now c.requires.opening c.requires.slots in
+    let f : (why : Broken) → length c.args.engine.now.network.newest ≤ own c.args.engine.now
+    → AllBreak g.J.JournalId.bounds c.args.first c.args.line.now.items (g.R.Read.remaining c.args.reader.now)
+    (g.W.Write.contents c.args.writer.now) why c.args.engine.now.network.newest
+    (g.W.Write.contents c.args.writer.now) = λ why le.
+    (break_before g.J.JournalId.bounds c.args.first c.args.line.now.items (g.R.Read.remaining c.args.reader.now)
+    (g.W.Write.contents c.args.writer.now) c.args.first c.args.line.now.items (g.R.Read.remaining c.args.reader.now)
+    (g.W.Write.contents c.args.writer.now) 0 c.args.engine.now on why (g.W.Write.contents c.args.writer.now)
+    (Keeps-refl _) le) in
     if_any_err _ f
 
 pub lines-init : goal.lines-init
 lines-init g c =
-    let counts = counts_first g.J.Naming.bounds c.args.engine.now c.requires.opening c.requires.places c.requires.ready in
-    (counts, omega arith, on_first g.J.Naming.bounds c.args.first c.args.line.now.items (g.R.Read.remaining c.args.reader.now) (g.W.Write.contents c.args.writer.now) c.args.engine.now c.requires.opening c.requires.places, λ le first. first)
+    let counts = counts_first g.J.JournalId.bounds c.args.engine.now c.requires.opening c.requires.slots
+    c.requires.ready in (
+      counts,
+      omega arith,
+      on_first g.J.JournalId.bounds c.args.first c.args.line.now.items
+          (g.R.Read.remaining c.args.reader.now) (g.W.Write.contents c.args.writer.now) c.args.engine.now
+          c.requires.opening c.requires.slots,
+      λ le first. first,
+    )
 
 pub play_found-requires : goal.play_found-requires
-play_found-requires g c = record { ready = ready g.J.Naming.bounds c.lines.number c.lines.engine c.lines.invariant.0 c.lines.invariant.1 }
+play_found-requires g c = record {
+  ready = ready g.J.JournalId.bounds c.lines.number c.lines.engine c.lines.invariant.0
+      c.lines.invariant.1;
+}
 
 pub returns-in_err-play_found-clause-kept : goal.returns-in_err-play_found-clause-kept
-returns-in_err-play_found-clause-kept g c = subst (Kept g.J.Naming.bounds) (sym c.in_err-play_found.ensures.same) (kept g.J.Naming.bounds c.lines.number c.lines.engine c.lines.invariant.0)
+returns-in_err-play_found-clause-kept g c = subst (Kept g.J.JournalId.bounds) (sym c.in_err-play_found.ensures.same)
+    (kept g.J.JournalId.bounds c.lines.number c.lines.engine c.lines.invariant.0)
 
 pub returns-in_err-play_found-clause-breaks : goal.returns-in_err-play_found-clause-breaks
-returns-in_err-play_found-clause-breaks g c = let f : (why : Broken) → length c.play_found.new.engine.desk.newest ≤ own c.play_found.new.engine → AllBreak g.J.Naming.bounds c.args.first c.args.line.now.items (g.R.Read.remaining c.args.reader.now) (g.W.Write.contents c.args.writer.now) why c.play_found.new.engine.desk.newest (g.W.Write.contents c.lines.writer) = λ why le. (subst (λ (e : Held). length e.desk.newest ≤ own e → AllBreak g.J.Naming.bounds c.args.first c.args.line.now.items (g.R.Read.remaining c.args.reader.now) (g.W.Write.contents c.args.writer.now) why e.desk.newest (g.W.Write.contents c.lines.writer)) (sym c.in_err-play_found.ensures.same) (λ l. break_before g.J.Naming.bounds c.args.first c.args.line.now.items (g.R.Read.remaining c.args.reader.now) (g.W.Write.contents c.args.writer.now) c.lines.found c.lines.line.items (g.R.Read.remaining c.lines.reader) (g.W.Write.contents c.lines.writer) c.lines.number c.lines.engine c.lines.invariant.2 why (g.W.Write.contents c.lines.writer) (Keeps-refl _) l) le) in
+returns-in_err-play_found-clause-breaks g c = let f : (why : Broken)
+    → length c.play_found.new.engine.network.newest ≤ own c.play_found.new.engine
+    → AllBreak g.J.JournalId.bounds c.args.first c.args.line.now.items (g.R.Read.remaining c.args.reader.now)
+    (g.W.Write.contents c.args.writer.now) why c.play_found.new.engine.network.newest
+    (g.W.Write.contents c.lines.writer) = λ why le. (subst (λ (e : Held). length e.network.newest ≤ own e
+    → AllBreak g.J.JournalId.bounds c.args.first c.args.line.now.items (g.R.Read.remaining c.args.reader.now)
+    (g.W.Write.contents c.args.writer.now) why e.network.newest (g.W.Write.contents c.lines.writer))
+    (sym c.in_err-play_found.ensures.same) (λ l. break_before g.J.JournalId.bounds c.args.first c.args.line.now.items
+    (g.R.Read.remaining c.args.reader.now) (g.W.Write.contents c.args.writer.now) c.lines.found c.lines.line.items
+    (g.R.Read.remaining c.lines.reader) (g.W.Write.contents c.lines.writer) c.lines.number c.lines.engine
+    c.lines.invariant.2 why (g.W.Write.contents c.lines.writer) (Keeps-refl _) l) le) in
     if_any_err _ f
 
 pub returns-in_err-finish-in-End-clause-kept : goal.returns-in_err-finish-in-End-clause-kept
 returns-in_err-finish-in-End-clause-kept g c =
-    let goes : Goes g.J.Naming.bounds c.lines.engine c.play_found.new.engine (FoundTurned g.J.Naming.bounds (c.lines.number + 1) c.lines.found c.lines.line.items turned.End c.lines.engine c.play_found.new.engine) = subst (λ l. Goes g.J.Naming.bounds c.lines.engine c.play_found.new.engine (FoundTurned g.J.Naming.bounds (c.lines.number + 1) c.lines.found l turned.End c.lines.engine c.play_found.new.engine)) c.as_slice.ensures.value (rw c.in-End.is at c.in_ok-play_found.ensures.goes) in
-    kept_after g.J.Naming.bounds c.lines.number c.lines.engine c.play_found.new.engine c.lines.invariant.0 _ goes c.lines.invariant.1
+    let goes : Goes g.J.JournalId.bounds c.lines.engine c.play_found.new.engine
+    (FoundTurned g.J.JournalId.bounds (c.lines.number
+    + 1) c.lines.found c.lines.line.items turned.End c.lines.engine c.play_found.new.engine) = subst
+    (λ l. Goes g.J.JournalId.bounds c.lines.engine c.play_found.new.engine
+    (FoundTurned g.J.JournalId.bounds (c.lines.number
+    + 1) c.lines.found l turned.End c.lines.engine c.play_found.new.engine)) c.as_slice.ensures.value
+    (rw c.in-End.is at c.in_ok-play_found.ensures.goes) in
+    kept_after g.J.JournalId.bounds c.lines.number c.lines.engine c.play_found.new.engine c.lines.invariant.0 _ goes
+    c.lines.invariant.1
 
 pub returns-in_err-finish-in-End-clause-breaks : goal.returns-in_err-finish-in-End-clause-breaks
 returns-in_err-finish-in-End-clause-breaks g c =
-    let goes : Goes g.J.Naming.bounds c.lines.engine c.play_found.new.engine (FoundTurned g.J.Naming.bounds (c.lines.number + 1) c.lines.found c.lines.line.items turned.End c.lines.engine c.play_found.new.engine) = subst (λ l. Goes g.J.Naming.bounds c.lines.engine c.play_found.new.engine (FoundTurned g.J.Naming.bounds (c.lines.number + 1) c.lines.found l turned.End c.lines.engine c.play_found.new.engine)) c.as_slice.ensures.value (rw c.in-End.is at c.in_ok-play_found.ensures.goes) in
+    let goes : Goes g.J.JournalId.bounds c.lines.engine c.play_found.new.engine
+    (FoundTurned g.J.JournalId.bounds (c.lines.number
+    + 1) c.lines.found c.lines.line.items turned.End c.lines.engine c.play_found.new.engine) = subst
+    (λ l. Goes g.J.JournalId.bounds c.lines.engine c.play_found.new.engine
+    (FoundTurned g.J.JournalId.bounds (c.lines.number
+    + 1) c.lines.found l turned.End c.lines.engine c.play_found.new.engine)) c.as_slice.ensures.value
+    (rw c.in-End.is at c.in_ok-play_found.ensures.goes) in
     let fits : FitsFound c.lines.found turned.End = rw c.in-End.is at c.in_ok-play_found.ensures.fits in
-    let f : (why : Broken) → length c.play_found.new.engine.desk.newest ≤ own c.play_found.new.engine → AllBreak g.J.Naming.bounds c.args.first c.args.line.now.items (g.R.Read.remaining c.args.reader.now) (g.W.Write.contents c.args.writer.now) why c.play_found.new.engine.desk.newest (g.W.Write.contents c.finish.new.writer) = λ why le. (end_broken g.J.Naming.bounds c.args.first c.args.line.now.items (g.R.Read.remaining c.args.reader.now) (g.W.Write.contents c.args.writer.now) c.lines.found c.lines.line.items (g.R.Read.remaining c.lines.reader) (g.W.Write.contents c.lines.writer) c.lines.number c.lines.engine c.lines.invariant.2 c.play_found.new.engine c.lines.invariant.0 goes fits (g.W.Write.contents c.finish.new.writer) c.finish.ensures.kept le why) in
+    let f : (why : Broken) → length c.play_found.new.engine.network.newest ≤ own c.play_found.new.engine
+    → AllBreak g.J.JournalId.bounds c.args.first c.args.line.now.items (g.R.Read.remaining c.args.reader.now)
+    (g.W.Write.contents c.args.writer.now) why c.play_found.new.engine.network.newest
+    (g.W.Write.contents c.finish.new.writer) =
+    λ why le. (end_broken g.J.JournalId.bounds c.args.first c.args.line.now.items
+    (g.R.Read.remaining c.args.reader.now) (g.W.Write.contents c.args.writer.now) c.lines.found c.lines.line.items
+    (g.R.Read.remaining c.lines.reader) (g.W.Write.contents c.lines.writer) c.lines.number c.lines.engine
+    c.lines.invariant.2 c.play_found.new.engine c.lines.invariant.0 goes fits
+    (g.W.Write.contents c.finish.new.writer) c.finish.ensures.kept le why) in
     if_any_err _ f
 
 pub returns-in-End-clause-kept : goal.returns-in-End-clause-kept
 returns-in-End-clause-kept g c =
-    let goes : Goes g.J.Naming.bounds c.lines.engine c.play_found.new.engine (FoundTurned g.J.Naming.bounds (c.lines.number + 1) c.lines.found c.lines.line.items turned.End c.lines.engine c.play_found.new.engine) = subst (λ l. Goes g.J.Naming.bounds c.lines.engine c.play_found.new.engine (FoundTurned g.J.Naming.bounds (c.lines.number + 1) c.lines.found l turned.End c.lines.engine c.play_found.new.engine)) c.as_slice.ensures.value (rw c.in-End.is at c.in_ok-play_found.ensures.goes) in
-    kept_after g.J.Naming.bounds c.lines.number c.lines.engine c.play_found.new.engine c.lines.invariant.0 _ goes c.lines.invariant.1
+    let goes : Goes g.J.JournalId.bounds c.lines.engine c.play_found.new.engine
+    (FoundTurned g.J.JournalId.bounds (c.lines.number
+    + 1) c.lines.found c.lines.line.items turned.End c.lines.engine c.play_found.new.engine) = subst
+    (λ l. Goes g.J.JournalId.bounds c.lines.engine c.play_found.new.engine
+    (FoundTurned g.J.JournalId.bounds (c.lines.number
+    + 1) c.lines.found l turned.End c.lines.engine c.play_found.new.engine)) c.as_slice.ensures.value
+    (rw c.in-End.is at c.in_ok-play_found.ensures.goes) in
+    kept_after g.J.JournalId.bounds c.lines.number c.lines.engine c.play_found.new.engine c.lines.invariant.0 _ goes
+    c.lines.invariant.1
 
 pub returns-in-End-clause-ends : goal.returns-in-End-clause-ends
 returns-in-End-clause-ends g c =
-    let goes : Goes g.J.Naming.bounds c.lines.engine c.play_found.new.engine (FoundTurned g.J.Naming.bounds (c.lines.number + 1) c.lines.found c.lines.line.items turned.End c.lines.engine c.play_found.new.engine) = subst (λ l. Goes g.J.Naming.bounds c.lines.engine c.play_found.new.engine (FoundTurned g.J.Naming.bounds (c.lines.number + 1) c.lines.found l turned.End c.lines.engine c.play_found.new.engine)) c.as_slice.ensures.value (rw c.in-End.is at c.in_ok-play_found.ensures.goes) in
+    let goes : Goes g.J.JournalId.bounds c.lines.engine c.play_found.new.engine
+    (FoundTurned g.J.JournalId.bounds (c.lines.number
+    + 1) c.lines.found c.lines.line.items turned.End c.lines.engine c.play_found.new.engine) = subst
+    (λ l. Goes g.J.JournalId.bounds c.lines.engine c.play_found.new.engine
+    (FoundTurned g.J.JournalId.bounds (c.lines.number
+    + 1) c.lines.found l turned.End c.lines.engine c.play_found.new.engine)) c.as_slice.ensures.value
+    (rw c.in-End.is at c.in_ok-play_found.ensures.goes) in
     let fits : FitsFound c.lines.found turned.End = rw c.in-End.is at c.in_ok-play_found.ensures.fits in
-    λ le. end_well g.J.Naming.bounds c.args.first c.args.line.now.items (g.R.Read.remaining c.args.reader.now) (g.W.Write.contents c.args.writer.now) c.lines.found c.lines.line.items (g.R.Read.remaining c.lines.reader) (g.W.Write.contents c.lines.writer) c.lines.number c.lines.engine c.lines.invariant.2 c.play_found.new.engine c.lines.invariant.0 goes fits (g.W.Write.contents c.finish.new.writer) c.finish.ensures.kept le
+    λ le. end_well g.J.JournalId.bounds c.args.first c.args.line.now.items (g.R.Read.remaining c.args.reader.now)
+    (g.W.Write.contents c.args.writer.now) c.lines.found c.lines.line.items (g.R.Read.remaining c.lines.reader)
+    (g.W.Write.contents c.lines.writer) c.lines.number c.lines.engine c.lines.invariant.2 c.play_found.new.engine
+    c.lines.invariant.0 goes fits (g.W.Write.contents c.finish.new.writer) c.finish.ensures.kept le
 
-pub returns-in_err-tell-in-Goes-clause-kept : goal.returns-in_err-tell-in-Goes-clause-kept
-returns-in_err-tell-in-Goes-clause-kept g c =
-    let goes : Goes g.J.Naming.bounds c.lines.engine c.play_found.new.engine (FoundTurned g.J.Naming.bounds (c.lines.number + 1) c.lines.found c.lines.line.items (turned.Goes c.in-Goes.reply) c.lines.engine c.play_found.new.engine) = subst (λ l. Goes g.J.Naming.bounds c.lines.engine c.play_found.new.engine (FoundTurned g.J.Naming.bounds (c.lines.number + 1) c.lines.found l (turned.Goes c.in-Goes.reply) c.lines.engine c.play_found.new.engine)) c.as_slice.ensures.value (rw c.in-Goes.is at c.in_ok-play_found.ensures.goes) in
-    kept_after g.J.Naming.bounds c.lines.number c.lines.engine c.play_found.new.engine c.lines.invariant.0 _ goes c.lines.invariant.1
+pub returns-in_err-write_reply-in-Goes-clause-kept : goal.returns-in_err-write_reply-in-Goes-clause-kept
+returns-in_err-write_reply-in-Goes-clause-kept g c =
+    let goes : Goes g.J.JournalId.bounds c.lines.engine c.play_found.new.engine
+    (FoundTurned g.J.JournalId.bounds (c.lines.number
+    + 1) c.lines.found c.lines.line.items (turned.Goes c.in-Goes.reply) c.lines.engine
+    c.play_found.new.engine) = subst (λ l. Goes g.J.JournalId.bounds c.lines.engine c.play_found.new.engine
+    (FoundTurned g.J.JournalId.bounds (c.lines.number
+    + 1) c.lines.found l (turned.Goes c.in-Goes.reply) c.lines.engine c.play_found.new.engine))
+    c.as_slice.ensures.value (rw c.in-Goes.is at c.in_ok-play_found.ensures.goes) in
+    kept_after g.J.JournalId.bounds c.lines.number c.lines.engine c.play_found.new.engine c.lines.invariant.0 _ goes
+    c.lines.invariant.1
 
-pub returns-in_err-tell-in-Goes-clause-breaks : goal.returns-in_err-tell-in-Goes-clause-breaks
-returns-in_err-tell-in-Goes-clause-breaks g c =
-    let goes : Goes g.J.Naming.bounds c.lines.engine c.play_found.new.engine (FoundTurned g.J.Naming.bounds (c.lines.number + 1) c.lines.found c.lines.line.items (turned.Goes c.in-Goes.reply) c.lines.engine c.play_found.new.engine) = subst (λ l. Goes g.J.Naming.bounds c.lines.engine c.play_found.new.engine (FoundTurned g.J.Naming.bounds (c.lines.number + 1) c.lines.found l (turned.Goes c.in-Goes.reply) c.lines.engine c.play_found.new.engine)) c.as_slice.ensures.value (rw c.in-Goes.is at c.in_ok-play_found.ensures.goes) in
-    let fits : FitsFound c.lines.found (turned.Goes c.in-Goes.reply) = rw c.in-Goes.is at c.in_ok-play_found.ensures.fits in
-    let e = c.in_err-tell-in-Goes.field-0.0 in
-    if_err_is _ _ e c.from_residual-in_err-tell-in-Goes.ensures.1 (λ le. reply_breaks g.J.Naming.bounds c.args.first c.args.line.now.items (g.R.Read.remaining c.args.reader.now) (g.W.Write.contents c.args.writer.now) c.lines.found c.lines.line.items (g.R.Read.remaining c.lines.reader) (g.W.Write.contents c.lines.writer) c.lines.number c.lines.engine c.lines.invariant.2 c.play_found.new.engine c.lines.invariant.0 c.in-Goes.reply goes fits e (g.W.Write.contents c.tell.new.writer) c.in_err-tell-in-Goes.ensures.part le)
+pub returns-in_err-write_reply-in-Goes-clause-breaks : goal.returns-in_err-write_reply-in-Goes-clause-breaks
+returns-in_err-write_reply-in-Goes-clause-breaks g c =
+    let goes : Goes g.J.JournalId.bounds c.lines.engine c.play_found.new.engine
+    (FoundTurned g.J.JournalId.bounds (c.lines.number
+    + 1) c.lines.found c.lines.line.items (turned.Goes c.in-Goes.reply) c.lines.engine
+    c.play_found.new.engine) = subst (λ l. Goes g.J.JournalId.bounds c.lines.engine c.play_found.new.engine
+    (FoundTurned g.J.JournalId.bounds (c.lines.number
+    + 1) c.lines.found l (turned.Goes c.in-Goes.reply) c.lines.engine c.play_found.new.engine))
+    c.as_slice.ensures.value (rw c.in-Goes.is at c.in_ok-play_found.ensures.goes) in
+    let fits : FitsFound c.lines.found (turned.Goes c.in-Goes.reply) =
+    rw c.in-Goes.is at c.in_ok-play_found.ensures.fits in
+    let e = c.in_err-write_reply-in-Goes.field-0.0 in
+    if_err_is _ _ e c.from_residual-in_err-write_reply-in-Goes.ensures.1
+    (λ le. reply_breaks g.J.JournalId.bounds c.args.first c.args.line.now.items
+    (g.R.Read.remaining c.args.reader.now) (g.W.Write.contents c.args.writer.now) c.lines.found c.lines.line.items
+    (g.R.Read.remaining c.lines.reader) (g.W.Write.contents c.lines.writer) c.lines.number c.lines.engine
+    c.lines.invariant.2 c.play_found.new.engine c.lines.invariant.0 c.in-Goes.reply goes fits e
+    (g.W.Write.contents c.write_reply.new.writer) c.in_err-write_reply-in-Goes.ensures.part le)
 
-pub returns-in_err-tell_fault-in-Stops-clause-kept : goal.returns-in_err-tell_fault-in-Stops-clause-kept
-returns-in_err-tell_fault-in-Stops-clause-kept g c =
-    let goes : Goes g.J.Naming.bounds c.lines.engine c.play_found.new.engine (FoundTurned g.J.Naming.bounds (c.lines.number + 1) c.lines.found c.lines.line.items (turned.Stops c.in-Stops.cause) c.lines.engine c.play_found.new.engine) = subst (λ l. Goes g.J.Naming.bounds c.lines.engine c.play_found.new.engine (FoundTurned g.J.Naming.bounds (c.lines.number + 1) c.lines.found l (turned.Stops c.in-Stops.cause) c.lines.engine c.play_found.new.engine)) c.as_slice.ensures.value (rw c.in-Stops.is at c.in_ok-play_found.ensures.goes) in
-    kept_after g.J.Naming.bounds c.lines.number c.lines.engine c.play_found.new.engine c.lines.invariant.0 _ goes c.lines.invariant.1
+pub returns-in_err-write_fault-in-Stops-clause-kept : goal.returns-in_err-write_fault-in-Stops-clause-kept
+returns-in_err-write_fault-in-Stops-clause-kept g c =
+    let goes : Goes g.J.JournalId.bounds c.lines.engine c.play_found.new.engine
+    (FoundTurned g.J.JournalId.bounds (c.lines.number
+    + 1) c.lines.found c.lines.line.items (turned.Stops c.in-Stops.cause) c.lines.engine
+    c.play_found.new.engine) = subst (λ l. Goes g.J.JournalId.bounds c.lines.engine c.play_found.new.engine
+    (FoundTurned g.J.JournalId.bounds (c.lines.number
+    + 1) c.lines.found l (turned.Stops c.in-Stops.cause) c.lines.engine c.play_found.new.engine))
+    c.as_slice.ensures.value (rw c.in-Stops.is at c.in_ok-play_found.ensures.goes) in
+    kept_after g.J.JournalId.bounds c.lines.number c.lines.engine c.play_found.new.engine c.lines.invariant.0 _ goes
+    c.lines.invariant.1
 
-pub returns-in_err-tell_fault-in-Stops-clause-breaks : goal.returns-in_err-tell_fault-in-Stops-clause-breaks
-returns-in_err-tell_fault-in-Stops-clause-breaks g c =
-    let goes : Goes g.J.Naming.bounds c.lines.engine c.play_found.new.engine (FoundTurned g.J.Naming.bounds (c.lines.number + 1) c.lines.found c.lines.line.items (turned.Stops c.in-Stops.cause) c.lines.engine c.play_found.new.engine) = subst (λ l. Goes g.J.Naming.bounds c.lines.engine c.play_found.new.engine (FoundTurned g.J.Naming.bounds (c.lines.number + 1) c.lines.found l (turned.Stops c.in-Stops.cause) c.lines.engine c.play_found.new.engine)) c.as_slice.ensures.value (rw c.in-Stops.is at c.in_ok-play_found.ensures.goes) in
-    let fits : FitsFound c.lines.found (turned.Stops c.in-Stops.cause) = rw c.in-Stops.is at c.in_ok-play_found.ensures.fits in
-    let e = c.in_err-tell_fault-in-Stops.field-0.0 in
-    if_err_is _ _ e c.from_residual-in_err-tell_fault-in-Stops.ensures.1 (λ le. fault_breaks g.J.Naming.bounds c.args.first c.args.line.now.items (g.R.Read.remaining c.args.reader.now) (g.W.Write.contents c.args.writer.now) c.lines.found c.lines.line.items (g.R.Read.remaining c.lines.reader) (g.W.Write.contents c.lines.writer) c.lines.number c.lines.engine c.lines.invariant.2 c.play_found.new.engine c.lines.invariant.0 c.in-Stops.cause goes fits le e (g.W.Write.contents c.tell_fault.new.writer) c.in_err-tell_fault-in-Stops.ensures.part)
+pub returns-in_err-write_fault-in-Stops-clause-breaks : goal.returns-in_err-write_fault-in-Stops-clause-breaks
+returns-in_err-write_fault-in-Stops-clause-breaks g c =
+    let goes : Goes g.J.JournalId.bounds c.lines.engine c.play_found.new.engine
+    (FoundTurned g.J.JournalId.bounds (c.lines.number
+    + 1) c.lines.found c.lines.line.items (turned.Stops c.in-Stops.cause) c.lines.engine
+    c.play_found.new.engine) = subst (λ l. Goes g.J.JournalId.bounds c.lines.engine c.play_found.new.engine
+    (FoundTurned g.J.JournalId.bounds (c.lines.number
+    + 1) c.lines.found l (turned.Stops c.in-Stops.cause) c.lines.engine c.play_found.new.engine))
+    c.as_slice.ensures.value (rw c.in-Stops.is at c.in_ok-play_found.ensures.goes) in
+    let fits : FitsFound c.lines.found (turned.Stops c.in-Stops.cause) =
+    rw c.in-Stops.is at c.in_ok-play_found.ensures.fits in
+    let e = c.in_err-write_fault-in-Stops.field-0.0 in
+    if_err_is _ _ e c.from_residual-in_err-write_fault-in-Stops.ensures.1
+    (λ le. fault_breaks g.J.JournalId.bounds c.args.first c.args.line.now.items
+    (g.R.Read.remaining c.args.reader.now) (g.W.Write.contents c.args.writer.now) c.lines.found c.lines.line.items
+    (g.R.Read.remaining c.lines.reader) (g.W.Write.contents c.lines.writer) c.lines.number c.lines.engine
+    c.lines.invariant.2 c.play_found.new.engine c.lines.invariant.0 c.in-Stops.cause goes fits le e
+    (g.W.Write.contents c.write_fault.new.writer) c.in_err-write_fault-in-Stops.ensures.part)
 
 pub returns-in_err-finish-in-Stops-clause-kept : goal.returns-in_err-finish-in-Stops-clause-kept
 returns-in_err-finish-in-Stops-clause-kept g c =
-    let goes : Goes g.J.Naming.bounds c.lines.engine c.play_found.new.engine (FoundTurned g.J.Naming.bounds (c.lines.number + 1) c.lines.found c.lines.line.items (turned.Stops c.in-Stops.cause) c.lines.engine c.play_found.new.engine) = subst (λ l. Goes g.J.Naming.bounds c.lines.engine c.play_found.new.engine (FoundTurned g.J.Naming.bounds (c.lines.number + 1) c.lines.found l (turned.Stops c.in-Stops.cause) c.lines.engine c.play_found.new.engine)) c.as_slice.ensures.value (rw c.in-Stops.is at c.in_ok-play_found.ensures.goes) in
-    kept_after g.J.Naming.bounds c.lines.number c.lines.engine c.play_found.new.engine c.lines.invariant.0 _ goes c.lines.invariant.1
+    let goes : Goes g.J.JournalId.bounds c.lines.engine c.play_found.new.engine
+    (FoundTurned g.J.JournalId.bounds (c.lines.number
+    + 1) c.lines.found c.lines.line.items (turned.Stops c.in-Stops.cause) c.lines.engine
+    c.play_found.new.engine) = subst (λ l. Goes g.J.JournalId.bounds c.lines.engine c.play_found.new.engine
+    (FoundTurned g.J.JournalId.bounds (c.lines.number
+    + 1) c.lines.found l (turned.Stops c.in-Stops.cause) c.lines.engine c.play_found.new.engine))
+    c.as_slice.ensures.value (rw c.in-Stops.is at c.in_ok-play_found.ensures.goes) in
+    kept_after g.J.JournalId.bounds c.lines.number c.lines.engine c.play_found.new.engine c.lines.invariant.0 _ goes
+    c.lines.invariant.1
 
 pub returns-in_err-finish-in-Stops-clause-breaks : goal.returns-in_err-finish-in-Stops-clause-breaks
 returns-in_err-finish-in-Stops-clause-breaks g c =
-    let goes : Goes g.J.Naming.bounds c.lines.engine c.play_found.new.engine (FoundTurned g.J.Naming.bounds (c.lines.number + 1) c.lines.found c.lines.line.items (turned.Stops c.in-Stops.cause) c.lines.engine c.play_found.new.engine) = subst (λ l. Goes g.J.Naming.bounds c.lines.engine c.play_found.new.engine (FoundTurned g.J.Naming.bounds (c.lines.number + 1) c.lines.found l (turned.Stops c.in-Stops.cause) c.lines.engine c.play_found.new.engine)) c.as_slice.ensures.value (rw c.in-Stops.is at c.in_ok-play_found.ensures.goes) in
-    let fits : FitsFound c.lines.found (turned.Stops c.in-Stops.cause) = rw c.in-Stops.is at c.in_ok-play_found.ensures.fits in
-    let f : (why : Broken) → length c.play_found.new.engine.desk.newest ≤ own c.play_found.new.engine → AllBreak g.J.Naming.bounds c.args.first c.args.line.now.items (g.R.Read.remaining c.args.reader.now) (g.W.Write.contents c.args.writer.now) why c.play_found.new.engine.desk.newest (g.W.Write.contents c.finish-in-Stops.new.writer) = λ why le. (fault_breaks_last g.J.Naming.bounds c.args.first c.args.line.now.items (g.R.Read.remaining c.args.reader.now) (g.W.Write.contents c.args.writer.now) c.lines.found c.lines.line.items (g.R.Read.remaining c.lines.reader) (g.W.Write.contents c.lines.writer) c.lines.number c.lines.engine c.lines.invariant.2 c.play_found.new.engine c.lines.invariant.0 c.in-Stops.cause goes fits le why (g.W.Write.contents c.tell_fault.new.writer) (g.W.Write.contents c.finish-in-Stops.new.writer) c.in_ok-tell_fault-in-Stops.ensures.all c.finish-in-Stops.ensures.kept) in
+    let goes : Goes g.J.JournalId.bounds c.lines.engine c.play_found.new.engine
+    (FoundTurned g.J.JournalId.bounds (c.lines.number
+    + 1) c.lines.found c.lines.line.items (turned.Stops c.in-Stops.cause) c.lines.engine
+    c.play_found.new.engine) = subst (λ l. Goes g.J.JournalId.bounds c.lines.engine c.play_found.new.engine
+    (FoundTurned g.J.JournalId.bounds (c.lines.number
+    + 1) c.lines.found l (turned.Stops c.in-Stops.cause) c.lines.engine c.play_found.new.engine))
+    c.as_slice.ensures.value (rw c.in-Stops.is at c.in_ok-play_found.ensures.goes) in
+    let fits : FitsFound c.lines.found (turned.Stops c.in-Stops.cause) =
+    rw c.in-Stops.is at c.in_ok-play_found.ensures.fits in
+    let f : (why : Broken) → length c.play_found.new.engine.network.newest ≤ own c.play_found.new.engine
+    → AllBreak g.J.JournalId.bounds c.args.first c.args.line.now.items (g.R.Read.remaining c.args.reader.now)
+    (g.W.Write.contents c.args.writer.now) why c.play_found.new.engine.network.newest
+    (g.W.Write.contents c.finish-in-Stops.new.writer) =
+    λ why le. (fault_breaks_last g.J.JournalId.bounds c.args.first c.args.line.now.items
+    (g.R.Read.remaining c.args.reader.now) (g.W.Write.contents c.args.writer.now) c.lines.found c.lines.line.items
+    (g.R.Read.remaining c.lines.reader) (g.W.Write.contents c.lines.writer) c.lines.number c.lines.engine
+    c.lines.invariant.2 c.play_found.new.engine c.lines.invariant.0 c.in-Stops.cause goes fits le why
+    (g.W.Write.contents c.write_fault.new.writer) (g.W.Write.contents c.finish-in-Stops.new.writer)
+    c.in_ok-write_fault-in-Stops.ensures.all c.finish-in-Stops.ensures.kept) in
     if_any_err _ f
 
 pub returns-in-Stops-clause-kept : goal.returns-in-Stops-clause-kept
 returns-in-Stops-clause-kept g c =
-    let goes : Goes g.J.Naming.bounds c.lines.engine c.play_found.new.engine (FoundTurned g.J.Naming.bounds (c.lines.number + 1) c.lines.found c.lines.line.items (turned.Stops c.in-Stops.cause) c.lines.engine c.play_found.new.engine) = subst (λ l. Goes g.J.Naming.bounds c.lines.engine c.play_found.new.engine (FoundTurned g.J.Naming.bounds (c.lines.number + 1) c.lines.found l (turned.Stops c.in-Stops.cause) c.lines.engine c.play_found.new.engine)) c.as_slice.ensures.value (rw c.in-Stops.is at c.in_ok-play_found.ensures.goes) in
-    kept_after g.J.Naming.bounds c.lines.number c.lines.engine c.play_found.new.engine c.lines.invariant.0 _ goes c.lines.invariant.1
+    let goes : Goes g.J.JournalId.bounds c.lines.engine c.play_found.new.engine
+    (FoundTurned g.J.JournalId.bounds (c.lines.number
+    + 1) c.lines.found c.lines.line.items (turned.Stops c.in-Stops.cause) c.lines.engine
+    c.play_found.new.engine) = subst (λ l. Goes g.J.JournalId.bounds c.lines.engine c.play_found.new.engine
+    (FoundTurned g.J.JournalId.bounds (c.lines.number
+    + 1) c.lines.found l (turned.Stops c.in-Stops.cause) c.lines.engine c.play_found.new.engine))
+    c.as_slice.ensures.value (rw c.in-Stops.is at c.in_ok-play_found.ensures.goes) in
+    kept_after g.J.JournalId.bounds c.lines.number c.lines.engine c.play_found.new.engine c.lines.invariant.0 _ goes
+    c.lines.invariant.1
 
 pub returns-in-Stops-clause-ends : goal.returns-in-Stops-clause-ends
 returns-in-Stops-clause-ends g c =
-    let goes : Goes g.J.Naming.bounds c.lines.engine c.play_found.new.engine (FoundTurned g.J.Naming.bounds (c.lines.number + 1) c.lines.found c.lines.line.items (turned.Stops c.in-Stops.cause) c.lines.engine c.play_found.new.engine) = subst (λ l. Goes g.J.Naming.bounds c.lines.engine c.play_found.new.engine (FoundTurned g.J.Naming.bounds (c.lines.number + 1) c.lines.found l (turned.Stops c.in-Stops.cause) c.lines.engine c.play_found.new.engine)) c.as_slice.ensures.value (rw c.in-Stops.is at c.in_ok-play_found.ensures.goes) in
-    let fits : FitsFound c.lines.found (turned.Stops c.in-Stops.cause) = rw c.in-Stops.is at c.in_ok-play_found.ensures.fits in
-    λ le. fault_ends g.J.Naming.bounds c.args.first c.args.line.now.items (g.R.Read.remaining c.args.reader.now) (g.W.Write.contents c.args.writer.now) c.lines.found c.lines.line.items (g.R.Read.remaining c.lines.reader) (g.W.Write.contents c.lines.writer) c.lines.number c.lines.engine c.lines.invariant.2 c.play_found.new.engine c.lines.invariant.0 c.in-Stops.cause goes fits le (g.W.Write.contents c.tell_fault.new.writer) (g.W.Write.contents c.finish-in-Stops.new.writer) c.in_ok-tell_fault-in-Stops.ensures.all c.finish-in-Stops.ensures.kept
+    let goes : Goes g.J.JournalId.bounds c.lines.engine c.play_found.new.engine
+    (FoundTurned g.J.JournalId.bounds (c.lines.number
+    + 1) c.lines.found c.lines.line.items (turned.Stops c.in-Stops.cause) c.lines.engine
+    c.play_found.new.engine) = subst (λ l. Goes g.J.JournalId.bounds c.lines.engine c.play_found.new.engine
+    (FoundTurned g.J.JournalId.bounds (c.lines.number
+    + 1) c.lines.found l (turned.Stops c.in-Stops.cause) c.lines.engine c.play_found.new.engine))
+    c.as_slice.ensures.value (rw c.in-Stops.is at c.in_ok-play_found.ensures.goes) in
+    let fits : FitsFound c.lines.found (turned.Stops c.in-Stops.cause) =
+    rw c.in-Stops.is at c.in_ok-play_found.ensures.fits in
+    λ le. fault_ends g.J.JournalId.bounds c.args.first c.args.line.now.items (g.R.Read.remaining c.args.reader.now)
+    (g.W.Write.contents c.args.writer.now) c.lines.found c.lines.line.items (g.R.Read.remaining c.lines.reader)
+    (g.W.Write.contents c.lines.writer) c.lines.number c.lines.engine c.lines.invariant.2 c.play_found.new.engine
+    c.lines.invariant.0 c.in-Stops.cause goes fits le (g.W.Write.contents c.write_fault.new.writer)
+    (g.W.Write.contents c.finish-in-Stops.new.writer) c.in_ok-write_fault-in-Stops.ensures.all
+    c.finish-in-Stops.ensures.kept
 
 pub returns-in_err-found-clause-kept : goal.returns-in_err-found-clause-kept
 returns-in_err-found-clause-kept g c =
-    let goes : Goes g.J.Naming.bounds c.lines.engine c.play_found.new.engine (FoundTurned g.J.Naming.bounds (c.lines.number + 1) c.lines.found c.lines.line.items (turned.Goes c.in-Goes.reply) c.lines.engine c.play_found.new.engine) = subst (λ l. Goes g.J.Naming.bounds c.lines.engine c.play_found.new.engine (FoundTurned g.J.Naming.bounds (c.lines.number + 1) c.lines.found l (turned.Goes c.in-Goes.reply) c.lines.engine c.play_found.new.engine)) c.as_slice.ensures.value (rw c.in-Goes.is at c.in_ok-play_found.ensures.goes) in
-    kept_after g.J.Naming.bounds c.lines.number c.lines.engine c.play_found.new.engine c.lines.invariant.0 _ goes c.lines.invariant.1
+    let goes : Goes g.J.JournalId.bounds c.lines.engine c.play_found.new.engine
+    (FoundTurned g.J.JournalId.bounds (c.lines.number
+    + 1) c.lines.found c.lines.line.items (turned.Goes c.in-Goes.reply) c.lines.engine
+    c.play_found.new.engine) = subst (λ l. Goes g.J.JournalId.bounds c.lines.engine c.play_found.new.engine
+    (FoundTurned g.J.JournalId.bounds (c.lines.number
+    + 1) c.lines.found l (turned.Goes c.in-Goes.reply) c.lines.engine c.play_found.new.engine))
+    c.as_slice.ensures.value (rw c.in-Goes.is at c.in_ok-play_found.ensures.goes) in
+    kept_after g.J.JournalId.bounds c.lines.number c.lines.engine c.play_found.new.engine c.lines.invariant.0 _ goes
+    c.lines.invariant.1
 
 pub returns-in_err-found-clause-breaks : goal.returns-in_err-found-clause-breaks
 returns-in_err-found-clause-breaks g c =
-    let goes : Goes g.J.Naming.bounds c.lines.engine c.play_found.new.engine (FoundTurned g.J.Naming.bounds (c.lines.number + 1) c.lines.found c.lines.line.items (turned.Goes c.in-Goes.reply) c.lines.engine c.play_found.new.engine) = subst (λ l. Goes g.J.Naming.bounds c.lines.engine c.play_found.new.engine (FoundTurned g.J.Naming.bounds (c.lines.number + 1) c.lines.found l (turned.Goes c.in-Goes.reply) c.lines.engine c.play_found.new.engine)) c.as_slice.ensures.value (rw c.in-Goes.is at c.in_ok-play_found.ensures.goes) in
-    let fits : FitsFound c.lines.found (turned.Goes c.in-Goes.reply) = rw c.in-Goes.is at c.in_ok-play_found.ensures.fits in
-    let f : (why : Broken) → length c.play_found.new.engine.desk.newest ≤ own c.play_found.new.engine → AllBreak g.J.Naming.bounds c.args.first c.args.line.now.items (g.R.Read.remaining c.args.reader.now) (g.W.Write.contents c.args.writer.now) why c.play_found.new.engine.desk.newest (g.W.Write.contents c.tell.new.writer) = λ why le. (read_breaks g.J.Naming.bounds c.args.first c.args.line.now.items (g.R.Read.remaining c.args.reader.now) (g.W.Write.contents c.args.writer.now) c.lines.found c.lines.line.items (g.R.Read.remaining c.lines.reader) (g.W.Write.contents c.lines.writer) c.lines.number c.lines.engine c.lines.invariant.2 c.play_found.new.engine c.lines.invariant.0 c.in-Goes.reply goes fits (g.W.Write.contents c.tell.new.writer) c.in_ok-tell-in-Goes.ensures.all why le) in
+    let goes : Goes g.J.JournalId.bounds c.lines.engine c.play_found.new.engine
+    (FoundTurned g.J.JournalId.bounds (c.lines.number
+    + 1) c.lines.found c.lines.line.items (turned.Goes c.in-Goes.reply) c.lines.engine
+    c.play_found.new.engine) = subst (λ l. Goes g.J.JournalId.bounds c.lines.engine c.play_found.new.engine
+    (FoundTurned g.J.JournalId.bounds (c.lines.number
+    + 1) c.lines.found l (turned.Goes c.in-Goes.reply) c.lines.engine c.play_found.new.engine))
+    c.as_slice.ensures.value (rw c.in-Goes.is at c.in_ok-play_found.ensures.goes) in
+    let fits : FitsFound c.lines.found (turned.Goes c.in-Goes.reply) =
+    rw c.in-Goes.is at c.in_ok-play_found.ensures.fits in
+    let f : (why : Broken) → length c.play_found.new.engine.network.newest ≤ own c.play_found.new.engine
+    → AllBreak g.J.JournalId.bounds c.args.first c.args.line.now.items (g.R.Read.remaining c.args.reader.now)
+    (g.W.Write.contents c.args.writer.now) why c.play_found.new.engine.network.newest
+    (g.W.Write.contents c.write_reply.new.writer) =
+    λ why le. (read_breaks g.J.JournalId.bounds c.args.first c.args.line.now.items
+    (g.R.Read.remaining c.args.reader.now) (g.W.Write.contents c.args.writer.now) c.lines.found c.lines.line.items
+    (g.R.Read.remaining c.lines.reader) (g.W.Write.contents c.lines.writer) c.lines.number c.lines.engine
+    c.lines.invariant.2 c.play_found.new.engine c.lines.invariant.0 c.in-Goes.reply goes fits
+    (g.W.Write.contents c.write_reply.new.writer) c.in_ok-write_reply-in-Goes.ensures.all why le) in
     if_any_err _ f
 
 pub lines-preserved : goal.lines-preserved
 lines-preserved g c =
-    let goes : Goes g.J.Naming.bounds c.lines.engine c.play_found.new.engine (FoundTurned g.J.Naming.bounds (c.lines.number + 1) c.lines.found c.lines.line.items (turned.Goes c.in-Goes.reply) c.lines.engine c.play_found.new.engine) = subst (λ l. Goes g.J.Naming.bounds c.lines.engine c.play_found.new.engine (FoundTurned g.J.Naming.bounds (c.lines.number + 1) c.lines.found l (turned.Goes c.in-Goes.reply) c.lines.engine c.play_found.new.engine)) c.as_slice.ensures.value (rw c.in-Goes.is at c.in_ok-play_found.ensures.goes) in
-    let fits : FitsFound c.lines.found (turned.Goes c.in-Goes.reply) = rw c.in-Goes.is at c.in_ok-play_found.ensures.fits in
+    let goes : Goes g.J.JournalId.bounds c.lines.engine c.play_found.new.engine
+    (FoundTurned g.J.JournalId.bounds (c.lines.number
+    + 1) c.lines.found c.lines.line.items (turned.Goes c.in-Goes.reply) c.lines.engine
+    c.play_found.new.engine) = subst (λ l. Goes g.J.JournalId.bounds c.lines.engine c.play_found.new.engine
+    (FoundTurned g.J.JournalId.bounds (c.lines.number
+    + 1) c.lines.found l (turned.Goes c.in-Goes.reply) c.lines.engine c.play_found.new.engine))
+    c.as_slice.ensures.value (rw c.in-Goes.is at c.in_ok-play_found.ensures.goes) in
+    let fits : FitsFound c.lines.found (turned.Goes c.in-Goes.reply) =
+    rw c.in-Goes.is at c.in_ok-play_found.ensures.fits in
     let some : c.lines.number + 1 ≤ MAX_LINES = c.in_ok-play_found.ensures.early c.in-Goes.reply c.in-Goes.is in (
-      still g.J.Naming.bounds c.lines.number c.lines.engine c.play_found.new.engine c.lines.invariant.0 _ goes some,
+      still g.J.JournalId.bounds c.lines.number c.lines.engine c.play_found.new.engine c.lines.invariant.0 _ goes some,
       some,
-      on_next g.J.Naming.bounds c.args.first c.args.line.now.items (g.R.Read.remaining c.args.reader.now) (g.W.Write.contents c.args.writer.now) c.lines.found c.lines.line.items (g.R.Read.remaining c.lines.reader) (g.W.Write.contents c.lines.writer) c.lines.number c.lines.engine c.lines.invariant.2 c.play_found.new.engine c.lines.invariant.0 c.in-Goes.reply goes fits (g.W.Write.contents c.tell.new.writer) c.in_ok-tell-in-Goes.ensures.all c.in_ok-found.found c.read_line.new.line.items (g.R.Read.remaining c.read_line.new.reader) c.in_ok-found.ensures.reads,
-      λ le. traced_on g.J.Naming.bounds c.lines.number c.lines.engine c.play_found.new.engine c.lines.invariant.0 _ goes le c.args.engine.now.desk c.lines.invariant.3,
+      on_next g.J.JournalId.bounds c.args.first c.args.line.now.items (g.R.Read.remaining c.args.reader.now)
+          (g.W.Write.contents c.args.writer.now) c.lines.found c.lines.line.items (g.R.Read.remaining c.lines.reader)
+          (g.W.Write.contents c.lines.writer) c.lines.number c.lines.engine c.lines.invariant.2 c.play_found.new.engine
+          c.lines.invariant.0 c.in-Goes.reply goes fits (g.W.Write.contents c.write_reply.new.writer)
+          c.in_ok-write_reply-in-Goes.ensures.all c.in_ok-found.found c.read_line.new.line.items
+          (g.R.Read.remaining c.read_line.new.reader) c.in_ok-found.ensures.reads,
+      λ le. traced_on g.J.JournalId.bounds c.lines.number c.lines.engine c.play_found.new.engine c.lines.invariant.0 _
+          goes le c.args.engine.now.network c.lines.invariant.3,
     )
 
 pub returns-in_err-finish-in-End-clause-traced : goal.returns-in_err-finish-in-End-clause-traced
-returns-in_err-finish-in-End-clause-traced g c = λ le. traced_on g.J.Naming.bounds c.lines.number c.lines.engine c.play_found.new.engine c.lines.invariant.0 _ c.in_ok-play_found.ensures.goes le c.args.engine.now.desk c.lines.invariant.3
+returns-in_err-finish-in-End-clause-traced g c = λ le.
+    traced_on g.J.JournalId.bounds c.lines.number c.lines.engine c.play_found.new.engine c.lines.invariant.0 _
+    c.in_ok-play_found.ensures.goes le c.args.engine.now.network c.lines.invariant.3
 
 pub returns-in-End-clause-traced : goal.returns-in-End-clause-traced
-returns-in-End-clause-traced g c = λ le. traced_on g.J.Naming.bounds c.lines.number c.lines.engine c.play_found.new.engine c.lines.invariant.0 _ c.in_ok-play_found.ensures.goes le c.args.engine.now.desk c.lines.invariant.3
+returns-in-End-clause-traced g c = λ le. traced_on g.J.JournalId.bounds c.lines.number c.lines.engine
+    c.play_found.new.engine c.lines.invariant.0 _ c.in_ok-play_found.ensures.goes le c.args.engine.now.network
+    c.lines.invariant.3
 
-pub returns-in_err-tell-in-Goes-clause-traced : goal.returns-in_err-tell-in-Goes-clause-traced
-returns-in_err-tell-in-Goes-clause-traced g c = λ le. traced_on g.J.Naming.bounds c.lines.number c.lines.engine c.play_found.new.engine c.lines.invariant.0 _ c.in_ok-play_found.ensures.goes le c.args.engine.now.desk c.lines.invariant.3
+pub returns-in_err-write_reply-in-Goes-clause-traced : goal.returns-in_err-write_reply-in-Goes-clause-traced
+returns-in_err-write_reply-in-Goes-clause-traced g c =
+    λ le. traced_on g.J.JournalId.bounds c.lines.number c.lines.engine c.play_found.new.engine c.lines.invariant.0 _
+    c.in_ok-play_found.ensures.goes le c.args.engine.now.network c.lines.invariant.3
 
-pub returns-in_err-tell_fault-in-Stops-clause-traced : goal.returns-in_err-tell_fault-in-Stops-clause-traced
-returns-in_err-tell_fault-in-Stops-clause-traced g c = λ le. traced_on g.J.Naming.bounds c.lines.number c.lines.engine c.play_found.new.engine c.lines.invariant.0 _ c.in_ok-play_found.ensures.goes le c.args.engine.now.desk c.lines.invariant.3
+pub returns-in_err-write_fault-in-Stops-clause-traced : goal.returns-in_err-write_fault-in-Stops-clause-traced
+returns-in_err-write_fault-in-Stops-clause-traced g c =
+    λ le. traced_on g.J.JournalId.bounds c.lines.number c.lines.engine c.play_found.new.engine c.lines.invariant.0 _
+    c.in_ok-play_found.ensures.goes le c.args.engine.now.network c.lines.invariant.3
 
 pub returns-in_err-finish-in-Stops-clause-traced : goal.returns-in_err-finish-in-Stops-clause-traced
-returns-in_err-finish-in-Stops-clause-traced g c = λ le. traced_on g.J.Naming.bounds c.lines.number c.lines.engine c.play_found.new.engine c.lines.invariant.0 _ c.in_ok-play_found.ensures.goes le c.args.engine.now.desk c.lines.invariant.3
+returns-in_err-finish-in-Stops-clause-traced g c =
+    λ le. traced_on g.J.JournalId.bounds c.lines.number c.lines.engine c.play_found.new.engine c.lines.invariant.0 _
+    c.in_ok-play_found.ensures.goes le c.args.engine.now.network c.lines.invariant.3
 
 pub returns-in-Stops-clause-traced : goal.returns-in-Stops-clause-traced
-returns-in-Stops-clause-traced g c = λ le. traced_on g.J.Naming.bounds c.lines.number c.lines.engine c.play_found.new.engine c.lines.invariant.0 _ c.in_ok-play_found.ensures.goes le c.args.engine.now.desk c.lines.invariant.3
+returns-in-Stops-clause-traced g c = λ le. traced_on g.J.JournalId.bounds c.lines.number c.lines.engine
+    c.play_found.new.engine c.lines.invariant.0 _ c.in_ok-play_found.ensures.goes le c.args.engine.now.network
+    c.lines.invariant.3
 
 pub returns-in_err-found-clause-traced : goal.returns-in_err-found-clause-traced
-returns-in_err-found-clause-traced g c = λ le. traced_on g.J.Naming.bounds c.lines.number c.lines.engine c.play_found.new.engine c.lines.invariant.0 _ c.in_ok-play_found.ensures.goes le c.args.engine.now.desk c.lines.invariant.3
+returns-in_err-found-clause-traced g c = λ le. traced_on g.J.JournalId.bounds c.lines.number c.lines.engine
+    c.play_found.new.engine c.lines.invariant.0 _ c.in_ok-play_found.ensures.goes le c.args.engine.now.network
+    c.lines.invariant.3
 
 pub returns-in_err-text-clause-traced : goal.returns-in_err-text-clause-traced
 returns-in_err-text-clause-traced g c = λ le first. first
 
 pub returns-in_err-play_found-clause-traced : goal.returns-in_err-play_found-clause-traced
-returns-in_err-play_found-clause-traced g c = subst (λ (e : Held). length e.desk.newest ≤ own e → IsTraced c.args.engine.now.desk → IsTraced e.desk) (sym c.in_err-play_found.ensures.same) c.lines.invariant.3
+returns-in_err-play_found-clause-traced g c = subst (λ (e : Held). length e.network.newest ≤ own e
+    → IsTraced c.args.engine.now.network → IsTraced e.network) (sym c.in_err-play_found.ensures.same)
+    c.lines.invariant.3

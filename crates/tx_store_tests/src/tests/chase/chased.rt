@@ -6,7 +6,7 @@ use std::alloc::Global;
 use std::sync::Arc;
 use std::sync::atomic::{AtomicU64, Ordering};
 use std::thread::yield_now;
-use tx_cells::{Families, Fresh, KeyCopy};
+use tx_cells::{Changes, Families, Fresh, Holds, KeyVersions, Sees};
 use tx_plan::{Answer, Dropped, Infos, KeyChange, NewLock, Prewrite, ReadView, Scan, TxnView};
 use tx_types::{Fault, Key, LockInfo, Ts};
 
@@ -77,7 +77,8 @@ pub struct Chased<F> {
 impl<F: Fresh> Chased<F> {
     /// Families that hold nothing, for two regions.
     pub fn two(alloc: Global, chase: &Arc<Chase>) -> Option<(Chased<F>, Chased<F>)>
-        ensures { IfSome result (λ two. (F.content two.0.cells ≡ (λ k. nothing_held)) × (F.content two.1.cells ≡ (λ k. nothing_held))) }
+        ensures { IfSome result (λ two. (F.content two.0.cells ≡ (λ k. nothing_held))
+            × (F.content two.1.cells ≡ (λ k. nothing_held))) }
     {
         let first = Chased::at(alloc, chase)?;
         let second = Chased::at(alloc, chase)?;
@@ -95,11 +96,13 @@ impl<F: Fresh> Chased<F> {
     }
 }
 
-impl<F: Fresh> Families for Chased<F> {
+impl<F: Fresh> Holds for Chased<F> {
     ghost content = { λ m. F.content m.cells };
 
     ghost numbers = { λ m. F.numbers m.cells };
+}
 
+impl<F: Fresh> Sees for Chased<F> {
     fn view(&self, alloc: Global, key: &Key, start: Ts, commit: Ts) -> Result<TxnView, Fault> {
         self.chase.look();
         self.cells.view(alloc, key, start, commit)
@@ -129,14 +132,16 @@ impl<F: Fresh> Families for Chased<F> {
         self.cells.count_below(alloc, safe)
     }
 
-    fn cells(&self, alloc: Global, key: &Key) -> Result<KeyCopy, Fault> {
+    fn cells(&self, alloc: Global, key: &Key) -> Result<KeyVersions, Fault> {
         self.cells.cells(alloc, key)
     }
 
     fn number(&self, alloc: Global, key: &Key) -> Result<u64, Fault> {
         self.cells.number(alloc, key)
     }
+}
 
+impl<F: Fresh> Changes for Chased<F> {
     fn forget_numbers(&mut self, alloc: Global) {
         self.cells.forget_numbers(alloc);
     }
@@ -165,3 +170,5 @@ impl<F: Fresh> Families for Chased<F> {
         self.cells.drop_below(safe);
     }
 }
+
+impl<F: Fresh> Families for Chased<F> {}

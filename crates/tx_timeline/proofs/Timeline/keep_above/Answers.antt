@@ -2,7 +2,7 @@
 use Rattle.std.proofs.Common.{ℕ, not, cond, Option, None, sym, ap, subst, ◌∙◌, rules}
 use Rattle.std.specs.BTreeMap.{BTreeMap}
 use Rattle.std.proofs.lemmas.Fn.{filter_same}
-use Rattle.tx_timeline.specs.Places.{goes_below}
+use Rattle.tx_timeline.specs.Indexes.{goes_below}
 use Rattle.tx_timeline.proofs.Rising.{Rises}
 use Rattle.tx_timeline.proofs.Finding.{find}
 use Rattle.tx_timeline.proofs.Changing.{rises_kept, find_kept}

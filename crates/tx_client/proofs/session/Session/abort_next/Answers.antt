@@ -8,4 +8,4 @@ pub pursue-requires-clause-allowed : goal.pursue-requires-clause-allowed
 pursue-requires-clause-allowed g c =
     let due = c.in-Ok-Some.due in
     subst (λ (z : Seated). Allowed z.seat.events due.body) c.self.view_is
-    (abort_allowed g.J.Naming.bounds c.self.inside.seat.events c.self.invariant.0 c.self.inside.seat.seat c.self.inside.transaction c.self.invariant.1 due (sym c.in-Ok-Some.ensures.ok ∙ c.in-Ok-Some.field-0-is)).0
+    (abort_allowed g.J.JournalId.bounds c.self.inside.seat.events c.self.invariant.0 c.self.inside.seat.seat c.self.inside.transaction c.self.invariant.1 due (sym c.in-Ok-Some.ensures.ok ∙ c.in-Ok-Some.field-0-is)).0

@@ -1,5 +1,5 @@
 use Rattle.std.proofs.Common.{◌≡◌, true, sym, subst}
-use Rattle.tx_transaction.specs.Sessions.{State, can_draw}
+use Rattle.tx_transaction.specs.Sessions.{SessionState, can_draw}
 use Rattle.tx_client.specs.Facts.{IsSeated}
 use Rattle.tx_client.specs.Calls.{Seated}
 use Rattle.tx_client.proofs.Calling.{drew_seated}
@@ -8,4 +8,4 @@ use Rattle.tx_client.proofs.session.Session.draw_commit.Goals as goal
 pub invariant_of-self-2 : goal.invariant_of-self-2
 invariant_of-self-2 g c =
     let can : can_draw c.self.inside.transaction ≡ true = subst (λ (z : Seated). can_draw z.state ≡ true) (sym c.self.view_is) c.requires in
-    subst (λ (z : State). IsSeated g.J.Naming.bounds c.draw.new.self z) (sym c.drew.ensures) (drew_seated g.J.Naming.bounds c.self.inside.seat c.draw.new.self c.self.inside.transaction c.in_ok-commit.commit c.self.invariant can c.in_ok-commit.ensures.seat c.in_ok-commit.ensures.drawn)
+    subst (λ (z : SessionState). IsSeated g.J.JournalId.bounds c.draw.new.self z) (sym c.drew.ensures) (drew_seated g.J.JournalId.bounds c.self.inside.seat c.draw.new.self c.self.inside.transaction c.in_ok-commit.commit c.self.invariant can c.in_ok-commit.ensures.seat c.in_ok-commit.ensures.drawn)

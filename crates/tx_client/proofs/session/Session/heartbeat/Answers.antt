@@ -4,5 +4,5 @@ use Rattle.tx_journal.specs.Senders.{IsHeld}
 use Rattle.tx_client.proofs.Calling.{held_at}
 use Rattle.tx_client.proofs.session.Session.heartbeat.Goals as goal
 
-pub ask-came-requires-clause-held : goal.ask-came-requires-clause-held
-ask-came-requires-clause-held g c = subst (λ (b : Body). IsHeld g.J.Naming.bounds b) (sym c.in-Ok.ensures.ok) (held_at g.J.Naming.bounds _)
+pub ask-response-requires-clause-held : goal.ask-response-requires-clause-held
+ask-response-requires-clause-held g c = subst (λ (b : Body). IsHeld g.J.JournalId.bounds b) (sym c.in-Ok.ensures.ok) (held_at g.J.JournalId.bounds _)

@@ -1,5 +1,5 @@
 use Rattle.std.proofs.Common.{◌≡◌, false, sym, subst}
-use Rattle.tx_transaction.specs.Sessions.{State, is_declared}
+use Rattle.tx_transaction.specs.Sessions.{SessionState, is_declared}
 use Rattle.tx_client.specs.Facts.{IsSeated}
 use Rattle.tx_client.specs.Calls.{Seated}
 use Rattle.tx_client.proofs.Events.{locked_ok}
@@ -9,5 +9,5 @@ use Rattle.tx_client.proofs.session.Session.lock.Goals as goal
 pub invariant_of-self : goal.invariant_of-self
 invariant_of-self g c =
     let not_yet : is_declared c.self.inside.transaction ≡ false = subst (λ (z : Seated). is_declared z.state ≡ false) (sym c.self.view_is) c.requires in
-    either c.lock.result _ (λ (z : State). IsSeated g.J.Naming.bounds c.self.inside.seat z) c.self.inside.transaction _ c.lock.new.self c.lock.ensures.ok c.lock.ensures.same c.self.invariant
+    either c.lock.result _ (λ (z : SessionState). IsSeated g.J.JournalId.bounds c.self.inside.seat z) c.self.inside.transaction _ c.lock.new.self c.lock.ensures.ok c.lock.ensures.same c.self.invariant
     (c.self.invariant.0, locked_ok c.self.inside.seat.events c.self.inside.seat.seat c.self.inside.transaction c.self.invariant.1 c.args.key not_yet)

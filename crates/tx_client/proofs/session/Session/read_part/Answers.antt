@@ -10,7 +10,7 @@ use Rattle.tx_client.proofs.session.Session.read_part.Goals as goal
 
 pub look_part-requires-clause-held : goal.look_part-requires-clause-held
 look_part-requires-clause-held g c =
-    let bounds = g.J.Naming.bounds in
+    let bounds = g.J.JournalId.bounds in
     let s = c.args.self.now.state in
     let from = c.args.from.now in
     let to = c.args.to.now in
@@ -20,7 +20,7 @@ look_part-requires-clause-held g c =
 
 pub look_part-requires-clause-left : goal.look_part-requires-clause-left
 look_part-requires-clause-left g c =
-    let bounds = g.J.Naming.bounds in
+    let bounds = g.J.JournalId.bounds in
     let s = c.args.self.now.state in
     let from = c.args.from.now in
     let to = c.args.to.now in
@@ -30,7 +30,7 @@ look_part-requires-clause-left g c =
 
 pub returns-in-Ok-Some : goal.returns-in-Ok-Some
 returns-in-Ok-Some g c =
-    let bounds = g.J.Naming.bounds in
+    let bounds = g.J.JournalId.bounds in
     let s = c.args.self.now.state in
     let from = c.args.from.now in
     let to = c.args.to.now in

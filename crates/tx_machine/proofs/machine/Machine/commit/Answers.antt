@@ -3,8 +3,8 @@ use Rattle.std.specs.List.{Contains}
 use Rattle.std.specs.Ordering.{nat_cmp}
 use Rattle.std.specs.BTreeMap as tree
 use Rattle.tx_types.specs.declared.mutation.Change.{Change}
-use Rattle.tx_machine.specs.declared.machine.Stage.{Stage}
-use Rattle.tx_machine.specs.declared.machine.Stage.TheVariants.{Declared}
+use Rattle.tx_machine.specs.declared.machine.TxnStage.{TxnStage}
+use Rattle.tx_machine.specs.declared.machine.TxnStage.TheVariants.{Declared}
 use Rattle.tx_machine.specs.Keys.{mutation_at}
 use Rattle.tx_machine.specs.Representation.{Keeps}
 use Rattle.tx_machine.proofs.Commits.{on_err}
@@ -15,7 +15,7 @@ use Rattle.tx_machine.proofs.machine.Machine.commit.Goals as goal
 
 pub returns-then-is_some-2-clause-refused : goal.returns-then-is_some-2-clause-refused
 returns-then-is_some-2-clause-refused c e table tells may =
-    let stage : tree.get nat_cmp c.args.self.now.stages c.args.t ≡ Some (Declared c.in-Some-Declared.set) = sym c.in-Some-Declared.ensures.value ∙ ap (λ (x : Stage). Some x) c.in-Some-Declared.field-0-is in
+    let stage : tree.get nat_cmp c.args.self.now.stages c.args.t ≡ Some (Declared c.in-Some-Declared.set) = sym c.in-Some-Declared.ensures.value ∙ ap (λ (x : TxnStage). Some x) c.in-Some-Declared.field-0-is in
     let none : tree.get nat_cmp c.args.self.now.fates c.args.t ≡ None = no_fate _ _ c.if-is_some.ensures c.get-2.ensures.value in
     let b = some_of _ _ c.if-is_some-2.ensures c.first_block.ensures.blocked in
     not_blocked c.args.self.now.last (tree.get nat_cmp c.args.self.now.stages) c.args.self.now.fates c.args.self.now.index c.args.self.now.reads table tells
@@ -23,7 +23,7 @@ returns-then-is_some-2-clause-refused c e table tells may =
 
 pub returns-in_err-list_all-clause-same : goal.returns-in_err-list_all-clause-same
 returns-in_err-list_all-clause-same c =
-    let stage : tree.get nat_cmp c.args.self.now.stages c.args.t ≡ Some (Declared c.in-Some-Declared.set) = sym c.in-Some-Declared.ensures.value ∙ ap (λ (x : Stage). Some x) c.in-Some-Declared.field-0-is in
+    let stage : tree.get nat_cmp c.args.self.now.stages c.args.t ≡ Some (Declared c.in-Some-Declared.set) = sym c.in-Some-Declared.ensures.value ∙ ap (λ (x : TxnStage). Some x) c.in-Some-Declared.field-0-is in
     let none : tree.get nat_cmp c.args.self.now.fates c.args.t ≡ None = no_fate _ _ c.if-is_some.ensures c.get-2.ensures.value in
     let above : c.args.t < c.args.c = omega (arith, c.get-start.ensures, c.get-commit.ensures, c.if-commit-start.false) in
     let upto : c.args.c ≤ c.args.self.now.last + 1 = omega (arith, c.get-commit.ensures, c.get-else-commit-start.ensures, c.if-commit-get.false) in
@@ -43,7 +43,7 @@ returns-in_err-list_all-clause-same c =
 
 pub returns-in_err-insert-clause-same : goal.returns-in_err-insert-clause-same
 returns-in_err-insert-clause-same c =
-    let stage : tree.get nat_cmp c.args.self.now.stages c.args.t ≡ Some (Declared c.in-Some-Declared.set) = sym c.in-Some-Declared.ensures.value ∙ ap (λ (x : Stage). Some x) c.in-Some-Declared.field-0-is in
+    let stage : tree.get nat_cmp c.args.self.now.stages c.args.t ≡ Some (Declared c.in-Some-Declared.set) = sym c.in-Some-Declared.ensures.value ∙ ap (λ (x : TxnStage). Some x) c.in-Some-Declared.field-0-is in
     let none : tree.get nat_cmp c.args.self.now.fates c.args.t ≡ None = no_fate _ _ c.if-is_some.ensures c.get-2.ensures.value in
     let above : c.args.t < c.args.c = omega (arith, c.get-start.ensures, c.get-commit.ensures, c.if-commit-start.false) in
     let upto : c.args.c ≤ c.args.self.now.last + 1 = omega (arith, c.get-commit.ensures, c.get-else-commit-start.ensures, c.if-commit-get.false) in
@@ -63,7 +63,7 @@ returns-in_err-insert-clause-same c =
 
 pub returns-clause-ok : goal.returns-clause-ok
 returns-clause-ok c table tells =
-    let stage : tree.get nat_cmp c.args.self.now.stages c.args.t ≡ Some (Declared c.in-Some-Declared.set) = sym c.in-Some-Declared.ensures.value ∙ ap (λ (x : Stage). Some x) c.in-Some-Declared.field-0-is in
+    let stage : tree.get nat_cmp c.args.self.now.stages c.args.t ≡ Some (Declared c.in-Some-Declared.set) = sym c.in-Some-Declared.ensures.value ∙ ap (λ (x : TxnStage). Some x) c.in-Some-Declared.field-0-is in
     let none : tree.get nat_cmp c.args.self.now.fates c.args.t ≡ None = no_fate _ _ c.if-is_some.ensures c.get-2.ensures.value in
     let above : c.args.t < c.args.c = omega (arith, c.get-start.ensures, c.get-commit.ensures, c.if-commit-start.false) in
     let upto : c.args.c ≤ c.args.self.now.last + 1 = omega (arith, c.get-commit.ensures, c.get-else-commit-start.ensures, c.if-commit-get.false) in

@@ -2,8 +2,8 @@ use Rattle.std.proofs.Common.{◌≡◌, sym, ap, subst, ◌∙◌, refl, List, 
 use Rattle.std.specs.Ordering.{nat_cmp}
 use Rattle.std.specs.BTreeMap as tree
 use Rattle.tx_types.specs.declared.mutation.Change.{Change}
-use Rattle.tx_machine.specs.declared.machine.Stage.{Stage}
-use Rattle.tx_machine.specs.declared.machine.Stage.TheVariants.{Begun}
+use Rattle.tx_machine.specs.declared.machine.TxnStage.{TxnStage}
+use Rattle.tx_machine.specs.declared.machine.TxnStage.TheVariants.{Begun}
 use Rattle.tx_machine.specs.Noted.{IsNoted}
 use Rattle.tx_machine.specs.Representation.{version_of}
 use Rattle.tx_machine.specs.Keys.{IsDistinct}
@@ -14,7 +14,7 @@ use Rattle.tx_machine.proofs.machine.Machine.declare.Goals as goal
 
 pub returns-clause-ok : goal.returns-clause-ok
 returns-clause-ok c table tells =
-    let there : tree.get nat_cmp c.args.self.now.stages c.args.t ≡ Some Begun = sym c.in-Some.ensures.value ∙ ap (λ (x : Stage). Some x) c.in-Begun.is in
+    let there : tree.get nat_cmp c.args.self.now.stages c.args.t ≡ Some Begun = sym c.in-Some.ensures.value ∙ ap (λ (x : TxnStage). Some x) c.in-Begun.is in
     let open_ : tree.get nat_cmp c.args.self.now.fates c.args.t ≡ None = no_fate _ _ c.if-is_some.ensures c.get.ensures.value in
     let distinct = none_of _ _ c.if-is_some-2.ensures c.in_ok-repeated.ensures.once in
     declares c.args.self.now.last (tree.get nat_cmp c.args.self.now.stages) (tree.get nat_cmp c.args.self.now.fates) (version_of c.args.self.now.index) (IsNoted c.args.self.now.reads) table tells

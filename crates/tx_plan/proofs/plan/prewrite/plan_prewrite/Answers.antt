@@ -3,7 +3,9 @@ use Rattle.tx_plan.specs.declared.answer.Answer.TheVariants.{Prewritten}
 use Rattle.tx_plan.specs.declared.key_change.NewLock.{NewLock}
 use Rattle.tx_plan.specs.Changes.{new_lock, CanPut}
 use Rattle.tx_plan.specs.cases.Prewrite.{read_by_prewrite}
-use Rattle.tx_plan.specs.Views.{named_in, info_on}
+use Rattle.tx_plan.specs.declared.view.LockHead.{LockHead}
+use Rattle.tx_types.specs.Locks.{async_min}
+use Rattle.tx_plan.specs.Views.{info_on}
 use Rattle.tx_plan.proofs.Orders.{not_below, not_true}
 use Rattle.tx_plan.proofs.Seen.{own_commit, no_commit, newest, none_above, no_lock}
 use Rattle.tx_plan.proofs.plan.prewrite.plan_prewrite.Goals as goal
@@ -12,7 +14,7 @@ pub returns-in-Some-clause-answers : goal.returns-in-Some-clause-answers
 returns-in-Some-clause-answers c cells commit shows knows =
     let b = c.args.body.now in
     let own = c.in-Some.ensures cells commit shows in
-    rw (c.given-in-Some.ensures, c.named_minimum.ensures) (inr (not_below b.start c.args.safe c.if-lt.ensures, inr (not_below c.args.loaded b.start c.if-lt-2.ensures, inl (own.lock, own.stands, ap Prewritten (ap named_in own.shown)))))
+    rw (c.given-in-Some.ensures, c.async_min.ensures) (inr (not_below b.start c.args.safe c.if-lt.ensures, inr (not_below c.args.loaded b.start c.if-lt-2.ensures, inl (own.lock, own.stands, ap Prewritten (ap (λ (x : LockHead). async_min x.mode x.min) own.shown)))))
 
 pub returns-in-Some-own_commit-clause-answers : goal.returns-in-Some-own_commit-clause-answers
 returns-in-Some-own_commit-clause-answers c cells commit shows knows =
@@ -87,7 +89,7 @@ returns-then-finds_value-clause-answers c cells commit shows knows =
 pub returns-in-Some-clause-read : goal.returns-in-Some-clause-read
 returns-in-Some-clause-read c cells commit shows =
     let own = c.in-Some.ensures cells commit shows in
-    rw c.given-in-Some.ensures (sym (ap (λ o. read_by_prewrite (Prewritten c.named_minimum.result) o c.args.body.now) own.stands.stands))
+    rw c.given-in-Some.ensures (sym (ap (λ o. read_by_prewrite (Prewritten c.async_min.result) o c.args.body.now) own.stands.stands))
 
 pub returns-clause-read : goal.returns-clause-read
 returns-clause-read c cells commit shows = c.lock_key.ensures.read cells (no_lock cells c.args.body.now.start commit c.args.view.now shows (sym c.is_some.ensures ∙ c.if-is_some.false))

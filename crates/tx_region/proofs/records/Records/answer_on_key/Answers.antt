@@ -7,18 +7,18 @@ use Rattle.tx_region.proofs.records.Records.answer_on_key.Goals as goal
 
 pub plan-planned-requires-clause-seen : goal.plan-planned-requires-clause-seen
 plan-planned-requires-clause-seen g c =
-    let before = region_of g.F.Families.content c.args.self.now in
+    let before = region_of g.F.Holds.content c.args.self.now in
     (before 0, record { sees = c.in_ok-view.ensures.ok; safe = c.numbers-copied.ensures.0; collected = c.numbers-copied.ensures.1 })
 
 pub make-requires-clause-may : goal.make-requires-clause-may
 make-requires-clause-may g c =
-    let before = region_of g.F.Families.content c.args.self.now in
+    let before = region_of g.F.Holds.content c.args.self.now in
     let looks : LooksLike (before 0) c.args.body.now c.in_ok-view.view c.numbers-copied.result = record { sees = c.in_ok-view.ensures.ok; safe = c.numbers-copied.ensures.0; collected = c.numbers-copied.ensures.1 } in
     (c.plan-planned.ensures (before 0) looks).may
 
 pub returns-clause-ok : goal.returns-clause-ok
 returns-clause-ok g c =
-    let content = g.F.Families.content in
+    let content = g.F.Holds.content in
     let s = c.args.self.now in
     let before = region_of content s in
     let loaded = c.args.loaded.now in

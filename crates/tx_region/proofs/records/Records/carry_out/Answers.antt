@@ -8,7 +8,7 @@ use Rattle.tx_region.proofs.records.Records.carry_out.Goals as goal
 pub returns-clause-ok : goal.returns-clause-ok
 returns-clause-ok g c =
     let s = c.args.self.now in
-    let content = g.F.Families.content in
+    let content = g.F.Holds.content in
     let applied = c.in_ok-apply.ensures in
     λ n. record {
       answer = c.in_ok-answer.ensures.answer;
@@ -19,8 +19,8 @@ returns-clause-ok g c =
 pub returns-clause-notes : goal.returns-clause-notes
 returns-clause-notes g c =
     let s = c.args.self.now in
-    let content = g.F.Families.content in
-    let numbers = g.F.Families.numbers in
+    let content = g.F.Holds.content in
+    let numbers = g.F.Holds.numbers in
     let applied = c.in_ok-apply.ensures in
     let next = c.in_ok-number.ensures.ok in
     notes_change (content s.families) (content c.apply.new.self) (numbers s.families) (numbers c.apply.new.self) c.args.key.now _ s.taken c.in_ok-number.number applied.content c.args.planned.change applied.cells c.requires.applies c.requires.makes applied.noted (omega (arith, next))

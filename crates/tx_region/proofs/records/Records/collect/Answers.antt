@@ -15,7 +15,7 @@ drop_below-requires g c = (let counts = c.in_ok-records.ensures.counts in (count
 
 pub returns-clause-ok : goal.returns-clause-ok
 returns-clause-ok g c =
-    let content = g.F.Families.content in
+    let content = g.F.Holds.content in
     let s = c.args.self.now in
     let b = c.args.body.now in
     let before = region_of content s in
@@ -34,7 +34,7 @@ returns-clause-ok g c =
 
 pub returns-clause-counts : goal.returns-clause-counts
 returns-clause-counts g c =
-    let content = g.F.Families.content in
+    let content = g.F.Holds.content in
     let s = c.args.self.now in
     let dropped = c.drop_below.new.self in
     let same = c.drop_below.ensures.same.3 in

@@ -11,7 +11,7 @@ use Rattle.tx_region.proofs.records.Records.put.Goals as goal
 
 pub returns-in-Lock-clause-ok : goal.returns-in-Lock-clause-ok
 returns-in-Lock-clause-ok g c =
-    let content = g.F.Families.content in
+    let content = g.F.Holds.content in
     let s = c.args.self.now in
     let b = c.args.body.now in
     let before = region_of content s 0 in
@@ -21,8 +21,8 @@ returns-in-Lock-clause-ok g c =
 
 pub returns-in-Lock-clause-notes : goal.returns-in-Lock-clause-notes
 returns-in-Lock-clause-notes g c =
-    let content = g.F.Families.content in
-    let numbers = g.F.Families.numbers in
+    let content = g.F.Holds.content in
+    let numbers = g.F.Holds.numbers in
     let s = c.args.self.now in
     let b = c.args.body.now in
     let before = region_of content s 0 in

@@ -16,8 +16,8 @@ answer-requires g c = let low = c.load-loaded.ensures.loads.low in record { room
 
 pub reply_done-requires : goal.reply_done-requires
 reply_done-requires g c =
-    let bounds = g.J.Naming.bounds in
-    let content = g.F.Families.content in
+    let bounds = g.J.JournalId.bounds in
+    let content = g.F.Holds.content in
     let old = c.args.self.now in
     let s = c.self.inside in
     let n = s.seat.seat in
@@ -41,9 +41,9 @@ reply_done-requires g c =
 
 pub invariant_of-self-in-Ok : goal.invariant_of-self-in-Ok
 invariant_of-self-in-Ok g c =
-    let bounds = g.J.Naming.bounds in
-    let content = g.F.Families.content in
-    let numbers = g.F.Families.numbers in
+    let bounds = g.J.JournalId.bounds in
+    let content = g.F.Holds.content in
+    let numbers = g.F.Holds.numbers in
     let old = c.args.self.now in
     let s = c.self.inside in
     let n = s.seat.seat in
@@ -67,8 +67,8 @@ invariant_of-self-in-Ok g c =
 
 pub returns-clause-answered : goal.returns-clause-answered
 returns-clause-answered g c =
-    let bounds = g.J.Naming.bounds in
-    let content = g.F.Families.content in
+    let bounds = g.J.JournalId.bounds in
+    let content = g.F.Holds.content in
     let old = c.args.self.now in
     let s = c.self.inside in
     let n = s.seat.seat in
@@ -94,8 +94,8 @@ returns-clause-answered g c =
 
 pub invariant_of-self : goal.invariant_of-self
 invariant_of-self g c =
-    let content = g.F.Families.content in
-    let numbers = g.F.Families.numbers in
+    let content = g.F.Holds.content in
+    let numbers = g.F.Holds.numbers in
     let s = c.self.inside in
     let records = c.answer.new.self in
-    keeps_same g.J.Naming.bounds s.seat c.tell-told.new.self (region_of content s.records) (region_of content records) s.records.taken records.taken (numbers s.records.families) (numbers records.families) c.tell-told.ensures.same c.in-Err.ensures.same c.in-Err.ensures.same_numbers c.self.invariant
+    keeps_same g.J.JournalId.bounds s.seat c.tell-told.new.self (region_of content s.records) (region_of content records) s.records.taken records.taken (numbers s.records.families) (numbers records.families) c.tell-told.ensures.same c.in-Err.ensures.same c.in-Err.ensures.same_numbers c.self.invariant

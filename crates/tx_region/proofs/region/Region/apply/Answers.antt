@@ -17,13 +17,13 @@ key_of-requires g c = subst IsOfKey (sym c.body.ensures.body) c.requires.of.0.of
 pub has_stayed-requires : goal.has_stayed-requires
 has_stayed-requires g c =
     let s = c.self.inside in
-    number_low g.J.Naming.bounds s.seat (g.F.Families.content s.records.families) s.records.safe s.records.collected s.records.taken (g.F.Families.numbers s.records.families) c.self.invariant c.key_of.result.now
+    number_low g.J.JournalId.bounds s.seat (g.F.Holds.content s.records.families) s.records.safe s.records.collected s.records.taken (g.F.Holds.numbers s.records.families) c.self.invariant c.key_of.result.now
 
 pub returns-in-Ok-false-clause-comes : goal.returns-in-Ok-false-clause-comes
 returns-in-Ok-false-clause-comes g c =
-    let bounds = g.J.Naming.bounds in
-    let content = g.F.Families.content in
-    let numbers = g.F.Families.numbers in
+    let bounds = g.J.JournalId.bounds in
+    let content = g.F.Holds.content in
+    let numbers = g.F.Holds.numbers in
     let old = c.args.self.now in
     let mid = c.learn.new.self in
     let s = c.self.inside in
@@ -45,9 +45,9 @@ returns-in-Ok-false-clause-comes g c =
 
 pub carry_plan-requires : goal.carry_plan-requires
 carry_plan-requires g c =
-    let bounds = g.J.Naming.bounds in
-    let content = g.F.Families.content in
-    let numbers = g.F.Families.numbers in
+    let bounds = g.J.JournalId.bounds in
+    let content = g.F.Holds.content in
+    let numbers = g.F.Holds.numbers in
     let old = c.args.self.now in
     let mid = c.learn.new.self in
     let s = c.self.inside in
@@ -76,9 +76,9 @@ carry_plan-requires g c =
 
 pub returns-in-Ok-true-clause-comes : goal.returns-in-Ok-true-clause-comes
 returns-in-Ok-true-clause-comes g c =
-    let bounds = g.J.Naming.bounds in
-    let content = g.F.Families.content in
-    let numbers = g.F.Families.numbers in
+    let bounds = g.J.JournalId.bounds in
+    let content = g.F.Holds.content in
+    let numbers = g.F.Holds.numbers in
     let old = c.args.self.now in
     let mid = c.learn.new.self in
     let s = c.self.inside in

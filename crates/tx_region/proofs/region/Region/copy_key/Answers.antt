@@ -17,8 +17,8 @@ view-requires g c = subst IsOfKey (sym (c.body.ensures.body ∙ ap (λ (r : Aske
 
 pub returns-clause-copy : goal.returns-clause-copy
 returns-clause-copy g c =
-    let bounds = g.J.Naming.bounds in
-    let content = g.F.Families.content in
+    let bounds = g.J.JournalId.bounds in
+    let content = g.F.Holds.content in
     let old = c.args.self.now in
     let s = c.self.inside in
     let n = s.seat.seat in
@@ -52,7 +52,7 @@ returns-clause-copy g c =
 
 pub invariant_of-result : goal.invariant_of-result
 invariant_of-result g c =
-    let bounds = g.J.Naming.bounds in
+    let bounds = g.J.JournalId.bounds in
     let old = c.args.self.now in
     let s = c.self.inside in
     let n = s.seat.seat in

@@ -12,7 +12,7 @@ use Rattle.tx_region.proofs.region.Region.load.Goals as goal
 
 pub invariant_of-self : goal.invariant_of-self
 invariant_of-self g c =
-    let bounds = g.J.Naming.bounds in
+    let bounds = g.J.JournalId.bounds in
     let s = c.self.inside in
     let n = s.seat.seat in
     let learnt = c.learn.new.self.events in
@@ -23,11 +23,11 @@ invariant_of-self g c =
     let number = c.load_mark-mark.ensures.same.0 ∙ two in
     let here = seen_more bounds n s.seat.events learnt point c.learn.ensures.seen (subst (λ m. HasSeen bounds m learnt point) one c.last-last.ensures.seen) in
     let there = seen_more bounds n s.seat.events point marked here (subst (λ m. HasSeen bounds m point marked) two c.load_mark-mark.ensures.seen) in
-    keeps_seen bounds s.seat c.load_mark-mark.new.seat (region_of g.F.Families.content s.records) s.records.taken (g.F.Families.numbers s.records.families) c.self.invariant number there.extends
+    keeps_seen bounds s.seat c.load_mark-mark.new.seat (region_of g.F.Holds.content s.records) s.records.taken (g.F.Holds.numbers s.records.families) c.self.invariant number there.extends
 
 pub returns-clause-seen : goal.returns-clause-seen
 returns-clause-seen g c =
-    let bounds = g.J.Naming.bounds in
+    let bounds = g.J.JournalId.bounds in
     let s = c.self.inside in
     let n = s.seat.seat in
     let learnt = c.learn.new.self.events in
@@ -41,7 +41,7 @@ returns-clause-seen g c =
 
 pub returns-clause-loads : goal.returns-clause-loads
 returns-clause-loads g c =
-    let bounds = g.J.Naming.bounds in
+    let bounds = g.J.JournalId.bounds in
     let s = c.self.inside in
     let n = s.seat.seat in
     let learnt = c.learn.new.self.events in

@@ -6,7 +6,7 @@ use Rattle.tx_store.proofs.store.Store.new.Goals as goal
 
 pub loop-seat-init : goal.loop-seat-init
 loop-seat-init g c =
-    let n = length g.J.Naming.bounds in
+    let n = length g.J.JournalId.bounds in
     let same = c.into_iter-seat-iterator.ensures.into_iter_gives.0 in
     record {
       made = omega (arith, c.in_ok-regions.ensures.len, ap length same, c.requires.count, c.args.seats.ok.0);
@@ -17,11 +17,11 @@ loop-seat-init g c =
 
 pub new-region-requires-clause-seat : goal.new-region-requires-clause-seat
 new-region-requires-clause-seat g c =
-    let s = first_of (IsRegionSeat (length g.J.Naming.bounds)) _ _ _ c.in-Some.ensures.steps.0 c.loop-seat.invariant.seats in
+    let s = first_of (IsRegionSeat (length g.J.JournalId.bounds)) _ _ _ c.in-Some.ensures.steps.0 c.loop-seat.invariant.seats in
     (s.1, s.0)
 
 pub new-region-requires-clause-empty : goal.new-region-requires-clause-empty
-new-region-requires-clause-empty g c = last_of (HoldNothing g.F.Families.content) _ _ _ c.in-Some-pop.ensures.items c.loop-seat.invariant.empty
+new-region-requires-clause-empty g c = last_of (HoldNothing g.F.Holds.content) _ _ _ c.in-Some-pop.ensures.items c.loop-seat.invariant.empty
 
 pub loop-seat-preserved : goal.loop-seat-preserved
 loop-seat-preserved g c =
@@ -29,8 +29,8 @@ loop-seat-preserved g c =
     record {
       made = omega (arith, c.loop-seat.invariant.made, c.in_ok-push.ensures.len, step);
       left = omega (arith, c.loop-seat.invariant.left, c.in-Some-pop.ensures.len, step);
-      seats = rest_of (IsRegionSeat (length g.J.Naming.bounds)) _ _ _ c.in-Some.ensures.steps.0 c.loop-seat.invariant.seats;
-      empty = front_of (HoldNothing g.F.Families.content) _ _ _ c.in-Some-pop.ensures.items c.loop-seat.invariant.empty;
+      seats = rest_of (IsRegionSeat (length g.J.JournalId.bounds)) _ _ _ c.in-Some.ensures.steps.0 c.loop-seat.invariant.seats;
+      empty = front_of (HoldNothing g.F.Holds.content) _ _ _ c.in-Some-pop.ensures.items c.loop-seat.invariant.empty;
     }
 
 pub invariant_of-result-clause-tell : goal.invariant_of-result-clause-tell

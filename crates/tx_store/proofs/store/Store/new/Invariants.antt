@@ -6,8 +6,8 @@ use Rattle.tx_store.proofs.store.Store.new.Given as goal
 
 abbrev pub invariant-loop-seat : goal.invariant-loop-seat
 invariant-loop-seat g l = record {
-  made : vec_len l.regions + length l.seat-iterator.rest.items ≡ length g.J.Naming.bounds + 1;
+  made : vec_len l.regions + length l.seat-iterator.rest.items ≡ length g.J.JournalId.bounds + 1;
   left : vec_len l.families ≡ length l.seat-iterator.rest.items;
-  seats : All (λ (s : Known). (s.seat ≤ length g.J.Naming.bounds) × (s.events ≡ [])) l.seat-iterator.rest.items;
-  empty : All (λ f. g.F.Families.content f ≡ (λ k. nothing_held)) l.families.items;
+  seats : All (λ (s : Known). (s.seat ≤ length g.J.JournalId.bounds) × (s.events ≡ [])) l.seat-iterator.rest.items;
+  empty : All (λ f. g.F.Holds.content f ≡ (λ k. nothing_held)) l.families.items;
 }

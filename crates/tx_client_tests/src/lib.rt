@@ -1,5 +1,0 @@
-//! Scenarios of sessions, played on the stage of tx_stage.
-#![tactic(auto)]
-
-#[cfg(test)]
-mod scenarios;

@@ -1,0 +1,33 @@
+-- What a session's acts count, and what they are where nobody else acted.
+pub mod Acting
+-- What the seat for what no session does makes.
+pub mod Serving
+-- What is counted over all slots, where one of them acts.
+pub mod Keeping
+-- What steps of a session are in the engine state that the engine holds.
+pub mod Turning
+-- The steps of the engine, by what its calls give.
+pub mod Engines
+-- At the end each seat has learnt what is newest: so the history is no longer than what the
+-- seats have made.
+pub mod Settling
+-- Histories only grow in a turn.
+pub mod AllGrow
+-- A turn leads to one thing where what it leads to is a world run.
+pub mod OnePlay
+-- An engine over the seats of a new journal.
+pub mod Dealt
+-- What a live session does is its turn.
+pub mod Doing
+-- What a session enters into its buffer is its turn.
+pub mod Entering
+-- What a session asks of the regions is its turn.
+pub mod Asking
+-- What a delivery gives is its turn.
+pub mod Delivering
+-- What a step gives that has a key shown is its turn.
+pub mod Inspecting
+-- A walk of which no request is lost.
+pub mod Directly
+-- What it gives to resolve a lock that a session met, and to collect.
+pub mod Resolves

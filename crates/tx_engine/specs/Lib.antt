@@ -1,0 +1,4 @@
+pub mod Semantics
+pub mod Plays
+pub mod Slots
+pub mod Openings

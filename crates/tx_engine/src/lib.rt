@@ -1,0 +1,15 @@
+//! The engine of scripts in one thread, over the regions and the seats of one journal. Each step is
+//! its turn: a definition of what it leads to. In the end all seats are settled, which shows that
+//! nobody else acted.
+#![tactic(auto)]
+
+mod acts;
+mod engine;
+mod opening;
+mod operations;
+mod resolving;
+mod slots;
+
+pub use engine::Engine;
+pub use opening::engine_of;
+pub use slots::SessionSlot;

@@ -1,0 +1,89 @@
+//! Slots: each has a free seat or a live session.
+ghost use Rattle.std.specs.Prelude.{◌≡◌, ◌<◌, length, map, slice_get, slice_set, Some, IfNone, IfSome};
+ghost use Rattle.std.specs.BTreeMap.{get_by_text};
+ghost use Rattle.tx_journal.specs.Known.{Known};
+ghost use Rattle.tx_engine.specs.declared.slots.SessionSlot.TheVariants as session_slot;
+ghost use Rattle.tx_engine.specs.Semantics.{first_free as first_of};
+ghost use Rattle.tx_engine.specs.Slots.{slot_of, NamesNone};
+
+use std::collections::BTreeMap;
+use std::mem;
+use tx_client::Session;
+use tx_journal::{JournalId, Seat};
+
+/// What a slot has: a free seat, or a live session, or neither while one of them acts.
+#[derive(Drop)]
+pub enum SessionSlot<F, L> {
+    /// A seat, for the next session that begins here.
+    Free(F),
+    /// A session that has begun, and neither finished nor stopped.
+    Live(L),
+    /// What was here acts, and comes back before the step ends.
+    Lent,
+}
+
+/// Puts something in a slot, and gives what was there.
+pub(crate) fn swap_slot<T>(slots: &mut Vec<T>, k: usize, slot: T) -> T
+    requires { k < length slots.old.items }
+    ensures value { slice_get slots.old.items k ≡ Some result }
+    ensures after { slots.new.items ≡ slice_set slots.old.items k slot }
+{
+    mem::replace(&mut slots[k], slot)
+}
+
+/// The first slot that is free.
+pub(crate) fn first_free<J: JournalId>(slots: &[SessionSlot<Seat<J>, Session<J>>]) -> Option<usize>
+    ensures first { result ≡ first_of (map slot_of slots.now) }
+    ensures free { IfSome result (λ k. (s : Known) × (slice_get slots.now k ≡ Some (session_slot.Free s))) }
+{
+    let mut k = 0;
+    'session_slot: for slot in slots {
+        if let SessionSlot::Free(_) = slot {
+            return Some(k);
+        }
+        k += 1;
+    }
+    None
+}
+
+/// The slot of a name, where it has one.
+pub(crate) fn slot_at<J: JournalId>(
+    names: &BTreeMap<String, usize>,
+    slots: &[SessionSlot<Seat<J>, Session<J>>],
+    name: &str,
+) -> Option<usize>
+    ensures some { IfSome result (λ k. (get_by_text names.now name.now ≡ Some k) × (k < length slots.now)) }
+    ensures none { IfNone result (NamesNone J.bounds names.now slots.now name.now) }
+{
+    let Some(&k) = names.get(name) else {
+        return None;
+    };
+    if k >= slots.len() {
+        return None;
+    }
+    Some(k)
+}
+
+/// The live session of a name, where it is one, leaves its slot, which is lent until `swap_slot`
+/// gives it back.
+pub(crate) fn lend<J: JournalId>(
+    names: &BTreeMap<String, usize>,
+    slots: &mut Vec<SessionSlot<Seat<J>, Session<J>>>,
+    name: &str,
+) -> Option<(usize, Session<J>)>
+    ensures named { IfSome result (λ x. (get_by_text names.now name.now ≡ Some x.0)
+        × (slice_get slots.old.items x.0 ≡ Some (session_slot.Live x.1))) }
+    ensures lent { IfSome result (λ x. (x.0 < length slots.new.items)
+        × (slots.new.items ≡ slice_set slots.old.items x.0 session_slot.Lent)) }
+    ensures none { IfNone result ((slots.new.items ≡ slots.old.items)
+        × NamesNone J.bounds names.now slots.old.items name.now) }
+{
+    let k = slot_at(names, slots, name)?;
+    match swap_slot(slots, k, SessionSlot::Lent) {
+        SessionSlot::Live(session) => Some((k, session)),
+        other => {
+            swap_slot(slots, k, other);
+            None
+        }
+    }
+}

@@ -1,0 +1,84 @@
+//! What is seen of nested maps: the key is looked up, and what is held of it tells.
+use crate::NestedCells;
+use crate::view::empty_view;
+use std::alloc::Global;
+use tx_cells::{KeyVersions, Sees, sum};
+use tx_encoded::KeyBytes;
+use tx_plan::{
+    Answer, Dropped, Infos, ReadView, Scan, TxnView, first_below, infos_below, scan_walk,
+};
+use tx_types::{Fault, Items, Key, LockInfo, Ts};
+
+impl Sees for NestedCells {
+    fn view(&self, alloc: Global, key: &Key, start: Ts, commit: Ts) -> Result<TxnView, Fault> {
+        let spelt = KeyBytes::new(alloc, key)?;
+        match self.keys.get(&spelt) {
+            Some(on_key) => Ok(on_key.view(start, commit)),
+            None => Ok(empty_view(start, commit)),
+        }
+    }
+
+    fn read(&self, alloc: Global, key: &Key, at: Ts) -> Result<ReadView, Fault> {
+        let spelt = KeyBytes::new(alloc, key)?;
+        match self.keys.get(&spelt) {
+            Some(on_key) => on_key.read(alloc, at),
+            None => Ok(ReadView {
+                lock: None,
+                value: None,
+            }),
+        }
+    }
+
+    fn lock_info(&self, alloc: Global, key: &Key) -> Result<Option<LockInfo>, Fault> {
+        let spelt = KeyBytes::new(alloc, key)?;
+        match self.keys.get(&spelt) {
+            Some(on_key) => on_key.lock_info(alloc, key),
+            None => Ok(None),
+        }
+    }
+
+    fn scan(&self, alloc: Global, body: &Scan) -> Result<Answer, Fault> {
+        scan_walk(alloc, self.reads_from(alloc, &body.from)?, body)
+    }
+
+    fn locks_below(&self, alloc: Global, safe: Ts) -> Result<Infos, Fault> {
+        infos_below(alloc, self.locks(), safe)
+    }
+
+    fn first_below(&self, alloc: Global, safe: Ts) -> Result<Option<LockInfo>, Fault> {
+        first_below(alloc, self.locks(), safe)
+    }
+
+    fn count_below(&self, alloc: Global, safe: Ts) -> Result<Dropped, Fault> {
+        let _ = alloc;
+        let mut records = 0;
+        let mut values = 0;
+        let mut keys = self.keys.iter();
+        'keys: while let Some((_, on_key)) = keys.next() {
+            let gone = on_key.collection(safe);
+            records = sum(records, gone.records)?;
+            values = sum(values, gone.values)?;
+        }
+        Ok(Dropped { records, values })
+    }
+
+    fn cells(&self, alloc: Global, key: &Key) -> Result<KeyVersions, Fault> {
+        let spelt = KeyBytes::new(alloc, key)?;
+        match self.keys.get(&spelt) {
+            Some(on_key) => on_key.copy(alloc),
+            None => Ok(KeyVersions {
+                lock: None,
+                records: Items::new(alloc),
+                values: Items::new(alloc),
+            }),
+        }
+    }
+
+    fn number(&self, alloc: Global, key: &Key) -> Result<u64, Fault> {
+        let spelt = KeyBytes::new(alloc, key)?;
+        match self.keys.get(&spelt) {
+            Some(on_key) => Ok(on_key.number),
+            None => Ok(0),
+        }
+    }
+}

@@ -1,0 +1,14 @@
+use Rattle.tx_run.specs.declared.reply.LineReply.{LineReply}
+use Rattle.tx_run.specs.declared.reply.LineAnswer.TheVariants.{Plain}
+use Rattle.tx_run.proofs.Answering.{told_if, plain_apart}
+use Rattle.tx_run.proofs.Sourcing.{pairs_if}
+use Rattle.tx_run.proofs.log.RunLog.keep.Goals as goal
+
+pub invariant_of-self : goal.invariant_of-self
+invariant_of-self g c =
+    let xs = c.self.inside.replies.items in
+    let x : LineReply = record { number = c.args.number; answer = Plain c.args.answer } in (
+      told_if c.self.inside.told c.self.inside.seat xs c.add-kept.new.replies.items x c.add-kept.result c.add-kept.ensures c.self.invariant.0 tt
+          (plain_apart c.args.answer c.args.number xs),
+      pairs_if g.L.Source.text xs c.add-kept.new.replies.items x c.add-kept.result c.add-kept.ensures c.self.invariant.1 tt,
+    )

@@ -1,0 +1,14 @@
+use Rattle.std.proofs.Common.{sym, subst}
+use Rattle.tx_core.specs.Histories.{Begins}
+use Rattle.tx_run.specs.Logs.{Logged, TellsBy}
+use Rattle.tx_run.proofs.Answering.{tells_on}
+use Rattle.tx_run.proofs.log.RunLog.learn.Goals as goal
+
+pub invariant_of-self : goal.invariant_of-self
+invariant_of-self g c =
+    let events = c.args.seat.now.events in
+    let knows = subst (λ (l : Logged). Begins l.told events) (sym c.self.view_is) c.requires in (
+      subst (λ h. TellsBy h c.self.inside.seat c.self.inside.replies.items) (sym c.tell.ensures.told)
+          (tells_on g.J.JournalId.bounds c.self.inside.told events c.tell.ensures.run.0 knows c.self.inside.seat c.self.inside.replies.items c.self.invariant.0),
+      c.self.invariant.1,
+    )

@@ -1,0 +1,179 @@
+//! What the lines of one session were answered, with what its session had seen.
+ghost use Rattle.std.specs.Prelude.{◌≡◌, ◌∷◌, ◌++◌, All, [], if◌then◌else◌};
+ghost use Rattle.tx_core.specs.Histories.{Begins};
+ghost use Rattle.tx_run.specs.Logs.{CanTell, IsAnswered, TellsBy, TellsNone};
+ghost use Rattle.tx_transfer.specs.Sources.{HasPair};
+ghost use Rattle.tx_run.specs.Pairs.{TellsPair};
+ghost use Rattle.tx_transfer.specs.Transfers.{MovesSome};
+
+use crate::reply::{LineAnswer, LineReply};
+use std::marker::{Model, PhantomData};
+use std::mem::replace;
+use tx_client::Session;
+use tx_core::{Outcome, SeatNo};
+use tx_journal::{JournalId, Seat, Told};
+use tx_transfer::{PlainReply, Source};
+use tx_types::{Cause, Key, Ts};
+
+/// The answers of a session's lines. Each outcome among them was answered by the session's seat in
+/// what the log was told, no two are of one transaction, and each comes with the keys of the
+/// transfer that its line says.
+#[derive(Drop)]
+pub(crate) struct RunLog<J: JournalId, L: Source> {
+    seat: SeatNo,
+    told: Told<J>,
+    replies: Vec<LineReply>,
+    /// Whether an answer was lost, for want of memory.
+    lost: bool,
+    of: PhantomData<L>,
+}
+
+impl<J: JournalId, L: Source> Model for RunLog<J, L> {
+    ghost use Rattle.std.specs.Prelude.{All};
+    ghost use Rattle.tx_run.specs.Logs.{Logged, TellsBy};
+    ghost use Rattle.tx_run.specs.Pairs.{TellsPair};
+
+    ghost Value = { Logged };
+
+    ghost view = { λ l. record { seat = l.seat; told = l.told; replies = l.replies.items } };
+
+    ghost invariant = { λ l. TellsBy l.told l.seat l.replies.items × All (TellsPair L.text) l.replies.items };
+}
+
+// Adds an answer: whether there was room.
+fn add(replies: &mut Vec<LineReply>, reply: LineReply) -> bool
+    ensures { replies.new.items ≡ (if result then replies.old.items ++ reply ∷ [] else replies.old.items) }
+{
+    replies.push(reply).is_ok()
+}
+
+impl<J: JournalId, L: Source> RunLog<J, L> {
+    /// A log of this seat, in which nothing stands.
+    pub fn new(seat: &mut Seat<J>, replies: Vec<LineReply>) -> RunLog<J, L>
+        requires { replies.items ≡ [] }
+        ensures log { result.seat ≡ seat.old.seat }
+        ensures same { seat.new ≡ seat.old }
+    {
+        let number = seat.number();
+        let told = seat.tell();
+        RunLog {
+            seat: number,
+            told,
+            replies,
+            lost: false,
+            of: PhantomData,
+        }
+    }
+
+    /// Keeps an answer that says no outcome.
+    pub fn keep(&mut self, number: u64, answer: Result<PlainReply, Cause>)
+        ensures { (self.new.seat ≡ self.old.seat) × (self.new.told ≡ self.old.told) }
+    {
+        let answer = LineAnswer::Plain(answer);
+        let kept = add(&mut self.replies, LineReply { number, answer });
+        self.lost |= !kept;
+    }
+
+    // Knows what its session has seen since.
+    fn learn(&mut self, seat: &mut Seat<J>)
+        requires { Begins self.old.told seat.old.events }
+        ensures log { (self.new.seat ≡ self.old.seat) × (self.new.told ≡ seat.old.events)
+            × (self.new.replies ≡ self.old.replies) }
+        ensures same { seat.new ≡ seat.old }
+    {
+        self.told = seat.tell();
+    }
+
+    // Keeps an outcome.
+    fn keep_outcome(&mut self, number: u64, start: Ts, outcome: &Outcome, keys: Option<(Key, Key)>)
+        requires answered { IsAnswered self.old.told self.old.seat start outcome.now keys }
+        requires fresh { TellsNone start self.old.replies }
+        requires pair { HasPair L.text number keys }
+        ensures { self.new.seat ≡ self.old.seat }
+    {
+        let answer = LineAnswer::Ended(start, *outcome, keys);
+        let kept = add(&mut self.replies, LineReply { number, answer });
+        self.lost |= !kept;
+    }
+
+    // Keeps the outcome of a session that knew what the log was told, by its seat.
+    fn learn_outcome(
+        &mut self,
+        number: u64,
+        start: Ts,
+        outcome: Outcome,
+        keys: Option<(Key, Key)>,
+        seat: &mut Seat<J>,
+    )
+        requires tell { CanTell self.old start outcome keys seat.old }
+        requires pair { HasPair L.text number keys }
+        ensures { self.new.seat ≡ self.old.seat }
+    {
+        self.learn(seat);
+        self.keep_outcome(number, start, &outcome, keys);
+    }
+
+    /// Ends a transaction, and keeps its outcome: its seat is then free. Where it has no
+    /// outcome, the session comes back. `keys` are those that a transfer moves between. A
+    /// session of another seat than the log's is not told of: the log has no such session. `by`
+    /// is a seat of the journal.
+    pub fn finish(
+        &mut self,
+        by: &Seat<J>,
+        number: u64,
+        mut session: Session<J>,
+        keys: Option<(Key, Key)>,
+    ) -> Result<Seat<J>, Session<J>>
+        requires moves { MovesSome keys session.state }
+        requires pair { HasPair L.text number keys }
+        ensures { self.new.seat ≡ self.old.seat }
+    {
+        session.learn_told(by.copy(&mut self.told));
+        session.show();
+        let start = session.start();
+        match session.finish() {
+            Ok((outcome, mut seat)) => {
+                if seat.number() == self.seat {
+                    self.learn_outcome(number, start, outcome, keys, &mut seat);
+                } else {
+                    self.lost = true;
+                }
+                Ok(seat)
+            }
+            Err(session) => Err(session),
+        }
+    }
+
+    /// What the lines were answered, with what the log was told and whether an answer was lost; the
+    /// log is then empty. `by` is a seat of the journal.
+    pub fn take(&mut self, by: &Seat<J>, empty: Vec<LineReply>) -> RunLog<J, L>
+        requires { empty.items ≡ [] }
+        ensures same { (self.new.seat ≡ self.old.seat) × (self.new.told ≡ self.old.told) }
+        ensures log { result ≡ self.old }
+    {
+        let told = by.copy(&mut self.told);
+        RunLog {
+            seat: self.seat,
+            told,
+            replies: replace(&mut self.replies, empty),
+            lost: self.lost,
+            of: PhantomData,
+        }
+    }
+
+    /// What it was told, the answers, and whether one was lost.
+    pub fn into_parts(self) -> (Told<J>, Vec<LineReply>, bool)
+        ensures parts { (result.0 ≡ self.told) × (result.1.items ≡ self.replies) }
+        ensures tells { TellsBy self.told self.seat self.replies }
+        ensures pairs { All (TellsPair L.text) self.replies }
+    {
+        let RunLog {
+            seat: _,
+            told,
+            replies,
+            lost,
+            of: _,
+        } = self;
+        (told, replies, lost)
+    }
+}

@@ -1,0 +1,26 @@
+//! What comes of a session of a run.
+use crate::log::RunLog;
+use std::marker::Model;
+use tx_journal::JournalId;
+use tx_transfer::{Refusals, Source};
+
+/// What came of a session's lines. Contracts see its number and its log.
+#[derive(Drop)]
+pub(crate) struct JobOutput<J: JournalId, L: Source> {
+    pub number: u32,
+    pub log: RunLog<J, L>,
+    /// Whether a fault of the script ended it.
+    pub faulted: bool,
+    /// How many write records it collected.
+    pub collected: u64,
+    /// What stood in its way.
+    pub refusals: Refusals,
+}
+
+impl<J: JournalId, L: Source> Model for JobOutput<J, L> {
+    ghost use Rattle.tx_run.specs.Jobs.{Working};
+
+    ghost Value = { Working };
+
+    ghost view = { λ o. record { number = o.number; log = o.log } };
+}

@@ -1,0 +1,59 @@
+//! The seeds of a run, in the order of their lines.
+ghost use Rattle.std.specs.Prelude.{◌≡◌, All, None, OnOk};
+ghost use Rattle.tx_run.specs.Outcomes.{start_of};
+
+use crate::reply::{LineAnswer, LineReply};
+use crate::script::ScriptLine;
+use std::sync::Wait;
+use tx_cells::Families;
+use tx_journal::{JournalId, Seat};
+use tx_steps::{Line, Program, Step};
+use tx_text::{Broken, Parts};
+use tx_transfer::{Context, PlainReply, Source, reply_to, seed};
+
+// Makes a seed's line.
+fn play<J: JournalId, L: Source, F: Families + Drop, R: Wait + Drop>(
+    seat: Seat<J>,
+    context: &mut Context<J, F, R>,
+    script_line: &ScriptLine<L>,
+) -> (Seat<J>, PlainReply) {
+    let mut parts = Parts::new();
+    let read = Line::read(
+        context.alloc,
+        script_line.number,
+        script_line.text.as_slice(),
+        &mut parts,
+    );
+    if let Ok(Ok(line)) = read {
+        if let Some(Step::Seed(key, value)) = line.step(Program::Run) {
+            let (seat, result) = seed(seat, context, key, value);
+            return (seat, reply_to(result));
+        }
+    }
+    (seat, PlainReply::new(tx_reply::ScriptReply::OutOfMemory))
+}
+
+/// Makes the seeds in the order of their lines, and keeps their answers.
+pub(crate) fn play_seeds<J: JournalId, L: Source, F: Families + Drop, R: Wait + Drop>(
+    mut seat: Seat<J>,
+    context: &mut Context<J, F, R>,
+    seeds: &[ScriptLine<L>],
+    replies: &mut Vec<LineReply>,
+) -> Result<Seat<J>, Broken>
+    requires { All (λ s. start_of s.answer ≡ None) replies.old.items }
+    ensures { OnOk result (All (λ s. start_of s.answer ≡ None) replies.new.items) }
+{
+    for line in seeds {
+        let (next, plain) = play(seat, context, line);
+        seat = next;
+        let reply = LineReply {
+            number: line.number,
+            answer: LineAnswer::Plain(Ok(plain)),
+        };
+        if replies.push(reply).is_err() {
+            drop(seat);
+            return Err(Broken::Memory);
+        }
+    }
+    Ok(seat)
+}

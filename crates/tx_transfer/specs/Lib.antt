@@ -1,0 +1,4 @@
+pub mod Balances
+pub mod PlainReplies
+pub mod Sources
+pub mod Transfers

@@ -1,0 +1,410 @@
+//! A transfer: a transaction that reads the balances of two keys and moves an amount from the first
+//! to the second. Its reads are one step, which asks for no latch, and its writes another, which
+//! asks for those of both keys. A lock in its way is resolved in a step of its own.
+ghost use Rattle.std.specs.Prelude.{◌≡◌, ◌<◌, false, Some, IfErr, OnOk, OnErr};
+ghost use Rattle.tx_types.specs.declared.fault.Fault.TheVariants as fault;
+ghost use Rattle.tx_transaction.specs.Sessions.{begun, is_declared};
+ghost use Rattle.tx_transfer.specs.Sources.{HasPair};
+ghost use Rattle.tx_transfer.specs.Transfers.{HasEntered, Moves};
+ghost use Rattle.tx_transfer.specs.declared.balance.TheConstants.{BALANCES};
+
+use crate::balance::{after_transfer, balance_of, value_of};
+use crate::context::Context;
+use crate::order::Order;
+use crate::source::Source;
+use std::alloc::Global;
+use std::marker::Model;
+use std::sync::Wait;
+use tx_cells::Families;
+use tx_client::{Miss, Session, Terms};
+use tx_core::Answer;
+use tx_journal::JournalId;
+use tx_latch::{Slot, slot_of};
+use tx_types::{Fault, Key, LockInfo};
+
+/// How often one transfer resolves a lock, and how often it draws again.
+const TRIES: u32 = 16;
+
+/// How many requests a step makes at most.
+const REQUESTS: u32 = 16;
+
+/// How long its locks live, in ticks.
+pub(crate) const TTL: u32 = 64;
+
+// What it does next.
+#[derive(Clone, Copy, Debug, PartialEq, Eq)]
+enum TransferPhase {
+    ReadFrom,
+    ReadTo,
+    Prewrite,
+    Commit,
+    Abort,
+}
+
+// Which latches a request asks for: none, those of the two keys, or those of the lock that
+// stands in the way.
+#[derive(Clone, Copy, Debug, PartialEq, Eq)]
+enum TransferLatches {
+    Nothing,
+    Keys,
+    Met,
+}
+
+/// What comes of a request, and of a step.
+#[derive(Clone, Copy, Debug, PartialEq, Eq)]
+pub enum TransferProgress {
+    /// It goes on.
+    More,
+    /// It is over: the session is to be finished.
+    Over,
+    /// Its seat's ticks are spent.
+    Spent,
+    /// Memory was refused to the session.
+    OutOfMemory,
+}
+
+/// A transfer on its way: a session that writes its two keys. Contracts see the session.
+#[derive(Drop)]
+pub struct TransferState<J: JournalId, L: Source> {
+    session: Session<J>,
+    order: Order<L>,
+    phase: TransferPhase,
+    /// The balance of the first key, once it is read.
+    found: u64,
+    /// How often a lock was resolved.
+    resolved: u32,
+    /// How often the commit came too late.
+    late: u32,
+    /// The slots of the lock that is to be resolved next.
+    resolving: Option<Vec<Slot>>,
+    ghost small: { found < BALANCES },
+}
+
+impl<J: JournalId, L: Source> Model for TransferState<J, L> {
+    ghost use Rattle.tx_client.specs.Calls.{Seated};
+    ghost use Rattle.tx_transfer.specs.Transfers.{Moves};
+
+    ghost Value = { Seated };
+
+    ghost view = { λ m. m.session };
+
+    ghost invariant = { λ m. Moves m.order.from m.order.to m.session.state };
+}
+
+impl<J: JournalId, L: Source> TransferState<J, L> {
+    /// A transfer of which nothing is read yet, in a session that has just begun.
+    pub fn new(session: Session<J>, order: Order<L>) -> TransferState<J, L>
+        requires { session.state ≡ begun session.state.start }
+    {
+        TransferState {
+            session,
+            order,
+            phase: TransferPhase::ReadFrom,
+            found: 0,
+            resolved: 0,
+            late: 0,
+            resolving: None,
+        }
+    }
+
+    /// Its session, the number of its line, and the keys that it moves between.
+    pub fn into_parts(self) -> (Session<J>, u64, (Key, Key))
+        ensures moves { Moves result.2.0 result.2.1 result.0.state }
+        ensures pair { HasPair L.text result.1 (Some result.2) }
+    {
+        let TransferState {
+            session,
+            order,
+            phase: _,
+            found: _,
+            resolved: _,
+            late: _,
+            resolving: _,
+        } = self;
+        let (number, keys) = order.into_pair();
+        (session, number, keys)
+    }
+
+    /// Appends the latch slots of its next step's keys to `slots`.
+    pub fn slots(&self, slots: &mut Vec<Slot>) -> Result<(), Fault>
+        ensures { IfErr result (λ e. e ≡ fault.OutOfMemory) }
+    {
+        if let Some(met) = &self.resolving {
+            slots.extend_from_slice(met.as_slice())?;
+            return Ok(());
+        }
+        if self.latches() == TransferLatches::Keys {
+            slots.push(slot_of(&self.order.from))?;
+            slots.push(slot_of(&self.order.to))?;
+        }
+        Ok(())
+    }
+
+    // Which latches its next request asks for.
+    fn latches(&self) -> TransferLatches {
+        if self.resolving.is_some() {
+            return TransferLatches::Met;
+        }
+        match self.phase {
+            TransferPhase::ReadFrom | TransferPhase::ReadTo => TransferLatches::Nothing,
+            TransferPhase::Prewrite | TransferPhase::Commit | TransferPhase::Abort =>
+                TransferLatches::Keys,
+        }
+    }
+
+    // A lock stands in the way: it is to be resolved next, unless that was done often enough.
+    fn on_lock(
+        &mut self,
+        alloc: Global,
+        info: &LockInfo,
+        otherwise: TransferProgress,
+    ) -> TransferProgress {
+        if self.resolved >= TRIES {
+            return otherwise;
+        }
+        match slots_of(alloc, info) {
+            Ok(slots) => {
+                self.resolved += 1;
+                self.resolving = Some(slots);
+                TransferProgress::More
+            }
+            Err(_) => TransferProgress::OutOfMemory,
+        }
+    }
+}
+
+/// The slots of a lock, its primary and the keys that it lists.
+pub fn slots_of(alloc: Global, info: &LockInfo) -> Result<Vec<Slot>, Fault> {
+    let mut slots = Vec::new(alloc);
+    slots.push(slot_of(&info.facts().key))?;
+    slots.push(slot_of(&info.facts().primary))?;
+    for key in info.facts().secondaries.as_slice() {
+        slots.push(slot_of(key))?;
+    }
+    Ok(slots)
+}
+
+// Enters a balance of a key.
+fn enter<J: JournalId>(
+    session: &mut Session<J>,
+    alloc: Global,
+    key: &Key,
+    balance: u64,
+) -> Result<(), Fault>
+    requires declared { is_declared session.old.state ≡ false }
+    requires most { balance < BALANCES }
+    ensures entered { OnOk result (HasEntered session.old.state key.now session.new.state) }
+    ensures same { OnErr result (session.new ≡ session.old) }
+{
+    let value = value_of(alloc, balance)?;
+    session.put(key.clone()?, value)
+}
+
+// Enters both changes, and declares them.
+fn declare<J: JournalId, L: Source>(
+    session: &mut Session<J>,
+    alloc: Global,
+    order: &Order<L>,
+    left: (u64, u64),
+) -> Result<(), Fault>
+    requires declared { is_declared session.old.state ≡ false }
+    requires most { (left.0 < BALANCES) × (left.1 < BALANCES) }
+    requires moves { Moves order.now.from order.now.to session.old.state }
+    ensures moves { Moves order.now.from order.now.to session.new.state }
+{
+    let (from, to) = left;
+    enter(session, alloc, &order.from, from)?;
+    enter(session, alloc, &order.to, to)?;
+    session.declare(Terms {
+        mode: order.mode,
+        ttl: TTL,
+        max_commit: None,
+    })
+}
+
+impl<J: JournalId, L: Source> TransferState<J, L> {
+    // The balance of a key was read.
+    fn on_balance(&mut self, alloc: Global, balance: u64) -> TransferProgress
+        requires { balance < BALANCES }
+    {
+        if self.phase == TransferPhase::ReadFrom {
+            self.found = balance;
+            self.phase = TransferPhase::ReadTo;
+            return TransferProgress::More;
+        }
+        let Some(left) = after_transfer(self.found, balance, self.order.amount) else {
+            return TransferProgress::Over;
+        };
+        if self.session.is_declared() {
+            return TransferProgress::Over;
+        }
+        match declare(&mut self.session, alloc, &self.order, left) {
+            Ok(()) => {
+                self.phase = TransferPhase::Prewrite;
+                TransferProgress::More
+            }
+            Err(Fault::OracleSpent) => TransferProgress::Spent,
+            Err(_) => TransferProgress::OutOfMemory,
+        }
+    }
+
+    // Reads the balance that is read next.
+    fn read<F: Families + Drop, R: Wait + Drop>(
+        &mut self,
+        context: &mut Context<J, F, R>,
+    ) -> TransferProgress {
+        let answered = if self.phase == TransferPhase::ReadFrom {
+            context.get(&mut self.session, &self.order.from)
+        } else {
+            context.get(&mut self.session, &self.order.to)
+        };
+        match answered {
+            Ok(Answer::Found(value)) => {
+                self.on_balance(context.alloc, balance_of(value.as_bytes()))
+            }
+            Ok(Answer::Nothing) => self.on_balance(context.alloc, 0),
+            Ok(Answer::KeyIsLocked(info)) => self.on_lock(
+                context.alloc,
+                &info,
+                TransferProgress::Over,
+            ),
+            Ok(_) => TransferProgress::Over,
+            Err(_) => TransferProgress::OutOfMemory,
+        }
+    }
+
+    // It gives up, if it still may.
+    fn turn_to_abort(&mut self) -> TransferProgress {
+        self.phase = TransferPhase::Abort;
+        TransferProgress::More
+    }
+
+    // What comes of a prewrite.
+    fn on_prewrite(
+        &mut self,
+        alloc: Global,
+        answered: Result<Option<Answer>, Miss>,
+    ) -> TransferProgress {
+        match answered {
+            Ok(Some(Answer::Prewritten(_) | Answer::AlreadyCommitted { .. })) =>
+                TransferProgress::More,
+            Ok(Some(Answer::KeyIsLocked(info))) => {
+                if self.resolved >= TRIES {
+                    self.turn_to_abort()
+                } else {
+                    self.on_lock(alloc, &info, TransferProgress::More)
+                }
+            }
+            Ok(Some(Answer::BelowSafePoint { .. })) | Err(_) => TransferProgress::Over,
+            Ok(_) => self.turn_to_abort(),
+        }
+    }
+
+    // Locks the next key, until the commit is due.
+    fn prewrite<F: Families + Drop, R: Wait + Drop>(
+        &mut self,
+        context: &mut Context<J, F, R>,
+    ) -> TransferProgress {
+        if self.session.can_commit() || self.session.can_draw() {
+            self.phase = TransferPhase::Commit;
+            return self.commit(context);
+        }
+        if !self.session.is_declared() {
+            return TransferProgress::Over;
+        }
+        let answered = context.prewrite(&mut self.session);
+        self.on_prewrite(context.alloc, answered)
+    }
+
+    // What comes of a commit.
+    fn on_commit(
+        &mut self,
+        may_abort: bool,
+        answered: Result<Option<Answer>, Miss>,
+    ) -> TransferProgress {
+        match answered {
+            Ok(Some(Answer::Committed(_))) if self.session.has_commit() => TransferProgress::More,
+            Ok(Some(Answer::Committed(_) | Answer::BelowSafePoint { .. })) | Ok(None) | Err(_) =>
+                TransferProgress::Over,
+            Ok(Some(_)) => {
+                self.late = self.late.saturating_add(1);
+                if self.late > TRIES && may_abort {
+                    self.turn_to_abort()
+                } else {
+                    TransferProgress::More
+                }
+            }
+        }
+    }
+
+    // Commits the next key, at a timestamp that is drawn where none is.
+    fn commit<F: Families + Drop, R: Wait + Drop>(
+        &mut self,
+        context: &mut Context<J, F, R>,
+    ) -> TransferProgress {
+        if self.session.can_draw() && self.session.draw_commit().is_err() {
+            return TransferProgress::Spent;
+        }
+        if !self.session.can_commit() {
+            return self.turn_to_abort();
+        }
+        let answered = context.commit(&mut self.session);
+        let may_abort = self.session.can_abort();
+        self.on_commit(may_abort, answered)
+    }
+
+    // Takes it back, as far as that is open.
+    fn abort<F: Families + Drop, R: Wait + Drop>(
+        &mut self,
+        context: &mut Context<J, F, R>,
+    ) -> TransferProgress {
+        if self.session.can_abort() {
+            return match context.abort(&mut self.session) {
+                Ok(None) | Ok(Some(Answer::BelowSafePoint { .. })) | Err(_) =>
+                    TransferProgress::Over,
+                Ok(Some(_)) => TransferProgress::More,
+            };
+        }
+        if self.session.can_commit() || self.session.can_draw() {
+            self.phase = TransferPhase::Commit;
+            self.commit(context)
+        } else {
+            TransferProgress::Over
+        }
+    }
+
+    // Makes the next request.
+    fn request<F: Families + Drop, R: Wait + Drop>(
+        &mut self,
+        context: &mut Context<J, F, R>,
+    ) -> TransferProgress {
+        if self.resolving.is_some() {
+            self.resolving = None;
+            return match context.resolve(&mut self.session, None) {
+                Ok(_) => TransferProgress::More,
+                Err(_) => TransferProgress::OutOfMemory,
+            };
+        }
+        match self.phase {
+            TransferPhase::ReadFrom | TransferPhase::ReadTo => self.read(context),
+            TransferPhase::Prewrite => self.prewrite(context),
+            TransferPhase::Commit => self.commit(context),
+            TransferPhase::Abort => self.abort(context),
+        }
+    }
+
+    /// Makes the next step: the requests that ask for the same latches.
+    pub fn step<F: Families + Drop, R: Wait + Drop>(
+        &mut self,
+        context: &mut Context<J, F, R>,
+    ) -> TransferProgress {
+        let latches = self.latches();
+        for _ in 0..REQUESTS {
+            let progress = self.request(context);
+            if progress != TransferProgress::More || self.latches() != latches {
+                return progress;
+            }
+        }
+        TransferProgress::More
+    }
+}

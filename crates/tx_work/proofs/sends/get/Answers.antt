@@ -1,5 +1,0 @@
-use Rattle.tx_client.proofs.Keeping.{keeps_get}
-use Rattle.tx_work.proofs.sends.get.Goals as goal
-
-pub returns : goal.returns
-returns g c = keeps_get g.S.Sender.sends g.J.Naming.bounds c.args.session.now.seat c.get.new.self.seat c.args.sender.now c.get.new.sender c.args.session.now.state c.args.key.now (c.get.new.self.state, c.get.result) c.get.ensures
