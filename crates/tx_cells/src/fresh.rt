@@ -1,5 +1,5 @@
 //! Families of regions in which nothing happened.
-ghost use Rattle.std.specs.Prelude.{◌≡◌, All, IfOk, vec_len};
+ghost use Rattle.std.specs.Prelude.{◌≡◌, All, IfOk, IfErr, vec_len};
 ghost use Rattle.tx_cells.specs.Contents.{nothing_held};
 
 use crate::families::Families;
@@ -15,9 +15,10 @@ pub trait Fresh: Families + Drop {
 
 /// Makes the families of a region.
 pub trait Makes<F: Families> {
-    /// Families that hold nothing.
+    /// Families that hold nothing. `OutOfMemory` is its only refusal.
     fn make(&self, alloc: Global) -> Result<F, Fault>
-        ensures { IfOk result (λ f. F.content f ≡ (λ k. nothing_held)) };
+        ensures empty { IfOk result (λ f. F.content f ≡ (λ k. nothing_held)) }
+        ensures err { IfErr result (λ e. e ≡ Fault.OutOfMemory) };
 }
 
 /// Makes families of their own for each region.
@@ -30,7 +31,7 @@ impl<F: Fresh> Makes<F> for Plain {
     }
 }
 
-/// Families for so many regions.
+/// Families for so many regions. `OutOfMemory` is its only refusal.
 pub fn make_families<F: Families + Drop, M: Makes<F>>(
     alloc: Global,
     make: &M,
@@ -38,6 +39,7 @@ pub fn make_families<F: Families + Drop, M: Makes<F>>(
 ) -> Result<Vec<F>, Fault>
     ensures count { IfOk result (λ fs. vec_len fs ≡ count) }
     ensures empty { IfOk result (λ fs. All (λ f. F.content f ≡ (λ k. nothing_held)) fs.items) }
+    ensures err { IfErr result (λ e. e ≡ Fault.OutOfMemory) }
 {
     let mut families = Vec::with_capacity(alloc, count)?;
     for _i in 0..count {

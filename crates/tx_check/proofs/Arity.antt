@@ -7,7 +7,8 @@ use Rattle.tx_text.specs.Parts.{parts_items}
 use Rattle.tx_check.specs.MachineSteps.{change_of_items, row_of_items, step_of_items}
 
 -- a change has two or three members
-pub no_change : (members : List Value) → length members ≢ 2 → length members ≢ 3 → change_of_items (items_view members) ≡ None
+pub no_change : (members : List Value) → length members ≢ 2 → length members ≢ 3
+    → change_of_items (items_view members) ≡ None
 no_change [] a b = refl
 no_change (v ∷ []) a b = refl
 no_change (v ∷ w ∷ []) a b = absurd (a refl)
@@ -22,7 +23,8 @@ no_row (v ∷ w ∷ []) a = absurd (a refl)
 no_row (v ∷ w ∷ x ∷ more) a = refl
 
 -- a step has two, three, four or six
-pub no_step : (members : List Part) → length members ≢ 2 → length members ≢ 3 → length members ≢ 4 → length members ≢ 6 → step_of_items (parts_items members) ≡ None
+pub no_step : (members : List Part) → length members ≢ 2 → length members ≢ 3 → length members ≢ 4 → length members ≢ 6
+    → step_of_items (parts_items members) ≡ None
 no_step [] a b c d = refl
 no_step (v ∷ []) a b c d = refl
 no_step (v ∷ w ∷ []) a b c d = absurd (a refl)

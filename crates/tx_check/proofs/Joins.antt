@@ -10,10 +10,12 @@ module _ {x y : List ℕ} (old a b rest : List ℕ) (first : x ≡ old ++ a) (se
   pub join_two : y ++ rest ≡ old ++ (a ++ (b ++ rest))
   join_two = join_one x b rest second ∙ join_one old a (b ++ rest) first
 
-module _ {x y z : List ℕ} (old a b c rest : List ℕ) (first : x ≡ old ++ a) (second : y ≡ x ++ b) (third : z ≡ y ++ c) where
+module _ {x y z : List ℕ} (old a b c rest : List ℕ) (first : x ≡ old ++ a) (second : y ≡ x ++ b) (third : z ≡ y
+    ++ c) where
   pub join_three : z ++ rest ≡ old ++ (a ++ (b ++ (c ++ rest)))
   join_three = join_one y c rest third ∙ join_two old a b (c ++ rest) first second
 
-module _ {w x y z : List ℕ} (old a b c d rest : List ℕ) (first : x ≡ old ++ a) (second : y ≡ x ++ b) (third : z ≡ y ++ c) (fourth : w ≡ z ++ d) where
+module _ {w x y z : List ℕ} (old a b c d rest : List ℕ) (first : x ≡ old ++ a) (second : y ≡ x ++ b) (third : z ≡ y
+    ++ c) (fourth : w ≡ z ++ d) where
   pub join_four : w ++ rest ≡ old ++ (a ++ (b ++ (c ++ (d ++ rest))))
   join_four = join_one z d rest fourth ∙ join_three old a b c (d ++ rest) first second third

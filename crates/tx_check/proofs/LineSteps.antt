@@ -18,7 +18,8 @@ module _ (number : ℕ) (line : List ℕ) (short : length line ≤ max_line) (ea
   pub no_json : json_of line ≡ None → Err Json ≡ step_in number line
   no_json none = rw (line_is, none) refl
 
-  pub as_said : (d : Data) (found : Result Step Cause) → json_of line ≡ Some d → found ≡ step_of_form (step_of d) → found ≡ step_in number line
+  pub as_said : (d : Data) (found : Result Step Cause) → json_of line ≡ Some d → found ≡ step_of_form (step_of d)
+      → found ≡ step_in number line
   as_said d found is says = rw (line_is, is) says
 
 pub too_long : (number : ℕ) (line : List ℕ) → max_line < length line → step_in number line ≡ Err Long

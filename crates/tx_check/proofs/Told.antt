@@ -23,7 +23,8 @@ use Rattle.tx_check.specs.Words.{words}
 
 module _ (lines : List (List ℕ)) (number : ℕ) (machine : Machine) (step : Step) where
   -- a reason at the machine is one at the line
-  pub told : (why : Why) → IsWhy machine step (Some why) → StandsAt lines number machine step → IsReason lines number why
+  pub told : (why : Why) → IsWhy machine step (Some why) → StandsAt lines number machine step
+      → IsReason lines number why
   told why is at = (at.0, at.1, step, at.2, at.3, is (table_of (reverse at.1)) at.4)
 
   -- there is one
@@ -31,8 +32,10 @@ module _ (lines : List (List ℕ)) (number : ℕ) (machine : Machine) (step : St
   never_none made at = at.5 (made (table_of (reverse at.1)) at.4)
 
   -- the line of a no, and the line of a reason
-  pub explained_no : (stop : Halt) (first text : List ℕ) → stop ≡ Refused number machine step → first ≡ line_text (words (verdict_of stop))
-      → (StandsAt lines number machine step → (why : Why) × IsReason lines number why × (text ≡ first ++ reason_text number why))
+  pub explained_no : (stop : Halt) (first text : List ℕ) → stop ≡ Refused number machine step
+      → first ≡ line_text (words (verdict_of stop))
+      → (StandsAt lines number machine step
+      → (why : Why) × IsReason lines number why × (text ≡ first ++ reason_text number why))
       → Stops lines stop → Explained lines (verdict_of stop) text
   explained_no stop first text is line made =
       let no : first ≡ line_text (words (No number)) = line ∙ ap (λ s. line_text (words (verdict_of s))) is in
@@ -41,18 +44,24 @@ module _ (lines : List (List ℕ)) (number : ℕ) (machine : Machine) (step : St
 
 -- ---- what is known of the same bytes
 
-pub if_both : {X : Type 0} {P Q R : X → Type 0} (o : Option X) → ((x : X) → P x → Q x → R x) → IfSome o P → IfSome o Q → IfSome o R
+pub if_both : {X : Type 0} {P Q R : X → Type 0} (o : Option X) → ((x : X) → P x → Q x → R x) → IfSome o P → IfSome o Q
+    → IfSome o R
 if_both None f p q = tt
 if_both (Some x) f p q = f x p q
 
 -- ---- how a check with its reason ends
 
-module _ (input : List ℕ) (stop : Halt) {text : List ℕ} (bytes : List ℕ) (same : bytes ≡ text) (verdict : IsVerdict (lines_of input) (verdict_of stop)) (explained : Explained (lines_of input) (verdict_of stop) text) where
-  pub ends_so : (old new : Option (List ℕ)) (end : End) → end ≡ end_of (verdict_of stop) → Appends old new bytes → EndsWithReason input old new end
+module _ (input : List ℕ) (stop : Halt) {text : List ℕ} (bytes : List ℕ) (same : bytes
+    ≡ text) (verdict : IsVerdict (lines_of input) (verdict_of stop)) (explained :
+    Explained (lines_of input) (verdict_of stop) text) where
+  pub ends_so : (old new : Option (List ℕ)) (end : End) → end ≡ end_of (verdict_of stop) → Appends old new bytes
+      → EndsWithReason input old new end
   ends_so old new end is all = (verdict_of stop, text, verdict, explained, subst (Appends old new) same all, is)
 
-  pub breaks_so : (old new : Option (List ℕ)) (broken : Broken) → broken ≡ Output → AppendsPart old new bytes → BreaksWithReason input old new broken
-  breaks_so old new broken is part = inr (is, verdict_of stop, text, verdict, explained, subst (AppendsPart old new) same part)
+  pub breaks_so : (old new : Option (List ℕ)) (broken : Broken) → broken ≡ Output → AppendsPart old new bytes
+      → BreaksWithReason input old new broken
+  breaks_so old new broken is part =
+      inr (is, verdict_of stop, text, verdict, explained, subst (AppendsPart old new) same part)
 
 -- ---- a text that is written whole, and handed on
 
@@ -71,4 +80,5 @@ whole_kept (Some x) (Some y) None bs p k = absurd k
 whole_kept (Some x) (Some y) (Some z) bs p k = k ∙ p
 
 pub whole_part : (a b c : Option (List ℕ)) (bs : List ℕ) → Appends a b bs → Keeps b c → AppendsPart a c bs
-whole_part a b c bs p k = (length bs, subst (Appends a c) (sym (take_all (length bs) bs (omega arith))) (whole_kept a b c bs p k))
+whole_part a b c bs p k =
+    (length bs, subst (Appends a c) (sym (take_all (length bs) bs (omega arith))) (whole_kept a b c bs p k))

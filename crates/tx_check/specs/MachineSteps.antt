@@ -3,7 +3,8 @@
 use Rattle.std.specs.Prelude.{ℕ, ◌&&◌, List, [], ◌∷◌, length, nat_le, Option, Some, None, option_map, option_and_then, is_some, if◌then◌else◌, bytes_eq, codes}
 use Rattle.serde_json.specs.Data.{Data, Items, no_items, item}
 use Rattle.serde_json.specs.Find.{as_array, as_null, as_str, as_number, as_u64}
-use Rattle.tx_types.specs.declared.limits.TheConstants.{MAX_KEY_BYTES, MAX_SCAN_ROWS, MAX_VALUE_BYTES, MIN_KEY_BYTES}
+use Rattle.tx_types.specs.declared.limits.TheConstants.{MAX_SCAN_ROWS, MAX_VALUE_BYTES}
+use Rattle.tx_types.specs.Lengths.{is_key}
 use Rattle.tx_types.specs.declared.key.Key.{Key}
 use Rattle.tx_types.specs.declared.value.Value.{Value}
 use Rattle.tx_types.specs.declared.mutation.Mutation.{Mutation}
@@ -22,8 +23,7 @@ number_of d = option_and_then as_u64 (as_number d)
 
 -- a string of 1 to 512 bytes
 abbrev pub key_of : Data → Option Key
-key_of d = option_and_then (λ text. if nat_le MIN_KEY_BYTES (length text) && nat_le (length text) MAX_KEY_BYTES
-    then Some text else None) (as_str d)
+key_of d = option_and_then (λ text. if is_key text then Some text else None) (as_str d)
 
 -- a string of at most 65,536 bytes
 abbrev pub value_of : Data → Option Value

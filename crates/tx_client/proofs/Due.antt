@@ -21,6 +21,7 @@ use Rattle.tx_transaction.specs.declared.state.Phase.TheVariants as phase
 use Rattle.tx_transaction.specs.declared.state.Due.{Due}
 use Rattle.tx_transaction.specs.Buffers.{Entries, not_empty, first_index}
 use Rattle.tx_transaction.specs.Sessions.{SessionState, has_primary, declaration_of, prewrite_of, prewrite_at, due_prewrite, commit_of, commit_at, commit_drawn, commit_by, commit_if, due_commit, rollback_of, rollback_at, check_of, check_at, abort_of, abort_open, abort_by, due_abort, heartbeat_of, outcome_of}
+use Rattle.tx_transaction.specs.Next.{due as next_of}
 use Rattle.tx_client.specs.Facts.{standing, IsSession, IsFor}
 use Rattle.tx_transaction.proofs.Places.{some_entries}
 use Rattle.tx_transaction.proofs.Entries.{first_within, mutation_there, first_there, others_listed}
@@ -90,7 +91,7 @@ module _ (bounds : List Key) (h : History) (run : IsWorldRun bounds h) (i : ℕ)
       }
 
   -- the prewrite that is due is allowed
-  pub prewrite_allowed : (due : Due) → due_prewrite s ≡ Some due → Is phase.Prewrite due
+  prewrite_allowed : (due : Due) → due_prewrite s ≡ Some due → Is phase.Prewrite due
   prewrite_allowed due e = go s.declared (first_index phase.Prewrite s.buffer) refl refl e
     where
       go : (o : Option Terms) (index : Option ℕ) → s.declared ≡ o → first_index phase.Prewrite s.buffer ≡ index → prewrite_at s o index ≡ Some due → Is phase.Prewrite due
@@ -114,7 +115,7 @@ module _ (bounds : List Key) (h : History) (run : IsWorldRun bounds h) (i : ℕ)
       record { of = declaration_of s.start s.placed s.buffer r.0; stands = r.2; may = inr (record { primary = first_there s.buffer r.3; accepted = y.all; two_phase = y.two_phase; drawn = y.drew }) }
 
   -- the commit that is due is allowed
-  pub commit_allowed : (due : Due) → due_commit s ≡ Some due → Is phase.Commit due
+  commit_allowed : (due : Due) → due_commit s ≡ Some due → Is phase.Commit due
   commit_allowed due e = by_primary (has_primary s) e
     where
       this : (c n : ℕ) → Allowed h (commit_of s c n).body → commit_of s c n ≡ due → Is phase.Commit due
@@ -153,7 +154,7 @@ module _ (bounds : List Key) (h : History) (run : IsWorldRun bounds h) (i : ℕ)
       record { of = declaration_of s.start s.placed s.buffer terms; stands = declared_so terms was (omega (arith, lt)); async = mode; within = λ none. cc (there, none) }
 
   -- the request of an abort that is due is allowed
-  pub abort_allowed : (due : Due) → due_abort s ≡ Some due → Is phase.Abort due
+  abort_allowed : (due : Due) → due_abort s ≡ Some due → Is phase.Abort due
   abort_allowed due e = by_decision s.decision refl e
     where
       roll : (n : ℕ) → Allowed h (rollback_of s n).body → rollback_of s n ≡ due → Is phase.Abort due
@@ -183,6 +184,14 @@ module _ (bounds : List Key) (h : History) (run : IsWorldRun bounds h) (i : ℕ)
       by_decision None was e = by_terms s.declared (not_empty s.buffer) refl refl e
       by_decision (Some (fate.Committed c)) was e = absurd (cc (e))
       by_decision (Some fate.Aborted) was e = by_place (first_index phase.Abort s.buffer) was e
+
+  -- ---- by phase
+
+  -- the request of a phase that is due is allowed, and is for its phase
+  pub next_allowed : (x : Phase) (due : Due) → next_of s x ≡ Some due → Is x due
+  next_allowed phase.Prewrite due e = prewrite_allowed due e
+  next_allowed phase.Commit due e = commit_allowed due e
+  next_allowed phase.Abort due e = abort_allowed due e
 
   -- ---- heartbeats
 

@@ -9,6 +9,7 @@ ghost use Rattle.tx_journal.specs.Known.{HasDrawn};
 ghost use Rattle.tx_transaction.specs.declared.state.Phase.TheVariants as phase;
 ghost use Rattle.tx_transaction.specs.Buffers.{touched, put_over, inserted, locked, buffered, not_empty, is_full, is_known};
 ghost use Rattle.tx_transaction.specs.Sessions.{begun, is_declared, has_primary, declaration, declaration_of, exceeds, lock_met, due_prewrite, due_commit, due_abort, can_draw, can_commit, can_abort};
+ghost use Rattle.tx_transaction.specs.Next.{due};
 ghost use Rattle.tx_journal.specs.Senders.{IsHeld, IsWay};
 ghost use Rattle.tx_client.specs.Walks.{Sends, due_walk, heartbeat_walk};
 ghost use Rattle.tx_client.specs.Facts.{RespondsSo, IsFor};
@@ -375,6 +376,25 @@ impl<J: JournalId> Session<J> {
         self.transaction.after(phase, index, response, lock)
     }
 
+    // Sends the request of a phase that is due, where one is.
+    fn send_next<S: Sender<Request<J>, Reply<J>>>(
+        &mut self,
+        alloc: Global,
+        phase: Phase,
+        sender: &mut S,
+    ) -> Result<Option<Answer>, Miss>
+        requires way { IsWay J.bounds S.fits S.sends S.keys_between }
+        ensures { Sends S.sends J.bounds self.old.seat sender.old
+            (due_walk self.old.state phase (due self.old.state phase)) (self.new.state, result)
+            sender.new self.new.seat }
+    {
+        match self.transaction.next(alloc, phase) {
+            Err(_) => Err(Miss::Fault),
+            Ok(None) => Ok(None),
+            Ok(Some(due)) => self.pursue(phase, due, sender),
+        }
+    }
+
     /// Sends the prewrite that is due: of the first key in buffer order that has no accepted lock.
     /// None where there is none. Memory that is refused to the session itself sends nothing, and
     /// leaves all as it was.
@@ -391,11 +411,7 @@ impl<J: JournalId> Session<J> {
               result,
             ) sender.new self.new.seat }
     {
-        match self.transaction.due_prewrite(alloc) {
-            Err(_) => Err(Miss::Fault),
-            Ok(None) => Ok(None),
-            Ok(Some(due)) => self.pursue(Phase::Prewrite, due, sender),
-        }
+        self.send_next(alloc, Phase::Prewrite, sender)
     }
 
     /// Draws the commit timestamp. `OracleSpent` where the seat's ticks are spent; the session
@@ -427,11 +443,8 @@ impl<J: JournalId> Session<J> {
               result,
             ) sender.new self.new.seat }
     {
-        match self.transaction.due_commit() {
-            Err(_) => Err(Miss::Fault),
-            Ok(None) => Ok(None),
-            Ok(Some(due)) => self.pursue(Phase::Commit, due, sender),
-        }
+        let alloc = self.transaction.allocator();
+        self.send_next(alloc, Phase::Commit, sender)
     }
 
     /// Sends the request of an abort that is due: what may decide, and once the transaction is
@@ -449,11 +462,8 @@ impl<J: JournalId> Session<J> {
               result,
             ) sender.new self.new.seat }
     {
-        match self.transaction.due_abort() {
-            Err(_) => Err(Miss::Fault),
-            Ok(None) => Ok(None),
-            Ok(Some(due)) => self.pursue(Phase::Abort, due, sender),
-        }
+        let alloc = self.transaction.allocator();
+        self.send_next(alloc, Phase::Abort, sender)
     }
 
     /// Asks that the primary's lock live so long after the start, in ticks. It changes nothing of

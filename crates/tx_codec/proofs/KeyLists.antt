@@ -6,7 +6,7 @@ use Rattle.std.proofs.lemmas.List.{append-nil, length-append, nil_from_length}
 use Rattle.tx_types.specs.declared.key.Key.{Key}
 use Rattle.tx_codec.specs.declared.reading.Unread.{Unread}
 use Rattle.tx_codec.specs.declared.reading.Unread.TheVariants.{Malformed, OutOfMemory}
-use Rattle.tx_codec.specs.Keys.{IsKey}
+use Rattle.tx_types.specs.Lengths.{IsKey}
 use Rattle.tx_codec.specs.Records.{AreOthers, key_bytes, keys_bytes}
 use Rattle.tx_codec.specs.Readers.{Fails, Takes}
 

@@ -12,7 +12,7 @@ use Rattle.tx_types.specs.declared.mutation.StoredMutation.{StoredMutation}
 use Rattle.tx_types.specs.declared.lock.LockMode.{LockMode}
 use Rattle.tx_types.specs.declared.lock.LockRec.{LockRec}
 use Rattle.tx_codec.specs.declared.reading.Unread.{Unread}
-use Rattle.tx_codec.specs.Keys.{IsKey}
+use Rattle.tx_types.specs.Lengths.{IsKey}
 use Rattle.tx_codec.specs.Records.{IsStorable, IsMode, IsLock, kind_byte, mode_byte, key_bytes, others_bytes, value_bytes, lock_bytes}
 use Rattle.tx_codec.specs.Readers.{Fails, Takes}
 use Rattle.tx_codec.proofs.Parts.{Agrees, Agrees-start, Agrees-then, Agrees-fails, Agrees-done}

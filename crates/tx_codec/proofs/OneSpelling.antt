@@ -20,7 +20,7 @@ use Rattle.tx_types.specs.declared.lock.LockRec.{LockRec}
 use Rattle.tx_types.specs.declared.write.CommitRec.{CommitRec}
 use Rattle.tx_types.specs.declared.write.WriteRec.{WriteRec}
 use Rattle.tx_types.specs.declared.write.WriteRec.TheVariants.{Commit, Rollback}
-use Rattle.tx_codec.specs.Keys.{IsKey}
+use Rattle.tx_types.specs.Lengths.{IsKey}
 use Rattle.tx_codec.specs.Records.{IsMode, IsLock, IsCommit, IsWrite, kind_byte, mode_byte, mark_byte, key_bytes, others_bytes, value_bytes, lock_bytes, commit_bytes, write_bytes}
 use Rattle.tx_codec.proofs.Lists.{same_fronts}
 use Rattle.tx_codec.proofs.Words.{again_2, again_4, again_8}

@@ -1,13 +1,9 @@
 -- The bytes that stand for a key, and for a key at a timestamp.
-use Rattle.std.specs.Prelude.{◌≡◌, ℕ, ◌-◌, ◌^◌, ◌<◌, ◌≤◌, List, [], ◌∷◌, ◌++◌, length, replicate}
+use Rattle.std.specs.Prelude.{◌≡◌, ℕ, ◌-◌, ◌^◌, ◌<◌, List, [], ◌∷◌, ◌++◌, length, replicate}
 use Rattle.std.specs.Ordering.{nat_cmp, ordering_then}
 use Rattle.std.specs.Cmp.Lexicographic.{slice_cmp}
 use Rattle.std.specs.Int.{w64, to_be_bytes}
-use Rattle.tx_types.specs.declared.limits.TheConstants.{MIN_KEY_BYTES, MAX_KEY_BYTES}
-
--- what has the length of a key
-abbrev pub IsKey : List ℕ → Type 0
-IsKey key = (MIN_KEY_BYTES ≤ length key) × (length key ≤ MAX_KEY_BYTES)
+pub use Rattle.tx_types.specs.Lengths.{IsKey}
 
 -- the last group of a key, of fewer than 8 bytes: they, zeros up to 8 bytes, and 255 minus the
 -- number of the zeros

@@ -19,7 +19,7 @@ use Rattle.tx_types.specs.declared.lock.LockRec.{LockRec}
 use Rattle.tx_types.specs.declared.write.CommitRec.{CommitRec}
 use Rattle.tx_types.specs.declared.write.WriteRec.{WriteRec}
 use Rattle.tx_types.specs.declared.write.WriteRec.TheVariants.{Commit, Rollback}
-use Rattle.tx_codec.specs.Keys.{IsKey}
+use Rattle.tx_types.specs.Lengths.{IsKey}
 
 -- the byte of a mutation's kind
 abbrev pub kind_byte : LockKind → ℕ

@@ -1,7 +1,8 @@
 //! Keys and versions as bytes.
 ghost use Rattle.std.specs.Prelude.{◌≡◌, ◌≢◌, ◌++◌, ◌∷◌, [], ◌-◌, ◌^◌, ◌<◌, ◌≤◌, List, ℕ, length, take, replicate, IfOk, IfErr, IfSome, OnOk, MatchOption};
 ghost use Rattle.tx_codec.specs.declared.key.TheConstants.{GROUP};
-ghost use Rattle.tx_codec.specs.Keys.{IsKey, encoded_key, encoded_version, last_group};
+ghost use Rattle.tx_types.specs.Lengths.{IsKey};
+ghost use Rattle.tx_codec.specs.Keys.{encoded_key, encoded_version, last_group};
 
 use byteorder::{BigEndian, ByteOrder};
 use std::alloc::{AllocError, Global};

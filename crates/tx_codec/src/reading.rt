@@ -3,9 +3,9 @@
 ghost use Rattle.std.specs.Prelude.{◌≡◌, ◌^◌, ◌<◌, ◌∷◌, [], ⊤};
 ghost use Rattle.std.specs.Int.{w16, w32, w64, to_be_bytes};
 ghost use Rattle.tx_types.specs.Kinds.{stored_kind};
+ghost use Rattle.tx_types.specs.Lengths.{IsKey};
 ghost use Rattle.tx_types.specs.Locks.{mode_of};
 ghost use Rattle.tx_codec.specs.declared.reading.Unread.TheVariants.{OutOfMemory};
-ghost use Rattle.tx_codec.specs.Keys.{IsKey};
 ghost use Rattle.tx_codec.specs.Records.{IsStorable, AreOthers, IsMode, kind_byte, mode_byte, mark_byte, key_bytes, keys_bytes, others_bytes, value_bytes};
 ghost use Rattle.tx_codec.specs.Readers.{Reads};
 

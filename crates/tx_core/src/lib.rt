@@ -18,10 +18,10 @@ pub use laws::{
     told_lock,
 };
 pub use tx_plan::{
-    Answer, BatchRollback, Body, BoxedPrewrite, BoxedScan, CheckSecondaryLocks, CheckTxnStatus,
-    Collect, Commit, Get, Infos, LocksBelow, Prewrite, RaiseSafe, RegionNo, ResolveLock, Scan,
-    Starts, Target, TxnHeartBeat, plan_batch_rollback, plan_check_secondary_locks,
-    plan_check_txn_status, plan_commit, plan_get, plan_prewrite, plan_raise_safe,
-    plan_resolve_lock, plan_scan, plan_txn_heart_beat,
+    Answer, BatchRollback, Body, Boxed, CheckSecondaryLocks, CheckTxnStatus, Collect, Commit, Get,
+    Infos, LocksBelow, Prewrite, RaiseSafe, RegionNo, ResolveLock, Scan, Starts, Target,
+    TxnHeartBeat, plan_batch_rollback, plan_check_secondary_locks, plan_check_txn_status,
+    plan_commit, plan_get, plan_prewrite, plan_raise_safe, plan_resolve_lock, plan_scan,
+    plan_txn_heart_beat,
 };
 pub use tx_types::SeatNo;

@@ -1,6 +1,2 @@
--- Keys that are spelt by their first group, its marker, and the groups behind it.
-mod FirstGroups
--- The order of bytes, eight at a time.
-mod ByteOrder
 -- What stands at the end of a lock, and the commit record that it becomes.
 mod LockEnds

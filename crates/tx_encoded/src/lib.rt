@@ -1,19 +1,14 @@
-//! Keys, versions, locks and write records that are kept as their encoded bytes; what requests,
-//! reads and collection ask of a record, read from its bytes; and the records that changes leave.
-//! Contracts see keys and records.
+//! Locks and write records that are kept as their encoded bytes; what requests, reads and
+//! collection ask of a record, read from its bytes; and the records that changes leave. Contracts
+//! see records.
 #![tactic(auto)]
 
-mod byte_order;
 mod derived;
 mod heads;
 mod putting;
 mod records;
-mod spelling;
-mod version;
 
 pub use derived::{commit_record, lock_with_min, lock_with_ttl, marked_record, rollback_record};
 pub use heads::{head_of, kind_of, lock_head_of, seen_in};
 pub use putting::{apart, lock_bytes};
 pub use records::{LockBytes, WriteBytes};
-pub use spelling::{KeyBytes, MAX_ENCODED_REST, ROOM};
-pub use version::VersionBytes;

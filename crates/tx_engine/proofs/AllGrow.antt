@@ -4,7 +4,6 @@ use Rattle.tx_types.specs.declared.fault.Cause.{Cause}
 use Rattle.tx_types.specs.declared.fault.Cause.TheVariants as cause
 use Rattle.tx_types.specs.declared.key.Key.{Key}
 use Rattle.tx_types.specs.declared.lock.LockInfo.{LockInfo}
-use Rattle.tx_types.specs.declared.mutation.Mutation.TheVariants as mutation
 use Rattle.tx_plan.specs.declared.body.Body.{Body}
 use Rattle.tx_plan.specs.declared.body.Body.TheVariants as request
 use Rattle.tx_plan.specs.declared.answer.Answer.{Answer}
@@ -15,7 +14,6 @@ use Rattle.tx_core.specs.Histories.{History, last, Begins}
 use Rattle.tx_core.proofs.seats.Beginnings.{begins_all, begins_more}
 use Rattle.tx_transaction.specs.declared.state.Response.{Response}
 use Rattle.tx_transaction.specs.declared.state.Response.TheVariants as response
-use Rattle.tx_transaction.specs.Buffers.{Entries, touched, put_over, inserted, buffered, locked, is_full}
 use Rattle.tx_transaction.specs.Sessions.{SessionState, is_declared, has_primary, exceeds, declaration, can_draw, can_commit, can_abort, finish_of, notes_one}
 use Rattle.tx_transaction.specs.declared.state.Terms.{Terms}
 use Rattle.tx_client.specs.Walks.{Walk, asks, grows, ends, get_walk, scan_walk, heartbeat_walk}
@@ -35,7 +33,10 @@ use Rattle.tx_steps.specs.declared.op.Op.{Op}
 use Rattle.tx_steps.specs.declared.op.Op.TheVariants as op
 use Rattle.tx_steps.specs.declared.step.Step.{Step}
 use Rattle.tx_steps.specs.declared.step.Step.TheVariants as step
-use Rattle.tx_engine.specs.Semantics.{EngineState, Transition, goes, inquires, shows, stops, is_refused, later_of, calls, is_key, is_value, at_network, at_history, with_session, began, declared_in, placed_in, placed, seat_at, read_by, said_by, answers, asked, sent, runs, runs_to, first_free, live_at, changes, enters, inserts_by, is_too_many, edits, sends, delivered_by, delivers, finishes_by, begins_at, in_session, turn, learns, resolves_by, collected_as, sends_by}
+use Rattle.tx_types.specs.Lengths.{is_key}
+use Rattle.tx_edits.specs.Edits.{Edit, is_refused, later_of, puts, inserts, deletes, locks}
+use Rattle.tx_edits.specs.Edits as edit
+use Rattle.tx_engine.specs.Semantics.{EngineState, Transition, goes, inquires, shows, stops, calls, at_network, began, declared_in, placed_in, placed, seat_at, read_by, said_by, answers, asked, sent, runs, runs_to, first_free, live_at, is_too_many, edited, edits, sends, delivered_by, delivers, finishes_by, begins_at, in_session, turn, learns, resolves_by, collected_as, sends_by}
 use Rattle.tx_engine.specs.Plays.{Leads}
 
 -- Whatever a turn leads to, and wherever it asks a region, h has happened there; it stops at most
@@ -132,21 +133,10 @@ module _ (bounds : List Key) where
         → AllGrow h h (calls refused engine more)
     calls_grow refused more grow = either h h (is_refused refused) _ _ (begins_all h) (grow (later_of refused))
 
-    enters_grow : (refused : List Bool) (k : ℕ) (s : SessionState) (buffer : Entries)
-        → AllGrow h h (enters refused engine k s buffer)
-    enters_grow refused k s buffer = calls_grow refused
-        (λ left. goes (with_session engine k (record s { buffer = buffer })) reply.Fine left) (λ left. begins_all h)
-
-    inserts_grow : (refused : List Bool) (k : ℕ) (s : SessionState) (o : Option Entries)
-        → AllGrow h h (inserts_by refused engine k s o)
-    inserts_grow refused k s None = begins_all h
-    inserts_grow refused k s (Some buffer) = enters_grow refused k s buffer
-
-    change_grows : (refused : List Bool) (k : ℕ) (s : SessionState) (key : List ℕ) (fits : Bool) (more : Transition)
-        → AllGrow h h more → AllGrow h h (changes refused engine k s key fits more)
-    change_grows refused k s key fits more grow =
-        either h h (is_declared s) _ _ (begins_all h) (either h h (not (is_key key)) _ _ (begins_all h)
-        (either h h (not fits) _ _ (begins_all h) (either h h (is_full s.buffer key) _ _ (begins_all h) grow)))
+    edited_grows : (k : ℕ) (s : SessionState) (e : Edit) → AllGrow h h (edited engine k s e)
+    edited_grows k s (edit.stops cause) = begins_all h
+    edited_grows k s (edit.says said left) = begins_all h
+    edited_grows k s (edit.enters buffer left) = begins_all h
 
     declared_grows : (seat : ℕ) (o : Option Declaration) → Begins h (declared_in seat h o)
     declared_grows seat None = begins_all h
@@ -154,14 +144,10 @@ module _ (bounds : List Key) where
 
     edit_grows : (refused : List Bool) (k : ℕ) (s : SessionState) (what : Op Text)
         → AllGrow h h (edits refused engine k s bounds what)
-    edit_grows refused k s (op.Put key value) = change_grows refused k s key (is_value value) _
-        (enters_grow refused k s (touched s.buffer key (put_over (buffered s.buffer key) value)))
-    edit_grows refused k s (op.Insert key value) =
-        change_grows refused k s key (is_value value) _ (inserts_grow refused k s (inserted s.buffer key value))
-    edit_grows refused k s (op.Delete key) = change_grows refused k s key true _
-        (enters_grow refused k s (touched s.buffer key mutation.Delete))
-    edit_grows refused k s (op.Lock key) = change_grows refused k s key true _
-        (enters_grow refused k s (locked s.buffer key))
+    edit_grows refused k s (op.Put key value) = edited_grows k s (puts refused s key value)
+    edit_grows refused k s (op.Insert key value) = edited_grows k s (inserts refused s key value)
+    edit_grows refused k s (op.Delete key) = edited_grows k s (deletes refused s key)
+    edit_grows refused k s (op.Lock key) = edited_grows k s (locks refused s key)
     edit_grows refused k s (op.Declare mode ttl max_commit) =
         (let terms : Terms = record { mode = mode; ttl = ttl; max_commit = max_commit } in
         either h h (is_declared s) _ _ (begins_all h)

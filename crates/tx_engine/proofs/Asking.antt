@@ -13,7 +13,8 @@ use Rattle.tx_reply.specs.declared.reply.ScriptReply.TheVariants as reply
 use Rattle.tx_steps.specs.declared.delivery.Delivery.{Delivery}
 use Rattle.tx_steps.specs.Steps.{Text}
 use Rattle.tx_network.specs.Networks.{NetworkParts, network_state, IsSet, Passes}
-use Rattle.tx_engine.specs.Semantics.{EngineState, Transition, goes, calls, is_key, runs_to, read_by, said_by, gets, scans, prewrites, commits, aborts, beats}
+use Rattle.tx_types.specs.Lengths.{is_key}
+use Rattle.tx_engine.specs.Semantics.{EngineState, Transition, goes, calls, runs_to, read_by, said_by, gets, scans, prewrites, commits, aborts, beats}
 use Rattle.tx_engine.specs.Plays.{Leads}
 use Rattle.tx_engine.specs.Slots.{engine_with, GoesTo, Sent, Did}
 use Rattle.tx_engine.proofs.Acting.{acts_so}

@@ -1,29 +1,28 @@
 -- What a live session does is its turn.
-use Rattle.std.proofs.Common.{◌≡◌, ◌+◌, ℕ, cond, Bool, true, false, not, List, [], ◌∷◌, ◌++◌, slice_set, Some, Result, Ok, Err, inl, inr, refl, sym, ap, subst, ◌∙◌}
-use Rattle.std.specs.Prelude.{◌⊎◌, OnOk, OnErr, IfErr}
+use Rattle.std.proofs.Common.{◌≡◌, ◌+◌, ℕ, cond, Bool, true, false, not, List, [], ◌∷◌, ◌++◌, slice_set, Some, Result, Ok, Err, refl, sym, ap, subst, ◌∙◌}
+use Rattle.std.specs.Prelude.{OnOk, IfErr}
 use Rattle.tx_types.specs.declared.fault.Cause.{Cause}
 use Rattle.tx_types.specs.declared.fault.Cause.TheVariants as cause
 use Rattle.tx_types.specs.declared.fault.Fault.{Fault}
 use Rattle.tx_types.specs.declared.fault.Fault.TheVariants as fault
 use Rattle.tx_types.specs.declared.key.Key.{Key}
 use Rattle.tx_core.specs.declared.event.Event.TheVariants.{Drawn}
-use Rattle.tx_core.specs.Histories.{History, last}
+use Rattle.tx_core.specs.Histories.{last}
 use Rattle.tx_transaction.specs.declared.state.Terms.{Terms}
-use Rattle.tx_transaction.specs.Buffers.{Entries, is_full}
-use Rattle.tx_client.specs.Calls.{Seated, seated}
+use Rattle.tx_client.specs.Calls.{Seated}
 use Rattle.tx_transaction.specs.Sessions.{SessionState, is_declared, exceeds, declaration, can_draw}
 use Rattle.tx_client.specs.Walks.{Walk, Sends}
 use Rattle.tx_reply.specs.declared.reply.ScriptReply.{ScriptReply}
 use Rattle.tx_reply.specs.declared.reply.ScriptReply.TheVariants as reply
 use Rattle.tx_steps.specs.declared.delivery.Delivery.{Delivery}
 use Rattle.tx_steps.specs.Steps.{Text}
-use Rattle.tx_network.specs.Networks.{NetworkParts, NetworkState, network_state, with_events, IsSet, Passes, may_go}
-use Rattle.tx_engine.specs.Semantics.{session, EngineState, Transition, goes, stops, calls, at_network, seat_at, with_session, declared_in, placed_in, placed, runs_to, enters, entered_by, declares, draws, drew, is_too_many, sends_by, sends}
+use Rattle.tx_network.specs.Networks.{NetworkParts, network_state, with_events, IsSet, Passes, may_go}
+use Rattle.tx_engine.specs.Semantics.{session, EngineState, Transition, goes, stops, seat_at, declared_in, placed_in, placed, runs_to, entered_by, declares, draws, drew, is_too_many, sends_by, sends}
 use Rattle.tx_steps.specs.declared.call.Call.{Call}
 use Rattle.tx_engine.specs.Plays.{Leads}
 use Rattle.tx_engine.specs.Slots.{engine_with, Acts, Did}
 use Rattle.tx_engine.proofs.Acting.{acts_so}
-use Rattle.tx_engine.proofs.Turning.{goes_at, session_goes, session_rests, did_not, did_change, did_send}
+use Rattle.tx_engine.proofs.Turning.{goes_at, session_rests, did_not, did_change, did_send}
 
 abbrev pub SessionTurn : Type 0
 SessionTurn = List Bool → EngineState → ℕ → SessionState → Transition
@@ -55,36 +54,6 @@ module _ (bounds : List Key) (turn : SessionTurn) where
   rests old network bits said is = did_change bounds turn old old network said refl
       (session_rests bounds turn old.seat.seat old.state old.state (network_state network)
       (network_state network) said said bits is refl refl refl)
-
-  -- ---- the buffer
-
-  module _ (old new : Seated) (network : NetworkParts) (buffer : Entries)
-      (is : (refused : List Bool) (engine : EngineState) (k : ℕ)
-      → turn refused engine k old.state ≡ enters refused engine k old.state buffer) where
-    entered_ok : new ≡ seated (record old.state { buffer = buffer }) old.seat
-        → Did bounds turn (Ok reply.Fine) old new network network
-    entered_ok now =
-        did_change bounds turn old new network reply.Fine (ap (λ (s : Seated). s.seat) now)
-        (session_goes bounds turn old.seat.seat old.state new.state (network_state network)
-        (network_state network) reply.Fine reply.Fine (false
-        ∷ []) (record old.state { buffer = buffer }) (λ engine k. engine.network) (λ later engine k. is (false
-        ∷ later) engine k)
-        (λ engine k at number. at) (ap (λ (s : Seated). s.state) (sym now)) refl)
-
-    entered_err : new ≡ old → (e : Fault) → e ≡ fault.OutOfMemory
-        → Did bounds turn (Ok (entered_by {T = Unit {0}} (Err e))) old new network network
-    entered_err same e short =
-        subst (λ (x : Seated × Fault). Did bounds turn (Ok (entered_by {T = Unit {0}} (Err x.1))) old x.0 network
-        network) (λ i. (sym same i, sym short i))
-        (rests old network (true ∷ []) reply.OutOfMemory (λ later engine k. is (true ∷ later) engine k))
-
-    pub entered : (r : Result (Unit {0}) Fault) → OnOk r (new ≡ seated (record old.state { buffer = buffer }) old.seat)
-        → OnErr r (new ≡ old) → IfErr r (λ e. e ≡ fault.OutOfMemory) → (said : ScriptReply) → said ≡ entered_by r
-        → Did bounds turn (Ok said) old new network network
-    entered (Ok x) ok same err said also = subst (λ s. Did bounds turn (Ok s) old new network network) (sym also)
-        (entered_ok ok)
-    entered (Err e) ok same err said also = subst (λ s. Did bounds turn (Ok s) old new network network) (sym also)
-        (entered_err same e err)
 
   -- ---- requests
 

@@ -31,7 +31,8 @@ use Rattle.tx_steps.specs.declared.op.Op.TheVariants as op
 use Rattle.tx_steps.specs.declared.step.Step.{Step}
 use Rattle.tx_steps.specs.declared.step.Step.TheVariants as step
 use Rattle.tx_steps.specs.Steps.{Text}
-use Rattle.tx_engine.specs.Semantics.{EngineState, Transition, free, session, goes, stops, is_key, delivered_by, asked, at_network, at_history, seat_at, began, gone, ticked, first_free, lives, at_slot, live_at, in_session, finishes, finishes_by, leaves, turn}
+use Rattle.tx_types.specs.Lengths.{is_key}
+use Rattle.tx_engine.specs.Semantics.{EngineState, Transition, free, session, goes, stops, delivered_by, asked, at_network, at_history, seat_at, began, gone, ticked, first_free, lives, at_slot, live_at, in_session, finishes, finishes_by, leaves, turn}
 use Rattle.tx_engine.specs.Plays.{Leads}
 use Rattle.tx_engine.specs.Slots.{ActsIn, Kept, slot_of, Held, texts, name_at, engine_with, engine_state, AllSeated, Acts, Serves, Goes, Did, Turned, TurnedBy}
 use Rattle.tx_engine.proofs.Keeping.{set_here, seated_at, at_place_of, acted, served, rested, known_ticks}

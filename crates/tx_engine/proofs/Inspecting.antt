@@ -12,7 +12,8 @@ use Rattle.tx_core.proofs.seats.Beginnings.{begins_length, begins_whole}
 use Rattle.tx_reply.specs.declared.reply.ScriptReply.{ScriptReply}
 use Rattle.tx_reply.specs.declared.reply.ScriptReply.TheVariants as reply
 use Rattle.tx_network.specs.Networks.{NetworkParts, network_state, made_by, Displays}
-use Rattle.tx_engine.specs.Semantics.{EngineState, goes, shows, is_key, SlotState, inspects, turn}
+use Rattle.tx_types.specs.Lengths.{is_key}
+use Rattle.tx_engine.specs.Semantics.{EngineState, goes, shows, SlotState, inspects, turn}
 use Rattle.tx_steps.specs.declared.step.Step.TheVariants as step
 use Rattle.tx_engine.specs.Plays.{Leads}
 use Rattle.tx_engine.specs.Slots.{seat_in, slot_of, Held, name_at, engine_with, engine_state, made_in, GoesTo, Goes, Inspected, Turned}

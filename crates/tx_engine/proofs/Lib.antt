@@ -19,8 +19,8 @@ pub mod OnePlay
 pub mod Dealt
 -- What a live session does is its turn.
 pub mod Doing
--- What a session enters into its buffer is its turn.
-pub mod Entering
+-- What an edit of a session's buffer comes to is its turn.
+pub mod Editing
 -- What a session asks of the regions is its turn.
 pub mod Asking
 -- What a delivery gives is its turn.

@@ -24,7 +24,8 @@ use Rattle.tx_steps.specs.declared.delivery.Delivery.TheVariants as deliveries
 use Rattle.tx_network.specs.Networks.{NetworkParts, made_by, network_state, Runs}
 use Rattle.tx_steps.specs.declared.op.Op.TheVariants as op
 use Rattle.tx_steps.specs.declared.step.Step.TheVariants as step
-use Rattle.tx_engine.specs.Semantics.{SlotState, session, EngineState, goes, stops, is_refused, later_of, at_network, seat_at, with_session, learnt, learns, resolves_by, resolves, collected_as, live_at, in_session, turn}
+use Rattle.tx_edits.specs.Edits.{is_refused, later_of}
+use Rattle.tx_engine.specs.Semantics.{SlotState, session, EngineState, goes, stops, at_network, seat_at, with_session, learnt, learns, resolves_by, resolves, collected_as, live_at, in_session, turn}
 use Rattle.tx_engine.specs.Plays.{Leads}
 use Rattle.tx_engine.specs.Slots.{Kept, slot_of, Held, name_at, engine_with, engine_state, AllSeated, Serves, Goes, SessionGoes, Learnt, Resolves, Turned}
 use Rattle.tx_engine.proofs.Keeping.{set_here, at_place_of, found, served}

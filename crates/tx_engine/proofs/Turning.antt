@@ -13,7 +13,8 @@ use Rattle.tx_reply.specs.declared.reply.ScriptReply.{ScriptReply}
 use Rattle.tx_steps.specs.declared.delivery.Delivery.{Delivery}
 use Rattle.tx_steps.specs.Steps.{Text}
 use Rattle.tx_network.specs.Networks.{NetworkParts, NetworkState, network_state, IsSet, takes_memory, Passes, Met, Reach, Runs}
-use Rattle.tx_engine.specs.Semantics.{session, EngineState, Transition, goes, stops, at_network, seat_at, with_session, is_refused, later_of, answers, asked, sent, runs, runs_to}
+use Rattle.tx_edits.specs.Edits.{is_refused, later_of}
+use Rattle.tx_engine.specs.Semantics.{session, EngineState, Transition, goes, stops, at_network, seat_at, with_session, answers, asked, sent, runs, runs_to}
 use Rattle.tx_engine.specs.Plays.{Leads}
 use Rattle.tx_engine.specs.Slots.{engine_with, GoesTo, SessionGoes, Sent, Did}
 use Rattle.tx_engine.proofs.Acting.{still_acts, acts_so, sent_acts}

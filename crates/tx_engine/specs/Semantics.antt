@@ -1,16 +1,15 @@
 -- What each step of a script does, in one thread in which nobody else acts: the events that it
 -- makes, what it changes of its session, and its reply.
-use Rattle.std.specs.Prelude.{ℕ, ◌+◌, ◌-◌, ◌&&◌, not, Bool, true, false, List, [], ◌∷◌, length, replicate, nat_eq, nat_le, slice_get, slice_set, Option, Some, None, option_map, is_some, if◌then◌else◌, Result, Ok, Err, bytes_eq}
+use Rattle.std.specs.Prelude.{ℕ, ◌+◌, ◌-◌, ◌&&◌, not, Bool, List, [], ◌∷◌, length, replicate, nat_eq, nat_le, slice_get, slice_set, Option, Some, None, option_map, is_some, if◌then◌else◌, Result, Ok, Err, bytes_eq}
 use Rattle.std.specs.Map.{update}
-use Rattle.tx_types.specs.declared.limits.TheConstants.{MAX_KEY_BYTES, MAX_VALUE_BYTES, MIN_KEY_BYTES}
 use Rattle.tx_types.specs.declared.fault.Fault.{Fault}
 use Rattle.tx_types.specs.declared.fault.Fault.TheVariants as fault
 use Rattle.tx_types.specs.declared.fault.Cause.{Cause}
 use Rattle.tx_types.specs.declared.fault.Cause.TheVariants.{Form, Name, Order, Sessions}
 use Rattle.tx_types.specs.declared.key.Key.{Key}
 use Rattle.tx_types.specs.declared.lock.LockInfo.{LockInfo}
-use Rattle.tx_types.specs.declared.mutation.Mutation.TheVariants as mutation
 use Rattle.tx_types.specs.Keys.{key_lt}
+use Rattle.tx_types.specs.Lengths.{is_key}
 use Rattle.tx_plan.specs.declared.body.Body.{Body}
 use Rattle.tx_plan.specs.declared.body.Body.TheVariants as request
 use Rattle.tx_plan.specs.declared.answer.Answer.{Answer}
@@ -29,7 +28,7 @@ use Rattle.tx_client.specs.declared.resolved.Status.TheVariants as status
 use Rattle.tx_client.specs.declared.resolved.WaitCause.TheVariants as wait
 use Rattle.tx_transaction.specs.declared.state.Miss.{Miss}
 use Rattle.tx_transaction.specs.declared.state.Miss.TheVariants as miss
-use Rattle.tx_transaction.specs.Buffers.{Entries, touched, put_over, inserted, locked, buffered, is_full, is_known}
+use Rattle.tx_transaction.specs.Buffers.{Entries, buffered, is_known}
 use Rattle.tx_transaction.specs.Sessions.{SessionState, begun, is_declared, has_primary, exceeds, declaration, due_prewrite, due_commit, due_abort, can_draw, can_commit, can_abort, finish_of, notes_one, with_passed}
 use Rattle.tx_client.specs.Statuses.{lies_above}
 use Rattle.tx_client.specs.Walks.{Walk, asks, grows, ends, due_walk, heartbeat_walk, get_walk, scan_walk}
@@ -39,6 +38,8 @@ use Rattle.tx_resolve.specs.Collecting.{gc_walk}
 use Rattle.tx_steps.specs.declared.delivery.Delivery.TheVariants as deliveries
 use Rattle.tx_reply.specs.declared.reply.ScriptReply.{ScriptReply}
 use Rattle.tx_reply.specs.declared.reply.ScriptReply.TheVariants as reply
+use Rattle.tx_edits.specs.Edits.{Edit, is_refused, later_of, puts, inserts, deletes, locks}
+use Rattle.tx_edits.specs.Edits as edit
 use Rattle.tx_types.specs.Names.{is_name}
 use Rattle.tx_steps.specs.declared.delivery.Delivery.{Delivery}
 use Rattle.tx_steps.specs.Steps.{Text}
@@ -81,30 +82,14 @@ pub data Transition : Type 0 where
   shows : (network : NetworkState) (key : Key) (more : KeyVersions → Transition) → Transition
   stops : (cause : Cause) → Transition
 
--- ---- want of memory:
--- the k-th growth that may be needed is refused where the k-th of a list says so.
--- A refusal by any other rule comes before it.
-
-abbrev pub is_refused : List Bool → Bool
-is_refused [] = false
-is_refused (b ∷ refused) = b
-
-abbrev pub later_of : List Bool → List Bool
-later_of [] = []
-later_of (b ∷ refused) = refused
+-- ---- want of memory
 
 -- a call that may need memory: refused, it changes nothing
 abbrev pub calls : List Bool → EngineState → (List Bool → Transition) → Transition
 calls refused engine more = if is_refused refused then goes engine reply.OutOfMemory (later_of refused)
     else more (later_of refused)
 
--- ---- keys and values
-
-abbrev pub is_key : List ℕ → Bool
-is_key key = nat_le MIN_KEY_BYTES (length key) && nat_le (length key) MAX_KEY_BYTES
-
-abbrev pub is_value : List ℕ → Bool
-is_value value = nat_le (length value) MAX_VALUE_BYTES
+-- ---- requests too many
 
 -- whether a session sends a request, by what it is to send: what its buffer answers is not sent,
 -- and neither is what its state does not allow
@@ -273,39 +258,14 @@ live_at engine name = at_slot engine.slots (engine.names name)
 
 -- ---- the steps of a session
 
+-- what an edit of a session's buffer leads to, in an engine state and at a slot
+abbrev pub edited : EngineState → ℕ → SessionState → Edit → Transition
+edited engine k s (edit.stops cause) = stops cause
+edited engine k s (edit.says said left) = goes engine said left
+edited engine k s (edit.enters buffer left) =
+    goes (with_session engine k (record s { buffer = buffer })) reply.Fine left
+
 module _ (refused : List Bool) (engine : EngineState) (k : ℕ) (s : SessionState) where
-  -- a buffer takes the place of the session's
-  abbrev pub enters : Entries → Transition
-  enters buffer = calls refused engine (λ left. goes (with_session engine k (record s { buffer = buffer })) reply.Fine
-      left)
-
-  -- a change of a key before declare: what is refused of its key and value, and that the key is one
-  -- too many, comes before want of memory
-  abbrev pub changes : List ℕ → Bool → Transition → Transition
-  changes key fits more =
-      if is_declared s then stops Order
-      else (if not (is_key key) then goes engine reply.KeyLength refused
-      else (if not fits then goes engine reply.ValueLength refused
-      else (if is_full s.buffer key then goes engine reply.TooManyKeys refused
-      else more)))
-
-  abbrev pub puts : List ℕ → List ℕ → Transition
-  puts key value = changes key (is_value value) (enters (touched s.buffer key (put_over (buffered s.buffer key) value)))
-
-  -- an insert is refused where the buffer has a value of the key
-  abbrev pub inserts_by : Option Entries → Transition
-  inserts_by None = goes engine reply.AlreadyExists refused
-  inserts_by (Some buffer) = enters buffer
-
-  abbrev pub inserts : List ℕ → List ℕ → Transition
-  inserts key value = changes key (is_value value) (inserts_by (inserted s.buffer key value))
-
-  abbrev pub deletes : List ℕ → Transition
-  deletes key = changes key true (enters (touched s.buffer key mutation.Delete))
-
-  abbrev pub locks : List ℕ → Transition
-  locks key = changes key true (enters (locked s.buffer key))
-
   module _ (bounds : List Key) where
     -- the engine state after it declared
     abbrev pub placed : Terms → EngineState
@@ -354,10 +314,10 @@ module _ (refused : List Bool) (engine : EngineState) (k : ℕ) (s : SessionStat
 
     -- what a live session does by itself in its slot; what takes it out of there follows below
     abbrev pub edits : Op Text → Transition
-    edits (op.Put key value) = puts key value
-    edits (op.Insert key value) = inserts key value
-    edits (op.Delete key) = deletes key
-    edits (op.Lock key) = locks key
+    edits (op.Put key value) = edited engine k s (puts refused s key value)
+    edits (op.Insert key value) = edited engine k s (inserts refused s key value)
+    edits (op.Delete key) = edited engine k s (deletes refused s key)
+    edits (op.Lock key) = edited engine k s (locks refused s key)
     edits (op.Declare mode ttl max_commit) = declares (record { mode = mode; ttl = ttl; max_commit = max_commit })
     edits op.Draw = draws
     edits _ = stops Order

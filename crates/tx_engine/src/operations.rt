@@ -4,7 +4,8 @@ ghost use Rattle.std.specs.Prelude.{◌≡◌, ◌<◌};
 ghost use Rattle.tx_client.specs.Calls.{Seated};
 ghost use Rattle.tx_engine.specs.Slots.{ActsIn, Did};
 ghost use Rattle.tx_engine.specs.declared.slots.SessionSlot.TheVariants as session_slot;
-ghost use Rattle.tx_engine.specs.Semantics.{is_key as key_test, is_value as value_test, edits, is_sent, is_too_many, sends_by, sends};
+ghost use Rattle.tx_types.specs.Lengths.{is_key as key_test};
+ghost use Rattle.tx_engine.specs.Semantics.{edits, is_sent, is_too_many, sends_by, sends};
 ghost use Rattle.tx_network.specs.Networks.{network_state};
 ghost use Rattle.tx_steps.specs.Steps.{acted, called, delivered};
 
@@ -13,7 +14,7 @@ mod delivery;
 mod sending;
 mod versions;
 
-use crate::operations::buffer::{declare, delete, insert, lock, put};
+use crate::operations::buffer::declare;
 pub(crate) use crate::operations::delivery::deliver;
 use crate::operations::sending::{abort, commit, draw, get, heartbeat, prewrite, scan};
 pub(crate) use crate::operations::versions::versions;
@@ -21,23 +22,17 @@ use crate::slots::SessionSlot;
 use std::alloc::Global;
 use tx_cells::Families;
 use tx_client::{Session, Terms};
+use tx_edits::{delete, insert, lock, put};
 use tx_journal::{JournalId, Seat};
 use tx_network::Network;
 use tx_reply::ScriptReply;
 use tx_steps::{Call, Delivery, Op};
-use tx_types::limits::{MAX_KEY_BYTES, MAX_VALUE_BYTES};
 use tx_types::{Cause, Ts};
 
 pub(crate) fn is_key(key: &str) -> bool
     ensures { result ≡ key_test key.now }
 {
-    !key.is_empty() && key.len() <= MAX_KEY_BYTES
-}
-
-pub(crate) fn is_value(value: &str) -> bool
-    ensures { result ≡ value_test value.now }
-{
-    value.len() <= MAX_VALUE_BYTES
+    tx_types::is_key(key.as_bytes())
 }
 
 // A timestamp of this number.

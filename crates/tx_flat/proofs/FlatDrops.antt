@@ -25,7 +25,8 @@ use Rattle.tx_cells.proofs.RecordKinds.{kind_puts, kind_seen, seen_there}
 use Rattle.tx_cells.proofs.Dropping.{Left, whole_left, collected_left, cells_left, stays_of}
 
 -- where not all above is free of puts and deletes, one stands there
-some_above : (write : Writes) (q n : ℕ) → none_above write q n ≡ false → (p : ℕ) × (q < p) × (p ≤ q + n) × (commit_is is_visible (write p) ≡ true)
+some_above : (write : Writes) (q n : ℕ) → none_above write q n ≡ false
+    → (p : ℕ) × (q < p) × (p ≤ q + n) × (commit_is is_visible (write p) ≡ true)
 some_above write q zero e = absurd (cc e)
 some_above write q (suc n) e = elim (cases_Bool (commit_is is_visible (write (q + suc n)))) [
   | inl here ↦ (q + suc n, omega arith, omega arith, here)
@@ -36,7 +37,8 @@ some_above write q (suc n) e = elim (cases_Bool (commit_is is_visible (write (q 
       )
 ]
 
-apart_puts : (m : StoredMutation) → keeps_apart m ≡ true → (record_kind (Commit (record { mutation = m; start = 0; overlapped_rollback = false }))).puts ≡ true
+apart_puts : (m : StoredMutation) → keeps_apart m ≡ true
+    → (record_kind (Commit (record { mutation = m; start = 0; overlapped_rollback = false }))).puts ≡ true
 apart_puts (stored.Put v) e = refl
 apart_puts stored.Delete e = absurd (cc e)
 apart_puts stored.Lock e = absurd (cc e)
@@ -60,13 +62,19 @@ module _ (x : OnKey) (safe : ℕ) where
   outdated : ∥ IsWhole x ∥₁ → (t : ℕ) → GoneApart x.write goes t → Outdated x.write safe t
   outdated whole t g =
       let drops : keeps (cells_of x).write safe g.at ≡ false = not-true (keeps (cells_of x).write safe g.at) g.went in
-      let put : commit_is is_put ((cells_of x).write g.at) ≡ true = sym (kind_puts x.write x.value g.at (Commit g.rec) g.found) ∙ apart_puts g.rec.mutation g.apart in
-      let low : g.at < safe = elim (cases_lt g.at safe) [ inl lt ↦ lt | inr le ↦ (let stays = keeps_above (cells_of x).write safe g.at le in absurd (cc (stays, drops))) ] in
+      let put : commit_is is_put ((cells_of x).write g.at) ≡ true =
+      sym (kind_puts x.write x.value g.at (Commit g.rec) g.found) ∙ apart_puts g.rec.mutation g.apart in
+      let low : g.at < safe =
+      elim (cases_lt g.at safe) [
+        | inl lt ↦ lt
+        | inr le ↦ (let stays = keeps_above (cells_of x).write safe g.at le in absurd (cc (stays, drops)))
+      ] in
       let above = dated x whole g.at g.rec g.found in
       elim (cases_Bool (none_above (cells_of x).write g.at (safe - g.at))) [
         | inl none ↦ (
             let stays : keeps (cells_of x).write safe g.at ≡ true =
-            ap (λ b. not (nat_lt g.at safe) || b && none_above (cells_of x).write g.at (safe - g.at)) put ∙ ap (λ b. not (nat_lt g.at safe) || b) none ∙ or_true (not (nat_lt g.at safe)) in
+            ap (λ b. not (nat_lt g.at safe) || b && none_above (cells_of x).write g.at (safe - g.at)) put
+            ∙ ap (λ b. not (nat_lt g.at safe) || b) none ∙ or_true (not (nat_lt g.at safe)) in
             absurd (cc (stays, drops))
             )
         | inr some ↦ (
@@ -74,7 +82,20 @@ module _ (x : OnKey) (safe : ℕ) where
             let upto = p.2 in
             let of = g.of in
             let rec = seen_there x.write x.value p.0 p.3 in
-            record { at = g.at; rec = g.rec; found = g.found; of = of; above = omega (arith, above, of); follows = p.0; later = p.1; upto = omega (arith, upto, low); other = rec.0; stands = rec.1; seen = rec.2 }
+            record {
+              at = g.at;
+              rec = g.rec;
+              found = g.found;
+              of = of;
+              above = omega (arith, above, of);
+              follows =
+                  p.0;
+              later = p.1;
+              upto = omega (arith, upto, low);
+              other = rec.0;
+              stands = rec.1;
+              seen = rec.2;
+            }
             )
       ]
 
@@ -82,15 +103,32 @@ module _ (x : OnKey) (safe : ℕ) where
   outdated_goes t o =
       let later = o.later in
       let upto = o.upto in
-      ap not (drops_followed (cells_of x).write safe o.at (omega (arith, later, upto)) (record { at = o.follows; from = omega (arith, later); upto = upto; visible = sym (kind_seen x.write x.value o.follows o.other o.stands) ∙ o.seen }))
+      ap not (drops_followed (cells_of x).write safe o.at (omega (arith, later, upto))
+      (record {
+        at = o.follows;
+        from = omega (arith, later);
+        upto = upto;
+        visible =
+            sym (kind_seen x.write x.value o.follows o.other o.stands) ∙ o.seen;
+      }))
 
   -- where there is a value, its record goes
   outdated_apart : IsWhole x → (t : ℕ) → x.value t ≢ None → Outdated x.write safe t → GoneApart x.write goes t
   outdated_apart w t some o = elim (w.value_kept t some) [
-    | inl k ↦ absurd (w.sound.uncommitted (lock_of x.value k.rec) o.at (ap (option_map (lock_of x.value)) k.found) (record { rec = _; stands = stands_commit x o.at o.rec o.found; own = o.of ∙ sym k.of }))
+    | inl k ↦ absurd (w.sound.uncommitted (lock_of x.value k.rec) o.at (ap (option_map (lock_of x.value)) k.found)
+        (record { rec = _; stands = stands_commit x o.at o.rec o.found; own = o.of ∙ sym k.of }))
     | inr k ↦ (
-        let one = w.sound.once t o.at k.at (record { rec = _; stands = stands_commit x o.at o.rec o.found; own = o.of }) (record { rec = _; stands = stands_commit x k.at k.rec k.found; own = k.of }) in
-        record { at = k.at; rec = k.rec; found = k.found; went = sym (ap goes one) ∙ outdated_goes t o; of = k.of; apart = k.apart }
+        let one = w.sound.once t o.at k.at (record { rec = _; stands = stands_commit x o.at o.rec o.found; own = o.of })
+        (record { rec = _; stands = stands_commit x k.at k.rec k.found; own = k.of }) in
+        record {
+          at = k.at;
+          rec = k.rec;
+          found = k.found;
+          went = sym (ap goes one) ∙ outdated_goes t o;
+          of = k.of;
+          apart
+              = k.apart;
+        }
         )
   ]
 
@@ -121,13 +159,17 @@ module _ (x : OnKey) (safe : ℕ) where
     Now = record { lock = x.lock; write = write; value = value }
 
     is_left : Now ≡ Left x goes value
-    is_left = ap (λ (f : ℕ → Option WriteRec). record { lock = x.lock; write = f; value = value }) (same_maps (λ q. left q ∙ tells q))
+    is_left = ap (λ (f : ℕ → Option WriteRec). record { lock = x.lock; write = f; value = value })
+        (same_maps (λ q. left q ∙ tells q))
 
     pub whole_now : ∥ IsWhole x ∥₁ → IsWhole x → IsWhole Now
     whole_now whole w = subst IsWhole (sym is_left) (whole_left x goes value w (values_go whole) safe tells)
 
     pub collected_now : ∥ IsWhole x ∥₁ → Collected safe x Now
-    collected_now whole = subst (λ (y : OnKey). Collected safe x y) (sym is_left) (collected_left x goes value whole (values_go whole) safe tells)
+    collected_now whole =
+        subst (λ (y : OnKey). Collected safe x y) (sym is_left)
+        (collected_left x goes value whole (values_go whole) safe tells)
 
     pub cells_now : ∥ IsWhole x ∥₁ → cells_of Now ≡ kept (cells_of x) safe
-    cells_now whole = ap cells_of is_left ∙ cells_left x goes value (stays_of x goes value whole (values_go whole)) safe tells
+    cells_now whole = ap cells_of is_left
+        ∙ cells_left x goes value (stays_of x goes value whole (values_go whole)) safe tells

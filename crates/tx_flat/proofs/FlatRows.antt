@@ -43,13 +43,15 @@ lt_of : (j k : Key) → slice_cmp nat_cmp j k ≡ Less → IsTrue (key_lt j k)
 lt_of j k e = ap is_lt e
 
 module _ (content : Content) where
-  rows_rise : (es : Entries) → IsStrictlySortedBy (slice_cmp nat_cmp) (keys_of es) → LocksInOrder (lock_rows_in content es)
+  rows_rise : (es : Entries) → IsStrictlySortedBy (slice_cmp nat_cmp) (keys_of es)
+      → LocksInOrder (lock_rows_in content es)
   unfolding IsStrictlySortedBy
   rows_rise [] s = tt
   rows_rise (e ∷ []) s = tt
   rows_rise (e ∷ f ∷ es) s = (lt_of e.0 f.0 s.0.0, rows_rise (f ∷ es) s.1)
 
-  rows_by : (es : Entries) (k : Key) → option_map (lock_of (content k).value) (find k es) ≡ lock_by (lock_rows_in content es) k
+  rows_by : (es : Entries) (k : Key)
+      → option_map (lock_of (content k).value) (find k es) ≡ lock_by (lock_rows_in content es) k
   rows_by [] k = refl
   rows_by (e ∷ es) k = elim (cases_Bool (bytes_eq e.0 k)) [
     | inl same ↦ (
@@ -64,9 +66,15 @@ module _ (content : Content) where
         )
   ]
 
-pub flat_walk : (flat : FlatCells) → IsStrictlySortedBy (slice_cmp nat_cmp) (keys_of flat.locks.entries) → IsLockWalk (cells_in (flat_content flat)) (lock_rows_in (flat_content flat) flat.locks.entries)
-flat_walk flat s = record { rising = rows_rise (flat_content flat) flat.locks.entries s; all = λ k. rows_by (flat_content flat) flat.locks.entries k }
+pub flat_walk : (flat : FlatCells) → IsStrictlySortedBy (slice_cmp nat_cmp) (keys_of flat.locks.entries)
+    → IsLockWalk (cells_in (flat_content flat)) (lock_rows_in (flat_content flat) flat.locks.entries)
+flat_walk flat s = record {
+  rising = rows_rise (flat_content flat) flat.locks.entries s;
+  all =
+      λ k. rows_by (flat_content flat) flat.locks.entries k;
+}
 
 -- the head of a lock
 pub head_shown : (x : OnKey) (rec : LockRec) → lock_head rec ≡ lock_head_of (lock_of x.value rec)
-head_shown x rec = (let both : Some (lock_head rec) ≡ Some (lock_head_of (lock_of x.value rec)) = lock_heads x.value (Some rec) in cc both)
+head_shown x rec = (let both : Some (lock_head rec) ≡ Some (lock_head_of (lock_of x.value rec)) =
+    lock_heads x.value (Some rec) in cc both)

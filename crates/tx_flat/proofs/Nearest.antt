@@ -11,7 +11,7 @@ use Rattle.std.specs.BTreeMap.{BTreeMap}
 use Rattle.std.specs.BTreeMap.Range.{IsRangeOf}
 use Rattle.std.proofs.lemmas.Cmp.{ranked, tied_itself, nat_list_cmp_total}
 use Rattle.std.proofs.lemmas.Map.Lookups.{exact_bytes}
-use Rattle.tx_encoded.specs.Spelt.{version_cmp}
+use Rattle.tx_spelling.specs.Spelt.{version_cmp}
 
 not_above : (o p : Ordering) → is_gt (ordering_then o p) ≡ false → is_gt o ≡ false
 not_above Less p e = refl
@@ -25,7 +25,8 @@ turned_tied Greater p e h k = cc h
 
 -- keys of which neither stands above the other are one
 pub one_key_of : (j k : List ℕ) → is_gt (slice_cmp nat_cmp j k) ≡ false → is_gt (slice_cmp nat_cmp k j) ≡ false → j ≡ k
-one_key_of j k h l = exact_bytes j k (turned_tied (slice_cmp nat_cmp j k) (slice_cmp nat_cmp k j) (nat_list_cmp_total.antisymm k j) h l)
+one_key_of j k h l = exact_bytes j k
+    (turned_tied (slice_cmp nat_cmp j k) (slice_cmp nat_cmp k j) (nat_list_cmp_total.antisymm k j) h l)
 
 -- versions of one key
 pub beside : (k : List ℕ) (s t : ℕ) → version_cmp (k, s) (k, t) ≡ nat_cmp t s
@@ -64,13 +65,16 @@ module _ {X : Type 0} (m : BTreeMap (List ℕ × ℕ) X) (b : List ℕ × ℕ) w
 
     pub from_found : v.0 ≡ b.0 → (v.1 ≤ b.1) × (tree.get version_cmp m (b.0, v.1) ≡ Some x)
     from_found same = (
-      upto_of v.1 b.1 (sym (ap is_gt (beside b.0 b.1 v.1)) ∙ ap (λ (w : List ℕ × ℕ). is_gt (version_cmp b w)) (sym (moved same)) ∙ r.1.0.0),
+      upto_of v.1 b.1 (sym (ap is_gt (beside b.0 b.1 v.1))
+          ∙ ap (λ (w : List ℕ × ℕ). is_gt (version_cmp b w)) (sym (moved same)) ∙ r.1.0.0),
       ap (tree.get version_cmp m) (sym (moved same)) ∙ r.1.1,
     )
 
     pub from_nearest : v.0 ≡ b.0 → (q : ℕ) → q ≤ b.1 → IsSome (tree.get version_cmp m (b.0, q)) → q ≤ v.1
     from_nearest same q le some =
-        upto_of q v.1 (sym (ap is_gt (beside b.0 v.1 q)) ∙ ap (λ (w : List ℕ × ℕ). is_gt (version_cmp w (b.0, q))) (sym (moved same)) ∙ r.2 (b.0, q) (within b.0 b.1 q le, tt) some)
+        upto_of q v.1 (sym (ap is_gt (beside b.0 v.1 q))
+        ∙ ap (λ (w : List ℕ × ℕ). is_gt (version_cmp w (b.0, q))) (sym (moved same))
+        ∙ r.2 (b.0, q) (within b.0 b.1 q le, tt) some)
 
     -- the first is of another key
     pub from_other : (v.0 ≡ b.0 → ⊥) → (q : ℕ) → q ≤ b.1 → tree.get version_cmp m (b.0, q) ≡ None
@@ -78,4 +82,6 @@ module _ {X : Type 0} (m : BTreeMap (List ℕ × ℕ) X) (b : List ℕ × ℕ) w
       where
         go : (o : Option X) → tree.get version_cmp m (b.0, q) ≡ o → o ≡ None
         go None e = refl
-        go (Some y) e = absurd (other (one_key_of v.0 b.0 (not_above _ _ (r.2 (b.0, q) (within b.0 b.1 q le, tt) (ap is_some e))) (not_above _ _ r.1.0.0)))
+        go (Some y) e = absurd
+            (other (one_key_of v.0 b.0 (not_above _ _ (r.2 (b.0, q) (within b.0 b.1 q le, tt) (ap is_some e)))
+            (not_above _ _ r.1.0.0)))

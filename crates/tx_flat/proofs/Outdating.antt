@@ -40,36 +40,70 @@ module _ (write : ℕ → Option WriteRec) (t : ℕ) where
       | inr le ↦ so.none safe o le
     ]
 
-    module _ (a : ℕ) (rec : WriteRec) (lt : last < a) (is : write a ≡ Some rec) (near : (q : ℕ) → last < q → q < a → write q ≡ None) where
+    module _ (a : ℕ) (rec : WriteRec) (lt : last < a) (is : write a ≡ Some rec) (near : (q : ℕ) → last < q → q < a
+        → write q ≡ None) where
       -- the next is above the safe point
       pub climb_passes : (safe : ℕ) → safe < a → Outdated write safe t → ⊥
       climb_passes safe up o = elim (cases_lt last o.follows) [
-        | inl l ↦ (let u = o.upto in let gone = near o.follows l (omega (arith, u, up)) in let there = o.stands in cc (gone, there))
+        | inl l ↦ (let u = o.upto in let gone = near o.follows l (omega (arith, u, up)) in let there = o.stands in
+            cc (gone, there))
         | inr le ↦ so.none safe o le
       ]
 
-      pub climb_found : (safe : ℕ) → a ≤ safe → committed ≡ true → (record_kind rec).is_seen ≡ true → Outdated write safe t
+      pub climb_found : (safe : ℕ) → a ≤ safe → committed ≡ true → (record_kind rec).is_seen ≡ true
+          → Outdated write safe t
       climb_found safe le y seen =
           let k = so.yes y in
-          record { at = k.at; rec = k.rec; found = k.found; of = k.of; above = k.above; follows = a; later = (let u = k.upto in omega (arith, u, lt)); upto = le; other = rec; stands = is; seen = seen }
+          record {
+            at = k.at;
+            rec = k.rec;
+            found = k.found;
+            of = k.of;
+            above = k.above;
+            follows = a;
+            later =
+                (let u = k.upto in omega (arith, u, lt));
+            upto = le;
+            other = rec;
+            stands = is;
+            seen = seen;
+          }
 
       -- a commit record of the transaction
-      own_is : (r : CommitRec) → write a ≡ Some (Commit r) → r.start ≡ t → (not (is_rollback rec) && (start_in rec == t)) ≡ true
+      own_is : (r : CommitRec) → write a ≡ Some (Commit r) → r.start ≡ t
+          → (not (is_rollback rec) && (start_in rec == t)) ≡ true
       own_is r e of = go rec is
         where
           go : (w : WriteRec) → write a ≡ Some w → (not (is_rollback w) && (start_in w == t)) ≡ true
-          go (Commit x) f = (let both : Some (Commit x) ≡ Some (Commit r) = sym f ∙ e in let one : x ≡ r = cc both in eq-eqb x.start t (ap (λ (c : CommitRec). c.start) one ∙ of))
+          go (Commit x) f = (let both : Some (Commit x) ≡ Some (Commit r) = sym f ∙ e in let one : x ≡ r = cc both in
+              eq-eqb x.start t (ap (λ (c : CommitRec). c.start) one ∙ of))
           go (Rollback s) f = (let both : Some (Rollback s) ≡ Some (Commit r) = sym f ∙ e in absurd (cc both))
 
       is_own : (not (is_rollback rec) && (start_in rec == t)) ≡ true → Committed a
       is_own own = go rec is own
         where
           go : (w : WriteRec) → write a ≡ Some w → (not (is_rollback w) && (start_in w == t)) ≡ true → Committed a
-          go (Commit x) f o = record { at = a; rec = x; found = f; of = eqb-true x.start t o; above = (let from = so.from in omega (arith, from, lt)); upto = omega arith }
+          go (Commit x) f o = record {
+            at = a;
+            rec = x;
+            found = f;
+            of = eqb-true x.start t o;
+            above =
+                (let from = so.from in omega (arith, from, lt));
+            upto = omega arith;
+          }
           go (Rollback s) f o = absurd (cc o)
 
       higher : Committed last → Committed a
-      higher k = record { at = k.at; rec = k.rec; found = k.found; of = k.of; above = k.above; upto = (let u = k.upto in omega (arith, u, lt)) }
+      higher k = record {
+        at = k.at;
+        rec = k.rec;
+        found = k.found;
+        of = k.of;
+        above = k.above;
+        upto =
+            (let u = k.upto in omega (arith, u, lt));
+      }
 
       -- a commit record at most at a is at most at last, or is this one
       lower : (k : Committed a) → (k.at ≡ a → ⊥) → Committed last
@@ -80,20 +114,32 @@ module _ (write : ℕ → Option WriteRec) (t : ℕ) where
         of = k.of;
         above = k.above;
         upto = elim (cases_lt last k.at) [
-          | inl l ↦ (let u = k.upto in let gone = near k.at l (omega (arith, u, other)) in let there = k.found in absurd (cc (gone, there)))
+          | inl l ↦ (let u = k.upto in let gone = near k.at l (omega (arith, u, other)) in let there = k.found in
+              absurd (cc (gone, there)))
           | inr le ↦ le
         ];
       }
 
       -- on to the next
-      none_yet : (committed ≡ true → (record_kind rec).is_seen ≡ true → ⊥) → (safe : ℕ) (o : Outdated write safe t) → o.follows ≤ a → ⊥
+      none_yet : (committed ≡ true → (record_kind rec).is_seen ≡ true → ⊥) → (safe : ℕ) (o : Outdated write safe t)
+          → o.follows ≤ a → ⊥
       none_yet unseen safe o le = elim (cases_eq o.follows a) [
         | inl same ↦ (
             let later = o.later in
-            let k : Committed a = record { at = o.at; rec = o.rec; found = o.found; of = o.of; above = o.above; upto = omega (arith, later, le) } in
+            let k : Committed a =
+            record {
+              at = o.at;
+              rec = o.rec;
+              found = o.found;
+              of = o.of;
+              above = o.above;
+              upto =
+                  omega (arith, later, le);
+            } in
             let both : Some o.other ≡ Some rec = sym o.stands ∙ ap write same ∙ is in
             let one : o.other ≡ rec = cc both in
-            unseen (so.all (lower k (λ e. omega (arith, e, later, same)))) (ap (λ (w : WriteRec). (record_kind w).is_seen) (sym one) ∙ o.seen)
+            unseen (so.all (lower k (λ e. omega (arith, e, later, same))))
+            (ap (λ (w : WriteRec). (record_kind w).is_seen) (sym one) ∙ o.seen)
             )
         | inr other ↦ elim (cases_lt last o.follows) [
           | inl l ↦ (let gone = near o.follows l (omega (arith, le, other)) in let there = o.stands in cc (gone, there))
@@ -101,7 +147,8 @@ module _ (write : ℕ → Option WriteRec) (t : ℕ) where
         ]
       ]
 
-      pub climb_commit : (committed ≡ true → (record_kind rec).is_seen ≡ true → ⊥) → (not (is_rollback rec) && (start_in rec == t)) ≡ true → Climb a true
+      pub climb_commit : (committed ≡ true → (record_kind rec).is_seen ≡ true → ⊥)
+          → (not (is_rollback rec) && (start_in rec == t)) ≡ true → Climb a true
       climb_commit unseen own = record {
         from = (let from = so.from in omega (arith, from, lt));
         yes = λ e. is_own own;
@@ -109,10 +156,12 @@ module _ (write : ℕ → Option WriteRec) (t : ℕ) where
         none = none_yet unseen;
       }
 
-      pub climb_other : (committed ≡ true → (record_kind rec).is_seen ≡ true → ⊥) → (not (is_rollback rec) && (start_in rec == t)) ≡ false → Climb a committed
+      pub climb_other : (committed ≡ true → (record_kind rec).is_seen ≡ true → ⊥)
+          → (not (is_rollback rec) && (start_in rec == t)) ≡ false → Climb a committed
       climb_other unseen other = record {
         from = (let from = so.from in omega (arith, from, lt));
         yes = λ e. higher (so.yes e);
-        all = λ k. so.all (lower k (λ e. (let own = own_is k.rec (ap write (sym e) ∙ k.found) k.of in cc (own, other))));
+        all = λ k. so.all (lower k
+            (λ e. (let own = own_is k.rec (ap write (sym e) ∙ k.found) k.of in cc (own, other))));
         none = none_yet unseen;
       }

@@ -41,7 +41,8 @@ write_first k None some e = absurd (some refl)
 write_first k (Some j) some e = elim (ordered k j) [
   | inl lt ↦ absurd (cc (lt, e))
   | inr other ↦ elim other [
-    | inl same ↦ ap (λ b. cond b (Some j) (Some k)) (ap (λ (i : Key). key_lt j i) same ∙ not_itself j) ∙ ap (λ (i : Key). Some i) same
+    | inl same ↦ ap (λ b. cond b (Some j) (Some k)) (ap (λ (i : Key). key_lt j i) same ∙ not_itself j)
+        ∙ ap (λ (i : Key). Some i) same
     | inr gt ↦ ap (λ b. cond b (Some j) (Some k)) gt
   ]
 ]
@@ -50,7 +51,8 @@ write_first k (Some j) some e = elim (ordered k j) [
     not_itself i = elim (cases_Bool (key_lt i i)) [ inl lt ↦ absurd (lt_itself i lt) | inr ge ↦ ge ]
 
 -- the first of the records to come
-pub front_coming : (o : Option (Bor (List ℕ × ℕ) × Bor WriteRec)) (es : Writes) → first_of (fronts_of (coming o es)) ≡ option_map (λ x. x.0.now.0) o
+pub front_coming : (o : Option (Bor (List ℕ × ℕ) × Bor WriteRec)) (es : Writes)
+    → first_of (fronts_of (coming o es)) ≡ option_map (λ x. x.0.now.0) o
 front_coming None es = refl
 front_coming (Some x) es = refl
 
@@ -65,9 +67,17 @@ no_writes [] = refl
 no_writes (e ∷ es) = no_writes es
 
 pub ended : (flat : FlatCells) (ls : Locks) (ws : Writes) → IsPosition flat ls ws → IsPosition flat [] []
-ended flat ls ws at = record { locks_rise = at.locks_rise; writes_rise = at.writes_rise; locks_left = no_locks flat.locks.entries; writes_left = no_writes flat.writes.entries }
+ended flat ls ws at =
+    record {
+      locks_rise = at.locks_rise;
+      writes_rise = at.writes_rise;
+      locks_left =
+          no_locks flat.locks.entries;
+      writes_left = no_writes flat.writes.entries;
+    }
 
-module _ (flat : FlatCells) (k : Key) (ls : Locks) (ws : Writes) (at : IsPosition flat ls ws) (next : next_key ls ws ≡ Some k) where
+module _ (flat : FlatCells) (k : Key) (ls : Locks) (ws : Writes) (at : IsPosition flat ls ws) (next : next_key ls ws
+    ≡ Some k) where
   locks_from : ls ≡ locks_where (key_le k) flat.locks.entries
   locks_from = at.locks_left ∙ ap (λ (o : Option Key). locks_where (is_to_come o) flat.locks.entries) next
 
@@ -76,7 +86,8 @@ module _ (flat : FlatCells) (k : Key) (ls : Locks) (ws : Writes) (at : IsPositio
 
   -- ---- the slot behind the key
 
-  module _ (ls' : Locks) (ws' : Writes) (el : ls' ≡ locks_where (key_lt k) flat.locks.entries) (ew : ws' ≡ writes_where (key_lt k) flat.writes.entries) where
+  module _ (ls' : Locks) (ws' : Writes) (el : ls' ≡ locks_where (key_lt k) flat.locks.entries) (ew : ws'
+      ≡ writes_where (key_lt k) flat.writes.entries) where
     pub place_behind : IsPosition flat ls' ws'
     place_behind = slot flat (key_lt k) (lt_upward k) ls' ws' at.locks_rise at.writes_rise el ew
 
@@ -85,41 +96,56 @@ module _ (flat : FlatCells) (k : Key) (ls : Locks) (ws : Writes) (at : IsPositio
 
   -- ---- its lock
 
-  first_from : (e : Key × LockRec) (es : Locks) → e ∷ es ≡ locks_where (key_le k) flat.locks.entries → IsTrue (key_le k e.0)
+  first_from : (e : Key × LockRec) (es : Locks) → e ∷ es ≡ locks_where (key_le k) flat.locks.entries
+      → IsTrue (key_le k e.0)
   first_from e es is =
-      let first = first_passing (key_le k) (keys_of flat.locks.entries) (keys_climb (keys_of flat.locks.entries) at.locks_rise) in
+      let first = first_passing (key_le k) (keys_of flat.locks.entries)
+      (keys_climb (keys_of flat.locks.entries) at.locks_rise) in
       let named : FirstOf (key_le k) (λ j. In j (keys_of flat.locks.entries)) (Some e.0) =
-      subst (λ (ks : List Key). FirstOf (key_le k) (λ j. In j (keys_of flat.locks.entries)) (first_of ks)) (sym (ap keys_of is ∙ keys_part (λ (x : Key × LockRec). x.0) (key_le k) flat.locks.entries)) first in
+      subst (λ (ks : List Key). FirstOf (key_le k) (λ j. In j (keys_of flat.locks.entries)) (first_of ks))
+      (sym (ap keys_of is ∙ keys_part (λ (x : Key × LockRec). x.0) (key_le k) flat.locks.entries)) first in
       named.passed
 
   same_key : (e : Key × LockRec) → is_eq (slice_cmp nat_cmp e.0 k) ≡ true → e.0 ≡ k
   same_key e here = exact_bytes e.0 k (tied (slice_cmp nat_cmp e.0 k) here)
 
-  above_key : (e : Key × LockRec) (es : Locks) → e ∷ es ≡ locks_where (key_le k) flat.locks.entries → is_eq (slice_cmp nat_cmp e.0 k) ≡ false → IsTrue (key_lt k e.0)
+  above_key : (e : Key × LockRec) (es : Locks) → e ∷ es ≡ locks_where (key_le k) flat.locks.entries
+      → is_eq (slice_cmp nat_cmp e.0 k) ≡ false → IsTrue (key_lt k e.0)
   above_key e es is other = elim (le_cases k e.0 (first_from e es is)) [
     | inl lt ↦ lt
-    | inr same ↦ (let here : is_eq (slice_cmp nat_cmp e.0 k) ≡ true = ap (λ (j : Key). is_eq (slice_cmp nat_cmp e.0 j)) same ∙ ap is_eq (tied_itself nat_list_cmp_total e.0) in absurd (cc (here, other)))
+    | inr same ↦ (let here : is_eq (slice_cmp nat_cmp e.0 k) ≡ true =
+        ap (λ (j : Key). is_eq (slice_cmp nat_cmp e.0 j)) same ∙ ap is_eq (tied_itself nat_list_cmp_total e.0) in
+        absurd (cc (here, other)))
   ]
 
-  behind_of : (es : Locks) → es ≡ locks_where (key_le k) flat.locks.entries → locks_behind k es ≡ locks_where (key_lt k) flat.locks.entries
-  behind_of [] is = beyond (λ (x : Key × LockRec). x.0) k flat.locks.entries (keys_climb (keys_of flat.locks.entries) at.locks_rise) [] is tt
+  behind_of : (es : Locks) → es ≡ locks_where (key_le k) flat.locks.entries
+      → locks_behind k es ≡ locks_where (key_lt k) flat.locks.entries
+  behind_of [] is = beyond (λ (x : Key × LockRec). x.0) k flat.locks.entries
+      (keys_climb (keys_of flat.locks.entries) at.locks_rise) [] is tt
   behind_of (e ∷ es) is = elim (cases_Bool (is_eq (slice_cmp nat_cmp e.0 k))) [
-    | inl here ↦ ap (λ b. cond b es (e ∷ es)) here ∙ locks_above k e es flat.locks.entries at.locks_rise (same_key e here) is
-    | inr other ↦ ap (λ b. cond b es (e ∷ es)) other ∙ beyond (λ (x : Key × LockRec). x.0) k flat.locks.entries (keys_climb (keys_of flat.locks.entries) at.locks_rise) (e ∷ es) is (above_key e es is other)
+    | inl here ↦ ap (λ b. cond b es (e ∷ es)) here
+        ∙ locks_above k e es flat.locks.entries at.locks_rise (same_key e here) is
+    | inr other ↦ ap (λ b. cond b es (e ∷ es)) other
+        ∙ beyond (λ (x : Key × LockRec). x.0) k flat.locks.entries
+        (keys_climb (keys_of flat.locks.entries) at.locks_rise) (e ∷ es) is (above_key e es is other)
   ]
 
   pub locks_passed : locks_behind k ls ≡ locks_where (key_lt k) flat.locks.entries
   locks_passed = behind_of ls locks_from
 
-  lock_of_key : (es : Locks) → es ≡ locks_where (key_le k) flat.locks.entries → (flat_content flat k).lock ≡ lock_on k es
+  lock_of_key : (es : Locks) → es ≡ locks_where (key_le k) flat.locks.entries
+      → (flat_content flat k).lock ≡ lock_on k es
   lock_of_key [] is = no_lock_here k flat.locks.entries [] is (behind_of [] is)
   lock_of_key (e ∷ es) is = elim (cases_Bool (is_eq (slice_cmp nat_cmp e.0 k))) [
     | inl here ↦ (
-        let moved : (k, e.1) ∷ es ≡ locks_where (key_le k) flat.locks.entries = ap (λ (j : Key). (j, e.1) ∷ es) (sym (same_key e here)) ∙ is in
+        let moved : (k, e.1) ∷ es ≡ locks_where (key_le k) flat.locks.entries =
+        ap (λ (j : Key). (j, e.1) ∷ es) (sym (same_key e here)) ∙ is in
         lock_here k flat.locks.entries e.1 es moved ∙ sym (ap (λ b. cond b (Some e.1) None) here)
         )
     | inr other ↦ (
-        no_lock_here k flat.locks.entries (e ∷ es) is (beyond (λ (x : Key × LockRec). x.0) k flat.locks.entries (keys_climb (keys_of flat.locks.entries) at.locks_rise) (e ∷ es) is (above_key e es is other))
+        no_lock_here k flat.locks.entries (e
+        ∷ es) is (beyond (λ (x : Key × LockRec). x.0) k flat.locks.entries
+        (keys_climb (keys_of flat.locks.entries) at.locks_rise) (e ∷ es) is (above_key e es is other))
         ∙ sym (ap (λ b. cond b (Some e.1) None) other)
         )
   ]
@@ -127,21 +153,27 @@ module _ (flat : FlatCells) (k : Key) (ls : Locks) (ws : Writes) (at : IsPositio
   pub lock_is : (flat_content flat k).lock ≡ lock_on k ls
   lock_is = lock_of_key ls locks_from
 
-  pub head_is : (head : Option LockHead) → head ≡ option_map lock_head (lock_on k ls) → head ≡ option_map lock_head_of (cells_of (flat_content flat k)).lock
-  head_is head e = e ∙ ap (option_map lock_head) (sym lock_is) ∙ lock_heads (flat_content flat k).value (flat_content flat k).lock
+  pub head_is : (head : Option LockHead) → head ≡ option_map lock_head (lock_on k ls)
+      → head ≡ option_map lock_head_of (cells_of (flat_content flat k)).lock
+  head_is head e = e ∙ ap (option_map lock_head) (sym lock_is)
+      ∙ lock_heads (flat_content flat k).value (flat_content flat k).lock
 
 -- ---- a key that has a lock and no write record
 
-starts_above : (k : Key) (es : Writes) → comes_before k (first_of (fronts_of es)) ≡ true → StartsAbove (λ (x : (List ℕ × ℕ) × WriteRec). x.0.0) k es
+starts_above : (k : Key) (es : Writes) → comes_before k (first_of (fronts_of es)) ≡ true
+    → StartsAbove (λ (x : (List ℕ × ℕ) × WriteRec). x.0.0) k es
 starts_above k [] e = tt
 starts_above k (x ∷ xs) e = e
 
-module _ (flat : FlatCells) (k : Key) (rec : LockRec) (ls : Locks) (ws : Writes) (at : IsPosition flat ((k, rec) ∷ ls) ws) (first : comes_before k (first_of (fronts_of ws)) ≡ true) where
+module _ (flat : FlatCells) (k : Key) (rec : LockRec) (ls : Locks) (ws : Writes) (at :
+    IsPosition flat ((k, rec) ∷ ls) ws) (first : comes_before k (first_of (fronts_of ws)) ≡ true) where
   next_is : next_key ((k, rec) ∷ ls) ws ≡ Some k
   next_is = lock_first k (first_of (fronts_of ws)) first
 
   writes_above : ws ≡ writes_where (key_lt k) flat.writes.entries
-  writes_above = beyond (λ (x : (List ℕ × ℕ) × WriteRec). x.0.0) k flat.writes.entries (fronts_climb flat.writes.entries at.writes_rise) ws (writes_from flat k ((k, rec) ∷ ls) ws at next_is) (starts_above k ws first)
+  writes_above = beyond (λ (x : (List ℕ × ℕ) × WriteRec). x.0.0) k flat.writes.entries
+      (fronts_climb flat.writes.entries at.writes_rise) ws (writes_from flat k ((k, rec) ∷ ls) ws at next_is)
+      (starts_above k ws first)
 
   itself : is_eq (slice_cmp nat_cmp k k) ≡ true
   itself = ap is_eq (tied_itself nat_list_cmp_total k)
@@ -152,18 +184,24 @@ module _ (flat : FlatCells) (k : Key) (rec : LockRec) (ls : Locks) (ws : Writes)
   pub locked_place : IsPosition flat ls ws
   locked_place = place_behind flat k ((k, rec) ∷ ls) ws at next_is ls ws locks_over writes_above
 
-  pub locked_passes : (head : LockHead) → head ≡ lock_head rec → (r : ℕ) → Passes flat r k (record { lock = Some head; value = None }) ls ws
+  pub locked_passes : (head : LockHead) → head ≡ lock_head rec → (r : ℕ)
+      → Passes flat r k (record { lock = Some head; value = None }) ls ws
   locked_passes head e r = record {
     shows = record {
-      lock = head_is flat k ((k, rec) ∷ ls) ws at next_is (Some head) (ap (λ (h : LockHead). Some h) e ∙ sym (ap (λ b. option_map lock_head (cond b (Some rec) None)) itself));
-      value = none_found (flat_content flat k) r (λ c other stands seen upto. (let none = no_write_here k flat.writes.entries ws c (writes_from flat k ((k, rec) ∷ ls) ws at next_is) writes_above in cc (none, stands)));
+      lock = head_is flat k ((k, rec) ∷ ls) ws at next_is (Some head) (ap (λ (h : LockHead). Some h) e
+          ∙ sym (ap (λ b. option_map lock_head (cond b (Some rec) None)) itself));
+      value = none_found (flat_content flat k) r
+          (λ c other stands seen upto. (let none =
+          no_write_here k flat.writes.entries ws c (writes_from flat k ((k, rec) ∷ ls) ws at next_is) writes_above in
+          cc (none, stands)));
     };
     next = next_behind flat k ((k, rec) ∷ ls) ws at next_is ls ws locks_over writes_above;
   }
 
 -- ---- a key that has write records
 
-module _ (flat : FlatCells) (k : Key) (c : ℕ) (rec : WriteRec) (ls : Locks) (ws : Writes) (at : IsPosition flat ls (((k, c), rec) ∷ ws)) (next : next_key ls (((k, c), rec) ∷ ws) ≡ Some k) where
+module _ (flat : FlatCells) (k : Key) (c : ℕ) (rec : WriteRec) (ls : Locks) (ws : Writes) (at :
+    IsPosition flat ls (((k, c), rec) ∷ ws)) (next : next_key ls (((k, c), rec) ∷ ws) ≡ Some k) where
   pub written_left : ((k, c), rec) ∷ ws ≡ writes_where (key_le k) flat.writes.entries
   written_left = writes_from flat k ls (((k, c), rec) ∷ ws) at next
 

@@ -17,7 +17,7 @@ use Rattle.tx_plan.proofs.OnceLists.{Once}
 use Rattle.tx_plan.proofs.LockRows.{contains_first, contains_next, contains_cases, contains_none}
 use Rattle.tx_cells.specs.Contents.{write_of}
 use Rattle.tx_flat.specs.Sieves.{writes_of}
-use Rattle.tx_encoded.specs.Spelt.{version_cmp, exact_versions}
+use Rattle.tx_spelling.specs.Spelt.{version_cmp, exact_versions}
 use Rattle.tx_flat.proofs.Retaining.{tied}
 use Rattle.tx_flat.proofs.Sieving.{Version, Entries, Place, AreLeft, find, find_first, find_before, first_is, on, keeps_at}
 
@@ -36,15 +36,30 @@ module _ (L : Key → Option Lock) (W : Version → Option WriteRec) (V : List �
   count_starts es is = record {
     versions = [];
     once = pairs_none;
-    each = λ slot. (λ c. absurd (contains_none slot c), λ h. absurd (h.1.0 (ap (option_map (write_of (V slot.0))) (is slot ∙ h.0))));
+    each = λ slot. (
+      λ c. absurd (contains_none slot c),
+      λ h. absurd (h.1.0 (ap (option_map (write_of (V slot.0))) (is slot ∙ h.0))),
+    );
     counted = refl;
     long = refl;
   }
 
-  pub count_ends : (records values : ℕ) → Counted [] records values → (versions : List (Key × ℕ)) × AllDropped cells safe versions × (records ≡ length versions) × (values ≡ long_values cells versions)
-  count_ends records values so = (so.versions, record { once = so.once; each = λ slot. (λ c. ((so.each slot).0 c).1, λ d. (so.each slot).1 (refl, d)) }, so.counted, so.long)
+  pub count_ends : (records values : ℕ) → Counted [] records values
+      → (versions : List (Key × ℕ)) × AllDropped cells safe versions × (records ≡ length versions)
+      × (values ≡ long_values cells versions)
+  count_ends records values so = (
+    so.versions,
+    record {
+      once = so.once;
+      each =
+          λ slot. (λ c. ((so.each slot).0 c).1, λ d. (so.each slot).1 (refl, d));
+    },
+    so.counted,
+    so.long,
+  )
 
-  module _ (slot : Place) (x : Version) (rec : WriteRec) (es : Entries) (are : AreLeft W slot ((x, rec) ∷ es)) (records values : ℕ) (so : Counted ((x, rec) ∷ es) records values) where
+  module _ (slot : Place) (x : Version) (rec : WriteRec) (es : Entries) (are :
+      AreLeft W slot ((x, rec) ∷ es)) (records values : ℕ) (so : Counted ((x, rec) ∷ es) records values) where
     off : (u : Version) → is_eq (version_cmp u x) ≡ false → find u ((x, rec) ∷ es) ≡ find u es
     off u other = lookup_tail (tree.is_at (version_cmp u)) (x, rec) es other
 
@@ -71,7 +86,9 @@ module _ (L : Key → Option Lock) (W : Version → Option WriteRec) (V : List �
       each = λ p. (
         λ c. (let old = (so.each p).0 c in (passed p old.0, old.1)),
         λ h. elim (cases_Bool (is_eq (version_cmp p x))) [
-          | inl e ↦ (let gone : keeps_at W V safe p ≡ false = h.1.1 in let here : keeps_at W V safe p ≡ true = ap (keeps_at W V safe) (same_of p e) ∙ stays in absurd (cc (gone, here)))
+          | inl e ↦ (let gone : keeps_at W V safe p ≡ false = h.1.1 in
+              let here : keeps_at W V safe p ≡ true = ap (keeps_at W V safe) (same_of p e) ∙ stays in
+              absurd (cc (gone, here)))
           | inr other ↦ (so.each p).1 (off p other ∙ h.0, h.1)
         ],
       );
@@ -80,9 +97,11 @@ module _ (L : Key → Option Lock) (W : Version → Option WriteRec) (V : List �
     }
 
     there : (cells x.0).write x.1 ≢ None
-    there none = (let is : (cells x.0).write x.1 ≡ Some (write_of (V x.0) rec) = ap (option_map (write_of (V x.0))) (first_is W slot x rec es are) in cc (none, is))
+    there none = (let is : (cells x.0).write x.1 ≡ Some (write_of (V x.0) rec) =
+        ap (option_map (write_of (V x.0))) (first_is W slot x rec es are) in cc (none, is))
 
-    more : keeps_at W V safe x ≡ false → (long : ℕ) → long ≡ long_values cells (x ∷ so.versions) → Counted es (records + 1) long
+    more : keeps_at W V safe x ≡ false → (long : ℕ) → long ≡ long_values cells (x ∷ so.versions)
+        → Counted es (records + 1) long
     more goes long is = record {
       versions = x ∷ so.versions;
       once = pairs_first x so.versions (λ y c e. counted_other y ((so.each y).0 c).0 (sym e)) so.once;
@@ -100,8 +119,14 @@ module _ (L : Key → Option Lock) (W : Version → Option WriteRec) (V : List �
       long = is;
     }
 
-    pub count_long : keeps_at W V safe x ≡ false → commit_is is_long (writes_of (on W V safe x.0) (V x.0) x.1) ≡ true → Counted es (records + 1) (values + 1)
-    count_long goes long = more goes (values + 1) ((let n = so.long in omega (arith, n)) ∙ sym (ap (λ b. cond b (suc (long_values cells so.versions)) (long_values cells so.versions)) long))
+    pub count_long : keeps_at W V safe x ≡ false → commit_is is_long (writes_of (on W V safe x.0) (V x.0) x.1) ≡ true
+        → Counted es (records + 1) (values + 1)
+    count_long goes long =
+        more goes (values + 1) ((let n = so.long in omega (arith, n))
+        ∙ sym (ap (λ b. cond b (suc (long_values cells so.versions)) (long_values cells so.versions)) long))
 
-    pub count_short : keeps_at W V safe x ≡ false → commit_is is_long (writes_of (on W V safe x.0) (V x.0) x.1) ≡ false → Counted es (records + 1) values
-    count_short goes short = more goes values (so.long ∙ sym (ap (λ b. cond b (suc (long_values cells so.versions)) (long_values cells so.versions)) short))
+    pub count_short : keeps_at W V safe x ≡ false → commit_is is_long (writes_of (on W V safe x.0) (V x.0) x.1) ≡ false
+        → Counted es (records + 1) values
+    count_short goes short =
+        more goes values (so.long
+        ∙ sym (ap (λ b. cond b (suc (long_values cells so.versions)) (long_values cells so.versions)) short))

@@ -6,24 +6,24 @@ ghost use Rattle.tx_plan.specs.Changes.{Applies, changed};
 ghost use Rattle.tx_plan.specs.declared.key_change.KeyChange.TheVariants as change;
 ghost use Rattle.tx_cells.specs.Contents.{cells_of};
 ghost use Rattle.tx_cells.specs.Afterwards.{OnlyOn, after, after_left};
-ghost use Rattle.tx_encoded.specs.Spelt.{version_cmp};
+ghost use Rattle.tx_spelling.specs.Spelt.{version_cmp};
 
 use crate::FlatCells;
 use std::alloc::Global;
 use std::collections::BTreeMap;
 use tx_encoded::{
-    KeyBytes, VersionBytes, WriteBytes, commit_record, lock_with_min, lock_with_ttl, marked_record,
-    rollback_record,
+    WriteBytes, commit_record, lock_with_min, lock_with_ttl, marked_record, rollback_record,
 };
 use tx_plan::{KeyChange, Left};
-use tx_types::{Fault, Key, Ts};
+use tx_spelling::{SpeltKey, VersionBytes};
+use tx_types::{Fault, Ts};
 
 /// Leaves the rollback of the transaction that started then. `OutOfMemory` leaves the records as
 /// they were.
 fn leave(
     writes: &mut BTreeMap<VersionBytes, WriteBytes>,
     alloc: Global,
-    key: &Key,
+    key: &SpeltKey<'_>,
     start: Ts,
     left: Left,
 ) -> Result<(), Fault>
@@ -39,13 +39,13 @@ fn leave(
     match left {
         Left::Already => Ok(()),
         Left::Record => {
-            let version = VersionBytes::new(alloc, key, start)?;
+            let version = key.version(alloc, start)?;
             let rec = rollback_record(alloc, start)?;
             writes.insert(version, rec)?;
             Ok(())
         }
         Left::Mark => {
-            let version = VersionBytes::new(alloc, key, start)?;
+            let version = key.version(alloc, start)?;
             let rec = match writes.get(&version) {
                 Some(bytes) => marked_record(alloc, bytes)?,
                 None => return Ok(()),
@@ -60,7 +60,7 @@ impl FlatCells {
     ghost use Rattle.tx_flat.specs.Flats.{flat_content};
 
     // Gives the lock another time to live.
-    fn set_ttl(&mut self, alloc: Global, key: &Key, ttl: u32) -> Result<(), Fault>
+    fn set_ttl(&mut self, alloc: Global, key: &SpeltKey<'_>, ttl: u32) -> Result<(), Fault>
         requires { Applies (cells_of (flat_content self.old key.now)) (change.Ttl ttl) }
         ensures content { OnOk result (OnlyOn key.now (after (flat_content self.old key.now) (change.Ttl ttl))
             (flat_content self.old) (flat_content self.new)) }
@@ -68,7 +68,7 @@ impl FlatCells {
         ensures numbers { self.new.numbers ≡ self.old.numbers }
         ensures err { IfErr result (λ e. e ≡ Fault.OutOfMemory) }
     {
-        let spelt = KeyBytes::new(alloc, key)?;
+        let spelt = key.bytes().copy(alloc)?;
         let rec = match self.locks.get(&spelt) {
             Some(bytes) => lock_with_ttl(alloc, bytes, ttl)?,
             None => return Ok(()),
@@ -78,7 +78,7 @@ impl FlatCells {
     }
 
     // Gives the lock another minimum.
-    fn set_minimum(&mut self, alloc: Global, key: &Key, min: Ts) -> Result<(), Fault>
+    fn set_minimum(&mut self, alloc: Global, key: &SpeltKey<'_>, min: Ts) -> Result<(), Fault>
         requires { Applies (cells_of (flat_content self.old key.now)) (change.Minimum min) }
         ensures content { OnOk result (OnlyOn key.now (after (flat_content self.old key.now) (change.Minimum min))
             (flat_content self.old) (flat_content self.new)) }
@@ -86,7 +86,7 @@ impl FlatCells {
         ensures numbers { self.new.numbers ≡ self.old.numbers }
         ensures err { IfErr result (λ e. e ≡ Fault.OutOfMemory) }
     {
-        let spelt = KeyBytes::new(alloc, key)?;
+        let spelt = key.bytes().copy(alloc)?;
         let rec = match self.locks.get(&spelt) {
             Some(bytes) => lock_with_min(alloc, bytes, min)?,
             None => return Ok(()),
@@ -99,7 +99,7 @@ impl FlatCells {
     fn commit(
         &mut self,
         alloc: Global,
-        key: &Key,
+        key: &SpeltKey<'_>,
         commit: Ts,
         overlapped_rollback: bool,
     ) -> Result<(), Fault>
@@ -113,15 +113,15 @@ impl FlatCells {
     {
         // For proofs: it is a number of 64 bits.
         let _ticks = commit.get();
-        let spelt = KeyBytes::new(alloc, key)?;
-        let rec = match self.locks.get(&spelt) {
+        let spelt = key.bytes();
+        let rec = match self.locks.get(spelt) {
             Some(bytes) => commit_record(alloc, bytes, overlapped_rollback)?,
             None => return Ok(()),
         };
-        let version = VersionBytes::new(alloc, key, commit)?;
+        let version = key.version(alloc, commit)?;
         self.ceilings.raise(key, commit);
         self.writes.insert(version, rec)?;
-        self.locks.remove(&spelt);
+        self.locks.remove(spelt);
         Ok(())
     }
 
@@ -129,7 +129,7 @@ impl FlatCells {
     fn roll_back(
         &mut self,
         alloc: Global,
-        key: &Key,
+        key: &SpeltKey<'_>,
         start: Ts,
         removes_lock: bool,
         left: Left,
@@ -148,10 +148,10 @@ impl FlatCells {
         if !removes_lock {
             return leave(&mut self.writes, alloc, key, start, left);
         }
-        let spelt = KeyBytes::new(alloc, key)?;
-        let version = VersionBytes::new(alloc, key, start)?;
+        let spelt = key.bytes();
+        let version = key.version(alloc, start)?;
         leave(&mut self.writes, alloc, key, start, left)?;
-        self.locks.remove(&spelt);
+        self.locks.remove(spelt);
         self.values.remove(&version);
         Ok(())
     }
@@ -160,7 +160,7 @@ impl FlatCells {
     pub(crate) fn apply_unnoted(
         &mut self,
         alloc: Global,
-        key: &Key,
+        key: &SpeltKey<'_>,
         change: KeyChange,
     ) -> Result<(), Fault>
         requires { Applies (cells_of (flat_content self.old key.now)) change }

@@ -4,17 +4,18 @@ ghost use Rattle.tx_flat.specs.Ceilings.{slot_of, ceiling_of};
 ghost use Rattle.tx_flat.specs.declared.ceilings.TheConstants.{SLOTS};
 
 use std::marker::Model;
-use tx_types::{Key, Ts};
+use tx_spelling::SpeltKey;
+use tx_types::Ts;
 
 /// How many timestamps are kept: keys share one where their last two bytes lead to one slot.
 pub(crate) const SLOTS: usize = 64;
 
 /// The slot of a key, by its last two bytes, in which numbered keys differ.
-pub(crate) fn slot(key: &Key) -> usize
+pub(crate) fn slot(key: &SpeltKey<'_>) -> usize
     ensures slot { result ≡ slot_of key.now }
     ensures within { result < SLOTS }
 {
-    let bytes = key.as_bytes();
+    let bytes = key.key().as_bytes();
     let last = bytes.len() - 1;
     (bytes[last] as usize + 10 * bytes[last.saturating_sub(1)] as usize) % SLOTS
 }
@@ -40,14 +41,14 @@ impl Ceilings {
     }
 
     /// The ceiling of a key.
-    pub fn of(&self, key: &Key) -> Ts
+    pub fn of(&self, key: &SpeltKey<'_>) -> Ts
         ensures { result ≡ ceiling_of self.now key.now }
     {
         self.marks[slot(key)]
     }
 
     /// A record of this key is put at a timestamp.
-    pub fn raise(&mut self, key: &Key, at: Ts)
+    pub fn raise(&mut self, key: &SpeltKey<'_>, at: Ts)
         ensures kept { (k : List ℕ) → ceiling_of self.old k ≤ ceiling_of self.new k }
         ensures above { at ≤ ceiling_of self.new key.now }
     {

@@ -6,7 +6,8 @@ use crate::numbers::{note, note_back};
 use std::alloc::Global;
 use tx_cells::Changes;
 use tx_plan::{KeyChange, NewLock, Prewrite};
-use tx_types::{Fault, Key, Ts};
+use tx_spelling::SpeltKey;
+use tx_types::{Fault, Ts};
 
 impl Changes for FlatCells {
     fn forget_numbers(&mut self, alloc: Global) {
@@ -17,15 +18,16 @@ impl Changes for FlatCells {
     fn put_lock(
         &mut self,
         alloc: Global,
+        key: &SpeltKey<'_>,
         body: &Prewrite,
         new: NewLock,
         number: u64,
     ) -> Result<(), Fault> {
-        let earlier = note(&mut self.numbers, alloc, &body.key, number)?;
-        match self.put_unnoted(alloc, body, new) {
+        let earlier = note(&mut self.numbers, alloc, key, number)?;
+        match self.put_unnoted(alloc, key, body, new) {
             Ok(()) => Ok(()),
             Err(fault) => {
-                note_back(&mut self.numbers, earlier);
+                note_back(&mut self.numbers, key, earlier);
                 Err(fault)
             }
         }
@@ -34,7 +36,7 @@ impl Changes for FlatCells {
     fn apply(
         &mut self,
         alloc: Global,
-        key: &Key,
+        key: &SpeltKey<'_>,
         change: KeyChange,
         number: u64,
     ) -> Result<(), Fault> {
@@ -45,7 +47,7 @@ impl Changes for FlatCells {
         match self.apply_unnoted(alloc, key, change) {
             Ok(()) => Ok(()),
             Err(fault) => {
-                note_back(&mut self.numbers, earlier);
+                note_back(&mut self.numbers, key, earlier);
                 Err(fault)
             }
         }

@@ -11,8 +11,8 @@ ghost use Rattle.tx_flat.specs.declared.ceilings.TheConstants.{SLOTS};
 use crate::ceilings::{SLOTS, slot};
 use std::alloc::Global;
 use std::collections::BTreeMap;
-use tx_encoded::KeyBytes;
-use tx_types::{Fault, Key};
+use tx_spelling::{KeyBytes, SpeltKey};
+use tx_types::Fault;
 
 /// The numbers of keys. Keys share a map by the slots of their ceilings, so that each map is
 /// small.
@@ -30,11 +30,10 @@ fn open(numbers: &mut KeyNumbers, alloc: Global) -> Result<(), Fault>
     Ok(())
 }
 
-/// A key of which a number was noted, its slot, and the number before it.
+/// The slot of a key of which a number was noted, and the number before it.
 #[derive(Drop)]
 pub(crate) struct Earlier {
     slot: usize,
-    key: KeyBytes,
     before: u64,
 }
 
@@ -57,30 +56,27 @@ fn note_over(numbers: &mut BTreeMap<KeyBytes, u64>, key: &KeyBytes, number: u64)
     }
 }
 
-// Notes the first number of a key, which is spelt already, in the map of this slot.
+// Notes the first number of a key in the map of this slot.
 #[inline(never)]
 fn note_first(
     numbers: &mut BTreeMap<KeyBytes, u64>,
     alloc: Global,
     slot: usize,
-    key: &Key,
-    spelt: KeyBytes,
+    key: &SpeltKey<'_>,
     number: u64,
 ) -> Result<Earlier, Fault>
-    requires { spelt ≡ key.now }
     ensures noted { OnOk result ((k : Key) → numbers_in numbers.new k
         ≡ noted (numbers_in numbers.old) key.now number k) }
-    ensures before { IfOk result (λ x. (x.key ≡ key.now) × (x.before ≡ numbers_in numbers.old key.now)) }
+    ensures before { IfOk result (λ x. x.before ≡ numbers_in numbers.old key.now) }
     ensures there { OnOk result (IsSome (tree.get (slice_cmp nat_cmp) numbers.new key.now)) }
     ensures slot { IfOk result (λ x. x.slot ≡ slot) }
     ensures same { OnErr result ((k : Key) → numbers_in numbers.new k ≡ numbers_in numbers.old k) }
     ensures err { IfErr result (λ e. e ≡ Fault.OutOfMemory) }
 {
-    let again = KeyBytes::new(alloc, key)?;
+    let spelt = key.bytes().copy(alloc)?;
     let before = numbers.insert(spelt, number)?;
     Ok(Earlier {
         slot,
-        key: again,
         before: before.unwrap_or(0),
     })
 }
@@ -90,25 +86,20 @@ fn note_in(
     numbers: &mut BTreeMap<KeyBytes, u64>,
     alloc: Global,
     slot: usize,
-    key: &Key,
+    key: &SpeltKey<'_>,
     number: u64,
 ) -> Result<Earlier, Fault>
     ensures noted { OnOk result ((k : Key) → numbers_in numbers.new k
         ≡ noted (numbers_in numbers.old) key.now number k) }
-    ensures before { IfOk result (λ x. (x.key ≡ key.now) × (x.before ≡ numbers_in numbers.old key.now)) }
+    ensures before { IfOk result (λ x. x.before ≡ numbers_in numbers.old key.now) }
     ensures there { OnOk result (IsSome (tree.get (slice_cmp nat_cmp) numbers.new key.now)) }
     ensures slot { IfOk result (λ x. x.slot ≡ slot) }
     ensures same { OnErr result ((k : Key) → numbers_in numbers.new k ≡ numbers_in numbers.old k) }
     ensures err { IfErr result (λ e. e ≡ Fault.OutOfMemory) }
 {
-    let spelt = KeyBytes::new(alloc, key)?;
-    match note_over(numbers, &spelt, number) {
-        Some(before) => Ok(Earlier {
-            slot,
-            key: spelt,
-            before,
-        }),
-        None => note_first(numbers, alloc, slot, key, spelt, number),
+    match note_over(numbers, key.bytes(), number) {
+        Some(before) => Ok(Earlier { slot, before }),
+        None => note_first(numbers, alloc, slot, key, number),
     }
 }
 
@@ -116,13 +107,13 @@ fn note_in(
 pub(crate) fn note(
     numbers: &mut KeyNumbers,
     alloc: Global,
-    key: &Key,
+    key: &SpeltKey<'_>,
     number: u64,
 ) -> Result<Earlier, Fault>
     ensures noted { OnOk result ((k : Key) → numbers_among numbers.new.items k
         ≡ noted (numbers_among numbers.old.items) key.now number k) }
-    ensures before { IfOk result (λ x. (x.key ≡ key.now) × (x.before ≡ numbers_among numbers.old.items key.now)) }
-    ensures there { IfOk result (λ x. IsNoted numbers.new.items x.slot x.key) }
+    ensures before { IfOk result (λ x. x.before ≡ numbers_among numbers.old.items key.now) }
+    ensures there { IfOk result (λ x. IsNoted numbers.new.items x.slot key.now) }
     ensures same { OnErr result ((k : Key) → numbers_among numbers.new.items k ≡ numbers_among numbers.old.items k) }
     ensures err { IfErr result (λ e. e ≡ Fault.OutOfMemory) }
 {
@@ -142,10 +133,10 @@ fn note_back_in(numbers: &mut BTreeMap<KeyBytes, u64>, key: &KeyBytes, before: u
 }
 
 /// Notes the number before it, where a number was noted.
-pub(crate) fn note_back(numbers: &mut KeyNumbers, earlier: Earlier)
-    requires { IsNoted numbers.old.items earlier.slot earlier.key }
+pub(crate) fn note_back(numbers: &mut KeyNumbers, key: &SpeltKey<'_>, earlier: Earlier)
+    requires { IsNoted numbers.old.items earlier.slot key.now }
     ensures { (k : Key) → numbers_among numbers.new.items k
-        ≡ noted (numbers_among numbers.old.items) earlier.key earlier.before k }
+        ≡ noted (numbers_among numbers.old.items) key.now earlier.before k }
 {
-    note_back_in(&mut numbers[earlier.slot], &earlier.key, earlier.before);
+    note_back_in(&mut numbers[earlier.slot], key.bytes(), earlier.before);
 }

@@ -6,8 +6,9 @@ ghost use Rattle.tx_cells.specs.Afterwards.{OnlyOn, put_on};
 
 use crate::FlatCells;
 use std::alloc::Global;
-use tx_encoded::{KeyBytes, VersionBytes, apart, lock_bytes};
+use tx_encoded::{apart, lock_bytes};
 use tx_plan::{NewLock, Prewrite};
+use tx_spelling::SpeltKey;
 use tx_types::Fault;
 
 impl FlatCells {
@@ -18,10 +19,12 @@ impl FlatCells {
     pub(crate) fn put_unnoted(
         &mut self,
         alloc: Global,
+        key: &SpeltKey<'_>,
         body: &Prewrite,
         new: NewLock,
     ) -> Result<(), Fault>
-        requires { CanPut (cells_of (flat_content self.old body.now.key)) body.now new }
+        requires of { key.now ≡ body.now.key }
+        requires can { CanPut (cells_of (flat_content self.old body.now.key)) body.now new }
         ensures content { OnOk result (OnlyOn body.now.key (put_on (flat_content self.old body.now.key) body.now new)
             (flat_content self.old) (flat_content self.new)) }
         ensures cells { OnOk result (cells_of (flat_content self.new body.now.key)
@@ -31,13 +34,13 @@ impl FlatCells {
         ensures err { IfErr result (λ e. e ≡ Fault.OutOfMemory) }
     {
         let rec = lock_bytes(alloc, body, new)?;
-        let spelt = KeyBytes::new(alloc, &body.key)?;
+        let spelt = key.bytes().copy(alloc)?;
         let Some(value) = apart(&body.mutation)? else {
             self.locks.insert(spelt, rec)?;
             return Ok(());
         };
-        let version = VersionBytes::new(alloc, &body.key, body.start)?;
-        let same_version = VersionBytes::new(alloc, &body.key, body.start)?;
+        let version = key.version(alloc, body.start)?;
+        let same_version = key.version(alloc, body.start)?;
         self.values.insert(version, value)?;
         match self.locks.insert(spelt, rec) {
             Ok(_) => Ok(()),

@@ -8,8 +8,9 @@ use crate::FlatCells;
 use crate::searches::{FlatHistory, newest_seen};
 use std::alloc::Global;
 use tx_cells::{SeenRecord, seen_at};
-use tx_encoded::{VersionBytes, WriteBytes, seen_in};
-use tx_types::{Fault, Key, Ts, Value};
+use tx_encoded::{WriteBytes, seen_in};
+use tx_spelling::{KeyBytes, SpeltKey, VersionBytes};
+use tx_types::{Fault, Ts, Value};
 
 impl FlatCells {
     ghost use Rattle.tx_flat.specs.Flats.{flat_content};
@@ -19,7 +20,7 @@ impl FlatCells {
     fn value_in(
         &self,
         alloc: Global,
-        key: &Key,
+        key: &KeyBytes,
         bytes: &WriteBytes,
         at: Ts,
         seen: SeenRecord,
@@ -33,7 +34,7 @@ impl FlatCells {
         if !bytes.keeps_value_apart() {
             return bytes.inline_value(alloc);
         }
-        let version = VersionBytes::new(alloc, key, seen.start)?;
+        let version = VersionBytes::of(alloc, key, seen.start)?;
         match self.values.get(&version) {
             Some(value) => Ok(Some(value.clone()?)),
             None => Ok(None),
@@ -44,7 +45,7 @@ impl FlatCells {
     fn value_below(
         &self,
         alloc: Global,
-        key: &Key,
+        key: &KeyBytes,
         version: VersionBytes,
         at: Ts,
     ) -> Result<Option<Value>, Fault>
@@ -72,7 +73,7 @@ impl FlatCells {
     fn value_searched(
         &self,
         alloc: Global,
-        key: &Key,
+        key: &KeyBytes,
         version: VersionBytes,
         at: Ts,
     ) -> Result<Option<Value>, Fault>
@@ -87,11 +88,11 @@ impl FlatCells {
     }
 
     // The value that a read at this timestamp sees of the key.
-    fn value_at(&self, alloc: Global, key: &Key, at: Ts) -> Result<Option<Value>, Fault>
+    fn value_at(&self, alloc: Global, key: &KeyBytes, at: Ts) -> Result<Option<Value>, Fault>
         ensures value { IfOk result (λ value. Reads (cells_of (flat_content self.now key.now)).write at value) }
         ensures err { IfErr result (λ e. e ≡ Fault.OutOfMemory) }
     {
-        let version = VersionBytes::new(alloc, key, at)?;
+        let version = VersionBytes::of(alloc, key, at)?;
         self.value_searched(alloc, key, version, at)
     }
 
@@ -100,7 +101,7 @@ impl FlatCells {
     pub(crate) fn value_by(
         &self,
         alloc: Global,
-        key: &Key,
+        key: &KeyBytes,
         version: &VersionBytes,
         bytes: &WriteBytes,
         at: Ts,
@@ -126,7 +127,7 @@ impl FlatCells {
     pub(crate) fn value_seen(
         &self,
         alloc: Global,
-        key: &Key,
+        key: &SpeltKey<'_>,
         mut version: VersionBytes,
         at: Ts,
     ) -> Result<Option<Value>, Fault>
@@ -134,14 +135,15 @@ impl FlatCells {
         ensures value { IfOk result (λ value. Reads (cells_of (flat_content self.now key.now)).write at value) }
         ensures err { IfErr result (λ e. e ≡ Fault.OutOfMemory) }
     {
+        let spelt = key.bytes();
         let ceiling = self.ceilings.of(key);
         if ceiling <= at {
             version.set_at(ceiling);
             if let Some(bytes) = self.writes.get(&version) {
-                return self.value_by(alloc, key, &version, bytes, at);
+                return self.value_by(alloc, spelt, &version, bytes, at);
             }
             version.set_at(at);
         }
-        self.value_searched(alloc, key, version, at)
+        self.value_searched(alloc, spelt, version, at)
     }
 }

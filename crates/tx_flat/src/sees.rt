@@ -6,18 +6,24 @@ use crate::searches::{FlatHistory, head_on};
 use crate::sieve::Sieve;
 use std::alloc::Global;
 use tx_cells::{KeyVersions, Sees, records_down, sum};
-use tx_encoded::{KeyBytes, VersionBytes};
 use tx_plan::{
     Answer, Dropped, Infos, ReadView, Scan, TxnView, first_below, infos_below, scan_walk,
 };
-use tx_types::{Fault, Key, LockInfo, Ts};
+use tx_spelling::SpeltKey;
+use tx_types::{Fault, LockInfo, Ts};
 
 impl Sees for FlatCells {
     // Mostly all records are older.
-    fn view(&self, alloc: Global, key: &Key, start: Ts, commit: Ts) -> Result<TxnView, Fault> {
-        let version = VersionBytes::new(alloc, key, Ts::new(u64::MAX))?;
-        let lock = head_on(&self.locks, version.spelt());
-        if self.is_past(key, &version, start, commit) {
+    fn view(
+        &self,
+        alloc: Global,
+        key: &SpeltKey<'_>,
+        start: Ts,
+        commit: Ts,
+    ) -> Result<TxnView, Fault> {
+        let lock = head_on(&self.locks, key.bytes());
+        let past = self.is_past(alloc, key, start, commit)?;
+        if past {
             return Ok(TxnView {
                 lock,
                 at_start: None,
@@ -26,20 +32,20 @@ impl Sees for FlatCells {
                 newest_above: None,
             });
         }
+        let version = key.version(alloc, start)?;
         Ok(self.view_by(version, lock, start, commit))
     }
 
-    fn read(&self, alloc: Global, key: &Key, at: Ts) -> Result<ReadView, Fault> {
-        let version = VersionBytes::new(alloc, key, at)?;
-        let lock = head_on(&self.locks, version.spelt());
+    fn read(&self, alloc: Global, key: &SpeltKey<'_>, at: Ts) -> Result<ReadView, Fault> {
+        let lock = head_on(&self.locks, key.bytes());
+        let version = key.version(alloc, at)?;
         let value = self.value_seen(alloc, key, version, at)?;
         Ok(ReadView { lock, value })
     }
 
-    fn lock_info(&self, alloc: Global, key: &Key) -> Result<Option<LockInfo>, Fault> {
-        let spelt = KeyBytes::new(alloc, key)?;
-        match self.locks.get(&spelt) {
-            Some(bytes) => Ok(Some(bytes.read(alloc)?.info(alloc, key)?)),
+    fn lock_info(&self, alloc: Global, key: &SpeltKey<'_>) -> Result<Option<LockInfo>, Fault> {
+        match self.locks.get(key.bytes()) {
+            Some(bytes) => Ok(Some(bytes.read(alloc)?.info(alloc, key.key())?)),
             None => Ok(None),
         }
     }
@@ -75,8 +81,8 @@ impl Sees for FlatCells {
         Ok(Dropped { records, values })
     }
 
-    fn cells(&self, alloc: Global, key: &Key) -> Result<KeyVersions, Fault> {
-        let version = VersionBytes::new(alloc, key, Ts::ZERO)?;
+    fn cells(&self, alloc: Global, key: &SpeltKey<'_>) -> Result<KeyVersions, Fault> {
+        let version = key.version(alloc, Ts::ZERO)?;
         let lock = head_on(&self.locks, version.spelt());
         start_fits(&lock);
         let mut history = FlatHistory {
@@ -92,13 +98,13 @@ impl Sees for FlatCells {
         })
     }
 
-    fn number(&self, alloc: Global, key: &Key) -> Result<u64, Fault> {
+    fn number(&self, alloc: Global, key: &SpeltKey<'_>) -> Result<u64, Fault> {
+        let _ = alloc;
         let slot = slot(key);
         if self.numbers.len() <= slot {
             return Ok(0);
         }
-        let spelt = KeyBytes::new(alloc, key)?;
-        match self.numbers[slot].get(&spelt) {
+        match self.numbers[slot].get(key.bytes()) {
             Some(number) => Ok(*number),
             None => Ok(0),
         }

@@ -1,15 +1,16 @@
 //! What a request sees of its key.
-ghost use Rattle.std.specs.Prelude.{◌≡◌, ◌<◌, ◌≤◌, ℕ, None, IsTrue, option_map};
+ghost use Rattle.std.specs.Prelude.{◌≡◌, ◌<◌, ◌≤◌, ℕ, None, IfOk, IfErr, IsTrue, option_map};
 ghost use Rattle.tx_plan.specs.Views.{Shows};
 ghost use Rattle.tx_cells.specs.Contents.{cells_of};
 ghost use Rattle.tx_cells.specs.Heads.{lock_head};
 
 use crate::FlatCells;
 use crate::searches::{FlatHistory, are_past, head_at};
+use std::alloc::Global;
 use tx_cells::{Above, commits_above};
-use tx_encoded::VersionBytes;
 use tx_plan::{LockHead, TxnView};
-use tx_types::{Key, Ts};
+use tx_spelling::{SpeltKey, VersionBytes};
+use tx_types::{Fault, Ts};
 
 // Whether a ceiling is below a start and a commit.
 fn is_older(ceiling: Ts, start: Ts, commit: Ts) -> bool
@@ -52,16 +53,25 @@ impl FlatCells {
         }
     }
 
-    /// Whether each record of a key is older than a start and a commit, by the greatest version
-    /// that it may have. Mostly its ceiling tells, and else one search.
-    pub(crate) fn is_past(&self, key: &Key, greatest: &VersionBytes, start: Ts, commit: Ts) -> bool
-        requires { greatest.now ≡ (key.now, u64.MAX) }
-        ensures start { IsTrue result → (q : ℕ) → start ≤ q → (flat_content self.now key.now).write q ≡ None }
-        ensures commit { IsTrue result → (q : ℕ) → commit ≤ q → (flat_content self.now key.now).write q ≡ None }
+    /// Whether each record of a key is older than a start and a commit. Mostly its ceiling tells,
+    /// and else one search.
+    pub(crate) fn is_past(
+        &self,
+        alloc: Global,
+        key: &SpeltKey<'_>,
+        start: Ts,
+        commit: Ts,
+    ) -> Result<bool, Fault>
+        ensures start { IfOk result (λ past. IsTrue past → (q : ℕ) → start ≤ q
+            → (flat_content self.now key.now).write q ≡ None) }
+        ensures commit { IfOk result (λ past. IsTrue past → (q : ℕ) → commit ≤ q
+            → (flat_content self.now key.now).write q ≡ None) }
+        ensures err { IfErr result (λ e. e ≡ Fault.OutOfMemory) }
     {
         if is_older(self.ceilings.of(key), start, commit) {
-            return true;
+            return Ok(true);
         }
-        are_past(&self.writes, greatest, start, commit)
+        let greatest = key.version(alloc, Ts::new(u64::MAX))?;
+        Ok(are_past(&self.writes, &greatest, start, commit))
     }
 }

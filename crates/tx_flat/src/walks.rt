@@ -14,8 +14,9 @@ use crate::next_key::{Record, next_front};
 use std::alloc::Global;
 use std::collections::btree_map::{Iter, Range};
 use tx_cells::Sees;
-use tx_encoded::{KeyBytes, LockBytes, VersionBytes, WriteBytes, lock_head_of};
+use tx_encoded::{LockBytes, WriteBytes, lock_head_of};
 use tx_plan::{LockHead, LockWalk, ReadView, ReadWalk};
+use tx_spelling::{KeyBytes, SpeltKey, VersionBytes};
 use tx_types::{Fault, Key, LockInfo, Ts};
 
 /// A key and its lock, in the maps.
@@ -112,7 +113,7 @@ impl<'a> FlatReads<'a> {
         let cells = self.cells;
         let (version, bytes) = newest;
         let key = version.key(alloc)?;
-        let value = cells.value_by(alloc, &key, version, bytes, at)?;
+        let value = cells.value_by(alloc, version.spelt(), version, bytes, at)?;
         let write = next_front(&cells.writes, &mut self.writes, alloc, &key, newest)?;
         let (head, lock) = lock_behind(lock, &mut self.locks, version);
         self.lock = lock;
@@ -144,7 +145,8 @@ impl<'a> ReadWalk for FlatReads<'a> {
     }
 
     fn lock_info(&self, alloc: Global, key: &Key) -> Result<Option<LockInfo>, Fault> {
-        self.cells.lock_info(alloc, key)
+        let spelt = SpeltKey::new(alloc, key)?;
+        self.cells.lock_info(alloc, &spelt)
     }
 }
 
@@ -171,7 +173,8 @@ impl<'a> LockWalk for FlatLocks<'a> {
     }
 
     fn lock_info(&self, alloc: Global, key: &Key) -> Result<Option<LockInfo>, Fault> {
-        self.cells.lock_info(alloc, key)
+        let spelt = SpeltKey::new(alloc, key)?;
+        self.cells.lock_info(alloc, &spelt)
     }
 }
 

@@ -22,7 +22,8 @@ has_cases x xs y (zero, lt, e) = inl e
 has_cases x xs y (suc k, lt, e) = inr (k, omega (arith, lt), e)
 
 -- a member of a filtered list is a member that passes the test
-passing : {X : Type 0} (test : X → Bool) (xs : List X) (x : X) → Contains xs x → test x ≡ true → Contains (filter test xs) x
+passing : {X : Type 0} (test : X → Bool) (xs : List X) (x : X) → Contains xs x → test x ≡ true
+    → Contains (filter test xs) x
 passing test [] x c e = absurd (has_none x c)
 passing test (y ∷ xs) x c e =
     elim (cases_Bool (test y)) [
@@ -36,15 +37,18 @@ passing test (y ∷ xs) x c e =
       ]))
     ]
 
-passed : {X : Type 0} (test : X → Bool) (xs : List X) (x : X) → Contains (filter test xs) x → Contains xs x × (test x ≡ true)
+passed : {X : Type 0} (test : X → Bool) (xs : List X) (x : X) → Contains (filter test xs) x
+    → Contains xs x × (test x ≡ true)
 passed test [] x c = absurd (has_none x c)
 passed test (y ∷ xs) x c =
     elim (cases_Bool (test y)) [
-      | inl passes ↦ (let d : Contains (y ∷ filter test xs) x = rw passes at c in elim (has_cases y (filter test xs) x d) [
-        | inl is ↦ (subst (Contains (y ∷ xs)) is (has_first y xs), subst (λ z. test z ≡ true) is passes)
-        | inr later ↦ (let rest = passed test xs x later in (has_next y xs x rest.0, rest.1))
-      ])
-      | inr fails ↦ (let d : Contains (filter test xs) x = rw fails at c in let rest = passed test xs x d in (has_next y xs x rest.0, rest.1))
+      | inl passes ↦ (let d : Contains (y ∷ filter test xs) x = rw passes at c in
+          elim (has_cases y (filter test xs) x d) [
+            | inl is ↦ (subst (Contains (y ∷ xs)) is (has_first y xs), subst (λ z. test z ≡ true) is passes)
+            | inr later ↦ (let rest = passed test xs x later in (has_next y xs x rest.0, rest.1))
+          ])
+      | inr fails ↦ (let d : Contains (filter test xs) x = rw fails at c in let rest = passed test xs x d in
+          (has_next y xs x rest.0, rest.1))
     ]
 
 -- ---- slots
@@ -99,14 +103,17 @@ meeting_slot (x ∷ xs) ys e =
 -- ---- the laws
 
 -- a granted command that shares a slot with the first is none of the later ones
-apart_later : (c d : Command) (later : List Command) (slot : ℕ) → Contains (filter (λ x. not (meets c.slots x.slots)) (granted later)) d → Contains c.slots slot → Contains d.slots slot → ⊥
+apart_later : (c d : Command) (later : List Command) (slot : ℕ)
+    → Contains (filter (λ x. not (meets c.slots x.slots)) (granted later)) d → Contains c.slots slot
+    → Contains d.slots slot → ⊥
 apart_later c d later slot among own its =
     let passes = (passed (λ x. not (meets c.slots x.slots)) (granted later) d among).1 in
     let e : meets c.slots d.slots ≡ true = they_meet c.slots d.slots slot own its in
     let no : not true ≡ true = ap not (sym e) ∙ passes in
     cc no
 
-pub granted_apart : (asked : List Command) (c d : Command) (slot : ℕ) → Contains (granted asked) c → Contains (granted asked) d → Contains c.slots slot → Contains d.slots slot → c ≡ d
+pub granted_apart : (asked : List Command) (c d : Command) (slot : ℕ) → Contains (granted asked) c
+    → Contains (granted asked) d → Contains c.slots slot → Contains d.slots slot → c ≡ d
 granted_apart [] c d slot x y own its = absurd (has_none c x)
 granted_apart (a ∷ later) c d slot x y own its =
     let rest : List Command = filter (λ e. not (meets a.slots e.slots)) (granted later) in
@@ -115,24 +122,34 @@ granted_apart (a ∷ later) c d slot x y own its =
     elim (has_cases a rest c x') [
       | inl c_first ↦ elim (has_cases a rest d y') [
         | inl d_first ↦ sym c_first ∙ d_first
-        | inr d_later ↦ absurd (apart_later a d later slot d_later (subst (λ (e : Command). Contains e.slots slot) (sym c_first) own) its)
+        | inr d_later ↦ absurd
+            (apart_later a d later slot d_later (subst (λ (e : Command). Contains e.slots slot) (sym c_first) own) its)
       ]
       | inr c_later ↦ elim (has_cases a rest d y') [
-        | inl d_first ↦ absurd (apart_later a c later slot c_later (subst (λ (e : Command). Contains e.slots slot) (sym d_first) its) own)
-        | inr d_later ↦ granted_apart later c d slot (passed (λ e. not (meets a.slots e.slots)) (granted later) c c_later).0 (passed (λ e. not (meets a.slots e.slots)) (granted later) d d_later).0 own its
+        | inl d_first ↦ absurd
+            (apart_later a c later slot c_later (subst (λ (e : Command). Contains e.slots slot) (sym d_first) its) own)
+        | inr d_later ↦ granted_apart later c d slot
+            (passed (λ e. not (meets a.slots e.slots)) (granted later) c c_later).0
+            (passed (λ e. not (meets a.slots e.slots)) (granted later) d d_later).0 own its
       ]
     ]
 
 pub first_granted : (c : Command) (later : List Command) → Contains (granted (c ∷ later)) c
-first_granted c later = subst (λ l. Contains l c) (sym (granted-cons c later)) (has_first c (filter (λ e. not (meets c.slots e.slots)) (granted later)))
+first_granted c later =
+    subst (λ l. Contains l c) (sym (granted-cons c later))
+    (has_first c (filter (λ e. not (meets c.slots e.slots)) (granted later)))
 
-pub free_granted : (before later : List Command) (c : Command) → ((e : Command) (slot : ℕ) → Contains before e → Contains e.slots slot → Contains c.slots slot → ⊥) → Contains (granted (before ++ c ∷ later)) c
+pub free_granted : (before later : List Command) (c : Command)
+    → ((e : Command) (slot : ℕ) → Contains before e → Contains e.slots slot → Contains c.slots slot → ⊥)
+    → Contains (granted (before ++ c ∷ later)) c
 free_granted [] later c apart = first_granted c later
 free_granted (b ∷ before) later c apart =
     let rest = free_granted before later c (λ e slot among. apart e slot (has_next b before e among)) in
     let none : not (meets b.slots c.slots) ≡ true = elim (cases_Bool (meets b.slots c.slots)) [
-      | inl they ↦ (let both = meeting_slot b.slots c.slots they in absurd (apart b both.0 (has_first b before) both.1 both.2))
+      | inl they ↦ (let both = meeting_slot b.slots c.slots they in
+          absurd (apart b both.0 (has_first b before) both.1 both.2))
       | inr apart_here ↦ ap not apart_here
     ] in
     subst (λ l. Contains l c) (sym (granted-cons b (before ++ c ∷ later)))
-    (has_next b (filter (λ e. not (meets b.slots e.slots)) (granted (before ++ c ∷ later))) c (passing (λ e. not (meets b.slots e.slots)) (granted (before ++ c ∷ later)) c rest none))
+    (has_next b (filter (λ e. not (meets b.slots e.slots)) (granted (before ++ c ∷ later))) c
+    (passing (λ e. not (meets b.slots e.slots)) (granted (before ++ c ∷ later)) c rest none))

@@ -7,10 +7,15 @@ use Rattle.tx_latch.proofs.Granted.{Distinct-around}
 use Rattle.tx_latch.proofs.Links.{contains_minus, last_in-append, apart_at}
 
 -- the command that joins is the last in each of its slots
-pub last_in-push : (cs : List Command) (c : Command) (s : ℕ) → last_in (cs ++ c ∷ []) s ≡ cond (contains s c.slots) (Some c.cid) (last_in cs s)
-last_in-push cs c s = last_in-append cs (c ∷ []) s ∙ elim (contains s c.slots) as (λ b. or_else (cond b (Some c.cid) None) (last_in cs s) ≡ cond b (Some c.cid) (last_in cs s)) [ true ↦ refl | false ↦ refl ]
+pub last_in-push : (cs : List Command) (c : Command) (s : ℕ)
+    → last_in (cs ++ c ∷ []) s ≡ cond (contains s c.slots) (Some c.cid) (last_in cs s)
+last_in-push cs c s =
+    last_in-append cs (c ∷ []) s
+    ∙ elim (contains s c.slots) as (λ b. or_else (cond b (Some c.cid) None) (last_in cs s)
+    ≡ cond b (Some c.cid) (last_in cs s)) [ true ↦ refl | false ↦ refl ]
 
-lacks_step : (x y : ℕ) (o : Option ℕ) (b : Bool) → is_number x o ≡ false → eqb x y ≡ false → is_number x (or_else o (cond b (Some y) None)) ≡ false
+lacks_step : (x y : ℕ) (o : Option ℕ) (b : Bool) → is_number x o ≡ false → eqb x y ≡ false
+    → is_number x (or_else o (cond b (Some y) None)) ≡ false
 lacks_step x y None true h k = k
 lacks_step x y None false h k = refl
 lacks_step x y (Some z) b h k = h
@@ -23,7 +28,8 @@ last_in-lacks x (c ∷ cs) s h =
     lacks_step x c.cid (last_in cs s) (contains s c.slots) (last_in-lacks x cs s two.1) two.0
 
 -- none stands in the slots of a command that is free of them
-pub last_in-free : (bs : List Command) (p : Command) (s : ℕ) → contains s p.slots ≡ true → blocked bs p ≡ false → last_in bs s ≡ None
+pub last_in-free : (bs : List Command) (p : Command) (s : ℕ) → contains s p.slots ≡ true → blocked bs p ≡ false
+    → last_in bs s ≡ None
 last_in-free [] p s h free = refl
 last_in-free (b ∷ bs) p s h free =
     let two = or_none (meets b.slots p.slots) (blocked bs p) free in
@@ -38,7 +44,8 @@ and_true : (a : Bool) → (a && true) ≡ a
 and_true true = refl
 and_true false = refl
 
-none_step : (a b : Bool) (y : ℕ) (o : Option ℕ) → ((a && not b) && is_none o) ≡ (a && is_none (or_else o (cond b (Some y) None)))
+none_step : (a b : Bool) (y : ℕ) (o : Option ℕ)
+    → ((a && not b) && is_none o) ≡ (a && is_none (or_else o (cond b (Some y) None)))
 unfolding is_none
 none_step true true y None = refl
 none_step true false y None = refl
@@ -47,7 +54,8 @@ none_step true false y (Some z) = refl
 none_step false b y o = refl
 
 -- a slot is left over by the later ones exactly where none of them has it
-contains_untaken : (s : ℕ) (slots : List ℕ) (cs : List Command) → contains s (untaken slots cs) ≡ (contains s slots && is_none (last_in cs s))
+contains_untaken : (s : ℕ) (slots : List ℕ) (cs : List Command)
+    → contains s (untaken slots cs) ≡ (contains s slots && is_none (last_in cs s))
 unfolding is_none
 contains_untaken s slots [] = sym (and_true (contains s slots))
 contains_untaken s slots (c ∷ cs) =
@@ -55,7 +63,8 @@ contains_untaken s slots (c ∷ cs) =
     ∙ ap (λ b. b && is_none (last_in cs s)) (contains_minus s slots c.slots)
     ∙ none_step (contains s slots) (contains s c.slots) c.cid (last_in cs s)
 
-at_step : (b : Bool) (x : ℕ) (o before : Option ℕ) → is_number x o ≡ false → is_number x before ≡ false → (b && is_none o) ≡ is_number x (or_else (or_else o (cond b (Some x) None)) before)
+at_step : (b : Bool) (x : ℕ) (o before : Option ℕ) → is_number x o ≡ false → is_number x before ≡ false
+    → (b && is_none o) ≡ is_number x (or_else (or_else o (cond b (Some x) None)) before)
 unfolding is_none
 at_step true x None before h k = sym (eqb_self x)
 at_step false x None before h k = sym k
@@ -63,25 +72,33 @@ at_step true x (Some y) before h k = sym h
 at_step false x (Some y) before h k = sym h
 
 -- a command is the last in a slot exactly where it has it and none behind it does
-pub last_in-at : (bs : List Command) (e : Command) (xs : List Command) (s : ℕ) → Distinct (bs ++ e ∷ xs) → contains s (untaken e.slots xs) ≡ is_number e.cid (last_in (bs ++ e ∷ xs) s)
+pub last_in-at : (bs : List Command) (e : Command) (xs : List Command) (s : ℕ) → Distinct (bs ++ e ∷ xs)
+    → contains s (untaken e.slots xs) ≡ is_number e.cid (last_in (bs ++ e ∷ xs) s)
 last_in-at bs e xs s h =
     let parts = Distinct-around bs e xs h in
     contains_untaken s e.slots xs
-    ∙ at_step (contains s e.slots) e.cid (last_in xs s) (last_in bs s) (last_in-lacks e.cid xs s parts.1) (last_in-lacks e.cid bs s parts.0)
+    ∙ at_step (contains s e.slots) e.cid (last_in xs s) (last_in bs s) (last_in-lacks e.cid xs s parts.1)
+    (last_in-lacks e.cid bs s parts.0)
     ∙ sym (ap (is_number e.cid) (last_in-append bs (e ∷ xs) s))
 
-around_step : (x : ℕ) (o before : Option ℕ) (b : Bool) → is_number x o ≡ false → is_number x before ≡ false → (b ≡ true → before ≡ None)
-    → or_else o before ≡ cond (b && is_number x (or_else (or_else o (cond b (Some x) None)) before)) None (or_else (or_else o (cond b (Some x) None)) before)
+around_step : (x : ℕ) (o before : Option ℕ) (b : Bool) → is_number x o ≡ false → is_number x before ≡ false
+    → (b ≡ true → before ≡ None)
+    → or_else o before ≡ cond (b
+    && is_number x (or_else (or_else o (cond b (Some x) None)) before)) None
+    (or_else (or_else o (cond b (Some x) None)) before)
 around_step x None before true h k f = f refl ∙ rw (eqb_self x) refl
 around_step x None before false h k f = refl
 around_step x (Some y) before true h k f = rw h refl
 around_step x (Some y) before false h k f = refl
 
 -- where a granted command leaves, the slots in which it was the last are free
-pub last_in-around : (bs : List Command) (p : Command) (xs : List Command) (s : ℕ) → Distinct (bs ++ p ∷ xs) → blocked bs p ≡ false
-    → last_in (bs ++ xs) s ≡ cond (contains s p.slots && is_number p.cid (last_in (bs ++ p ∷ xs) s)) None (last_in (bs ++ p ∷ xs) s)
+pub last_in-around : (bs : List Command) (p : Command) (xs : List Command) (s : ℕ) → Distinct (bs ++ p ∷ xs)
+    → blocked bs p ≡ false
+    → last_in (bs ++ xs) s
+    ≡ cond (contains s p.slots && is_number p.cid (last_in (bs ++ p ∷ xs) s)) None (last_in (bs ++ p ∷ xs) s)
 last_in-around bs p xs s h free =
     let parts = Distinct-around bs p xs h in
     last_in-append bs xs s
-    ∙ around_step p.cid (last_in xs s) (last_in bs s) (contains s p.slots) (last_in-lacks p.cid xs s parts.1) (last_in-lacks p.cid bs s parts.0) (λ at. last_in-free bs p s at free)
+    ∙ around_step p.cid (last_in xs s) (last_in bs s) (contains s p.slots) (last_in-lacks p.cid xs s parts.1)
+    (last_in-lacks p.cid bs s parts.0) (λ at. last_in-free bs p s at free)
     ∙ sym (ap (λ o. cond (contains s p.slots && is_number p.cid o) None o) (last_in-append bs (p ∷ xs) s))

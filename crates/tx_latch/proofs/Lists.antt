@@ -14,9 +14,11 @@ or_swap false true false d = refl
 or_swap false false c d = refl
 
 -- two tests joined by `or`
-pub any_or : {X : Type 0} (p q : X → Bool) (xs : List X) → list_any (λ x. p x || q x) xs ≡ (list_any p xs || list_any q xs)
+pub any_or : {X : Type 0} (p q : X → Bool) (xs : List X)
+    → list_any (λ x. p x || q x) xs ≡ (list_any p xs || list_any q xs)
 any_or p q [] = refl
-any_or p q (x ∷ xs) = let e : list_any (λ x. p x || q x) xs ≡ (list_any p xs || list_any q xs) = any_or p q xs in rw e (or_swap (p x) (q x) (list_any p xs) (list_any q xs))
+any_or p q (x ∷ xs) = let e : list_any (λ x. p x || q x) xs ≡ (list_any p xs || list_any q xs) = any_or p q xs in
+    rw e (or_swap (p x) (q x) (list_any p xs) (list_any q xs))
 
 -- no element passes
 pub any_none : {X : Type 0} (xs : List X) → list_any (λ x. false) xs ≡ false
@@ -36,12 +38,23 @@ pub meets_mutual : (xs ys : List ℕ) → meets xs ys ≡ meets ys xs
 meets_mutual [] ys = sym (any_none ys)
 meets_mutual (x ∷ xs) ys =
     let e : meets xs ys ≡ meets ys xs = meets_mutual xs ys in
-    let f : list_any (λ s. eqb s x) ys ≡ contains x ys = any_agree (λ s. eqb s x) (λ y. eqb x y) (λ s. same_eqb s x) ys in
+    let f : list_any (λ s. eqb s x) ys ≡ contains x ys =
+    any_agree (λ s. eqb s x) (λ y. eqb x y) (λ s. same_eqb s x) ys in
     rw e (sym (any_or (λ s. eqb s x) (λ s. contains s xs) ys ∙ rw f refl))
 
-filter_and_step : {X : Type 0} (p q : X → Bool) (x : X) (xs : List X) (b : Bool) → q x ≡ b → filter p (filter q xs) ≡ filter (λ x. p x && q x) xs → filter p (cond b (x ∷ filter q xs) (filter q xs)) ≡ cond (p x && b) (x ∷ filter (λ x. p x && q x) xs) (filter (λ x. p x && q x) xs)
-filter_and_step p q x xs true h e = elim (p x) as (λ b. cond b (x ∷ filter p (filter q xs)) (filter p (filter q xs)) ≡ cond (b && true) (x ∷ filter (λ x. p x && q x) xs) (filter (λ x. p x && q x) xs)) [ true ↦ ap (λ t. x ∷ t) e | false ↦ e ]
-filter_and_step p q x xs false h e = elim (p x) as (λ b. filter p (filter q xs) ≡ cond (b && false) (x ∷ filter (λ x. p x && q x) xs) (filter (λ x. p x && q x) xs)) [ true ↦ e | false ↦ e ]
+filter_and_step : {X : Type 0} (p q : X → Bool) (x : X) (xs : List X) (b : Bool) → q x ≡ b
+    → filter p (filter q xs) ≡ filter (λ x. p x && q x) xs
+    → filter p (cond b (x ∷ filter q xs) (filter q xs))
+    ≡ cond (p x && b) (x ∷ filter (λ x. p x && q x) xs) (filter (λ x. p x && q x) xs)
+filter_and_step p q x xs true h e =
+    elim (p x) as (λ b. cond b (x ∷ filter p (filter q xs)) (filter p (filter q xs))
+    ≡ cond (b && true) (x ∷ filter (λ x. p x && q x) xs) (filter (λ x. p x && q x) xs)) [
+      | true ↦ ap (λ t. x ∷ t) e
+      | false ↦ e
+    ]
+filter_and_step p q x xs false h e =
+    elim (p x) as (λ b. filter p (filter q xs)
+    ≡ cond (b && false) (x ∷ filter (λ x. p x && q x) xs) (filter (λ x. p x && q x) xs)) [ true ↦ e | false ↦ e ]
 
 -- filters
 pub filter_and : {X : Type 0} (p q : X → Bool) (xs : List X) → filter p (filter q xs) ≡ filter (λ x. p x && q x) xs
@@ -59,7 +72,8 @@ abbrev pub Each : {X : Type 0} → (X → Type 0) → List X → Type 0
 Each P [] = Unit {0}
 Each P (x ∷ xs) = P x × Each P xs
 
-pub filter_agree_each : {X : Type 0} (p q : X → Bool) (xs : List X) → Each (λ x. p x ≡ q x) xs → filter p xs ≡ filter q xs
+pub filter_agree_each : {X : Type 0} (p q : X → Bool) (xs : List X) → Each (λ x. p x ≡ q x) xs
+    → filter p xs ≡ filter q xs
 filter_agree_each p q [] h = refl
 filter_agree_each p q (x ∷ xs) h =
     rw (h.0, filter_agree_each p q xs h.1) refl
@@ -82,7 +96,8 @@ pub Each_map : {X : Type 0} (P Q : X → Type 0) → ((x : X) → P x → Q x) �
 Each_map P Q f [] h = tt
 Each_map P Q f (x ∷ xs) h = (f x h.0, Each_map P Q f xs h.1)
 
-pub Each_both : {X : Type 0} (P Q R : X → Type 0) → ((x : X) → P x → Q x → R x) → (xs : List X) → Each P xs → Each Q xs → Each R xs
+pub Each_both : {X : Type 0} (P Q R : X → Type 0) → ((x : X) → P x → Q x → R x) → (xs : List X) → Each P xs → Each Q xs
+    → Each R xs
 Each_both P Q R f [] h k = tt
 Each_both P Q R f (x ∷ xs) h k = (f x h.0 k.0, Each_both P Q R f xs h.1 k.1)
 
@@ -93,7 +108,8 @@ and_swap false true = refl
 and_swap false false = refl
 
 pub filter_swap : {X : Type 0} (p q : X → Bool) (xs : List X) → filter p (filter q xs) ≡ filter q (filter p xs)
-filter_swap p q xs = filter_and p q xs ∙ filter_agree (λ x. p x && q x) (λ x. q x && p x) (λ x. and_swap (p x) (q x)) xs ∙ sym (filter_and q p xs)
+filter_swap p q xs = filter_and p q xs ∙ filter_agree (λ x. p x && q x) (λ x. q x && p x) (λ x. and_swap (p x) (q x)) xs
+    ∙ sym (filter_and q p xs)
 
 pub not_not : (a : Bool) → not (not a) ≡ a
 not_not true = refl

@@ -40,12 +40,16 @@ left_regular bounds (Answered t o ∷ h) run n = left_regular bounds h run.0 n
 left_regular bounds (Stopped s ∷ h) run n = left_regular bounds h run.0 n
 left_regular bounds (Took x ∷ h) run n =
     elim (nat_test x.region n) [
-      | inl same ↦ rw same.0 (subst (λ m. AreRegular (leaves (left h m) x.body x.answer)) same.1 (steps (left h x.region) (left_regular bounds h run.0 x.region) x.loaded (last h) x.body x.answer run.1.answers).regular)
+      | inl same ↦ rw same.0
+          (subst (λ m. AreRegular (leaves (left h m) x.body x.answer)) same.1
+          (steps (left h x.region) (left_regular bounds h run.0 x.region) x.loaded (last h) x.body x.answer
+          run.1.answers).regular)
       | inr other ↦ rw other.0 (left_regular bounds h run.0 n)
     ]
 
 -- one event
-goes_next : (bounds : List Key) (h : History) (e : Event) → IsWorldRun bounds h → MayCome bounds h e → (n : ℕ) → GoesOn (left h n) (left (e ∷ h) n)
+goes_next : (bounds : List Key) (h : History) (e : Event) → IsWorldRun bounds h → MayCome bounds h e → (n : ℕ)
+    → GoesOn (left h n) (left (e ∷ h) n)
 goes_next bounds h (Drawn s m) run may n = goes_same (left h n)
 goes_next bounds h (Began t) run may n = goes_same (left h n)
 goes_next bounds h (Declared d) run may n = goes_same (left h n)
@@ -53,23 +57,29 @@ goes_next bounds h (Answered t o) run may n = goes_same (left h n)
 goes_next bounds h (Stopped s) run may n = goes_same (left h n)
 goes_next bounds h (Took x) run may n =
     elim (nat_test x.region n) [
-      | inl same ↦ rw same.0 (subst (λ m. GoesOn (left h m) (leaves (left h m) x.body x.answer)) same.1 (steps (left h x.region) (left_regular bounds h run x.region) x.loaded (last h) x.body x.answer may.answers).goes_on)
+      | inl same ↦ rw same.0
+          (subst (λ m. GoesOn (left h m) (leaves (left h m) x.body x.answer)) same.1
+          (steps (left h x.region) (left_regular bounds h run x.region) x.loaded (last h) x.body x.answer
+          may.answers).goes_on)
       | inr other ↦ rw other.0 (goes_same (left h n))
     ]
 
 -- from a beginning on
-pub left_goes_on : (bounds : List Key) (n : ℕ) (l h : History) → IsWorldRun bounds h → Begins l h → GoesOn (left l n) (left h n)
+pub left_goes_on : (bounds : List Key) (n : ℕ) (l h : History) → IsWorldRun bounds h → Begins l h
+    → GoesOn (left l n) (left h n)
 left_goes_on bounds n l [] run b = subst (λ x. GoesOn (left l n) (left x n)) b (goes_same (left l n))
 left_goes_on bounds n l (e ∷ h) run b =
     elim b [
       | inl same ↦ subst (λ x. GoesOn (left l n) (left x n)) same (goes_same (left l n))
-      | inr more ↦ goes_more (left l n) (left h n) (left (e ∷ h) n) (left_goes_on bounds n l h run.0 more) (goes_next bounds h e run.0 run.1 n)
+      | inr more ↦ goes_more (left l n) (left h n) (left (e ∷ h) n) (left_goes_on bounds n l h run.0 more)
+          (goes_next bounds h e run.0 run.1 n)
     ]
 
 -- ---- turns
 
 turns_next : (n : ℕ) (h : History) (e : Event) → owner h e ≢ Some n → turns (e ∷ h) n ≡ turns h n
-turns_next n h (Took x) other = elim (nat_test x.region n) [ inl y ↦ absurd (other (ap Some y.1)) | inr y ↦ rw y.0 refl ]
+turns_next n h (Took x) other =
+    elim (nat_test x.region n) [ inl y ↦ absurd (other (ap Some y.1)) | inr y ↦ rw y.0 refl ]
 turns_next n h (Drawn s m) other = refl
 turns_next n h (Began t) other = refl
 turns_next n h (Declared d) other = refl
@@ -118,20 +128,27 @@ noted_on n k s l h g is =
       low = omega (arith, is.low, count);
       same = λ m c e le.
           elim (begins_either m l h c b) [
-            | inl before ↦ is.same m before (e ∙ ap (λ (r : Region). r.collected) region) le ∙ ap (λ (r : Region). r.cells k) (sym region)
-            | inr after ↦ (let between = extends_between n l m h g after c in ap (λ (r : Region). r.cells k) (left_on n l m between.0 ∙ sym region))
+            | inl before ↦ is.same m before (e ∙ ap (λ (r : Region). r.collected) region) le
+                ∙ ap (λ (r : Region). r.cells k) (sym region)
+            | inr after ↦ (let between = extends_between n l m h g after c in
+                ap (λ (r : Region). r.cells k) (left_on n l m between.0 ∙ sym region))
           ];
       changed = λ m c e lt.
           elim (begins_either m l h c b) [
-            | inl before ↦ λ eq. is.changed m before (e ∙ ap (λ (r : Region). r.collected) region) lt (eq ∙ ap (λ (r : Region). r.cells k) region)
-            | inr after ↦ (let between = extends_between n l m h g after c in let same = turns_on n l m between.0 in absurd (omega (arith, lt, same, is.low)))
+            | inl before ↦ λ eq. is.changed m before (e ∙ ap (λ (r : Region). r.collected) region) lt (eq
+                ∙ ap (λ (r : Region). r.cells k) region)
+            | inr after ↦ (let between = extends_between n l m h g after c in let same = turns_on n l m between.0 in
+                absurd (omega (arith, lt, same, is.low)))
           ];
     }
 
 -- with a request that the region takes
-pub noted_took : (bounds : List Key) (n : ℕ) (h : History) (x : Taken) → IsWorldRun bounds (Took x ∷ h) → (k : Key) (s t : ℕ) → IsNoted h n k s
-    → Notes (turns h n) (turns (Took x ∷ h) n) ((left h n).cells k) s ((left (Took x ∷ h) n).cells k) t → IsNoted (Took x ∷ h) n k t
-noted_took bounds n h x run k s t is notes = record { low = low notes; same = λ l b. same notes l b; changed = λ l b. changed notes l b }
+pub noted_took : (bounds : List Key) (n : ℕ) (h : History) (x : Taken) → IsWorldRun bounds (Took x ∷ h)
+    → (k : Key) (s t : ℕ) → IsNoted h n k s
+    → Notes (turns h n) (turns (Took x ∷ h) n) ((left h n).cells k) s ((left (Took x ∷ h) n).cells k) t
+    → IsNoted (Took x ∷ h) n k t
+noted_took bounds n h x run k s t is notes =
+    record { low = low notes; same = λ l b. same notes l b; changed = λ l b. changed notes l b }
   where
     after : Region
     after = left (Took x ∷ h) n
@@ -143,27 +160,37 @@ noted_took bounds n h x run k s t is notes = record { low = low notes; same = λ
     rises = goes_next bounds h (Took x) run.0 run.1 n
 
     -- a beginning with the same collection had it before the event too
-    before : (l : History) → Begins l h → (left l n).collected ≡ after.collected → (left l n).collected ≡ (left h n).collected
-    before l b e = (let first = (left_goes_on bounds n l h run.0 b).rises in let second = rises.rises in omega (arith, e, first, second))
+    before : (l : History) → Begins l h → (left l n).collected ≡ after.collected
+        → (left l n).collected ≡ (left h n).collected
+    before l b e = (let first = (left_goes_on bounds n l h run.0 b).rises in let second = rises.rises in
+        omega (arith, e, first, second))
 
     low : Notes (turns h n) now ((left h n).cells k) s (after.cells k) t → t ≤ turns (Took x ∷ h) n
     low (inl both) = (let more = turns_one n h (Took x) in omega (arith, both.1, is.low, more))
     low (inr both) = omega (arith, both.1)
 
-    same : Notes (turns h n) now ((left h n).cells k) s (after.cells k) t → (l : History) → Begins l (Took x ∷ h) → (left l n).collected ≡ after.collected → t ≤ turns l n → (left l n).cells k ≡ after.cells k
+    same : Notes (turns h n) now ((left h n).cells k) s (after.cells k) t → (l : History) → Begins l (Took x ∷ h)
+        → (left l n).collected ≡ after.collected → t ≤ turns l n → (left l n).cells k ≡ after.cells k
     same w l (inl all) e le = ap (λ y. (left y n).cells k) all
     same (inl both) l (inr more) e le = is.same l more (before l more e) (omega (arith, le, both.1)) ∙ both.0
-    same (inr both) l (inr more) e le = absurd (let few = turns_more n l h more in omega (arith, le, both.1, both.2, few))
+    same (inr both) l (inr more) e le =
+        absurd (let few = turns_more n l h more in omega (arith, le, both.1, both.2, few))
 
-    changed : Notes (turns h n) now ((left h n).cells k) s (after.cells k) t → (l : History) → Begins l (Took x ∷ h) → (left l n).collected ≡ after.collected → turns l n < t → (left l n).cells k ≢ after.cells k
-    changed w l (inl all) e lt = absurd (let here = low w in let there = ap (λ y. turns y n) all in omega (arith, lt, here, there))
-    changed (inl both) l (inr more) e lt = λ eq. is.changed l more (before l more e) (omega (arith, lt, both.1)) (eq ∙ sym both.0)
+    changed : Notes (turns h n) now ((left h n).cells k) s (after.cells k) t → (l : History) → Begins l (Took x ∷ h)
+        → (left l n).collected ≡ after.collected → turns l n < t → (left l n).cells k ≢ after.cells k
+    changed w l (inl all) e lt =
+        absurd (let here = low w in let there = ap (λ y. turns y n) all in omega (arith, lt, here, there))
+    changed (inl both) l (inr more) e lt =
+        λ eq. is.changed l more (before l more e) (omega (arith, lt, both.1)) (eq ∙ sym both.0)
     changed (inr both) l (inr more) e lt =
         let was = before l more e in
-        never_back ((left l n).cells k) ((left h n).cells k) (after.cells k) ((left_goes_on bounds n l h run.0 more).later was k) (rises.later (sym was ∙ e) k) both.0
+        never_back ((left l n).cells k) ((left h n).cells k) (after.cells k)
+        ((left_goes_on bounds n l h run.0 more).later was k) (rises.later (sym was ∙ e) k) both.0
 
 -- with a collection that rises: no earlier moment has the same collection, so any number will do
-noted_raised : (bounds : List Key) (n : ℕ) (h : History) (x : Taken) → IsWorldRun bounds (Took x ∷ h) → (k : Key) (t : ℕ) → t ≤ turns (Took x ∷ h) n → (left h n).collected < (left (Took x ∷ h) n).collected → IsNoted (Took x ∷ h) n k t
+noted_raised : (bounds : List Key) (n : ℕ) (h : History) (x : Taken) → IsWorldRun bounds (Took x ∷ h)
+    → (k : Key) (t : ℕ) → t ≤ turns (Took x ∷ h) n → (left h n).collected < (left (Took x ∷ h) n).collected
+    → IsNoted (Took x ∷ h) n k t
 noted_raised bounds n h x run k t low more = record {
   low = low;
   same = λ l b e le. elim b [
@@ -177,35 +204,50 @@ noted_raised bounds n h x run k t low more = record {
 }
 
 -- a collection at the point of the last one changes no key
-collected_again : (bounds : List Key) (n : ℕ) (h : History) → IsWorldRun bounds h → (k : Key) → kept ((left h n).cells k) (left h n).collected ≡ (left h n).cells k
+collected_again : (bounds : List Key) (n : ℕ) (h : History) → IsWorldRun bounds h → (k : Key)
+    → kept ((left h n).cells k) (left h n).collected ≡ (left h n).cells k
 collected_again bounds n h run k =
     let is = (left_regular bounds h run n).keys k in
-    λ i. record { lock = ((left h n).cells k).lock; write = λ q. kept_same (left h n).collected ((left h n).cells k) is q i }
+    λ i. record {
+      lock = ((left h n).cells k).lock;
+      write =
+          λ q. kept_same (left h n).collected ((left h n).cells k) is q i;
+    }
 
 -- so where a collection changes some key it rises
-same_collected : (region : Region) (b : Collect) (a : Answer) → ((k : Key) → kept (region.cells k) region.collected ≡ region.cells k) → region.collected ≡ (leaves region (body.Collect b) a).collected → (k : Key) → region.cells k ≡ (leaves region (body.Collect b) a).cells k
+same_collected : (region : Region) (b : Collect) (a : Answer)
+    → ((k : Key) → kept (region.cells k) region.collected ≡ region.cells k)
+    → region.collected ≡ (leaves region (body.Collect b) a).collected → (k : Key)
+    → region.cells k ≡ (leaves region (body.Collect b) a).cells k
 same_collected region b (answer.Collected records values) again same k = sym (again k) ∙ ap (kept (region.cells k)) same
 same_collected region b _ again same k = refl
 
-noted_dropped : (bounds : List Key) (n : ℕ) (h : History) (x : Taken) → IsWorldRun bounds (Took x ∷ h) → x.region ≡ n → (b : Collect) → x.body ≡ body.Collect b → (s t : Key → ℕ) → ((k : Key) → IsNoted h n k (s k))
+noted_dropped : (bounds : List Key) (n : ℕ) (h : History) (x : Taken) → IsWorldRun bounds (Took x ∷ h) → x.region ≡ n
+    → (b : Collect) → x.body ≡ body.Collect b → (s t : Key → ℕ) → ((k : Key) → IsNoted h n k (s k))
     → Drops (left h n).cells s (left (Took x ∷ h) n).cells t → (k : Key) → IsNoted (Took x ∷ h) n k (t k)
 noted_dropped bounds n h x run own b asked s t is drops k =
-    noted_raised bounds n h x run k (t k) (let more = turns_one n h (Took x) in let low = (is k).low in let less = drops.1 k in omega (arith, more, low, less))
+    noted_raised bounds n h x run k (t k) (let more = turns_one n h (Took x) in let low = (is k).low in
+    let less = drops.1 k in omega (arith, more, low, less))
     (elim (cases_lt (left h n).collected (left (Took x ∷ h) n).collected) [
       | inl lt ↦ lt
       | inr le ↦
           let rises = (goes_next bounds h (Took x) run.0 run.1 n).rises in
           let same : (left h n).collected ≡ (left (Took x ∷ h) n).collected = omega (arith, le, rises) in
-          let is_left : left (Took x ∷ h) n ≡ leaves (left h n) (body.Collect b) x.answer = here ∙ ap (λ q. leaves (left h n) q x.answer) asked in
-          absurd (drops.0 (λ q. same_collected (left h n) b x.answer (collected_again bounds n h run.0) (same ∙ ap (λ (r : Region). r.collected) is_left) q ∙ ap (λ (r : Region). r.cells q) (sym is_left)))
+          let is_left : left (Took x ∷ h) n ≡ leaves (left h n) (body.Collect b) x.answer =
+          here ∙ ap (λ q. leaves (left h n) q x.answer) asked in
+          absurd (drops.0 (λ q. same_collected (left h n) b x.answer (collected_again bounds n h run.0) (same
+          ∙ ap (λ (r : Region). r.collected) is_left) q ∙ ap (λ (r : Region). r.cells q) (sym is_left)))
     ])
   where
     here : left (Took x ∷ h) n ≡ leaves (left h n) x.body x.answer
     here = elim (nat_test x.region n) [ inl y ↦ rw y.0 refl | inr y ↦ absurd (y.1 own) ]
 
 -- what each request makes of the numbers
-pub noted_all : (bounds : List Key) (n : ℕ) (h : History) (x : Taken) → IsWorldRun bounds (Took x ∷ h) → x.region ≡ n → (s t : Key → ℕ) → ((k : Key) → IsNoted h n k (s k))
-    → NotesAll (turns h n) (turns (Took x ∷ h) n) (left h n).cells s (left (Took x ∷ h) n).cells t ⊎ (((b : Collect) × (x.body ≡ body.Collect b)) × Drops (left h n).cells s (left (Took x ∷ h) n).cells t)
+pub noted_all : (bounds : List Key) (n : ℕ) (h : History) (x : Taken) → IsWorldRun bounds (Took x ∷ h) → x.region ≡ n
+    → (s t : Key → ℕ) → ((k : Key) → IsNoted h n k (s k))
+    → NotesAll (turns h n) (turns (Took x ∷ h) n) (left h n).cells s (left (Took x ∷ h) n).cells t
+    ⊎ (((b : Collect) × (x.body ≡ body.Collect b)) × Drops (left h n).cells s (left (Took x ∷ h) n).cells t)
     → (k : Key) → IsNoted (Took x ∷ h) n k (t k)
 noted_all bounds n h x run own s t is (inl notes) k = noted_took bounds n h x run k (s k) (t k) (is k) (notes k)
-noted_all bounds n h x run own s t is (inr (asked, drops)) k = noted_dropped bounds n h x run own asked.0 asked.1 s t is drops k
+noted_all bounds n h x run own s t is (inr (asked, drops)) k =
+    noted_dropped bounds n h x run own asked.0 asked.1 s t is drops k

@@ -11,7 +11,8 @@ write_same None = tt
 write_same (Some Rollback) = tt
 write_same (Some (CommitOf a)) = inl refl
 
-mark_stays : (a b : CommitRecord) → (b ≡ a) ⊎ (b ≡ marked a) → a.overlapped_rollback ≡ true → b.overlapped_rollback ≡ true
+mark_stays : (a b : CommitRecord) → (b ≡ a) ⊎ (b ≡ marked a) → a.overlapped_rollback ≡ true
+    → b.overlapped_rollback ≡ true
 mark_stays a b (inl e) m = ap (λ (r : CommitRecord). r.overlapped_rollback) e ∙ m
 mark_stays a b (inr e) m = ap (λ (r : CommitRecord). r.overlapped_rollback) e
 
@@ -52,7 +53,8 @@ write_back (Some Rollback) (Some Rollback) x y = refl
 write_back (Some Rollback) (Some (CommitOf b)) x y = absurd y
 write_back (Some (CommitOf a)) None x y = absurd x
 write_back (Some (CommitOf a)) (Some Rollback) x y = absurd x
-write_back (Some (CommitOf a)) (Some (CommitOf b)) x y = ap (λ (r : CommitRecord). Some (CommitOf r)) (both_marked a b x y)
+write_back (Some (CommitOf a)) (Some (CommitOf b)) x y =
+    ap (λ (r : CommitRecord). Some (CommitOf r)) (both_marked a b x y)
 
 writes_back : (v w : Writes) → ((c : ℕ) → WriteLater (v c) (w c)) → ((c : ℕ) → WriteLater (w c) (v c)) → v ≡ w
 writes_back v w x y = λ i c. write_back (v c) (w c) (x c) (y c) i
@@ -61,7 +63,16 @@ writes_back v w x y = λ i c. write_back (v c) (w c) (x c) (y c) i
 
 pub lock_same : (o : Option Lock) → LockLater o o
 lock_same None = tt
-lock_same (Some a) = record { mutation = refl; mode = refl; secondaries = refl; start = refl; min = omega arith; ttl = omega arith; primary = refl }
+lock_same (Some a) = record {
+  mutation = refl;
+  mode = refl;
+  secondaries = refl;
+  start = refl;
+  min = omega arith;
+  ttl =
+      omega arith;
+  primary = refl;
+}
 
 lengthened_more : (a b c : Lock) → IsLengthened a b → IsLengthened b c → IsLengthened a c
 lengthened_more a b c x y = record {
@@ -84,7 +95,16 @@ lengthened_back : (a b : Lock) → IsLengthened a b → IsLengthened b a → a �
 lengthened_back a b x y =
     let min : a.min ≡ b.min = omega (arith, x.min, y.min) in
     let ttl : a.ttl ≡ b.ttl = omega (arith, x.ttl, y.ttl) in
-    λ i. record { mutation = x.mutation i; mode = x.mode i; secondaries = x.secondaries i; start = x.start i; min = min i; ttl = ttl i; primary = x.primary i }
+    λ i. record {
+      mutation = x.mutation i;
+      mode = x.mode i;
+      secondaries = x.secondaries i;
+      start = x.start i;
+      min =
+          min i;
+      ttl = ttl i;
+      primary = x.primary i;
+    }
 
 pub lock_back : (o p : Option Lock) → LockLater o p → LockLater p o → o ≡ p
 lock_back None None x y = refl
@@ -101,7 +121,8 @@ pub later_more : (a b c : Cells) → IsLater a b → IsLater b c → IsLater a c
 later_more a b c x y = record {
   write = λ q. write_more (a.write q) (b.write q) (c.write q) (x.write q) (y.write q);
   lock = λ e.
-      let back : (q : ℕ) → WriteLater (b.write q) (a.write q) = λ q. subst (λ o. WriteLater (b.write q) o) (sym (ap (λ (w : Writes). w q) e)) (y.write q) in
+      let back : (q : ℕ) → WriteLater (b.write q) (a.write q) =
+      λ q. subst (λ o. WriteLater (b.write q) o) (sym (ap (λ (w : Writes). w q) e)) (y.write q) in
       let same : a.write ≡ b.write = writes_back a.write b.write x.write back in
       lock_more a.lock b.lock c.lock (x.lock same) (y.lock (sym same ∙ e));
 }

@@ -66,11 +66,15 @@ value_behind (x ∷ xs) ys k e = elim (key_test x.key k) [
   | inr t ↦ (let later : value_in xs k ≡ None = rw t.0 at e in rw t.0 (value_behind xs ys k later))
 ]
 
-reaches_both : (xs ys : List KeyValue) (k : Key) → reaches (xs ++ ys) k ≡ true → (reaches xs k ≡ true) ⊎ (reaches ys k ≡ true)
+reaches_both : (xs ys : List KeyValue) (k : Key) → reaches (xs ++ ys) k ≡ true
+    → (reaches xs k ≡ true) ⊎ (reaches ys k ≡ true)
 reaches_both [] ys k e = inr e
 reaches_both (x ∷ xs) ys k e = elim (or_cases (key_le k x.key) (reaches (xs ++ ys) k) e) [
   | inl now ↦ inl (or_left (key_le k x.key) (reaches xs k) now)
-  | inr later ↦ elim (reaches_both xs ys k later) [ inl a ↦ inl (or_right (key_le k x.key) (reaches xs k) a) | inr b ↦ inr b ]
+  | inr later ↦ elim (reaches_both xs ys k later) [
+    | inl a ↦ inl (or_right (key_le k x.key) (reaches xs k) a)
+    | inr b ↦ inr b
+  ]
 ]
 
 -- rows reach a key where one of them is at it or above
@@ -85,7 +89,8 @@ reaches_own : (xs : List KeyValue) (k : Key) (v : Value) → value_in xs k ≡ S
 reaches_own [] k v e = absurd (cc (e))
 reaches_own (x ∷ xs) k v e = elim (key_test x.key k) [
   | inl t ↦ or_left (key_le k x.key) (reaches xs k) (subst (λ i. IsTrue (key_le k i)) (sym t.1) (le_itself k))
-  | inr t ↦ (let later : value_in xs k ≡ Some v = rw t.0 at e in or_right (key_le k x.key) (reaches xs k) (reaches_own xs k v later))
+  | inr t ↦ (let later : value_in xs k ≡ Some v = rw t.0 at e in
+      or_right (key_le k x.key) (reaches xs k) (reaches_own xs k v later))
 ]
 
 rising_rest : (x : KeyValue) (xs : List KeyValue) → IsRising (x ∷ xs) → IsRising xs
@@ -93,11 +98,13 @@ rising_rest x [] r = tt
 rising_rest x (y ∷ ys) r = r.1
 
 -- rows that rise, and behind them others above each of them
-rising_both : (xs ys : List KeyValue) → IsRising xs → IsRising ys → ((j k : Key) → Has xs j → Has ys k → IsTrue (key_lt j k)) → IsRising (xs ++ ys)
+rising_both : (xs ys : List KeyValue) → IsRising xs → IsRising ys
+    → ((j k : Key) → Has xs j → Has ys k → IsTrue (key_lt j k)) → IsRising (xs ++ ys)
 rising_both [] ys r s apart = s
 rising_both (x ∷ []) [] r s apart = tt
 rising_both (x ∷ []) (y ∷ ys) r s apart = (apart x.key y.key (own x []) (own y ys), s)
-rising_both (x ∷ z ∷ xs) ys r s apart = (r.0, rising_both (z ∷ xs) ys r.1 s (λ j k a b. apart j k (has_next x (z ∷ xs) j a) b))
+rising_both (x ∷ z ∷ xs) ys r s apart =
+    (r.0, rising_both (z ∷ xs) ys r.1 s (λ j k a b. apart j k (has_next x (z ∷ xs) j a) b))
 
 -- ---- the rows so far
 
@@ -119,21 +126,26 @@ module _ (rows_of : Rows) (from to : Key) (at limit : ℕ) where
     rising = tt;
     within = λ k h. absurd (cc (h.1));
     upto = omega arith;
-    each = λ k inside low. absurd (lt_itself k (lt_then_le k from k low (and_split (key_le from k) (key_lt k to) inside).0));
+    each = λ k inside low. absurd
+        (lt_itself k (lt_then_le k from k low (and_split (key_le from k) (key_lt k to) inside).0));
   }
 
   -- at last they are those of the whole
   pub all_seen : (rows : List KeyValue) → SoFar (λ k. Unit {0}) rows → SeesRows rows_of (whole rows)
   all_seen rows h = record {
     rising = h.rising;
-    within = λ k v e. and_both (is_between from to k) (nat_lt (length rows) limit || reaches rows k) (h.within k (v, e)).0 (or_right (nat_lt (length rows) limit) (reaches rows k) (reaches_own rows k v e));
+    within = λ k v e. and_both (is_between from to k) (nat_lt (length rows) limit
+        || reaches rows k) (h.within k (v, e)).0
+        (or_right (nat_lt (length rows) limit) (reaches rows k) (reaches_own rows k v e));
     upto = h.upto;
-    each = λ k inside. h.each k (and_split (is_between from to k) (nat_lt (length rows) limit || reaches rows k) inside).0 tt;
+    each = λ k inside. h.each k
+        (and_split (is_between from to k) (nat_lt (length rows) limit || reaches rows k) inside).0 tt;
   }
 
   -- a part with no keys
   pub passed_by : (passed next : Key → Type 0) (rows : List KeyValue) → SoFar passed rows
-      → ((k : Key) → Has rows k → next k) → ((k : Key) → IsTrue (is_between from to k) → next k → passed k) → SoFar next rows
+      → ((k : Key) → Has rows k → next k) → ((k : Key) → IsTrue (is_between from to k) → next k → passed k)
+      → SoFar next rows
   passed_by passed next rows h on back = record {
     rising = h.rising;
     within = λ k has. ((h.within k has).0, on k has);
@@ -145,13 +157,15 @@ module _ (rows_of : Rows) (from to : Key) (at limit : ℕ) where
   -- less the rows so far
   module _ (border low high : Key) (rows found : List KeyValue) (so_far : SoFar (λ k. IsTrue (key_lt k border)) rows)
       (part : SeesRows rows_of record { from = low; to = high; at = at; limit = limit - length rows; rows = found })
-      (above : (k : Key) → IsTrue (is_between low high k) → IsTrue (is_between from to k) × IsTrue (key_le border k)) where
+      (above : (k : Key) → IsTrue (is_between low high k)
+      → IsTrue (is_between from to k) × IsTrue (key_le border k)) where
     abbrev read : ScanRead
     read = record { from = low; to = high; at = at; limit = limit - length rows; rows = found }
 
     -- what a row of the part is
     found_within : (k : Key) → Has found k → IsTrue (is_between low high k)
-    found_within k h = (and_split (is_between low high k) (nat_lt (length found) (limit - length rows) || reaches found k) (part.within k h.0 h.1)).0
+    found_within k h = (and_split (is_between low high k) (nat_lt (length found) (limit - length rows)
+        || reaches found k) (part.within k h.0 h.1)).0
 
     apart : (j k : Key) → Has rows j → Has found k → IsTrue (key_lt j k)
     apart j k a b = lt_then_le j border k (so_far.within j a).1 (above k (found_within k b)).1
@@ -169,59 +183,97 @@ module _ (rows_of : Rows) (from to : Key) (at limit : ℕ) where
     before : (k : Key) → IsTrue (key_lt k border) → value_in (rows ++ found) k ≡ value_in rows k
     before k below = elim (has_or (value_in rows k)) [
       | inl h ↦ value_first rows found k h.0 h.1 ∙ sym h.1
-      | inr none ↦ value_behind rows found k none ∙ (none_is (value_in found k) (λ v e. lt_itself k (lt_then_le k border k below (above k (found_within k (v, e))).1)) ∙ sym none)
+      | inr none ↦ value_behind rows found k none
+          ∙ (none_is (value_in found k)
+          (λ v e. lt_itself k (lt_then_le k border k below (above k (found_within k (v, e))).1)) ∙ sym none)
     ]
 
     -- from it on the part's
     behind : (k : Key) → IsTrue (key_le border k) → value_in (rows ++ found) k ≡ value_in found k
-    behind k from_border = value_behind rows found k (none_is (value_in rows k) (λ v e. lt_itself k (lt_then_le k border k (so_far.within k (v, e)).1 from_border)))
+    behind k from_border =
+        value_behind rows found k
+        (none_is (value_in rows k) (λ v e. lt_itself k (lt_then_le k border k (so_far.within k (v, e)).1 from_border)))
 
-    seen_before : (k : Key) → IsTrue (is_between from to k) → IsTrue (key_lt k border) → Sees rows_of k at (value_in (rows ++ found) k)
+    seen_before : (k : Key) → IsTrue (is_between from to k) → IsTrue (key_lt k border)
+        → Sees rows_of k at (value_in (rows ++ found) k)
     seen_before k inside below = subst (Sees rows_of k at) (sym (before k below)) (so_far.each k inside below)
 
-    seen_behind : (k : Key) → IsTrue (is_between low high k) → (nat_lt (length found) (limit - length rows) || reaches found k) ≡ true → Sees rows_of k at (value_in (rows ++ found) k)
-    seen_behind k inside reached = subst (Sees rows_of k at) (sym (behind k (above k inside).1)) (part.each k (and_both (is_between low high k) (nat_lt (length found) (limit - length rows) || reaches found k) inside reached))
+    seen_behind : (k : Key) → IsTrue (is_between low high k)
+        → (nat_lt (length found) (limit - length rows) || reaches found k) ≡ true
+        → Sees rows_of k at (value_in (rows ++ found) k)
+    seen_behind k inside reached =
+        subst (Sees rows_of k at) (sym (behind k (above k inside).1))
+        (part.each k (and_both (is_between low high k) (nat_lt (length found) (limit - length rows)
+        || reaches found k) inside reached))
 
     -- which rows there are
     joined_cases : (k : Key) → Has (rows ++ found) k → Has rows k ⊎ Has found k
-    joined_cases k h = elim (has_or (value_in rows k)) [ inl a ↦ inl a | inr none ↦ inr (h.0, sym (value_behind rows found k none) ∙ h.1) ]
+    joined_cases k h = elim (has_or (value_in rows k)) [
+      | inl a ↦ inl a
+      | inr none ↦ inr (h.0, sym (value_behind rows found k none) ∙ h.1)
+    ]
 
     joined_within : (k : Key) → Has (rows ++ found) k → IsTrue (is_between from to k)
-    joined_within k h = elim (joined_cases k h) [ inl a ↦ (so_far.within k a).0 | inr b ↦ (above k (found_within k b)).0 ]
+    joined_within k h = elim (joined_cases k h) [
+      | inl a ↦ (so_far.within k a).0
+      | inr b ↦ (above k (found_within k b)).0
+    ]
 
     -- more are to come: the part is seen whole
-    pub joined_more : (next : Key → Type 0) → length (rows ++ found) < limit → ((k : Key) → Has rows k → next k) → ((k : Key) → IsTrue (is_between low high k) → next k)
-        → ((k : Key) → IsTrue (is_between from to k) → next k → IsTrue (key_lt k border) ⊎ IsTrue (is_between low high k)) → SoFar next (rows ++ found)
+    pub joined_more : (next : Key → Type 0) → length (rows ++ found) < limit → ((k : Key) → Has rows k → next k)
+        → ((k : Key) → IsTrue (is_between low high k) → next k)
+        → ((k : Key) → IsTrue (is_between from to k) → next k
+        → IsTrue (key_lt k border) ⊎ IsTrue (is_between low high k)) → SoFar next (rows ++ found)
     joined_more next short old new cover = record {
       rising = joined_rising;
-      within = λ k h. (joined_within k h, elim (joined_cases k h) [ inl a ↦ old k a | inr b ↦ new k (found_within k b) ]);
+      within = λ k h. (
+        joined_within k h,
+        elim (joined_cases k h) [ inl a ↦ old k a | inr b ↦ new k (found_within k b) ],
+      );
       upto = joined_upto;
       each = λ k inside here. elim (cover k inside here) [
         | inl below ↦ seen_before k inside below
-        | inr there ↦ seen_behind k there (or_left (nat_lt (length found) (limit - length rows)) (reaches found k) (lt-ltb (length found) (limit - length rows) (omega (arith, short, joined_length))))
+        | inr there ↦ seen_behind k there
+            (or_left (nat_lt (length found) (limit - length rows)) (reaches found k)
+            (lt-ltb (length found) (limit - length rows) (omega (arith, short, joined_length))))
       ];
     }
 
     -- they are enough: what they reach is seen
-    pub joined_full : ((k : Key) → IsTrue (is_between from to k) → IsTrue (key_le border k) → IsTrue (key_lt k high) → IsTrue (is_between low high k)) → limit ≤ length (rows ++ found) → SeesRows rows_of (whole (rows ++ found))
+    pub joined_full : ((k : Key) → IsTrue (is_between from to k) → IsTrue (key_le border k) → IsTrue (key_lt k high)
+        → IsTrue (is_between low high k)) → limit ≤ length (rows ++ found) → SeesRows rows_of (whole (rows ++ found))
     joined_full lands full = record {
       rising = joined_rising;
-      within = λ k v e. and_both (is_between from to k) (nat_lt (length (rows ++ found)) limit || reaches (rows ++ found) k) (joined_within k (v, e)) (or_right (nat_lt (length (rows ++ found)) limit) (reaches (rows ++ found) k) (reaches_own (rows ++ found) k v e));
+      within = λ k v e. and_both (is_between from to k) (nat_lt (length (rows ++ found)) limit
+          || reaches (rows ++ found) k) (joined_within k (v, e))
+          (or_right (nat_lt (length (rows ++ found)) limit) (reaches (rows ++ found) k)
+          (reaches_own (rows ++ found) k v e));
       upto = joined_upto;
-      each = λ k inside. by k (and_split (is_between from to k) (nat_lt (length (rows ++ found)) limit || reaches (rows ++ found) k) inside);
+      each = λ k inside. by k
+          (and_split (is_between from to k) (nat_lt (length (rows ++ found)) limit
+          || reaches (rows ++ found) k) inside);
     }
       where
-        in_part : (k j : Key) → IsTrue (is_between from to k) → Has found j → IsTrue (key_le k j) → reaches found k ≡ true → Sees rows_of k at (value_in (rows ++ found) k)
+        in_part : (k j : Key) → IsTrue (is_between from to k) → Has found j → IsTrue (key_le k j)
+            → reaches found k ≡ true → Sees rows_of k at (value_in (rows ++ found) k)
         in_part k j inside h le reached = elim (cases_Bool (key_lt k border)) [
           | inl below ↦ seen_before k inside below
-          | inr not_below ↦ seen_behind k (lands k inside (not_lt k border not_below) (le_lt k j high le (and_split (key_le low j) (key_lt j high) (found_within j h)).1)) (or_right (nat_lt (length found) (limit - length rows)) (reaches found k) reached)
+          | inr not_below ↦ seen_behind k
+              (lands k inside (not_lt k border not_below)
+              (le_lt k j high le (and_split (key_le low j) (key_lt j high) (found_within j h)).1))
+              (or_right (nat_lt (length found) (limit - length rows)) (reaches found k) reached)
         ]
 
-        by : (k : Key) → IsTrue (is_between from to k) × ((nat_lt (length (rows ++ found)) limit || reaches (rows ++ found) k) ≡ true) → Sees rows_of k at (value_in (rows ++ found) k)
-        by k (inside, covers) = elim (or_cases (nat_lt (length (rows ++ found)) limit) (reaches (rows ++ found) k) covers) [
-          | inl short ↦ absurd (let lt : length (rows ++ found) < limit = ltb-true (length (rows ++ found)) limit short in omega (arith, lt, full))
-          | inr reached ↦ elim (reaches_both rows found k reached) [
-            | inl a ↦ (let row = reached_by rows k a in seen_before k inside (le_lt k row.0 border row.2 (so_far.within row.0 row.1).1))
-            | inr b ↦ (let row = reached_by found k b in in_part k row.0 inside row.1 row.2 b)
-          ]
-        ]
+        by : (k : Key) → IsTrue (is_between from to k)
+            × ((nat_lt (length (rows ++ found)) limit || reaches (rows ++ found) k) ≡ true)
+            → Sees rows_of k at (value_in (rows ++ found) k)
+        by k (inside, covers) =
+            elim (or_cases (nat_lt (length (rows ++ found)) limit) (reaches (rows ++ found) k) covers) [
+              | inl short ↦ absurd (let lt : length (rows ++ found) < limit =
+                  ltb-true (length (rows ++ found)) limit short in omega (arith, lt, full))
+              | inr reached ↦ elim (reaches_both rows found k reached) [
+                | inl a ↦ (let row = reached_by rows k a in
+                    seen_before k inside (le_lt k row.0 border row.2 (so_far.within row.0 row.1).1))
+                | inr b ↦ (let row = reached_by found k b in in_part k row.0 inside row.1 row.2 b)
+              ]
+            ]

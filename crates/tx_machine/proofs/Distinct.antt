@@ -26,10 +26,13 @@ distinct_front (x ∷ xs) ys d = (none_front xs ys x.key d.0, distinct_front xs 
 
 -- a beginning of a write set is one
 pub distinct_take : (set : List Change) (n : ℕ) → IsDistinct set → IsDistinct (take n set)
-distinct_take set n d = distinct_front (take n set) (drop n set) (subst (λ (xs : List Change). IsDistinct xs) (sym (take-append-drop n set)) d)
+distinct_take set n d =
+    distinct_front (take n set) (drop n set)
+    (subst (λ (xs : List Change). IsDistinct xs) (sym (take-append-drop n set)) d)
 
 -- the mutation of a write set with one change more
-pub mutation_snoc : (xs : List Change) (x : Change) (k : Key) → is_some (mutation_at (xs ++ x ∷ []) k) ≡ cond (bytes_eq x.key k) true (is_some (mutation_at xs k))
+pub mutation_snoc : (xs : List Change) (x : Change) (k : Key)
+    → is_some (mutation_at (xs ++ x ∷ []) k) ≡ cond (bytes_eq x.key k) true (is_some (mutation_at xs k))
 mutation_snoc [] x k = elim (key_test x.key k) [ inl t ↦ rw t.0 refl | inr t ↦ rw t.0 refl ]
 mutation_snoc (y ∷ xs) x k = elim (key_test y.key k) [
   | inl t ↦ elim (key_test x.key k) [ inl s ↦ rw (t.0, s.0) refl | inr s ↦ rw (t.0, s.0) refl ]
@@ -40,31 +43,47 @@ some_none : {X : Type 0} (o : Option X) → is_some o ≡ false → o ≡ None
 some_none None e = refl
 some_none (Some x) e = absurd (cc e)
 
-distinct_more : (xs : List Change) (x : Change) → IsDistinct xs → mutation_at xs x.key ≡ None → IsDistinct (xs ++ x ∷ [])
+distinct_more : (xs : List Change) (x : Change) → IsDistinct xs → mutation_at xs x.key ≡ None
+    → IsDistinct (xs ++ x ∷ [])
 distinct_more [] x d e = (refl, tt)
 distinct_more (y ∷ xs) x d e = elim (key_test y.key x.key) [
   | inl t ↦ absurd (cc (sym (cond_true _ (Some y.mutation) (mutation_at xs x.key) t.0) ∙ e))
   | inr t ↦ (
-    some_none _ (mutation_snoc xs x y.key ∙ elim (key_test x.key y.key) [ inl s ↦ absurd (t.1 (sym (s.1))) | inr s ↦ cond_false _ _ _ s.0 ∙ ap (is_some {T = Mutation}) d.0 ]),
+    some_none _ (mutation_snoc xs x y.key
+        ∙ elim (key_test x.key y.key) [
+          | inl s ↦ absurd (t.1 (sym (s.1)))
+          | inr s ↦ cond_false _ _ _ s.0 ∙ ap (is_some {T = Mutation}) d.0
+        ]),
     distinct_more xs x d.1 (sym (cond_false _ _ _ t.0) ∙ e),
   )
 ]
 
 -- the loop's step
-pub distinct_snoc : (set : List Change) (i : ℕ) (d : Change) → i < length set → IsDistinct (take i set) → is_some (mutation_at (take i set) (get_or set i d).key) ≡ false → IsDistinct (take (i + 1) set)
-distinct_snoc set i d h ds e = subst (λ (xs : List Change). IsDistinct xs) (sym (take_more set i d h)) (distinct_more (take i set) (get_or set i d) ds (some_none _ e))
+pub distinct_snoc : (set : List Change) (i : ℕ) (d : Change) → i < length set → IsDistinct (take i set)
+    → is_some (mutation_at (take i set) (get_or set i d).key) ≡ false → IsDistinct (take (i + 1) set)
+distinct_snoc set i d h ds e =
+    subst (λ (xs : List Change). IsDistinct xs) (sym (take_more set i d h))
+    (distinct_more (take i set) (get_or set i d) ds (some_none _ e))
 
 more_distinct : (xs : List Change) (x : Change) → IsDistinct (xs ++ x ∷ []) → is_some (mutation_at xs x.key) ≡ false
 more_distinct [] x d = refl
 more_distinct (y ∷ xs) x d = elim (key_test y.key x.key) [
-  | inl t ↦ absurd (cc (sym (mutation_snoc xs x y.key ∙ cond_true _ true _ (subst (λ (k : Key). bytes_eq x.key k ≡ true) (sym (t.1)) (key_same x.key))) ∙ ap (is_some {T = Mutation}) d.0))
-  | inr t ↦ ap (is_some {T = Mutation}) (cond_false _ (Some y.mutation) (mutation_at xs x.key) t.0) ∙ more_distinct xs x d.1
+  | inl t ↦ absurd (cc (sym (mutation_snoc xs x y.key
+      ∙ cond_true _ true _ (subst (λ (k : Key). bytes_eq x.key k ≡ true) (sym (t.1)) (key_same x.key)))
+      ∙ ap (is_some {T = Mutation}) d.0))
+  | inr t ↦ ap (is_some {T = Mutation}) (cond_false _ (Some y.mutation) (mutation_at xs x.key) t.0)
+      ∙ more_distinct xs x d.1
 ]
 
 -- a key that stands again
-pub not_distinct : (set : List Change) (i : ℕ) (d : Change) → i < length set → is_some (mutation_at (take i set) (get_or set i d).key) ≡ true → IsDistinct set → ⊥
+pub not_distinct : (set : List Change) (i : ℕ) (d : Change) → i < length set
+    → is_some (mutation_at (take i set) (get_or set i d).key) ≡ true → IsDistinct set → ⊥
 not_distinct set i d h e ds =
-    cc (more_distinct (take i set) (get_or set i d) (subst (λ (xs : List Change). IsDistinct xs) (take_more set i d h) (distinct_take set (i + 1) ds)), e)
+    cc (
+      more_distinct (take i set) (get_or set i d)
+          (subst (λ (xs : List Change). IsDistinct xs) (take_more set i d h) (distinct_take set (i + 1) ds)),
+      e,
+    )
 
 -- the keys so far, with one more
 pub some_more : (set : List Change) (i : ℕ) (d : Change) (k : Key) (has : Key → Bool) → i < length set
@@ -73,11 +92,15 @@ pub some_more : (set : List Change) (i : ℕ) (d : Change) (k : Key) (has : Key 
 some_more set i d k has h was =
     ap (λ (b : Bool). cond b true (has k)) (is_eq-slice_cmp (get_or set i d).key k)
     ∙ (ap (λ (b : Bool). cond (bytes_eq (get_or set i d).key k) true b) (was k)
-    ∙ sym (ap (λ (xs : List Change). is_some (mutation_at xs k)) (take_more set i d h) ∙ mutation_snoc (take i set) (get_or set i d) k))
+    ∙ sym (ap (λ (xs : List Change). is_some (mutation_at xs k)) (take_more set i d h)
+    ∙ mutation_snoc (take i set) (get_or set i d) k))
 
-contained_at : (set : List Change) (k : ℕ) (x : Change) → IsDistinct set → k < length set → get_or set k x ≡ x → mutation_at set x.key ≡ Some x.mutation
+contained_at : (set : List Change) (k : ℕ) (x : Change) → IsDistinct set → k < length set → get_or set k x ≡ x
+    → mutation_at set x.key ≡ Some x.mutation
 contained_at [] k x ds h e = absurd (omega arith)
-contained_at (y ∷ ys) zero x ds h e = cond_true _ _ _ (ap (λ (z : Change). bytes_eq z.key x.key) e ∙ key_same x.key) ∙ ap (λ (z : Change). Some z.mutation) e
+contained_at (y ∷ ys) zero x ds h e =
+    cond_true _ _ _ (ap (λ (z : Change). bytes_eq z.key x.key) e ∙ key_same x.key)
+    ∙ ap (λ (z : Change). Some z.mutation) e
 contained_at (y ∷ ys) (suc k) x ds h e =
     let rest : mutation_at ys x.key ≡ Some x.mutation = contained_at ys k x ds.1 (omega arith) e in
     elim (key_test y.key x.key) [
@@ -86,7 +109,8 @@ contained_at (y ∷ ys) (suc k) x ds h e =
     ]
 
 -- a change that a write set holds is what it does to the key
-pub contained : (set : List Change) (x : Change) → IsDistinct set → Contains set x → mutation_at set x.key ≡ Some x.mutation
+pub contained : (set : List Change) (x : Change) → IsDistinct set → Contains set x
+    → mutation_at set x.key ≡ Some x.mutation
 contained set x ds in_set = contained_at set in_set.0 x ds in_set.1 in_set.2
 
 pub not_false : (b c : Bool) → b ≡ not c → b ≡ false → c ≡ true
@@ -113,21 +137,26 @@ any_key (x ∷ xs) k = elim (key_test x.key k) [
 -- ---- keys that stand twice
 
 -- the key of a change that stands at a place and before it
-pub stands_twice : (set : List Change) (i : ℕ) (x : Change) → i < length set → x ≡ get_or set i x → is_some (mutation_at (take i set) (get_or set i x).key) ≡ true → StandsTwice set x.key
+pub stands_twice : (set : List Change) (i : ℕ) (x : Change) → i < length set → x ≡ get_or set i x
+    → is_some (mutation_at (take i set) (get_or set i x).key) ≡ true → StandsTwice set x.key
 stands_twice set i x lt e some =
-    let again : is_some (mutation_at (take i set) x.key) ≡ true = ap (λ (y : Change). is_some (mutation_at (take i set) y.key)) e ∙ some in
+    let again : is_some (mutation_at (take i set) x.key) ≡ true =
+    ap (λ (y : Change). is_some (mutation_at (take i set) y.key)) e ∙ some in
     record {
       before = take i set;
       after = drop (suc i) set;
       mutation = x.mutation;
-      split = sym (take-append-drop i set) ∙ ap (λ (ys : List Change). take i set ++ ys) (drop-cons set i x lt ∙ ap (λ (y : Change). y ∷ drop (suc i) set) (sym e));
+      split = sym (take-append-drop i set)
+          ∙ ap (λ (ys : List Change). take i set ++ ys) (drop-cons set i x lt
+          ∙ ap (λ (y : Change). y ∷ drop (suc i) set) (sym e));
       has = λ none. cc (sym again ∙ ap (is_some {T = Mutation}) none);
     }
 
 pub twice_not_distinct : (set : List Change) (k : Key) → StandsTwice set k → IsDistinct set → ⊥
 twice_not_distinct set k t ds =
     let x : Change = record { key = k; mutation = t.mutation } in
-    let all : IsDistinct ((t.before ++ x ∷ []) ++ t.after) = subst (λ (xs : List Change). IsDistinct xs) (t.split ∙ sym (append_assoc t.before (x ∷ []) t.after)) ds in
+    let all : IsDistinct ((t.before ++ x ∷ []) ++ t.after) =
+    subst (λ (xs : List Change). IsDistinct xs) (t.split ∙ sym (append_assoc t.before (x ∷ []) t.after)) ds in
     t.has (some_none _ (more_distinct t.before x (distinct_front (t.before ++ x ∷ []) t.after all)))
 
 -- what holds of a value that is there, and where there is none

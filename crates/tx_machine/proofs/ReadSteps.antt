@@ -24,10 +24,12 @@ module _ (last : ℕ) (stages : ℕ → Option TxnStage) (fates : Fates) (index 
 
   module _ (k : Key) (versions : Versions) (here : versions_of index k ≡ Some versions) where
     to_commit : (u c : ℕ) (m : Mutation) → Listed versions fates u c m → Commits table.row k u c m
-    to_commit u c m x = on_commit last stages fates index reads table tells k u c m (subst (λ (o : Option Versions). ListedOn o fates u c m) (sym here) x)
+    to_commit u c m x = on_commit last stages fates index reads table tells k u c m
+        (subst (λ (o : Option Versions). ListedOn o fates u c m) (sym here) x)
 
     to_listed : (u c : ℕ) (m : Mutation) → Commits table.row k u c m → Listed versions fates u c m
-    to_listed u c m x = subst (λ (o : Option Versions). ListedOn o fates u c m) here (commit_on last stages fates index reads table tells k u c m x)
+    to_listed u c m x = subst (λ (o : Option Versions). ListedOn o fates u c m) here
+        (commit_on last stages fates index reads table tells k u c m x)
 
     to_newest : (r : ℕ) (m : Mutation) → NewestIn versions fates r m → Newest table.row k r m
     to_newest r m x = record {
@@ -56,14 +58,18 @@ module _ (last : ℕ) (stages : ℕ → Option TxnStage) (fates : Fates) (index 
     sees_seen r (Some v) (m, x, puts) = (m, from_newest r m x, puts)
 
   no_commit : (k : Key) → versions_of index k ≡ None → (u c : ℕ) (m : Mutation) → Commits table.row k u c m → ⊥
-  no_commit k none u c m x = subst (λ (o : Option Versions). ListedOn o fates u c m) none (commit_on last stages fates index reads table tells k u c m x)
+  no_commit k none u c m x =
+      subst (λ (o : Option Versions). ListedOn o fates u c m) none
+      (commit_on last stages fates index reads table tells k u c m x)
 
-  shows_by : (k : Key) (r : ℕ) (found : Option Value) (o : Option Versions) → versions_of index k ≡ o → SeenOf o fates r found → Sees table.row k r found
+  shows_by : (k : Key) (r : ℕ) (found : Option Value) (o : Option Versions) → versions_of index k ≡ o
+      → SeenOf o fates r found → Sees table.row k r found
   shows_by k r None None e x = λ m v y puts. no_commit k e y.start y.at m y.commits
   shows_by k r (Some w) None e x = absurd (cc x)
   shows_by k r found (Some versions) e x = seen_sees k versions e r found x
 
-  sees_by : (k : Key) (r : ℕ) (found : Option Value) (o : Option Versions) → versions_of index k ≡ o → Sees table.row k r found → SeenOf o fates r found
+  sees_by : (k : Key) (r : ℕ) (found : Option Value) (o : Option Versions) → versions_of index k ≡ o
+      → Sees table.row k r found → SeenOf o fates r found
   sees_by k r None None e x = refl
   sees_by k r (Some w) None e (m, x, puts) = absurd (no_commit k e x.start x.at m x.commits)
   sees_by k r found (Some versions) e x = sees_seen k versions e r found x
@@ -75,28 +81,45 @@ module _ (last : ℕ) (stages : ℕ → Option TxnStage) (fates : Fates) (index 
   sees_shows k r found x = sees_by k r found (versions_of index k) refl x
 
   pub shows_rows : (s : ScanRead) → ShowsRows index fates s → SeesRows table.row s
-  shows_rows s x = record { rising = x.rising; within = x.within; upto = x.upto; each = λ k e. shows_sees k s.at (value_in s.rows k) (x.each k e) }
+  shows_rows s x = record {
+    rising = x.rising;
+    within = x.within;
+    upto = x.upto;
+    each =
+        λ k e. shows_sees k s.at (value_in s.rows k) (x.each k e);
+  }
 
   pub sees_rows_shown : (s : ScanRead) → SeesRows table.row s → ShowsRows index fates s
-  sees_rows_shown s x = record { rising = x.rising; within = x.within; upto = x.upto; each = λ k e. sees_shows k s.at (value_in s.rows k) (x.each k e) }
+  sees_rows_shown s x =
+      record {
+        rising = x.rising;
+        within = x.within;
+        upto = x.upto;
+        each =
+            λ k e. sees_shows k s.at (value_in s.rows k) (x.each k e);
+      }
 
   -- ---- what is noted
 
-  made_more : (covers : Key → Bool) (r : ℕ) (new : Reads) → AddsRead reads new covers r → (k : Key) (s : ℕ) → IsNoted new k s → IsRead (with_read table covers r).reads k s
+  made_more : (covers : Key → Bool) (r : ℕ) (new : Reads) → AddsRead reads new covers r → (k : Key) (s : ℕ)
+      → IsNoted new k s → IsRead (with_read table covers r).reads k s
   made_more covers r new grows k s x = elim (grows.only k s x) [
     | inl old ↦ inr (tells.reads.made k s old)
     | inr own ↦ inl (own.0, sym (own.1))
   ]
 
-  kept_more : (covers : Key → Bool) (r : ℕ) (new : Reads) → AddsRead reads new covers r → (k : Key) (s : ℕ) → IsRead (with_read table covers r).reads k s → (u : ℕ) × (s ≤ u) × IsNoted new k u
-  kept_more covers r new grows k s (inl own) = let h = grows.added k own.0 in (h.0, (let a : r ≤ h.0 = h.1 in let b : r ≡ s = own.1 in omega arith), h.2)
+  kept_more : (covers : Key → Bool) (r : ℕ) (new : Reads) → AddsRead reads new covers r → (k : Key) (s : ℕ)
+      → IsRead (with_read table covers r).reads k s → (u : ℕ) × (s ≤ u) × IsNoted new k u
+  kept_more covers r new grows k s (inl own) = let h = grows.added k own.0 in
+      (h.0, (let a : r ≤ h.0 = h.1 in let b : r ≡ s = own.1 in omega arith), h.2)
   kept_more covers r new grows k s (inr old) =
       let h = tells.reads.kept k s old in
       let g = grows.kept k h.0 h.2 in
       (g.0, (let a : s ≤ h.0 = h.1 in let b : h.0 ≤ g.0 = g.1 in omega arith), g.2)
 
   -- one read more is kept
-  pub reads_more : (covers : Key → Bool) (r : ℕ) (new : Reads) → AddsRead reads new covers r → Tells last stages (tree.get nat_cmp fates) (version_of index) (IsNoted new) (with_read table covers r)
+  pub reads_more : (covers : Key → Bool) (r : ℕ) (new : Reads) → AddsRead reads new covers r
+      → Tells last stages (tree.get nat_cmp fates) (version_of index) (IsNoted new) (with_read table covers r)
   reads_more covers r new grows = record {
     last_is = tells.last_is;
     drawn = tells.drawn;
@@ -109,7 +132,8 @@ module _ (last : ℕ) (stages : ℕ → Option TxnStage) (fates : Fates) (index 
   }
 
   -- the same reads are kept
-  pub reads_same : (new : Reads) → SameReads reads new → Tells last stages (tree.get nat_cmp fates) (version_of index) (IsNoted new) table
+  pub reads_same : (new : Reads) → SameReads reads new
+      → Tells last stages (tree.get nat_cmp fates) (version_of index) (IsNoted new) table
   reads_same new same = record {
     last_is = tells.last_is;
     drawn = tells.drawn;
@@ -125,7 +149,8 @@ module _ (last : ℕ) (stages : ℕ → Option TxnStage) (fates : Fates) (index 
   }
 
 -- a read of the same keys
-pub covers_same : (old new : Reads) (covers other : Key → Bool) (r : ℕ) → ((k : Key) → covers k ≡ other k) → AddsRead old new covers r → AddsRead old new other r
+pub covers_same : (old new : Reads) (covers other : Key → Bool) (r : ℕ) → ((k : Key) → covers k ≡ other k)
+    → AddsRead old new covers r → AddsRead old new other r
 covers_same old new covers other r same grows = record {
   kept = grows.kept;
   added = λ k e. grows.added k (same k ∙ e);
@@ -133,7 +158,8 @@ covers_same old new covers other r same grows = record {
 }
 
 -- a read of no key
-pub covers_nothing : (old : Reads) (covers : Key → Bool) (r : ℕ) → ((k : Key) → false ≡ covers k) → AddsRead old old covers r
+pub covers_nothing : (old : Reads) (covers : Key → Bool) (r : ℕ) → ((k : Key) → false ≡ covers k)
+    → AddsRead old old covers r
 covers_nothing old covers r none = record {
   kept = λ k s x. (s, (omega arith), x);
   added = λ k e. absurd (cc (none k, e));
@@ -148,9 +174,11 @@ and_right : (a b : Bool) → (a && b) ≡ true → b ≡ true
 and_right true b e = e
 and_right false b e = absurd (cc e)
 
-value_of_row : (rows : List KeyValue) (i : ℕ) (row : KeyValue) → i < length rows → get_or rows i row ≡ row → (v : Value) × (value_in rows row.key ≡ Some v)
+value_of_row : (rows : List KeyValue) (i : ℕ) (row : KeyValue) → i < length rows → get_or rows i row ≡ row
+    → (v : Value) × (value_in rows row.key ≡ Some v)
 value_of_row [] i row h e = absurd (omega arith)
-value_of_row (x ∷ xs) zero row h e = (x.value, cond_true _ _ _ (ap (λ (y : KeyValue). bytes_eq y.key row.key) e ∙ key_same row.key))
+value_of_row (x ∷ xs) zero row h e =
+    (x.value, cond_true _ _ _ (ap (λ (y : KeyValue). bytes_eq y.key row.key) e ∙ key_same row.key))
 value_of_row (x ∷ xs) (suc i) row h e = elim (key_test x.key row.key) [
   | inl t ↦ (x.value, cond_true _ _ _ t.0)
   | inr t ↦ let r = value_of_row xs i row (omega arith) e in (r.0, cond_false _ _ _ t.0 ∙ r.1)
@@ -160,4 +188,6 @@ value_of_row (x ∷ xs) (suc i) row h e = elim (key_test x.key row.key) [
 pub ends_within : (index : Index) (fates : Fates) (s : ScanRead) → ShowsRows index fates s → EndsWithin s
 ends_within index fates s shown row in_rows =
     let v = value_of_row s.rows in_rows.0 row in_rows.1 in_rows.2 in
-    and_right (key_le s.from row.key) (key_lt row.key s.to) (and_left (key_le s.from row.key && key_lt row.key s.to) (nat_lt (length s.rows) s.limit || reaches s.rows row.key) (shown.within row.key v.0 v.1))
+    and_right (key_le s.from row.key) (key_lt row.key s.to)
+    (and_left (key_le s.from row.key && key_lt row.key s.to) (nat_lt (length s.rows) s.limit
+    || reaches s.rows row.key) (shown.within row.key v.0 v.1))

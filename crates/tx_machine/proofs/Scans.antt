@@ -58,10 +58,16 @@ three j k = by (cmp j k) refl
     by Greater e = inr (inr (rw (nat_list_cmp_total.antisymm k j) (rw e refl)))
 
 apart : (j k : Key) → Below j k → bytes_eq j k ≡ false
-apart j k e = elim (key_test j k) [ inl t ↦ absurd (never_itself k (subst (λ (i : Key). Below i k) (t.1) e)) | inr t ↦ t.0 ]
+apart j k e = elim (key_test j k) [
+  | inl t ↦ absurd (never_itself k (subst (λ (i : Key). Below i k) (t.1) e))
+  | inr t ↦ t.0
+]
 
 apart_above : (j k : Key) → Below k j → bytes_eq j k ≡ false
-apart_above j k e = elim (key_test j k) [ inl t ↦ absurd (never_itself k (subst (λ (i : Key). Below k i) (t.1) e)) | inr t ↦ t.0 ]
+apart_above j k e = elim (key_test j k) [
+  | inl t ↦ absurd (never_itself k (subst (λ (i : Key). Below k i) (t.1) e))
+  | inr t ↦ t.0
+]
 
 pub at_most : (o : Ordering) → is_gt o ≡ false → is_le o ≡ true
 at_most Less e = refl
@@ -116,10 +122,13 @@ own x xs = cond_true _ _ _ (key_same x.key)
 pub skip : (x : KeyValue) (xs : List KeyValue) (k : Key) → Below x.key k → value_in (x ∷ xs) k ≡ value_in xs k
 skip x xs k e = cond_false _ _ _ (apart x.key k e)
 
-pub none_before : (x : KeyValue) (xs : List KeyValue) (k : Key) → Below k x.key → ((q : Key) (v : Value) → value_in xs q ≡ Some v → Below x.key q) → value_in (x ∷ xs) k ≡ None
-none_before x xs k e h = cond_false _ _ _ (apart_above x.key k e) ∙ none_is (value_in xs k) (λ v is. never_both k x.key e (h k v is))
+pub none_before : (x : KeyValue) (xs : List KeyValue) (k : Key) → Below k x.key
+    → ((q : Key) (v : Value) → value_in xs q ≡ Some v → Below x.key q) → value_in (x ∷ xs) k ≡ None
+none_before x xs k e h =
+    cond_false _ _ _ (apart_above x.key k e) ∙ none_is (value_in xs k) (λ v is. never_both k x.key e (h k v is))
 
-rises : (x : KeyValue) (xs : List KeyValue) → ((q : Key) (v : Value) → value_in xs q ≡ Some v → Below x.key q) → IsRising xs → IsRising (x ∷ xs)
+rises : (x : KeyValue) (xs : List KeyValue) → ((q : Key) (v : Value) → value_in xs q ≡ Some v → Below x.key q)
+    → IsRising xs → IsRising (x ∷ xs)
 rises x [] h r = tt
 rises x (y ∷ ys) h r = (ap is_lt (h y.key y.value (own y ys)), r)
 
@@ -127,7 +136,8 @@ rising_rest : (x : KeyValue) (xs : List KeyValue) → IsRising (x ∷ xs) → Is
 rising_rest x [] r = tt
 rising_rest x (y ∷ ys) r = r.1
 
-above : (x : KeyValue) (xs : List KeyValue) → IsRising (x ∷ xs) → (q : Key) (v : Value) → value_in xs q ≡ Some v → Below x.key q
+above : (x : KeyValue) (xs : List KeyValue) → IsRising (x ∷ xs) → (q : Key) (v : Value) → value_in xs q ≡ Some v
+    → Below x.key q
 above x [] r q v e = absurd (cc e)
 above x (y ∷ ys) r q v e = elim (key_test y.key q) [
   | inl t ↦ subst (λ (i : Key). Below x.key i) (t.1) (less _ (r.0))
@@ -143,11 +153,13 @@ reaches_own (x ∷ xs) k v e = elim (key_test x.key k) [
 
 -- the entries of a range
 
-filter_step : {X : Type 0} (P : X → Type 0) (b : Bool) (x : X) (ys : List X) → All P (cond b (x ∷ ys) ys) → (b ≡ true → P x) × All P ys
+filter_step : {X : Type 0} (P : X → Type 0) (b : Bool) (x : X) (ys : List X) → All P (cond b (x ∷ ys) ys)
+    → (b ≡ true → P x) × All P ys
 filter_step P true x ys h = (λ e. All-head P x ys h, All-tail P x ys h)
 filter_step P false x ys h = (λ e. absurd (cc e), h)
 
-all_filtered : {X : Type 0} (P : X → Type 0) (p : X → Bool) (xs : List X) → All P (filter p xs) → All (λ x. p x ≡ true → P x) xs
+all_filtered : {X : Type 0} (P : X → Type 0) (p : X → Bool) (xs : List X) → All P (filter p xs)
+    → All (λ x. p x ≡ true → P x) xs
 all_filtered P p [] h = All-nil (λ x. p x ≡ true → P x)
 all_filtered P p (x ∷ xs) h =
     let parts = filter_step P (p x) x (filter p xs) h in
@@ -157,34 +169,47 @@ abbrev pub ShowsNone : Fates → ℕ → Key × Versions → Type 0
 ShowsNone fates r e = SeenIn e.1 fates r None
 
 module _ (index : Index) (fates : Fates) (from : Bound Key) (to : Key) (r : ℕ) where
-  none_at : (k : Key) (o : Option Versions) → tree.get cmp index k ≡ o → ((h : Versions) → o ≡ Some h → ShowsNone fates r (k, h)) → Shows index fates k r None
+  none_at : (k : Key) (o : Option Versions) → tree.get cmp index k ≡ o
+      → ((h : Versions) → o ≡ Some h → ShowsNone fates r (k, h)) → Shows index fates k r None
   none_at k None e h = subst (λ (o : Option Versions). SeenOf o fates r None) (sym e) refl
   none_at k (Some x) e h = subst (λ (o : Option Versions). SeenOf o fates r None) (sym e) (h x refl)
 
   -- where no entry of the range shows a value, none of its keys does
-  pub bare_from_entries : tree.IsOrdered cmp index → All (ShowsNone fates r) (entries_between cmp from (Excluded to) index.entries) → IsBare index fates from to r
+  pub bare_from_entries : tree.IsOrdered cmp index
+      → All (ShowsNone fates r) (entries_between cmp from (Excluded to) index.entries) → IsBare index fates from to r
   bare_from_entries ordered all k w =
       none_at k (tree.get cmp index k) refl
-      (λ h e. All-contains (λ (x : Key × Versions). range_contains cmp from (Excluded to) x.0 ≡ true → ShowsNone fates r x) index.entries (k, h) (all_filtered (ShowsNone fates r) (λ x. range_contains cmp from (Excluded to) x.0) index.entries all)
+      (λ h e. All-contains (λ (x : Key × Versions). range_contains cmp from (Excluded to) x.0 ≡ true
+      → ShowsNone fates r x) index.entries (
+        k,
+        h,
+      ) (all_filtered (ShowsNone fates r) (λ x. range_contains cmp from (Excluded to) x.0) index.entries all)
       ((btree_map_get_iff nat_list_cmp_total exact_bytes index ordered k h).0 e)
       (range_contains-from_IsInRange nat_list_cmp_total from (Excluded to) k w))
 
-  pub entries_from_bare : (es : List (Key × Versions)) → All (IsEntryInRange cmp from (Excluded to) index) es → IsBare index fates from to r → All (ShowsNone fates r) es
+  pub entries_from_bare : (es : List (Key × Versions)) → All (IsEntryInRange cmp from (Excluded to) index) es
+      → IsBare index fates from to r → All (ShowsNone fates r) es
   entries_from_bare es all bare =
-      All-weaker (IsEntryInRange cmp from (Excluded to) index) (ShowsNone fates r) (λ e h. subst (λ (o : Option Versions). SeenOf o fates r None) (h.1) (bare e.0 h.0)) es all
+      All-weaker (IsEntryInRange cmp from (Excluded to) index) (ShowsNone fates r)
+      (λ e h. subst (λ (o : Option Versions). SeenOf o fates r None) (h.1) (bare e.0 h.0)) es all
 
 -- what is left of a range in a loop
 
 pub all_first : {X : Type 0} (P : X → Type 0) (xs ys : List X) → ys ≡ xs → All P xs ↔ All P ys
 all_first P xs ys e = (λ h. All-same P ys xs e h, λ h. All-same P xs ys (sym e) h)
 
-pub all_next : {X : Type 0} (P : X → Type 0) (xs ys zs : List X) (x : X) → (All P xs ↔ All P ys) → ys ≡ x ∷ zs → P x → All P xs ↔ All P zs
-all_next P xs ys zs x i e p = (λ h. All-tail P x zs (All-same P (x ∷ zs) ys (sym e) (i.0 h)), λ h. i.1 (All-same P ys (x ∷ zs) e (All-cons P x zs p h)))
+pub all_next : {X : Type 0} (P : X → Type 0) (xs ys zs : List X) (x : X) → (All P xs ↔ All P ys) → ys ≡ x ∷ zs → P x
+    → All P xs ↔ All P zs
+all_next P xs ys zs x i e p = (
+  λ h. All-tail P x zs (All-same P (x ∷ zs) ys (sym e) (i.0 h)),
+  λ h. i.1 (All-same P ys (x ∷ zs) e (All-cons P x zs p h)),
+)
 
 pub all_passed : {X : Type 0} (P : X → Type 0) (xs ys : List X) → (All P xs ↔ All P ys) → ys ≡ [] → All P xs
 all_passed P xs ys i e = i.1 (All-same P ys [] e (All-nil P))
 
-pub seen_none : {X : Type 0} (f : X → Value) (versions : Versions) (fates : Fates) (r : ℕ) (o : Option X) → SeenIn versions fates r (option_map f o) → false ≡ is_some o → SeenIn versions fates r None
+pub seen_none : {X : Type 0} (f : X → Value) (versions : Versions) (fates : Fates) (r : ℕ) (o : Option X)
+    → SeenIn versions fates r (option_map f o) → false ≡ is_some o → SeenIn versions fates r None
 seen_none f versions fates r None h e = h
 seen_none f versions fates r (Some x) h e = absurd (cc e)
 
@@ -202,12 +227,14 @@ module _ (index : Index) (fates : Fates) (s : ScanRead) where
   record ShowsFrom (from : Bound Key) (xs : List KeyValue) : Type 0 where
     rising : IsRising xs
     within : (k : Key) (v : Value) → value_in xs k ≡ Some v → IsKeyWithin from s.to k
-    each : (k : Key) → IsKeyWithin from s.to k → (length s.rows < s.limit) ⊎ (reaches xs k ≡ true) → Shows index fates k s.at (value_in xs k)
+    each : (k : Key) → IsKeyWithin from s.to k → (length s.rows < s.limit) ⊎ (reaches xs k ≡ true)
+        → Shows index fates k s.at (value_in xs k)
 
   as_shown : (k : Key) (o q : Option Value) → o ≡ q → Shows index fates k s.at o → Shows index fates k s.at q
   as_shown k o q e h = subst (λ (x : Option Value). Shows index fates k s.at x) e h
 
-  past : (x : KeyValue) (xs : List KeyValue) (k : Key) → Below x.key k → (length s.rows < s.limit) ⊎ (reaches (x ∷ xs) k ≡ true) → (length s.rows < s.limit) ⊎ (reaches xs k ≡ true)
+  past : (x : KeyValue) (xs : List KeyValue) (k : Key) → Below x.key k
+      → (length s.rows < s.limit) ⊎ (reaches (x ∷ xs) k ≡ true) → (length s.rows < s.limit) ⊎ (reaches xs k ≡ true)
   past x xs k e (inl h) = inl h
   past x xs k e (inr h) = inr (or_second (key_le k x.key) (reaches xs k) h (ap is_le (turned x.key k e)))
 
@@ -221,11 +248,14 @@ module _ (index : Index) (fates : Fates) (s : ScanRead) where
             (from_above from x.key k (next.within.0) (h.0), h.1)
       ]
 
-      each_more : (k : Key) → IsKeyWithin from s.to k → (length s.rows < s.limit) ⊎ (reaches (x ∷ xs) k ≡ true) → Shows index fates k s.at (value_in (x ∷ xs) k)
+      each_more : (k : Key) → IsKeyWithin from s.to k → (length s.rows < s.limit) ⊎ (reaches (x ∷ xs) k ≡ true)
+          → Shows index fates k s.at (value_in (x ∷ xs) k)
       each_more k w r = elim (three x.key k) [
         | inl e ↦ as_shown k _ _ (sym (skip x xs k e)) (rest.each k (e, w.1) (past x xs k e r))
-        | inr (inl e) ↦ subst (λ (q : Key). Shows index fates q s.at (value_in (x ∷ xs) q)) e (as_shown x.key _ _ (sym (own x xs)) next.shown)
-        | inr (inr e) ↦ as_shown k _ _ (sym (none_before x xs k e (λ q v is. (rest.within q v is).0))) (next.bare k (w.0, e))
+        | inr (inl e) ↦ subst (λ (q : Key). Shows index fates q s.at (value_in (x ∷ xs) q)) e
+            (as_shown x.key _ _ (sym (own x xs)) next.shown)
+        | inr (inr e) ↦ as_shown k _ _ (sym (none_before x xs k e (λ q v is. (rest.within q v is).0)))
+            (next.bare k (w.0, e))
       ]
 
       shows_more : ShowsFrom from (x ∷ xs)
@@ -248,10 +278,12 @@ module _ (index : Index) (fates : Fates) (s : ScanRead) where
       first_row = record {
         within = first_within;
         bare = first_bare;
-        shown = as_shown x.key _ _ (own x xs) (h.each x.key first_within (inr (or_left _ _ (ap is_le (tied_itself nat_list_cmp_total x.key)))));
+        shown = as_shown x.key _ _ (own x xs)
+            (h.each x.key first_within (inr (or_left _ _ (ap is_le (tied_itself nat_list_cmp_total x.key)))));
       }
 
-      later : (k : Key) → (length s.rows < s.limit) ⊎ (reaches xs k ≡ true) → (length s.rows < s.limit) ⊎ (reaches (x ∷ xs) k ≡ true)
+      later : (k : Key) → (length s.rows < s.limit) ⊎ (reaches xs k ≡ true)
+          → (length s.rows < s.limit) ⊎ (reaches (x ∷ xs) k ≡ true)
       later k (inl e) = inl e
       later k (inr e) = inr (or_right _ _ e)
 
@@ -264,7 +296,8 @@ module _ (index : Index) (fates : Fates) (s : ScanRead) where
       rest_rows = record {
         rising = rising_rest x xs h.rising;
         within = rest_within;
-        each = λ k w r. as_shown k _ _ (skip x xs k w.0) (h.each k (from_above from x.key k (first_within.0) w.0, w.1) (later k r));
+        each = λ k w r. as_shown k _ _ (skip x xs k w.0)
+            (h.each k (from_above from x.key k (first_within.0) w.0, w.1) (later k r));
       }
 
   walked : (from : Bound Key) (xs : List KeyValue) → Walks from xs → ShowsFrom from xs
@@ -279,17 +312,23 @@ module _ (index : Index) (fates : Fates) (s : ScanRead) where
   walks from [] h = λ e k w. h.each k w (inl e)
   walks from (x ∷ xs) h = (first_row from x xs h, walks (Excluded x.key) xs (rest_rows from x xs h))
 
-  pub covered_from : (k : Key) → IsKeyWithin (Included s.from) s.to k → (length s.rows < s.limit) ⊎ (reaches s.rows k ≡ true) → covered s k ≡ true
+  pub covered_from : (k : Key) → IsKeyWithin (Included s.from) s.to k
+      → (length s.rows < s.limit) ⊎ (reaches s.rows k ≡ true) → covered s k ≡ true
   covered_from k w r =
       both _ _ (both _ _ (at_most _ (w.0)) (ap is_lt (w.1)))
       (elim r [ inl e ↦ or_left _ _ (lt-ltb (length s.rows) s.limit e) | inr e ↦ or_right _ _ e ])
 
-  from_covered : (k : Key) → covered s k ≡ true → IsKeyWithin (Included s.from) s.to k × ((length s.rows < s.limit) ⊎ (reaches s.rows k ≡ true))
+  from_covered : (k : Key) → covered s k ≡ true
+      → IsKeyWithin (Included s.from) s.to k × ((length s.rows < s.limit) ⊎ (reaches s.rows k ≡ true))
   from_covered k e =
       let p = split (key_le s.from k && key_lt k s.to) (nat_lt (length s.rows) s.limit || reaches s.rows k) e in
       let q = split (key_le s.from k) (key_lt k s.to) (p.0) in (
         (not_above _ (q.0), less _ (q.1)),
-        elim (either (nat_lt (length s.rows) s.limit) (reaches s.rows k) (p.1)) [ inl t ↦ inl (ltb-true (length s.rows) s.limit t) | inr t ↦ inr t ],
+        elim (either (nat_lt (length s.rows) s.limit) (reaches s.rows k) (p.1)) [
+          | inl t ↦
+              inl (ltb-true (length s.rows) s.limit t)
+          | inr t ↦ inr t
+        ],
       )
 
   rows_shown : length s.rows ≤ s.limit → ShowsFrom (Included s.from) s.rows → ShowsRows index fates s
@@ -309,7 +348,10 @@ module _ (index : Index) (fates : Fates) (s : ScanRead) where
 
   -- the walk from the start of the range says what the scan sees
   pub walk_says : length s.rows ≤ s.limit → Walks (Included s.from) s.rows ↔ ShowsRows index fates s
-  walk_says upto = (λ w. rows_shown upto (walked (Included s.from) s.rows w), λ h. walks (Included s.from) s.rows (shown_rows h))
+  walk_says upto = (
+    λ w. rows_shown upto (walked (Included s.from) s.rows w),
+    λ h. walks (Included s.from) s.rows (shown_rows h),
+  )
 
   -- a range with no key has no rows
   module _ (back : is_ge (cmp s.from s.to) ≡ true) where
@@ -328,7 +370,9 @@ module _ (index : Index) (fates : Fates) (s : ScanRead) where
 
     no_more : (xs : List KeyValue) → s.rows ≡ xs → ShowsRows index fates s → xs ≡ []
     no_more [] e h = refl
-    no_more (x ∷ xs) e h = absurd (never_covered x.key (h.within x.key x.value (ap (λ (ys : List KeyValue). value_in ys x.key) e ∙ own x xs)))
+    no_more (x ∷ xs) e h =
+        absurd (never_covered x.key
+        (h.within x.key x.value (ap (λ (ys : List KeyValue). value_in ys x.key) e ∙ own x xs)))
 
     pub no_rows : (rows : List KeyValue) → rows ≡ s.rows → IsTrue (length rows == 0) ↔ ShowsRows index fates s
     no_rows rows is = (
@@ -339,16 +383,20 @@ module _ (index : Index) (fates : Fates) (s : ScanRead) where
   module _ (rows : List KeyValue) (is : rows ≡ s.rows) (i : ℕ) (from : Bound Key)
       (so_far : Walks (Included s.from) s.rows ↔ Walks from (drop i s.rows)) (upto : length rows ≤ s.limit) where
     -- a scan that sees its rows sees the next one
-    pub next_seen : (x : KeyValue) → i < length rows → x ≡ get_or rows i x → ShowsRows index fates s → IsNextRow index fates s from x
+    pub next_seen : (x : KeyValue) → i < length rows → x ≡ get_or rows i x → ShowsRows index fates s
+        → IsNextRow index fates s from x
     next_seen x lt e h =
         let lt_rows : i < length s.rows = omega (arith, ap length is) in
         let at : drop i s.rows ≡ get_or s.rows i x ∷ drop (suc i) s.rows = drop-cons s.rows i x lt_rows in
         let item : get_or s.rows i x ≡ x = sym (e ∙ ap (λ (xs : List KeyValue). get_or xs i x) is) in
-        let w : Walks from (get_or s.rows i x ∷ drop (suc i) s.rows) = subst (λ (xs : List KeyValue). Walks from xs) at (so_far.0 ((walk_says (omega (arith, ap length is))).1 h)) in
+        let w : Walks from (get_or s.rows i x ∷ drop (suc i) s.rows) =
+        subst (λ (xs : List KeyValue). Walks from xs) at
+        (so_far.0 ((walk_says (omega (arith, ap length is))).1 h)) in
         subst (λ (y : KeyValue). IsNextRow index fates s from y) item (w.0)
 
     -- behind the last row
-    pub end_seen : length rows ≤ i → (length s.rows < s.limit → IsBare index fates from s.to s.at) ↔ ShowsRows index fates s
+    pub end_seen : length rows ≤ i
+        → (length s.rows < s.limit → IsBare index fates from s.to s.at) ↔ ShowsRows index fates s
     end_seen le =
         let none : drop i s.rows ≡ [] = drop_all i s.rows (omega (arith, ap length is)) in
         let says = walk_says (omega (arith, ap length is)) in (
@@ -359,5 +407,7 @@ module _ (index : Index) (fates : Fates) (s : ScanRead) where
     pub full_seen : length rows ≤ i → length rows ≡ s.limit → ShowsRows index fates s
     full_seen le full = (end_seen le).0 (λ lt. absurd (omega (arith, ap length is)))
 
-    pub open_seen : length rows ≤ i → length rows ≢ s.limit → (b : Bool) → (IsTrue b ↔ IsBare index fates from s.to s.at) → IsTrue b ↔ ShowsRows index fates s
-    open_seen le short b bare = (λ t. (end_seen le).0 (λ lt. bare.0 t), λ h. bare.1 ((end_seen le).1 h (omega (arith, ap length is))))
+    pub open_seen : length rows ≤ i → length rows ≢ s.limit → (b : Bool)
+        → (IsTrue b ↔ IsBare index fates from s.to s.at) → IsTrue b ↔ ShowsRows index fates s
+    open_seen le short b bare =
+        (λ t. (end_seen le).0 (λ lt. bare.0 t), λ h. bare.1 ((end_seen le).1 h (omega (arith, ap length is))))

@@ -61,12 +61,14 @@ or_false true = refl
 or_false false = refl
 
 -- rows that rise reach up to the last
-reaches_last : (x : KeyValue) (xs : List KeyValue) (k : Key) → IsRising (x ∷ xs) → reaches (x ∷ xs) k ≡ key_le k (last_of x xs).key
+reaches_last : (x : KeyValue) (xs : List KeyValue) (k : Key) → IsRising (x ∷ xs)
+    → reaches (x ∷ xs) k ≡ key_le k (last_of x xs).key
 unfolding last_of
 reaches_last x [] k r = or_false (key_le k x.key)
 reaches_last x (y ∷ ys) k r =
     ap (λ (b : Bool). key_le k x.key || b) (reaches_last y ys k r.1)
-    ∙ or_to (key_le k x.key) (key_le k (last_of y ys).key) (λ e. lt_le k (last_of y ys).key (le_lt k x.key (last_of y ys).key e (head_below x y ys r)))
+    ∙ or_to (key_le k x.key) (key_le k (last_of y ys).key)
+    (λ e. lt_le k (last_of y ys).key (le_lt k x.key (last_of y ys).key e (head_below x y ys r)))
 
 and_parts : (f t : Bool) (l : Bool) → (l ≡ true → t ≡ true) → (f && l) ≡ (f && t && l)
 and_parts false t l h = refl
@@ -77,22 +79,32 @@ and_parts true false false h = refl
 some_same : {X : Type 0} (x y : X) → Some x ≡ Some y → x ≡ y
 some_same x y e = cc
 
-reaches_row : (rows : List KeyValue) (row : KeyValue) (k : Key) → IsRising rows → Some row ≡ slice_get rows (length rows - 1) → reaches rows k ≡ key_le k row.key
+reaches_row : (rows : List KeyValue) (row : KeyValue) (k : Key) → IsRising rows
+    → Some row ≡ slice_get rows (length rows - 1) → reaches rows k ≡ key_le k row.key
 reaches_row [] row k r e = absurd (cc e)
 reaches_row (x ∷ xs) row k r e =
     reaches_last x xs k r
-    ∙ ap (λ (z : KeyValue). key_le k z.key) (some_same _ _ (sym (last_get x xs) ∙ (ap (slice_get (x ∷ xs)) (let h : length xs ≡ length (x ∷ xs) - 1 = omega arith in h) ∙ sym e)))
+    ∙ ap (λ (z : KeyValue). key_le k z.key)
+    (some_same _ _ (sym (last_get x xs)
+    ∙ (ap (slice_get (x ∷ xs)) (let h : length xs ≡ length (x ∷ xs) - 1 = omega arith in h) ∙ sym e)))
 
 has_row : (rows : List KeyValue) (row : KeyValue) → Some row ≡ slice_get rows (length rows - 1) → Contains rows row
 has_row [] row e = absurd (cc e)
-has_row (x ∷ xs) row e = (length xs, (let h : length xs < length (x ∷ xs) = omega arith in h), get_or_from_slice_get (x ∷ xs) (length xs) row row (ap (slice_get (x ∷ xs)) (let h : length xs ≡ length (x ∷ xs) - 1 = omega arith in h) ∙ sym e))
+has_row (x ∷ xs) row e = (
+  length xs,
+  (let h : length xs < length (x ∷ xs) = omega arith in h),
+  get_or_from_slice_get (x
+      ∷ xs) (length xs) row row (ap (slice_get (x ∷ xs)) (let h : length xs ≡ length (x ∷ xs) - 1 = omega arith in h)
+      ∙ sym e),
+)
 
 at_limit : (n limit : ℕ) → limit ≤ n → nat_lt n limit ≡ false
 at_limit n limit h = search rules
 
 -- where the limit ended it, a scan covered the keys up to its last row
 pub spanned : (s : ScanRead) (row : KeyValue) (from to : Key) (k : Key) → s.limit ≤ length s.rows → IsRising s.rows
-    → ((x : KeyValue) → Contains s.rows x → IsTrue (key_lt x.key s.to)) → Some row ≡ slice_get s.rows (length s.rows - 1) → from ≡ s.from → to ≡ row.key
+    → ((x : KeyValue) → Contains s.rows x → IsTrue (key_lt x.key s.to))
+    → Some row ≡ slice_get s.rows (length s.rows - 1) → from ≡ s.from → to ≡ row.key
     → span_covers record { from = from; to = to; is_closed = true } k ≡ covered s k
 spanned s row from to k full rising ends last is_from is_to =
     let below : key_lt row.key s.to ≡ true = ends row (has_row s.rows row last) in
@@ -102,4 +114,5 @@ spanned s row from to k full rising ends last is_from is_to =
     ∙ (ap (λ (b : Bool). key_le s.from k && b) (sym (le_is k row.key))
     ∙ (and_parts (key_le s.from k) (key_lt k s.to) (key_le k row.key) (λ e. le_lt k row.key s.to e below)
     ∙ (ap (λ (b : Bool). key_le s.from k && key_lt k s.to && b) (sym upto)
-    ∙ ap (λ (b : Bool). key_le s.from k && key_lt k s.to && (b || reaches s.rows k)) (sym (at_limit (length s.rows) s.limit full))))))
+    ∙ ap (λ (b : Bool). key_le s.from k && key_lt k s.to
+    && (b || reaches s.rows k)) (sym (at_limit (length s.rows) s.limit full))))))

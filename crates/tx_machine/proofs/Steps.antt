@@ -18,7 +18,8 @@ use Rattle.tx_machine.proofs.Basics.{nat_test, cond_true, cond_false, some_same,
 
 -- ---- rows
 
-pub at : {X : Type 0} (new old : ℕ → Option X) (t : ℕ) (x : X) → ((q : ℕ) → new q ≡ cond (is_eq (nat_cmp t q)) (Some x) (old q)) → (q : ℕ) → new q ≡ cond (t == q) (Some x) (old q)
+pub at : {X : Type 0} (new old : ℕ → Option X) (t : ℕ) (x : X)
+    → ((q : ℕ) → new q ≡ cond (is_eq (nat_cmp t q)) (Some x) (old q)) → (q : ℕ) → new q ≡ cond (t == q) (Some x) (old q)
 at new old t x is q = is q ∙ ap (λ (b : Bool). cond b (Some x) (old q)) (sym (unsigned_ties t q))
 
 -- the changes of a row
@@ -32,7 +33,9 @@ state_in None = None
 state_in (Some row) = Some row.state
 
 -- what a row that ended says of the maps
-pub row_done : (stage : Option TxnStage) (fate : Option Fate) (set : List Change) (f : Fate) → row_of stage fate ≡ Some record { changes = Some set; state = Done f } → (stage ≡ Some (Declared set)) × (fate ≡ Some f)
+pub row_done : (stage : Option TxnStage) (fate : Option Fate) (set : List Change) (f : Fate)
+    → row_of stage fate ≡ Some record { changes = Some set; state = Done f }
+    → (stage ≡ Some (Declared set)) × (fate ≡ Some f)
 row_done None fate set f e = absurd (cc e)
 row_done (Some Drawn) fate set f e = absurd (cc e)
 row_done (Some Begun) fate set f e = absurd (cc (ap changes_in e))
@@ -40,7 +43,8 @@ row_done (Some (Declared s)) None set f e = absurd (cc (ap state_in e))
 row_done (Some (Declared s)) (Some g) set f e = (cc (ap changes_in e), cc (ap state_in e))
 
 -- the state of a row whose transaction ended
-pub row_ended : (stage : Option TxnStage) (f : Fate) (changes : Option (List Change)) (state : State) → row_of stage (Some f) ≡ Some record { changes = changes; state = state } → state ≡ Done f
+pub row_ended : (stage : Option TxnStage) (f : Fate) (changes : Option (List Change)) (state : State)
+    → row_of stage (Some f) ≡ Some record { changes = changes; state = state } → state ≡ Done f
 row_ended None f changes state e = absurd (cc e)
 row_ended (Some Drawn) f changes state e = absurd (cc e)
 row_ended (Some Begun) f changes state e = cc (ap state_in e)
@@ -50,23 +54,30 @@ row_ended (Some (Declared s)) f changes state e = cc (ap state_in e)
 
 -- rows that say the same of who is committed, and keep what was declared
 pub record SameCommits (old new : Rows) : Type 0 where
-  pub back : (u c : ℕ) (set : List Change) → new u ≡ Some record { changes = Some set; state = Done (Committed c) } → old u ≡ Some record { changes = Some set; state = Done (Committed c) }
-  pub declared : (u : ℕ) (set : List Change) (state : State) → old u ≡ Some record { changes = Some set; state = state } → (s : State) × (new u ≡ Some record { changes = Some set; state = s })
+  pub back : (u c : ℕ) (set : List Change) → new u ≡ Some record { changes = Some set; state = Done (Committed c) }
+      → old u ≡ Some record { changes = Some set; state = Done (Committed c) }
+  pub declared : (u : ℕ) (set : List Change) (state : State) → old u ≡ Some record { changes = Some set; state = state }
+      → (s : State) × (new u ≡ Some record { changes = Some set; state = s })
 
-commits_back : (old new : Rows) → SameCommits old new → (k : Key) (u c : ℕ) (m : Mutation) → Commits new k u c m → Commits old k u c m
+commits_back : (old new : Rows) → SameCommits old new → (k : Key) (u c : ℕ) (m : Mutation) → Commits new k u c m
+    → Commits old k u c m
 commits_back old new same k u c m x = record { set = x.set; row_is = same.back u c x.set x.row_is; does = x.does }
 
-pub same_commits : (old new : Rows) (versions : Key → ℕ → Option Version) → SameCommits old new → ListsCommits old versions → ListsCommits new versions
+pub same_commits : (old new : Rows) (versions : Key → ℕ → Option Version) → SameCommits old new
+    → ListsCommits old versions → ListsCommits new versions
 same_commits old new versions same lists = record {
   listed = λ k u c m x. lists.listed k u c m (commits_back old new same k u c m x);
-  declared = λ k c v e. let d = lists.declared k c v e in let s = same.declared v.start d.0 d.1 d.2 in (d.0, s.0, s.1, d.3);
+  declared = λ k c v e. let d = lists.declared k c v e in let s = same.declared v.start d.0 d.1 d.2 in
+      (d.0, s.0, s.1, d.3);
   above = λ k u c m x. lists.above k u c m (commits_back old new same k u c m x);
-  apart = λ k u c v d m n x y. lists.apart k u c v d m n (commits_back old new same k u c m x) (commits_back old new same k v d n y);
+  apart = λ k u c v d m n x y. lists.apart k u c v d m n (commits_back old new same k u c m x)
+      (commits_back old new same k v d n y);
 }
 
 -- ---- one row more, or another
 
-module _ (last : ℕ) (stages : ℕ → Option TxnStage) (fates : ℕ → Option Fate) (versions : Key → ℕ → Option Version) (noted : Key → ℕ → Type 0) (table : Table)
+module _ (last : ℕ) (stages : ℕ → Option TxnStage) (fates : ℕ → Option Fate) (versions : Key → ℕ
+    → Option Version) (noted : Key → ℕ → Type 0) (table : Table)
     (tells : Tells last stages fates versions noted table) where
   pub not_ended : (t : ℕ) → table.row t ≡ None → fates t ≡ None
   not_ended t none = none_is (fates t) (λ f e. tells.ended t f e none)
@@ -91,7 +102,9 @@ module _ (last : ℕ) (stages : ℕ → Option TxnStage) (fates : ℕ → Option
         (lists : ListsCommits rows new_versions) where
       row_drawn : (q : ℕ) → table.drawn q ≡ is_some (new_stages q)
       row_drawn q = elim (nat_test t q) [
-        | inl x ↦ tells.drawn q ∙ (ap (λ (y : ℕ). is_some (stages y)) (sym (x.1)) ∙ (sym drawn_here ∙ ap (λ (y : ℕ). is_some (new_stages y)) x.1))
+        | inl x ↦ tells.drawn q
+            ∙ (ap (λ (y : ℕ). is_some (stages y)) (sym (x.1))
+            ∙ (sym drawn_here ∙ ap (λ (y : ℕ). is_some (new_stages y)) x.1))
         | inr x ↦ tells.drawn q ∙ ap (is_some {T = TxnStage}) (sym (other_stages q x.0))
       ]
 
@@ -100,7 +113,8 @@ module _ (last : ℕ) (stages : ℕ → Option TxnStage) (fates : ℕ → Option
         | inl x ↦ row_here q x.1 ∙ (sym here ∙ ap (λ (y : ℕ). row_of (new_stages y) (new_fates y)) x.1)
         | inr x ↦
             row_other q x.0
-            ∙ (tells.row q ∙ (ap (λ (y : Option TxnStage). row_of y (fates q)) (sym (other_stages q x.0)) ∙ ap (λ (y : Option Fate). row_of (new_stages q) y) (sym (other_fates q x.0))))
+            ∙ (tells.row q ∙ (ap (λ (y : Option TxnStage). row_of y (fates q)) (sym (other_stages q x.0))
+            ∙ ap (λ (y : Option Fate). row_of (new_stages q) y) (sym (other_fates q x.0))))
       ]
 
       row_ends : (q : ℕ) (f : Fate) → new_fates q ≡ Some f → rows q ≢ None
@@ -109,7 +123,8 @@ module _ (last : ℕ) (stages : ℕ → Option TxnStage) (fates : ℕ → Option
         | inr x ↦ tells.ended q f (sym (other_fates q x.0) ∙ e) (sym (row_other q x.0) ∙ none)
       ]
 
-      row_distinct : (q : ℕ) (set : List Change) (s : State) → rows q ≡ Some record { changes = Some set; state = s } → IsDistinct set
+      row_distinct : (q : ℕ) (set : List Change) (s : State) → rows q ≡ Some record { changes = Some set; state = s }
+          → IsDistinct set
       row_distinct q set s e = elim (nat_test t q) [
         | inl x ↦ distinct_here set (some_same _ _ (ap some_changes (sym (row_here q x.1) ∙ e)))
         | inr x ↦ tells.distinct q set s (sym (row_other q x.0) ∙ e)
@@ -129,25 +144,36 @@ module _ (last : ℕ) (stages : ℕ → Option TxnStage) (fates : ℕ → Option
 
   -- a row that was not committed and is not now
   module _ (t : ℕ) (changes : Option (List Change)) (state : State) (never : (c : ℕ) → state ≡ Done (Committed c) → ⊥)
-      (stays : (set : List Change) (s : State) → table.row t ≡ Some record { changes = Some set; state = s } → changes ≡ Some set) where
-    row_back : (u c : ℕ) (set : List Change) → rows t changes state u ≡ Some record { changes = Some set; state = Done (Committed c) } → table.row u ≡ Some record { changes = Some set; state = Done (Committed c) }
+      (stays : (set : List Change) (s : State) → table.row t ≡ Some record { changes = Some set; state = s }
+      → changes ≡ Some set) where
+    row_back : (u c : ℕ) (set : List Change)
+        → rows t changes state u ≡ Some record { changes = Some set; state = Done (Committed c) }
+        → table.row u ≡ Some record { changes = Some set; state = Done (Committed c) }
     row_back u c set e = elim (nat_test t u) [
       | inl x ↦ absurd (never c (some_same _ _ (ap state_in (sym (row_here t changes state u x.1) ∙ e))))
       | inr x ↦ sym (row_other t changes state u x.0) ∙ e
     ]
 
-    row_stays : (u : ℕ) (set : List Change) (s : State) → table.row u ≡ Some record { changes = Some set; state = s } → (r : State) × (rows t changes state u ≡ Some record { changes = Some set; state = r })
+    row_stays : (u : ℕ) (set : List Change) (s : State) → table.row u ≡ Some record { changes = Some set; state = s }
+        → (r : State) × (rows t changes state u ≡ Some record { changes = Some set; state = r })
     row_stays u set s e = elim (nat_test t u) [
-      | inl x ↦ (state, row_here t changes state u x.1 ∙ ap (λ (cs : Option (List Change)). Some record { changes = cs; state = state }) (stays set s (ap table.row x.1 ∙ e)))
+      | inl x ↦ (
+        state,
+        row_here t changes state u x.1
+            ∙ ap (λ (cs : Option (List Change)). Some record { changes = cs; state = state })
+            (stays set s (ap table.row x.1 ∙ e)),
+      )
       | inr x ↦ (s, row_other t changes state u x.0 ∙ e)
     ]
 
     pub lists_still : ListsCommits (rows t changes state) versions
-    lists_still = same_commits table.row (rows t changes state) versions (record { back = row_back; declared = row_stays }) tells.commits
+    lists_still = same_commits table.row (rows t changes state) versions
+        (record { back = row_back; declared = row_stays }) tells.commits
 
   -- ---- begin, declare, abort
 
-  module _ (t : ℕ) (stage : stages t ≡ Some Drawn) (new : ℕ → Option TxnStage) (was : (q : ℕ) → new q ≡ cond (is_eq (nat_cmp t q)) (Some Begun) (stages q)) where
+  module _ (t : ℕ) (stage : stages t ≡ Some Drawn) (new : ℕ → Option TxnStage) (was : (q : ℕ)
+      → new q ≡ cond (is_eq (nat_cmp t q)) (Some Begun) (stages q)) where
     no_row : table.row t ≡ None
     no_row = tells.row t ∙ ap (λ (s : Option TxnStage). row_of s (fates t)) stage
 
@@ -166,8 +192,10 @@ module _ (last : ℕ) (stages : ℕ → Option TxnStage) (fates : ℕ → Option
           (lists_still t None Open (λ c e. cc e) (λ set s e. absurd (cc (sym no_row ∙ e)))),
     )
 
-  module _ (t : ℕ) (set : List Change) (stage : stages t ≡ Some Begun) (open_ : fates t ≡ None) (some : set ≢ []) (distinct : IsDistinct set)
-      (new : ℕ → Option TxnStage) (put : TxnStage) (same : put ≡ Declared set) (was : (q : ℕ) → new q ≡ cond (is_eq (nat_cmp t q)) (Some put) (stages q)) where
+  module _ (t : ℕ) (set : List Change) (stage : stages t ≡ Some Begun) (open_ : fates t
+      ≡ None) (some : set ≢ []) (distinct : IsDistinct set)
+      (new : ℕ → Option TxnStage) (put : TxnStage) (same : put ≡ Declared set) (was : (q : ℕ)
+      → new q ≡ cond (is_eq (nat_cmp t q)) (Some put) (stages q)) where
     begun_row : table.row t ≡ Some record { changes = None; state = Open }
     begun_row = tells.row t ∙ (ap (λ (s : Option TxnStage). row_of s (fates t)) stage ∙ ap (row_of (Some Begun)) open_)
 
@@ -186,7 +214,8 @@ module _ (last : ℕ) (stages : ℕ → Option TxnStage) (fates : ℕ → Option
           (lists_still t (Some set) Open (λ c e. cc e) (λ xs s e. absurd (cc (ap changes_in (sym begun_row ∙ e))))),
     )
 
-  module _ (t : ℕ) (changes : Option (List Change)) (open_row : table.row t ≡ Some record { changes = changes; state = Open })
+  module _ (t : ℕ) (changes : Option (List Change)) (open_row : table.row t
+      ≡ Some record { changes = changes; state = Open })
       (new : ℕ → Option Fate) (was : (q : ℕ) → new q ≡ cond (is_eq (nat_cmp t q)) (Some Aborted) (fates q))
       (here : row_of (stages t) (Some Aborted) ≡ Some record { changes = changes; state = Done Aborted }) where
     now_aborted : new t ≡ Some Aborted
@@ -200,14 +229,18 @@ module _ (last : ℕ) (stages : ℕ → Option TxnStage) (fates : ℕ → Option
           (λ q e. refl)
           (λ q e. at new fates t Aborted was q ∙ cond_false _ _ _ e)
           refl
-          (λ xs e. tells.distinct t xs Open (open_row ∙ ap (λ (cs : Option (List Change)). Some record { changes = cs; state = Open }) e))
-          (lists_still t changes (Done Aborted) (λ c e. cc e) (λ xs s e. some_same _ _ (ap some_changes (sym open_row ∙ e)))),
+          (λ xs e. tells.distinct t xs Open (open_row
+          ∙ ap (λ (cs : Option (List Change)). Some record { changes = cs; state = Open }) e))
+          (lists_still t changes (Done Aborted) (λ c e. cc e)
+          (λ xs s e. some_same _ _ (ap some_changes (sym open_row ∙ e)))),
     )
 
 -- ---- before the first step
 
-pub tells_empty : (stages : ℕ → Option TxnStage) (fates : ℕ → Option Fate) (versions : Key → ℕ → Option Version) (noted : Key → ℕ → Type 0)
-    → ((t : ℕ) → stages t ≡ None) → ((t : ℕ) → fates t ≡ None) → ((k : Key) (q : ℕ) → versions k q ≡ None) → ((k : Key) (r : ℕ) → noted k r → ⊥)
+pub tells_empty : (stages : ℕ → Option TxnStage) (fates : ℕ → Option Fate) (versions : Key → ℕ
+    → Option Version) (noted : Key → ℕ → Type 0)
+    → ((t : ℕ) → stages t ≡ None) → ((t : ℕ) → fates t ≡ None) → ((k : Key) (q : ℕ) → versions k q ≡ None)
+    → ((k : Key) (r : ℕ) → noted k r → ⊥)
     → Tells 0 stages fates versions noted empty
 tells_empty stages fates versions noted no_stage no_fate no_version no_read = record {
   last_is = refl;

@@ -18,7 +18,8 @@ abbrev pub goes_from : ℕ → ℕ → Option ℕ → ℕ → Bool
 goes_from below safe stay q = not (nat_lt q below) && goes_below safe stay q
 
 -- their values have gone
-pub record SoFar (write : Records) (before : ℕ → Option Value) (safe : ℕ) (stay : Option ℕ) (below : ℕ) (after : ℕ → Option Value) : Type 0 where
+pub record SoFar (write : Records) (before : ℕ → Option Value) (safe : ℕ) (stay : Option ℕ) (below : ℕ) (after : ℕ
+    → Option Value) : Type 0 where
   pub upto : below ≤ safe
   pub values : ValuesGo write (goes_from below safe stay) before after
 
@@ -52,7 +53,8 @@ module _ (write : Records) (before : ℕ → Option Value) (safe : ℕ) (stay : 
         ]
 
     module _ (at : ℕ) (lt : at < below) (between : (q : ℕ) → at < q → q < below → write q ≡ None) where
-      same_above : (q : ℕ) (r : WriteRec) → write q ≡ Some r → (q ≡ at → ⊥) → goes_from below safe stay q ≡ goes_from at safe stay q
+      same_above : (q : ℕ) (r : WriteRec) → write q ≡ Some r → (q ≡ at → ⊥)
+          → goes_from below safe stay q ≡ goes_from at safe stay q
       same_above q r e other = elim (cases_lt q below) [
         | inl b ↦ elim (cases_lt q at) [
           | inl a ↦ not_yet below q b ∙ sym (not_yet at q a)
@@ -65,7 +67,8 @@ module _ (write : Records) (before : ℕ → Option Value) (safe : ℕ) (stay : 
       pub passes : stay ≡ Some at → SoFar write before safe stay at after
       passes is = record {
         upto = (let u = so.upto in omega (arith, u, lt));
-        values = same_gone write (goes_from below safe stay) (goes_from at safe stay) before after (λ q r e. elim (cases_eq q at) [ inl same ↦ stayed q same | inr other ↦ same_above q r e other ]) so.values;
+        values = same_gone write (goes_from below safe stay) (goes_from at safe stay) before after
+            (λ q r e. elim (cases_eq q at) [ inl same ↦ stayed q same | inr other ↦ same_above q r e other ]) so.values;
       }
         where
           off : goes_below safe stay at ≡ false
@@ -76,12 +79,15 @@ module _ (write : Records) (before : ℕ → Option Value) (safe : ℕ) (stay : 
               and_false false = refl
 
           stayed : (q : ℕ) → q ≡ at → goes_from below safe stay q ≡ goes_from at safe stay q
-          stayed q same = not_yet below q (omega (arith, same, lt)) ∙ sym (already at q (omega (arith, same)) ∙ ap (goes_below safe stay) same ∙ off)
+          stayed q same = not_yet below q (omega (arith, same, lt))
+              ∙ sym (already at q (omega (arith, same)) ∙ ap (goes_below safe stay) same ∙ off)
 
       -- the value of a record that goes is dropped
       module _ (goes : stay ≡ Some at → ⊥) (rest : ℕ → Option Value) (drops : DropsValue (write at) after rest) where
         on : goes_from at safe stay at ≡ true
-        on = already at at (omega arith) ∙ ap (λ b. b && not (stays stay at)) (lt-ltb at safe (let u = so.upto in omega (arith, u, lt))) ∙ ap not (stays_false stay at goes)
+        on = already at at (omega arith)
+            ∙ ap (λ b. b && not (stays stay at)) (lt-ltb at safe (let u = so.upto in omega (arith, u, lt)))
+            ∙ ap not (stays_false stay at goes)
 
         there : (q : ℕ) → goes_from below safe stay q ≡ true → goes_from at safe stay q ≡ true
         there q g = elim (cases_lt q below) [
@@ -89,26 +95,35 @@ module _ (write : Records) (before : ℕ → Option Value) (safe : ℕ) (stay : 
           | inr b ↦ already at q (omega (arith, b, lt)) ∙ sym (already below q b) ∙ g
         ]
 
-        only : (q : ℕ) (r : WriteRec) → write q ≡ Some r → goes_from at safe stay q ≡ true → (goes_from below safe stay q ≡ true) ⊎ (q ≡ at)
+        only : (q : ℕ) (r : WriteRec) → write q ≡ Some r → goes_from at safe stay q ≡ true
+            → (goes_from below safe stay q ≡ true) ⊎ (q ≡ at)
         only q r e g = elim (cases_eq q at) [ inl same ↦ inr same | inr other ↦ inl (same_above q r e other ∙ g) ]
 
         values_later : ValuesGo write (goes_from at safe stay) before rest
         values_later = go (write at) refl
           where
-            bare_or_not : (rec : CommitRec) → write at ≡ Some (Commit rec) → (b : Bool) → keeps_apart rec.mutation ≡ b → ValuesGo write (goes_from at safe stay) before rest
+            bare_or_not : (rec : CommitRec) → write at ≡ Some (Commit rec) → (b : Bool) → keeps_apart rec.mutation ≡ b
+                → ValuesGo write (goes_from at safe stay) before rest
             bare_or_not rec e true k = same_after write (goes_from at safe stay) before _ rest (drops.gone rec e k)
-                (gone_apart write (goes_from below safe stay) (goes_from at safe stay) at before after so.values there only on rec e k)
+                (gone_apart write (goes_from below safe stay) (goes_from at safe stay) at before after so.values there
+                only on rec e k)
             bare_or_not rec e false k = same_after write (goes_from at safe stay) before after rest
-                (drops.stays (λ other f a. (let one : rec ≡ other = same_commit rec other (sym e ∙ f) in let b = ap (λ (r : CommitRec). keeps_apart r.mutation) one in cc (a, b, k))))
-                (gone_bare write (goes_from below safe stay) (goes_from at safe stay) at before after so.values there only on
-                (λ other f a. (let one : rec ≡ other = same_commit rec other (sym e ∙ f) in let b = ap (λ (r : CommitRec). keeps_apart r.mutation) one in cc (a, b, k))))
+                (drops.stays (λ other f a. (let one : rec ≡ other = same_commit rec other (sym e ∙ f) in
+                let b = ap (λ (r : CommitRec). keeps_apart r.mutation) one in cc (a, b, k))))
+                (gone_bare write (goes_from below safe stay) (goes_from at safe stay) at before after so.values there
+                only on
+                (λ other f a. (let one : rec ≡ other = same_commit rec other (sym e ∙ f) in
+                let b = ap (λ (r : CommitRec). keeps_apart r.mutation) one in cc (a, b, k))))
               where
                 same_commit : (a b : CommitRec) → ◌≡◌ {A = Option WriteRec} (Some (Commit a)) (Some (Commit b)) → a ≡ b
                 same_commit a b e = cc e
 
-            none_here : ((rec : CommitRec) → write at ≡ Some (Commit rec) → ⊥) → ValuesGo write (goes_from at safe stay) before rest
-            none_here none = same_after write (goes_from at safe stay) before after rest (drops.stays (λ rec f a. none rec f))
-                (gone_bare write (goes_from below safe stay) (goes_from at safe stay) at before after so.values there only on (λ rec f a. none rec f))
+            none_here : ((rec : CommitRec) → write at ≡ Some (Commit rec) → ⊥)
+                → ValuesGo write (goes_from at safe stay) before rest
+            none_here none = same_after write (goes_from at safe stay) before after rest
+                (drops.stays (λ rec f a. none rec f))
+                (gone_bare write (goes_from below safe stay) (goes_from at safe stay) at before after so.values there
+                only on (λ rec f a. none rec f))
 
             go : (o : Option WriteRec) → write at ≡ o → ValuesGo write (goes_from at safe stay) before rest
             go None e = none_here (λ rec f. cc (e, f))

@@ -25,10 +25,13 @@ stays_false None q h = refl
 stays_false (Some at) q h = elim (cases_Bool (at == q)) [ inl e ↦ absurd (h (ap Some (eqb-true at q e))) | inr e ↦ e ]
 
 -- the records that are left are those that are kept
-pub tells_left : (x : OnKey) (safe : ℕ) (stay : Option ℕ) → ((q : ℕ) → q < safe → (cells_of x).write q ≢ None → (keeps (cells_of x).write safe q ≡ true) ↔ (stay ≡ Some q))
+pub tells_left : (x : OnKey) (safe : ℕ) (stay : Option ℕ)
+    → ((q : ℕ) → q < safe → (cells_of x).write q ≢ None → (keeps (cells_of x).write safe q ≡ true) ↔ (stay ≡ Some q))
     → (q : ℕ) → cond (keeps (cells_of x).write safe q) (x.write q) None ≡ cond (goes_below safe stay q) None (x.write q)
 tells_left x safe stay tells q = elim (some_or_none (x.write q)) [
-  | inl none ↦ ap (λ o. cond (keeps (cells_of x).write safe q) o None) none ∙ same_choice (keeps (cells_of x).write safe q) None ∙ sym (same_choice (goes_below safe stay q) None) ∙ sym (ap (λ o. cond (goes_below safe stay q) None o) none)
+  | inl none ↦ ap (λ o. cond (keeps (cells_of x).write safe q) o None) none
+      ∙ same_choice (keeps (cells_of x).write safe q) None ∙ sym (same_choice (goes_below safe stay q) None)
+      ∙ sym (ap (λ o. cond (goes_below safe stay q) None o) none)
   | inr some ↦ elim (cases_lt q safe) [
     | inl lt ↦ elim (cases_Bool (keeps (cells_of x).write safe q)) [
       | inl here ↦ (

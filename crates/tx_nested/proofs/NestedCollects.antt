@@ -30,11 +30,13 @@ nothing_collected safe = record {
     kept = λ t k. refl;
     gone = λ t n. refl;
   };
-  cells = cells_same None None (λ q. None) (kept (cells_of nothing_held) safe).write refl (λ q. none_left (keeps (cells_of nothing_held).write safe q));
+  cells = cells_same None None (λ q. None) (kept (cells_of nothing_held) safe).write refl
+      (λ q. none_left (keeps (cells_of nothing_held).write safe q));
 }
 
 module _ {F : Type 0} (T : F → Key → KeyFamilies → Bool → KeyFamilies → F → Type 0) (I : F → Type 0) (safe : ℕ)
-    (step : (f : F) (k : Key) (v : KeyFamilies) (b : Bool) (w : KeyFamilies) (g : F) → I f → T f k v b w g → CollectsOn safe (held v) (held w) × (b ≡ false → held w ≡ nothing_held) × I g) where
+    (step : (f : F) (k : Key) (v : KeyFamilies) (b : Bool) (w : KeyFamilies) (g : F) → I f → T f k v b w g
+    → CollectsOn safe (held v) (held w) × (b ≡ false → held w ≡ nothing_held) × I g) where
   -- keys that come after one still do
   still_after : (j : Key) (f : F) (es fs : Entries) → RetainsPairs T f es fs → IsAfter j es → IsAfter j fs
   still_after j f [] fs r a = subst (IsAfter j) (sym r) tt
@@ -46,49 +48,75 @@ module _ {F : Type 0} (T : F → Key → KeyFamilies → Bool → KeyFamilies �
 
   none_after : (j : Key) (es : Entries) → IsAfter j es → find j es ≡ None
   none_after j [] a = refl
-  none_after j (e ∷ es) a = ap (λ b. cond b (Some e.1) (find j es)) (at_is j e.0 ∙ apart j e.0 a.0) ∙ none_after j es a.1
+  none_after j (e ∷ es) a =
+      ap (λ b. cond b (Some e.1) (find j es)) (at_is j e.0 ∙ apart j e.0 a.0) ∙ none_after j es a.1
 
-  pub collects_all : (f : F) (es fs : Entries) → I f → InOrder es → RetainsPairs T f es fs → (k : Key) → CollectsOn safe (held_on (find k es)) (held_on (find k fs))
+  pub collects_all : (f : F) (es fs : Entries) → I f → InOrder es → RetainsPairs T f es fs → (k : Key)
+      → CollectsOn safe (held_on (find k es)) (held_on (find k fs))
   unfolding IsStrictlySortedBy
-  collects_all f [] fs i s r k = subst (λ (gs : Entries). CollectsOn safe nothing_held (held_on (find k gs))) (sym r) (nothing_collected safe)
+  collects_all f [] fs i s r k =
+      subst (λ (gs : Entries). CollectsOn safe nothing_held (held_on (find k gs))) (sym r) (nothing_collected safe)
   collects_all f (e ∷ es) fs i s r k =
       subst (λ (gs : Entries). CollectsOn safe (held_on (find k (e ∷ es))) (held_on (find k gs))) (sym r.6)
-      (go r.0 refl (step f e.0 e.1 r.0 r.1 r.2 i r.4) (still_after e.0 r.2 es r.3 r.5 s.0) (collects_all r.2 es r.3 (step f e.0 e.1 r.0 r.1 r.2 i r.4).2 s.1 r.5 k))
+      (go r.0 refl (step f e.0 e.1 r.0 r.1 r.2 i r.4) (still_after e.0 r.2 es r.3 r.5 s.0)
+      (collects_all r.2 es r.3 (step f e.0 e.1 r.0 r.1 r.2 i r.4).2 s.1 r.5 k))
     where
-      with_first : (v : KeyFamilies) (gs : Entries) (b : Bool) → bytes_eq e.0 k ≡ b → find k ((e.0, v) ∷ gs) ≡ cond b (Some v) (find k gs)
+      with_first : (v : KeyFamilies) (gs : Entries) (b : Bool) → bytes_eq e.0 k ≡ b
+          → find k ((e.0, v) ∷ gs) ≡ cond b (Some v) (find k gs)
       with_first v gs b is = ap (λ c. cond c (Some v) (find k gs)) (at_is k e.0 ∙ is)
 
-      go : (b : Bool) → r.0 ≡ b → CollectsOn safe (held e.1) (held r.1) × (r.0 ≡ false → held r.1 ≡ nothing_held) × I r.2 → IsAfter e.0 r.3 → CollectsOn safe (held_on (find k es)) (held_on (find k r.3))
+      go : (b : Bool) → r.0 ≡ b
+          → CollectsOn safe (held e.1) (held r.1) × (r.0 ≡ false → held r.1 ≡ nothing_held) × I r.2 → IsAfter e.0 r.3
+          → CollectsOn safe (held_on (find k es)) (held_on (find k r.3))
           → CollectsOn safe (held_on (find k (e ∷ es))) (held_on (find k (cond b ((e.0, r.1) ∷ r.3) r.3)))
       go true is here after later = elim (cases_Bool (bytes_eq e.0 k)) [
-        | inl same ↦ subst (λ (o : Option KeyFamilies). CollectsOn safe (held_on o) (held_on (find k ((e.0, r.1) ∷ r.3)))) (sym (with_first e.1 es true same))
-            (subst (λ (o : Option KeyFamilies). CollectsOn safe (held e.1) (held_on o)) (sym (with_first r.1 r.3 true same)) here.0)
-        | inr other ↦ subst (λ (o : Option KeyFamilies). CollectsOn safe (held_on o) (held_on (find k ((e.0, r.1) ∷ r.3)))) (sym (with_first e.1 es false other))
-            (subst (λ (o : Option KeyFamilies). CollectsOn safe (held_on (find k es)) (held_on o)) (sym (with_first r.1 r.3 false other)) later)
+        | inl same ↦ subst (λ (o :
+            Option KeyFamilies). CollectsOn safe (held_on o) (held_on (find k ((e.0, r.1) ∷ r.3))))
+            (sym (with_first e.1 es true same))
+            (subst (λ (o : Option KeyFamilies). CollectsOn safe (held e.1) (held_on o))
+            (sym (with_first r.1 r.3 true same)) here.0)
+        | inr other ↦ subst (λ (o :
+            Option KeyFamilies). CollectsOn safe (held_on o) (held_on (find k ((e.0, r.1) ∷ r.3))))
+            (sym (with_first e.1 es false other))
+            (subst (λ (o : Option KeyFamilies). CollectsOn safe (held_on (find k es)) (held_on o))
+            (sym (with_first r.1 r.3 false other)) later)
       ]
       go false is here after later = elim (cases_Bool (bytes_eq e.0 k)) [
-        | inl same ↦ subst (λ (o : Option KeyFamilies). CollectsOn safe (held_on o) (held_on (find k r.3))) (sym (with_first e.1 es true same))
-            (subst (λ (y : OnKey). CollectsOn safe (held e.1) y) (here.1 is ∙ sym (ap held_on (ap (λ (j : Key). find j r.3) (sym ((bytes_eq-Decides e.0 k).0 same)) ∙ none_after e.0 r.3 after))) here.0)
-        | inr other ↦ subst (λ (o : Option KeyFamilies). CollectsOn safe (held_on o) (held_on (find k r.3))) (sym (with_first e.1 es false other)) later
+        | inl same ↦ subst (λ (o : Option KeyFamilies). CollectsOn safe (held_on o) (held_on (find k r.3)))
+            (sym (with_first e.1 es true same))
+            (subst (λ (y : OnKey). CollectsOn safe (held e.1) y) (here.1 is
+            ∙ sym (ap held_on (ap (λ (j : Key). find j r.3) (sym ((bytes_eq-Decides e.0 k).0 same))
+            ∙ none_after e.0 r.3 after))) here.0)
+        | inr other ↦ subst (λ (o : Option KeyFamilies). CollectsOn safe (held_on o) (held_on (find k r.3)))
+            (sym (with_first e.1 es false other)) later
       ]
 
   -- a key that goes has no number any more
-  pub numbers_all : ((f : F) (k : Key) (v : KeyFamilies) (b : Bool) (w : KeyFamilies) (g : F) → I f → T f k v b w g → w.number ≡ v.number) → (f : F) (es fs : Entries) → I f → InOrder es → RetainsPairs T f es fs → (k : Key) → number_on (find k fs) ≤ number_on (find k es)
+  pub numbers_all : ((f : F) (k : Key) (v : KeyFamilies) (b : Bool) (w : KeyFamilies) (g : F) → I f → T f k v b w g
+      → w.number ≡ v.number) → (f : F) (es fs : Entries) → I f → InOrder es → RetainsPairs T f es fs → (k : Key)
+      → number_on (find k fs) ≤ number_on (find k es)
   unfolding IsStrictlySortedBy
   numbers_all same f [] fs i s r k = subst (λ (gs : Entries). number_on (find k gs) ≤ 0) (sym r) (omega arith)
   numbers_all same f (e ∷ es) fs i s r k =
       subst (λ (gs : Entries). number_on (find k gs) ≤ number_on (find k (e ∷ es))) (sym r.6)
-      (go r.0 (same f e.0 e.1 r.0 r.1 r.2 i r.4) (still_after e.0 r.2 es r.3 r.5 s.0) (numbers_all same r.2 es r.3 (step f e.0 e.1 r.0 r.1 r.2 i r.4).2 s.1 r.5 k))
+      (go r.0 (same f e.0 e.1 r.0 r.1 r.2 i r.4) (still_after e.0 r.2 es r.3 r.5 s.0)
+      (numbers_all same r.2 es r.3 (step f e.0 e.1 r.0 r.1 r.2 i r.4).2 s.1 r.5 k))
     where
-      with_first : (v : KeyFamilies) (gs : Entries) (b : Bool) → bytes_eq e.0 k ≡ b → number_on (find k ((e.0, v) ∷ gs)) ≡ number_on (cond b (Some v) (find k gs))
+      with_first : (v : KeyFamilies) (gs : Entries) (b : Bool) → bytes_eq e.0 k ≡ b
+          → number_on (find k ((e.0, v) ∷ gs)) ≡ number_on (cond b (Some v) (find k gs))
       with_first v gs b is = ap (λ c. number_on (cond c (Some v) (find k gs))) (at_is k e.0 ∙ is)
 
-      go : (b : Bool) → r.1.number ≡ e.1.number → IsAfter e.0 r.3 → number_on (find k r.3) ≤ number_on (find k es) → number_on (find k (cond b ((e.0, r.1) ∷ r.3) r.3)) ≤ number_on (find k (e ∷ es))
+      go : (b : Bool) → r.1.number ≡ e.1.number → IsAfter e.0 r.3 → number_on (find k r.3) ≤ number_on (find k es)
+          → number_on (find k (cond b ((e.0, r.1) ∷ r.3) r.3)) ≤ number_on (find k (e ∷ es))
       go true one after later = elim (cases_Bool (bytes_eq e.0 k)) [
-        | inl is ↦ (let new = with_first r.1 r.3 true is in let old = with_first e.1 es true is in omega (arith, new, old, one))
-        | inr other ↦ (let new = with_first r.1 r.3 false other in let old = with_first e.1 es false other in omega (arith, new, old, later))
+        | inl is ↦ (let new = with_first r.1 r.3 true is in let old = with_first e.1 es true is in
+            omega (arith, new, old, one))
+        | inr other ↦ (let new = with_first r.1 r.3 false other in let old = with_first e.1 es false other in
+            omega (arith, new, old, later))
       ]
       go false one after later = elim (cases_Bool (bytes_eq e.0 k)) [
-        | inl is ↦ (let gone : number_on (find k r.3) ≡ 0 = ap number_on (ap (λ (j : Key). find j r.3) (sym ((bytes_eq-Decides e.0 k).0 is)) ∙ none_after e.0 r.3 after) in omega (arith, gone))
+        | inl is ↦ (let gone : number_on (find k r.3) ≡ 0 =
+            ap number_on (ap (λ (j : Key). find j r.3) (sym ((bytes_eq-Decides e.0 k).0 is))
+            ∙ none_after e.0 r.3 after) in omega (arith, gone))
         | inr other ↦ (let old = with_first e.1 es false other in omega (arith, old, later))
       ]

@@ -41,7 +41,8 @@ bytes_flip : (a b : Key) → bytes_eq a b ≡ bytes_eq b a
 bytes_flip a b = elim (cases_Bool (bytes_eq a b)) [
   | inl e ↦ e ∙ sym ((bytes_eq-Decides b a).1 (sym ((bytes_eq-Decides a b).0 e)))
   | inr e ↦ elim (cases_Bool (bytes_eq b a)) [
-    | inl f ↦ (let back : bytes_eq a b ≡ true = (bytes_eq-Decides a b).1 (sym ((bytes_eq-Decides b a).0 f)) in absurd (cc (e, back)))
+    | inl f ↦ (let back : bytes_eq a b ≡ true = (bytes_eq-Decides a b).1 (sym ((bytes_eq-Decides b a).0 f)) in
+        absurd (cc (e, back)))
     | inr f ↦ e ∙ sym f
   ]
 ]
@@ -77,25 +78,35 @@ rows_cells (e ∷ es) k =
 
 keys_filter : (p : Key → Bool) (es : Entries) → keys_of (filter (λ e. p e.0) es) ≡ filter p (keys_of es)
 keys_filter p [] = refl
-keys_filter p (e ∷ es) = push keys_of (p e.0) (e ∷ filter (λ x. p x.0) es) (filter (λ x. p x.0) es) ∙ ap (λ (w : List Key). cond (p e.0) (e.0 ∷ w) w) (keys_filter p es)
+keys_filter p (e ∷ es) =
+    push keys_of (p e.0) (e ∷ filter (λ x. p x.0) es) (filter (λ x. p x.0) es)
+    ∙ ap (λ (w : List Key). cond (p e.0) (e.0 ∷ w) w) (keys_filter p es)
 
 rows_pass : (p : Key → Bool) (es : Entries) → KeysPass p (key_rows (filter (λ e. p e.0) es))
 rows_pass p [] = tt
 rows_pass p (e ∷ es) = elim (cases_Bool (p e.0)) [
-  | inl t ↦ subst (λ b. KeysPass p (key_rows (cond b (e ∷ filter (λ x. p x.0) es) (filter (λ x. p x.0) es)))) (sym t) (t, rows_pass p es)
-  | inr f ↦ subst (λ b. KeysPass p (key_rows (cond b (e ∷ filter (λ x. p x.0) es) (filter (λ x. p x.0) es)))) (sym f) (rows_pass p es)
+  | inl t ↦ subst (λ b. KeysPass p (key_rows (cond b (e ∷ filter (λ x. p x.0) es) (filter (λ x. p x.0) es)))) (sym t)
+      (t, rows_pass p es)
+  | inr f ↦ subst (λ b. KeysPass p (key_rows (cond b (e ∷ filter (λ x. p x.0) es) (filter (λ x. p x.0) es)))) (sym f)
+      (rows_pass p es)
 ]
 
-pub filter_walk : (p : Key → Bool) (es : Entries) → InOrder es → IsWalk (λ k. cells_of (held_on (find k es))) p (key_rows (filter (λ e. p e.0) es))
+pub filter_walk : (p : Key → Bool) (es : Entries) → InOrder es
+    → IsWalk (λ k. cells_of (held_on (find k es))) p (key_rows (filter (λ e. p e.0) es))
 filter_walk p es s = record {
-  rising = rows_rise (filter (λ e. p e.0) es) (subst (IsStrictlySortedBy (slice_cmp nat_cmp)) (sym (keys_filter p es)) (IsStrictlySortedBy-filter (slice_cmp nat_cmp) p (keys_of es) s));
+  rising = rows_rise (filter (λ e. p e.0) es)
+      (subst (IsStrictlySortedBy (slice_cmp nat_cmp)) (sym (keys_filter p es))
+      (IsStrictlySortedBy-filter (slice_cmp nat_cmp) p (keys_of es) s));
   inside = rows_pass p es;
-  all = λ k within. ap (λ (o : Option KeyFamilies). cells_of (held_on o)) (sym (lookup-filter-keys (tree.is_at (slice_cmp nat_cmp k)) p true (λ q at. ap p (sym ((bytes_eq-Decides k q).0 (sym (key_is k q) ∙ at))) ∙ within) es))
+  all = λ k within. ap (λ (o : Option KeyFamilies). cells_of (held_on o))
+      (sym (lookup-filter-keys (tree.is_at (slice_cmp nat_cmp k)) p true
+      (λ q at. ap p (sym ((bytes_eq-Decides k q).0 (sym (key_is k q) ∙ at))) ∙ within) es))
       ∙ rows_cells (filter (λ e. p e.0) es) k;
 }
 
 -- tests that say the same
-pub filter_same : (p q : Key → Bool) → ((k : Key) → p k ≡ q k) → (es : Entries) → filter (λ e. p e.0) es ≡ filter (λ e. q e.0) es
+pub filter_same : (p q : Key → Bool) → ((k : Key) → p k ≡ q k) → (es : Entries)
+    → filter (λ e. p e.0) es ≡ filter (λ e. q e.0) es
 filter_same p q same es = λ i. filter (λ e. same e.0 i) es
 
 -- a walk over all keys
@@ -132,9 +143,11 @@ unfolding IsStrictlySortedBy
 locks_rise [] s = tt
 locks_rise (e ∷ es) s = go e.1.lock (before_rows e.0 es s.0) (locks_rise es s.1)
   where
-    go : (o : Option LockRec) → IsBefore e.0 (lock_rows es) → LocksInOrder (lock_rows es) → LocksInOrder (before_row e.0 e.1 o (lock_rows es))
+    go : (o : Option LockRec) → IsBefore e.0 (lock_rows es) → LocksInOrder (lock_rows es)
+        → LocksInOrder (before_row e.0 e.1 o (lock_rows es))
     go None first rest = rest
-    go (Some rec) first rest = in_front (record { key = e.0; lock = lock_of (held e.1).value rec }) (lock_rows es) first rest
+    go (Some rec) first rest =
+        in_front (record { key = e.0; lock = lock_of (held e.1).value rec }) (lock_rows es) first rest
 
 none_before : (k : Key) (es : Entries) → IsAfter k es → None ≡ lock_by (lock_rows es) k
 none_before k [] a = refl
@@ -142,23 +155,32 @@ none_before k (e ∷ es) a = go e.1.lock (none_before k es a.1)
   where
     go : (o : Option LockRec) → None ≡ lock_by (lock_rows es) k → None ≡ lock_by (before_row e.0 e.1 o (lock_rows es)) k
     go None rest = rest
-    go (Some rec) rest = rest ∙ sym (ap (λ b. cond b (Some (lock_of (held e.1).value rec)) (lock_by (lock_rows es) k)) (apart k e.0 a.0))
+    go (Some rec) rest = rest
+        ∙ sym (ap (λ b. cond b (Some (lock_of (held e.1).value rec)) (lock_by (lock_rows es) k)) (apart k e.0 a.0))
 
-pub rows_locks : (es : Entries) → InOrder es → (k : Key) → (cells_of (held_on (find k es))).lock ≡ lock_by (lock_rows es) k
+pub rows_locks : (es : Entries) → InOrder es → (k : Key)
+    → (cells_of (held_on (find k es))).lock ≡ lock_by (lock_rows es) k
 unfolding IsStrictlySortedBy
 rows_locks [] s k = refl
 rows_locks (e ∷ es) s k = elim (cases_Bool (bytes_eq e.0 k)) [
-  | inl same ↦ ap (λ b. (cells_of (held_on (cond b (Some e.1) (find k es)))).lock) (at_is k e.0 ∙ same) ∙ here e.1.lock refl same
-  | inr other ↦ ap (λ b. (cells_of (held_on (cond b (Some e.1) (find k es)))).lock) (at_is k e.0 ∙ other) ∙ rows_locks es s.1 k ∙ there e.1.lock other
+  | inl same ↦ ap (λ b. (cells_of (held_on (cond b (Some e.1) (find k es)))).lock) (at_is k e.0 ∙ same)
+      ∙ here e.1.lock refl same
+  | inr other ↦ ap (λ b. (cells_of (held_on (cond b (Some e.1) (find k es)))).lock) (at_is k e.0 ∙ other)
+      ∙ rows_locks es s.1 k ∙ there e.1.lock other
 ]
   where
-    here : (o : Option LockRec) → e.1.lock ≡ o → bytes_eq e.0 k ≡ true → option_map (lock_of (held e.1).value) o ≡ lock_by (before_row e.0 e.1 o (lock_rows es)) k
-    here None f same = subst (λ (j : Key). None ≡ lock_by (lock_rows es) j) ((bytes_eq-Decides e.0 k).0 same) (none_before e.0 es s.0)
-    here (Some rec) f same = sym (ap (λ b. cond b (Some (lock_of (held e.1).value rec)) (lock_by (lock_rows es) k)) same)
+    here : (o : Option LockRec) → e.1.lock ≡ o → bytes_eq e.0 k ≡ true
+        → option_map (lock_of (held e.1).value) o ≡ lock_by (before_row e.0 e.1 o (lock_rows es)) k
+    here None f same = subst (λ (j : Key). None
+        ≡ lock_by (lock_rows es) j) ((bytes_eq-Decides e.0 k).0 same) (none_before e.0 es s.0)
+    here (Some rec) f same =
+        sym (ap (λ b. cond b (Some (lock_of (held e.1).value rec)) (lock_by (lock_rows es) k)) same)
 
-    there : (o : Option LockRec) → bytes_eq e.0 k ≡ false → lock_by (lock_rows es) k ≡ lock_by (before_row e.0 e.1 o (lock_rows es)) k
+    there : (o : Option LockRec) → bytes_eq e.0 k ≡ false
+        → lock_by (lock_rows es) k ≡ lock_by (before_row e.0 e.1 o (lock_rows es)) k
     there None other = refl
-    there (Some rec) other = sym (ap (λ b. cond b (Some (lock_of (held e.1).value rec)) (lock_by (lock_rows es) k)) other)
+    there (Some rec) other =
+        sym (ap (λ b. cond b (Some (lock_of (held e.1).value rec)) (lock_by (lock_rows es) k)) other)
 
 pub lock_walk : (es : Entries) → InOrder es → IsLockWalk (λ k. cells_of (held_on (find k es))) (lock_rows es)
 lock_walk es s = record { rising = locks_rise es s; all = rows_locks es s }
@@ -166,13 +188,16 @@ lock_walk es s = record { rising = locks_rise es s; all = rows_locks es s }
 -- ---- one step
 
 -- the row of the next key that has a lock
-pub next_lock : (key : Key) (x : KeyFamilies) (rows : List LockRow) (o : Option LockRec) (head : LockHead) → Some head ≡ option_map lock_head o
-    → (lock : Lock) × (before_row key x o rows ≡ (record { key = key; lock = lock }) ∷ rows) × (head ≡ lock_head_of lock)
+pub next_lock : (key : Key) (x : KeyFamilies) (rows : List LockRow) (o : Option LockRec) (head : LockHead)
+    → Some head ≡ option_map lock_head o
+    → (lock : Lock) × (before_row key x o rows ≡ (record { key = key; lock = lock }) ∷ rows)
+    × (head ≡ lock_head_of lock)
 next_lock key x rows None head e = absurd (cc e)
 next_lock key x rows (Some rec) head e = (
     let is : Some head ≡ Some (lock_head_of (lock_of (held x).value rec)) = e ∙ lock_heads (held x).value (Some rec) in
     (lock_of (held x).value rec, refl, cc is))
 
-pub no_next_lock : (key : Key) (x : KeyFamilies) (rows : List LockRow) (o : Option LockRec) → None ≡ option_map lock_head o → before_row key x o rows ≡ rows
+pub no_next_lock : (key : Key) (x : KeyFamilies) (rows : List LockRow) (o : Option LockRec)
+    → None ≡ option_map lock_head o → before_row key x o rows ≡ rows
 no_next_lock key x rows None e = refl
 no_next_lock key x rows (Some rec) e = absurd (cc e)

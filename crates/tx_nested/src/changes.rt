@@ -9,9 +9,9 @@ use crate::key::KeyFamilies;
 use std::alloc::Global;
 use std::collections::BTreeMap;
 use tx_cells::Changes;
-use tx_encoded::KeyBytes;
 use tx_plan::{KeyChange, NewLock, Prewrite};
-use tx_types::{Fault, Key, Ts};
+use tx_spelling::SpeltKey;
+use tx_types::{Fault, Ts};
 
 impl Changes for NestedCells {
     ghost use Rattle.tx_nested.specs.Nested.{held};
@@ -23,16 +23,18 @@ impl Changes for NestedCells {
     fn put_lock(
         &mut self,
         alloc: Global,
+        key: &SpeltKey<'_>,
         body: &Prewrite,
         new: NewLock,
         number: u64,
     ) -> Result<(), Fault> {
-        let key = KeyBytes::new(alloc, &body.key)?;
-        if let Some(on_key) = self.keys.get_mut(&key) {
+        let spelt = key.bytes();
+        if let Some(on_key) = self.keys.get_mut(spelt) {
             return on_key.put_lock(alloc, body, new, number);
         }
         let mut on_key = KeyFamilies::new(alloc);
         on_key.put_lock(alloc, body, new, number)?;
+        let key = spelt.copy(alloc)?;
         self.keys.insert(key, on_key)?;
         Ok(())
     }
@@ -41,19 +43,20 @@ impl Changes for NestedCells {
     fn apply(
         &mut self,
         alloc: Global,
-        key: &Key,
+        key: &SpeltKey<'_>,
         change: KeyChange,
         number: u64,
     ) -> Result<(), Fault> {
         if let KeyChange::Nothing = change {
             return Ok(());
         }
-        let key = KeyBytes::new(alloc, key)?;
-        if let Some(on_key) = self.keys.get_mut(&key) {
+        let spelt = key.bytes();
+        if let Some(on_key) = self.keys.get_mut(spelt) {
             return on_key.apply(alloc, change, number);
         }
         let mut on_key = KeyFamilies::new(alloc);
         on_key.apply(alloc, change, number)?;
+        let key = spelt.copy(alloc)?;
         self.keys.insert(key, on_key)?;
         Ok(())
     }

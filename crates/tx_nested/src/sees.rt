@@ -3,24 +3,29 @@ use crate::NestedCells;
 use crate::view::empty_view;
 use std::alloc::Global;
 use tx_cells::{KeyVersions, Sees, sum};
-use tx_encoded::KeyBytes;
 use tx_plan::{
     Answer, Dropped, Infos, ReadView, Scan, TxnView, first_below, infos_below, scan_walk,
 };
-use tx_types::{Fault, Items, Key, LockInfo, Ts};
+use tx_spelling::SpeltKey;
+use tx_types::{Fault, Items, LockInfo, Ts};
 
 impl Sees for NestedCells {
-    fn view(&self, alloc: Global, key: &Key, start: Ts, commit: Ts) -> Result<TxnView, Fault> {
-        let spelt = KeyBytes::new(alloc, key)?;
-        match self.keys.get(&spelt) {
+    fn view(
+        &self,
+        alloc: Global,
+        key: &SpeltKey<'_>,
+        start: Ts,
+        commit: Ts,
+    ) -> Result<TxnView, Fault> {
+        let _ = alloc;
+        match self.keys.get(key.bytes()) {
             Some(on_key) => Ok(on_key.view(start, commit)),
             None => Ok(empty_view(start, commit)),
         }
     }
 
-    fn read(&self, alloc: Global, key: &Key, at: Ts) -> Result<ReadView, Fault> {
-        let spelt = KeyBytes::new(alloc, key)?;
-        match self.keys.get(&spelt) {
+    fn read(&self, alloc: Global, key: &SpeltKey<'_>, at: Ts) -> Result<ReadView, Fault> {
+        match self.keys.get(key.bytes()) {
             Some(on_key) => on_key.read(alloc, at),
             None => Ok(ReadView {
                 lock: None,
@@ -29,10 +34,9 @@ impl Sees for NestedCells {
         }
     }
 
-    fn lock_info(&self, alloc: Global, key: &Key) -> Result<Option<LockInfo>, Fault> {
-        let spelt = KeyBytes::new(alloc, key)?;
-        match self.keys.get(&spelt) {
-            Some(on_key) => on_key.lock_info(alloc, key),
+    fn lock_info(&self, alloc: Global, key: &SpeltKey<'_>) -> Result<Option<LockInfo>, Fault> {
+        match self.keys.get(key.bytes()) {
+            Some(on_key) => on_key.lock_info(alloc, key.key()),
             None => Ok(None),
         }
     }
@@ -62,9 +66,8 @@ impl Sees for NestedCells {
         Ok(Dropped { records, values })
     }
 
-    fn cells(&self, alloc: Global, key: &Key) -> Result<KeyVersions, Fault> {
-        let spelt = KeyBytes::new(alloc, key)?;
-        match self.keys.get(&spelt) {
+    fn cells(&self, alloc: Global, key: &SpeltKey<'_>) -> Result<KeyVersions, Fault> {
+        match self.keys.get(key.bytes()) {
             Some(on_key) => on_key.copy(alloc),
             None => Ok(KeyVersions {
                 lock: None,
@@ -74,9 +77,9 @@ impl Sees for NestedCells {
         }
     }
 
-    fn number(&self, alloc: Global, key: &Key) -> Result<u64, Fault> {
-        let spelt = KeyBytes::new(alloc, key)?;
-        match self.keys.get(&spelt) {
+    fn number(&self, alloc: Global, key: &SpeltKey<'_>) -> Result<u64, Fault> {
+        let _ = alloc;
+        match self.keys.get(key.bytes()) {
             Some(on_key) => Ok(on_key.number),
             None => Ok(0),
         }

@@ -43,7 +43,8 @@ module _ (bounds : List Key) (i : ℕ) (n l : History) (knew : Begins n l) where
       drawn_alone = d.is ∙ ap (λ h. Drawn i t ∷ h) (sym unchanged)
 
   -- a begin: a draw, and the event
-  module _ (t : ℕ) (mid new : History) (d : HasDrawn bounds i l 1 t mid) (r : HasRecorded bounds i mid (Began t) new) where
+  module _ (t : ℕ) (mid new : History) (d : HasDrawn bounds i l 1 t mid) (r :
+      HasRecorded bounds i mid (Began t) new) where
     first : Begins n d.before
     first = begins_more n l d.before knew (extends_begins i l d.before d.extends)
 
@@ -51,14 +52,22 @@ module _ (bounds : List Key) (i : ℕ) (n l : History) (knew : Begins n l) where
     second = extends_begins i mid r.before r.extends
 
     pub begun_grows : length n + 2 ≤ length new
-    begun_grows = omega (arith, begins_length n d.before first, ap length d.is, begins_length mid r.before second, ap length r.is)
+    begun_grows = omega (
+      arith,
+      begins_length n d.before first,
+      ap length d.is,
+      begins_length mid r.before second,
+      ap length r.is,
+    )
 
     module _ (le : length new ≤ length n + 2) where
       same : n ≡ d.before
-      same = begins_whole n d.before first (omega (arith, le, ap length d.is, begins_length mid r.before second, ap length r.is))
+      same = begins_whole n d.before first
+          (omega (arith, le, ap length d.is, begins_length mid r.before second, ap length r.is))
 
       after : mid ≡ r.before
-      after = begins_whole mid r.before second (omega (arith, le, begins_length n d.before first, ap length d.is, ap length r.is))
+      after = begins_whole mid r.before second
+          (omega (arith, le, begins_length n d.before first, ap length d.is, ap length r.is))
 
       pub begun_number : t ≡ last n + 1
       begun_number = d.above ∙ ap (λ h. last h + 1) (sym same)
@@ -79,13 +88,21 @@ module _ (r : ℕ) (n : History) (body : Body) (a : Answer) (new : History) (t :
     was = begins_whole n t.before until (omega (arith, le, ap length t.is))
 
     loaded : n ≡ t.point
-    loaded = begins_whole n t.point t.later (omega (arith, ap length was, begins_length t.point t.before (begins_more t.point t.marked t.before t.marks t.ends)))
+    loaded = begins_whole n t.point t.later
+        (omega (
+          arith,
+          ap length was,
+          begins_length t.point t.before (begins_more t.point t.marked t.before t.marks t.ends),
+        ))
 
     marked : n ≡ t.marked
-    marked = begins_whole n t.marked (begins_more n t.point t.marked t.later t.marks) (omega (arith, ap length was, begins_length t.marked t.before t.ends))
+    marked = begins_whole n t.marked (begins_more n t.point t.marked t.later t.marks)
+        (omega (arith, ap length was, begins_length t.marked t.before t.ends))
 
     pub took_alone : new ≡ Took (record { region = r; body = body; loaded = last n; answer = a }) ∷ n
-    took_alone = t.is ∙ (λ i. Took (record { region = r; body = body; loaded = last (sym loaded i); answer = a }) ∷ sym was i)
+    took_alone = t.is ∙ (λ i. Took (record { region = r; body = body; loaded = last (sym loaded i); answer = a })
+        ∷ sym was i)
 
     pub took_answers : AnswersNext n r (last n) body a
-    took_answers = subst (λ (p : History × History × History). AnswersFrom (max_ts p.2) (left p.0 r) (last p.1) body a) (λ i. (sym was i, sym loaded i, sym marked i)) t.least
+    took_answers = subst (λ (p : History × History × History). AnswersFrom (max_ts p.2) (left p.0 r) (last p.1) body a)
+        (λ i. (sym was i, sym loaded i, sym marked i)) t.least

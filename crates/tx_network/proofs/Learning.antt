@@ -8,10 +8,15 @@ use Rattle.tx_journal.specs.Known.{Known}
 use Rattle.tx_network.specs.Networks.{IsDone}
 
 -- a seat that has learnt it is done
-pub done_learnt : (n : History) (old new : Known) → Begins n new.events → part old.seat new.events ≡ part old.seat old.events → IsDone n old
+pub done_learnt : (n : History) (old new : Known) → Begins n new.events
+    → part old.seat new.events ≡ part old.seat old.events → IsDone n old
 done_learnt n old new b own = omega (arith, part_shorter old.seat n new.events b, ap length own)
 
 -- what gave up the last
-pub done_popped : {X : Type 0} (P : X → Type 0) (all rest : List X) (p : X) → all ≡ rest ++ p ∷ [] → P p → ((q : X) → Contains rest q → P q) → (q : X) → Contains all q → P q
+pub done_popped : {X : Type 0} (P : X → Type 0) (all rest : List X) (p : X) → all ≡ rest ++ p ∷ [] → P p
+    → ((q : X) → Contains rest q → P q) → (q : X) → Contains all q → P q
 done_popped P all rest p is done others q among =
-    elim (Contains-push_cases rest p q (subst (λ xs. Contains xs q) is among)) [ inl left ↦ others q left | inr same ↦ subst P same done ]
+    elim (Contains-push_cases rest p q (subst (λ xs. Contains xs q) is among)) [
+      | inl left ↦ others q left
+      | inr same ↦ subst P same done
+    ]

@@ -15,18 +15,23 @@ use Rattle.tx_network.specs.Networks.{NetworkParts, made_by, AreNumbered, Showed
 use Rattle.tx_network.proofs.Posting.{numbered_at}
 
 -- the region k learnt what is newest, was then l, and showed a key
-pub showed_by : (k l : Known) (n : History) (key : Key) (copied : Result KeyVersions Fault) → l.seat ≡ k.seat → part k.seat l.events ≡ part k.seat k.events → Begins n l.events
+pub showed_by : (k l : Known) (n : History) (key : Key) (copied : Result KeyVersions Fault) → l.seat ≡ k.seat
+    → part k.seat l.events ≡ part k.seat k.events → Begins n l.events
     → IfOk copied (λ copy. Copies ((left l.events l.seat).cells key) copy) → Showed k n key copied l l.events
 showed_by k l n key copied number own knows copies = record {
   begins = knows;
   number = number;
-  counts = (let here : made_by l ≡ length (part k.seat l.events) = ap (λ i. length (part i l.events)) number in omega (arith, here, ap length own));
+  counts = (let here : made_by l ≡ length (part k.seat l.events) = ap (λ i. length (part i l.events)) number in
+      omega (arith, here, ap length own));
   copies = subst (λ i. IfOk copied (λ copy. Copies ((left l.events i).cells key) copy)) number copies;
 }
 
 -- the region at an index did
-pub displayed_at : (n index : ℕ) (from to : NetworkParts) (k new : Known) (key : Key) (copied : Result KeyVersions Fault) → index ≡ n → slice_get from.regions index ≡ Some k → AreNumbered 0 from.regions → to.regions ≡ slice_set from.regions index new
-    → to.held ≡ from.held → to.trace ≡ from.trace → Showed k from.newest key copied new to.newest → Displays n from to key copied
+pub displayed_at : (n index : ℕ) (from to : NetworkParts) (k new : Known) (key : Key) (copied :
+    Result KeyVersions Fault) → index ≡ n → slice_get from.regions index ≡ Some k → AreNumbered 0 from.regions
+    → to.regions ≡ slice_set from.regions index new
+    → to.held ≡ from.held → to.trace ≡ from.trace → Showed k from.newest key copied new to.newest
+    → Displays n from to key copied
 displayed_at n index from to k new key copied is there all placed held trace showed =
     let number : k.seat ≡ n = numbered_at 0 index from.regions k there all ∙ (omega (arith, is)) in
     let sums = sum_by-set made_by from.regions index new k (slice_get_within from.regions index k there) in

@@ -18,7 +18,10 @@ pub key_same : (k : Key) → bytes_eq k k ≡ true
 key_same k = (bytes_eq-Decides k k).1 refl
 
 pub other_key : (j k : Key) → (j ≡ k → ⊥) → bytes_eq j k ≡ false
-other_key j k ne = elim (bytes_eq j k) as (λ b. bytes_eq j k ≡ b → b ≡ false) [ true ↦ λ e. absurd (ne (same_key j k e)) | false ↦ λ e. refl ] refl
+other_key j k ne = elim (bytes_eq j k) as (λ b. bytes_eq j k ≡ b → b ≡ false) [
+  | true ↦ λ e. absurd (ne (same_key j k e))
+  | false ↦ λ e. refl
+] refl
 
 less : (o : Ordering) → is_lt o ≡ true → o ≡ Less
 less Less e = refl
@@ -28,7 +31,8 @@ less Greater e = absurd (cc (e))
 -- one of two keys comes first, or they are one
 pub ordered : (j k : Key) → IsTrue (key_lt j k) ⊎ ((j ≡ k) ⊎ IsTrue (key_lt k j))
 ordered j k =
-    elim (slice_cmp nat_cmp j k) as (λ o. slice_cmp nat_cmp j k ≡ o → IsTrue (key_lt j k) ⊎ ((j ≡ k) ⊎ IsTrue (key_lt k j))) [
+    elim (slice_cmp nat_cmp j k) as (λ o. slice_cmp nat_cmp j k ≡ o
+    → IsTrue (key_lt j k) ⊎ ((j ≡ k) ⊎ IsTrue (key_lt k j))) [
       | Less ↦ λ e. inl (ap is_lt e)
       | Equal ↦ λ e. inr (inl (same_key j k (sym (is_eq-slice_cmp j k) ∙ ap is_eq e)))
       | Greater ↦ λ e. inr (inr (ap is_lt (nat_list_cmp_total.antisymm k j ∙ ap ordering_reverse e)))
@@ -61,18 +65,32 @@ le_cases j k p =
     ] refl p
 
 pub le_lt : (i j k : Key) → IsTrue (key_le i j) → IsTrue (key_lt j k) → IsTrue (key_lt i k)
-le_lt i j k p q = elim (le_cases i j p) [ inl x ↦ lt_trans i j k x q | inr e ↦ subst (λ x. IsTrue (key_lt x k)) (sym e) q ]
+le_lt i j k p q = elim (le_cases i j p) [
+  | inl x ↦ lt_trans i j k x q
+  | inr e ↦ subst (λ x. IsTrue (key_lt x k)) (sym e) q
+]
 
 pub lt_then_le : (i j k : Key) → IsTrue (key_lt i j) → IsTrue (key_le j k) → IsTrue (key_lt i k)
-lt_then_le i j k p q = elim (le_cases j k q) [ inl x ↦ lt_trans i j k p x | inr e ↦ subst (λ x. IsTrue (key_lt i x)) e p ]
+lt_then_le i j k p q =
+    elim (le_cases j k q) [ inl x ↦ lt_trans i j k p x | inr e ↦ subst (λ x. IsTrue (key_lt i x)) e p ]
 
 -- what does not come before comes at it or after
 pub not_lt : (j k : Key) → key_lt j k ≡ false → IsTrue (key_le k j)
-not_lt j k p = elim (ordered j k) [ inl x ↦ absurd (cc (x, p)) | inr y ↦ elim y [ inl e ↦ subst (λ x. IsTrue (key_le k x)) (sym e) (le_itself k) | inr x ↦ lt_le k j x ] ]
+not_lt j k p = elim (ordered j k) [
+  | inl x ↦ absurd (cc (x, p))
+  | inr y ↦ elim y [ inl e ↦ subst (λ x. IsTrue (key_le k x)) (sym e) (le_itself k) | inr x ↦ lt_le k j x ]
+]
 
 -- what `>=` answers
 pub ge_false : (j k : Key) → is_ge (slice_cmp nat_cmp j k) ≡ false → IsTrue (key_lt j k)
-ge_false j k e = elim (slice_cmp nat_cmp j k) as (λ o. slice_cmp nat_cmp j k ≡ o → is_ge o ≡ false → IsTrue (is_lt o)) [ Less ↦ λ p h. refl | Equal ↦ λ p h. absurd (cc (h)) | Greater ↦ λ p h. absurd (cc (h)) ] refl e
+ge_false j k e = elim (slice_cmp nat_cmp j k) as (λ o. slice_cmp nat_cmp j k ≡ o → is_ge o ≡ false
+    → IsTrue (is_lt o)) [
+      | Less ↦ λ p h. refl
+      | Equal ↦ λ p h. absurd (cc (h))
+      | Greater ↦ λ p h. absurd (cc (h))
+    ] refl e
 
 pub ge_true : (j k : Key) → is_ge (slice_cmp nat_cmp j k) ≡ true → IsTrue (key_le k j)
-ge_true j k e = not_lt j k (elim (slice_cmp nat_cmp j k) as (λ o. slice_cmp nat_cmp j k ≡ o → is_ge o ≡ true → is_lt o ≡ false) [ Less ↦ λ p h. absurd (cc (h)) | Equal ↦ λ p h. refl | Greater ↦ λ p h. refl ] refl e)
+ge_true j k e = not_lt j k
+    (elim (slice_cmp nat_cmp j k) as (λ o. slice_cmp nat_cmp j k ≡ o → is_ge o ≡ true
+    → is_lt o ≡ false) [ Less ↦ λ p h. absurd (cc (h)) | Equal ↦ λ p h. refl | Greater ↦ λ p h. refl ] refl e)

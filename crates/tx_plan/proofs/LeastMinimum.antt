@@ -11,29 +11,55 @@ use Rattle.tx_plan.specs.cases.Prewrite.{AnswersPrewrite, MayPromise, least_mini
 use Rattle.tx_plan.specs.Answers.{floor_in, Answers, AnswersFrom}
 
 -- the least minimum above a mark is one that may be promised
-least_may : (max_read mark top : ℕ) (b : Prewrite) → max_read ≤ mark → mark ≤ top → b.start ≤ top → b.floor ≤ top + 1 → (m : ℕ) → m ≡ least_minimum mark b → MayPromise max_read top b m
-least_may max_read mark top b covers read upto floor m e = (omega (arith, e, covers), omega (arith, e, read, upto, floor))
+least_may : (max_read mark top : ℕ) (b : Prewrite) → max_read ≤ mark → mark ≤ top → b.start ≤ top → b.floor ≤ top + 1
+    → (m : ℕ) → m ≡ least_minimum mark b → MayPromise max_read top b m
+least_may max_read mark top b covers read upto floor m e =
+    (omega (arith, e, covers), omega (arith, e, read, upto, floor))
 
 not_above : (m n : ℕ) → (n < m → ⊥) → m ≤ n
 not_above m n h = elim (cases_lt n m) [ inl l ↦ absurd (h l) | inr g ↦ g ]
 
 -- a prewrite's table holds for more minimums, where they may be promised to a start that was loaded
-pub more_promises : (cells : Cells) (safe loaded : ℕ) (P Q : ℕ → Type 0) (b : Prewrite) (a : Answer) → (b.start ≤ loaded → b.mode ≡ Async → (m : ℕ) → P m → Q m) → AnswersPrewrite cells safe loaded P b a → AnswersPrewrite cells safe loaded Q b a
+pub more_promises : (cells : Cells) (safe loaded : ℕ) (P Q : ℕ → Type 0) (b : Prewrite) (a : Answer)
+    → (b.start ≤ loaded → b.mode ≡ Async → (m : ℕ) → P m → Q m) → AnswersPrewrite cells safe loaded P b a
+    → AnswersPrewrite cells safe loaded Q b a
 more_promises cells safe loaded P Q b a f (inl x) = inl x
 more_promises cells safe loaded P Q b a f (inr (n, inl x)) = inr (n, inl x)
 more_promises cells safe loaded P Q b a f (inr (n, inr (n1, inl x))) = inr (n, inr (n1, inl x))
 more_promises cells safe loaded P Q b a f (inr (n, inr (n1, inr (n2, inl x)))) = inr (n, inr (n1, inr (n2, inl x)))
-more_promises cells safe loaded P Q b a f (inr (n, inr (n1, inr (n2, inr (n3, inl x))))) = inr (n, inr (n1, inr (n2, inr (n3, inl x))))
-more_promises cells safe loaded P Q b a f (inr (n, inr (n1, inr (n2, inr (n3, inr (n4, inl x)))))) = inr (n, inr (n1, inr (n2, inr (n3, inr (n4, inl x)))))
-more_promises cells safe loaded P Q b a f (inr (n, inr (n1, inr (n2, inr (n3, inr (n4, inr (n5, inl x))))))) = inr (n, inr (n1, inr (n2, inr (n3, inr (n4, inr (n5, inl x))))))
-more_promises cells safe loaded P Q b a f (inr (n, inr (n1, inr (n2, inr (n3, inr (n4, inr (n5, inr (n6, inl x)))))))) = inr (n, inr (n1, inr (n2, inr (n3, inr (n4, inr (n5, inr (n6, inl x)))))))
-more_promises cells safe loaded P Q b a f (inr (n, inr (n1, inr (n2, inr (n3, inr (n4, inr (n5, inr (n6, inr (n7, inl (async, (m, p, c))))))))))) = inr (n, inr (n1, inr (n2, inr (n3, inr (n4, inr (n5, inr (n6, inr (n7, inl (async, (m, f (not_above b.start loaded n1) async m p, c))))))))))
-more_promises cells safe loaded P Q b a f (inr (n, inr (n1, inr (n2, inr (n3, inr (n4, inr (n5, inr (n6, inr (n7, inr x))))))))) = inr (n, inr (n1, inr (n2, inr (n3, inr (n4, inr (n5, inr (n6, inr (n7, inr x))))))))
+more_promises cells safe loaded P Q b a f (inr (n, inr (n1, inr (n2, inr (n3, inl x))))) =
+    inr (n, inr (n1, inr (n2, inr (n3, inl x))))
+more_promises cells safe loaded P Q b a f (inr (n, inr (n1, inr (n2, inr (n3, inr (n4, inl x)))))) =
+    inr (n, inr (n1, inr (n2, inr (n3, inr (n4, inl x)))))
+more_promises cells safe loaded P Q b a f (inr (n, inr (n1, inr (n2, inr (n3, inr (n4, inr (n5, inl x))))))) =
+    inr (n, inr (n1, inr (n2, inr (n3, inr (n4, inr (n5, inl x))))))
+more_promises cells safe loaded P Q b a f (inr (n, inr (n1, inr (n2, inr (n3, inr (n4, inr (n5, inr (n6, inl x)))))))) =
+    inr (n, inr (n1, inr (n2, inr (n3, inr (n4, inr (n5, inr (n6, inl x)))))))
+more_promises cells safe loaded P Q b a f
+    (inr (n, inr (n1, inr (n2, inr (n3, inr (n4, inr (n5, inr (n6, inr (n7, inl (async, (m, p, c))))))))))) =
+    inr (
+      n,
+      inr (
+        n1,
+        inr (
+          n2,
+          inr (n3, inr (n4, inr (n5, inr (n6, inr (n7, inl (async, (m, f (not_above b.start loaded n1) async m p, c))))))),
+        ),
+      ),
+    )
+more_promises cells safe loaded P Q b a f
+    (inr (n, inr (n1, inr (n2, inr (n3, inr (n4, inr (n5, inr (n6, inr (n7, inr x))))))))) =
+    inr (n, inr (n1, inr (n2, inr (n3, inr (n4, inr (n5, inr (n6, inr (n7, inr x))))))))
 
-pub mark_admitted : (mark : ℕ) (region : Region) (loaded top : ℕ) (b : Body) (a : Answer) → region.max_read ≤ mark → mark ≤ top → loaded ≤ top → floor_in b ≤ top + 1 → AnswersFrom mark region loaded b a → Answers region loaded top b a
+pub mark_admitted : (mark : ℕ) (region : Region) (loaded top : ℕ) (b : Body) (a : Answer) → region.max_read ≤ mark
+    → mark ≤ top → loaded ≤ top → floor_in b ≤ top + 1 → AnswersFrom mark region loaded b a
+    → Answers region loaded top b a
 mark_admitted mark region loaded top (body.Get b) a covers read upto floor may = may
 mark_admitted mark region loaded top (body.Scan b) a covers read upto floor may = may
-mark_admitted mark region loaded top (body.Prewrite b) a covers read upto floor may = more_promises (region.cells b.key) region.safe loaded (λ m. m ≡ least_minimum mark b) (MayPromise region.max_read top b) b a (λ start async. least_may region.max_read mark top b covers read (omega (arith, start, upto)) floor) may
+mark_admitted mark region loaded top (body.Prewrite b) a covers read upto floor may =
+    more_promises (region.cells b.key) region.safe loaded (λ m. m
+    ≡ least_minimum mark b) (MayPromise region.max_read top b) b a
+    (λ start async. least_may region.max_read mark top b covers read (omega (arith, start, upto)) floor) may
 mark_admitted mark region loaded top (body.Commit b) a covers read upto floor may = may
 mark_admitted mark region loaded top (body.BatchRollback b) a covers read upto floor may = may
 mark_admitted mark region loaded top (body.TxnHeartBeat b) a covers read upto floor may = may

@@ -21,16 +21,19 @@ refused_commit cells b (WriteConflict start commit) is = refl
 refused_commit cells b (CommitTsExpired min) is = refl
 refused_commit cells b _ is = absurd is
 
-pub refused_resolve : (cells : Cells) (b : ResolveLock) (a : Answer) → IsRefusal a → cells ≡ leaves_resolve_lock cells b a
+pub refused_resolve : (cells : Cells) (b : ResolveLock) (a : Answer) → IsRefusal a
+    → cells ≡ leaves_resolve_lock cells b a
 refused_resolve cells b (WriteConflict start commit) is = refl
 refused_resolve cells b (CommitTsExpired min) is = refl
 refused_resolve cells b _ is = absurd is
 
 -- a transaction that is known to be committed is resolved as a commit is
-pub resolves : (write : Writes) (start c : ℕ) (lock : Lock) (f : Fate) (a : Answer) → f ≡ Committed c → CommitsLock write start c lock Resolved a → ResolvesLock write start lock f a
+pub resolves : (write : Writes) (start c : ℕ) (lock : Lock) (f : Fate) (a : Answer) → f ≡ Committed c
+    → CommitsLock write start c lock Resolved a → ResolvesLock write start lock f a
 resolves write start c lock f a e commits = subst (λ (g : Fate). ResolvesLock write start lock g a) (sym e) commits
 
-module _ (cells : Cells) (start c : ℕ) (head : LockHead) (own : HasOwnHead cells.lock start head) (may : MayCommitAt cells.write start c own.lock) where
+module _ (cells : Cells) (start c : ℕ) (head : LockHead) (own : HasOwnHead cells.lock start head) (may :
+    MayCommitAt cells.write start c own.lock) where
   -- where nothing refuses it, it is done
   pub not_refused : (done : Answer) → CommitsLock cells.write start c own.lock done done
   not_refused done = inr (λ below. omega (arith, below, may.upto), inr (may.unconflicted, refl))
@@ -41,6 +44,10 @@ module _ (cells : Cells) (start c : ℕ) (head : LockHead) (own : HasOwnHead cel
     lock = own.lock;
     stands = own.stands.stands;
     upto = may.upto;
-    unconflicted = λ rec is. may.unconflicted rec record { stands = is.stands; other = λ e. is.other (e ∙ sym own.stands.own) };
+    unconflicted = λ rec is. may.unconflicted rec record {
+      stands = is.stands;
+      other =
+          λ e. is.other (e ∙ sym own.stands.own);
+    };
     keeps_mark = refl;
   }

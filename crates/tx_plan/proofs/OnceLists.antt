@@ -18,7 +18,8 @@ pub once_other : {X : Type 0} (x : X) (xs : List X) → Once (x ∷ xs) → (y :
 once_other x xs pairs y c e = pairs zero (suc c.0) y (omega arith) (omega (arith, c.1)) (e ∙ sym c.2)
 
 -- so it is of two lists that have nothing in common
-pub once_append : {X : Type 0} (xs ys : List X) → Once xs → Once ys → ((x : X) → Contains xs x → Contains ys x → ⊥) → Once (xs ++ ys)
+pub once_append : {X : Type 0} (xs ys : List X) → Once xs → Once ys → ((x : X) → Contains xs x → Contains ys x → ⊥)
+    → Once (xs ++ ys)
 once_append [] ys a b apart = b
 once_append (x ∷ xs) ys a b apart =
     pairs_first x (xs ++ ys) (λ y c e. (elim (Contains-append_cases xs ys y c) [

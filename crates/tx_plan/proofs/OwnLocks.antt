@@ -20,10 +20,12 @@ none_own (Some lock) t none =
       | inr e ↦ rw e refl
     ]
 
-pub lock_left : (found : Option Lock) (t : ℕ) (own : Option LockHead) → SeesOwn found t own → cond (is_some own) None found ≡ without_own found t
+pub lock_left : (found : Option Lock) (t : ℕ) (own : Option LockHead) → SeesOwn found t own
+    → cond (is_some own) None found ≡ without_own found t
 lock_left found t None sees = none_own found t sees
 lock_left found t (Some head) sees = rw (sees.stands.stands, eq-eqb sees.lock.start t sees.stands.own) refl
 
-pub removed : (found : Option Lock) (t : ℕ) (own : Option LockHead) → SeesOwn found t own → IsRemoved found t (is_some own)
+pub removed : (found : Option Lock) (t : ℕ) (own : Option LockHead) → SeesOwn found t own
+    → IsRemoved found t (is_some own)
 removed found t None sees = tt
 removed found t (Some head) sees = (sees.lock, sees.stands)

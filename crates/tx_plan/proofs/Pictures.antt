@@ -31,7 +31,16 @@ x = 120 ∷ []
 
 -- the lock `put x by t, min m`, with the time to live 10 or another
 abbrev lock_for : ℕ → ℕ → ℕ → Lock
-lock_for ttl t m = record { mutation = mutation.Put x; mode = TwoPhase; secondaries = []; start = t; min = m; ttl = ttl; primary = a }
+lock_for ttl t m = record {
+  mutation = mutation.Put x;
+  mode = TwoPhase;
+  secondaries = [];
+  start = t;
+  min = m;
+  ttl =
+      ttl;
+  primary = a;
+}
 
 abbrev lock : ℕ → ℕ → Lock
 lock = lock_for 10
@@ -49,7 +58,8 @@ only at rec q = cond (at == q) (Some rec) None
 
 -- a region with this on the key a, where 4 was read
 abbrev before : Option Lock → Writes → Region
-before standing write = record { cells = λ k. record { lock = standing; write = write }; max_read = 4; safe = 0; collected = 0 }
+before standing write =
+    record { cells = λ k. record { lock = standing; write = write }; max_read = 4; safe = 0; collected = 0 }
 
 -- what a request leaves on the key a
 abbrev after : Option Lock → Writes → Body → Answer → Cells
@@ -58,7 +68,8 @@ after standing write b answered = (leaves (before standing write) b answered).ce
 -- ---- Commit: the rollback that stood there becomes the mark
 
 abbrev commit : Cells
-commit = after (Some (lock 1 2)) (only 2 Rollback) (body.Commit record { key = a; start = 1; commit = 2 }) (answer.Committed 2)
+commit = after (Some (lock 1 2)) (only 2 Rollback) (body.Commit record { key = a; start = 1; commit = 2 })
+    (answer.Committed 2)
 
 pub commit_removes_lock : commit.lock ≡ None
 commit_removes_lock = refl
@@ -66,15 +77,21 @@ commit_removes_lock = refl
 pub commit_keeps_rollback_as_mark : commit.write 2 ≡ Some (put 1 true)
 commit_keeps_rollback_as_mark = refl
 
-pub commit_is_answered : AnswersFrom 4 (before (Some (lock 1 2)) (only 2 Rollback)) 5 (body.Commit record { key = a; start = 1; commit = 2 }) (answer.Committed 2)
-commit_is_answered = inr (λ h. omega arith, inl (_, record { stands = refl; own = refl }, inr (λ h. omega arith, inr (λ rec h. (cc (h.stands)), refl))))
+pub commit_is_answered :
+    AnswersFrom 4 (before (Some (lock 1 2)) (only 2 Rollback)) 5 (body.Commit record { key = a; start = 1; commit = 2 })
+    (answer.Committed 2)
+commit_is_answered = inr (
+  λ h. omega arith,
+  inl (_, record { stands = refl; own = refl }, inr (λ h. omega arith, inr (λ rec h. (cc (h.stands)), refl))),
+)
 
 -- ---- BatchRollback: another's commit record is marked; an own lock goes; another's lock stays
 
 abbrev roll_back_two : Body
 roll_back_two = body.BatchRollback record { key = a; start = 2 }
 
-pub rollback_marks_commit : (after None (only 2 (put 1 false)) roll_back_two answer.RolledBack).write 2 ≡ Some (put 1 true)
+pub rollback_marks_commit : (after None (only 2 (put 1 false)) roll_back_two answer.RolledBack).write 2
+    ≡ Some (put 1 true)
 rollback_marks_commit = refl
 
 pub rollback_removes_own_lock : (after (Some (lock 2 3)) none roll_back_two answer.RolledBack).lock ≡ None
@@ -88,23 +105,45 @@ rollback_leaves_others_lock = refl
 
 -- ---- TxnHeartBeat, CheckTxnStatus, CheckSecondaryLocks, ResolveLock
 
-pub heartbeat_lengthens : (after (Some (lock 1 2)) none (body.TxnHeartBeat record { key = a; start = 1; ttl = 20 }) (answer.Ttl 20)).lock ≡ Some (lock_for 20 1 2)
+pub heartbeat_lengthens :
+    (after (Some (lock 1 2)) none (body.TxnHeartBeat record { key = a; start = 1; ttl = 20 }) (answer.Ttl 20)).lock
+    ≡ Some (lock_for 20 1 2)
 heartbeat_lengthens = refl
 
 abbrev check : Body
-check = body.CheckTxnStatus record { key = a; start = 1; caller = 3; current = 5; rollback_if_not_exist = false; force_sync_commit = false }
+check = body.CheckTxnStatus record {
+  key = a;
+  start = 1;
+  caller = 3;
+  current = 5;
+  rollback_if_not_exist =
+      false;
+  force_sync_commit = false;
+}
 
 pub check_pushes : (after (Some (lock 1 2)) none check (answer.Locked (info_of a (lock 1 4)))).lock ≡ Some (lock 1 4)
 check_pushes = refl
 
 pub check_is_answered : AnswersFrom 4 (before (Some (lock 1 2)) none) 5 check (answer.Locked (info_of a (lock 1 4)))
-check_is_answered = inr (λ h. omega arith, inr (λ h. omega arith, inl (_, record { stands = refl; own = refl }, inr (λ h. (cc (h.0)), inr (λ h. omega arith, inl (omega arith, refl))))))
+check_is_answered = inr (
+  λ h. omega arith,
+  inr (
+    λ h. omega arith,
+    inl (
+      _,
+      record { stands = refl; own = refl },
+      inr (λ h. (cc (h.0)), inr (λ h. omega arith, inl (omega arith, refl))),
+    ),
+  ),
+)
 
-pub missing_is_left : (after None none (body.CheckSecondaryLocks record { key = a; start = 1 }) answer.Missing).write 1 ≡ Some Rollback
+pub missing_is_left : (after None none (body.CheckSecondaryLocks record { key = a; start = 1 }) answer.Missing).write 1
+    ≡ Some Rollback
 missing_is_left = refl
 
 abbrev resolve : Cells
-resolve = after (Some (lock 1 2)) none (body.ResolveLock record { key = a; start = 1; fate = fate.Committed 3 }) answer.Resolved
+resolve = after (Some (lock 1 2)) none (body.ResolveLock record { key = a; start = 1; fate = fate.Committed 3 })
+    answer.Resolved
 
 pub resolve_removes_lock : resolve.lock ≡ None
 resolve_removes_lock = refl
@@ -115,17 +154,41 @@ resolve_commits = refl
 -- ---- Prewrite: 4 was read, so the minimum is 5; where that is too much, the key falls back
 
 abbrev prewrite : Option ℕ → Prewrite
-prewrite max_commit = record { key = a; mutation = mutation.Put x; start = 3; primary = a; mode = Async; max_commit = max_commit; floor = 0; ttl = 10; others = [] }
+prewrite max_commit =
+    record {
+      key = a;
+      mutation = mutation.Put x;
+      start = 3;
+      primary = a;
+      mode = Async;
+      max_commit = max_commit;
+      floor =
+          0;
+      ttl = 10;
+      others = [];
+    }
 
-pub prewrite_locks : (after None (only 2 (put 1 false)) (body.Prewrite (prewrite None)) (answer.Prewritten 5)).lock ≡ Some record { mutation = mutation.Put x; mode = Async; secondaries = []; start = 3; min = 5; ttl = 10; primary = a }
+pub prewrite_locks : (after None (only 2 (put 1 false)) (body.Prewrite (prewrite None)) (answer.Prewritten 5)).lock
+    ≡ Some record {
+      mutation = mutation.Put x;
+      mode = Async;
+      secondaries = [];
+      start = 3;
+      min = 5;
+      ttl = 10;
+      primary =
+          a;
+    }
 prewrite_locks = refl
 
-pub prewrite_falls_back : (after None (only 2 (put 1 false)) (body.Prewrite (prewrite (Some 4))) (answer.Prewritten 0)).lock ≡ Some (lock 3 4)
+pub prewrite_falls_back :
+    (after None (only 2 (put 1 false)) (body.Prewrite (prewrite (Some 4))) (answer.Prewritten 0)).lock ≡ Some (lock 3 4)
 prewrite_falls_back = refl
 
 -- ---- Get and Scan
 
-pub get_raises : (leaves (before None none) (body.Get record { key = a; at = 7; bypass = [] }) answer.Nothing).max_read ≡ 7
+pub get_raises : (leaves (before None none) (body.Get record { key = a; at = 7; bypass = [] }) answer.Nothing).max_read
+    ≡ 7
 get_raises = refl
 
 -- rows of a and c, of a scan up to but not including e
@@ -158,8 +221,10 @@ newest_put_stays = refl
 pub older_put_goes : keeps records 5 2 ≡ false
 older_put_goes = refl
 
-pub put_under_one_at_safe_point_goes : keeps (λ q. cond (5 == q) (Some (put 4 false)) (only 3 (put 1 false) q)) 5 3 ≡ false
+pub put_under_one_at_safe_point_goes : keeps (λ q. cond (5 == q) (Some (put 4 false)) (only 3 (put 1 false) q)) 5 3
+    ≡ false
 put_under_one_at_safe_point_goes = refl
 
-pub newest_delete_goes : keeps (only 4 (CommitOf record { mutation = mutation.Delete; start = 3; overlapped_rollback = false })) 5 4 ≡ false
+pub newest_delete_goes :
+    keeps (only 4 (CommitOf record { mutation = mutation.Delete; start = 3; overlapped_rollback = false })) 5 4 ≡ false
 newest_delete_goes = refl

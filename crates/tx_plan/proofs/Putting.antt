@@ -14,11 +14,21 @@ free_locked cells b m free = ap (λ standing. locked standing b m) free
 async_lock : (b : Prewrite) (m : ℕ) → (m == 0) ≡ false → put b (record { mode = Async; min = m }) ≡ lock_of b m
 async_lock b m e = (rw e refl)
 
-pub puts_async : (cells : Cells) (b : Prewrite) (m n : ℕ) → cells.lock ≡ None → m ≡ n + 1 → with_lock cells (Some (put b (record { mode = Async; min = m }))) ≡ with_lock cells (Some (locked cells.lock b m))
-puts_async cells b m n free above = ap (λ lock. with_lock cells (Some lock)) (async_lock b m positive ∙ sym (free_locked cells b m free))
+pub puts_async : (cells : Cells) (b : Prewrite) (m n : ℕ) → cells.lock ≡ None → m ≡ n + 1
+    → with_lock cells (Some (put b (record { mode = Async; min = m }))) ≡ with_lock cells (Some (locked cells.lock b m))
+puts_async cells b m n free above =
+    ap (λ lock. with_lock cells (Some lock)) (async_lock b m positive ∙ sym (free_locked cells b m free))
   where
     positive : (m == 0) ≡ false
-    positive = elim (cases_Bool (m == 0)) [ inl e ↦ absurd (let zero_is = eqb-true m 0 e in omega (arith, zero_is, above)) | inr e ↦ e ]
+    positive = elim (cases_Bool (m == 0)) [
+      | inl e ↦
+          absurd (let zero_is = eqb-true m 0 e in omega (arith, zero_is, above))
+      | inr e ↦ e
+    ]
 
-pub puts_two_phase : (cells : Cells) (b : Prewrite) (m : ℕ) → cells.lock ≡ None → m ≡ b.start + 1 → with_lock cells (Some (put b (record { mode = TwoPhase; min = m }))) ≡ with_lock cells (Some (locked cells.lock b 0))
-puts_two_phase cells b m free least = ap (λ lock. with_lock cells (Some lock)) (ap (λ n. put b (record { mode = TwoPhase; min = n })) least ∙ sym (free_locked cells b 0 free))
+pub puts_two_phase : (cells : Cells) (b : Prewrite) (m : ℕ) → cells.lock ≡ None → m ≡ b.start + 1
+    → with_lock cells (Some (put b (record { mode = TwoPhase; min = m })))
+    ≡ with_lock cells (Some (locked cells.lock b 0))
+puts_two_phase cells b m free least =
+    ap (λ lock. with_lock cells (Some lock)) (ap (λ n. put b (record { mode = TwoPhase; min = n })) least
+    ∙ sym (free_locked cells b 0 free))

@@ -24,28 +24,34 @@ rising_rest x [] h = tt
 rising_rest x (y ∷ rows) h = h.1
 
 -- what comes before the rows is in none
-pub before_none : (rows : List KeyRow) (k : Key) → AreInOrder rows → IsTrue (comes_before rows k) → cells_by rows k ≡ no_cells
+pub before_none : (rows : List KeyRow) (k : Key) → AreInOrder rows → IsTrue (comes_before rows k)
+    → cells_by rows k ≡ no_cells
 before_none [] k h p = refl
 before_none (x ∷ []) k h p = rw (other_key x.key k (λ e. lt_itself k (subst (λ i. IsTrue (key_lt k i)) e p))) refl
 before_none (x ∷ y ∷ rows) k h p =
-    rw (other_key x.key k (λ e. lt_itself k (subst (λ i. IsTrue (key_lt k i)) e p))) (before_none (y ∷ rows) k h.1 (lt_trans k x.key y.key p h.0))
+    rw (other_key x.key k (λ e. lt_itself k (subst (λ i. IsTrue (key_lt k i)) e p)))
+    (before_none (y ∷ rows) k h.1 (lt_trans k x.key y.key p h.0))
 
 -- a key comes before the first row, is its key, or comes after it
 pub first_before_rest : (x : KeyRow) (rows : List KeyRow) → AreInOrder (x ∷ rows) → IsTrue (comes_before rows x.key)
 first_before_rest x [] h = refl
 first_before_rest x (y ∷ rows) h = h.0
 
-pub left_first : (cells : Key → Cells) (within : Key → Bool) (rows : List KeyRow) → IsWalk cells within rows → AreLeft cells within rows
+pub left_first : (cells : Key → Cells) (within : Key → Bool) (rows : List KeyRow) → IsWalk cells within rows
+    → AreLeft cells within rows
 left_first cells within rows walk = record { rising = walk.rising; inside = walk.inside; all = λ k w n. walk.all k w }
 
 -- what stands on the key of the first row
-pub first_cells : (cells : Key → Cells) (within : Key → Bool) (x : KeyRow) (rows : List KeyRow) → AreLeft cells within (x ∷ rows) → cells x.key ≡ x.cells
+pub first_cells : (cells : Key → Cells) (within : Key → Bool) (x : KeyRow) (rows : List KeyRow)
+    → AreLeft cells within (x ∷ rows) → cells x.key ≡ x.cells
 first_cells cells within x rows left = left.all x.key left.inside.0 not_before ∙ (rw (key_same x.key) refl)
   where
     not_before : key_lt x.key x.key ≡ false
-    not_before = elim (key_lt x.key x.key) as (λ b. key_lt x.key x.key ≡ b → b ≡ false) [ true ↦ λ e. absurd (lt_itself x.key e) | false ↦ λ e. refl ] refl
+    not_before = elim (key_lt x.key x.key) as (λ b. key_lt x.key x.key ≡ b
+        → b ≡ false) [ true ↦ λ e. absurd (lt_itself x.key e) | false ↦ λ e. refl ] refl
 
-pub left_rest : (cells : Key → Cells) (within : Key → Bool) (x : KeyRow) (rows : List KeyRow) → AreLeft cells within (x ∷ rows) → AreLeft cells within rows
+pub left_rest : (cells : Key → Cells) (within : Key → Bool) (x : KeyRow) (rows : List KeyRow)
+    → AreLeft cells within (x ∷ rows) → AreLeft cells within rows
 left_rest cells within x rows left = record {
   rising = rising_rest x rows left.rising;
   inside = left.inside.1;
@@ -54,9 +60,11 @@ left_rest cells within x rows left = record {
   where
     -- a key that does not come before the rest does not come before the first either
     not_before : (k : Key) → comes_before rows k ≡ false → key_lt k x.key ≡ false
-    not_before k n = elim (key_lt k x.key) as (λ b. key_lt k x.key ≡ b → b ≡ false) [ true ↦ λ e. absurd (later rows left.rising k e n) | false ↦ λ e. refl ] refl
+    not_before k n = elim (key_lt k x.key) as (λ b. key_lt k x.key ≡ b
+        → b ≡ false) [ true ↦ λ e. absurd (later rows left.rising k e n) | false ↦ λ e. refl ] refl
       where
-        later : (ys : List KeyRow) → AreInOrder (x ∷ ys) → (q : Key) → IsTrue (key_lt q x.key) → comes_before ys q ≡ false → ⊥
+        later : (ys : List KeyRow) → AreInOrder (x ∷ ys) → (q : Key) → IsTrue (key_lt q x.key)
+            → comes_before ys q ≡ false → ⊥
         later [] h q e f = cc (f)
         later (y ∷ ys) h q e f = let p = lt_trans q x.key y.key e h.0 in cc (p, f)
 
@@ -68,9 +76,13 @@ left_rest cells within x rows left = record {
         same (y ∷ ys) h q f e = let p = subst (λ i. IsTrue (key_lt i y.key)) e h.0 in cc (p, f)
 
 -- between the first row and the next nothing stands
-pub gap_none : (cells : Key → Cells) (within : Key → Bool) (x : KeyRow) (rows : List KeyRow) (k : Key) → AreLeft cells within (x ∷ rows) → IsTrue (within k) → key_lt k x.key ≡ false → (x.key ≡ k → ⊥) → IsTrue (comes_before rows k) → cells k ≡ no_cells
-gap_none cells within x rows k left w n ne p = left.all k w n ∙ (rw (other_key x.key k ne) (before_none rows k (rising_rest x rows left.rising) p))
+pub gap_none : (cells : Key → Cells) (within : Key → Bool) (x : KeyRow) (rows : List KeyRow) (k : Key)
+    → AreLeft cells within (x ∷ rows) → IsTrue (within k) → key_lt k x.key ≡ false → (x.key ≡ k → ⊥)
+    → IsTrue (comes_before rows k) → cells k ≡ no_cells
+gap_none cells within x rows k left w n ne p =
+    left.all k w n ∙ (rw (other_key x.key k ne) (before_none rows k (rising_rest x rows left.rising) p))
 
 -- before the first row of a whole walk nothing stands
-pub start_none : (cells : Key → Cells) (within : Key → Bool) (rows : List KeyRow) (k : Key) → IsWalk cells within rows → IsTrue (within k) → IsTrue (comes_before rows k) → cells k ≡ no_cells
+pub start_none : (cells : Key → Cells) (within : Key → Bool) (rows : List KeyRow) (k : Key) → IsWalk cells within rows
+    → IsTrue (within k) → IsTrue (comes_before rows k) → cells k ≡ no_cells
 start_none cells within rows k walk w p = walk.all k w ∙ before_none rows k walk.rising p

@@ -2,9 +2,8 @@
 ghost use Rattle.std.specs.Prelude.{◌≡◌, IfOk, IfErr};
 ghost use Rattle.tx_plan.specs.Committing.{commit_in};
 
+use crate::boxed::Boxed;
 use crate::lists::Starts;
-use std::alloc::Global;
-use std::marker::Model;
 use tx_types::{Fate, Fault, Key, Mode, Mutation, RegionNo, Secondaries, Ts};
 
 /// Asks for the value of a key at a timestamp.
@@ -58,48 +57,6 @@ impl Scan {
     }
 }
 
-/// What a scan asks, in memory of its own, so that a request of any command is small. Contracts see
-/// what is asked.
-#[derive(Debug, Drop)]
-pub struct BoxedScan {
-    body: Box<Scan>,
-}
-
-impl Model for BoxedScan {
-    ghost use Rattle.tx_plan.specs.declared.body.Scan.{Scan};
-
-    ghost Value = { Scan };
-
-    ghost view = { λ b. b.body.value };
-}
-
-impl BoxedScan {
-    /// This in memory of its own.
-    pub fn new(alloc: Global, body: Scan) -> Result<BoxedScan, Fault>
-        ensures ok { IfOk result (λ boxed. boxed ≡ body) }
-        ensures err { IfErr result (λ e. e ≡ Fault.OutOfMemory) }
-    {
-        let body = Box::new(alloc, body)?;
-        Ok(BoxedScan { body })
-    }
-
-    /// What is asked.
-    pub fn asked(&self) -> &Scan
-        ensures { result.now ≡ self.now }
-    {
-        &self.body
-    }
-
-    /// A copy. `OutOfMemory` is its only fault.
-    pub fn clone(&self) -> Result<BoxedScan, Fault>
-        ensures ok { IfOk result (λ copy. copy ≡ self.now) }
-        ensures err { IfErr result (λ e. e ≡ Fault.OutOfMemory) }
-    {
-        let body = Scan::clone(&self.body)?;
-        BoxedScan::new(*Box::allocator(&self.body), body)
-    }
-}
-
 /// Asks for a lock on a key, as the first phase of a commit.
 #[derive(Debug, Drop)]
 pub struct Prewrite {
@@ -137,48 +94,6 @@ impl Prewrite {
             ttl: self.ttl,
             others: self.others.clone()?,
         })
-    }
-}
-
-/// What a prewrite asks, in memory of its own, so that a request of any command is small. Contracts
-/// see what is asked.
-#[derive(Debug, Drop)]
-pub struct BoxedPrewrite {
-    body: Box<Prewrite>,
-}
-
-impl Model for BoxedPrewrite {
-    ghost use Rattle.tx_plan.specs.declared.body.Prewrite.{Prewrite};
-
-    ghost Value = { Prewrite };
-
-    ghost view = { λ b. b.body.value };
-}
-
-impl BoxedPrewrite {
-    /// This in memory of its own.
-    pub fn new(alloc: Global, body: Prewrite) -> Result<BoxedPrewrite, Fault>
-        ensures ok { IfOk result (λ boxed. boxed ≡ body) }
-        ensures err { IfErr result (λ e. e ≡ Fault.OutOfMemory) }
-    {
-        let body = Box::new(alloc, body)?;
-        Ok(BoxedPrewrite { body })
-    }
-
-    /// What is asked.
-    pub fn asked(&self) -> &Prewrite
-        ensures { result.now ≡ self.now }
-    {
-        &self.body
-    }
-
-    /// A copy. `OutOfMemory` is its only fault.
-    pub fn clone(&self) -> Result<BoxedPrewrite, Fault>
-        ensures ok { IfOk result (λ copy. copy ≡ self.now) }
-        ensures err { IfErr result (λ e. e ≡ Fault.OutOfMemory) }
-    {
-        let body = Prewrite::clone(&self.body)?;
-        BoxedPrewrite::new(*Box::allocator(&self.body), body)
     }
 }
 
@@ -359,8 +274,8 @@ pub struct Collect {
 #[derive(Debug, Drop)]
 pub enum Body {
     Get(Get),
-    Scan(BoxedScan),
-    Prewrite(BoxedPrewrite),
+    Scan(Boxed<Scan>),
+    Prewrite(Boxed<Prewrite>),
     Commit(Commit),
     BatchRollback(BatchRollback),
     TxnHeartBeat(TxnHeartBeat),
@@ -380,8 +295,14 @@ impl Body {
     {
         match self {
             Body::Get(body) => Ok(Body::Get(body.clone()?)),
-            Body::Scan(body) => Ok(Body::Scan(body.clone()?)),
-            Body::Prewrite(body) => Ok(Body::Prewrite(body.clone()?)),
+            Body::Scan(body) => {
+                let copy = body.asked().clone()?;
+                Ok(Body::Scan(Boxed::new(body.allocator(), copy)?))
+            }
+            Body::Prewrite(body) => {
+                let copy = body.asked().clone()?;
+                Ok(Body::Prewrite(Boxed::new(body.allocator(), copy)?))
+            }
             Body::Commit(body) => Ok(Body::Commit(body.clone()?)),
             Body::BatchRollback(body) => Ok(Body::BatchRollback(body.clone()?)),
             Body::TxnHeartBeat(body) => Ok(Body::TxnHeartBeat(body.clone()?)),

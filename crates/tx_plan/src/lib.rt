@@ -5,6 +5,7 @@
 
 mod answer;
 mod body;
+mod boxed;
 mod key_change;
 mod key_records;
 mod laws;
@@ -17,9 +18,10 @@ mod walk;
 
 pub use answer::Answer;
 pub use body::{
-    BatchRollback, Body, BoxedPrewrite, BoxedScan, CheckSecondaryLocks, CheckTxnStatus, Collect,
-    Commit, Get, LocksBelow, Prewrite, RaiseSafe, ResolveLock, Scan, TxnHeartBeat,
+    BatchRollback, Body, CheckSecondaryLocks, CheckTxnStatus, Collect, Commit, Get, LocksBelow,
+    Prewrite, RaiseSafe, ResolveLock, Scan, TxnHeartBeat,
 };
+pub use boxed::Boxed;
 pub use key_change::{KeyChange, Left, NewLock};
 pub use key_records::{KeyCollection, KeyRecords, RecordKind, collect_key};
 pub use laws::{

@@ -1,5 +1,5 @@
 -- What comes of a plan.
-use Rattle.std.proofs.Common.{◌≡◌, ◌⊎◌, ◌≤◌, ◌<◌, ℕ, inl, inr, List, ◌∷◌, Option, Some, None, refl, sym, ap, subst, ◌∙◌, arith}
+use Rattle.std.proofs.Common.{◌≡◌, ◌≤◌, ℕ, inl, inr, List, ◌∷◌, Option, Some, None, sym, ap, subst, ◌∙◌, arith}
 use Rattle.std.specs.Prelude.{IfSome, IfNone}
 use Rattle.std.proofs.lemmas.Bool.{cases_lt}
 use Rattle.tx_types.specs.declared.key.Key.{Key}
@@ -21,12 +21,12 @@ use Rattle.tx_core.proofs.seats.Beginnings.{begins_more, extends_begins, extends
 use Rattle.tx_core.proofs.seats.ReadMarks.{read_on}
 use Rattle.tx_later.specs.Noting.{turns}
 use Rattle.tx_journal.specs.Known.{Known, HasSeen, HasRecorded}
-use Rattle.tx_journal.specs.Replies.{Asked, Given, Tells}
+use Rattle.tx_journal.specs.Replies.{Asked, Given}
 use Rattle.tx_journal.proofs.Calls.{seen_more}
 use Rattle.tx_region.specs.Calls.{CarriesOut}
 use Rattle.tx_region.specs.Copies.{key_in, SameKey, made, IsPlan, IsAbove}
 use Rattle.tx_region.specs.Planning.{PlanOf, AreOf, IsPlanFor, StayedKey, Carried, CarriesPlan, AppliedTo, ComesOf}
-use Rattle.tx_region.specs.Taking.{Keeps, NeedsMark, IsMark, Knows}
+use Rattle.tx_region.specs.Taking.{Keeps, NeedsMark, Knows}
 use Rattle.tx_region.specs.declared.applied.Applied.{Applied}
 use Rattle.tx_region.specs.declared.applied.Applied.TheVariants.{Done, Stale}
 use Rattle.tx_region.specs.declared.copy.Loaded.{Loaded}

@@ -1,5 +1,5 @@
 -- Copies of what a request sees of its key, and plans that were made of them.
-use Rattle.std.proofs.Common.{◌≡◌, ◌≢◌, ◌⊎◌, ℕ, max, ◌+◌, ◌<◌, ◌≤◌, ◌==◌, inl, inr, Bool, true, false, cond, Option, Some, None, refl, sym, ap, subst, ◌∙◌, arith}
+use Rattle.std.proofs.Common.{◌≡◌, ℕ, ◌<◌, ◌≤◌, ◌==◌, inl, inr, Bool, false, Option, Some, None, refl, sym, ap, subst, ◌∙◌, arith}
 use Rattle.std.specs.Prelude.{◌↔◌, IfSome, IsTrue}
 use Rattle.std.proofs.lemmas.Bool.{eqb-true, cases_Bool}
 use Rattle.tx_types.specs.declared.key.Key.{Key}
@@ -29,7 +29,6 @@ use Rattle.tx_plan.specs.declared.answer.Answer.{Answer}
 use Rattle.tx_plan.specs.declared.answer.Answer.TheVariants.{Prewritten}
 use Rattle.tx_plan.specs.declared.key_change.KeyChange.{KeyChange}
 use Rattle.tx_plan.specs.declared.key_change.KeyChange.TheVariants as change
-use Rattle.tx_plan.specs.declared.key_change.NewLock.{NewLock}
 use Rattle.tx_plan.specs.declared.planned.Plan.{Plan}
 use Rattle.tx_plan.specs.Cells.{Lock, Cells, Region, with_cells}
 use Rattle.tx_plan.specs.Answers.{AnswersFrom, leaves}
@@ -40,7 +39,7 @@ use Rattle.tx_plan.specs.Views.{Shows, ShowsRead, info_on}
 use Rattle.tx_plan.specs.cases.Prewrite.{AnswersPrewrite, leaves_prewrite, read_by_prewrite, HasValue, least_minimum, IsWithin, lock_of, locked}
 use Rattle.tx_cells.specs.Contents.{Content}
 use Rattle.tx_region.specs.Calls.{Executes, CarriesOut}
-use Rattle.tx_region.specs.Copies.{IsOfKey, key_in, SameKey, SeesRead, SeesTxn, SeesPrewrite, Sees, LooksLike, made, IsPlan, promised}
+use Rattle.tx_region.specs.Copies.{key_in, SameKey, SeesRead, SeesTxn, SeesPrewrite, Sees, LooksLike, made, IsPlan, promised}
 use Rattle.tx_region.specs.Taking.{NeedsMark}
 use Rattle.tx_region.specs.declared.copy.KeyView.{KeyView}
 use Rattle.tx_region.specs.declared.copy.RegionNumbers.{RegionNumbers}

@@ -1,5 +1,5 @@
 -- What a command makes of the numbers of the keys.
-use Rattle.std.proofs.Common.{◌≡◌, ◌≢◌, ◌⊎◌, ℕ, ◌+◌, ◌<◌, inl, inr, true, false, cond, bytes_eq, List, [], ◌∷◌, length, Result, Ok, Err, Option, Some, None, refl, sym, ap, subst, ◌∙◌, arith}
+use Rattle.std.proofs.Common.{◌≡◌, ◌≢◌, ◌⊎◌, ℕ, ◌+◌, ◌<◌, inl, inr, cond, List, [], ◌∷◌, length, Result, Ok, Err, Option, Some, None, refl, sym, ap, subst, ◌∙◌, arith}
 use Rattle.std.specs.Prelude.{IfOk, OnOk, Contains}
 use Rattle.std.proofs.lemmas.Bool.{cases_Bool}
 use Rattle.tx_types.specs.declared.key.Key.{Key}
@@ -8,7 +8,7 @@ use Rattle.tx_plan.specs.declared.body.Prewrite.{Prewrite}
 use Rattle.tx_plan.specs.declared.key_change.KeyChange.{KeyChange}
 use Rattle.tx_plan.specs.declared.key_change.KeyChange.TheVariants as change
 use Rattle.tx_plan.specs.declared.key_change.NewLock.{NewLock}
-use Rattle.tx_plan.specs.Cells.{Cells, Write, Writes}
+use Rattle.tx_plan.specs.Cells.{Cells, Write}
 use Rattle.tx_plan.specs.Changes.{changed, Applies, after_put, CanPut}
 use Rattle.tx_plan.specs.Making.{Makes}
 use Rattle.tx_plan.specs.cases.Collect.{keeps, kept, IsDropped, AllDropped}

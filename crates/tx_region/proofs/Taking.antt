@@ -1,5 +1,5 @@
 -- How a region comes to its answer.
-use Rattle.std.proofs.Common.{◌≡◌, ◌⊎◌, ◌≤◌, ◌+◌, ℕ, inl, inr, List, [], ◌∷◌, Option, Some, length, refl, sym, ap, subst, ◌∙◌, arith}
+use Rattle.std.proofs.Common.{◌≡◌, ◌⊎◌, ◌≤◌, ℕ, inl, List, [], ◌∷◌, Option, Some, length, refl, sym, ap, subst, ◌∙◌, arith}
 use Rattle.std.specs.Prelude.{IfSome, IfNone}
 use Rattle.tx_types.specs.declared.key.Key.{Key}
 use Rattle.tx_plan.specs.declared.body.Body.{Body}
@@ -24,10 +24,10 @@ use Rattle.tx_core.proofs.seats.ReadMarks.{region_within, read_drawn, taken_rais
 use Rattle.tx_core.proofs.seats.Recording.{may_take_from}
 use Rattle.tx_core.proofs.seats.Staying.{last_was, was_last_on}
 use Rattle.tx_core.proofs.seats.StaysAllowed.{allowed_on}
-use Rattle.tx_later.specs.Noting.{turn_of, turns, IsNoted, NotesAll, Drops}
+use Rattle.tx_later.specs.Noting.{turns, IsNoted, NotesAll, Drops}
 use Rattle.tx_later.proofs.Noting.{turns_on, turns_took, noted_first, noted_on, noted_all}
 use Rattle.tx_journal.specs.Known.{Known, HasSeen, HasRecorded}
-use Rattle.tx_journal.specs.Replies.{Asked, Given, Tells, IsTold, IsGiven}
+use Rattle.tx_journal.specs.Replies.{Asked, Given, Tells, IsGiven}
 use Rattle.tx_region.specs.Calls.{Executes, Counts}
 use Rattle.tx_region.specs.Taking.{Keeps, IsMark, Loads, Knows, Answered}
 

@@ -1,5 +1,5 @@
 -- What is copied of a region for a request of one key, and what a plan of the copy is good for.
-use Rattle.std.specs.Prelude.{◌≡◌, ◌↔◌, ℕ, ◌<◌, [], Bool, Option, Some, None, IfSome, IsTrue}
+use Rattle.std.specs.Prelude.{◌≡◌, ◌↔◌, ℕ, ◌<◌, [], Option, Some, None, IfSome, IsTrue}
 use Rattle.tx_types.specs.declared.key.Key.{Key}
 use Rattle.tx_types.specs.declared.mutation.Mode.TheVariants.{TwoPhase, Async}
 use Rattle.tx_types.specs.Keys.{IsInsert}

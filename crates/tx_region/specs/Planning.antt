@@ -1,5 +1,5 @@
 -- What a copy and a plan of a region are good for later, and what comes of a plan.
-use Rattle.std.specs.Prelude.{◌≡◌, ◌⊎◌, ℕ, ◌≤◌, List, Some, IfSome, IfNone}
+use Rattle.std.specs.Prelude.{◌≡◌, ◌⊎◌, ℕ, ◌≤◌, List, IfSome, IfNone}
 use Rattle.tx_types.specs.declared.key.Key.{Key}
 use Rattle.tx_plan.specs.declared.answer.Answer.{Answer}
 use Rattle.tx_plan.specs.declared.planned.Plan.{Plan}
@@ -21,10 +21,11 @@ use Rattle.tx_region.specs.declared.copy.RegionNumbers.{RegionNumbers}
 
 -- ---- copies and plans
 
--- a copy: the region, what its seat had seen, what was copied, and what was loaded
+-- a copy: the region, what its seat had seen, the key, what was copied of it, and what was loaded
 pub record Copied : Type 0 where
   pub region : ℕ
   pub events : History
+  pub key : Key
   pub view : KeyView
   pub numbers : RegionNumbers
   pub loaded : Loaded
@@ -33,6 +34,7 @@ pub record Copied : Type 0 where
 pub record PlanOf : Type 0 where
   pub region : ℕ
   pub events : History
+  pub key : Key
   pub loaded : Loaded
   pub planned : Plan
 
@@ -49,6 +51,7 @@ pub record AreOf (events : History) (n : ℕ) (numbers : RegionNumbers) (taken :
 -- it.
 pub record IsCopyFor (q : Asked) (copy : Copied) : Type 0 where
   pub of_key : IsOfKey q.body
+  pub its_key : copy.key ≡ key_in q.body
   pub knows : Knows q.by copy.events copy.loaded.last
   pub is_mark : IsMark q.body copy.loaded.mark copy.events
   pub looks : (region : Region) → SameKey (key_in q.body) (left copy.events copy.region) region
@@ -58,6 +61,7 @@ pub record IsCopyFor (q : Asked) (copy : Copied) : Type 0 where
 -- was loaded at the copy.
 pub record IsPlanFor (q : Asked) (plan : PlanOf) : Type 0 where
   pub of_key : IsOfKey q.body
+  pub its_key : plan.key ≡ key_in q.body
   pub knows : Knows q.by plan.events plan.loaded.last
   pub is_mark : IsMark q.body plan.loaded.mark plan.events
   pub plans : (region : Region) → SameKey (key_in q.body) (left plan.events plan.region) region

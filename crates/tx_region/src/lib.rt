@@ -8,6 +8,7 @@ mod applied;
 mod calls;
 mod commands;
 mod copy;
+mod key_copy;
 mod planning;
 mod records;
 mod region;
@@ -15,7 +16,8 @@ mod routing;
 
 pub use applied::Applied;
 pub use copy::{KeyView, Loaded, RegionNumbers};
+pub use key_copy::{KeyCopy, Planned};
 pub use planning::is_of_key;
 pub use records::{Executed, Records};
-pub use region::{KeyCopy, Planned, Region};
+pub use region::Region;
 pub use routing::{fronts, route, route_by};

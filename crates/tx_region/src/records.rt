@@ -12,7 +12,7 @@
 //! Requests that may change a key are counted, and of each key the number of the one that changed
 //! it last is noted: so it is known whether the key is as it was at an earlier moment, however long
 //! its history is.
-ghost use Rattle.std.specs.Prelude.{◌≡◌, ◌<◌, ◌≤◌, ◌+◌, ◌↔◌, ℕ, None, IfOk, IfErr, IfSome, IsTrue, OnOk, OnErr};
+ghost use Rattle.std.specs.Prelude.{◌≡◌, ◌<◌, ◌≤◌, ◌+◌, ◌↔◌, ℕ, None, IfOk, IfErr, IfSome, IsSome, IsTrue, OnOk, OnErr};
 ghost use Rattle.tx_types.specs.declared.key.Key.{Key};
 ghost use Rattle.tx_types.specs.Keys.{IsInsert};
 ghost use Rattle.tx_plan.specs.Cells.{new_region, with_cells};
@@ -31,10 +31,12 @@ ghost use Rattle.tx_region.specs.Copies.{IsOfKey, key_in, Sees, SeesTxn, SeesPre
 ghost use Rattle.tx_region.specs.Planning.{StayedKey};
 
 use crate::copy::{KeyView, RegionNumbers};
+use crate::planning::key_of;
 use std::alloc::Global;
 use tx_cells::{Families, ShownKey};
 use tx_journal::AnswerWithLock;
 use tx_plan::{Answer, Body, KeyChange, Plan, PlannedAnswer, Prewrite};
+use tx_spelling::{KeyBytes, SpeltKey};
 use tx_types::{Fault, Key, Mutation, Ts};
 
 /// What a command answered, and the timestamp that it read, if it read one.
@@ -122,12 +124,13 @@ impl<F: Families> Records<F> {
         ensures copies { IfOk result (λ copy. Copies ((region_of F.content self.now 0).cells key.now) copy) }
         ensures err { IfErr result (λ e. e ≡ Fault.OutOfMemory) }
     {
-        let copy = self.families.cells(self.alloc, key)?;
+        let key = SpeltKey::new(self.alloc, key)?;
+        let copy = self.families.cells(self.alloc, &key)?;
         ShownKey::new(self.alloc, copy)
     }
 
     // What a request of a transaction sees of its key.
-    fn txn_view(&self, key: &Key, start: Ts, commit: Ts) -> Result<KeyView, Fault>
+    fn txn_view(&self, key: &SpeltKey<'_>, start: Ts, commit: Ts) -> Result<KeyView, Fault>
         ensures ok { IfOk result (λ view. SeesTxn ((region_of F.content self.now 0).cells key.now) start commit view) }
         ensures err { IfErr result (λ e. e ≡ Fault.OutOfMemory) }
     {
@@ -136,32 +139,30 @@ impl<F: Families> Records<F> {
     }
 
     // What a prewrite sees of its key.
-    fn prewrite_view(&self, body: &Prewrite) -> Result<KeyView, Fault>
-        ensures ok { IfOk result (λ view. SeesPrewrite ((region_of F.content self.now 0).cells body.now.key) body.now
+    fn prewrite_view(&self, key: &SpeltKey<'_>, body: &Prewrite) -> Result<KeyView, Fault>
+        ensures ok { IfOk result (λ view. SeesPrewrite ((region_of F.content self.now 0).cells key.now) body.now
             view) }
         ensures err { IfErr result (λ e. e ≡ Fault.OutOfMemory) }
     {
-        let view = self
-            .families
-            .view(self.alloc, &body.key, body.start, body.start)?;
-        let has_value = self.has_value(body)?;
+        let view = self.families.view(self.alloc, key, body.start, body.start)?;
+        let has_value = self.has_value(key, body)?;
         Ok(KeyView::Prewrite { view, has_value })
     }
 
     // Whether a read at its start finds a value, where it inserts.
-    fn has_value(&self, body: &Prewrite) -> Result<bool, Fault>
+    fn has_value(&self, key: &SpeltKey<'_>, body: &Prewrite) -> Result<bool, Fault>
         ensures ok { IfOk result (λ has. IsInsert body.now.mutation → IsTrue has
-            ↔ HasValue ((region_of F.content self.now 0).cells body.now.key).write body.now.start) }
+            ↔ HasValue ((region_of F.content self.now 0).cells key.now).write body.now.start) }
         ensures err { IfErr result (λ e. e ≡ Fault.OutOfMemory) }
     {
         match body.mutation {
-            Mutation::Insert(_) => self.finds_value(&body.key, body.start),
+            Mutation::Insert(_) => self.finds_value(key, body.start),
             Mutation::Put(_) | Mutation::Delete | Mutation::Lock => Ok(false),
         }
     }
 
     // Whether a read of the key at this timestamp finds a value.
-    fn finds_value(&self, key: &Key, at: Ts) -> Result<bool, Fault>
+    fn finds_value(&self, key: &SpeltKey<'_>, at: Ts) -> Result<bool, Fault>
         ensures ok { IfOk result (λ has. IsTrue has
             ↔ HasValue ((region_of F.content self.now 0).cells key.now).write at) }
         ensures err { IfErr result (λ e. e ≡ Fault.OutOfMemory) }
@@ -170,36 +171,47 @@ impl<F: Families> Records<F> {
         Ok(view.value.is_some())
     }
 
+    /// The key of a request of one key, spelt for all that is asked of it here.
+    #[inline(always)]
+    pub(crate) fn spell<'a>(&self, body: &'a Body) -> Result<SpeltKey<'a>, Fault>
+        requires { IsOfKey body.now }
+        ensures ok { IfOk result (λ key. key ≡ key_in body.now) }
+        ensures err { IfErr result (λ e. e ≡ Fault.OutOfMemory) }
+    {
+        SpeltKey::new(self.alloc, key_of(body))
+    }
+
     /// What a request of one key sees of it.
     #[inline(always)]
-    pub(crate) fn view(&self, body: &Body) -> Result<KeyView, Fault>
-        requires { IsOfKey body.now }
+    pub(crate) fn view(&self, key: &SpeltKey<'_>, body: &Body) -> Result<KeyView, Fault>
+        requires of_key { IsOfKey body.now }
+        requires of { key.now ≡ key_in body.now }
         ensures ok { IfOk result (λ view. Sees (region_of F.content self.now 0).cells body.now view) }
         ensures err { IfErr result (λ e. e ≡ Fault.OutOfMemory) }
     {
         match body {
             Body::Get(body) => {
-                let view = self.families.read(self.alloc, &body.key, body.at)?;
+                let view = self.families.read(self.alloc, key, body.at)?;
                 Ok(KeyView::Read(view))
             }
-            Body::Prewrite(body) => self.prewrite_view(body.asked()),
-            Body::Commit(body) => self.txn_view(&body.key, body.start, body.commit),
-            Body::BatchRollback(body) => self.txn_view(&body.key, body.start, body.start),
-            Body::TxnHeartBeat(body) => self.txn_view(&body.key, body.start, body.start),
-            Body::CheckTxnStatus(body) => self.txn_view(&body.key, body.start, body.start),
-            Body::CheckSecondaryLocks(body) => self.txn_view(&body.key, body.start, body.start),
-            Body::ResolveLock(body) => self.txn_view(&body.key, body.start, body.commit()),
+            Body::Prewrite(body) => self.prewrite_view(key, body.asked()),
+            Body::Commit(body) => self.txn_view(key, body.start, body.commit),
+            Body::BatchRollback(body) => self.txn_view(key, body.start, body.start),
+            Body::TxnHeartBeat(body) => self.txn_view(key, body.start, body.start),
+            Body::CheckTxnStatus(body) => self.txn_view(key, body.start, body.start),
+            Body::CheckSecondaryLocks(body) => self.txn_view(key, body.start, body.start),
+            Body::ResolveLock(body) => self.txn_view(key, body.start, body.commit()),
             Body::Scan(_) | Body::RaiseSafe(_) | Body::LocksBelow(_) | Body::Collect(_) => {
                 unreachable!()
             }
         }
     }
 
-    /// Whether a key, the safe point and the last collection stayed since these numbers were
-    /// copied, when so many requests were counted.
-    pub(crate) fn has_stayed(
+    // Whether a key, the safe point and the last collection stayed since these numbers were
+    // copied, when so many requests were counted.
+    fn has_stayed(
         &self,
-        key: &Key,
+        key: &SpeltKey<'_>,
         copied: &RegionNumbers,
         taken: u64,
     ) -> Result<bool, Fault>
@@ -218,9 +230,34 @@ impl<F: Families> Records<F> {
         Ok(number <= taken)
     }
 
-    /// The answer of a plan for this key, with what is told of the lock on it where the answer
-    /// names that.
-    pub(crate) fn fill_in(&self, key: &Key, answer: PlannedAnswer) -> Result<AnswerWithLock, Fault>
+    /// The bytes of a request's key, back where the key, the safe point and the last collection
+    /// stayed since these numbers were copied, when so many requests were counted.
+    #[inline(always)]
+    pub(crate) fn bytes_if_stayed(
+        &self,
+        bytes: KeyBytes,
+        body: &Body,
+        copied: &RegionNumbers,
+        taken: u64,
+    ) -> Result<Option<KeyBytes>, Fault>
+        requires of_key { IsOfKey body.now }
+        requires of { bytes ≡ key_in body.now }
+        requires counted { F.numbers self.now.families (key_in body.now) ≤ self.now.taken }
+        ensures stayed { IfOk result (λ found. IsSome found ↔ StayedKey (region_of F.content self.now 0)
+            (F.numbers self.now.families (key_in body.now)) copied.now taken) }
+        ensures bytes { IfOk result (λ found. IfSome found (λ bytes. bytes ≡ key_in body.now)) }
+        ensures err { IfErr result (λ e. e ≡ Fault.OutOfMemory) }
+    {
+        let key = SpeltKey::with_bytes(key_of(body), bytes);
+        if self.has_stayed(&key, copied, taken)? {
+            return Ok(Some(key.into_bytes()));
+        }
+        Ok(None)
+    }
+
+    // The answer of a plan for this key, with what is told of the lock on it where the answer
+    // names that.
+    fn fill_in(&self, key: &SpeltKey<'_>, answer: PlannedAnswer) -> Result<AnswerWithLock, Fault>
         ensures answer { IfOk result (λ a. a ≡ answer_with
             (info_on ((region_of F.content self.now 0).cells key.now) key.now) answer) }
         ensures err { IfErr result (λ e. e ≡ Fault.OutOfMemory) }
@@ -245,7 +282,7 @@ impl<F: Families> Records<F> {
     }
 
     // Carries out the plan of a read.
-    fn make_read(&self, key: &Key, planned: Plan) -> Result<Executed, Fault>
+    fn make_read(&self, key: &SpeltKey<'_>, planned: Plan) -> Result<Executed, Fault>
         requires { planned.change ≡ KeyChange.Nothing }
         ensures ok { IfOk result (λ r. (n : ℕ) → CarriesOut (region_of F.content self.now n) key.now
             (changed ((region_of F.content self.now n).cells key.now) planned.change) planned r.answer r.read
@@ -260,8 +297,15 @@ impl<F: Families> Records<F> {
     }
 
     // Puts the lock that the plan of a prewrite puts, if it puts one.
-    fn put(&mut self, body: &Prewrite, change: KeyChange, number: u64) -> Result<(), Fault>
-        requires { IfSome (new_lock change) (λ new.
+    fn put(
+        &mut self,
+        key: &SpeltKey<'_>,
+        body: &Prewrite,
+        change: KeyChange,
+        number: u64,
+    ) -> Result<(), Fault>
+        requires of { key.now ≡ body.now.key }
+        requires can { IfSome (new_lock change) (λ new.
             CanPut ((region_of F.content self.old 0).cells body.now.key) body.now new) }
         ensures ok { OnOk result ((n : ℕ) → region_of F.content self.new n
             ≡ with_cells (region_of F.content self.old n) body.now.key
@@ -275,14 +319,20 @@ impl<F: Families> Records<F> {
         ensures err { IfErr result (λ e. e ≡ Fault.OutOfMemory) }
     {
         match change {
-            KeyChange::Lock(new) => self.families.put_lock(self.alloc, body, new, number),
+            KeyChange::Lock(new) => self.families.put_lock(self.alloc, key, body, new, number),
             _ => Ok(()),
         }
     }
 
     // Carries out the plan of a prewrite. `OutOfMemory` leaves all as it was.
-    fn make_prewrite(&mut self, body: &Prewrite, planned: Plan) -> Result<Executed, Fault>
-        requires { IfSome (new_lock planned.change)
+    fn make_prewrite(
+        &mut self,
+        key: &SpeltKey<'_>,
+        body: &Prewrite,
+        planned: Plan,
+    ) -> Result<Executed, Fault>
+        requires of { key.now ≡ body.now.key }
+        requires can { IfSome (new_lock planned.change)
             (λ new. CanPut ((region_of F.content self.old 0).cells body.now.key) body.now new) }
         ensures ok { IfOk result (λ r. (n : ℕ) → CarriesOut (region_of F.content self.old n) body.now.key
             (after_put ((region_of F.content self.old n).cells body.now.key) body.now (new_lock planned.change)) planned
@@ -300,14 +350,14 @@ impl<F: Families> Records<F> {
             read,
         } = planned;
         let number = self.next_number()?;
-        let answer = self.fill_in(&body.key, answer)?;
-        self.put(body, change, number)?;
+        let answer = self.fill_in(key, answer)?;
+        self.put(key, body, change, number)?;
         self.taken = number;
         Ok(Executed { answer, read })
     }
 
     // Carries out the plan of another request on its key. `OutOfMemory` leaves all as it was.
-    fn carry_out(&mut self, key: &Key, planned: Plan) -> Result<Executed, Fault>
+    fn carry_out(&mut self, key: &SpeltKey<'_>, planned: Plan) -> Result<Executed, Fault>
         requires applies { Applies ((region_of F.content self.old 0).cells key.now) planned.change }
         requires makes { Makes ((region_of F.content self.old 0).cells key.now) planned.change }
         ensures ok { IfOk result (λ r. (n : ℕ) → CarriesOut (region_of F.content self.old n) key.now
@@ -335,8 +385,50 @@ impl<F: Families> Records<F> {
     /// Carries out a plan for a request of a region that is as the plan takes for granted.
     /// `OutOfMemory` leaves all as it was.
     #[inline(always)]
-    pub(crate) fn make(&mut self, body: &Body, planned: Plan) -> Result<Executed, Fault>
+    pub(crate) fn make(
+        &mut self,
+        key: &SpeltKey<'_>,
+        body: &Body,
+        planned: Plan,
+    ) -> Result<Executed, Fault>
         requires of_key { IsOfKey body.now }
+        requires of { key.now ≡ key_in body.now }
+        requires may { MayMake body.now ((region_of F.content self.old 0).cells key.now) planned.change }
+        ensures ok { IfOk result (λ r. (n : ℕ) → CarriesOut (region_of F.content self.old n) key.now
+            (made body.now ((region_of F.content self.old n).cells key.now) planned.change) planned r.answer r.read
+            (region_of F.content self.new n)) }
+        ensures counts { IfOk result (λ r. Counts body.now self.old.taken (region_of F.content self.old 0).cells
+            (F.numbers self.old.families) self.new.taken (region_of F.content self.new 0).cells
+            (F.numbers self.new.families)) }
+        ensures same { OnErr result (region_of F.content self.new ≡ region_of F.content self.old) }
+        ensures same_numbers { OnErr result (HasSameNumbers F.numbers self.old self.new) }
+        ensures err { IfErr result (λ e. e ≡ Fault.OutOfMemory) }
+    {
+        match body {
+            Body::Get(_) => self.make_read(key, planned),
+            Body::Prewrite(body) => self.make_prewrite(key, body.asked(), planned),
+            Body::Commit(_) => self.carry_out(key, planned),
+            Body::BatchRollback(_) => self.carry_out(key, planned),
+            Body::TxnHeartBeat(_) => self.carry_out(key, planned),
+            Body::CheckTxnStatus(_) => self.carry_out(key, planned),
+            Body::CheckSecondaryLocks(_) => self.carry_out(key, planned),
+            Body::ResolveLock(_) => self.carry_out(key, planned),
+            Body::Scan(_) | Body::RaiseSafe(_) | Body::LocksBelow(_) | Body::Collect(_) => {
+                unreachable!()
+            }
+        }
+    }
+
+    /// The same, where the key of the request was spelt with these bytes.
+    #[inline(always)]
+    pub(crate) fn make_by_bytes(
+        &mut self,
+        bytes: KeyBytes,
+        body: &Body,
+        planned: Plan,
+    ) -> Result<Executed, Fault>
+        requires of_key { IsOfKey body.now }
+        requires of { bytes ≡ key_in body.now }
         requires may { MayMake body.now ((region_of F.content self.old 0).cells (key_in body.now)) planned.change }
         ensures ok { IfOk result (λ r. (n : ℕ) → CarriesOut (region_of F.content self.old n) (key_in body.now)
             (made body.now ((region_of F.content self.old n).cells (key_in body.now)) planned.change) planned r.answer
@@ -348,18 +440,7 @@ impl<F: Families> Records<F> {
         ensures same_numbers { OnErr result (HasSameNumbers F.numbers self.old self.new) }
         ensures err { IfErr result (λ e. e ≡ Fault.OutOfMemory) }
     {
-        match body {
-            Body::Get(body) => self.make_read(&body.key, planned),
-            Body::Prewrite(body) => self.make_prewrite(body.asked(), planned),
-            Body::Commit(body) => self.carry_out(&body.key, planned),
-            Body::BatchRollback(body) => self.carry_out(&body.key, planned),
-            Body::TxnHeartBeat(body) => self.carry_out(&body.key, planned),
-            Body::CheckTxnStatus(body) => self.carry_out(&body.key, planned),
-            Body::CheckSecondaryLocks(body) => self.carry_out(&body.key, planned),
-            Body::ResolveLock(body) => self.carry_out(&body.key, planned),
-            Body::Scan(_) | Body::RaiseSafe(_) | Body::LocksBelow(_) | Body::Collect(_) => {
-                unreachable!()
-            }
-        }
+        let key = SpeltKey::with_bytes(key_of(body), bytes);
+        self.make(&key, body, planned)
     }
 }

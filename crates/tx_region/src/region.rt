@@ -11,13 +11,13 @@ ghost use Rattle.tx_core.specs.Recording.{MayRecord, part};
 ghost use Rattle.tx_core.specs.Worlds.{Holds};
 ghost use Rattle.tx_journal.specs.Known.{greatest_ts, DrawsNothing, HasSeen, HasRecorded};
 ghost use Rattle.tx_region.specs.Calls.{TakesNoMemory};
-ghost use Rattle.tx_region.specs.Copies.{IsOfKey, IsPlan, IsAbove, promised};
+ghost use Rattle.tx_region.specs.Copies.{IsOfKey, key_in, IsPlan, IsAbove, promised};
 ghost use Rattle.tx_region.specs.Planning.{IsCopyFor, IsPlanFor, CarriesPlan, ComesOf};
 ghost use Rattle.tx_region.specs.Taking.{NeedsMark, IsMark, Loads, Knows, Answered};
 
 use crate::applied::Applied;
-use crate::copy::{KeyView, Loaded, RegionNumbers};
-use crate::planning::{key_of, plan};
+use crate::copy::Loaded;
+use crate::key_copy::{KeyCopy, Planned};
 use crate::records::{Executed, Records};
 use crate::routing::holds;
 use std::alloc::Global;
@@ -26,98 +26,8 @@ use tx_cells::{Families, ShownKey};
 use tx_core::{Answer, Body, SeatNo};
 use tx_journal::{Journal, JournalId, Reply, Request, Seat, StepEvent, Told};
 use tx_plan::KeyChange;
+use tx_spelling::KeyBytes;
 use tx_types::{Fault, Key, Mode, Ts};
-
-/// A copy of what a request sees of its key in a region, which stays so long as the key is not
-/// changed: the answer can be planned of it while others have the region. It is known to be of that
-/// region, as it was after the events that it tells of.
-#[derive(Drop)]
-pub struct KeyCopy<J: JournalId> {
-    /// Whose key it is.
-    region: SeatNo,
-    /// What the region had seen.
-    told: Told<J>,
-    /// What the request sees of its key.
-    view: KeyView,
-    /// The region's safe point and that of its last collection.
-    numbers: RegionNumbers,
-    /// How many requests the region had counted: a key whose number is greater was changed since.
-    taken: u64,
-    /// The last number and the greatest timestamp read, as the region loaded them.
-    loaded: Loaded,
-}
-
-impl<J: JournalId> Model for KeyCopy<J> {
-    ghost use Rattle.tx_region.specs.Planning.{Copied, AreOf};
-
-    ghost Value = { Copied };
-
-    ghost view = { λ c. record {
-      region = c.region;
-      events = c.told;
-      view = c.view;
-      numbers = c.numbers;
-      loaded = c.loaded;
-    } };
-
-    ghost invariant = { λ c. AreOf c.told c.region c.numbers c.taken c.loaded };
-}
-
-/// What was planned of such a copy: the answer and the change of the case tables, for the copy and
-/// its request.
-#[derive(Drop)]
-pub struct Planned<J: JournalId> {
-    /// Whose key the copy was of.
-    region: SeatNo,
-    /// What the region had seen.
-    told: Told<J>,
-    /// The answer, the change, and the timestamp that counts as read.
-    planned: tx_plan::Plan,
-    /// The region's safe point and that of its last collection, as they were copied.
-    numbers: RegionNumbers,
-    /// How many requests the region had counted then.
-    taken: u64,
-    /// What the region had loaded then.
-    loaded: Loaded,
-}
-
-impl<J: JournalId> Model for Planned<J> {
-    ghost use Rattle.tx_region.specs.Planning.{PlanOf, AreOf, IsSomePlan};
-
-    ghost Value = { PlanOf };
-
-    ghost view = { λ p. record { region = p.region; events = p.told; loaded = p.loaded; planned = p.planned } };
-
-    ghost invariant = { λ p. AreOf p.told p.region p.numbers p.taken p.loaded
-        × IsSomePlan (record { region = p.region; events = p.told; loaded = p.loaded; planned = p.planned }) };
-}
-
-impl<J: JournalId> KeyCopy<J> {
-    /// What the region makes of the request for which the copy was made.
-    pub fn plan(self, request: &Request<J>) -> Planned<J>
-        requires { IsCopyFor request.now self }
-        ensures plan { IsPlanFor request.now result }
-        ensures same { (result.region ≡ self.region) × (result.events ≡ self.events) }
-    {
-        let KeyCopy {
-            region,
-            told,
-            view,
-            numbers,
-            taken,
-            loaded,
-        } = self;
-        let planned = plan(view, &numbers, &loaded, request.body());
-        Planned {
-            region,
-            told,
-            planned,
-            numbers,
-            taken,
-            loaded,
-        }
-    }
-}
 
 /// A region of the journal `J`. Contracts see its seat: its number, its ticks and the events that
 /// it knows.
@@ -453,11 +363,14 @@ impl<J: JournalId, F: Families> Region<J, F> {
         ensures err { IfErr result (λ e. e ≡ Fault.OutOfMemory) }
     {
         let loaded = self.load(request);
-        let view = self.records.view(request.body())?;
+        let key = self.records.spell(request.body())?;
+        let view = self.records.view(&key, request.body())?;
+        let bytes = key.into_bytes();
         let told = self.seat.tell();
         Ok(KeyCopy {
             region: self.seat.number(),
             told,
+            bytes,
             view,
             numbers: self.records.numbers(),
             taken: self.records.taken,
@@ -480,11 +393,13 @@ impl<J: JournalId, F: Families> Region<J, F> {
     fn carry_plan(
         &mut self,
         request: Request<J>,
+        bytes: KeyBytes,
         planned: tx_plan::Plan,
         loaded: &Loaded,
     ) -> Applied<J>
         requires holds { Holds J.bounds self.old.seat request.body }
         requires of_key { IsOfKey request.body }
+        requires bytes { bytes ≡ key_in request.body }
         requires knows { Knows request.by self.old.events loaded.now.last }
         requires mark { NeedsMark request.body → loaded.now.mark ≤ max_ts self.old.events }
         requires plan { IsPlan loaded.now.mark (left self.old.events self.old.seat) loaded.now.last request.body
@@ -496,7 +411,7 @@ impl<J: JournalId, F: Families> Region<J, F> {
         if !self.is_above(&planned.change) {
             return Applied::Stale(request);
         }
-        match self.records.make(request.body(), planned) {
+        match self.records.make_by_bytes(bytes, request.body(), planned) {
             Err(_) => {
                 let told = self.seat.tell();
                 Applied::Done(Reply::new(request, None, told))
@@ -517,6 +432,7 @@ impl<J: JournalId, F: Families> Region<J, F> {
         let Planned {
             region: _,
             told,
+            bytes,
             planned,
             numbers,
             taken,
@@ -525,14 +441,14 @@ impl<J: JournalId, F: Families> Region<J, F> {
         self.learn(told);
         match self
             .records
-            .has_stayed(key_of(request.body()), &numbers, taken)
+            .bytes_if_stayed(bytes, request.body(), &numbers, taken)
         {
             Err(_) => {
                 let told = self.seat.tell();
                 Applied::Done(Reply::new(request, None, told))
             }
-            Ok(false) => Applied::Stale(request),
-            Ok(true) => self.carry_plan(request, planned, &loaded),
+            Ok(None) => Applied::Stale(request),
+            Ok(Some(bytes)) => self.carry_plan(request, bytes, planned, &loaded),
         }
     }
 }

@@ -30,23 +30,30 @@ use Rattle.tx_resolve.proofs.Finding.{gave}
 
 -- ---- what the case tables have
 
-raises : (r : Region) (l top : ℕ) (b : RaiseSafe) (a : Answer) → Answers r l top (request.RaiseSafe b) a → IsToRaise (response.Answered a)
+raises : (r : Region) (l top : ℕ) (b : RaiseSafe) (a : Answer) → Answers r l top (request.RaiseSafe b) a
+    → IsToRaise (response.Answered a)
 raises r l top b a (inl x) = subst (λ (z : Answer). IsToRaise (response.Answered z)) (sym x.1) tt
 raises r l top b a (inr (no0, inl x)) = subst (λ (z : Answer). IsToRaise (response.Answered z)) (sym x.1) tt
 raises r l top b a (inr (no0, inr (no1, is))) = subst (λ (z : Answer). IsToRaise (response.Answered z)) (sym is) tt
 
-lists : (r : Region) (l top : ℕ) (b : LocksBelow) (a : Answer) → Answers r l top (request.LocksBelow b) a → IsToList (response.Answered a)
+lists : (r : Region) (l top : ℕ) (b : LocksBelow) (a : Answer) → Answers r l top (request.LocksBelow b) a
+    → IsToList (response.Answered a)
 lists r l top b a (infos, all, is) = subst (λ (z : Answer). IsToList (response.Answered z)) (sym is) tt
 
-collects : (r : Region) (l top : ℕ) (b : Collect) (a : Answer) → Answers r l top (request.Collect b) a → IsToCollect (response.Answered a)
+collects : (r : Region) (l top : ℕ) (b : Collect) (a : Answer) → Answers r l top (request.Collect b) a
+    → IsToCollect (response.Answered a)
 collects r l top b a (inl x) = subst (λ (z : Answer). IsToCollect (response.Answered z)) (sym x.1) tt
-collects r l top b a (inr (no0, inl (some, (info, first, is)))) = subst (λ (z : Answer). IsToCollect (response.Answered z)) (sym is) tt
-collects r l top b a (inr (no0, inr (no1, (places, all, is)))) = subst (λ (z : Answer). IsToCollect (response.Answered z)) (sym is) tt
+collects r l top b a (inr (no0, inl (some, (info, first, is)))) =
+    subst (λ (z : Answer). IsToCollect (response.Answered z)) (sym is) tt
+collects r l top b a (inr (no0, inr (no1, (places, all, is)))) =
+    subst (λ (z : Answer). IsToCollect (response.Answered z)) (sym is) tt
 
 -- ---- what comes
 
 -- nothing is lost
-pub not_lost : {S : Type 0} (sends : S → Asked → Reached → S → Type 0) → LosesNothing sends → (bounds : List Key) (k new : Known) (from to : S) (body : Body) (c : Response) → Asks sends bounds k body from to c new → c ≡ response.Lost → ⊥
+pub not_lost : {S : Type 0} (sends : S → Asked → Reached → S → Type 0) → LosesNothing sends
+    → (bounds : List Key) (k new : Known) (from to : S) (body : Body) (c : Response)
+    → Asks sends bounds k body from to c new → c ≡ response.Lost → ⊥
 not_lost sends lossless bounds k new from to body c a lost = go a.reached a.sent (sym a.is ∙ lost)
   where
     said : (o : Option Answer) → response_by o ≡ response.Lost → ⊥
@@ -58,25 +65,39 @@ not_lost sends lossless bounds k new from to body c a lost = go a.reached a.sent
     go (Ok g) sent e = said g.answer e
 
 module _ (bounds : List Key) (h : History) (run : IsWorldRun bounds h) where
-  pub to_raise : (b : RaiseSafe) (c : Response) → (c ≡ response.Lost → ⊥) → RespondsSo h (request.RaiseSafe b) c → IsToRaise c
+  pub to_raise : (b : RaiseSafe) (c : Response) → (c ≡ response.Lost → ⊥) → RespondsSo h (request.RaiseSafe b) c
+      → IsToRaise c
   to_raise b response.Lost not so = not refl
   to_raise b response.OutOfMemory not so = tt
-  to_raise b (response.Answered a) not so = (let g = gave bounds h run (request.RaiseSafe b) a so in raises g.0 g.1 g.2 b a g.3)
+  to_raise b (response.Answered a) not so =
+      (let g = gave bounds h run (request.RaiseSafe b) a so in raises g.0 g.1 g.2 b a g.3)
 
-  pub to_list : (b : LocksBelow) (c : Response) → (c ≡ response.Lost → ⊥) → RespondsSo h (request.LocksBelow b) c → IsToList c
+  pub to_list : (b : LocksBelow) (c : Response) → (c ≡ response.Lost → ⊥) → RespondsSo h (request.LocksBelow b) c
+      → IsToList c
   to_list b response.Lost not so = not refl
   to_list b response.OutOfMemory not so = tt
-  to_list b (response.Answered a) not so = (let g = gave bounds h run (request.LocksBelow b) a so in lists g.0 g.1 g.2 b a g.3)
+  to_list b (response.Answered a) not so =
+      (let g = gave bounds h run (request.LocksBelow b) a so in lists g.0 g.1 g.2 b a g.3)
 
-  pub to_collect : (b : Collect) (c : Response) → (c ≡ response.Lost → ⊥) → RespondsSo h (request.Collect b) c → IsToCollect c
+  pub to_collect : (b : Collect) (c : Response) → (c ≡ response.Lost → ⊥) → RespondsSo h (request.Collect b) c
+      → IsToCollect c
   to_collect b response.Lost not so = not refl
   to_collect b response.OutOfMemory not so = tt
-  to_collect b (response.Answered a) not so = (let g = gave bounds h run (request.Collect b) a so in collects g.0 g.1 g.2 b a g.3)
+  to_collect b (response.Answered a) not so =
+      (let g = gave bounds h run (request.Collect b) a so in collects g.0 g.1 g.2 b a g.3)
 
 -- the locks of an answer were told of
-pub listed_told : (h : History) (b : Body) (infos : List LockInfo) → WasAnswered h b (answer.Locks infos) → (info : LockInfo) → Contains infos info → WasToldOf h info
-listed_told h b infos was info has = record { by = was.by; among = was.among; told = subst (λ (xs : List LockInfo). Contains xs info) (ap infos_in (sym was.told)) has }
+pub listed_told : (h : History) (b : Body) (infos : List LockInfo) → WasAnswered h b (answer.Locks infos)
+    → (info : LockInfo) → Contains infos info → WasToldOf h info
+listed_told h b infos was info has =
+    record {
+      by = was.by;
+      among = was.among;
+      told =
+          subst (λ (xs : List LockInfo). Contains xs info) (ap infos_in (sym was.told)) has;
+    }
 
-pub listed_ok : (h : History) (b : LocksBelow) (c : Response) → RespondsSo h (request.LocksBelow b) c → IfOk (listed_by c) (λ infos. (info : LockInfo) → Contains infos info → WasToldOf h info)
+pub listed_ok : (h : History) (b : LocksBelow) (c : Response) → RespondsSo h (request.LocksBelow b) c
+    → IfOk (listed_by c) (λ infos. (info : LockInfo) → Contains infos info → WasToldOf h info)
 listed_ok h b (response.Answered (answer.Locks infos)) was = listed_told h (request.LocksBelow b) infos was
 listed_ok h b _ was = tt

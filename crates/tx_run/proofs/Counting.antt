@@ -10,7 +10,8 @@ use Rattle.tx_run.specs.declared.reply.LineReply.{LineReply}
 use Rattle.tx_run.specs.declared.counts.RunCounts.{RunCounts}
 use Rattle.tx_run.specs.Texts.{counts_of, counted, IsRoomy, is_committed, is_aborted, is_unknown, is_read_only}
 
-same_counts : (a b : RunCounts) → a.committed ≡ b.committed → a.aborted ≡ b.aborted → a.unknown ≡ b.unknown → a.read_only ≡ b.read_only → a ≡ b
+same_counts : (a b : RunCounts) → a.committed ≡ b.committed → a.aborted ≡ b.aborted → a.unknown ≡ b.unknown
+    → a.read_only ≡ b.read_only → a ≡ b
 same_counts a b p q r s =
     ap (λ n. record a { committed = n }) p ∙ ap (λ n. record a { committed = b.committed; aborted = n }) q
     ∙ ap (λ n. record a { committed = b.committed; aborted = b.aborted; unknown = n }) r
@@ -21,7 +22,8 @@ module _ (lines : List LineReply) (i : ℕ) (d : LineReply) (within : i < length
   pub counted_more : counts_of (take (i + 1) lines) ≡ counted (counts_of (take i lines)) (get_or lines i d).answer
   counted_more = by_reply (get_or lines i d).answer refl
     where
-      by_reply : (r : LineAnswer) → (get_or lines i d).answer ≡ r → counts_of (take (i + 1) lines) ≡ counted (counts_of (take i lines)) r
+      by_reply : (r : LineAnswer) → (get_or lines i d).answer ≡ r
+          → counts_of (take (i + 1) lines) ≡ counted (counts_of (take i lines)) r
       by_reply (Ended start (Committed c) keys) is = same_counts _ _
           (count_by_more_yes (λ s. is_committed s.answer) lines i d within (ap is_committed is))
           (count_by_more_no (λ s. is_aborted s.answer) lines i d within (ap is_aborted is))

@@ -1,27 +1,68 @@
--- The jobs of a run, and their seats. But for `ComesOf`, only this crate's own clauses cite it.
-use Rattle.std.specs.Prelude.{◌≡◌, ℕ, ◌+◌, ◌*◌, ◌<◌, ◌≤◌, ◌++◌, List, All, Some, None, slice_get}
+-- The jobs of a run, and their seats. But for `ComesOfText`, only this crate's own clauses cite it.
+use Rattle.std.specs.Prelude.{◌≡◌, ℕ, ◌+◌, ◌*◌, ◌<◌, ◌≤◌, ◌++◌, [], ◌∷◌, List, All, Bool, true, false, length}
+use Rattle.std.specs.Prelude.{Option, Some, None, slice_get}
+use Rattle.std.specs.Option.{option_to_list}
 use Rattle.std.specs.List.{AllPairs, flat_map}
 use Rattle.tx_core.specs.Histories.{History, Begins, drawer}
 use Rattle.tx_journal.specs.Known.{Known}
+use Rattle.tx_text.specs.Lines.{lines_of}
 use Rattle.tx_run.specs.declared.reply.LineAnswer.{LineAnswer}
 use Rattle.tx_run.specs.declared.reply.LineAnswer.TheVariants.{Plain, Ended}
 use Rattle.tx_run.specs.declared.reply.LineReply.{LineReply}
 use Rattle.tx_run.specs.Logs.{Logged, TellsBy}
-use Rattle.tx_run.specs.Outcomes.{start_of}
+use Rattle.tx_run.specs.Answers.{Answers, EndsSo, IsReply, numbers_of}
+use Rattle.tx_run.specs.Reading.{sessions_of}
 
--- a job at work: its number, and its log
+-- a job at work: its number, its log, the number of the line of a transfer on its way, those of the
+-- lines that are left in the order of the script, and whether a fault of the script ended it
 pub record Working : Type 0 where
   pub number : ℕ
   pub log : Logged
+  pub going : Option ℕ
+  pub left : List ℕ
+  pub faulted : Bool
 
--- it stays the same job, of the same seat
-pub record StaysSame (old new : Working) : Type 0 where
+-- what a job came to: its number, its log, and whether a fault of the script ended it
+pub record Output : Type 0 where
+  pub number : ℕ
+  pub log : Logged
+  pub faulted : Bool
+
+-- the numbers of a job's lines: those that were answered, that of the transfer, and those left
+abbrev pub job_lines : Working → List ℕ
+job_lines j = numbers_of j.log.replies ++ (option_to_list j.going ++ j.left)
+
+-- A fault leaves no line and no transfer; where no answer was lost, it is the last one and the only
+-- fault.
+pub record IsSound (j : Working) : Type 0 where
+  pub over : j.faulted ≡ true → (j.left ≡ []) × (j.going ≡ None)
+  pub ends : j.log.lost ≡ false → EndsSo j.faulted j.log.replies
+
+-- It stays the same job, of the same seat, and what was lost stays lost, as a fault does. Where
+-- nothing is lost, its lines are those that it had, but for those behind a fault.
+pub record GoesOn (old new : Working) : Type 0 where
   pub number : new.number ≡ old.number
   pub seat : new.log.seat ≡ old.log.seat
+  pub kept : new.log.lost ≡ false → old.log.lost ≡ false
+  pub faulted : old.faulted ≡ true → new.faulted ≡ true
+  pub lines : new.log.lost ≡ false → (behind : List ℕ)
+      × (job_lines old ≡ job_lines new ++ behind) × (new.faulted ≡ false → behind ≡ [])
 
--- what a job came to: its number, and its log
-abbrev pub Output : Type 0
-Output = Working
+-- a job before it took the line of this number, with no transfer on its way
+abbrev pub with_line : ℕ → Working → Working
+with_line number j = record j { going = None; left = number ∷ j.left }
+
+-- it may answer a line: no transfer is on its way, and no fault ended it
+abbrev pub MayAnswer : Working → Type 0
+MayAnswer j = (j.going ≡ None) × (j.faulted ≡ false)
+
+-- What a job promises of its output: its seat stays, what was lost stays lost, as a fault does, and
+-- where nothing is lost, its lines are answered up to a fault.
+pub record Promises (job : Working) (output : Output) : Type 0 where
+  pub seat : output.log.seat ≡ job.log.seat
+  pub kept : output.log.lost ≡ false → job.log.lost ≡ false
+  pub faulted : job.faulted ≡ true → output.faulted ≡ true
+  pub answers : output.log.lost ≡ false → Answers (job_lines job) output.faulted output.log.replies
 
 -- the seat that drew the start of an outcome that a line is told is not below this one
 abbrev pub IsAbove : History → ℕ → LineAnswer → Type 0
@@ -41,9 +82,10 @@ HaveOwnSeats last jobs =
 abbrev pub AreFrom : ℕ → List Known → Type 0
 AreFrom first seats = (k : ℕ) (s : Known) → slice_get seats k ≡ Some s → s.seat ≡ first + k
 
--- a job was learnt of: this history begins with what the job was told, and there stands what
--- its lines are told
+-- a job was learnt of: no answer of it was lost, this history begins with what the job was told,
+-- and there stands what its lines are told
 pub record IsLearnt (h : History) (output : Output) : Type 0 where
+  pub kept : output.log.lost ≡ false
   pub tells : TellsBy output.log.told output.log.seat output.log.replies
   pub knows : Begins output.log.told h
 
@@ -60,8 +102,27 @@ pub record AreJoined (before : List LineReply) (h : History) (replies : List Lin
   pub learnt : All (IsLearnt h) jobs
   pub all : replies ≡ before ++ flat_map (λ output. output.log.replies) jobs
 
--- what a run came to: the answers before any session, and those of its sessions, of which each had
--- seen a beginning of what is seen in the end
-abbrev pub ComesOf : History → List LineReply → Type 0
-ComesOf h replies = (before : List LineReply) × (sessions : List Output)
-    × All (λ s. start_of s.answer ≡ None) before × AreJoined before h replies sessions
+-- the answers of these jobs stand behind those that were there before any session, none of which is
+-- a fault or tells an outcome
+abbrev pub AreGathered : History → List LineReply → List Output → Type 0
+AreGathered h replies jobs = (before : List LineReply)
+    × All (λ s. IsReply s.answer) before × AreJoined before h replies jobs
+
+-- the k-th session's lines were answered up to a fault, which is its last answer, unless one of its
+-- answers was lost
+abbrev pub AreAnswered : List (List ℕ) → List Output → Type 0
+AreAnswered lines outputs = (length outputs ≡ length lines) × ((k : ℕ) (numbers : List ℕ) (output : Output)
+    → slice_get lines k ≡ Some numbers → slice_get outputs k ≡ Some output
+    → output.log.lost ≡ false → Answers numbers output.faulted output.log.replies)
+
+-- What a run came to whose sessions have lines of these numbers: the answers before any session,
+-- and those of its sessions. Each had seen a beginning of what is seen in the end, and none lost an
+-- answer: each line of a session is answered, in order and once, but those behind a fault.
+abbrev pub ComesOf : List (List ℕ) → History → List LineReply → Type 0
+ComesOf lines h replies = (sessions : List Output) × AreGathered h replies sessions × AreAnswered lines sessions
+
+-- this, of the sessions of a text, each with the lines that the text says are its own; of some
+-- sessions, where the text is not known
+abbrev pub ComesOfText : Option (List ℕ) → History → List LineReply → Type 0
+ComesOfText None h replies = (lines : List (List ℕ)) × ComesOf lines h replies
+ComesOfText (Some text) h replies = ComesOf (sessions_of (lines_of text)) h replies

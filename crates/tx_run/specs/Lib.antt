@@ -1,10 +1,15 @@
+pub mod Answers
 pub mod Faults
 pub mod Jobs
 pub mod Latches
+pub mod LineNumbers
 pub mod Lines
 pub mod Logs
 pub mod Outcomes
 pub mod Pairs
+pub mod Readers
+pub mod Reading
 pub mod Replies
 pub mod Scripts
+pub mod States
 pub mod Texts

@@ -1,5 +1,5 @@
 -- What stands behind the answers of one session.
-use Rattle.std.specs.Prelude.{◌≡◌, ◌≢◌, ℕ, ◌+◌, ◌*◌, ◌<◌, ◌≤◌, List, All, Option, Some, slice_get}
+use Rattle.std.specs.Prelude.{◌≡◌, ◌≢◌, ℕ, [], ◌∷◌, ◌++◌, List, All, Bool, false, Option, Some}
 use Rattle.std.specs.List.{AllPairs}
 use Rattle.tx_types.specs.declared.key.Key.{Key}
 use Rattle.tx_core.specs.declared.event.Outcome.{Outcome}
@@ -12,11 +12,12 @@ use Rattle.tx_run.specs.declared.reply.LineReply.{LineReply}
 use Rattle.tx_transfer.specs.Transfers.{IsBetween}
 use Rattle.tx_run.specs.Outcomes.{start_of, AreApart}
 
--- a log: the seat of its session, what it was told, and the answers
+-- a log: the seat of its session, what it was told, the answers, and whether one was lost
 pub record Logged : Type 0 where
   pub seat : ℕ
   pub told : History
   pub replies : List LineReply
+  pub lost : Bool
 
 -- a session of this seat began at the start, and its transaction was answered so; a transfer
 -- declared just its two keys
@@ -34,6 +35,20 @@ StandsBy h seat (Plain plain) = Unit {0}
 pub record TellsBy (h : History) (seat : ℕ) (replies : List LineReply) : Type 0 where
   pub told : All (λ s. StandsBy h seat s.answer) replies
   pub apart : AllPairs AreApart replies
+
+-- the answer of the line of this number
+abbrev pub answer_to : ℕ → LineAnswer → LineReply
+answer_to number answer = record { number = number; answer = answer }
+
+-- a line's answer is kept: where nothing is lost then, nothing had been, and the answers are those
+-- before with this one behind
+abbrev pub KeepsAnswer : Logged → ℕ → LineAnswer → Logged → Type 0
+KeepsAnswer old number answer new =
+    new.lost ≡ false → (old.lost ≡ false) × (new.replies ≡ old.replies ++ answer_to number answer ∷ [])
+
+-- some outcome of a line is kept, with these keys
+abbrev pub KeepsOutcome : Logged → ℕ → Option (Key × Key) → Logged → Type 0
+KeepsOutcome old number keys new = (start : ℕ) × (o : Outcome) × KeepsAnswer old number (Ended start o keys) new
 
 -- no line is told of this transaction
 abbrev pub TellsNone : ℕ → List LineReply → Type 0

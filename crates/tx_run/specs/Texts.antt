@@ -19,6 +19,7 @@ use Rattle.tx_transfer.specs.declared.balance.TheConstants.{BALANCES}
 use Rattle.tx_run.specs.declared.reply.LineAnswer.{LineAnswer}
 use Rattle.tx_run.specs.declared.reply.LineAnswer.TheVariants.{Plain, Ended}
 use Rattle.tx_run.specs.declared.reply.LineReply.{LineReply}
+use Rattle.tx_run.specs.Answers.{has_fault}
 use Rattle.tx_run.specs.Faults.{TellsFault}
 use Rattle.tx_run.specs.Lines.{line_of}
 use Rattle.tx_run.specs.Outcomes.{TellsOutcomes}
@@ -103,10 +104,11 @@ abbrev pub IsRunText : Option (List ℕ) → Option RunResult → List ℕ → T
 IsRunText source None text = IsFaultText source text
 IsRunText source (Some played) text = IsTextOf played.replies played.total text
 
--- how a run ends: with a fault where nothing was played, or where one ended a session
+-- how a run ends: with a fault where nothing was played, or where an answer that it hands back is
+-- one
 abbrev pub end_of : Option RunResult → End
 end_of None = Faulted
-end_of (Some played) = if played.faulted then Faulted else Well
+end_of (Some played) = if has_fault played.replies then Faulted else Well
 
 -- the text of some run of this script: each outcome that it tells was answered in what its
 -- sessions had seen

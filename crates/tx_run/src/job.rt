@@ -1,7 +1,11 @@
 //! A session of a run, as a job of the workers: each line is a step. A transfer is mostly two: its
 //! reads, and then its writes.
-ghost use Rattle.std.specs.Prelude.{◌≡◌, IfOk};
-ghost use Rattle.tx_run.specs.Jobs.{StaysSame};
+ghost use Rattle.std.specs.Prelude.{◌≡◌, ◌∷◌, map, is_some, [], None, true, false, IfErr, IfNone, IfOk, IfSome, OnErr, OnOk};
+ghost use Rattle.tx_run.specs.Jobs.{GoesOn, MayAnswer, Promises, job_lines, with_line};
+ghost use Rattle.tx_run.specs.LineNumbers.{number_of};
+ghost use Rattle.tx_run.specs.States.{going_of};
+ghost use Rattle.tx_transfer.specs.Sources.{HasPair};
+ghost use Rattle.tx_transfer.specs.Transfers.{MovesSome};
 
 mod latches;
 mod lines;
@@ -9,7 +13,7 @@ mod transfer;
 
 use crate::log::RunLog;
 use crate::output::JobOutput;
-use crate::script::SessionLine;
+use crate::session_line::SessionLine;
 use crate::state::JobState;
 use std::marker::Model;
 use std::mem::replace;
@@ -24,10 +28,10 @@ use tx_sched::{Job, Turn};
 use tx_transfer::{
     Collector, Context, PlainReply, Source, TransferProgress, TransferState, slots_of,
 };
-use tx_types::{Cause, Fault};
+use tx_types::{Cause, Fault, Key};
 
-/// A session, the lines that are left of it, and what was answered. Contracts see its
-/// number and its log.
+/// A session, the lines that are left of it, and what was answered. Contracts see its number, its
+/// log, which lines are left, whether a transfer is on its way, and whether a fault ended it.
 #[derive(Drop)]
 pub(crate) struct ScriptJob<J: JournalId, L: Source, F: Families + Drop, R: Wait + Drop> {
     number: u32,
@@ -43,11 +47,28 @@ pub(crate) struct ScriptJob<J: JournalId, L: Source, F: Families + Drop, R: Wait
 }
 
 impl<J: JournalId, L: Source, F: Families + Drop, R: Wait + Drop> Model for ScriptJob<J, L, F, R> {
-    ghost use Rattle.tx_run.specs.Jobs.{Working};
+    ghost use Rattle.std.specs.Prelude.{map, reverse};
+    ghost use Rattle.tx_run.specs.Jobs.{IsSound, Working};
+    ghost use Rattle.tx_run.specs.LineNumbers.{number_of};
+    ghost use Rattle.tx_run.specs.States.{going_of};
 
     ghost Value = { Working };
 
-    ghost view = { λ j. record { number = j.number; log = j.log } };
+    ghost view = { λ j. record {
+      number = j.number;
+      log = j.log;
+      going = going_of j.state (λ transfer. transfer.value);
+      left = map number_of (reverse j.lines.items);
+      faulted = j.faulted;
+    } };
+
+    ghost invariant = { λ j. IsSound (record {
+      number = j.number;
+      log = j.log;
+      going = going_of j.state (λ transfer. transfer.value);
+      left = map number_of (reverse j.lines.items);
+      faulted = j.faulted;
+    }) };
 }
 
 impl<J: JournalId, L: Source, F: Families + Drop, R: Wait + Drop> ScriptJob<J, L, F, R> {
@@ -59,7 +80,9 @@ impl<J: JournalId, L: Source, F: Families + Drop, R: Wait + Drop> ScriptJob<J, L
         mut lines: Vec<SessionLine<L>>,
         collector: Collector,
     ) -> Result<ScriptJob<J, L, F, R>, Fault>
-        ensures { IfOk result (λ job. (job.number ≡ number) × (job.log.seat ≡ seat.seat)) }
+        ensures job { IfOk result (λ job. (job.number ≡ number) × (job.log.seat ≡ seat.seat)) }
+        ensures lines { IfOk result (λ job. job_lines job ≡ map number_of lines.items) }
+        ensures err { IfErr result (λ e. e ≡ Fault.OutOfMemory) }
     {
         let alloc = context.alloc;
         let mut seat = seat;
@@ -79,26 +102,45 @@ impl<J: JournalId, L: Source, F: Families + Drop, R: Wait + Drop> ScriptJob<J, L
 
     // Is in this state from now on.
     fn set_state(&mut self, state: JobState<Seat<J>, Box<Session<J>>, Box<TransferState<J, L>>>)
-        ensures { StaysSame self.old self.new }
+        requires { self.old.faulted ≡ true → going_of state (λ transfer. transfer.value) ≡ None }
+        ensures { self.new ≡ record self.old { going = going_of state (λ transfer. transfer.value) } }
     {
         drop(replace(&mut self.state, state));
     }
 
-    // Keeps the answer of a line.
-    fn report(&mut self, number: u64, plain: PlainReply)
-        ensures { StaysSame self.old self.new }
+    // Takes the state, while it acts.
+    fn take_state(&mut self) -> JobState<Seat<J>, Box<Session<J>>, Box<TransferState<J, L>>>
+        ensures state { going_of result (λ transfer. transfer.value) ≡ self.old.going }
+        ensures over { self.old.faulted ≡ true → self.old.going ≡ None }
+        ensures taken { self.new ≡ record self.old { going = None } }
+    {
+        replace(&mut self.state, JobState::Taken)
+    }
+
+    // Keeps the slots of the lock that this reply tells of, if it tells of one.
+    fn meet(&mut self, plain: &PlainReply)
+        ensures { self.new ≡ self.old }
     {
         if let ScriptReply::Answered(Answer::KeyIsLocked(info)) = plain.reply() {
             if let Ok(slots) = slots_of(self.context.alloc, info) {
                 self.met = slots;
             }
         }
+    }
+
+    // Keeps the answer of a line.
+    fn report(&mut self, number: u64, plain: PlainReply)
+        requires { MayAnswer self.old }
+        ensures { GoesOn (with_line number self.old) self.new }
+    {
+        self.meet(&plain);
         self.log.keep(number, Ok(plain));
     }
 
     // A fault of the script ends the session.
     fn fail(&mut self, number: u64, cause: Cause)
-        ensures { StaysSame self.old self.new }
+        requires { MayAnswer self.old }
+        ensures { GoesOn (with_line number self.old) self.new }
     {
         self.faulted = true;
         self.lines.clear();
@@ -107,7 +149,8 @@ impl<J: JournalId, L: Source, F: Families + Drop, R: Wait + Drop> ScriptJob<J, L
 
     // Keeps what came of a line.
     fn on_answer(&mut self, number: u64, answer: Result<PlainReply, Cause>)
-        ensures { StaysSame self.old self.new }
+        requires { MayAnswer self.old }
+        ensures { GoesOn (with_line number self.old) self.new }
     {
         match answer {
             Ok(plain) => self.report(number, plain),
@@ -115,8 +158,27 @@ impl<J: JournalId, L: Source, F: Families + Drop, R: Wait + Drop> ScriptJob<J, L
         }
     }
 
+    // Ends a transaction, and keeps its outcome. Where it has none, the session comes back.
+    fn conclude(
+        &mut self,
+        number: u64,
+        session: Session<J>,
+        keys: Option<(Key, Key)>,
+    ) -> Result<Seat<J>, Session<J>>
+        requires may { MayAnswer self.old }
+        requires moves { MovesSome keys session.state }
+        requires pair { HasPair L.text number keys }
+        ensures kept { OnOk result (GoesOn (with_line number self.old) self.new × MayAnswer self.new) }
+        ensures none { OnErr result (self.new ≡ self.old) }
+    {
+        self.log
+            .finish(self.context.resolver(), number, session, keys)
+    }
+
     fn output(&mut self) -> JobOutput<J, L>
-        ensures output { (result.number ≡ self.old.number) × (result.log.seat ≡ self.old.log.seat) }
+        requires { (self.old.left ≡ []) × (self.old.going ≡ None) }
+        ensures number { result.number ≡ self.old.number }
+        ensures promised { Promises self.old result }
     {
         let empty = Vec::new(self.context.alloc);
         let log = self.log.take(self.context.resolver(), empty);
@@ -129,16 +191,33 @@ impl<J: JournalId, L: Source, F: Families + Drop, R: Wait + Drop> ScriptJob<J, L
         }
     }
 
+    // The first of the lines that are left.
+    fn next_line(&mut self) -> Option<SessionLine<L>>
+        ensures some { IfSome result (λ line. (self.old ≡ record self.new { left = number_of line ∷ self.new.left })
+            × (self.new.faulted ≡ false)) }
+        ensures none { IfNone result (self.new ≡ self.old) }
+    {
+        self.lines.pop()
+    }
+
+    // Makes a line, unless a transfer is on its way.
+    fn begin_line(&mut self)
+        ensures { GoesOn self.old self.new }
+    {
+        if self.is_transferring() {
+            return;
+        }
+        if let Some(line) = self.next_line() {
+            self.enter(line);
+        }
+    }
+
     // Makes a line, unless a transfer is on its way, and the next requests of a transfer: where it
     // has just begun, these ask for no latch.
     fn advance(&mut self)
-        ensures { StaysSame self.old self.new }
+        ensures { GoesOn self.old self.new }
     {
-        if !self.is_transferring() {
-            if let Some(line) = self.lines.pop() {
-                self.enter(line);
-            }
-        }
+        self.begin_line();
         let progress = self.advance_transfer();
         if progress != TransferProgress::More {
             self.finish_transfer(progress);
@@ -147,25 +226,29 @@ impl<J: JournalId, L: Source, F: Families + Drop, R: Wait + Drop> ScriptJob<J, L
 
     // Collects, if it is its turn to and no transaction of its own is open.
     fn collect(&mut self)
-        ensures { StaysSame self.old self.new }
+        ensures { self.new ≡ self.old }
     {
         if matches!(&self.state, JobState::Free(_)) {
             self.collector.collect(&mut self.context);
         }
     }
 
-    fn is_transferring(&self) -> bool {
-        matches!(&self.state, JobState::Transfer(..))
+    fn is_transferring(&self) -> bool
+        ensures { result ≡ is_some self.now.going }
+    {
+        self.state.is_transfer()
     }
 
     // Whether it has nothing left to do.
-    fn is_done(&self) -> bool {
+    fn is_done(&self) -> bool
+        ensures { result ≡ true → (self.now.left ≡ []) × (self.now.going ≡ None) }
+    {
         self.lines.is_empty() && !self.is_transferring()
     }
 }
 
 impl<J: JournalId, L: Source, F: Families + Drop, R: Wait + Drop> Job for ScriptJob<J, L, F, R> {
-    ghost use Rattle.std.specs.Prelude.{◌≡◌};
+    ghost use Rattle.tx_run.specs.Jobs.{Promises};
 
     type Out = JobOutput<J, L>;
 
@@ -173,7 +256,7 @@ impl<J: JournalId, L: Source, F: Families + Drop, R: Wait + Drop> Job for Script
 
     ghost tells = { λ o. o.number };
 
-    ghost promised = { λ j o. o.log.seat ≡ j.log.seat };
+    ghost promised = { λ j o. Promises j o };
 
     fn number(&self) -> u32 {
         self.number

@@ -13,6 +13,7 @@ mod reply;
 mod run;
 mod script;
 mod seeds;
+mod session_line;
 mod settings;
 mod state;
 mod write;

@@ -1,7 +1,8 @@
 //! What the lines of one session were answered, with what its session had seen.
-ghost use Rattle.std.specs.Prelude.{◌≡◌, ◌∷◌, ◌++◌, All, [], if◌then◌else◌};
+ghost use Rattle.std.specs.Prelude.{◌≡◌, ◌∷◌, ◌++◌, All, [], if◌then◌else◌, true, false, OnOk, OnErr};
 ghost use Rattle.tx_core.specs.Histories.{Begins};
-ghost use Rattle.tx_run.specs.Logs.{CanTell, IsAnswered, TellsBy, TellsNone};
+ghost use Rattle.tx_run.specs.Logs.{CanTell, IsAnswered, KeepsAnswer, KeepsOutcome, TellsBy, TellsNone};
+ghost use Rattle.tx_run.specs.declared.reply.LineAnswer.TheVariants.{Plain, Ended};
 ghost use Rattle.tx_transfer.specs.Sources.{HasPair};
 ghost use Rattle.tx_run.specs.Pairs.{TellsPair};
 ghost use Rattle.tx_transfer.specs.Transfers.{MovesSome};
@@ -35,7 +36,7 @@ impl<J: JournalId, L: Source> Model for RunLog<J, L> {
 
     ghost Value = { Logged };
 
-    ghost view = { λ l. record { seat = l.seat; told = l.told; replies = l.replies.items } };
+    ghost view = { λ l. record { seat = l.seat; told = l.told; replies = l.replies.items; lost = l.lost } };
 
     ghost invariant = { λ l. TellsBy l.told l.seat l.replies.items × All (TellsPair L.text) l.replies.items };
 }
@@ -51,7 +52,7 @@ impl<J: JournalId, L: Source> RunLog<J, L> {
     /// A log of this seat, in which nothing stands.
     pub fn new(seat: &mut Seat<J>, replies: Vec<LineReply>) -> RunLog<J, L>
         requires { replies.items ≡ [] }
-        ensures log { result.seat ≡ seat.old.seat }
+        ensures log { (result.seat ≡ seat.old.seat) × (result.replies ≡ []) × (result.lost ≡ false) }
         ensures same { seat.new ≡ seat.old }
     {
         let number = seat.number();
@@ -67,7 +68,8 @@ impl<J: JournalId, L: Source> RunLog<J, L> {
 
     /// Keeps an answer that says no outcome.
     pub fn keep(&mut self, number: u64, answer: Result<PlainReply, Cause>)
-        ensures { (self.new.seat ≡ self.old.seat) × (self.new.told ≡ self.old.told) }
+        ensures same { (self.new.seat ≡ self.old.seat) × (self.new.told ≡ self.old.told) }
+        ensures kept { KeepsAnswer self.old number (Plain answer) self.new }
     {
         let answer = LineAnswer::Plain(answer);
         let kept = add(&mut self.replies, LineReply { number, answer });
@@ -78,7 +80,7 @@ impl<J: JournalId, L: Source> RunLog<J, L> {
     fn learn(&mut self, seat: &mut Seat<J>)
         requires { Begins self.old.told seat.old.events }
         ensures log { (self.new.seat ≡ self.old.seat) × (self.new.told ≡ seat.old.events)
-            × (self.new.replies ≡ self.old.replies) }
+            × (self.new.replies ≡ self.old.replies) × (self.new.lost ≡ self.old.lost) }
         ensures same { seat.new ≡ seat.old }
     {
         self.told = seat.tell();
@@ -89,7 +91,8 @@ impl<J: JournalId, L: Source> RunLog<J, L> {
         requires answered { IsAnswered self.old.told self.old.seat start outcome.now keys }
         requires fresh { TellsNone start self.old.replies }
         requires pair { HasPair L.text number keys }
-        ensures { self.new.seat ≡ self.old.seat }
+        ensures same { self.new.seat ≡ self.old.seat }
+        ensures kept { KeepsAnswer self.old number (Ended start outcome.now keys) self.new }
     {
         let answer = LineAnswer::Ended(start, *outcome, keys);
         let kept = add(&mut self.replies, LineReply { number, answer });
@@ -107,7 +110,8 @@ impl<J: JournalId, L: Source> RunLog<J, L> {
     )
         requires tell { CanTell self.old start outcome keys seat.old }
         requires pair { HasPair L.text number keys }
-        ensures { self.new.seat ≡ self.old.seat }
+        ensures same { self.new.seat ≡ self.old.seat }
+        ensures kept { KeepsAnswer self.old number (Ended start outcome keys) self.new }
     {
         self.learn(seat);
         self.keep_outcome(number, start, &outcome, keys);
@@ -126,7 +130,9 @@ impl<J: JournalId, L: Source> RunLog<J, L> {
     ) -> Result<Seat<J>, Session<J>>
         requires moves { MovesSome keys session.state }
         requires pair { HasPair L.text number keys }
-        ensures { self.new.seat ≡ self.old.seat }
+        ensures same { self.new.seat ≡ self.old.seat }
+        ensures kept { OnOk result (KeepsOutcome self.old number keys self.new) }
+        ensures none { OnErr result (self.new ≡ self.old) }
     {
         session.learn_told(by.copy(&mut self.told));
         session.show();
@@ -135,9 +141,9 @@ impl<J: JournalId, L: Source> RunLog<J, L> {
             Ok((outcome, mut seat)) => {
                 if seat.number() == self.seat {
                     self.learn_outcome(number, start, outcome, keys, &mut seat);
-                } else {
-                    self.lost = true;
+                    return Ok(seat);
                 }
+                self.lost = true;
                 Ok(seat)
             }
             Err(session) => Err(session),
@@ -145,10 +151,11 @@ impl<J: JournalId, L: Source> RunLog<J, L> {
     }
 
     /// What the lines were answered, with what the log was told and whether an answer was lost; the
-    /// log is then empty. `by` is a seat of the journal.
+    /// log is then empty, and has lost them. `by` is a seat of the journal.
     pub fn take(&mut self, by: &Seat<J>, empty: Vec<LineReply>) -> RunLog<J, L>
         requires { empty.items ≡ [] }
         ensures same { (self.new.seat ≡ self.old.seat) × (self.new.told ≡ self.old.told) }
+        ensures lost { self.new.lost ≡ true }
         ensures log { result ≡ self.old }
     {
         let told = by.copy(&mut self.told);
@@ -156,14 +163,14 @@ impl<J: JournalId, L: Source> RunLog<J, L> {
             seat: self.seat,
             told,
             replies: replace(&mut self.replies, empty),
-            lost: self.lost,
+            lost: replace(&mut self.lost, true),
             of: PhantomData,
         }
     }
 
     /// What it was told, the answers, and whether one was lost.
     pub fn into_parts(self) -> (Told<J>, Vec<LineReply>, bool)
-        ensures parts { (result.0 ≡ self.told) × (result.1.items ≡ self.replies) }
+        ensures parts { (result.0 ≡ self.told) × (result.1.items ≡ self.replies) × (result.2 ≡ self.lost) }
         ensures tells { TellsBy self.told self.seat self.replies }
         ensures pairs { All (TellsPair L.text) self.replies }
     {

@@ -4,7 +4,8 @@ use std::marker::Model;
 use tx_journal::JournalId;
 use tx_transfer::{Refusals, Source};
 
-/// What came of a session's lines. Contracts see its number and its log.
+/// What came of a session's lines. Contracts see its number, its log and whether a fault of the
+/// script ended it.
 #[derive(Drop)]
 pub(crate) struct JobOutput<J: JournalId, L: Source> {
     pub number: u32,
@@ -18,9 +19,9 @@ pub(crate) struct JobOutput<J: JournalId, L: Source> {
 }
 
 impl<J: JournalId, L: Source> Model for JobOutput<J, L> {
-    ghost use Rattle.tx_run.specs.Jobs.{Working};
+    ghost use Rattle.tx_run.specs.Jobs.{Output};
 
-    ghost Value = { Working };
+    ghost Value = { Output };
 
-    ghost view = { λ o. record { number = o.number; log = o.log } };
+    ghost view = { λ o. record { number = o.number; log = o.log; faulted = o.faulted } };
 }

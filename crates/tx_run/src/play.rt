@@ -1,7 +1,11 @@
 //! Playing a script: its seeds, and then its sessions side by side, by workers.
-ghost use Rattle.std.specs.Prelude.{◌≡◌, ◌<◌, ◌+◌, ◌*◌, ◌≤◌, All, IfOk, IfSome, OnOk, None, length, vec_len};
-ghost use Rattle.tx_run.specs.Outcomes.{TellsOutcomes, start_of};
-ghost use Rattle.tx_run.specs.Jobs.{IsAbove, AreFalling, AreFrom, HaveOwnSeats, Joins, ComesOf};
+ghost use Rattle.std.specs.Prelude.{◌≡◌, ◌<◌, ◌+◌, ◌*◌, ◌≤◌, All, IfOk, IfSome, OnOk, length, map, vec_len};
+ghost use Rattle.std.specs.List.{list_any};
+ghost use Rattle.tx_run.specs.Answers.{IsReply, has_fault};
+ghost use Rattle.tx_run.specs.Outcomes.{TellsOutcomes};
+ghost use Rattle.tx_run.specs.Jobs.{IsAbove, AreAnswered, AreFalling, AreFrom, AreGathered, HaveOwnSeats, Joins};
+ghost use Rattle.tx_run.specs.Jobs.{ComesOf, job_lines};
+ghost use Rattle.tx_run.specs.LineNumbers.{numbers_in};
 ghost use Rattle.tx_run.specs.Scripts.{IsWithin};
 ghost use Rattle.tx_run.specs.Pairs.{TellsPair};
 
@@ -9,8 +13,9 @@ use crate::job::ScriptJob;
 use crate::output::JobOutput;
 use crate::replies::Replies;
 use crate::reply::{LineAnswer, LineReply};
-use crate::script::{Script, ScriptLine, SessionLine};
+use crate::script::Script;
 use crate::seeds::play_seeds;
+use crate::session_line::{ScriptLine, SessionLine};
 use crate::settings::Settings;
 use std::alloc::Global;
 use std::marker::Brand;
@@ -62,7 +67,8 @@ fn jobs<J: JournalId, L: Source, F: Families + Drop, R: Wait + Clone + Drop>(
 ) -> Result<Vec<ScriptJob<J, L, F, R>>, Fault>
     requires seats { AreFrom (length J.bounds + 1) seats.items }
     requires few { vec_len sessions ≤ 256 }
-    ensures { IfOk result (λ jobs. HaveOwnSeats (length J.bounds + vec_len seats) jobs.items) }
+    ensures seats { IfOk result (λ jobs. HaveOwnSeats (length J.bounds + vec_len seats) jobs.items) }
+    ensures lines { IfOk result (λ jobs. map job_lines jobs.items ≡ numbers_in sessions.items) }
 {
     let mut jobs = Vec::with_capacity(alloc, sessions.len())?;
     let mut number: u32 = 0;
@@ -92,6 +98,7 @@ fn join<J: JournalId, L: Source>(
     ensures pairs { OnOk result (All (TellsPair L.text) replies.new) }
     ensures above { OnOk result (All (λ s. IsAbove seat.new.events output.log.seat s.answer) replies.new) }
     ensures joins { OnOk result (Joins seat.old.events replies.old output seat.new.events replies.new) }
+    ensures fault { IfOk result (λ fault. fault ≡ output.faulted) }
 {
     let JobOutput {
         number: _,
@@ -116,10 +123,11 @@ fn gather<J: JournalId, L: Source>(
     replies: &mut Replies,
 ) -> Result<bool, Broken>
     requires falling { AreFalling outputs.items }
-    requires none { All (λ s. start_of s.answer ≡ None) replies.old }
+    requires none { All (λ s. IsReply s.answer) replies.old }
     ensures told { OnOk result (TellsOutcomes seat.new.events replies.new) }
     ensures pairs { OnOk result (All (TellsPair L.text) replies.new) }
-    ensures comes { OnOk result (ComesOf seat.new.events replies.new) }
+    ensures comes { OnOk result (AreGathered seat.new.events replies.new outputs.items) }
+    ensures faulted { IfOk result (λ faulted. faulted ≡ list_any (λ o. o.faulted) outputs.items) }
 {
     let mut faulted = false;
     for output in outputs {
@@ -198,7 +206,8 @@ where
     R: Threads + Wait + Sync + Send + Clone + Drop,
     requires seats { AreFrom (length J.bounds + 1) seats.items }
     requires few { vec_len sessions ≤ 256 }
-    ensures { IfOk result (λ outputs. AreFalling outputs.items) }
+    ensures falling { IfOk result (λ outputs. AreFalling outputs.items) }
+    ensures answered { IfOk result (λ outputs. AreAnswered (numbers_in sessions.items) outputs.items) }
 {
     let jobs = jobs(rt, alloc, store, seats, sessions, settings.life_time)?;
     let outputs = run_sessions(rt, alloc, settings.workers, jobs, gate)?;
@@ -207,8 +216,8 @@ where
 
 // Adds the first line's reply, where it says the keys between regions.
 fn write_regions(replies: &mut Vec<LineReply>, regions: usize) -> Result<(), Broken>
-    requires { All (λ s. start_of s.answer ≡ None) replies.old.items }
-    ensures { OnOk result (All (λ s. start_of s.answer ≡ None) replies.new.items) }
+    requires { All (λ s. IsReply s.answer) replies.old.items }
+    ensures { OnOk result (All (λ s. IsReply s.answer) replies.new.items) }
 {
     if regions > 1 {
         replies.push(LineReply {
@@ -259,7 +268,9 @@ where
     requires few { vec_len script.sessions ≤ 256 }
     ensures told { IfOk result (λ played. TellsOutcomes played.seen.events played.replies) }
     ensures pairs { IfOk result (λ played. All (TellsPair L.text) played.replies) }
-    ensures comes { IfOk result (λ played. ComesOf played.seen.events played.replies) }
+    ensures comes { IfOk result
+        (λ played. ComesOf (numbers_in script.sessions.items) played.seen.events played.replies) }
+    ensures faulted { IfOk result (λ played. played.faulted ≡ has_fault played.replies) }
 {
     let Lines {
         regions,
@@ -276,7 +287,9 @@ where
     let mut seat = play_seeds(seat, &mut context, seeds.as_slice(), &mut first)?;
     let mut replies = Replies::new(alloc);
     replies.add(first)?;
-    let outputs = work(rt, alloc, settings, gate, &store, seats, sessions).map_err(memory)?;
+    let Ok(outputs) = work(rt, alloc, settings, gate, &store, seats, sessions) else {
+        return Err(Broken::Memory);
+    };
     let collected = count_collected(outputs.as_slice());
     let refusals = count_refusals(outputs.as_slice());
     let faulted = gather(outputs, &mut seat, &mut replies)?;
@@ -314,7 +327,9 @@ where
     requires { IsWithin script.bounds.items (vec_len script.sessions) }
     ensures told { IfOk result (λ played. TellsOutcomes played.seen.events played.replies) }
     ensures pairs { IfOk result (λ played. All (TellsPair L.text) played.replies) }
-    ensures comes { IfOk result (λ played. ComesOf played.seen.events played.replies) }
+    ensures comes { IfOk result
+        (λ played. ComesOf (numbers_in script.sessions.items) played.seen.events played.replies) }
+    ensures faulted { IfOk result (λ played. played.faulted ≡ has_fault played.replies) }
 {
     let Script {
         bounds,

@@ -3,7 +3,8 @@ ghost use Rattle.std.specs.Prelude.{◌≡◌, All, IfOk, IfSome, OnErr};
 ghost use Rattle.tx_run.specs.Faults.{IsFaultless};
 ghost use Rattle.tx_run.specs.Outcomes.{TellsOutcomes};
 ghost use Rattle.tx_run.specs.Pairs.{TellsPair};
-ghost use Rattle.tx_run.specs.Jobs.{ComesOf};
+ghost use Rattle.tx_run.specs.Answers.{has_fault};
+ghost use Rattle.tx_run.specs.Jobs.{ComesOfText};
 ghost use Rattle.tx_run.specs.Texts.{IsRunText, IsTextFrom, Writes, WritesPart, end_of};
 
 use crate::play::{RunResult, play_script};
@@ -41,7 +42,8 @@ where
     requires { L.text ≡ B.remaining reader.old }
     ensures told { IfOk result (λ r. IfSome r.1 (λ played. TellsOutcomes played.seen.events played.replies)) }
     ensures pairs { IfOk result (λ r. IfSome r.1 (λ played. All (TellsPair L.text) played.replies)) }
-    ensures comes { IfOk result (λ r. IfSome r.1 (λ played. ComesOf played.seen.events played.replies)) }
+    ensures comes { IfOk result (λ r. IfSome r.1 (λ played. ComesOfText L.text played.seen.events played.replies)) }
+    ensures faulted { IfOk result (λ r. IfSome r.1 (λ played. played.faulted ≡ has_fault played.replies)) }
     ensures wrote { IfOk result (λ r. Writes (W.contents writer.old) (W.contents writer.new) (IsRunText L.text r.1)) }
     ensures ends { IfOk result (λ r. r.0 ≡ end_of r.1) }
     ensures whole { IfOk result (λ r. IfSome r.1 (λ played. IsFaultless L.text)) }
@@ -71,9 +73,11 @@ where
 /// sum of all balances. The first fault of the form of a line, or a 257th session, is told alone,
 /// and nothing is played. `make` gives each region its families.
 ///
-/// It hands back what was played, where the script was played: each outcome that a line is told was
-/// answered in what all sessions had seen, no two are of one transaction, and the transaction of a
-/// transfer that was committed or aborted declared changes of just the two keys that its line says.
+/// It hands back what was played, where the script was played: each session has answers of the lines
+/// that the text says are its own, in their order, up to a fault; each outcome that a line is told
+/// was answered in what all sessions had seen, no two are of one transaction, and the transaction of
+/// a transfer that was committed or aborted declared changes of just the two keys that its line
+/// says.
 pub fn run_script<F, M, G, R, B, W>(
     rt: &R,
     alloc: Global,
@@ -92,7 +96,9 @@ where
     W: Write,
     ensures told { IfOk result (λ r. IfSome r.1 (λ played. TellsOutcomes played.seen.events played.replies)) }
     ensures pairs { IfOk result (λ r. IfSome r.1 (λ played. All (TellsPair (B.remaining reader.old)) played.replies)) }
-    ensures comes { IfOk result (λ r. IfSome r.1 (λ played. ComesOf played.seen.events played.replies)) }
+    ensures comes { IfOk result
+        (λ r. IfSome r.1 (λ played. ComesOfText (B.remaining reader.old) played.seen.events played.replies)) }
+    ensures faulted { IfOk result (λ r. IfSome r.1 (λ played. played.faulted ≡ has_fault played.replies)) }
     ensures wrote { IfOk result
         (λ r. Writes (W.contents writer.old) (W.contents writer.new) (IsRunText (B.remaining reader.old) r.1)) }
     ensures ends { IfOk result (λ r. r.0 ≡ end_of r.1) }

@@ -1,66 +1,25 @@
 //! A script of a run, read whole: its regions, its seeds, and the lines of each session.
-ghost use Rattle.std.specs.Prelude.{◌≡◌, ◌+◌, ◌≤◌, IfErr, IfOk, OnOk, vec_len};
+ghost use Rattle.std.specs.Prelude.{◌≡◌, ℕ, ◌+◌, ◌<◌, ◌≤◌, List, [], ◌∷◌, ◌++◌, map, set, get_or, bytes_eq};
+ghost use Rattle.std.specs.Prelude.{Some, option_map, if◌then◌else◌, IfErr, IfOk, OnOk, vec_len};
+ghost use Rattle.std.specs.BTreeMap.{get_by_text};
 ghost use Rattle.tx_run.specs.Scripts.{IsWithin};
 ghost use Rattle.tx_steps.specs.Lines.{data_of};
 ghost use Rattle.tx_steps.specs.Steps.{asked, IsApart};
 ghost use Rattle.tx_run.specs.Faults.{IsFaultless, IsTooMany, Takes, TellsFault, opens};
+ghost use Rattle.tx_run.specs.LineNumbers.{number_of, numbers_in};
+ghost use Rattle.tx_run.specs.Reading.{KeepsText, name_in, step_of};
+ghost use Rattle.tx_run.specs.Readers.{HasSession, HasSorted};
 ghost use Rattle.tx_transfer.specs.Sources.{HasLine, HasPair, pair_of};
-ghost use Rattle.std.proofs.Props.{props};
 
+use crate::session_line::{ScriptLine, SessionLine};
 use std::alloc::{AllocError, Global};
 use std::collections::BTreeMap;
 use std::io::BufRead;
-use std::marker::PhantomData;
-use tx_client::Phase;
-use tx_steps::{Call, Line, Op, Program, Step};
+use tx_steps::{Line, Program, Step};
 use tx_text::{Broken, Found, Parts, read_line};
 use tx_transfer::{Order, Source};
 use tx_types::limits::MAX_LIVE_SESSIONS;
 use tx_types::{Cause, Key, is_name};
-
-/// Which latches a line asks for.
-#[derive(Clone, Copy, Debug, PartialEq, Eq)]
-pub(crate) enum LatchNeed {
-    /// It changes nothing in the store.
-    Nothing,
-    /// That of the key which its session's next request of a phase is of.
-    Due(Phase),
-    /// That of its session's primary.
-    Primary,
-    /// Those of the lock that last stood in its session's way.
-    Met,
-}
-
-/// A line that says a step, with its number. Where the text of the script is known,
-/// it has this line.
-#[derive(Drop)]
-pub(crate) struct ScriptLine<L: Source> {
-    pub number: u64,
-    pub latches: LatchNeed,
-    pub text: Vec<u8>,
-    of: PhantomData<L>,
-    ghost line: { HasLine L.text number text.items } by { Prim.hlevel props },
-}
-
-/// A line of a session.
-#[derive(Drop)]
-pub(crate) enum SessionLine<L: Source> {
-    /// A transfer, of a session whose name is one.
-    Transfer(Box<Order<L>>),
-    /// Any other, which is read again when it is played. It lies apart too, so that a list of
-    /// transfers is small.
-    Line(Box<ScriptLine<L>>),
-}
-
-impl<L: Source> SessionLine<L> {
-    /// Which latches its step asks for. Those of a transfer's requests come later.
-    pub fn latches(&self) -> LatchNeed {
-        match self {
-            SessionLine::Transfer(_) => LatchNeed::Nothing,
-            SessionLine::Line(line) => line.latches,
-        }
-    }
-}
 
 /// A script.
 #[derive(Drop)]
@@ -82,42 +41,14 @@ struct ScriptReader<L: Source> {
 }
 
 // The name of the session of a step; none of a seed's.
-fn name_of<'a>(step: Step<&'a str>) -> Option<&'a str> {
+fn name_of<'a>(step: Step<&'a str>) -> Option<&'a str>
+    ensures { option_map (λ name. name.now) result ≡ name_in (asked step.entry) }
+{
     match step {
         Step::Begin(name) | Step::Act(name, _) | Step::Send(name, _, _) | Step::Transfer(name, _) =>
             Some(name),
         _ => None,
     }
-}
-
-// The latches that a step asks for. Those of a transfer change on its way.
-fn latches_of(step: Step<&str>) -> LatchNeed {
-    match step {
-        Step::Send(_, Call::Prewrite, _) => LatchNeed::Due(Phase::Prewrite),
-        Step::Send(_, Call::Commit, _) => LatchNeed::Due(Phase::Commit),
-        Step::Send(_, Call::Abort, _) => LatchNeed::Due(Phase::Abort),
-        Step::Send(_, Call::Heartbeat(_), _) => LatchNeed::Primary,
-        Step::Act(_, Op::Resolve(_)) => LatchNeed::Met,
-        _ => LatchNeed::Nothing,
-    }
-}
-
-// The line of this number, which says a step.
-fn script_line<L: Source>(
-    alloc: Global,
-    number: u64,
-    text: &[u8],
-    step: Step<&str>,
-) -> Result<ScriptLine<L>, AllocError>
-    requires { HasLine L.text number text.now }
-{
-    let latches = latches_of(step);
-    Ok(ScriptLine {
-        number,
-        latches,
-        text: Vec::from_slice(alloc, text)?,
-        of: PhantomData,
-    })
 }
 
 // A line of a session, under its number. A transfer that is refused a key or memory is read again
@@ -131,6 +62,7 @@ fn session_line<L: Source>(
     requires line { HasLine L.text number text.now }
     requires apart { IsApart (asked step) }
     requires pair { HasPair L.text number (pair_of (asked step)) }
+    ensures { IfOk result (λ line. number_of line ≡ number) }
 {
     if let Step::Transfer(name, transfer) = step {
         if is_name(name) {
@@ -139,14 +71,32 @@ fn session_line<L: Source>(
             }
         }
     }
-    let line = script_line(alloc, number, text, step)?;
+    let line = ScriptLine::new(alloc, number, text, step)?;
     Ok(SessionLine::Line(Box::new(alloc, line)?))
+}
+
+// Adds a line to the session of this index, where there is one.
+fn add_line<L: Source>(
+    sessions: &mut Vec<Vec<SessionLine<L>>>,
+    index: usize,
+    line: SessionLine<L>,
+) -> Result<(), Broken>
+    ensures count { OnOk result (vec_len sessions.new ≡ vec_len sessions.old) }
+    ensures added { OnOk result (index < vec_len sessions.old → numbers_in sessions.new.items
+        ≡ set (numbers_in sessions.old.items) index
+        (get_or (numbers_in sessions.old.items) index [] ++ number_of line ∷ [])) }
+{
+    if let Some(lines) = sessions.get_mut(index) {
+        lines.push(line)?;
+    }
+    Ok(())
 }
 
 impl<L: Source> ScriptReader<L> {
     fn new(alloc: Global) -> ScriptReader<L>
         ensures within { IsWithin result.script.bounds.items (vec_len result.script.sessions) }
         ensures none { vec_len result.script.sessions ≡ 0 }
+        ensures sorted { HasSorted L.text 1 result }
     {
         ScriptReader {
             alloc,
@@ -171,50 +121,56 @@ impl<L: Source> ScriptReader<L> {
         script
     }
 
-    // The index of the session of this name, which is made where it is the first line of it.
-    // `Sessions` where there are too many.
-    fn index_of(&mut self, name: &str) -> Result<Result<usize, Cause>, Broken>
-        requires { IsWithin self.old.script.bounds.items (vec_len self.old.script.sessions) }
-        ensures within { OnOk result (IsWithin self.new.script.bounds.items (vec_len self.new.script.sessions)) }
-        ensures one { OnOk result (vec_len self.new.script.sessions ≤ vec_len self.old.script.sessions + 1) }
-        ensures many { IfOk result (λ found. IfErr found (IsTooMany (vec_len self.old.script.sessions))) }
+    // Begins the session of this name with its first line.
+    fn begin(&mut self, name: &str, line: SessionLine<L>) -> Result<(), Broken>
+        ensures bounds { OnOk result (self.new.script.bounds ≡ self.old.script.bounds) }
+        ensures seeds { OnOk result (self.new.script.seeds ≡ self.old.script.seeds) }
+        ensures count { OnOk result (vec_len self.new.script.sessions ≡ vec_len self.old.script.sessions + 1) }
+        ensures sessions { OnOk result (numbers_in self.new.script.sessions.items
+            ≡ numbers_in self.old.script.sessions.items ++ (number_of line ∷ []) ∷ []) }
+        ensures indexes { OnOk result ((q : List ℕ) → get_by_text self.new.indexes q
+            ≡ (if bytes_eq name.now q then Some (vec_len self.old.script.sessions)
+            else get_by_text self.old.indexes q)) }
     {
-        if let Some(index) = self.indexes.get(name) {
-            return Ok(Ok(*index));
-        }
         let index = self.script.sessions.len();
-        if index >= MAX_LIVE_SESSIONS {
-            return Ok(Err(Cause::Sessions));
-        }
-        self.script.sessions.push(Vec::new(self.alloc))?;
+        let mut lines = Vec::new(self.alloc);
+        lines.push(line)?;
+        self.script.sessions.push(lines)?;
         let name = String::from_str(self.alloc, name)?;
         self.indexes.insert(name, index)?;
-        Ok(Ok(index))
+        Ok(())
     }
 
-    // Enters a line of the session of this name.
+    // Enters a line of the session of this name, which it begins where it is the first. `Sessions`
+    // where there are too many.
     fn enter(&mut self, line: SessionLine<L>, name: &str) -> Result<Result<(), Cause>, Broken>
-        requires { IsWithin self.old.script.bounds.items (vec_len self.old.script.sessions) }
+        requires within { IsWithin self.old.script.bounds.items (vec_len self.old.script.sessions) }
+        requires some { 0 < number_of line }
+        requires named { HasSession L.text (number_of line) name.now }
+        requires sorted { HasSorted L.text (number_of line) self.old }
         ensures within { OnOk result (IsWithin self.new.script.bounds.items (vec_len self.new.script.sessions)) }
         ensures one { OnOk result (vec_len self.new.script.sessions ≤ vec_len self.old.script.sessions + 1) }
         ensures many { IfOk result (λ entered. IfErr entered (IsTooMany (vec_len self.old.script.sessions))) }
+        ensures sorted { IfOk result (λ entered. OnOk entered (HasSorted L.text (number_of line + 1) self.new)) }
     {
-        match self.index_of(name)? {
-            Ok(index) => {
-                if let Some(lines) = self.script.sessions.get_mut(index) {
-                    lines.push(line)?;
-                }
-                Ok(Ok(()))
-            }
-            Err(cause) => Ok(Err(cause)),
+        if let Some(index) = self.indexes.get(name) {
+            add_line(&mut self.script.sessions, *index, line)?;
+            return Ok(Ok(()));
         }
+        if self.script.sessions.len() >= MAX_LIVE_SESSIONS {
+            return Ok(Err(Cause::Sessions));
+        }
+        self.begin(name, line)?;
+        Ok(Ok(()))
     }
 
     // Takes the keys between the regions from line 1, where it says some.
     fn opens(&mut self, number: u64, line: &Line<'_, '_>) -> Result<bool, Broken>
         requires { IsWithin self.old.script.bounds.items (vec_len self.old.script.sessions) }
         ensures within { OnOk result (IsWithin self.new.script.bounds.items (vec_len self.new.script.sessions)) }
-        ensures same { OnOk result (vec_len self.new.script.sessions ≡ vec_len self.old.script.sessions) }
+        ensures sessions { OnOk result (self.new.script.sessions ≡ self.old.script.sessions) }
+        ensures seeds { OnOk result (self.new.script.seeds ≡ self.old.script.seeds) }
+        ensures indexes { OnOk result (self.new.indexes ≡ self.old.indexes) }
         ensures said { IfOk result (λ said. said ≡ opens number (data_of line.now)) }
     {
         if number != 1 {
@@ -241,9 +197,13 @@ impl<L: Source> ScriptReader<L> {
         requires line { HasLine L.text number text.now }
         requires apart { IsApart (asked step) }
         requires pair { HasPair L.text number (pair_of (asked step)) }
+        requires some { 0 < number }
+        requires said { step_of number text.now ≡ Some (asked step) }
+        requires sorted { HasSorted L.text number self.old }
         ensures within { OnOk result (IsWithin self.new.script.bounds.items (vec_len self.new.script.sessions)) }
         ensures one { OnOk result (vec_len self.new.script.sessions ≤ vec_len self.old.script.sessions + 1) }
         ensures many { IfOk result (λ put. IfErr put (IsTooMany (vec_len self.old.script.sessions))) }
+        ensures sorted { IfOk result (λ put. OnOk put (HasSorted L.text (number + 1) self.new)) }
     {
         match name_of(step) {
             Some(name) => {
@@ -251,7 +211,7 @@ impl<L: Source> ScriptReader<L> {
                 self.enter(line, name)
             }
             None => {
-                let line = script_line(self.alloc, number, text, step)?;
+                let line = ScriptLine::new(self.alloc, number, text, step)?;
                 self.script.seeds.push(line)?;
                 Ok(Ok(()))
             }
@@ -262,8 +222,11 @@ impl<L: Source> ScriptReader<L> {
     fn take(&mut self, number: u64, text: &[u8]) -> Result<Result<(), Cause>, Broken>
         requires within { IsWithin self.old.script.bounds.items (vec_len self.old.script.sessions) }
         requires line { HasLine L.text number text.now }
+        requires some { 0 < number }
+        requires sorted { HasSorted L.text number self.old }
         ensures within { OnOk result (IsWithin self.new.script.bounds.items (vec_len self.new.script.sessions)) }
         ensures one { OnOk result (vec_len self.new.script.sessions ≤ vec_len self.old.script.sessions + 1) }
+        ensures sorted { IfOk result (λ taken. OnOk taken (HasSorted L.text (number + 1) self.new)) }
         ensures takes { IfOk result (λ taken. Takes number text.now (vec_len self.old.script.sessions) taken) }
     {
         let mut parts = Parts::new();
@@ -282,7 +245,8 @@ impl<L: Source> ScriptReader<L> {
 }
 
 /// Reads a script to its end, within the limits. A fault comes with the number of its line, which
-/// is the first that has one. A script that is handed out has none.
+/// is the first that has one. A script that is handed out has none, and has each line that says a
+/// step: in the session of its name, or among the seeds.
 pub(crate) fn read_script<L: Source, B: BufRead>(
     alloc: Global,
     reader: &mut B,
@@ -290,6 +254,8 @@ pub(crate) fn read_script<L: Source, B: BufRead>(
     requires { L.text ≡ B.remaining reader.old }
     ensures within { IfOk result (λ read. IfOk read (λ s. IsWithin s.bounds.items (vec_len s.sessions))) }
     ensures whole { IfOk result (λ read. IfOk read (λ script. IsFaultless L.text)) }
+    ensures kept { IfOk result (λ read. IfOk read (λ script. KeepsText L.text (numbers_in script.sessions.items)
+        (map (λ seed. seed.number) script.seeds.items))) }
     ensures fault { IfOk result (λ read. IfErr read (λ e. TellsFault L.text e.0 e.1)) }
 {
     let mut reading = ScriptReader::<L>::new(alloc);

@@ -1,9 +1,9 @@
 //! The seeds of a run, in the order of their lines.
-ghost use Rattle.std.specs.Prelude.{◌≡◌, All, None, OnOk};
-ghost use Rattle.tx_run.specs.Outcomes.{start_of};
+ghost use Rattle.std.specs.Prelude.{All, OnOk};
+ghost use Rattle.tx_run.specs.Answers.{IsReply};
 
 use crate::reply::{LineAnswer, LineReply};
-use crate::script::ScriptLine;
+use crate::session_line::ScriptLine;
 use std::sync::Wait;
 use tx_cells::Families;
 use tx_journal::{JournalId, Seat};
@@ -40,8 +40,8 @@ pub(crate) fn play_seeds<J: JournalId, L: Source, F: Families + Drop, R: Wait + 
     seeds: &[ScriptLine<L>],
     replies: &mut Vec<LineReply>,
 ) -> Result<Seat<J>, Broken>
-    requires { All (λ s. start_of s.answer ≡ None) replies.old.items }
-    ensures { OnOk result (All (λ s. start_of s.answer ≡ None) replies.new.items) }
+    requires { All (λ s. IsReply s.answer) replies.old.items }
+    ensures { OnOk result (All (λ s. IsReply s.answer) replies.new.items) }
 {
     for line in seeds {
         let (next, plain) = play(seat, context, line);

@@ -42,11 +42,16 @@ use Rattle.tx_simple.specs.Updates.{IsWithoutEffect, AnswersNoEffect, GoesWithou
 -- others act
 extends_without : (i : ℕ) (l h : History) → Extends i l h → GoesWithoutEffect i l h
 extends_without i l [] g = g
-extends_without i l (e ∷ h) g = elim g [ inl same ↦ inl same | inr more ↦ inr (extends_without i l h more.0, inl more.1) ]
+extends_without i l (e ∷ h) g =
+    elim g [ inl same ↦ inl same | inr more ↦ inr (extends_without i l h more.0, inl more.1) ]
 
 without_more : (i : ℕ) (l m h : History) → GoesWithoutEffect i l m → GoesWithoutEffect i m h → GoesWithoutEffect i l h
 without_more i l m [] p q = subst (λ x. GoesWithoutEffect i l x) q p
-without_more i l m (e ∷ h) p q = elim q [ inl same ↦ subst (λ x. GoesWithoutEffect i l x) same p | inr more ↦ inr (without_more i l m h p more.0, more.1) ]
+without_more i l m (e ∷ h) p q =
+    elim q [
+      | inl same ↦ subst (λ x. GoesWithoutEffect i l x) same p
+      | inr more ↦ inr (without_more i l m h p more.0, more.1)
+    ]
 
 pub without_begins : (i : ℕ) (l h : History) → GoesWithoutEffect i l h → Begins l h
 without_begins i l [] g = g
@@ -57,7 +62,8 @@ module _ (bounds : List Key) (i : ℕ) (l h : History) where
   seen_without s = extends_without i l h s.extends
 
   recorded_without : (e : Event) → HasRecorded bounds i l e h → AnswersNoEffect e → GoesWithoutEffect i l h
-  recorded_without e r quiet = subst (GoesWithoutEffect i l) (sym r.is) (inr (extends_without i l r.before r.extends, inr quiet))
+  recorded_without e r quiet =
+      subst (GoesWithoutEffect i l) (sym r.is) (inr (extends_without i l r.before r.extends, inr quiet))
 
   drawn_without : (ticks ts : ℕ) → HasDrawn bounds i l ticks ts h → GoesWithoutEffect i l h
   drawn_without ticks ts d = recorded_without (Drawn i ts) (drawn_recorded bounds i l h ticks ts d) tt
@@ -73,7 +79,8 @@ goes_same k new same = subst (λ (z : Known). GoesOn k z) (sym same) (goes_itsel
 pub goes_more : (a b c : Known) → GoesOn a b → GoesOn b c → GoesOn a c
 goes_more a b c p q = record {
   number = q.number ∙ p.number;
-  knows = without_more a.seat a.events b.events c.events p.knows (subst (λ (i : ℕ). GoesWithoutEffect i b.events c.events) p.number q.knows);
+  knows = without_more a.seat a.events b.events c.events p.knows
+      (subst (λ (i : ℕ). GoesWithoutEffect i b.events c.events) p.number q.knows);
 }
 
 pub goes_begins : (old new : Known) → GoesOn old new → Begins old.events new.events
@@ -82,39 +89,56 @@ goes_begins old new g = without_begins old.seat old.events new.events g.knows
 module _ (bounds : List Key) where
   learnt : (k new : Known) (reached : Reached) → Learns bounds k reached new → GoesOn k new
   learnt k new (Err l) same = goes_same k new same
-  learnt k new (Ok g) (number, ticks, seen, told, given) = record { number = number; knows = seen_without bounds k.seat k.events new.events seen }
+  learnt k new (Ok g) (number, ticks, seen, told, given) =
+      record { number = number; knows = seen_without bounds k.seat k.events new.events seen }
 
   pub heard_goes : (old new : Known) (told : History) → HasHeard bounds old told new → GoesOn old new
-  heard_goes old new told h = record { number = h.number; knows = seen_without bounds old.seat old.events new.events h.seen }
+  heard_goes old new told h =
+      record { number = h.number; knows = seen_without bounds old.seat old.events new.events h.seen }
 
   pub began_goes : (old new : Known) (start : ℕ) → BeganAt bounds old start new → GoesOn old new
   began_goes old new start b = record {
     number = b.number;
-    knows = without_more old.seat old.events b.mid new.events (drawn_without bounds old.seat old.events b.mid 1 start b.drew) (recorded_without bounds old.seat b.mid new.events (Began start) b.began tt);
+    knows = without_more old.seat old.events b.mid new.events
+        (drawn_without bounds old.seat old.events b.mid 1 start b.drew)
+        (recorded_without bounds old.seat b.mid new.events (Began start) b.began tt);
   }
 
   pub draws_goes : (old new : Known) (c : ℕ) → Draws bounds old c new → GoesOn old new
-  draws_goes old new c d = record { number = d.number; knows = drawn_without bounds old.seat old.events new.events 1 c d.drawn }
+  draws_goes old new c d =
+      record { number = d.number; knows = drawn_without bounds old.seat old.events new.events 1 c d.drawn }
 
   pub declares_goes : (old new : Known) (o : Option Declaration) → RecordsDeclared bounds old o new → GoesOn old new
   declares_goes old new None same = goes_same old new same
   declares_goes old new (Some d) w = record {
     number = w.number;
-    knows = without_more old.seat old.events w.mid new.events (drawn_without bounds old.seat old.events w.mid 1 d.drawn w.drew) (recorded_without bounds old.seat w.mid new.events (Declared d) w.recorded tt);
+    knows = without_more old.seat old.events w.mid new.events
+        (drawn_without bounds old.seat old.events w.mid 1 d.drawn w.drew)
+        (recorded_without bounds old.seat w.mid new.events (Declared d) w.recorded tt);
   }
 
   -- what was without effect has ended
-  pub ends_go : (old new : Known) (start : ℕ) (o : Outcome) → Ends bounds old start o new → IsWithoutEffect o → GoesOn old new
-  ends_go old new start o e none = goes_more old e.session.seat new e.seat (record { number = e.recorded.number; knows = recorded_without bounds e.session.seat.seat e.session.seat.events new.events (Answered start o) e.recorded.recorded none })
+  pub ends_go : (old new : Known) (start : ℕ) (o : Outcome) → Ends bounds old start o new → IsWithoutEffect o
+      → GoesOn old new
+  ends_go old new start o e none =
+      goes_more old e.session.seat new e.seat
+      (record {
+        number = e.recorded.number;
+        knows =
+            recorded_without bounds e.session.seat.seat e.session.seat.events new.events (Answered start o)
+            e.recorded.recorded none;
+      })
 
 module _ {S : Type 0} (sends : S → Asked → Reached → S → Type 0) (bounds : List Key) where
   -- who sends goes on
-  pub sent_goes : {R : Type 0} (w : Walk R) (k new : Known) (from to : S) (r : R) → Sends sends bounds k from w r to new → GoesOn k new
+  pub sent_goes : {R : Type 0} (w : Walk R) (k new : Known) (from to : S) (r : R) → Sends sends bounds k from w r to new
+      → GoesOn k new
   sent_goes (ends x) k new from to r (is, same, at) = goes_same k new at
   sent_goes (grows more short) k new from to r (inl sent) = sent_goes short k new from to r sent
   sent_goes (grows more short) k new from to r (inr sent) = sent_goes more k new from to r sent
   sent_goes (asks body more) k new from to r (reached, mid, now, sent, learns, rest) =
-      goes_more k now new (learnt bounds k now reached learns) (sent_goes (more (response_of reached)) now new mid to r rest)
+      goes_more k now new (learnt bounds k now reached learns)
+      (sent_goes (more (response_of reached)) now new mid to r rest)
 
 -- ---- where a walk ends
 
@@ -125,7 +149,8 @@ EndsIn P (grows more short) = EndsIn P more × EndsIn P short
 EndsIn P (ends r) = P r
 
 module _ {S : Type 0} (sends : S → Asked → Reached → S → Type 0) (bounds : List Key) where
-  sent_ends : {R : Type 0} (P : R → Type 0) (w : Walk R) (k new : Known) (from to : S) (r : R) → EndsIn P w → Sends sends bounds k from w r to new → P r
+  sent_ends : {R : Type 0} (P : R → Type 0) (w : Walk R) (k new : Known) (from to : S) (r : R) → EndsIn P w
+      → Sends sends bounds k from w r to new → P r
   sent_ends P (ends x) k new from to r all (is, same, at) = subst P (sym is) all
   sent_ends P (grows more short) k new from to r all (inl sent) = sent_ends P short k new from to r all.1 sent
   sent_ends P (grows more short) k new from to r all (inr sent) = sent_ends P more k new from to r all.0 sent
@@ -148,7 +173,8 @@ stays_response s x i Lost = record { start = refl; declared = refl; placed = ref
 stays_response s x i OutOfMemory = record { start = refl; declared = refl; placed = refl }
 stays_response s x i (Answered a) = record { start = refl; declared = refl; placed = refl }
 
-stays_due : (s : SessionState) (x : Phase) (due : Option Due) → EndsIn (λ (r : SessionState × Result (Option Answer) Miss). Stays s r.0) (due_walk s x due)
+stays_due : (s : SessionState) (x : Phase) (due : Option Due)
+    → EndsIn (λ (r : SessionState × Result (Option Answer) Miss). Stays s r.0) (due_walk s x due)
 stays_due s x None = stays_itself s
 stays_due s x (Some due) = ((λ c. stays_response s x due.index c), stays_itself s)
 
@@ -163,11 +189,17 @@ reads_itself s = record { stays = stays_itself s; buffer = refl }
 reads_response : (s : SessionState) (c : Response) → Reads s (after_read s c)
 reads_response s Lost = reads_itself s
 reads_response s OutOfMemory = reads_itself s
-reads_response s (Answered a) = record { stays = record { start = refl; declared = refl; placed = refl }; buffer = refl }
+reads_response s (Answered a) =
+    record { stays = record { start = refl; declared = refl; placed = refl }; buffer = refl }
 
 reads_more : (a b c : SessionState) → Reads a b → Reads b c → Reads a c
 reads_more a b c p q = record {
-  stays = record { start = q.stays.start ∙ p.stays.start; declared = q.stays.declared ∙ p.stays.declared; placed = q.stays.placed ∙ p.stays.placed };
+  stays = record {
+    start = q.stays.start ∙ p.stays.start;
+    declared = q.stays.declared ∙ p.stays.declared;
+    placed =
+        q.stays.placed ∙ p.stays.placed;
+  };
   buffer = q.buffer ∙ p.buffer;
 }
 
@@ -188,26 +220,37 @@ OnRows = SessionState → List KeyValue → Walk (SessionState × Result Answer 
 abbrev KeepsRead : SessionState → OnRows → Type 0
 KeepsRead s on = (t : SessionState) (rows : List KeyValue) → Reads s t → EndsIn (HasRead s) (on t rows)
 
-reads_after : (s t : SessionState) (limit : ℕ) (rows : List KeyValue) (r : Result Answer Miss) (on : OnRows) → KeepsRead s on → Reads s t → EndsIn (HasRead s) (scan_after t (part_by limit rows r) on)
+reads_after : (s t : SessionState) (limit : ℕ) (rows : List KeyValue) (r : Result Answer Miss) (on : OnRows)
+    → KeepsRead s on → Reads s t → EndsIn (HasRead s) (scan_after t (part_by limit rows r) on)
 reads_after s t limit rows (Ok (Rows found)) on keeps is = by (nat_lt (length (rows ++ found)) limit) refl
   where
-    by : (b : Bool) → nat_lt (length (rows ++ found)) limit ≡ b → EndsIn (HasRead s) (scan_after t (enough limit (rows ++ found)) on)
+    by : (b : Bool) → nat_lt (length (rows ++ found)) limit ≡ b
+        → EndsIn (HasRead s) (scan_after t (enough limit (rows ++ found)) on)
     by true e = rw e (keeps t (rows ++ found) is)
     by false e = rw e is
 reads_after s t limit rows (Ok _) on keeps is = is
 reads_after s t limit rows (Err why) on keeps is = is
 
-reads_part : (s t : SessionState) (low high : Key) (limit : ℕ) (rows : List KeyValue) (on : OnRows) → KeepsRead s on → Reads s t → EndsIn (HasRead s) (then_walk (part_walk t low high limit rows) (λ x. scan_after x.0 x.1 on))
+reads_part : (s t : SessionState) (low high : Key) (limit : ℕ) (rows : List KeyValue) (on : OnRows) → KeepsRead s on
+    → Reads s t → EndsIn (HasRead s) (then_walk (part_walk t low high limit rows) (λ x. scan_after x.0 x.1 on))
 reads_part s t low high limit rows on keeps is = by (key_lt low high) refl
   where
-    by : (b : Bool) → key_lt low high ≡ b → EndsIn (HasRead s) (then_walk (part_walk t low high limit rows) (λ x. scan_after x.0 x.1 on))
-    by true e = rw e ((λ c. reads_after s (after_read t c) limit rows (read c) on keeps (reads_more s t (after_read t c) is (reads_response t c))), is)
+    by : (b : Bool) → key_lt low high ≡ b
+        → EndsIn (HasRead s) (then_walk (part_walk t low high limit rows) (λ x. scan_after x.0 x.1 on))
+    by true e = rw e (
+      (λ c. reads_after s (after_read t c) limit rows (read c) on keeps
+          (reads_more s t (after_read t c) is (reads_response t c))),
+      is,
+    )
     by false e = rw e (keeps t rows is, is)
 
-reads_scan : (s : SessionState) (from to : Key) (limit : ℕ) (low : Key) (bounds : List Key) → KeepsRead s (scan_from from to limit low bounds)
-reads_scan s from to limit low [] t rows is = reads_part s t (greater from low) to limit rows (λ u all. ends (u, Ok (Rows all))) (λ u all keeps. keeps) is
+reads_scan : (s : SessionState) (from to : Key) (limit : ℕ) (low : Key) (bounds : List Key)
+    → KeepsRead s (scan_from from to limit low bounds)
+reads_scan s from to limit low [] t rows is =
+    reads_part s t (greater from low) to limit rows (λ u all. ends (u, Ok (Rows all))) (λ u all keeps. keeps) is
 reads_scan s from to limit low (bound ∷ bounds) t rows is =
-    reads_part s t (greater from low) (lesser to bound) limit rows (scan_from from to limit bound bounds) (reads_scan s from to limit bound bounds) is
+    reads_part s t (greater from low) (lesser to bound) limit rows (scan_from from to limit bound bounds)
+    (reads_scan s from to limit bound bounds) is
 
 pub follows_itself : (s : Seated) → Follows s s
 follows_itself s = record { seat = goes_itself s.seat; start = refl; declared = refl; placed = refl }
@@ -225,50 +268,109 @@ follows_more a b c p q = record {
 
 module _ {S : Type 0} (sends : S → Asked → Reached → S → Type 0) (bounds : List Key) where
   -- the request of a phase is sent
-  pub follows_due : (old new : Seated) (from to : S) (x : Phase) (due : Option Due) (r : Result (Option Answer) Miss) → Sends sends bounds old.seat from (due_walk old.state x due) (new.state, r) to new.seat → Follows old new
+  pub follows_due : (old new : Seated) (from to : S) (x : Phase) (due : Option Due) (r : Result (Option Answer) Miss)
+      → Sends sends bounds old.seat from (due_walk old.state x due) (new.state, r) to new.seat → Follows old new
   follows_due old new from to x due r sent =
       let w = due_walk old.state x due in
-      let stays = sent_ends sends bounds (λ (y : SessionState × Result (Option Answer) Miss). Stays old.state y.0) w old.seat new.seat from to (new.state, r) (stays_due old.state x due) sent in
-      record { seat = sent_goes sends bounds w old.seat new.seat from to (new.state, r) sent; start = stays.start; declared = stays.declared; placed = stays.placed }
+      let stays = sent_ends sends bounds (λ (y : SessionState × Result (Option Answer) Miss). Stays old.state y.0) w
+      old.seat new.seat from to (new.state, r) (stays_due old.state x due) sent in
+      record {
+        seat = sent_goes sends bounds w old.seat new.seat from to (new.state, r) sent;
+        start =
+            stays.start;
+        declared = stays.declared;
+        placed = stays.placed;
+      }
 
-  read_follows : (old new : Seated) (from to : S) (w : Walk (SessionState × Result Answer Miss)) (r : Result Answer Miss) → EndsIn (HasRead old.state) w → Sends sends bounds old.seat from w (new.state, r) to new.seat → Follows old new × (new.state.buffer ≡ old.state.buffer)
+  read_follows : (old new : Seated) (from to : S) (w : Walk (SessionState × Result Answer Miss)) (r :
+      Result Answer Miss) → EndsIn (HasRead old.state) w → Sends sends bounds old.seat from w (new.state, r) to new.seat
+      → Follows old new × (new.state.buffer ≡ old.state.buffer)
   read_follows old new from to w r all sent =
-      let reads = sent_ends sends bounds (HasRead old.state) w old.seat new.seat from to (new.state, r) all sent in
-      (record { seat = sent_goes sends bounds w old.seat new.seat from to (new.state, r) sent; start = reads.stays.start; declared = reads.stays.declared; placed = reads.stays.placed }, reads.buffer)
+      let reads = sent_ends sends bounds (HasRead old.state) w old.seat new.seat from to (new.state, r) all sent in (
+        record {
+          seat = sent_goes sends bounds w old.seat new.seat from to (new.state, r) sent;
+          start =
+              reads.stays.start;
+          declared = reads.stays.declared;
+          placed = reads.stays.placed;
+        },
+        reads.buffer,
+      )
 
   -- a key is read
-  pub follows_get : (old new : Seated) (from to : S) (key : Key) (r : Result Answer Miss) → Sends sends bounds old.seat from (get_walk old.state key) (new.state, r) to new.seat → Follows old new × (new.state.buffer ≡ old.state.buffer)
-  follows_get old new from to key r sent = read_follows old new from to (get_walk old.state key) r (reads_by old.state key (buffered old.state.buffer key)) sent
+  pub follows_get : (old new : Seated) (from to : S) (key : Key) (r : Result Answer Miss)
+      → Sends sends bounds old.seat from (get_walk old.state key) (new.state, r) to new.seat
+      → Follows old new × (new.state.buffer ≡ old.state.buffer)
+  follows_get old new from to key r sent =
+      read_follows old new from to (get_walk old.state key) r (reads_by old.state key (buffered old.state.buffer key))
+      sent
 
   -- a range is read
-  pub follows_scan : (old new : Seated) (from to : S) (low high : Key) (limit : ℕ) (r : Result Answer Miss) → Sends sends bounds old.seat from (scan_walk old.state bounds low high limit) (new.state, r) to new.seat → Follows old new × (new.state.buffer ≡ old.state.buffer)
-  follows_scan old new from to low high limit r sent = read_follows old new from to (scan_walk old.state bounds low high limit) r (reads_scan old.state low high limit low bounds old.state [] (reads_itself old.state)) sent
+  pub follows_scan : (old new : Seated) (from to : S) (low high : Key) (limit : ℕ) (r : Result Answer Miss)
+      → Sends sends bounds old.seat from (scan_walk old.state bounds low high limit) (new.state, r) to new.seat
+      → Follows old new × (new.state.buffer ≡ old.state.buffer)
+  follows_scan old new from to low high limit r sent =
+      read_follows old new from to (scan_walk old.state bounds low high limit) r
+      (reads_scan old.state low high limit low bounds old.state [] (reads_itself old.state)) sent
 
 -- a session learns what was found
 passed_stays : (s : SessionState) (t : ℕ) (may : Bool) → Reads s (with_passed s t may)
 passed_stays s t false = reads_itself s
 passed_stays s t true = record { stays = record { start = refl; declared = refl; placed = refl }; buffer = refl }
 
-pub follows_learn : (bounds : List Key) (old new : Seated) (t : ℕ) (may : Bool) (told : History) → new.state ≡ with_passed old.state t may → HasHeard bounds old.seat told new.seat → Follows old new × (new.state.buffer ≡ old.state.buffer)
+pub follows_learn : (bounds : List Key) (old new : Seated) (t : ℕ) (may : Bool) (told : History)
+    → new.state ≡ with_passed old.state t may → HasHeard bounds old.seat told new.seat
+    → Follows old new × (new.state.buffer ≡ old.state.buffer)
 follows_learn bounds old new t may told is after_answer =
-    let reads = subst (λ (z : SessionState). Reads old.state z) (sym is) (passed_stays old.state t may) in
-    (record { seat = heard_goes bounds old.seat new.seat told after_answer; start = reads.stays.start; declared = reads.stays.declared; placed = reads.stays.placed }, reads.buffer)
+    let reads = subst (λ (z : SessionState). Reads old.state z) (sym is) (passed_stays old.state t may) in (
+      record {
+        seat = heard_goes bounds old.seat new.seat told after_answer;
+        start = reads.stays.start;
+        declared =
+            reads.stays.declared;
+        placed = reads.stays.placed;
+      },
+      reads.buffer,
+    )
 
 -- a seat resolves a lock
-pub resolves_goes : {S : Type 0} (sends : S → Asked → Reached → S → Type 0) (bounds : List Key) (k new : Known) (from to : S) (met : Stopping) (reader now : ℕ) (result : Status) → Resolves sends bounds k from met reader now result to new → GoesOn k new
+pub resolves_goes : {S : Type 0} (sends : S → Asked → Reached → S
+    → Type 0) (bounds : List Key) (k new : Known) (from to : S) (met : Stopping) (reader now : ℕ) (result : Status)
+    → Resolves sends bounds k from met reader now result to new → GoesOn k new
 resolves_goes sends bounds k new from to met reader now result (mid, learnt, sent) =
-    goes_more k mid new (record { number = learnt.seat; knows = seen_without bounds k.seat k.events mid.events learnt.seen }) (sent_goes sends bounds (read_walk met.info reader now) mid new from to result sent)
+    goes_more k mid new (record {
+      number = learnt.seat;
+      knows =
+          seen_without bounds k.seat k.events mid.events learnt.seen;
+    })
+    (sent_goes sends bounds (read_walk met.info reader now) mid new from to result sent)
 
 -- so it does, whether or not it had the memory
-pub follows_learnt : (bounds : List Key) (old new : Seated) (t : ℕ) (may : Bool) (told : History) (result : Result (Unit {0}) Fault) → OnOk result ((new.state ≡ with_passed old.state t may) × HasHeard bounds old.seat told new.seat) → OnErr result (new ≡ old) → Follows old new × (new.state.buffer ≡ old.state.buffer)
+pub follows_learnt : (bounds : List Key) (old new : Seated) (t : ℕ) (may : Bool) (told : History) (result :
+    Result (Unit {0}) Fault)
+    → OnOk result ((new.state ≡ with_passed old.state t may) × HasHeard bounds old.seat told new.seat)
+    → OnErr result (new ≡ old) → Follows old new × (new.state.buffer ≡ old.state.buffer)
 follows_learnt bounds old new t may told (Ok x) ok same = follows_learn bounds old new t may told ok.0 ok.1
-follows_learnt bounds old new t may told (Err e) ok same = (follows_same old new same, ap (λ (z : Seated). z.state.buffer) same)
+follows_learnt bounds old new t may told (Err e) ok same =
+    (follows_same old new same, ap (λ (z : Seated). z.state.buffer) same)
 
 -- it draws its commit timestamp
-pub follows_draw : (bounds : List Key) (old new : Seated) (c : ℕ) → new.state ≡ record old.state { drawn = Some c } → Draws bounds old.seat c new.seat → Follows old new
-follows_draw bounds old new c is draws = record { seat = draws_goes bounds old.seat new.seat c draws; start = ap (λ (z : SessionState). z.start) is; declared = ap (λ (z : SessionState). z.declared) is; placed = ap (λ (z : SessionState). z.placed) is }
+pub follows_draw : (bounds : List Key) (old new : Seated) (c : ℕ) → new.state ≡ record old.state { drawn = Some c }
+    → Draws bounds old.seat c new.seat → Follows old new
+follows_draw bounds old new c is draws =
+    record {
+      seat = draws_goes bounds old.seat new.seat c draws;
+      start = ap (λ (z : SessionState). z.start) is;
+      declared
+          = ap (λ (z : SessionState). z.declared) is;
+      placed = ap (λ (z : SessionState). z.placed) is;
+    }
 
 -- a seat sees all that was drawn, and then resolves a lock
-pub resolved_goes : {S : Type 0} (sends : S → Asked → Reached → S → Type 0) (bounds : List Key) (old mid new : Known) (from to : S) (met : Stopping) (reader now : ℕ) (result : Status) → mid.seat ≡ old.seat → HasSeen bounds old.seat old.events mid.events → Resolves sends bounds mid from met reader now result to new → GoesOn old new
+pub resolved_goes : {S : Type 0} (sends : S → Asked → Reached → S
+    → Type 0) (bounds : List Key) (old mid new : Known) (from to : S) (met : Stopping) (reader now : ℕ) (result :
+    Status) → mid.seat ≡ old.seat → HasSeen bounds old.seat old.events mid.events
+    → Resolves sends bounds mid from met reader now result to new → GoesOn old new
 resolved_goes sends bounds old mid new from to met reader now result number seen resolves =
-    goes_more old mid new (record { number = number; knows = seen_without bounds old.seat old.events mid.events seen }) (resolves_goes sends bounds mid new from to met reader now result resolves)
+    goes_more old mid new (record { number = number; knows = seen_without bounds old.seat old.events mid.events seen })
+    (resolves_goes sends bounds mid new from to met reader now result resolves)

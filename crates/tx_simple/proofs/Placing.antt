@@ -31,14 +31,17 @@ pub still_open : (old new : Seated) → Follows old new → is_declared old.stat
 still_open old new f none = ap is_some f.declared ∙ none
 
 -- where something stands declared, there is a primary
-stands_primary : (start placed : ℕ) (es : Entries) (o : Option Terms) → (standing start placed es o ≡ None → ⊥) → is_some o && not_empty es ≡ true
+stands_primary : (start placed : ℕ) (es : Entries) (o : Option Terms) → (standing start placed es o ≡ None → ⊥)
+    → is_some o && not_empty es ≡ true
 stands_primary start placed es None some = absurd (some refl)
 stands_primary start placed [] (Some terms) some = absurd (some refl)
 stands_primary start placed (e ∷ es) (Some terms) some = refl
 
 -- a session with a primary has entered something
-pub some_entered : (old new : Seated) → new.state.buffer ≡ old.state.buffer → has_primary new.state ≡ true → not_empty old.state.buffer ≡ true
-some_entered old new same some = ap not_empty (sym same) ∙ second (is_declared new.state) (not_empty new.state.buffer) some
+pub some_entered : (old new : Seated) → new.state.buffer ≡ old.state.buffer → has_primary new.state ≡ true
+    → not_empty old.state.buffer ≡ true
+some_entered old new same some =
+    ap not_empty (sym same) ∙ second (is_declared new.state) (not_empty new.state.buffer) some
   where
     second : (b c : Bool) → b && c ≡ true → c ≡ true
     second true c e = e
@@ -46,19 +49,24 @@ some_entered old new same some = ap not_empty (sym same) ∙ second (is_declared
 
 -- a session that went on, and declared nothing
 pub writes_nothing : (old new : Seated) → is_declared old.state ≡ false → Follows old new → Writes old new
-writes_nothing old new none f = record { seat = f.seat; start = f.start; placed = inl (nothing_declared new.state (ap is_some f.declared ∙ none)) }
+writes_nothing old new none f =
+    record { seat = f.seat; start = f.start; placed = inl (nothing_declared new.state (ap is_some f.declared ∙ none)) }
 
 -- a session that declared, and went on
-pub writes_placed : (old mid new : Seated) → GoesOn old.seat mid.seat → mid.state.start ≡ old.state.start → IsDrawnAfter old.seat.events mid.seat.events mid.state.placed → Follows mid new → Writes old new
+pub writes_placed : (old mid new : Seated) → GoesOn old.seat mid.seat → mid.state.start ≡ old.state.start
+    → IsDrawnAfter old.seat.events mid.seat.events mid.state.placed → Follows mid new → Writes old new
 writes_placed old mid new goes start after f = record {
   seat = goes_more old.seat mid.seat new.seat goes f.seat;
   start = f.start ∙ start;
-  placed = inr (λ u c among. subst (λ (p : ℕ). AnsweredBefore new.seat.events p u c) (sym f.placed) (answered_before_on mid.seat.events new.seat.events (goes_begins mid.seat new.seat f.seat) mid.state.placed u c (after u c among)));
+  placed = inr (λ u c among. subst (λ (p : ℕ). AnsweredBefore new.seat.events p u c) (sym f.placed)
+      (answered_before_on mid.seat.events new.seat.events (goes_begins mid.seat new.seat f.seat) mid.state.placed u c
+      (after u c among)));
 }
 
 -- what was told is told to who goes on
 told_on : (a b : History) → Begins a b → (o : Outcome) → CommitsAboveTold b o → CommitsAboveTold a o
-told_on a b more (outcome.Committed c) above = λ u d among. above u d (among_on a b more (Answered u (outcome.Committed d)) among)
+told_on a b more (outcome.Committed c) above =
+    λ u d among. above u d (among_on a b more (Answered u (outcome.Committed d)) among)
 told_on a b more outcome.Aborted above = tt
 told_on a b more (outcome.Unknown why) above = tt
 told_on a b more outcome.ReadOnly above = tt
@@ -68,15 +76,22 @@ pub writes_after : (a b c : Seated) → Follows a b → Writes b c → Writes a 
 writes_after a b c f w = record {
   seat = goes_more a.seat b.seat c.seat f.seat w.seat;
   start = w.start ∙ f.start;
-  placed = elim w.placed [ inl none ↦ inl none | inr after ↦ inr (λ u d among. after u d (among_on a.seat.events b.seat.events (goes_begins a.seat b.seat f.seat) (Answered u (outcome.Committed d)) among)) ];
+  placed = elim w.placed [
+    | inl none ↦ inl none
+    | inr after ↦ inr (λ u d among. after u d
+        (among_on a.seat.events b.seat.events (goes_begins a.seat b.seat f.seat) (Answered u (outcome.Committed d))
+        among))
+  ];
 }
 
 -- a session that declared nothing worth a number
-pub writes_empty : (old new : Seated) → GoesOn old.seat new.seat → new.state.start ≡ old.state.start → has_primary new.state ≡ false → Writes old new
+pub writes_empty : (old new : Seated) → GoesOn old.seat new.seat → new.state.start ≡ old.state.start
+    → has_primary new.state ≡ false → Writes old new
 writes_empty old new goes start none = record { seat = goes; start = start; placed = inl none }
 
 -- a seat that went on before the session that ended
-pub ends_after : (bounds : List Key) (a b new : Known) (start : ℕ) (o : Outcome) → GoesOn a b → Ends bounds b start o new → Ends bounds a start o new
+pub ends_after : (bounds : List Key) (a b new : Known) (start : ℕ) (o : Outcome) → GoesOn a b
+    → Ends bounds b start o new → Ends bounds a start o new
 ends_after bounds a b new start o goes e = record {
   session = e.session;
   seat = goes_more a b e.session.seat goes e.seat;
@@ -89,13 +104,19 @@ ends_after bounds a b new start o goes e = record {
 }
 
 -- what was committed lies above what was told
-pub above_told : (bounds : List Key) (old new : Seated) (end : Outcome) → IsWorldRun bounds new.seat.events → declared new.seat.events new.state.start ≡ standing new.state.start new.state.placed new.state.buffer new.state.declared → Writes old new → IsDecidedSo new.seat.events new.state.start end → CommitsAbove new.seat.events new.state.placed end → CommitsAboveTold old.seat.events end
+pub above_told : (bounds : List Key) (old new : Seated) (end : Outcome) → IsWorldRun bounds new.seat.events
+    → declared new.seat.events new.state.start
+    ≡ standing new.state.start new.state.placed new.state.buffer new.state.declared → Writes old new
+    → IsDecidedSo new.seat.events new.state.start end → CommitsAbove new.seat.events new.state.placed end
+    → CommitsAboveTold old.seat.events end
 above_told bounds old new (outcome.Committed c) run stands w decided order = by w.placed
   where
     some : has_primary new.state ≡ true
-    some = stands_primary new.state.start new.state.placed new.state.buffer new.state.declared (λ none. decided_declared bounds new.seat.events run new.state.start (fate.Committed c) decided (stands ∙ none))
+    some = stands_primary new.state.start new.state.placed new.state.buffer new.state.declared
+        (λ none. decided_declared bounds new.seat.events run new.state.start (fate.Committed c) decided (stands ∙ none))
 
-    by : (has_primary new.state ≡ false) ⊎ IsDrawnAfter old.seat.events new.seat.events new.state.placed → CommitsAboveTold old.seat.events (outcome.Committed c)
+    by : (has_primary new.state ≡ false) ⊎ IsDrawnAfter old.seat.events new.seat.events new.state.placed
+        → CommitsAboveTold old.seat.events (outcome.Committed c)
     by (inl none) = absurd (cc (some, none))
     by (inr after) = λ u d among. order u d (after u d among)
 above_told bounds old new outcome.Aborted run stands w decided order = tt
@@ -103,8 +124,14 @@ above_told bounds old new (outcome.Unknown why) run stands w decided order = tt
 above_told bounds old new outcome.ReadOnly run stands w decided order = tt
 
 -- what `finish` answers of a session that went on ends it
-pub ended_so : (bounds : List Key) (begun session : Seated) (end : Outcome) (t : ℕ) (new : Known) → IsWorldRun bounds session.seat.events → declared session.seat.events session.state.start ≡ standing session.state.start session.state.placed session.state.buffer session.state.declared → Writes begun session → t ≡ session.state.start
-    → (finish_of session.state ≡ Some end) × Records bounds session.seat (Answered session.state.start end) new × IsDecidedSo session.seat.events session.state.start end → CommitsAbove session.seat.events session.state.placed end → Ends bounds begun.seat t end new
+pub ended_so : (bounds : List Key) (begun session : Seated) (end : Outcome) (t : ℕ) (new : Known)
+    → IsWorldRun bounds session.seat.events
+    → declared session.seat.events session.state.start
+    ≡ standing session.state.start session.state.placed session.state.buffer session.state.declared
+    → Writes begun session → t ≡ session.state.start
+    → (finish_of session.state ≡ Some end) × Records bounds session.seat (Answered session.state.start end) new
+    × IsDecidedSo session.seat.events session.state.start end
+    → CommitsAbove session.seat.events session.state.placed end → Ends bounds begun.seat t end new
 ended_so bounds begun session end t new run stands writes is (outcome, recorded, decided) order = record {
   session = session;
   seat = writes.seat;

@@ -29,7 +29,8 @@ module _ {A B : Type 0} (P : B → Type 0) where
   map_if f None each = tt
   map_if f (Some a) each = each a
 
-  map_by : (Q : A → Type 0) (f : A → B) (o : Option A) → IfSome o Q → ((a : A) → Q a → P (f a)) → IfSome (option_map f o) P
+  map_by : (Q : A → Type 0) (f : A → B) (o : Option A) → IfSome o Q → ((a : A) → Q a → P (f a))
+      → IfSome (option_map f o) P
   map_by Q f None here each = tt
   map_by Q f (Some a) here each = each a here
 
@@ -38,16 +39,19 @@ module _ {A B : Type 0} (P : B → Type 0) where
 abbrev Differ : Transfer Text → Type 0
 Differ m = m.from ≢ m.to
 
-by_test : (a b : Text) (n : ℕ) (m : Mode) (x : Bool) → bytes_eq a b ≡ x → IfSome (if x then None else Some (record { from = a; to = b; amount = n; mode = m })) Differ
+by_test : (a b : Text) (n : ℕ) (m : Mode) (x : Bool) → bytes_eq a b ≡ x
+    → IfSome (if x then None else Some (record { from = a; to = b; amount = n; mode = m })) Differ
 by_test a b n m true e = tt
-by_test a b n m false e = λ same. (let same_bytes : bytes_eq a b ≡ true = (bytes_decides a b).1 same in absurd (cc (same_bytes, e)))
+by_test a b n m false e =
+    λ same. (let same_bytes : bytes_eq a b ≡ true = (bytes_decides a b).1 same in absurd (cc (same_bytes, e)))
 
 moved_apart : (ds : Items) → IfSome (moved_said ds) Differ
 moved_apart ds =
     then_if Differ _ (text_in ds)
     (λ f. then_if Differ _ (text_in f.1)
     (λ t. then_if Differ _ (within 1 MAX_AMOUNT t.1)
-    (λ n. then_if Differ _ (option_and_then mode_said (one_text n.1)) (λ m. by_test f.0 t.0 n.0 m (bytes_eq f.0 t.0) refl))))
+    (λ n. then_if Differ _ (option_and_then mode_said (one_text n.1))
+    (λ m. by_test f.0 t.0 n.0 m (bytes_eq f.0 t.0) refl))))
 
 -- ---- the steps
 
@@ -59,19 +63,26 @@ acts_apart w ds = then_if IsApart _ (text_in ds) (λ s. map_if IsApart _ (op_sai
 
 said_apart : (w : Word) (ds : Items) → IfSome (said w ds) IsApart
 said_apart word.Begin ds = map_if IsApart _ (one_text ds) (λ s. tt)
-said_apart word.Get ds = then_if IsApart _ (text_in ds) (λ s. then_if IsApart _ (text_in s.1) (λ k. map_if IsApart _ (delivery_said k.1) (λ d. tt)))
-said_apart word.Scan ds = then_if IsApart _ (text_in ds) (λ s. then_if IsApart _ (range_said s.1) (λ r. map_if IsApart _ (delivery_said r.1) (λ d. tt)))
+said_apart word.Get ds =
+    then_if IsApart _ (text_in ds)
+    (λ s. then_if IsApart _ (text_in s.1) (λ k. map_if IsApart _ (delivery_said k.1) (λ d. tt)))
+said_apart word.Scan ds =
+    then_if IsApart _ (text_in ds)
+    (λ s. then_if IsApart _ (range_said s.1) (λ r. map_if IsApart _ (delivery_said r.1) (λ d. tt)))
 said_apart word.Prewrite ds = sends_apart call.Prewrite ds
 said_apart word.Commit ds = sends_apart call.Commit ds
 said_apart word.Abort ds = sends_apart call.Abort ds
-said_apart word.Heartbeat ds = then_if IsApart _ (text_in ds) (λ s. then_if IsApart _ (within 0 MAX_TTL s.1) (λ n. map_if IsApart _ (delivery_said n.1) (λ d. tt)))
+said_apart word.Heartbeat ds =
+    then_if IsApart _ (text_in ds)
+    (λ s. then_if IsApart _ (within 0 MAX_TTL s.1) (λ n. map_if IsApart _ (delivery_said n.1) (λ d. tt)))
 said_apart word.Deliver ds = map_if IsApart _ (one_text ds) (λ s. tt)
 said_apart word.Read ds = then_if IsApart _ (text_in ds) (λ k. map_if IsApart _ (one_number k.1) (λ n. tt))
 said_apart word.Versions ds = map_if IsApart _ (one_text ds) (λ s. tt)
 said_apart word.Tick ds = then_if IsApart _ (within 1 MAX_TICK ds) (λ n. map_if IsApart _ (last_of n) (λ m. tt))
 said_apart word.Gc ds = map_if IsApart _ (one_number ds) (λ n. tt)
 said_apart word.Seed ds = then_if IsApart _ (text_in ds) (λ k. map_if IsApart _ (one_text k.1) (λ v. tt))
-said_apart word.Transfer ds = then_if IsApart _ (text_in ds) (λ s. map_by IsApart Differ _ (moved_said s.1) (moved_apart s.1) (λ m apart. apart))
+said_apart word.Transfer ds =
+    then_if IsApart _ (text_in ds) (λ s. map_by IsApart Differ _ (moved_said s.1) (moved_apart s.1) (λ m apart. apart))
 said_apart word.Put ds = acts_apart word.Put ds
 said_apart word.Insert ds = acts_apart word.Insert ds
 said_apart word.Delete ds = acts_apart word.Delete ds
@@ -88,7 +99,8 @@ any_apart ds = then_if IsApart _ (text_in ds) (λ w. then_if IsApart _ (word_sai
 -- ---- and so of a program
 
 module _ (program : Program) where
-  tested : (o : Option (Step Text)) → IfSome o IsApart → IfSome (option_and_then (λ s. if is_of program s then Some s else None) o) IsApart
+  tested : (o : Option (Step Text)) → IfSome o IsApart
+      → IfSome (option_and_then (λ s. if is_of program s then Some s else None) o) IsApart
   tested None apart = tt
   tested (Some s) apart = by_program (is_of program s)
     where

@@ -35,7 +35,8 @@ module _ {A B : Type 0} where
   none_if f false x gone = refl
 
 module _ {A B C : Type 0} where
-  none_two : (f : A → Option B) (g : C → Option A) (o : Option C) → o ≡ None → option_and_then f (option_and_then g o) ≡ None
+  none_two : (f : A → Option B) (g : C → Option A) (o : Option C) → o ≡ None
+      → option_and_then f (option_and_then g o) ≡ None
   none_two f g o e = ap (λ x. option_and_then f (option_and_then g x)) e
 
 module _ {B : Type 0} where
@@ -43,24 +44,29 @@ module _ {B : Type 0} where
   both_none true x y p q = p
   both_none false x y p q = q
 
-  text_then : (f : List ℕ × Items → Option B) (d : Data) (ds : Items) → ((s : List ℕ) → f (s, ds) ≡ None) → option_and_then f (text_in (item d ds)) ≡ None
+  text_then : (f : List ℕ × Items → Option B) (d : Data) (ds : Items) → ((s : List ℕ) → f (s, ds) ≡ None)
+      → option_and_then f (text_in (item d ds)) ≡ None
   text_then f d ds gone = by_text (as_str d)
     where
       by_text : (o : Option (List ℕ)) → option_and_then f (option_map (λ s. (s, ds)) o) ≡ None
       by_text None = refl
       by_text (Some s) = gone s
 
-  number_then : (f : ℕ × Items → Option B) (d : Data) (ds : Items) → ((n : ℕ) → f (n, ds) ≡ None) → option_and_then f (number_in (item d ds)) ≡ None
+  number_then : (f : ℕ × Items → Option B) (d : Data) (ds : Items) → ((n : ℕ) → f (n, ds) ≡ None)
+      → option_and_then f (number_in (item d ds)) ≡ None
   number_then f d ds gone = by_number (option_and_then as_u64 (as_number d))
     where
       by_number : (o : Option ℕ) → option_and_then f (option_map (λ n. (n, ds)) o) ≡ None
       by_number None = refl
       by_number (Some n) = gone n
 
-  within_then : (low high : ℕ) (f : ℕ × Items → Option B) (d : Data) (ds : Items) → ((n : ℕ) → f (n, ds) ≡ None) → option_and_then f (within low high (item d ds)) ≡ None
+  within_then : (low high : ℕ) (f : ℕ × Items → Option B) (d : Data) (ds : Items) → ((n : ℕ) → f (n, ds) ≡ None)
+      → option_and_then f (within low high (item d ds)) ≡ None
   within_then low high f d ds gone = by_number (option_and_then as_u64 (as_number d))
     where
-      by_number : (o : Option ℕ) → option_and_then f (option_and_then (λ n. if nat_le low n.0 && nat_le n.0 high then Some n else None) (option_map (λ n. (n, ds)) o)) ≡ None
+      by_number : (o : Option ℕ)
+          → option_and_then f (option_and_then (λ n. if nat_le low n.0
+          && nat_le n.0 high then Some n else None) (option_map (λ n. (n, ds)) o)) ≡ None
       by_number None = refl
       by_number (Some n) = none_if f (nat_le low n && nat_le n high) (n, ds) (gone n)
 
@@ -73,7 +79,9 @@ one_number_more : (a b : Data) (r : Items) → one_number (item a (item b r)) �
 one_number_more a b r = number_then last_of a (item b r) (λ n. refl)
 
 delivery_more : (a b c : Data) (r : Items) → delivery_said (item a (item b (item c r))) ≡ None
-delivery_more a b c r = none_of _ (as_str a) (λ w. both_none _ _ _ (ap (option_map delivery.Held) (one_text_more b c r)) (none_of _ (delivery_word w) (λ y. refl)))
+delivery_more a b c r =
+    none_of _ (as_str a) (λ w. both_none _ _ _ (ap (option_map delivery.Held) (one_text_more b c r))
+    (none_of _ (delivery_word w) (λ y. refl)))
 
 max_more : (m : Mode) (a b : Data) (r : Items) → max_said m (item a (item b r)) ≡ None
 max_more TwoPhase a b r = refl
@@ -81,39 +89,55 @@ max_more Async a b r = ap (option_map Some) (one_number_more a b r)
 
 -- ---- what a session sends
 
-sends_more : (what : Call Text) (a b c d : Data) (r : Items) → sends_said what (item a (item b (item c (item d r)))) ≡ None
+sends_more : (what : Call Text) (a b c d : Data) (r : Items)
+    → sends_said what (item a (item b (item c (item d r)))) ≡ None
 sends_more what a b c d r = text_then _ a _ (λ s. ap (option_map (step.Send s what)) (delivery_more b c d r))
 
 get_more : (a b c d e : Data) (r : Items) → get_said (item a (item b (item c (item d (item e r))))) ≡ None
-get_more a b c d e r = text_then _ a _ (λ s. text_then _ b _ (λ k. ap (option_map (step.Send s (call.Get k))) (delivery_more c d e r)))
+get_more a b c d e r =
+    text_then _ a _ (λ s. text_then _ b _ (λ k. ap (option_map (step.Send s (call.Get k))) (delivery_more c d e r)))
 
 heartbeat_more : (a b c d e : Data) (r : Items) → heartbeat_said (item a (item b (item c (item d (item e r))))) ≡ None
-heartbeat_more a b c d e r = text_then _ a _ (λ s. within_then 0 MAX_TTL _ b _ (λ n. ap (option_map (step.Send s (call.Heartbeat n))) (delivery_more c d e r)))
+heartbeat_more a b c d e r =
+    text_then _ a _ (λ s. within_then 0 MAX_TTL _ b _
+    (λ n. ap (option_map (step.Send s (call.Heartbeat n))) (delivery_more c d e r)))
 
-range_then : (f : Call Text × Items → Option (Step Text)) (from to limit : Data) (ds : Items) → ((x : Call Text) → f (x, ds) ≡ None) → option_and_then f (range_said (item from (item to (item limit ds)))) ≡ None
+range_then : (f : Call Text × Items → Option (Step Text)) (from to limit : Data) (ds : Items)
+    → ((x : Call Text) → f (x, ds) ≡ None) → option_and_then f (range_said (item from (item to (item limit ds)))) ≡ None
 range_then f from to limit ds gone = by_from (as_str from)
   where
-    by_limit : (s t : List ℕ) (n : ℕ) (b : Bool) → option_and_then f (option_map (λ (l : ℕ × Items). (call.Scan s t l.0, l.1)) (if b then Some (n, ds) else None)) ≡ None
+    by_limit : (s t : List ℕ) (n : ℕ) (b : Bool)
+        → option_and_then f (option_map (λ (l : ℕ × Items). (call.Scan s t l.0, l.1))
+        (if b then Some (n, ds) else None)) ≡ None
     by_limit s t n true = gone (call.Scan s t n)
     by_limit s t n false = refl
 
     by_number : (s t : List ℕ) (o : Option ℕ)
-        → option_and_then f (option_map (λ (l : ℕ × Items). (call.Scan s t l.0, l.1)) (option_and_then (λ (n : ℕ × Items). if nat_le 1 n.0 && nat_le n.0 MAX_SCAN_ROWS then Some n else None) (option_map (λ n. (n, ds)) o))) ≡ None
+        → option_and_then f (option_map (λ (l : ℕ × Items). (call.Scan s t l.0, l.1))
+        (option_and_then (λ (n : ℕ × Items). if nat_le 1 n.0
+        && nat_le n.0 MAX_SCAN_ROWS then Some n else None) (option_map (λ n. (n, ds)) o))) ≡ None
     by_number s t None = refl
     by_number s t (Some n) = by_limit s t n (nat_le 1 n && nat_le n MAX_SCAN_ROWS)
 
     by_to : (s : List ℕ) (o : Option (List ℕ))
-        → option_and_then f (option_and_then (λ (t : List ℕ × Items). option_map (λ (l : ℕ × Items). (call.Scan s t.0 l.0, l.1)) (within 1 MAX_SCAN_ROWS t.1)) (option_map (λ t. (t, item limit ds)) o)) ≡ None
+        → option_and_then f (option_and_then
+        (λ (t : List ℕ × Items). option_map (λ (l : ℕ × Items). (call.Scan s t.0 l.0, l.1))
+        (within 1 MAX_SCAN_ROWS t.1)) (option_map (λ t. (t, item limit ds)) o)) ≡ None
     by_to s None = refl
     by_to s (Some t) = by_number s t (option_and_then as_u64 (as_number limit))
 
     by_from : (o : Option (List ℕ))
-        → option_and_then f (option_and_then (λ (g : List ℕ × Items). option_and_then (λ (t : List ℕ × Items). option_map (λ (l : ℕ × Items). (call.Scan g.0 t.0 l.0, l.1)) (within 1 MAX_SCAN_ROWS t.1)) (text_in g.1)) (option_map (λ g. (g, item to (item limit ds))) o)) ≡ None
+        → option_and_then f (option_and_then
+        (λ (g : List ℕ × Items). option_and_then
+        (λ (t : List ℕ × Items). option_map (λ (l : ℕ × Items). (call.Scan g.0 t.0 l.0, l.1))
+        (within 1 MAX_SCAN_ROWS t.1)) (text_in g.1)) (option_map (λ g. (g, item to (item limit ds))) o)) ≡ None
     by_from None = refl
     by_from (Some s) = by_to s (as_str to)
 
-scan_more : (a b c d e g h : Data) (r : Items) → scan_said (item a (item b (item c (item d (item e (item g (item h r))))))) ≡ None
-scan_more a b c d e g h r = text_then _ a _ (λ s. range_then _ b c d _ (λ x. ap (option_map (step.Send s x)) (delivery_more e g h r)))
+scan_more : (a b c d e g h : Data) (r : Items)
+    → scan_said (item a (item b (item c (item d (item e (item g (item h r))))))) ≡ None
+scan_more a b c d e g h r =
+    text_then _ a _ (λ s. range_then _ b c d _ (λ x. ap (option_map (step.Send s x)) (delivery_more e g h r)))
 
 -- ---- what a session does by itself
 
@@ -124,7 +148,9 @@ insert_more : (a b c : Data) (r : Items) → insert_said (item a (item b (item c
 insert_more a b c r = text_then _ a _ (λ k. ap (option_map (op.Insert k)) (one_text_more b c r))
 
 declare_more : (a b c d : Data) (r : Items) → declare_said (item a (item b (item c (item d r)))) ≡ None
-declare_more a b c d r = text_then _ a _ (λ w. none_of _ (mode_said w) (λ m. within_then 0 MAX_TTL _ b _ (λ n. ap (option_map (op.Declare m n)) (max_more m c d r))))
+declare_more a b c d r =
+    text_then _ a _ (λ w. none_of _ (mode_said w)
+    (λ m. within_then 0 MAX_TTL _ b _ (λ n. ap (option_map (op.Declare m n)) (max_more m c d r))))
 
 act_more : (x : Word) (a b c d : Data) (r : Items) → op_said x (item a (item b (item c (item d r)))) ≡ None
 act_more word.Put a b c d r = put_more a b c (item d r)
@@ -138,7 +164,8 @@ act_more word.Stop a b c d r = refl
 act_more word.Resolve a b c d r = ap (option_map op.Resolve) (one_number_more a b (item c (item d r)))
 act_more _ a b c d r = refl
 
-acts_more : (x : Word) (s a b c d : Data) (r : Items) → acts_said x (item s (item a (item b (item c (item d r))))) ≡ None
+acts_more : (x : Word) (s a b c d : Data) (r : Items)
+    → acts_said x (item s (item a (item b (item c (item d r))))) ≡ None
 acts_more x s a b c d r = text_then _ s _ (λ name. ap (option_map (step.Act name)) (act_more x a b c d r))
 
 -- ---- the others
@@ -153,12 +180,16 @@ seed_more : (a b c : Data) (r : Items) → seed_said (item a (item b (item c r))
 seed_more a b c r = text_then _ a _ (λ k. ap (option_map (step.Seed k)) (one_text_more b c r))
 
 moved_more : (a b c d e : Data) (r : Items) → moved_said (item a (item b (item c (item d (item e r))))) ≡ None
-moved_more a b c d e r = text_then _ a _ (λ f. text_then _ b _ (λ t. within_then 1 MAX_AMOUNT _ c _ (λ n. none_two _ mode_said _ (one_text_more d e r))))
+moved_more a b c d e r =
+    text_then _ a _ (λ f. text_then _ b _
+    (λ t. within_then 1 MAX_AMOUNT _ c _ (λ n. none_two _ mode_said _ (one_text_more d e r))))
 
-transfer_more : (s a b c d e : Data) (r : Items) → transfer_said (item s (item a (item b (item c (item d (item e r)))))) ≡ None
+transfer_more : (s a b c d e : Data) (r : Items)
+    → transfer_said (item s (item a (item b (item c (item d (item e r)))))) ≡ None
 transfer_more s a b c d e r = text_then _ s _ (λ name. ap (option_map (step.Transfer name)) (moved_more a b c d e r))
 
-said_more : (x : Word) (a b c d e g h : Data) (r : Items) → said x (item a (item b (item c (item d (item e (item g (item h r))))))) ≡ None
+said_more : (x : Word) (a b c d e g h : Data) (r : Items)
+    → said x (item a (item b (item c (item d (item e (item g (item h r))))))) ≡ None
 said_more word.Begin a b c d e g h r = ap (option_map step.Begin) (one_text_more a b _)
 said_more word.Get a b c d e g h r = get_more a b c d e _
 said_more word.Scan a b c d e g h r = scan_more a b c d e g h r
@@ -183,7 +214,8 @@ said_more word.Finish a b c d e g h r = acts_more word.Finish a b c d e _
 said_more word.Stop a b c d e g h r = acts_more word.Stop a b c d e _
 said_more word.Resolve a b c d e g h r = acts_more word.Resolve a b c d e _
 
-any_more : (w a b c d e g h : Data) (r : Items) → any_said (item w (item a (item b (item c (item d (item e (item g (item h r)))))))) ≡ None
+any_more : (w a b c d e g h : Data) (r : Items)
+    → any_said (item w (item a (item b (item c (item d (item e (item g (item h r)))))))) ≡ None
 any_more w a b c d e g h r = text_then _ w _ (λ t. none_of _ (word_said t) (λ x. said_more x a b c d e g h r))
 
 -- ---- so an array of more members says no step
@@ -198,7 +230,8 @@ module _ (program : Program) where
   step_more (item a (item b (item c (item d (item e no_items))))) more = absurd (omega (arith, more))
   step_more (item a (item b (item c (item d (item e (item g no_items)))))) more = absurd (omega (arith, more))
   step_more (item a (item b (item c (item d (item e (item g (item h no_items))))))) more = absurd (omega (arith, more))
-  step_more (item a (item b (item c (item d (item e (item g (item h (item i r)))))))) more = ap (option_and_then _) (any_more a b c d e g h i r)
+  step_more (item a (item b (item c (item d (item e (item g (item h (item i r)))))))) more =
+      ap (option_and_then _) (any_more a b c d e g h i r)
 
   pub no_step_in : (d : Data) → ((items : Items) → as_array d ≡ Some items → 7 < count items) → step_in program d ≡ None
   no_step_in d many = by_items (as_array d) refl

@@ -1,17 +1,17 @@
 -- The keys between regions, as line 1 says them: `["regions",[key,..]]`.
-use Rattle.std.specs.Prelude.{ℕ, ◌&&◌, List, [], ◌∷◌, Bool, true, length, nat_le, nat_lt, Option, Some, None, option_map, option_and_then, if◌then◌else◌, bytes_eq, codes}
+use Rattle.std.specs.Prelude.{ℕ, ◌&&◌, List, [], ◌∷◌, Bool, true, nat_lt, Option, Some, None, option_map, option_and_then, if◌then◌else◌, bytes_eq, codes}
 use Rattle.serde_json.specs.Data.{Data, Items, no_items, item}
 use Rattle.serde_json.specs.Find.{as_array, as_str}
-use Rattle.tx_types.specs.declared.limits.TheConstants.{MAX_KEY_BYTES, MAX_REGIONS, MIN_KEY_BYTES}
+use Rattle.tx_types.specs.declared.limits.TheConstants.{MAX_REGIONS}
 use Rattle.tx_types.specs.declared.key.Key.{Key}
 use Rattle.tx_types.specs.Keys.{key_lt}
+use Rattle.tx_types.specs.Lengths.{is_key}
 use Rattle.tx_text.specs.Parts.{count}
 use Rattle.tx_steps.specs.Steps.{text_in, none_left}
 
 -- a text of 1 to 512 bytes
 abbrev pub key_in : Data → Option Key
-key_in d = option_and_then (λ text. if nat_le MIN_KEY_BYTES (length text) && nat_le (length text) MAX_KEY_BYTES
-    then Some text else None) (as_str d)
+key_in d = option_and_then (λ text. if is_key text then Some text else None) (as_str d)
 
 -- all of them, where each is a key
 abbrev pub all_keys : Items → Option (List Key)

@@ -9,8 +9,8 @@ use crate::members::{none_left, text};
 use serde_json::Value;
 use std::alloc::Global;
 use tx_text::Part;
-use tx_types::limits::{MAX_KEY_BYTES, MAX_REGIONS, MIN_KEY_BYTES};
-use tx_types::{Fault, Key};
+use tx_types::limits::MAX_REGIONS;
+use tx_types::{Fault, Key, is_key};
 
 // The key that a value is, where it is one.
 fn key(alloc: Global, value: &Value) -> Result<Option<Key>, Fault>
@@ -20,7 +20,7 @@ fn key(alloc: Global, value: &Value) -> Result<Option<Key>, Fault>
     let Some(text) = value.as_str() else {
         return Ok(None);
     };
-    if text.len() < MIN_KEY_BYTES || text.len() > MAX_KEY_BYTES {
+    if !is_key(text.as_bytes()) {
         return Ok(None);
     }
     match Key::new(alloc, text.as_bytes()) {

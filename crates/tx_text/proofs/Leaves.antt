@@ -23,9 +23,11 @@ pub json_some : (line : List ℕ) (d : Data) → IsUtf8 line × (read line ≡ S
 json_some line d e = json_is line d e.0 e.1
 
 pub json_none : (line : List ℕ) → (IsUtf8 line → read line ≡ None) → json_of line ≡ None
-json_none line never = elim (cases_Bool (is_utf8 line)) [ inl e ↦ rw e (never (IsUtf8-from_is_utf8 line e)) | inr e ↦ rw e refl ]
+json_none line never =
+    elim (cases_Bool (is_utf8 line)) [ inl e ↦ rw e (never (IsUtf8-from_is_utf8 line e)) | inr e ↦ rw e refl ]
 
-before_more : (ls : List Leaf) (l : Leaf) (rest : List Lexeme) → before (ls ++ l ∷ []) rest ≡ before ls (token (leaf_token l) ∷ comma ∷ rest)
+before_more : (ls : List Leaf) (l : Leaf) (rest : List Lexeme)
+    → before (ls ++ l ∷ []) rest ≡ before ls (token (leaf_token l) ∷ comma ∷ rest)
 before_more [] l rest = refl
 before_more (k ∷ ls) l rest = ap (λ r. token (leaf_token k) ∷ comma ∷ r) (before_more ls l rest)
 
@@ -50,9 +52,34 @@ leaf_is none = refl
 
 leaf_last : (l : Leaf) → Last (token (leaf_token l) ∷ token end_array ∷ []) (leaf_data l)
 unfolding punctuate items value
-leaf_last (text s) = record { tokens = Token.string s ∷ end_array ∷ []; first = refl; later = refl; tree = json.string s; parses = refl; reads = refl }
-leaf_last (digits s n e) = record { tokens = Token.number s ∷ end_array ∷ []; first = refl; later = refl; tree = json.number s; parses = refl; reads = ap (option_map number) e }
-leaf_last none = record { tokens = Token.null ∷ end_array ∷ []; first = refl; later = refl; tree = json.null; parses = refl; reads = refl }
+leaf_last (text s) = record {
+  tokens = Token.string s ∷ end_array ∷ [];
+  first = refl;
+  later = refl;
+  tree =
+      json.string s;
+  parses = refl;
+  reads = refl;
+}
+leaf_last (digits s n e) =
+    record {
+      tokens = Token.number s ∷ end_array ∷ [];
+      first = refl;
+      later = refl;
+      tree = json.number s;
+      parses =
+          refl;
+      reads = ap (option_map number) e;
+    }
+leaf_last none = record {
+  tokens = Token.null ∷ end_array ∷ [];
+  first = refl;
+  later = refl;
+  tree = json.null;
+  parses =
+      refl;
+  reads = refl;
+}
 
 -- ---- members, and the last of them
 
@@ -83,18 +110,22 @@ module _ {lexemes : List Lexeme} {data_last : Data} (last : Last lexemes data_la
   tokens_first (digits s n e ∷ ls) = ap (λ ts. Token.number s ∷ ts) (tokens_later ls)
   tokens_first (none ∷ ls) = ap (λ ts. Token.null ∷ ts) (tokens_later ls)
 
-  tokens_whole : (ls : List Leaf) → punctuate fresh (token begin_array ∷ before ls lexemes) ≡ begin_array ∷ tokens_of ls last.tokens
+  tokens_whole : (ls : List Leaf)
+      → punctuate fresh (token begin_array ∷ before ls lexemes) ≡ begin_array ∷ tokens_of ls last.tokens
   unfolding punctuate
   tokens_whole ls = ap (λ ts. begin_array ∷ ts) (tokens_first ls)
 
-  items_are : (ls : List Leaf) → items (value 126) (length (tokens_of ls last.tokens)) (tokens_of ls last.tokens) ≡ Some (jsons_of ls last.tree, [])
+  items_are : (ls : List Leaf)
+      → items (value 126) (length (tokens_of ls last.tokens)) (tokens_of ls last.tokens)
+      ≡ Some (jsons_of ls last.tree, [])
   unfolding items value
   items_are [] = last.parses
   items_are (text s ∷ ls) = ap (parse_map (json.item (json.string s))) (items_are ls)
   items_are (digits s n e ∷ ls) = ap (parse_map (json.item (json.number s))) (items_are ls)
   items_are (none ∷ ls) = ap (parse_map (json.item json.null)) (items_are ls)
 
-  value_is : (ls : List Leaf) → value max_depth (begin_array ∷ tokens_of ls last.tokens) ≡ Some (json.array (jsons_of ls last.tree), [])
+  value_is : (ls : List Leaf)
+      → value max_depth (begin_array ∷ tokens_of ls last.tokens) ≡ Some (json.array (jsons_of ls last.tree), [])
   unfolding value
   value_is ls = ap (parse_map json.array) (items_are ls)
 
@@ -105,10 +136,12 @@ module _ {lexemes : List Lexeme} {data_last : Data} (last : Last lexemes data_la
       ∙ ap (option_map (tree.item (leaf_data l))) (leaves_are ls)
 
   -- the value of the whole
-  pub reads_as : (line : List ℕ) (ls : List Leaf) → lex between line ≡ token begin_array ∷ before ls lexemes → read line ≡ Some (array (data_of ls data_last))
+  pub reads_as : (line : List ℕ) (ls : List Leaf) → lex between line ≡ token begin_array ∷ before ls lexemes
+      → read line ≡ Some (array (data_of ls data_last))
   reads_as line ls h =
       ap (λ l. option_and_then of_json (option_and_then (λ p. if_last p.0 p.1) (value max_depth (punctuate fresh l)))) h
-      ∙ ap (λ ts. option_and_then of_json (option_and_then (λ p. if_last p.0 p.1) (value max_depth ts))) (tokens_whole ls)
+      ∙ ap (λ ts. option_and_then of_json (option_and_then (λ p. if_last p.0 p.1) (value max_depth ts)))
+      (tokens_whole ls)
       ∙ ap (λ o. option_and_then of_json (option_and_then (λ p. if_last p.0 p.1) o)) (value_is ls)
       ∙ ap (option_map array) (leaves_are ls)
 
@@ -130,24 +163,32 @@ comma_first : (xs ys : List ℕ) → Same xs (44 ∷ ys) → Begins xs comma ys
 unfolding lex
 comma_first xs ys same = same
 
-one_more : (leaves : List Leaf) (leaf : Leaf) (parts : List Part) (part : Part) → map leaf_data leaves ≡ map part_data parts → leaf_data leaf ≡ part_data part → map leaf_data leaves ++ leaf_data leaf ∷ [] ≡ map part_data (parts ++ part ∷ [])
+one_more : (leaves : List Leaf) (leaf : Leaf) (parts : List Part) (part : Part)
+    → map leaf_data leaves ≡ map part_data parts → leaf_data leaf ≡ part_data part
+    → map leaf_data leaves ++ leaf_data leaf ∷ [] ≡ map part_data (parts ++ part ∷ [])
 one_more leaves leaf parts part same is =
-    ap (λ l. l ++ leaf_data leaf ∷ []) same ∙ ap (λ d. map part_data parts ++ d ∷ []) is ∙ sym (map_more part_data parts part)
+    ap (λ l. l ++ leaf_data leaf ∷ []) same ∙ ap (λ d. map part_data parts ++ d ∷ []) is
+    ∙ sym (map_more part_data parts part)
 
-pub read_more : (line : List ℕ) (parts : List Part) (part : Part) (at after next : List ℕ) → ReadParts line parts at → BeginsPart at part after → Same after (44 ∷ next) → ReadParts line (parts ++ part ∷ []) next
+pub read_more : (line : List ℕ) (parts : List Part) (part : Part) (at after next : List ℕ) → ReadParts line parts at
+    → BeginsPart at part after → Same after (44 ∷ next) → ReadParts line (parts ++ part ∷ []) next
 read_more line parts part at after next soon begins comma_next = record {
   leaves = soon.leaves ++ begins.0 ∷ [];
   same = map_more leaf_data soon.leaves begins.0 ∙ one_more soon.leaves begins.0 parts part soon.same begins.2;
-  lexed = soon.lexed ∙ ap (λ l. token begin_array ∷ before soon.leaves l) (begins.1 ∙ ap (λ l. token (leaf_token begins.0) ∷ l) (comma_first after next comma_next))
+  lexed = soon.lexed ∙ ap (λ l. token begin_array ∷ before soon.leaves l) (begins.1
+      ∙ ap (λ l. token (leaf_token begins.0) ∷ l) (comma_first after next comma_next))
       ∙ ap (λ l. token begin_array ∷ l) (sym (before_more soon.leaves begins.0 (lex between next)));
 }
 
 -- the last of them, and the end of the line
-pub read_all : (line : List ℕ) (parts : List Part) (part : Part) (at after : List ℕ) → ReadParts line parts at → BeginsPart at part after → Begins after (token end_array) []
+pub read_all : (line : List ℕ) (parts : List Part) (part : Part) (at after : List ℕ) → ReadParts line parts at
+    → BeginsPart at part after → Begins after (token end_array) []
     → read line ≡ Some (array (parts_items (parts ++ part ∷ [])))
 unfolding lex
 read_all line parts part at after soon begins ends =
-    reads_as (leaf_last begins.0) line soon.leaves (soon.lexed ∙ ap (λ l. token begin_array ∷ before soon.leaves l) (begins.1 ∙ ap (λ l. token (leaf_token begins.0) ∷ l) ends))
+    reads_as (leaf_last begins.0) line soon.leaves (soon.lexed
+    ∙ ap (λ l. token begin_array ∷ before soon.leaves l) (begins.1
+    ∙ ap (λ l. token (leaf_token begins.0) ∷ l) ends))
     ∙ ap (λ ds. Some (array ds)) (data_is soon.leaves (leaf_data begins.0))
     ∙ ap (λ ds. Some (array (tree_view.items_of ds))) (one_more soon.leaves begins.0 parts part soon.same begins.2)
 
@@ -157,7 +198,8 @@ pub count_is : (vs : List Value) → count (tree_view.items_view vs) ≡ length 
 count_is [] = refl
 count_is (v ∷ vs) = ap suc (count_is vs)
 
-pub counted : (items : tree.Items) (vs : List Value) (n : ℕ) → Some (tree_view.items_view vs) ≡ Some items → n < length vs → n < count items
+pub counted : (items : tree.Items) (vs : List Value) (n : ℕ) → Some (tree_view.items_view vs) ≡ Some items
+    → n < length vs → n < count items
 counted items vs n e more = subst (λ k. n < k) (sym (count_is vs) ∙ ap (λ o. count (found o)) e) more
   where
     found : Option tree.Items → tree.Items

@@ -12,16 +12,21 @@ use Rattle.tx_text.specs.Scan.{Runs, Same, Begins}
 
 -- ---- within a string
 
-other_class : (a b : Bool) (x : ℕ) (xs : List ℕ) (k : Mode → List Lexeme) → lex_byte in_string (cond a operator (cond b space other)) x xs k ≡ k in_string
+other_class : (a b : Bool) (x : ℕ) (xs : List ℕ) (k : Mode → List Lexeme)
+    → lex_byte in_string (cond a operator (cond b space other)) x xs k ≡ k in_string
 other_class true b x xs k = refl
 other_class false true x xs k = refl
 other_class false false x xs k = refl
 
 lex_plain : (x : ℕ) (xs : List ℕ) → x ≢ 34 → x ≢ 92 → lex in_string (x ∷ xs) ≡ lex in_string xs
 unfolding lex
-lex_plain x xs q b = rw (ne_eqb x 34 q, ne_eqb x 92 b) (other_class (is_operator x) (is_space x) x xs (λ next. lex next xs))
+lex_plain x xs q b = rw (
+  ne_eqb x 34 q,
+  ne_eqb x 92 b,
+) (other_class (is_operator x) (is_space x) x xs (λ next. lex next xs))
 
-content_plain : (x : ℕ) (xs : List ℕ) → 32 ≤ x → x ≢ 34 → x ≢ 92 → content plain (x ∷ xs) ≡ prepend (x ∷ []) (content plain xs)
+content_plain : (x : ℕ) (xs : List ℕ) → 32 ≤ x → x ≢ 34 → x ≢ 92
+    → content plain (x ∷ xs) ≡ prepend (x ∷ []) (content plain xs)
 unfolding content
 content_plain x xs low q b = rw (ne_eqb x 34 q, ne_eqb x 92 b, le-ltb x 32 low) refl
 
@@ -36,7 +41,8 @@ prepend_none (Some t) = refl
 pub runs_none : (xs : List ℕ) → Runs xs [] xs
 runs_none xs = record { content = prepend_none (content plain xs); lexemes = refl }
 
-pub runs_more : (xs s : List ℕ) (x : ℕ) (ys : List ℕ) → 32 ≤ x → x ≢ 34 → x ≢ 92 → Runs xs s (x ∷ ys) → Runs xs (s ++ x ∷ []) ys
+pub runs_more : (xs s : List ℕ) (x : ℕ) (ys : List ℕ) → 32 ≤ x → x ≢ 34 → x ≢ 92 → Runs xs s (x ∷ ys)
+    → Runs xs (s ++ x ∷ []) ys
 runs_more xs s x ys low q b h = record {
   content = h.content ∙ ap (prepend s) (content_plain x ys low q b) ∙ prepend_more s x (content plain ys);
   lexemes = h.lexemes ∙ lex_plain x ys q b;
@@ -54,14 +60,17 @@ nil_after : (s : List ℕ) → s ++ [] ≡ s
 nil_after [] = refl
 nil_after (x ∷ xs) = ap (λ l. x ∷ l) (nil_after xs)
 
-string_leads : (xs : List ℕ) (s ys : List ℕ) → content plain xs ≡ Some s → lex in_string xs ≡ lex between ys → lex between (34 ∷ xs) ≡ token (string s) ∷ lex between ys
+string_leads : (xs : List ℕ) (s ys : List ℕ) → content plain xs ≡ Some s → lex in_string xs ≡ lex between ys
+    → lex between (34 ∷ xs) ≡ token (string s) ∷ lex between ys
 unfolding lex
 string_leads xs s ys c l = rw (c, l) refl
 
 -- a string between quotes is a lexeme
-pub quoted_begins : (from : List ℕ) (xs s ys : List ℕ) → Same from (34 ∷ xs) → Runs xs s (34 ∷ ys) → Begins from (token (string s)) ys
+pub quoted_begins : (from : List ℕ) (xs s ys : List ℕ) → Same from (34 ∷ xs) → Runs xs s (34 ∷ ys)
+    → Begins from (token (string s)) ys
 quoted_begins from xs s ys same h =
-    same ∙ string_leads xs s ys (h.content ∙ ap (prepend s) (quote_ends ys) ∙ ap Some (nil_after s)) (h.lexemes ∙ quote_leaves ys)
+    same ∙ string_leads xs s ys (h.content ∙ ap (prepend s) (quote_ends ys) ∙ ap Some (nil_after s)) (h.lexemes
+    ∙ quote_leaves ys)
 
 -- ---- between strings
 
@@ -83,31 +92,43 @@ comma_between xs ys same = same
 
 -- ---- at a place of the bytes
 
-slice_more : (bytes : List ℕ) (from at : ℕ) → from ≤ at → at < length bytes → slice_range bytes from at ++ get_or bytes at 0 ∷ [] ≡ slice_range bytes from (at + 1)
+slice_more : (bytes : List ℕ) (from at : ℕ) → from ≤ at → at < length bytes
+    → slice_range bytes from at ++ get_or bytes at 0 ∷ [] ≡ slice_range bytes from (at + 1)
 slice_more bytes from at le h =
     let next : suc (at - from) ≡ at + 1 - from = omega arith in
     let position : from + (at - from) ≡ at = omega arith in
     sym (ap (λ n. take n (drop from bytes)) (sym next)
     ∙ take-suc (drop from bytes) (at - from) 0 (omega (arith, length-drop from bytes))
-    ∙ ap (λ x. take (at - from) (drop from bytes) ++ x ∷ []) (get_or-drop from bytes (at - from) 0 ∙ ap (λ n. get_or bytes n 0) position))
+    ∙ ap (λ x. take (at - from) (drop from bytes) ++ x ∷ []) (get_or-drop from bytes (at - from) 0
+    ∙ ap (λ n. get_or bytes n 0) position))
 
-pub space_more : (from bytes : List ℕ) (at : ℕ) → at < length bytes → get_or bytes at 0 ≡ 32 → Same from (drop at bytes) → Same from (drop (at + 1) bytes)
+pub space_more : (from bytes : List ℕ) (at : ℕ) → at < length bytes → get_or bytes at 0 ≡ 32 → Same from (drop at bytes)
+    → Same from (drop (at + 1) bytes)
 space_more from bytes at h e same =
-    same ∙ ap (lex between) (drop_more bytes at 0 h ∙ ap (λ x. x ∷ drop (at + 1) bytes) e) ∙ space_passes (drop (at + 1) bytes)
+    same ∙ ap (lex between) (drop_more bytes at 0 h ∙ ap (λ x. x ∷ drop (at + 1) bytes) e)
+    ∙ space_passes (drop (at + 1) bytes)
 
-pub byte_next : (from bytes : List ℕ) (at x : ℕ) → at < length bytes → get_or bytes at 0 ≡ x → Same from (drop at bytes) → Same from (x ∷ drop (at + 1) bytes)
-byte_next from bytes at x h e same = same ∙ ap (lex between) (drop_more bytes at 0 h ∙ ap (λ y. y ∷ drop (at + 1) bytes) e)
+pub byte_next : (from bytes : List ℕ) (at x : ℕ) → at < length bytes → get_or bytes at 0 ≡ x → Same from (drop at bytes)
+    → Same from (x ∷ drop (at + 1) bytes)
+byte_next from bytes at x h e same =
+    same ∙ ap (lex between) (drop_more bytes at 0 h ∙ ap (λ y. y ∷ drop (at + 1) bytes) e)
 
-pub runs_next : (xs s bytes : List ℕ) (at x : ℕ) → at < length bytes → get_or bytes at 0 ≡ x → Runs xs s (drop at bytes) → Runs xs s (x ∷ drop (at + 1) bytes)
-runs_next xs s bytes at x h e runs = subst (Runs xs s) (drop_more bytes at 0 h ∙ ap (λ y. y ∷ drop (at + 1) bytes) e) runs
+pub runs_next : (xs s bytes : List ℕ) (at x : ℕ) → at < length bytes → get_or bytes at 0 ≡ x → Runs xs s (drop at bytes)
+    → Runs xs s (x ∷ drop (at + 1) bytes)
+runs_next xs s bytes at x h e runs =
+    subst (Runs xs s) (drop_more bytes at 0 h ∙ ap (λ y. y ∷ drop (at + 1) bytes) e) runs
 
-pub run_on : (bytes : List ℕ) (from at : ℕ) → from ≤ at → at < length bytes → 32 ≤ get_or bytes at 0 → get_or bytes at 0 ≢ 34 → get_or bytes at 0 ≢ 92
-    → Runs (drop from bytes) (slice_range bytes from at) (drop at bytes) → Runs (drop from bytes) (slice_range bytes from (at + 1)) (drop (at + 1) bytes)
+pub run_on : (bytes : List ℕ) (from at : ℕ) → from ≤ at → at < length bytes → 32 ≤ get_or bytes at 0
+    → get_or bytes at 0 ≢ 34 → get_or bytes at 0 ≢ 92
+    → Runs (drop from bytes) (slice_range bytes from at) (drop at bytes)
+    → Runs (drop from bytes) (slice_range bytes from (at + 1)) (drop (at + 1) bytes)
 run_on bytes from at le h low q b runs =
-    let more = runs_more (drop from bytes) (slice_range bytes from at) (get_or bytes at 0) (drop (at + 1) bytes) low q b (runs_next _ _ bytes at (get_or bytes at 0) h refl runs) in
+    let more = runs_more (drop from bytes) (slice_range bytes from at) (get_or bytes at 0) (drop (at + 1) bytes) low q b
+    (runs_next _ _ bytes at (get_or bytes at 0) h refl runs) in
     subst (λ s. Runs (drop from bytes) s (drop (at + 1) bytes)) (slice_more bytes from at le h) more
 
 -- ---- a whole line
 
-pub over : (xs bytes : List ℕ) (at : ℕ) → Same xs (93 ∷ drop at bytes) → Same (drop at bytes) [] → Begins xs (token end_array) []
+pub over : (xs bytes : List ℕ) (at : ℕ) → Same xs (93 ∷ drop at bytes) → Same (drop at bytes) []
+    → Begins xs (token end_array) []
 over xs bytes at closes ends = bracket_closes xs (drop at bytes) closes ∙ ap (λ ls. token end_array ∷ ls) ends

@@ -7,14 +7,17 @@ use Rattle.serde_json.specs.Written.{compact_text}
 use Rattle.tx_text.specs.Texts.{members_text}
 use Rattle.tx_text.proofs.Texts.{later}
 
-members_more : (ds : List Data) (d : Data) → members_text (items_of (ds ++ d ∷ [])) ≡ members_text (items_of ds) ++ 44 ∷ compact_text d
+members_more : (ds : List Data) (d : Data)
+    → members_text (items_of (ds ++ d ∷ [])) ≡ members_text (items_of ds) ++ 44 ∷ compact_text d
 members_more [] d = ap (λ t. 44 ∷ t) (append-nil (compact_text d))
 members_more (x ∷ ds) d =
     ap (λ t. 44 ∷ (compact_text x ++ t)) (members_more ds d)
     ∙ ap (λ t. 44 ∷ t) (sym (append_assoc (compact_text x) (members_text (items_of ds)) (44 ∷ compact_text d)))
 
 -- a comma and one more entry
-pub entry_more : {X : Type 0} (f : X → Data) (old : List ℕ) (xs : List X) (i : ℕ) (d : X) → i < length xs → ((old ++ members_text (items_of (map f (take i xs)))) ++ 44 ∷ []) ++ compact_text (f (get_or xs i d)) ≡ old ++ members_text (items_of (map f (take (i + 1) xs)))
+pub entry_more : {X : Type 0} (f : X → Data) (old : List ℕ) (xs : List X) (i : ℕ) (d : X) → i < length xs
+    → ((old ++ members_text (items_of (map f (take i xs)))) ++ 44 ∷ []) ++ compact_text (f (get_or xs i d)) ≡ old
+    ++ members_text (items_of (map f (take (i + 1) xs)))
 entry_more f old xs i d h =
     let so_far = map f (take i xs) in
     let one = f (get_or xs i d) in
@@ -24,7 +27,8 @@ entry_more f old xs i d h =
     ∙ ap (λ ds. old ++ members_text (items_of ds)) (sym (map_more f xs i d h))
 
 -- a bracket, the first entry, the others, each with a comma before it, and a bracket
-pub list_is : (old : List ℕ) (d : Data) (ds : Items) → (((old ++ 91 ∷ []) ++ compact_text d) ++ members_text ds) ++ 93 ∷ [] ≡ old ++ compact_text (array (item d ds))
+pub list_is : (old : List ℕ) (d : Data) (ds : Items)
+    → (((old ++ 91 ∷ []) ++ compact_text d) ++ members_text ds) ++ 93 ∷ [] ≡ old ++ compact_text (array (item d ds))
 list_is old d ds =
     append_assoc ((old ++ 91 ∷ []) ++ compact_text d) (members_text ds) (93 ∷ [])
     ∙ append_assoc (old ++ 91 ∷ []) (compact_text d) (members_text ds ++ 93 ∷ [])

@@ -27,35 +27,54 @@ stands_simply x e =
     (both.0, leb-false 128 x both.1)
 
 -- a run goes on over bytes that stand for themselves
-pub runs_over : (bytes : List ℕ) (from at n : ℕ) → from ≤ at → at + n ≤ length bytes → ((k : ℕ) → at ≤ k → k < at + n → is_stop (get_or bytes k 0) ≡ false)
-    → Runs (drop from bytes) (slice_range bytes from at) (drop at bytes) → Runs (drop from bytes) (slice_range bytes from (at + n)) (drop (at + n) bytes)
-runs_over bytes from at zero le room plain runs = subst (λ e. Runs (drop from bytes) (slice_range bytes from e) (drop e bytes)) (omega arith) runs
+pub runs_over : (bytes : List ℕ) (from at n : ℕ) → from ≤ at → at + n ≤ length bytes
+    → ((k : ℕ) → at ≤ k → k < at + n → is_stop (get_or bytes k 0) ≡ false)
+    → Runs (drop from bytes) (slice_range bytes from at) (drop at bytes)
+    → Runs (drop from bytes) (slice_range bytes from (at + n)) (drop (at + n) bytes)
+runs_over bytes from at zero le room plain runs =
+    subst (λ e. Runs (drop from bytes) (slice_range bytes from e) (drop e bytes)) (omega arith) runs
 runs_over bytes from at (suc n) le room plain runs =
     let so = runs_over bytes from at n le (omega arith) (λ k a b. plain k a (omega arith)) runs in
     let last = stands (get_or bytes (at + n) 0) (plain (at + n) (omega arith) (omega arith)) in
     let e : (at + n) + 1 ≡ at + suc n = omega arith in
-    subst (λ e. Runs (drop from bytes) (slice_range bytes from e) (drop e bytes)) e (run_on bytes from (at + n) (omega arith) (omega arith) last.0 last.1 last.2 so)
+    subst (λ e. Runs (drop from bytes) (slice_range bytes from e) (drop e bytes)) e
+    (run_on bytes from (at + n) (omega arith) (omega arith) last.0 last.1 last.2 so)
 
-pub runs_upto : (bytes : List ℕ) (from at to : ℕ) → from ≤ at → at ≤ to → to ≤ length bytes → ((k : ℕ) → at ≤ k → k < to → is_stop (get_or bytes k 0) ≡ false)
-    → Runs (drop from bytes) (slice_range bytes from at) (drop at bytes) → Runs (drop from bytes) (slice_range bytes from to) (drop to bytes)
+pub runs_upto : (bytes : List ℕ) (from at to : ℕ) → from ≤ at → at ≤ to → to ≤ length bytes
+    → ((k : ℕ) → at ≤ k → k < to → is_stop (get_or bytes k 0) ≡ false)
+    → Runs (drop from bytes) (slice_range bytes from at) (drop at bytes)
+    → Runs (drop from bytes) (slice_range bytes from to) (drop to bytes)
 runs_upto bytes from at to le on room plain runs =
     let e : at + (to - at) ≡ to = omega arith in
-    subst (λ e. Runs (drop from bytes) (slice_range bytes from e) (drop e bytes)) e (runs_over bytes from at (to - at) le (omega arith) (λ k a b. plain k a (omega arith)) runs)
+    subst (λ e. Runs (drop from bytes) (slice_range bytes from e) (drop e bytes)) e
+    (runs_over bytes from at (to - at) le (omega arith) (λ k a b. plain k a (omega arith)) runs)
 
 -- the first bytes stand for themselves in a string, where each does
-pub same_upto : (bytes : List ℕ) (n : ℕ) → n ≤ length bytes → ((k : ℕ) → k < n → is_stop (get_or bytes k 0) ≡ false) → escape (take n bytes) ≡ take n bytes
+pub same_upto : (bytes : List ℕ) (n : ℕ) → n ≤ length bytes → ((k : ℕ) → k < n → is_stop (get_or bytes k 0) ≡ false)
+    → escape (take n bytes) ≡ take n bytes
 same_upto bytes zero room plain = refl
 same_upto bytes (suc n) room plain =
     let last = stands (get_or bytes n 0) (plain n (omega arith)) in
     let e : n + 1 ≡ suc n = omega arith in
-    subst (λ e. escape (take e bytes) ≡ take e bytes) e (plain_more bytes n (omega arith) last.0 last.1 last.2 (same_upto bytes n (omega arith) (λ k h. plain k (omega arith))))
+    subst (λ e. escape (take e bytes)
+    ≡ take e bytes) e (plain_more bytes n (omega arith) last.0 last.1 last.2
+    (same_upto bytes n (omega arith) (λ k h. plain k (omega arith))))
 
-each_stands : (bytes : List ℕ) (at : ℕ) → ((k : ℕ) → k < at → is_foreign (get_or bytes k 0) ≡ false) → ((k : ℕ) → at ≤ k → k < length bytes → is_foreign (get_or bytes k 0) ≡ false) → (k : ℕ) → k < length bytes → is_stop (get_or bytes k 0) ≡ false
-each_stands bytes at first others k h = elim (cases_lt k at) [ inl l ↦ (stands_simply (get_or bytes k 0) (first k l)).0 | inr g ↦ (stands_simply (get_or bytes k 0) (others k g h)).0 ]
+each_stands : (bytes : List ℕ) (at : ℕ) → ((k : ℕ) → k < at → is_foreign (get_or bytes k 0) ≡ false)
+    → ((k : ℕ) → at ≤ k → k < length bytes → is_foreign (get_or bytes k 0) ≡ false) → (k : ℕ) → k < length bytes
+    → is_stop (get_or bytes k 0) ≡ false
+each_stands bytes at first others k h =
+    elim (cases_lt k at) [
+      | inl l ↦ (stands_simply (get_or bytes k 0) (first k l)).0
+      | inr g ↦ (stands_simply (get_or bytes k 0) (others k g h)).0
+    ]
 
 -- all bytes do, where the first do and the others
-pub all_same : (bytes : List ℕ) (at : ℕ) → ((k : ℕ) → k < at → is_foreign (get_or bytes k 0) ≡ false) → ((k : ℕ) → at ≤ k → k < length bytes → is_foreign (get_or bytes k 0) ≡ false) → escape bytes ≡ bytes
-all_same bytes at first others = subst (λ l. escape l ≡ l) (take-length bytes) (same_upto bytes (length bytes) (omega arith) (each_stands bytes at first others))
+pub all_same : (bytes : List ℕ) (at : ℕ) → ((k : ℕ) → k < at → is_foreign (get_or bytes k 0) ≡ false)
+    → ((k : ℕ) → at ≤ k → k < length bytes → is_foreign (get_or bytes k 0) ≡ false) → escape bytes ≡ bytes
+all_same bytes at first others =
+    subst (λ l. escape l ≡ l) (take-length bytes)
+    (same_upto bytes (length bytes) (omega arith) (each_stands bytes at first others))
 
 -- ---- lanes
 
@@ -78,20 +97,26 @@ three a b c = ap (λ l. bit_or l (lane c)) (lane_or a b) ∙ lane_or (a || b) c
 
 -- the lanes that two tests for a byte and one for less than a byte made
 abbrev pub stop_lanes : List ℕ → ℕ → List ℕ
-stop_lanes v n = zip2 bit_or (zip2 bit_or (zip2 (λ a b. lane (eqb a b)) v (replicate n 34)) (zip2 (λ a b. lane (eqb a b)) v (replicate n 92))) (zip2 (λ a b. lane (ltb a b)) v (replicate n 32))
+stop_lanes v n = zip2 bit_or
+    (zip2 bit_or (zip2 (λ a b. lane (eqb a b)) v (replicate n 34)) (zip2 (λ a b. lane (eqb a b)) v (replicate n 92)))
+    (zip2 (λ a b. lane (ltb a b)) v (replicate n 32))
 
 pub stop_tops : (v : List ℕ) (n : ℕ) → length v ≡ n → map (top 7) (stop_lanes v n) ≡ map is_stop v
 stop_tops [] n e = refl
 stop_tops (x ∷ v) zero e = absurd (omega (arith, e))
 stop_tops (x ∷ v) (suc n) e =
-    ap₂ (λ b bs. b ∷ bs) (ap (top 7) (three (eqb x 34) (eqb x 92) (ltb x 32)) ∙ top_lane (is_stop x)) (stop_tops v n (omega arith))
+    ap₂ (λ b bs. b ∷ bs) (ap (top 7) (three (eqb x 34) (eqb x 92) (ltb x 32))
+    ∙ top_lane (is_stop x)) (stop_tops v n (omega arith))
 
-pub foreign_tops : (v : List ℕ) (n : ℕ) → length v ≡ n → map (top 7) (zip2 bit_or (stop_lanes v n) (zip2 (λ a b. lane (leb a b)) (replicate n 128) v)) ≡ map is_foreign v
+pub foreign_tops : (v : List ℕ) (n : ℕ) → length v ≡ n
+    → map (top 7) (zip2 bit_or (stop_lanes v n) (zip2 (λ a b. lane (leb a b)) (replicate n 128) v)) ≡ map is_foreign v
 foreign_tops [] n e = refl
 foreign_tops (x ∷ v) zero e = absurd (omega (arith, e))
 foreign_tops (x ∷ v) (suc n) e =
-    ap₂ (λ b bs. b ∷ bs) (ap (λ l. top 7 (bit_or l (lane (leb 128 x)))) (three (eqb x 34) (eqb x 92) (ltb x 32)) ∙ ap (top 7) (lane_or (is_stop x) (leb 128 x)) ∙ top_lane (is_foreign x)) (foreign_tops v n (omega arith))
+    ap₂ (λ b bs. b ∷ bs) (ap (λ l. top 7 (bit_or l (lane (leb 128 x)))) (three (eqb x 34) (eqb x 92) (ltb x 32))
+    ∙ ap (top 7) (lane_or (is_stop x) (leb 128 x)) ∙ top_lane (is_foreign x)) (foreign_tops v n (omega arith))
 
 -- the mask of a block
-pub mask_is : (p : ℕ → Bool) (v z : List ℕ) → length v ≤ 64 → map (top 7) z ≡ map p v → mask_l (map (top 7) z) % 2 ^ 64 ≡ mask_l (map p v)
+pub mask_is : (p : ℕ → Bool) (v z : List ℕ) → length v ≤ 64 → map (top 7) z ≡ map p v
+    → mask_l (map (top 7) z) % 2 ^ 64 ≡ mask_l (map p v)
 mask_is p v z short e = ap (λ l. mask_l l % 2 ^ 64) e ∙ mask_l-mod (map p v) 64 (omega (arith, length-map v p))

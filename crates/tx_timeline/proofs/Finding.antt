@@ -37,25 +37,33 @@ module _ {X : Type 0} where
 
   -- the entry at an index is found
   pub found_here : (es : List (ℕ × X)) (i t : ℕ) (x : X) → Rises es → slice_get es i ≡ Some (t, x) → find t es ≡ Some x
-  found_here es i t x s h = lookup_from_place (eq_by_cmp_equiv nat_cmp_total) es i t x (IsDistinct-from_sorted nat_cmp (keys_of es) s) h
+  found_here es i t x s h =
+      lookup_from_place (eq_by_cmp_equiv nat_cmp_total) es i t x (IsDistinct-from_sorted nat_cmp (keys_of es) s) h
 
   -- what is found has an index
-  pub found_place : (es : List (ℕ × X)) (q : ℕ) → IsSome (find q es) → (i : ℕ) × (x : X) × (slice_get es i ≡ Some (q, x))
+  pub found_place : (es : List (ℕ × X)) (q : ℕ) → IsSome (find q es)
+      → (i : ℕ) × (x : X) × (slice_get es i ≡ Some (q, x))
   found_place es q some = go (find q es) refl
     where
       go : (o : Option X) → find q es ≡ o → (i : ℕ) × (x : X) × (slice_get es i ≡ Some (q, x))
       go None e = absurd (nothing (find q es) some e)
-      go (Some v) e = (let p = place_from_lookup (is_at (nat_cmp q)) es v e in (p.0, v, p.2 ∙ ap (λ (k : ℕ). Some (k, v)) (sym (one_time q p.1 p.3))))
+      go (Some v) e = (let p = place_from_lookup (is_at (nat_cmp q)) es v e in
+          (p.0, v, p.2 ∙ ap (λ (k : ℕ). Some (k, v)) (sym (one_time q p.1 p.3))))
 
   pub none_found : (es : List (ℕ × X)) (q : ℕ) → es ≡ [] → find q es ≡ None
   none_found es q none = ap (find q) none
 
   -- nothing is found between the entries before an index and the one there
-  none_between : (es : List (ℕ × X)) (i q : ℕ) → Rises es → ((j : ℕ) (e : ℕ × X) → j < i → slice_get es j ≡ Some e → e.0 < q) → ((e : ℕ × X) → slice_get es i ≡ Some e → q < e.0) → find q es ≡ None
-  none_between es i q s under over = lookup_at_gap nat_cmp_total q es i s (λ j e lt p. is_greater q e.0 (under j e lt p)) (λ e p. is_less q e.0 (over e p))
+  none_between : (es : List (ℕ × X)) (i q : ℕ) → Rises es
+      → ((j : ℕ) (e : ℕ × X) → j < i → slice_get es j ≡ Some e → e.0 < q)
+      → ((e : ℕ × X) → slice_get es i ≡ Some e → q < e.0) → find q es ≡ None
+  none_between es i q s under over =
+      lookup_at_gap nat_cmp_total q es i s (λ j e lt p. is_greater q e.0 (under j e lt p))
+      (λ e p. is_less q e.0 (over e p))
 
   -- nothing is above the last
-  pub last_newest : (es : List (ℕ × X)) (e : ℕ × X) → Rises es → slice_get es (length es - 1) ≡ Some e → (q : ℕ) → IsSome (find q es) → q ≤ e.0
+  pub last_newest : (es : List (ℕ × X)) (e : ℕ × X) → Rises es → slice_get es (length es - 1) ≡ Some e → (q : ℕ)
+      → IsSome (find q es) → q ≤ e.0
   last_newest es e s last q some =
       let p = found_place es q some in
       let within = slice_get_within es p.0 (q, p.1) p.2 in
@@ -68,8 +76,15 @@ module _ {X : Type 0} where
 
     pub over_place : IsOther → (j : ℕ) (e : ℕ × X) → i ≤ j → slice_get es j ≡ Some e → t < e.0
     over_place other j e le p = elim (cases_lt i j) [
-      | inl lt ↦ (let first = entry_in es i (omega (arith, slice_get_within es j e p)) in omega (arith, at.from i first.0 (omega arith) first.1, other first.0 first.1, rises_to es i j first.0 e s le first.1 p))
-      | inr ge ↦ (let same : j ≡ i = omega arith in omega (arith, at.from j e le p, other e (ap (slice_get es) (sym same) ∙ p)))
+      | inl lt ↦ (let first = entry_in es i (omega (arith, slice_get_within es j e p)) in
+          omega (
+            arith,
+            at.from i first.0 (omega arith) first.1,
+            other first.0 first.1,
+            rises_to es i j first.0 e s le first.1 p,
+          ))
+      | inr ge ↦ (let same : j ≡ i = omega arith in
+          omega (arith, at.from j e le p, other e (ap (slice_get es) (sym same) ∙ p)))
     ]
 
     pub none_at : IsOther → find t es ≡ None
@@ -89,7 +104,8 @@ module _ {X : Type 0} where
       at_start = elim first [ inl none ↦ none | inr past ↦ absurd (omega (arith, at.within)) ]
 
       pub none_below : (q : ℕ) → q < t → find q es ≡ None
-      none_below q lt = none_between es i q s (λ j e within p. absurd (omega (arith, within, at_start))) (λ e p. omega (arith, at.from i e (omega arith) p))
+      none_below q lt = none_between es i q s (λ j e within p. absurd (omega (arith, within, at_start)))
+          (λ e p. omega (arith, at.from i e (omega arith) p))
 
       pub none_upto : IsOther → (q : ℕ) → q ≤ t → find q es ≡ None
       none_upto other q le = elim (cases_lt q t) [
@@ -111,7 +127,8 @@ module _ {X : Type 0} where
       before_nearest other q le some = elim (cases_lt e.0 q) [
         | inl over ↦ elim (cases_lt q t) [
           | inl under ↦ absurd (nothing (find q es) some (before_newest q over under))
-          | inr ge ↦ (let same : q ≡ t = omega arith in absurd (nothing (find q es) some (ap (λ (u : ℕ). find u es) same ∙ none_at other)))
+          | inr ge ↦ (let same : q ≡ t = omega arith in
+              absurd (nothing (find q es) some (ap (λ (u : ℕ). find u es) same ∙ none_at other)))
         ]
         | inr upto ↦ upto
       ]

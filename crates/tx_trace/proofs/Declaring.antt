@@ -57,12 +57,14 @@ module _ (d : Declaration) (some : d.changes ≢ []) (accepted : Accepted) (none
 
 -- ---- the declaration
 
-module _ (bounds : List Key) (h : History) (d : Declaration) (run : IsWorldRun bounds (Declared d ∷ h)) (old new : TraceLog) (f : Keeps h old) (enters : Enters d old new) where
+module _ (bounds : List Key) (h : History) (d : Declaration) (run : IsWorldRun bounds (Declared d ∷ h)) (old new :
+    TraceLog) (f : Keeps h old) (enters : Enters d old new) where
   inv : Inv (view bounds h)
   inv = (run_told bounds h run.0).0.sound.inv
 
   unaccepted : (k : Key) → accepted h d.start k ≡ None
-  unaccepted k = none_is (accepted h d.start k) (λ by e. does_declared (declared h) d.start k by.lock.mutation (inv.acceptances d.start k by e).does run.1.once)
+  unaccepted k = none_is (accepted h d.start k)
+      (λ by e. does_declared (declared h) d.start k by.lock.mutation (inv.acceptances d.start k by e).does run.1.once)
 
   undecided : (s : State) → decided h d.start ≡ s → s ≡ Open
   undecided Open e = refl
@@ -70,28 +72,45 @@ module _ (bounds : List Key) (h : History) (d : Declaration) (run : IsWorldRun b
 
   own : Stands (decided h d.start) d (accepted h d.start) (kept_in new d.start)
   own =
-      let kept : kept_in new d.start ≡ Some enters.first = enters.others d.start ∙ cond_true (d.start == d.start) (Some enters.first) (kept_in old d.start) (nat_same d.start) in
+      let kept : kept_in new d.start ≡ Some enters.first =
+      enters.others d.start
+      ∙ cond_true (d.start == d.start) (Some enters.first) (kept_in old d.start) (nat_same d.start) in
       subst (λ s. Stands s d (accepted h d.start) (kept_in new d.start)) (sym (undecided (decided h d.start) refl))
-      (subst (λ o. Stands Open d (accepted h d.start) o) (sym kept) (first_awaits d run.1.some (accepted h d.start) unaccepted enters.first enters.is))
+      (subst (λ o. Stands Open d (accepted h d.start) o) (sym kept)
+      (first_awaits d run.1.some (accepted h d.start) unaccepted enters.first enters.is))
 
-  stands : (t : ℕ) (of : Declaration) → cond (d.start == t) (Some d) (declared h t) ≡ Some of → Stands (decided h t) of (accepted h t) (kept_in new t)
+  stands : (t : ℕ) (of : Declaration) → cond (d.start == t) (Some d) (declared h t) ≡ Some of
+      → Stands (decided h t) of (accepted h t) (kept_in new t)
   stands t of is =
       elim (nat_test d.start t) [
-        | inl x ↦ (let same : d ≡ of = some_same d of (sym (cond_true (d.start == t) (Some d) (declared h t) x.0) ∙ is) in
-            subst (λ (y : Declaration). Stands (decided h t) y (accepted h t) (kept_in new t)) same (subst (λ n. Stands (decided h n) d (accepted h n) (kept_in new n)) x.1 own))
-        | inr x ↦ subst (λ o. Stands (decided h t) of (accepted h t) o) (sym (enters.others t ∙ cond_false (d.start == t) (Some enters.first) (kept_in old t) x.0)) (f.0.pending t of (sym (cond_false (d.start == t) (Some d) (declared h t) x.0) ∙ is))
+        | inl x ↦ (let same : d ≡ of =
+            some_same d of (sym (cond_true (d.start == t) (Some d) (declared h t) x.0) ∙ is) in
+            subst (λ (y : Declaration). Stands (decided h t) y (accepted h t) (kept_in new t)) same
+            (subst (λ n. Stands (decided h n) d (accepted h n) (kept_in new n)) x.1 own))
+        | inr x ↦ subst (λ o. Stands (decided h t) of (accepted h t) o)
+            (sym (enters.others t ∙ cond_false (d.start == t) (Some enters.first) (kept_in old t) x.0))
+            (f.0.pending t of (sym (cond_false (d.start == t) (Some d) (declared h t) x.0) ∙ is))
       ]
 
   -- nothing of it was accepted
-  inserts : (t : ℕ) (of : Declaration) (k : Key) (v : Value) → cond (d.start == t) (Some d) (declared h t) ≡ Some of → mutation_at of.changes k ≡ Some (Insert v) → accepted h t k ≢ None → checked_in new t k ≡ true
+  inserts : (t : ℕ) (of : Declaration) (k : Key) (v : Value) → cond (d.start == t) (Some d) (declared h t) ≡ Some of
+      → mutation_at of.changes k ≡ Some (Insert v) → accepted h t k ≢ None → checked_in new t k ≡ true
   inserts t of k v is ins some =
       elim (nat_test d.start t) [
         | inl x ↦ absurd (some (subst (λ n. accepted h n k ≡ None) x.1 (unaccepted k)))
-        | inr x ↦ enters.still t k ∙ f.1.inserts t of k v (sym (cond_false (d.start == t) (Some d) (declared h t) x.0) ∙ is) ins some
+        | inr x ↦ enters.still t k
+            ∙ f.1.inserts t of k v (sym (cond_false (d.start == t) (Some d) (declared h t) x.0) ∙ is) ins some
       ]
 
   tracks : Tracks (Declared d ∷ h) (checked_in new)
   tracks = record { accepts = λ t k e. f.1.accepts t k (sym (enters.still t k) ∙ e); inserts = inserts }
 
   pub declares : Keeps (Declared d ∷ h) new
-  declares = (record { shadows = enters.steps ∙ ap (λ s. step.Declare d.start d.changes ∷ s) f.0.shadows; pending = stands }, tracks)
+  declares = (
+    record {
+      shadows = enters.steps ∙ ap (λ s. step.Declare d.start d.changes ∷ s) f.0.shadows;
+      pending =
+          stands;
+    },
+    tracks,
+  )

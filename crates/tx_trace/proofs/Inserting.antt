@@ -49,19 +49,28 @@ module _ (bounds : List Key) (h : History) (inv : Inv (view bounds h)) (b : Prew
   abbrev at : ℕ
   at = route bounds b.key
 
-  never : (P : ℕ → Type 0) → AnswersPrewrite ((left h at).cells b.key) (left h at).safe l P b (Prewritten m) → is_own ((left h at).cells b.key).lock b.start ≡ false → accepted h b.start b.key ≡ None
+  never : (P : ℕ → Type 0) → AnswersPrewrite ((left h at).cells b.key) (left h at).safe l P b (Prewritten m)
+      → is_own ((left h at).cells b.key).lock b.start ≡ false → accepted h b.start b.key ≡ None
   never P (inl x) apart = absurd (cc (x.1))
   never P (inr (no0, inl x)) apart = absurd (cc (x.1))
-  never P (inr (no0, inr (no1, inl (lock, own, e)))) apart = (let is = ap (λ o. is_own o b.start) own.stands in let same = eq-eqb lock.start b.start own.own in absurd (cc (apart, is, same)))
+  never P (inr (no0, inr (no1, inl (lock, own, e)))) apart =
+      (let is = ap (λ o. is_own o b.start) own.stands in let same = eq-eqb lock.start b.start own.own in
+      absurd (cc (apart, is, same)))
   never P (inr (no0, inr (no1, inr (no2, inl x)))) apart = absurd (cc (x.1))
   never P (inr (no0, inr (no1, inr (no2, inr (no3, inl (c, own, e)))))) apart = absurd (cc (e))
   never P (inr (no0, inr (no1, inr (no2, inr (no3, inr (no4, inl (lock, stands, e))))))) apart = absurd (cc (e))
-  never P (inr (no0, inr (no1, inr (no2, inr (no3, inr (no4, inr (no5, inl (some, (start, c, newest, e))))))))) apart = absurd (cc (e))
+  never P (inr (no0, inr (no1, inr (no2, inr (no3, inr (no4, inr (no5, inl (some, (start, c, newest, e))))))))) apart =
+      absurd (cc (e))
   never P (inr (no0, inr (no1, inr (no2, inr (no3, inr (no4, inr (no5, inr (no6, inl x)))))))) apart = absurd (cc (x.1))
   never P (inr (no0, inr (no1, inr (no2, inr (no3, inr (no4, inr (no5, inr (no6, inr (no7, rest))))))))) apart =
-      never_accepted (view bounds h) b.key b.start inv (elim (cases_lt b.start (left h at).safe) [ inl lt ↦ absurd (no0 lt) | inr le ↦ omega (arith, le, inv.marks.low b.key) ]) no2 no4 no3
+      never_accepted (view bounds h) b.key b.start inv
+      (elim (cases_lt b.start (left h at).safe) [
+        | inl lt ↦ absurd (no0 lt)
+        | inr le ↦ omega (arith, le, inv.marks.low b.key)
+      ]) no2 no4 no3
 
-module _ (bounds : List Key) (h : History) (n : ℕ) (b : Prewrite) (l m : ℕ) (run : IsWorldRun bounds (Took (took n (body.Prewrite b) l (Prewritten m)) ∷ h)) where
+module _ (bounds : List Key) (h : History) (n : ℕ) (b : Prewrite) (l m : ℕ) (run :
+    IsWorldRun bounds (Took (took n (body.Prewrite b) l (Prewritten m)) ∷ h)) where
   abbrev x : Taken
   x = took n (body.Prewrite b) l (Prewritten m)
 
@@ -74,8 +83,10 @@ module _ (bounds : List Key) (h : History) (n : ℕ) (b : Prewrite) (l m : ℕ) 
   first : own ≡ false → accepted h b.start b.key ≡ None
   first =
       subst (λ r. is_own ((left h r).cells b.key).lock b.start ≡ false → accepted h b.start b.key ≡ None) run.1.holds
-      (never bounds h (run_told bounds h run.0).0.sound.inv b l m (MayPromise (left h (route bounds b.key)).max_read (last h) b)
-      (subst (λ r. AnswersPrewrite ((left h r).cells b.key) (left h r).safe l (MayPromise (left h r).max_read (last h) b) b (Prewritten m)) (sym run.1.holds) run.1.answers))
+      (never bounds h (run_told bounds h run.0).0.sound.inv b l m
+      (MayPromise (left h (route bounds b.key)).max_read (last h) b)
+      (subst (λ r. AnswersPrewrite ((left h r).cells b.key) (left h r).safe l
+      (MayPromise (left h r).max_read (last h) b) b (Prewritten m)) (sym run.1.holds) run.1.answers))
 
   -- ---- the read of the check
 
@@ -95,7 +106,8 @@ module _ (bounds : List Key) (h : History) (n : ℕ) (b : Prewrite) (l m : ℕ) 
       go true e = ap (λ o. checking (body.Prewrite b) (cond o NoEffect (Puts b.key (lock_of b m)))) e
       go false e = absurd (some (first e))
 
-  seen_first : accepted h b.start b.key ≡ None → check_by b.mutation b.start ≡ Some b.start → checking (body.Prewrite b) (effect_in h x) ≡ step.Read b.key b.start None ∷ []
+  seen_first : accepted h b.start b.key ≡ None → check_by b.mutation b.start ≡ Some b.start
+      → checking (body.Prewrite b) (effect_in h x) ≡ step.Read b.key b.start None ∷ []
   seen_first none is = ap (checking (body.Prewrite b)) (puts bounds h n b l m run own refl none) ∙ ap (checked b) is
 
   -- ---- what is accepted
@@ -109,7 +121,8 @@ module _ (bounds : List Key) (h : History) (n : ℕ) (b : Prewrite) (l m : ℕ) 
   others : (t : ℕ) (k : Key) → here t k ≡ false → accepted (Took x ∷ h) t k ≡ accepted h t k
   others t k apart = go own
     where
-      go : (o : Bool) → accepted_by (cond o NoEffect (Puts b.key (lock_of b m))) (last h) t k (accepted h t k) ≡ accepted h t k
+      go : (o : Bool) → accepted_by (cond o NoEffect (Puts b.key (lock_of b m))) (last h) t k (accepted h t k)
+          ≡ accepted h t k
       go true = refl
       go false = cond_false (here t k) _ (accepted h t k) apart
 
@@ -120,52 +133,80 @@ module _ (bounds : List Key) (h : History) (n : ℕ) (b : Prewrite) (l m : ℕ) 
   key_is t k e = key_true b.key k (and_parts (b.start == t) (bytes_eq b.key k) e).1
 
   -- what is declared of the key is what the prewrite says
-  is_insert : (t : ℕ) (d : Declaration) (k : Key) (v : Value) → here t k ≡ true → declared h t ≡ Some d → mutation_at d.changes k ≡ Some (mutation.Insert v) → b.mutation ≡ mutation.Insert v
+  is_insert : (t : ℕ) (d : Declaration) (k : Key) (v : Value) → here t k ≡ true → declared h t ≡ Some d
+      → mutation_at d.changes k ≡ Some (mutation.Insert v) → b.mutation ≡ mutation.Insert v
   is_insert t d k v e is ins =
       let same : of ≡ d = some_same of d (sym run.1.allowed.stands ∙ (ap (declared h) (start_is t k e) ∙ is)) in
-      some_same b.mutation (mutation.Insert v) (sym run.1.allowed.mutation ∙ (ap (mutation_at of.changes) (key_is t k e) ∙ (ap (λ (y : Declaration). mutation_at y.changes k) same ∙ ins)))
+      some_same b.mutation (mutation.Insert v) (sym run.1.allowed.mutation
+      ∙ (ap (mutation_at of.changes) (key_is t k e)
+      ∙ (ap (λ (y : Declaration). mutation_at y.changes k) same ∙ ins)))
 
   module _ (some : of.changes ≢ []) (old new : TraceLog) (f : Keeps h old) (a : Accepts b m old new) where
-    unaccepted : (v : Value) → b.mutation ≡ mutation.Insert v → checked_in old b.start b.key ≡ false → accepted h b.start b.key ≡ None
-    unaccepted v ins unchecked = none_of (accepted h b.start b.key) (λ was. (let e = f.1.inserts b.start of b.key v run.1.allowed.stands (run.1.allowed.mutation ∙ ap Some ins) was in cc (e, unchecked)))
+    unaccepted : (v : Value) → b.mutation ≡ mutation.Insert v → checked_in old b.start b.key ≡ false
+        → accepted h b.start b.key ≡ None
+    unaccepted v ins unchecked =
+        none_of (accepted h b.start b.key)
+        (λ was. (let e = f.1.inserts b.start of b.key v run.1.allowed.stands (run.1.allowed.mutation
+        ∙ ap Some ins) was in cc (e, unchecked)))
 
-    steps_by : (seen : List Step) → checking (body.Prewrite b) (effect_in h x) ≡ seen → steps_of a.between ≡ seen ++ steps_of old → ((q : ℕ) → kept_in a.between q ≡ kept_in old q) → HasSteps (Took x ∷ h) new
-    steps_by seen checks steps same = locked bounds h n b l m run old new f.0 seen checks some (subst (λ (p : List Step × Kept). Locked b.start b.key m p.0 p.1 new) (λ i. (steps i, λ q. same q i)) a.locks)
+    steps_by : (seen : List Step) → checking (body.Prewrite b) (effect_in h x) ≡ seen
+        → steps_of a.between ≡ seen ++ steps_of old → ((q : ℕ) → kept_in a.between q ≡ kept_in old q)
+        → HasSteps (Took x ∷ h) new
+    steps_by seen checks steps same =
+        locked bounds h n b l m run old new f.0 seen checks some
+        (subst (λ (p : List Step × Kept). Locked b.start b.key m p.0 p.1 new) (λ i. (steps i, λ q. same q i)) a.locks)
 
     -- nothing more is checked: where it inserts, its key was
-    tracks_still : ((t : ℕ) (k : Key) → checked_in new t k ≡ checked_in old t k) → ((v : Value) → b.mutation ≡ mutation.Insert v → checked_in old b.start b.key ≡ true) → Tracks (Took x ∷ h) (checked_in new)
+    tracks_still : ((t : ℕ) (k : Key) → checked_in new t k ≡ checked_in old t k)
+        → ((v : Value) → b.mutation ≡ mutation.Insert v → checked_in old b.start b.key ≡ true)
+        → Tracks (Took x ∷ h) (checked_in new)
     tracks_still still was =
         record {
           accepts = λ t k e. more t k (f.1.accepts t k (sym (still t k) ∙ e));
           inserts = λ t d k v is ins now. still t k ∙ elim (cases_Bool (here t k)) [
-            | inl e ↦ subst (λ (p : ℕ × Key). checked_in old p.0 p.1 ≡ true) (λ i. (start_is t k e i, key_is t k e i)) (was v (is_insert t d k v e is ins))
+            | inl e ↦ subst (λ (p : ℕ × Key). checked_in old p.0 p.1
+                ≡ true) (λ i. (start_is t k e i, key_is t k e i)) (was v (is_insert t d k v e is ins))
             | inr e ↦ f.1.inserts t d k v is ins (λ none. now (others t k e ∙ none))
           ];
         }
 
-    tracks_more : ((t : ℕ) (k : Key) → checked_in new t k ≡ cond (here t k) true (checked_in old t k)) → Tracks (Took x ∷ h) (checked_in new)
+    tracks_more : ((t : ℕ) (k : Key) → checked_in new t k ≡ cond (here t k) true (checked_in old t k))
+        → Tracks (Took x ∷ h) (checked_in new)
     tracks_more keys =
         record {
           accepts = λ t k e. elim (cases_Bool (here t k)) [
-            | inl y ↦ subst (λ (p : ℕ × Key). accepted (Took x ∷ h) p.0 p.1 ≢ None) (λ i. (start_is t k y i, key_is t k y i)) (accepted_now bounds h n b l m run)
-            | inr y ↦ more t k (f.1.accepts t k (sym (keys t k ∙ cond_false (here t k) true (checked_in old t k) y) ∙ e))
+            | inl y ↦ subst (λ (p : ℕ × Key). accepted (Took x ∷ h) p.0 p.1 ≢ None)
+                (λ i. (start_is t k y i, key_is t k y i)) (accepted_now bounds h n b l m run)
+            | inr y ↦ more t k (f.1.accepts t k (sym (keys t k ∙ cond_false (here t k) true (checked_in old t k) y)
+                ∙ e))
           ];
           inserts = λ t d k v is ins now. keys t k ∙ elim (cases_Bool (here t k)) [
             | inl y ↦ cond_true (here t k) true (checked_in old t k) y
-            | inr y ↦ cond_false (here t k) true (checked_in old t k) y ∙ f.1.inserts t d k v is ins (λ none. now (others t k y ∙ none))
+            | inr y ↦ cond_false (here t k) true (checked_in old t k) y
+                ∙ f.1.inserts t d k v is ins (λ none. now (others t k y ∙ none))
           ];
         }
 
-    no_insert : check_by b.mutation b.start ≡ None → (v : Value) → b.mutation ≡ mutation.Insert v → checked_in old b.start b.key ≡ true
+    no_insert : check_by b.mutation b.start ≡ None → (v : Value) → b.mutation ≡ mutation.Insert v
+        → checked_in old b.start b.key ≡ true
     no_insert none v ins = (let is = check_of b.mutation v b.start ins in absurd (cc (none, is)))
 
     pub accepts : Keeps (Took x ∷ h) new
     accepts =
         elim a.checks [
-          | inl y ↦ (steps_by [] (seen_none y.0) y.1.steps y.1.same, tracks_still (λ t k. a.still t k ∙ y.1.still t k) (no_insert y.0))
+          | inl y ↦ (
+            steps_by [] (seen_none y.0) y.1.steps y.1.same,
+            tracks_still (λ t k. a.still t k ∙ y.1.still t k) (no_insert y.0),
+          )
           | inr z ↦ elim z [
-            | inl y ↦ (steps_by [] (seen_again (f.1.accepts b.start b.key y.0)) y.1.steps y.1.same, tracks_still (λ t k. a.still t k ∙ y.1.still t k) (λ v ins. y.0))
-            | inr y ↦ (let ins = insert_of b.mutation b.start b.start y.inserts in
-                (steps_by (step.Read b.key b.start None ∷ []) (seen_first (unaccepted ins.0 ins.1 y.first) y.inserts) y.steps y.same, tracks_more (λ t k. a.still t k ∙ y.keys t k)))
+            | inl y ↦ (
+              steps_by [] (seen_again (f.1.accepts b.start b.key y.0)) y.1.steps y.1.same,
+              tracks_still (λ t k. a.still t k ∙ y.1.still t k) (λ v ins. y.0),
+            )
+            | inr y ↦ (let ins = insert_of b.mutation b.start b.start y.inserts in (
+              steps_by (step.Read b.key b.start None
+                  ∷ []) (seen_first (unaccepted ins.0 ins.1 y.first) y.inserts) y.steps y.same,
+              tracks_more (λ t k. a.still t k ∙ y.keys t k),
+            ))
           ]
         ]

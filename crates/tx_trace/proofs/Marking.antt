@@ -40,8 +40,17 @@ on_err_is (Ok x) A a = tt
 on_err_is (Err e) A a = a
 
 -- a log with the same parts
-pub stays_same : (old new : TraceLog) → steps_of new ≡ steps_of old → ((t : ℕ) → kept_in new t ≡ kept_in old t) → ((t : ℕ) (k : Key) → checked_in new t k ≡ checked_in old t k) → Stays old new
+pub stays_same : (old new : TraceLog) → steps_of new ≡ steps_of old → ((t : ℕ) → kept_in new t ≡ kept_in old t)
+    → ((t : ℕ) (k : Key) → checked_in new t k ≡ checked_in old t k) → Stays old new
 stays_same old new steps kept still h f = (
-  record { shadows = steps ∙ f.0.shadows; pending = λ t d is. subst (Stands (decided h t) d (accepted h t)) (sym (kept t)) (f.0.pending t d is) },
-  record { accepts = λ t k e. f.1.accepts t k (sym (still t k) ∙ e); inserts = λ t d k v is ins some. still t k ∙ f.1.inserts t d k v is ins some },
+  record {
+    shadows = steps ∙ f.0.shadows;
+    pending =
+        λ t d is. subst (Stands (decided h t) d (accepted h t)) (sym (kept t)) (f.0.pending t d is);
+  },
+  record {
+    accepts = λ t k e. f.1.accepts t k (sym (still t k) ∙ e);
+    inserts =
+        λ t d k v is ins some. still t k ∙ f.1.inserts t d k v is ins some;
+  },
 )

@@ -1,8 +1,8 @@
 //! Worked runs, event by event, with the steps that they have.
 use std::test::Fail;
 use tx_core::{
-    Answer, BatchRollback, Body, BoxedPrewrite, CheckSecondaryLocks, Commit, Declaration, Event,
-    Get, Outcome, Prewrite, RegionNo, SeatNo, Starts, Taken, UnknownCause,
+    Answer, BatchRollback, Body, Boxed, CheckSecondaryLocks, Commit, Declaration, Event, Get,
+    Outcome, Prewrite, RegionNo, SeatNo, Starts, Taken, UnknownCause,
 };
 use tx_machine::{Step, check_trace};
 use tx_trace::Trace;
@@ -107,7 +107,7 @@ fn locked(
         ttl: 10,
         others: Secondaries::new(rt.alloc()),
     };
-    let body = Body::Prewrite(BoxedPrewrite::new(rt.alloc(), body)?);
+    let body = Body::Prewrite(Boxed::new(rt.alloc(), body)?);
     Ok(took(body, Answer::Prewritten(Ts::new(min))))
 }
 

@@ -97,6 +97,11 @@ impl Transaction {
         }
     }
 
+    /// The allocator that it began with.
+    pub fn allocator(&self) -> Global {
+        *self.buffer.allocator()
+    }
+
     /// The timestamp at which it started.
     pub fn start(&self) -> Ts
         ensures { result ≡ self.now.start }

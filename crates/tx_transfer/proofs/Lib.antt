@@ -1,4 +1,8 @@
 -- Why a transfer moves between its two keys alone.
+pub mod Calling
+pub mod Collecting
 pub mod Digits
+pub mod Resolving
+pub mod Sending
 pub mod Telling
 pub mod Transferring

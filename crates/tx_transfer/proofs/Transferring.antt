@@ -1,5 +1,5 @@
 -- A transfer's session writes its two keys.
-use Rattle.std.proofs.Common.{◌≡◌, ◌≢◌, ◌⊎◌, inl, inr, ℕ, Bool, true, false, List, [], ◌∷◌, map, Option, Some, None, Result, Ok, Err, OnOk, OnErr, cond, refl, sym, ap, subst, ◌∙◌}
+use Rattle.std.proofs.Common.{◌≡◌, ◌≢◌, ◌⊎◌, inl, inr, ℕ, true, false, List, [], ◌∷◌, map, Option, Some, None, Result, Ok, Err, OnOk, OnErr, refl, sym, ap, subst, ◌∙◌}
 use Rattle.std.specs.Prelude.{bytes_eq, is_some}
 use Rattle.tx_types.specs.declared.key.Key.{Key}
 use Rattle.tx_types.specs.declared.mutation.Change.{Change}
@@ -14,7 +14,7 @@ use Rattle.tx_core.specs.Worlds.{IsWorldRun}
 use Rattle.tx_core.proofs.runs.Consequences.{decided_declared}
 use Rattle.tx_core.proofs.seats.Staying.{declared_on}
 use Rattle.tx_transaction.specs.declared.state.Terms.{Terms}
-use Rattle.tx_transaction.specs.Buffers.{Entries, keys_of, changes_of, touched, fresh}
+use Rattle.tx_transaction.specs.Buffers.{Entries, keys_of, changes_of, touched}
 use Rattle.tx_transaction.specs.Sessions.{SessionState, is_declared, declaration_of}
 use Rattle.tx_client.specs.Facts.{standing}
 use Rattle.tx_client.specs.Calls.{IsDecidedSo, Seated}

@@ -1,4 +1,12 @@
+pub mod Acts
 pub mod Balances
+pub mod Calls
+pub mod Collecting
+pub mod Counting
 pub mod PlainReplies
+pub mod Resolving
+pub mod Seeds
+pub mod Sending
+pub mod Slots
 pub mod Sources
 pub mod Transfers

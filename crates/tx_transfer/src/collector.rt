@@ -1,4 +1,7 @@
 //! What a run collects while its sessions make their steps.
+ghost use Rattle.std.specs.Prelude.{◌≡◌, ◌==◌, None, unwrap_or, if◌then◌else◌};
+ghost use Rattle.tx_transfer.specs.Collecting.{CollectsBy};
+
 use crate::context::Context;
 use std::sync::Wait;
 use tx_cells::Families;
@@ -18,7 +21,11 @@ pub struct Collector {
 
 impl Collector {
     /// That of the session of this number: the first one collects.
-    pub fn of(number: u32, life_time: Option<u64>) -> Collector {
+    pub fn of(number: u32, life_time: Option<u64>) -> Collector
+        ensures first { result.life_time ≡ (if number == 0 then life_time else None) }
+        ensures due { result.due ≡ unwrap_or result.life_time 0 }
+        ensures dropped { result.dropped ≡ 0 }
+    {
         let life_time = if number == 0 { life_time } else { None };
         Collector {
             life_time,
@@ -28,7 +35,9 @@ impl Collector {
     }
 
     /// How many write records it dropped.
-    pub fn dropped(&self) -> u64 {
+    pub fn dropped(&self) -> u64
+        ensures { result ≡ self.now.dropped }
+    {
         self.dropped
     }
 
@@ -37,7 +46,9 @@ impl Collector {
     pub fn collect<J: JournalId, F: Families + Drop, R: Wait + Drop>(
         &mut self,
         context: &mut Context<J, F, R>,
-    ) {
+    )
+        ensures { CollectsBy J.bounds self.old self.old.life_time context.old.resolver self.new context.new.resolver }
+    {
         let Some(life_time) = self.life_time else {
             return;
         };

@@ -1,6 +1,8 @@
 //! What a line orders a transfer to move.
-ghost use Rattle.std.specs.Prelude.{◌≡◌, ◌≢◌, Some, IfOk};
+ghost use Rattle.std.specs.Prelude.{◌≡◌, ◌≢◌, ◌⊎◌, ◌&&◌, false, Some, IfOk, IfErr};
 ghost use Rattle.std.proofs.Props.{props};
+ghost use Rattle.tx_types.specs.declared.fault.Fault.TheVariants as fault;
+ghost use Rattle.tx_types.specs.Lengths.{is_key};
 ghost use Rattle.tx_transfer.specs.Sources.{HasPair};
 
 use crate::source::Source;
@@ -28,7 +30,11 @@ impl<L: Source> Order<L> {
     pub fn new(alloc: Global, number: u64, line: &Transfer<&str>) -> Result<Order<L>, Fault>
         requires apart { line.now.from.now ≢ line.now.to.now }
         requires pair { HasPair L.text number (Some (line.now.from.now, line.now.to.now)) }
-        ensures { IfOk result (λ order. (order.from ≡ line.now.from.now) × (order.to ≡ line.now.to.now)) }
+        ensures number { IfOk result (λ order. order.number ≡ number) }
+        ensures keys { IfOk result (λ order. (order.from ≡ line.now.from.now) × (order.to ≡ line.now.to.now)) }
+        ensures moves { IfOk result (λ order. (order.amount ≡ line.now.amount) × (order.mode ≡ line.now.mode)) }
+        ensures err { IfErr result (λ e. (e ≡ fault.OutOfMemory)
+            ⊎ ((e ≡ fault.KeyLength) × (is_key line.now.from.now && is_key line.now.to.now ≡ false))) }
     {
         let from = Key::new(alloc, line.from.as_bytes())?;
         let to = Key::new(alloc, line.to.as_bytes())?;
@@ -44,6 +50,7 @@ impl<L: Source> Order<L> {
 
     /// The number of its line, and the keys that it moves between.
     pub fn into_pair(self) -> (u64, (Key, Key))
+        ensures number { result.0 ≡ self.number }
         ensures keys { (result.1.0 ≡ self.from) × (result.1.1 ≡ self.to) }
         ensures pair { HasPair L.text result.0 (Some result.1) }
     {

@@ -1,4 +1,7 @@
 //! What stood in the way of the requests of a run.
+ghost use Rattle.std.specs.Prelude.{◌≡◌};
+ghost use Rattle.tx_transfer.specs.Counting.{sum_of, both_of, with_answer};
+
 use std::fmt;
 use std::fmt::{Display, Formatter};
 use tx_core::Answer;
@@ -17,6 +20,13 @@ pub struct Refusals {
     pub resolves: u64,
 }
 
+// Counts one more, as far as 64 bits count it.
+fn count_one(count: &mut u64)
+    ensures { count.new ≡ sum_of count.old 1 }
+{
+    *count = count.saturating_add(1);
+}
+
 impl Refusals {
     /// Nothing was refused, and no lock asked after.
     pub const NONE: Refusals = Refusals {
@@ -30,34 +40,33 @@ impl Refusals {
         resolves: 0,
     };
 
-    // The count of the requests with this answer, where it is a refusal.
-    fn count_of(&mut self, answer: &Answer) -> Option<&mut u64> {
-        match answer {
-            Answer::KeyIsLocked(_) => Some(&mut self.key_is_locked),
-            Answer::WriteConflict { .. } => Some(&mut self.write_conflict),
-            Answer::AlreadyRolledBack => Some(&mut self.already_rolled_back),
-            Answer::TxnLockNotFound => Some(&mut self.txn_lock_not_found),
-            Answer::CommitTsExpired { .. } => Some(&mut self.commit_ts_expired),
-            Answer::AlreadyExists => Some(&mut self.already_exists),
-            Answer::BelowSafePoint { .. } => Some(&mut self.below_safe_point),
-            _ => None,
-        }
-    }
-
     /// Counts a request that was answered so.
-    pub(crate) fn add(&mut self, answer: &Answer) {
-        if let Some(count) = self.count_of(answer) {
-            *count = count.saturating_add(1);
+    pub(crate) fn add(&mut self, answer: &Answer)
+        ensures { self.new ≡ with_answer self.old answer.now }
+    {
+        match answer {
+            Answer::KeyIsLocked(_) => count_one(&mut self.key_is_locked),
+            Answer::WriteConflict { .. } => count_one(&mut self.write_conflict),
+            Answer::AlreadyRolledBack => count_one(&mut self.already_rolled_back),
+            Answer::TxnLockNotFound => count_one(&mut self.txn_lock_not_found),
+            Answer::CommitTsExpired { .. } => count_one(&mut self.commit_ts_expired),
+            Answer::AlreadyExists => count_one(&mut self.already_exists),
+            Answer::BelowSafePoint { .. } => count_one(&mut self.below_safe_point),
+            _ => {}
         }
     }
 
     /// Counts a lock that is asked after.
-    pub(crate) fn add_resolve(&mut self) {
-        self.resolves = self.resolves.saturating_add(1);
+    pub(crate) fn add_resolve(&mut self)
+        ensures { self.new ≡ record self.old { resolves = sum_of self.old.resolves 1 } }
+    {
+        count_one(&mut self.resolves);
     }
 
     /// These and others.
-    pub fn and(self, others: Refusals) -> Refusals {
+    pub fn and(self, others: Refusals) -> Refusals
+        ensures { result ≡ both_of self others }
+    {
         Refusals {
             key_is_locked: self.key_is_locked.saturating_add(others.key_is_locked),
             write_conflict: self.write_conflict.saturating_add(others.write_conflict),

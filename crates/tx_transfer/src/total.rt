@@ -1,4 +1,6 @@
 //! The sum of the balances of all keys.
+ghost use Rattle.std.specs.Prelude.{◌≡◌, IfErr};
+
 use crate::balance::{BALANCES, balance_of};
 use crate::context::Context;
 use std::alloc::Global;
@@ -94,7 +96,9 @@ fn read_all<J: JournalId, F: Families + Drop, R: Wait + Drop>(
 pub fn read_total<J: JournalId, F: Families + Drop, R: Wait + Drop>(
     seat: Seat<J>,
     context: &mut Context<J, F, R>,
-) -> Result<(Total, Seat<J>), Broken> {
+) -> Result<(Total, Seat<J>), Broken>
+    ensures { IfErr result (λ e. e ≡ Broken.Memory) }
+{
     match Session::begin(context.alloc, seat) {
         Err(seat) => {
             drop(seat);

@@ -1,9 +1,10 @@
 //! A transfer: a transaction that reads the balances of two keys and moves an amount from the first
 //! to the second. Its reads are one step, which asks for no latch, and its writes another, which
 //! asks for those of both keys. A lock in its way is resolved in a step of its own.
-ghost use Rattle.std.specs.Prelude.{◌≡◌, ◌<◌, false, Some, IfErr, OnOk, OnErr};
+ghost use Rattle.std.specs.Prelude.{◌≡◌, ◌<◌, ℕ, List, ◌++◌, false, Some, IfOk, IfErr, OnOk, OnErr};
 ghost use Rattle.tx_types.specs.declared.fault.Fault.TheVariants as fault;
 ghost use Rattle.tx_transaction.specs.Sessions.{begun, is_declared};
+ghost use Rattle.tx_transfer.specs.Slots.{slots_of};
 ghost use Rattle.tx_transfer.specs.Sources.{HasPair};
 ghost use Rattle.tx_transfer.specs.Transfers.{HasEntered, Moves};
 ghost use Rattle.tx_transfer.specs.declared.balance.TheConstants.{BALANCES};
@@ -63,7 +64,7 @@ pub enum TransferProgress {
     OutOfMemory,
 }
 
-/// A transfer on its way: a session that writes its two keys. Contracts see the session.
+/// A transfer on its way: a session that writes its two keys. Contracts see the number of its line.
 #[derive(Drop)]
 pub struct TransferState<J: JournalId, L: Source> {
     session: Session<J>,
@@ -81,12 +82,12 @@ pub struct TransferState<J: JournalId, L: Source> {
 }
 
 impl<J: JournalId, L: Source> Model for TransferState<J, L> {
-    ghost use Rattle.tx_client.specs.Calls.{Seated};
+    ghost use Rattle.std.specs.Prelude.{ℕ};
     ghost use Rattle.tx_transfer.specs.Transfers.{Moves};
 
-    ghost Value = { Seated };
+    ghost Value = { ℕ };
 
-    ghost view = { λ m. m.session };
+    ghost view = { λ m. m.order.number };
 
     ghost invariant = { λ m. Moves m.order.from m.order.to m.session.state };
 }
@@ -95,6 +96,7 @@ impl<J: JournalId, L: Source> TransferState<J, L> {
     /// A transfer of which nothing is read yet, in a session that has just begun.
     pub fn new(session: Session<J>, order: Order<L>) -> TransferState<J, L>
         requires { session.state ≡ begun session.state.start }
+        ensures { result ≡ order.number }
     {
         TransferState {
             session,
@@ -109,6 +111,7 @@ impl<J: JournalId, L: Source> TransferState<J, L> {
 
     /// Its session, the number of its line, and the keys that it moves between.
     pub fn into_parts(self) -> (Session<J>, u64, (Key, Key))
+        ensures number { result.1 ≡ self }
         ensures moves { Moves result.2.0 result.2.1 result.0.state }
         ensures pair { HasPair L.text result.1 (Some result.2) }
     {
@@ -127,7 +130,8 @@ impl<J: JournalId, L: Source> TransferState<J, L> {
 
     /// Appends the latch slots of its next step's keys to `slots`.
     pub fn slots(&self, slots: &mut Vec<Slot>) -> Result<(), Fault>
-        ensures { IfErr result (λ e. e ≡ fault.OutOfMemory) }
+        ensures ok { OnOk result ((more : List ℕ) × (slots.new.items ≡ slots.old.items ++ more)) }
+        ensures err { IfErr result (λ e. e ≡ fault.OutOfMemory) }
     {
         if let Some(met) = &self.resolving {
             slots.extend_from_slice(met.as_slice())?;
@@ -158,7 +162,9 @@ impl<J: JournalId, L: Source> TransferState<J, L> {
         alloc: Global,
         info: &LockInfo,
         otherwise: TransferProgress,
-    ) -> TransferProgress {
+    ) -> TransferProgress
+        ensures { self.new ≡ self.old }
+    {
         if self.resolved >= TRIES {
             return otherwise;
         }
@@ -174,7 +180,10 @@ impl<J: JournalId, L: Source> TransferState<J, L> {
 }
 
 /// The slots of a lock, its primary and the keys that it lists.
-pub fn slots_of(alloc: Global, info: &LockInfo) -> Result<Vec<Slot>, Fault> {
+pub fn slots_of(alloc: Global, info: &LockInfo) -> Result<Vec<Slot>, Fault>
+    ensures ok { IfOk result (λ slots. slots.items ≡ slots_of info.now) }
+    ensures err { IfErr result (λ e. e ≡ fault.OutOfMemory) }
+{
     let mut slots = Vec::new(alloc);
     slots.push(slot_of(&info.facts().key))?;
     slots.push(slot_of(&info.facts().primary))?;
@@ -226,6 +235,7 @@ impl<J: JournalId, L: Source> TransferState<J, L> {
     // The balance of a key was read.
     fn on_balance(&mut self, alloc: Global, balance: u64) -> TransferProgress
         requires { balance < BALANCES }
+        ensures { self.new ≡ self.old }
     {
         if self.phase == TransferPhase::ReadFrom {
             self.found = balance;
@@ -252,7 +262,9 @@ impl<J: JournalId, L: Source> TransferState<J, L> {
     fn read<F: Families + Drop, R: Wait + Drop>(
         &mut self,
         context: &mut Context<J, F, R>,
-    ) -> TransferProgress {
+    ) -> TransferProgress
+        ensures { self.new ≡ self.old }
+    {
         let answered = if self.phase == TransferPhase::ReadFrom {
             context.get(&mut self.session, &self.order.from)
         } else {
@@ -274,7 +286,9 @@ impl<J: JournalId, L: Source> TransferState<J, L> {
     }
 
     // It gives up, if it still may.
-    fn turn_to_abort(&mut self) -> TransferProgress {
+    fn turn_to_abort(&mut self) -> TransferProgress
+        ensures { self.new ≡ self.old }
+    {
         self.phase = TransferPhase::Abort;
         TransferProgress::More
     }
@@ -284,7 +298,9 @@ impl<J: JournalId, L: Source> TransferState<J, L> {
         &mut self,
         alloc: Global,
         answered: Result<Option<Answer>, Miss>,
-    ) -> TransferProgress {
+    ) -> TransferProgress
+        ensures { self.new ≡ self.old }
+    {
         match answered {
             Ok(Some(Answer::Prewritten(_) | Answer::AlreadyCommitted { .. })) =>
                 TransferProgress::More,
@@ -304,7 +320,9 @@ impl<J: JournalId, L: Source> TransferState<J, L> {
     fn prewrite<F: Families + Drop, R: Wait + Drop>(
         &mut self,
         context: &mut Context<J, F, R>,
-    ) -> TransferProgress {
+    ) -> TransferProgress
+        ensures { self.new ≡ self.old }
+    {
         if self.session.can_commit() || self.session.can_draw() {
             self.phase = TransferPhase::Commit;
             return self.commit(context);
@@ -321,7 +339,9 @@ impl<J: JournalId, L: Source> TransferState<J, L> {
         &mut self,
         may_abort: bool,
         answered: Result<Option<Answer>, Miss>,
-    ) -> TransferProgress {
+    ) -> TransferProgress
+        ensures { self.new ≡ self.old }
+    {
         match answered {
             Ok(Some(Answer::Committed(_))) if self.session.has_commit() => TransferProgress::More,
             Ok(Some(Answer::Committed(_) | Answer::BelowSafePoint { .. })) | Ok(None) | Err(_) =>
@@ -341,7 +361,9 @@ impl<J: JournalId, L: Source> TransferState<J, L> {
     fn commit<F: Families + Drop, R: Wait + Drop>(
         &mut self,
         context: &mut Context<J, F, R>,
-    ) -> TransferProgress {
+    ) -> TransferProgress
+        ensures { self.new ≡ self.old }
+    {
         if self.session.can_draw() && self.session.draw_commit().is_err() {
             return TransferProgress::Spent;
         }
@@ -357,7 +379,9 @@ impl<J: JournalId, L: Source> TransferState<J, L> {
     fn abort<F: Families + Drop, R: Wait + Drop>(
         &mut self,
         context: &mut Context<J, F, R>,
-    ) -> TransferProgress {
+    ) -> TransferProgress
+        ensures { self.new ≡ self.old }
+    {
         if self.session.can_abort() {
             return match context.abort(&mut self.session) {
                 Ok(None) | Ok(Some(Answer::BelowSafePoint { .. })) | Err(_) =>
@@ -377,7 +401,9 @@ impl<J: JournalId, L: Source> TransferState<J, L> {
     fn request<F: Families + Drop, R: Wait + Drop>(
         &mut self,
         context: &mut Context<J, F, R>,
-    ) -> TransferProgress {
+    ) -> TransferProgress
+        ensures { self.new ≡ self.old }
+    {
         if self.resolving.is_some() {
             self.resolving = None;
             return match context.resolve(&mut self.session, None) {
@@ -397,9 +423,11 @@ impl<J: JournalId, L: Source> TransferState<J, L> {
     pub fn step<F: Families + Drop, R: Wait + Drop>(
         &mut self,
         context: &mut Context<J, F, R>,
-    ) -> TransferProgress {
+    ) -> TransferProgress
+        ensures { self.new ≡ self.old }
+    {
         let latches = self.latches();
-        for _ in 0..REQUESTS {
+        'requests: for _ in 0..REQUESTS {
             let progress = self.request(context);
             if progress != TransferProgress::More || self.latches() != latches {
                 return progress;

@@ -1,5 +1,6 @@
 pub mod Keys
 pub mod Kinds
+pub mod Lengths
 pub mod Locks
 pub mod Names
 pub mod Stored

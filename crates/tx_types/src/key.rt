@@ -1,11 +1,12 @@
 //! Keys.
-ghost use Rattle.std.specs.Prelude.{◌≡◌, ◌⊎◌, ◌<◌, ◌≤◌, ◌↔◌, ◌++◌, length, replicate, take, Some, nat_eq, refl, IfOk, IfErr, IsErrOf};
+ghost use Rattle.std.specs.Prelude.{◌≡◌, ◌⊎◌, ◌↔◌, ◌++◌, false, replicate, take, Some, nat_eq, refl, IfOk, IfErr, IsErrOf};
 ghost use Rattle.std.specs.Ordering.{nat_cmp};
 ghost use Rattle.std.specs.Hash as fed;
 ghost use Rattle.std.specs.Cmp.Lexicographic.{pointwise, slice_cmp, nat_list_eq_equiv, nat_list_cmp_total, texts_ties, texts_po};
 ghost use Rattle.std.specs.Cmp.{partial_equiv_from_equiv};
 ghost use Rattle.std.specs.Cmp.Rules.{hashing};
 ghost use Rattle.std.proofs.Common.{rules};
+ghost use Rattle.tx_types.specs.Lengths.{IsKey, is_key as key_test};
 
 use crate::fault::Fault;
 use crate::fields::escape;
@@ -18,6 +19,13 @@ use std::fmt;
 use std::hash::{Hash, Hasher};
 use std::marker::Model;
 
+/// Whether a key is of these bytes: whether they are 1 to 512.
+pub fn is_key(bytes: &[u8]) -> bool
+    ensures { result ≡ key_test bytes.now }
+{
+    bytes.len() >= MIN_KEY_BYTES && bytes.len() <= MAX_KEY_BYTES
+}
+
 /// A key of 1 to 512 bytes, ordered as its bytes are. A copy of a long one shares them.
 /// Contracts see the bytes.
 #[derive(Clone, Debug, Drop)]
@@ -26,14 +34,14 @@ pub struct Key {
 }
 
 impl Model for Key {
-    ghost use Rattle.std.specs.Prelude.{List, ℕ, ◌≤◌, length};
-    ghost use Rattle.tx_types.specs.declared.limits.TheConstants.{MAX_KEY_BYTES, MIN_KEY_BYTES};
+    ghost use Rattle.std.specs.Prelude.{List, ℕ};
+    ghost use Rattle.tx_types.specs.Lengths.{IsKey};
 
     ghost Value = { List ℕ };
 
     ghost view = { λ k. k.text };
 
-    ghost invariant = { λ k. (MIN_KEY_BYTES ≤ length k.text) × (length k.text ≤ MAX_KEY_BYTES) };
+    ghost invariant = { λ k. IsKey k.text };
 
     ghost inverse = { λ bs. record { text = bs } };
 }
@@ -43,11 +51,10 @@ impl Key {
     /// `OutOfMemory` where there is no room for a copy of them.
     pub fn new(alloc: Global, bytes: &[u8]) -> Result<Key, Fault>
         ensures ok { IfOk result (λ key. key ≡ bytes.now) }
-        ensures length { IsErrOf result Fault.KeyLength
-            ↔ ((length bytes.now < MIN_KEY_BYTES) ⊎ (MAX_KEY_BYTES < length bytes.now)) }
+        ensures length { IsErrOf result Fault.KeyLength ↔ (key_test bytes.now ≡ false) }
         ensures err { IfErr result (λ e. (e ≡ Fault.KeyLength) ⊎ (e ≡ Fault.OutOfMemory)) }
     {
-        if bytes.len() < MIN_KEY_BYTES || bytes.len() > MAX_KEY_BYTES {
+        if !is_key(bytes) {
             return Err(Fault::KeyLength);
         }
         let text = Text::new(alloc, bytes)?;
@@ -57,7 +64,7 @@ impl Key {
     /// Its bytes.
     pub fn as_bytes(&self) -> &[u8]
         ensures value { result.now ≡ self.now }
-        ensures within { (MIN_KEY_BYTES ≤ length result.now) × (length result.now ≤ MAX_KEY_BYTES) }
+        ensures within { IsKey result.now }
     {
         self.text.as_slice()
     }

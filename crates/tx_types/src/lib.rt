@@ -18,7 +18,7 @@ mod value;
 mod write;
 
 pub use fault::{Cause, Fault};
-pub use key::Key;
+pub use key::{Key, is_key};
 pub use lists::{Changes, Items, KeyValues, Secondaries};
 pub use lock::{LockFacts, LockInfo, LockMode, LockRec};
 pub use mutation::{Change, Fate, KeyValue, LockKind, Mode, Mutation, StoredMutation};

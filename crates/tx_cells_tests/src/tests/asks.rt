@@ -11,6 +11,7 @@ use tx_plan::{
     BatchRollback, Commit, Dropped, KeyChange, Plan, Prewrite, plan_batch_rollback, plan_commit,
     plan_prewrite,
 };
+use tx_spelling::SpeltKey;
 use tx_types::{Fault, Key, Mode, Mutation, Secondaries, Ts, Value};
 
 /// What values are cut from.
@@ -36,14 +37,16 @@ fn body(alloc: Global, key: Key, start: u64, mutation: Mutation) -> Result<Prewr
 fn put_lock<F: Families>(
     alloc: Global,
     families: &mut F,
+    key: &SpeltKey<'_>,
     body: &Prewrite,
     change: KeyChange,
 ) -> Result<bool, Fault>
-    requires { IfSome (new_lock change) (λ new. CanPut (cells_of (F.content families.old body.now.key)) body.now new) }
+    requires of { key.now ≡ body.now.key }
+    requires can { IfSome (new_lock change) (λ new. CanPut (cells_of (F.content families.old body.now.key)) body.now new) }
 {
     match change {
         KeyChange::Lock(new) => {
-            families.put_lock(alloc, body, new, 1)?;
+            families.put_lock(alloc, key, body, new, 1)?;
             Ok(true)
         }
         _ => Ok(false),
@@ -60,10 +63,11 @@ fn change_of(planned: Plan) -> KeyChange
 }
 
 fn locks<F: Families>(alloc: Global, families: &mut F, body: &Prewrite) -> Result<bool, Fault> {
-    let view = families.view(alloc, &body.key, body.start, body.start)?;
+    let key = SpeltKey::new(alloc, &body.key)?;
+    let view = families.view(alloc, &key, body.start, body.start)?;
     let loaded = Ts::new(1_000_000);
     let planned = plan_prewrite(&view, false, Ts::ZERO, loaded, Ts::ZERO, body);
-    put_lock(alloc, families, body, change_of(planned))
+    put_lock(alloc, families, &key, body, change_of(planned))
 }
 
 /// Locks a key by the transaction that started then. No where the plan puts no lock.
@@ -95,9 +99,10 @@ pub fn put<F: Families>(
 }
 
 fn settles<F: Families>(alloc: Global, families: &mut F, body: &Commit) -> Result<bool, Fault> {
-    let view = families.view(alloc, &body.key, body.start, body.commit)?;
+    let key = SpeltKey::new(alloc, &body.key)?;
+    let view = families.view(alloc, &key, body.start, body.commit)?;
     let change = change_of(plan_commit(&view, Ts::ZERO, body));
-    families.apply(alloc, &body.key, change, 1)?;
+    families.apply(alloc, &key, change, 1)?;
     Ok(matches!(change, KeyChange::Commit { .. }))
 }
 
@@ -123,9 +128,10 @@ fn aborts<F: Families>(
     families: &mut F,
     body: &BatchRollback,
 ) -> Result<(bool, bool), Fault> {
-    let view = families.view(alloc, &body.key, body.start, body.start)?;
+    let key = SpeltKey::new(alloc, &body.key)?;
+    let view = families.view(alloc, &key, body.start, body.start)?;
     let change = change_of(plan_batch_rollback(&view, Ts::ZERO, body));
-    families.apply(alloc, &body.key, change, 1)?;
+    families.apply(alloc, &key, change, 1)?;
     Ok((
         matches!(change, KeyChange::RollBack { .. }),
         matches!(change, KeyChange::Nothing),

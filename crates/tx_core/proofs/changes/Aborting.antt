@@ -12,7 +12,8 @@ aborting w t = record w { decided = λ q. cond (t == q) (Done Aborted) (w.decide
 
 module _ (w : View) (t : ℕ) (i : Inv w) (opened : w.decided t ≡ Open) (some : w.declared t ≢ None) where
   -- what is decided after it: the abort, or what was before
-  pub was_ended : (q : ℕ) (s : State) → (aborting w t).decided q ≡ s → ((t ≡ q) × (Done Aborted ≡ s)) ⊎ (w.decided q ≡ s)
+  pub was_ended : (q : ℕ) (s : State) → (aborting w t).decided q ≡ s
+      → ((t ≡ q) × (Done Aborted ≡ s)) ⊎ (w.decided q ≡ s)
   was_ended q s e =
       elim (nat_test t q) [
         | inl x ↦ inl (x.1, sym (cond_true (t == q) (Done Aborted) (w.decided q) x.0) ∙ e)
@@ -42,13 +43,25 @@ module _ (w : View) (t : ℕ) (i : Inv w) (opened : w.decided t ≡ Open) (some 
           drawn = i.clock.drawn;
           begun = i.clock.begun;
           declares = i.clock.declares;
-          decides = λ q e. elim (nat_test t q) [ inl x ↦ subst (λ n. w.declared n ≢ None) x.1 some | inr x ↦ i.clock.decides q (λ y. e (cond_false (t == q) (Done Aborted) (w.decided q) x.0 ∙ y)) ];
+          decides = λ q e. elim (nat_test t q) [
+            | inl x ↦ subst (λ n. w.declared n ≢ None) x.1 some
+            | inr x ↦ i.clock.decides q (λ y. e (cond_false (t == q) (Done Aborted) (w.decided q) x.0 ∙ y))
+          ];
         };
         marks = i.marks;
         acceptances = i.acceptances;
         keys = λ k. record {
           lock = (i.keys k).lock;
-          alone = λ lock e. (let old = (i.keys k).alone lock e in record { above = λ u d m end. old.above u d m (was_committed u d end); unwritten = old.unwritten; fresh = old.fresh; unseen = λ v ins u d y end does low. later_by w.decided (aborting w t).decided w.declared w.declared k d lock.start (λ q at e. still_ended q (Committed at) e) (λ q n does. does) (old.unseen v ins u d y (was_committed u d end) does low) });
+          alone = λ lock e. (let old = (i.keys k).alone lock e in
+              record {
+                above = λ u d m end. old.above u d m (was_committed u d end);
+                unwritten = old.unwritten;
+                fresh =
+                    old.fresh;
+                unseen = λ v ins u d y end does low. later_by w.decided (aborting w t).decided w.declared
+                    w.declared k d lock.start (λ q at e. still_ended q (Committed at) e) (λ q n does. does)
+                    (old.unseen v ins u d y (was_committed u d end) does low);
+              });
           records = record {
             committed = λ d rec e. still_ended rec.start (Committed d) ((i.keys k).records.committed d rec e);
             does = (i.keys k).records.does;
@@ -57,9 +70,22 @@ module _ (w : View) (t : ℕ) (i : Inv w) (opened : w.decided t ≡ Open) (some 
           };
           kept = record {
             complete = λ u d m end does.
-                elim ((i.keys k).kept.complete u d m (was_committed u d end) does) [ inl y ↦ inl y | inr rest ↦ elim rest [ inl y ↦ inr (inl y) | inr y ↦ inr (inr (gone_by w.decided (aborting w t).decided w.declared w.declared k d (w.collected k) (w.collected k) m (λ q at e. still_ended q (Committed at) e) (λ q n does. does) (omega arith) y)) ] ];
+                elim ((i.keys k).kept.complete u d m (was_committed u d end) does) [
+                  | inl y ↦ inl y
+                  | inr rest ↦ elim rest [
+                    | inl y ↦ inr (inl y)
+                    | inr y ↦ inr (inr (gone_by w.decided (aborting w t).decided w.declared w.declared k d
+                        (w.collected k) (w.collected k) m (λ q at e. still_ended q (Committed at) e) (λ q n does. does)
+                        (omega arith) y))
+                  ]
+                ];
             held = λ q e o. (i.keys k).kept.held q e (was_open q o);
-            cleared = λ q e o. elim (was_ended q (Done Aborted) o) [ inl x ↦ inl (subst (Held (w.cells k)) x.0 ((i.keys k).kept.held t (λ none. e (ap (λ n. w.accepted n k) (sym x.0) ∙ none)) opened)) | inr x ↦ (i.keys k).kept.cleared q e x ];
+            cleared = λ q e o. elim (was_ended q (Done Aborted) o) [
+              | inl x ↦
+                  inl (subst (Held (w.cells k)) x.0
+                  ((i.keys k).kept.held t (λ none. e (ap (λ n. w.accepted n k) (sym x.0) ∙ none)) opened))
+              | inr x ↦ (i.keys k).kept.cleared q e x
+            ];
           };
         };
         commits = λ q d e. i.commits q d (was_committed q d e);

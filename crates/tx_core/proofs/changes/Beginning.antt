@@ -13,8 +13,14 @@ inv_begin w t i drawn =
     record {
       clock = record {
         drawn = i.clock.drawn;
-        begun = λ q b none. elim (nat_test t q) [ inl e ↦ drawn (subst (λ n. w.drawer n ≡ None) (sym e.1) none) | inr e ↦ i.clock.begun q (rw e.0 at b) none ];
-        declares = λ q d. elim (nat_test t q) as (λ _. cond (t == q) true (w.began q) ≡ true) [ inl e ↦ rw e.0 refl | inr e ↦ rw e.0 (i.clock.declares q d) ];
+        begun = λ q b none. elim (nat_test t q) [
+          | inl e ↦ drawn (subst (λ n. w.drawer n ≡ None) (sym e.1) none)
+          | inr e ↦ i.clock.begun q (rw e.0 at b) none
+        ];
+        declares = λ q d. elim (nat_test t q) as (λ _. cond (t == q) true (w.began q) ≡ true) [
+          | inl e ↦ rw e.0 refl
+          | inr e ↦ rw e.0 (i.clock.declares q d)
+        ];
         decides = i.clock.decides;
       };
       marks = i.marks;

@@ -31,18 +31,32 @@ pub record CanDecide (w : View) (t c : ℕ) : Type 0 where
   pub shown : w.shown t ≤ c
 
 -- a number that was drawn after all acceptances, at or above the minimum of the primary's lock
-pub decide_drawn : (w : View) (t c : ℕ) (p : Key) (first : Lock) → Inv w → w.decided t ≡ Open → Accepts w.declared w.accepted t → w.drawer c ≢ None → ((k : Key) (by : Acceptance) → w.accepted t k ≡ Some by → by.at < c) → IsPrimary w.declared t p → OwnLock (w.cells p).lock t first → first.min ≤ c → CanDecide w t c
+pub decide_drawn : (w : View) (t c : ℕ) (p : Key) (first : Lock) → Inv w → w.decided t ≡ Open
+    → Accepts w.declared w.accepted t → w.drawer c ≢ None
+    → ((k : Key) (by : Acceptance) → w.accepted t k ≡ Some by → by.at < c) → IsPrimary w.declared t p
+    → OwnLock (w.cells p).lock t first → first.min ≤ c → CanDecide w t c
 decide_drawn w t c p first i o all drawn after is own low =
     let does = first_within w.declared t p is in
     let of = some_of (w.accepted t p) (all p (does_within w.declared t p does.0 does.1)) in
     record {
       opened = o;
       declared = does_declared w.declared t p does.0 does.1;
-      above = omega (arith, (i.acceptances t p of.0 of.1).above, (i.acceptances t p of.0 of.1).bounded, (i.acceptances t p of.0 of.1).upto, after p of.0 of.1);
+      above = omega (
+        arith,
+        (i.acceptances t p of.0 of.1).above,
+        (i.acceptances t p of.0 of.1).bounded,
+        (i.acceptances t p of.0 of.1).upto,
+        after p of.0 of.1,
+      );
       upto = omega (arith, i.clock.drawn c drawn);
       accepts = all;
       bounds = λ k by e. omega (arith, (i.acceptances t k by e).upto, after k by e);
-      shown = omega (arith, ((i.keys p).lock first own.stands).shows (ap (λ n. is_first (set_of (w.declared n)) p) own.own ∙ is), ap w.shown own.own, low);
+      shown = omega (
+        arith,
+        ((i.keys p).lock first own.stands).shows (ap (λ n. is_first (set_of (w.declared n)) p) own.own ∙ is),
+        ap w.shown own.own,
+        low,
+      );
     }
 
 -- ---- the greatest minimum
@@ -55,37 +69,61 @@ pub record IsAsyncUpto (accepted : Key → Option Acceptance) (k : Key) (c : ℕ
   pub upto : by.lock.min ≤ c
 
 -- an async minimum is one of an async acceptance
-pub async_of : (o : Option Acceptance) (m : ℕ) → async_minimum o ≡ Some m → (by : Acceptance) × (o ≡ Some by) × (by.lock.mode ≡ Async) × (by.lock.min ≡ m)
+pub async_of : (o : Option Acceptance) (m : ℕ) → async_minimum o ≡ Some m
+    → (by : Acceptance) × (o ≡ Some by) × (by.lock.mode ≡ Async) × (by.lock.min ≡ m)
 async_of None m e = absurd (cc (e))
 async_of (Some by) m e = go by.lock.mode refl
   where
-    go : (mode : Mode) → by.lock.mode ≡ mode → (x : Acceptance) × (Some by ≡ Some x) × (x.lock.mode ≡ Async) × (x.lock.min ≡ m)
+    go : (mode : Mode) → by.lock.mode ≡ mode
+        → (x : Acceptance) × (Some by ≡ Some x) × (x.lock.mode ≡ Async) × (x.lock.min ≡ m)
     go TwoPhase two = (let fact : async_minimum (Some by) ≡ None = rw two refl in absurd (cc (fact, e)))
-    go Async async = (let fact : async_minimum (Some by) ≡ Some by.lock.min = rw async refl in (by, refl, async, some_same by.lock.min m (sym fact ∙ e)))
+    go Async async = (let fact : async_minimum (Some by) ≡ Some by.lock.min = rw async refl in
+        (by, refl, async, some_same by.lock.min m (sym fact ∙ e)))
 
 -- the greater of two minimums, where both are there
-pub greater_of : (a b : Option ℕ) (c : ℕ) → greater a b ≡ Some c → (m : ℕ) × (n : ℕ) × (a ≡ Some m) × (b ≡ Some n) × (c ≡ max m n)
+pub greater_of : (a b : Option ℕ) (c : ℕ) → greater a b ≡ Some c
+    → (m : ℕ) × (n : ℕ) × (a ≡ Some m) × (b ≡ Some n) × (c ≡ max m n)
 greater_of None b c e = absurd (cc (e))
 greater_of (Some m) None c e = absurd (cc (e))
 greater_of (Some m) (Some n) c e = (m, n, refl, refl, sym (some_same (max m n) c e))
 
 -- where there is a greatest minimum, each key is accepted async with one of at most that
-pub greatest_each : (accepted : Key → Option Acceptance) (set : List Change) (c : ℕ) → greatest accepted set ≡ Some c → (k : Key) → mutation_at set k ≢ None → IsAsyncUpto accepted k c
+pub greatest_each : (accepted : Key → Option Acceptance) (set : List Change) (c : ℕ) → greatest accepted set ≡ Some c
+    → (k : Key) → mutation_at set k ≢ None → IsAsyncUpto accepted k c
 greatest_each accepted [] c e k some = absurd (some refl)
 greatest_each accepted (x ∷ []) c e k some =
     elim (key_test x.key k) [
-      | inl same ↦ (let of = async_of (accepted x.key) c e in record { by = of.0; stands = subst (λ y. accepted y ≡ Some of.0) same.1 of.1; async = of.2; upto = omega (arith, of.3) })
+      | inl same ↦ (let of = async_of (accepted x.key) c e in
+          record {
+            by = of.0;
+            stands = subst (λ y. accepted y ≡ Some of.0) same.1 of.1;
+            async = of.2;
+            upto =
+                omega (arith, of.3);
+          })
       | inr other ↦ absurd (some (cond_false (bytes_eq x.key k) (Some x.mutation) None other.0))
     ]
 greatest_each accepted (x ∷ y ∷ ys) c e k some =
     let both = greater_of (async_minimum (accepted x.key)) (greatest accepted (y ∷ ys)) c e in
     elim (key_test x.key k) [
-      | inl same ↦ (let of = async_of (accepted x.key) both.0 both.2 in record { by = of.0; stands = subst (λ z. accepted z ≡ Some of.0) same.1 of.1; async = of.2; upto = omega (arith, of.3, both.4) })
-      | inr other ↦ (let rest = greatest_each accepted (y ∷ ys) both.1 both.3 k (λ none. some (cond_false (bytes_eq x.key k) (Some x.mutation) (mutation_at (y ∷ ys) k) other.0 ∙ none)) in record { by = rest.by; stands = rest.stands; async = rest.async; upto = omega (arith, rest.upto, both.4) })
+      | inl same ↦ (let of = async_of (accepted x.key) both.0 both.2 in
+          record {
+            by = of.0;
+            stands = subst (λ z. accepted z ≡ Some of.0) same.1 of.1;
+            async = of.2;
+            upto =
+                omega (arith, of.3, both.4);
+          })
+      | inr other ↦ (let rest =
+          greatest_each accepted (y
+          ∷ ys) both.1 both.3 k
+          (λ none. some (cond_false (bytes_eq x.key k) (Some x.mutation) (mutation_at (y ∷ ys) k) other.0 ∙ none)) in
+          record { by = rest.by; stands = rest.stands; async = rest.async; upto = omega (arith, rest.upto, both.4) })
     ]
 
 -- and it is the minimum of one of them
-pub greatest_some : (accepted : Key → Option Acceptance) (set : List Change) (c : ℕ) → greatest accepted set ≡ Some c → (k : Key) × (by : Acceptance) × (accepted k ≡ Some by) × (by.lock.mode ≡ Async) × (by.lock.min ≡ c)
+pub greatest_some : (accepted : Key → Option Acceptance) (set : List Change) (c : ℕ) → greatest accepted set ≡ Some c
+    → (k : Key) × (by : Acceptance) × (accepted k ≡ Some by) × (by.lock.mode ≡ Async) × (by.lock.min ≡ c)
 greatest_some accepted [] c e = absurd (cc (e))
 greatest_some accepted (x ∷ []) c e = (let of = async_of (accepted x.key) c e in (x.key, of.0, of.1, of.2, of.3))
 greatest_some accepted (x ∷ y ∷ ys) c e =
@@ -105,7 +143,8 @@ deciding w t c = record w { decided = λ q. cond (t == q) (Done (Committed c)) (
 
 module _ (w : View) (t c : ℕ) (i : Inv w) (may : CanDecide w t c) where
   -- what is decided after it: the commit, or what was before
-  pub was_decided : (q : ℕ) (s : State) → (deciding w t c).decided q ≡ s → ((t ≡ q) × (Done (Committed c) ≡ s)) ⊎ (w.decided q ≡ s)
+  pub was_decided : (q : ℕ) (s : State) → (deciding w t c).decided q ≡ s
+      → ((t ≡ q) × (Done (Committed c) ≡ s)) ⊎ (w.decided q ≡ s)
   was_decided q s e =
       elim (nat_test t q) [
         | inl x ↦ inl (x.1, sym (cond_true (t == q) (Done (Committed c)) (w.decided q) x.0) ∙ e)
@@ -144,7 +183,10 @@ module _ (w : View) (t c : ℕ) (i : Inv w) (may : CanDecide w t c) where
           drawn = i.clock.drawn;
           begun = i.clock.begun;
           declares = i.clock.declares;
-          decides = λ q e. elim (nat_test t q) [ inl x ↦ subst (λ n. w.declared n ≢ None) x.1 may.declared | inr x ↦ i.clock.decides q (λ y. e (cond_false (t == q) (Done (Committed c)) (w.decided q) x.0 ∙ y)) ];
+          decides = λ q e. elim (nat_test t q) [
+            | inl x ↦ subst (λ n. w.declared n ≢ None) x.1 may.declared
+            | inr x ↦ i.clock.decides q (λ y. e (cond_false (t == q) (Done (Committed c)) (w.decided q) x.0 ∙ y))
+          ];
         };
         marks = i.marks;
         acceptances = i.acceptances;
@@ -160,8 +202,18 @@ module _ (w : View) (t c : ℕ) (i : Inv w) (may : CanDecide w t c) where
             fresh = old.fresh;
             unseen = λ v ins u d y end does low.
                 elim (was_committed u d end) [
-                  | inl x ↦ (let at = own_of u k (Put y) x.0 does in absurd (omega (arith, ap (λ (l : Lock). l.start) (some_same at.lock lock (sym at.stands ∙ e)), at.own, may.above, x.1, low)))
-                  | inr x ↦ later_by w.decided (deciding w t c).decided w.declared w.declared k d lock.start (λ q at e. still_decided q (Committed at) e) (λ q n does. does) (old.unseen v ins u d y x does low)
+                  | inl x ↦ (let at = own_of u k (Put y) x.0 does in
+                      absurd (omega (
+                        arith,
+                        ap (λ (l : Lock). l.start) (some_same at.lock lock (sym at.stands ∙ e)),
+                        at.own,
+                        may.above,
+                        x.1,
+                        low,
+                      )))
+                  | inr x ↦ later_by w.decided (deciding w t c).decided w.declared w.declared k d lock.start
+                      (λ q at e. still_decided q (Committed at) e) (λ q n does. does)
+                      (old.unseen v ins u d y x does low)
                 ];
           });
           records = record {
@@ -170,7 +222,8 @@ module _ (w : View) (t c : ℕ) (i : Inv w) (may : CanDecide w t c) where
             rolled = λ q e. still_decided q Aborted ((i.keys k).records.rolled q e);
             newest = λ q rec e v low u d m end does visible above upto.
                 elim (was_committed u d end) [
-                  | inl x ↦ (let at = own_of u k m x.0 does in omega (arith, ((i.keys k).alone at.lock at.stands).fresh, at.own, may.above, upto, x.1))
+                  | inl x ↦ (let at = own_of u k m x.0 does in
+                      omega (arith, ((i.keys k).alone at.lock at.stands).fresh, at.own, may.above, upto, x.1))
                   | inr x ↦ (i.keys k).records.newest q rec e v low u d m x does visible above upto
                 ];
           };
@@ -178,7 +231,15 @@ module _ (w : View) (t c : ℕ) (i : Inv w) (may : CanDecide w t c) where
             complete = λ u d m end does.
                 elim (was_committed u d end) [
                   | inl x ↦ inr (inl (subst (Held (w.cells k)) x.0 (own_of u k m x.0 does)))
-                  | inr x ↦ elim ((i.keys k).kept.complete u d m x does) [ inl y ↦ inl y | inr rest ↦ elim rest [ inl y ↦ inr (inl y) | inr y ↦ inr (inr (gone_by w.decided (deciding w t c).decided w.declared w.declared k d (w.collected k) (w.collected k) m (λ q at e. still_decided q (Committed at) e) (λ q n does. does) (omega arith) y)) ] ]
+                  | inr x ↦ elim ((i.keys k).kept.complete u d m x does) [
+                    | inl y ↦ inl y
+                    | inr rest ↦ elim rest [
+                      | inl y ↦ inr (inl y)
+                      | inr y ↦ inr (inr (gone_by w.decided (deciding w t c).decided w.declared w.declared k d
+                          (w.collected k) (w.collected k) m (λ q at e. still_decided q (Committed at) e) (λ q n does. does)
+                          (omega arith) y))
+                    ]
+                  ]
                 ];
             held = λ q e o. (i.keys k).kept.held q e (was_open q o);
             cleared = λ q e o. (i.keys k).kept.cleared q e (was_aborted q o);
@@ -198,7 +259,8 @@ module _ (w : View) (t c : ℕ) (i : Inv w) (may : CanDecide w t c) where
       }
 
 -- by the last acceptance, at the greatest minimum, where each key is accepted async
-pub decide_async : (w : View) (t c : ℕ) → Inv w → w.decided t ≡ Open → greatest (w.accepted t) (set_of (w.declared t)) ≡ Some c → CanDecide w t c
+pub decide_async : (w : View) (t c : ℕ) → Inv w → w.decided t ≡ Open
+    → greatest (w.accepted t) (set_of (w.declared t)) ≡ Some c → CanDecide w t c
 decide_async w t c i o most =
     let some = greatest_some (w.accepted t) (set_of (w.declared t)) c most in
     let within = does_within w.declared t some.0 some.1.lock.mutation (i.acceptances t some.0 some.1 some.2).does in
@@ -206,25 +268,43 @@ decide_async w t c i o most =
       opened = o;
       declared = does_declared w.declared t some.0 some.1.lock.mutation (i.acceptances t some.0 some.1 some.2).does;
       above = omega (arith, (i.acceptances t some.0 some.1 some.2).above, some.4);
-      upto = omega (arith, (i.acceptances t some.0 some.1 some.2).bounded, (i.acceptances t some.0 some.1 some.2).upto, (i.acceptances t some.0 some.1 some.2).at, some.4);
-      accepts = λ k x. (let each = greatest_each (w.accepted t) (set_of (w.declared t)) c most k x in is_some (w.accepted t k) each.by each.stands);
+      upto = omega (
+        arith,
+        (i.acceptances t some.0 some.1 some.2).bounded,
+        (i.acceptances t some.0 some.1 some.2).upto,
+        (i.acceptances t some.0 some.1 some.2).at,
+        some.4,
+      );
+      accepts = λ k x. (let each = greatest_each (w.accepted t) (set_of (w.declared t)) c most k x in
+          is_some (w.accepted t k) each.by each.stands);
       bounds = λ k by e.
-          (let each = greatest_each (w.accepted t) (set_of (w.declared t)) c most k (does_within w.declared t k by.lock.mutation (i.acceptances t k by e).does) in
+          (let each = greatest_each (w.accepted t) (set_of (w.declared t)) c most k
+          (does_within w.declared t k by.lock.mutation (i.acceptances t k by e).does) in
           let same : each.by ≡ by = some_same each.by by (sym each.stands ∙ e) in
-          omega (arith, bound_async by (ap (λ (b : Acceptance). b.lock.mode) (sym same) ∙ each.async), each.upto, ap (λ (b : Acceptance). b.lock.min) same));
+          omega (
+            arith,
+            bound_async by (ap (λ (b : Acceptance). b.lock.mode) (sym same) ∙ each.async),
+            each.upto,
+            ap (λ (b : Acceptance). b.lock.min) same,
+          ));
       shown = shown;
     }
   where
     never : FellBack w.accepted t → ⊥
-    never fell = (let each = greatest_each (w.accepted t) (set_of (w.declared t)) c most fell.key (does_within w.declared t fell.key fell.by.lock.mutation (i.acceptances t fell.key fell.by fell.stands).does) in cc (each.async, fell.two_phase, some_same each.by fell.by (sym each.stands ∙ fell.stands)))
+    never fell = (let each =
+        greatest_each (w.accepted t) (set_of (w.declared t)) c most fell.key
+        (does_within w.declared t fell.key fell.by.lock.mutation (i.acceptances t fell.key fell.by fell.stands).does) in
+        cc (each.async, fell.two_phase, some_same each.by fell.by (sym each.stands ∙ fell.stands)))
 
     shown : w.shown t ≤ c
     shown = go (set_of (w.declared t)) refl
       where
         go : (set : List Change) → set_of (w.declared t) ≡ set → w.shown t ≤ c
-        go [] e = (let fact : greatest (w.accepted t) (set_of (w.declared t)) ≡ None = ap (greatest (w.accepted t)) e in absurd (cc (fact, most)))
+        go [] e = (let fact : greatest (w.accepted t) (set_of (w.declared t)) ≡ None = ap (greatest (w.accepted t)) e in
+            absurd (cc (fact, most)))
         go (x ∷ xs) e =
             (let first : IsPrimary w.declared t x.key = ap (λ s. is_first s x.key) e ∙ key_same x.key in
             let does = first_within w.declared t x.key first in
-            let each = greatest_each (w.accepted t) (set_of (w.declared t)) c most x.key (does_within w.declared t x.key does.0 does.1) in
+            let each = greatest_each (w.accepted t) (set_of (w.declared t)) c most x.key
+            (does_within w.declared t x.key does.0 does.1) in
             omega (arith, i.shown.first t x.key each.by first each.stands never, each.upto))

@@ -11,7 +11,8 @@ abbrev pub keyed : View → Key → Cells → View
 keyed w k new = record w { cells = λ q. cond (bytes_eq k q) new (w.cells q) }
 
 -- what holds of the cells that k gets, and of those that are left, holds of those that are there
-pub at_cells : (w : View) (k q : Key) (new : Cells) (P : Key → Cells → Type 0) → P k new → (k ≢ q → P q (w.cells q)) → P q (cond (bytes_eq k q) new (w.cells q))
+pub at_cells : (w : View) (k q : Key) (new : Cells) (P : Key → Cells → Type 0) → P k new → (k ≢ q → P q (w.cells q))
+    → P q (cond (bytes_eq k q) new (w.cells q))
 at_cells w k q new P same other =
     elim (key_test k q) [
       | inl e ↦ rw e.0 (subst (λ x. P x new) e.1 same)
@@ -26,19 +27,28 @@ keyed_same w k = λ j. record w { cells = λ q. same q j }
     same q = elim (key_test k q) [ inl e ↦ rw e.0 (ap w.cells e.1) | inr e ↦ rw e.0 refl ]
 
 -- what holds with the cells holds with the same cells
-pub keyed_to : (w : View) (k : Key) (old new : Cells) (P : View → Type 0) → old ≡ new → P (keyed w k old) → P (keyed w k new)
+pub keyed_to : (w : View) (k : Key) (old new : Cells) (P : View → Type 0) → old ≡ new → P (keyed w k old)
+    → P (keyed w k new)
 keyed_to w k old new P same = subst (λ cells. P (keyed w k cells)) same
 
 -- what is done to its own lock is done to the lock that stands, or nothing is done
-pub own_cases : (cells : Cells) (t : ℕ) (f : Lock → Cells) → ((lock : Lock) × (cells.lock ≡ Some lock) × (lock.start ≡ t) × (on_own_lock cells t f ≡ f lock)) ⊎ (((lock : Lock) → cells.lock ≡ Some lock → lock.start ≢ t) × (on_own_lock cells t f ≡ cells))
+pub own_cases : (cells : Cells) (t : ℕ) (f : Lock → Cells)
+    → ((lock : Lock) × (cells.lock ≡ Some lock) × (lock.start ≡ t) × (on_own_lock cells t f ≡ f lock))
+    ⊎ (((lock : Lock) → cells.lock ≡ Some lock → lock.start ≢ t) × (on_own_lock cells t f ≡ cells))
 own_cases cells t f = go cells.lock refl
   where
-    go : (o : Option Lock) → cells.lock ≡ o → ((lock : Lock) × (cells.lock ≡ Some lock) × (lock.start ≡ t) × (on_own_lock cells t f ≡ f lock)) ⊎ (((lock : Lock) → cells.lock ≡ Some lock → lock.start ≢ t) × (on_own_lock cells t f ≡ cells))
+    go : (o : Option Lock) → cells.lock ≡ o
+        → ((lock : Lock) × (cells.lock ≡ Some lock) × (lock.start ≡ t) × (on_own_lock cells t f ≡ f lock))
+        ⊎ (((lock : Lock) → cells.lock ≡ Some lock → lock.start ≢ t) × (on_own_lock cells t f ≡ cells))
     go None e = inr (λ lock stands. absurd (cc (e, stands)), rw e refl)
     go (Some lock) e =
         elim (nat_test lock.start t) [
           | inl x ↦ inl (lock, e, x.1, rw (e, x.0) refl)
-          | inr x ↦ inr (λ other stands own. x.1 (ap (λ (l : Lock). l.start) (some_same lock other (sym e ∙ stands)) ∙ own), rw (e, x.0) refl)
+          | inr x ↦ inr (
+            λ other stands own. x.1 (ap (λ (l : Lock). l.start) (some_same lock other (sym e ∙ stands))
+                ∙ own),
+            rw (e, x.0) refl,
+          )
         ]
 
 -- what the new cells of a key must hold, so that the invariants stay
@@ -61,7 +71,8 @@ inv_keyed w k new i fits =
 -- what the new cells must hold where each lock of theirs stood before
 pub record FitsWrites (w : View) (k : Key) (new : Cells) : Type 0 where
   pub stood : (lock : Lock) → new.lock ≡ Some lock → (w.cells k).lock ≡ Some lock
-  pub unwritten : (lock : Lock) → new.lock ≡ Some lock → (c : ℕ) (rec : CommitRecord) → new.write c ≡ Some (CommitOf rec) → rec.start ≢ lock.start
+  pub unwritten : (lock : Lock) → new.lock ≡ Some lock → (c : ℕ) (rec : CommitRecord)
+      → new.write c ≡ Some (CommitOf rec) → rec.start ≢ lock.start
   pub records : Records w.declared w.decided k (w.collected k) new.write
   pub kept : Kept w.declared w.decided w.accepted k (w.collected k) new
 
@@ -70,7 +81,8 @@ pub inv_written : (w : View) (k : Key) (new : Cells) → Inv w → FitsWrites w 
 inv_written w k new i fits =
     inv_keyed w k new i record {
       lock = λ lock e. (i.keys k).lock lock (fits.stood lock e);
-      alone = λ lock e. (let x = (i.keys k).alone lock (fits.stood lock e) in record { above = x.above; unwritten = fits.unwritten lock e; fresh = x.fresh; unseen = x.unseen });
+      alone = λ lock e. (let x = (i.keys k).alone lock (fits.stood lock e) in
+          record { above = x.above; unwritten = fits.unwritten lock e; fresh = x.fresh; unseen = x.unseen });
       records = fits.records;
       kept = fits.kept;
     }

@@ -12,7 +12,12 @@ pub inv_raise : (w : View) (floor : Key → ℕ) → Inv w → ((k : Key) → w.
 inv_raise w floor i more =
     record {
       clock = i.clock;
-      marks = record { upto = i.marks.upto; known = λ k r read. omega (arith, i.marks.known k r read, more k); low = i.marks.low };
+      marks = record {
+        upto = i.marks.upto;
+        known = λ k r read. omega (arith, i.marks.known k r read, more k);
+        low =
+            i.marks.low;
+      };
       acceptances = i.acceptances;
       keys = i.keys;
       commits = i.commits;

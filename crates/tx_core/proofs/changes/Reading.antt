@@ -22,37 +22,57 @@ Passes decided shown r t = IsAborted decided t ⊎ ((c : ℕ) × IsCommitted dec
 
 -- a read at r of these keys meets no lock that stops it
 abbrev pub Unblocked : View → (Key → Bool) → ℕ → Type 0
-Unblocked w covers r = (k : Key) (lock : Lock) → IsTrue (covers k) → (w.cells k).lock ≡ Some lock → IsVisible lock.mutation → (r < lock.min) ⊎ Passes w.decided w.shown r lock.start
+Unblocked w covers r = (k : Key) (lock : Lock) → IsTrue (covers k) → (w.cells k).lock ≡ Some lock
+    → IsVisible lock.mutation → (r < lock.min) ⊎ Passes w.decided w.shown r lock.start
 
 -- a read at most at the last number, that the region knows of, and that meets no lock
-pub inv_read : (w : View) (covers : Key → Bool) (r : ℕ) → Inv w → r ≤ w.last → ((k : Key) → IsTrue (covers k) → r ≤ w.floor k) → Unblocked w covers r → Inv (reading w covers r)
+pub inv_read : (w : View) (covers : Key → Bool) (r : ℕ) → Inv w → r ≤ w.last
+    → ((k : Key) → IsTrue (covers k) → r ≤ w.floor k) → Unblocked w covers r → Inv (reading w covers r)
 inv_read w covers r i upto here free =
     record {
       clock = i.clock;
       marks = record {
         upto = λ k s read. elim read [ inl now ↦ omega (arith, now.1, upto) | inr before ↦ i.marks.upto k s before ];
-        known = λ k s read. elim read [ inl now ↦ omega (arith, now.1, here k now.0) | inr before ↦ i.marks.known k s before ];
+        known = λ k s read. elim read [
+          | inl now ↦ omega (arith, now.1, here k now.0)
+          | inr before ↦ i.marks.known k s before
+        ];
         low = i.marks.low;
       };
       acceptances = i.acceptances;
       keys = i.keys;
       commits = i.commits;
-      unread = λ t k by e o m does v s read. elim read [ inl now ↦ subst (λ n. (n < bound by) ⊎ (n < w.shown t)) now.1 (new t k by e o m does v now.0) | inr before ↦ i.unread t k by e o m does v s before ];
+      unread = λ t k by e o m does v s read. elim read [
+        | inl now ↦
+            subst (λ n. (n < bound by) ⊎ (n < w.shown t)) now.1 (new t k by e o m does v now.0)
+        | inr before ↦ i.unread t k by e o m does v s before
+      ];
       shown = i.shown;
     }
   where
-    new : (t : ℕ) (k : Key) (by : Acceptance) → w.accepted t k ≡ Some by → w.decided t ≡ Open → (m : Mutation) → Does w.declared t k m → IsVisible m → IsTrue (covers k) → (r < bound by) ⊎ (r < w.shown t)
+    new : (t : ℕ) (k : Key) (by : Acceptance) → w.accepted t k ≡ Some by → w.decided t ≡ Open → (m : Mutation)
+        → Does w.declared t k m → IsVisible m → IsTrue (covers k) → (r < bound by) ⊎ (r < w.shown t)
     new t k by e o m does v inside =
         let own = (i.keys k).kept.held t (is_some (w.accepted t k) by e) o in
-        let same : m ≡ own.lock.mutation = one_does w.declared t own.lock.start k m own.lock.mutation (sym own.own) does ((i.keys k).lock own.lock own.stands).does in
+        let same : m ≡ own.lock.mutation =
+        one_does w.declared t own.lock.start k m own.lock.mutation (sym own.own) does
+        ((i.keys k).lock own.lock own.stands).does in
         let was : w.accepted own.lock.start k ≡ Some by = ap (λ n. w.accepted n k) own.own ∙ e in
         elim (free k own.lock inside own.stands (subst IsVisible same v)) [
           | inl below ↦ elim (cases_Bool (is_first (set_of (w.declared own.lock.start)) k)) [
             | inl f ↦ inr (omega (arith, below, ((i.keys k).lock own.lock own.stands).shows f, ap w.shown own.own))
-            | inr f ↦ inl (omega (arith, below, ((i.keys k).lock own.lock own.stands).min f by was, (i.acceptances t k by e).bounded))
+            | inr f ↦ inl (omega (
+              arith,
+              below,
+              ((i.keys k).lock own.lock own.stands).min f by was,
+              (i.acceptances t k by e).bounded,
+            ))
           ]
           | inr pass ↦ elim pass [
             | inl gone ↦ absurd (cc (gone, o, own.own))
-            | inr rest ↦ elim rest [ inl done ↦ absurd (cc (done.1, o, own.own)) | inr shown ↦ inr (omega (arith, shown, ap w.shown own.own)) ]
+            | inr rest ↦ elim rest [
+              | inl done ↦ absurd (cc (done.1, o, own.own))
+              | inr shown ↦ inr (omega (arith, shown, ap w.shown own.own))
+            ]
           ]
         ]

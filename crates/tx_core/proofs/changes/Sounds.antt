@@ -46,21 +46,24 @@ undecided w t i none = go (w.decided t) refl
 -- ---- steps of the machine
 
 -- a draw
-pub sound_draw : (steps : List Step) (w : View) (seat n : ℕ) → Sound steps w → w.last < n → Sound (step.Draw n ∷ steps) (drawing w seat n)
+pub sound_draw : (steps : List Step) (w : View) (seat n : ℕ) → Sound steps w → w.last < n
+    → Sound (step.Draw n ∷ steps) (drawing w seat n)
 sound_draw steps w seat n s lt =
     record {
       inv = inv_draw w seat n s.inv lt;
       shows = record {
         row = s.shows.row;
         last = refl;
-        drawn = λ t some. elim (nat_test n t) as (λ _. cond (n == t) true ((table_of steps).drawn t) ≡ true) [ inl e ↦ rw e.0 refl | inr e ↦ rw e.0 (s.shows.drawn t (λ none. some (rw e.0 none))) ];
+        drawn = λ t some. elim (nat_test n t) as (λ _. cond (n == t) true ((table_of steps).drawn t)
+            ≡ true) [ inl e ↦ rw e.0 refl | inr e ↦ rw e.0 (s.shows.drawn t (λ none. some (rw e.0 none))) ];
         reads = s.shows.reads;
       };
       run = (s.run, omega (arith, s.shows.last, lt));
     }
 
 -- a begin
-pub sound_begin : (steps : List Step) (w : View) (t : ℕ) → Sound steps w → w.drawer t ≢ None → w.began t ≡ false → Sound (step.Begin t ∷ steps) (beginning w t)
+pub sound_begin : (steps : List Step) (w : View) (t : ℕ) → Sound steps w → w.drawer t ≢ None → w.began t ≡ false
+    → Sound (step.Begin t ∷ steps) (beginning w t)
 sound_begin steps w t s drawn new =
     let none = undeclared w t s.inv new in
     record {
@@ -68,7 +71,11 @@ sound_begin steps w t s drawn new =
       shows = record {
         row = λ q.
             elim (nat_test t q) [
-              | inl e ↦ rw (e.0, ap changes_of (subst (λ n. w.declared n ≡ None) e.1 none), subst (λ n. w.decided n ≡ Open) e.1 (undecided w t s.inv none)) refl
+              | inl e ↦ rw (
+                e.0,
+                ap changes_of (subst (λ n. w.declared n ≡ None) e.1 none),
+                subst (λ n. w.decided n ≡ Open) e.1 (undecided w t s.inv none),
+              ) refl
               | inr e ↦ rw e.0 (s.shows.row q)
             ];
         last = s.shows.last;
@@ -79,7 +86,9 @@ sound_begin steps w t s drawn new =
     }
 
 -- a declaration
-pub sound_declare : (steps : List Step) (w : View) (d : Declaration) → Sound steps w → w.declared d.start ≡ None → w.began d.start ≡ true → d.changes ≢ [] → IsDistinct d.changes → Sound (step.Declare d.start d.changes ∷ steps) (declaring w d)
+pub sound_declare : (steps : List Step) (w : View) (d : Declaration) → Sound steps w → w.declared d.start ≡ None
+    → w.began d.start ≡ true → d.changes ≢ [] → IsDistinct d.changes
+    → Sound (step.Declare d.start d.changes ∷ steps) (declaring w d)
 sound_declare steps w d s none begun some distinct =
     let o = undecided w d.start s.inv none in
     record {
@@ -98,34 +107,64 @@ sound_declare steps w d s none begun some distinct =
     }
 
 -- a read of one key
-pub sound_read : (steps : List Step) (w : View) (k : Key) (r : ℕ) (found : Option Value) → Sound steps w → r ≤ w.last → r ≤ w.floor k → w.collected k ≤ r → Unblocked w (bytes_eq k) r → Reads (w.cells k).write r found → Sound (step.Read k r found ∷ steps) (reading w (bytes_eq k) r)
+pub sound_read : (steps : List Step) (w : View) (k : Key) (r : ℕ) (found : Option Value) → Sound steps w → r ≤ w.last
+    → r ≤ w.floor k → w.collected k ≤ r → Unblocked w (bytes_eq k) r → Reads (w.cells k).write r found
+    → Sound (step.Read k r found ∷ steps) (reading w (bytes_eq k) r)
 sound_read steps w k r found s upto here fresh free h =
     record {
-      inv = inv_read w (bytes_eq k) r s.inv upto (λ q inside. subst (λ x. r ≤ w.floor x) (key_true k q inside) here) free;
-      shows = record { row = s.shows.row; last = s.shows.last; drawn = s.shows.drawn; reads = λ q t x. elim x [ inl now ↦ inl now | inr old ↦ inr (s.shows.reads q t old) ] };
-      run = (s.run, (omega (arith, s.shows.last, upto), sees (table_of steps) w (bytes_eq k) r s.inv s.shows free k (key_same k) fresh found h));
+      inv = inv_read w (bytes_eq k) r s.inv upto (λ q inside. subst (λ x. r ≤ w.floor x) (key_true k q inside) here)
+          free;
+      shows = record {
+        row = s.shows.row;
+        last = s.shows.last;
+        drawn = s.shows.drawn;
+        reads =
+            λ q t x. elim x [ inl now ↦ inl now | inr old ↦ inr (s.shows.reads q t old) ];
+      };
+      run = (
+        s.run,
+        (
+          omega (arith, s.shows.last, upto),
+          sees (table_of steps) w (bytes_eq k) r s.inv s.shows free k (key_same k) fresh found h,
+        ),
+      );
     }
 
 -- a scan: what reads of the keys that it covers give is what the machine sees
-pub sees_rows : (steps : List Step) (w : View) (scan : ScanRead) → Sound steps w → ((k : Key) → IsTrue (covered scan k) → w.collected k ≤ scan.at) → Unblocked w (covered scan) scan.at → IsRising scan.rows → ((k : Key) (v : Value) → value_in scan.rows k ≡ Some v → IsTrue (covered scan k)) → length scan.rows ≤ scan.limit → ((k : Key) → IsTrue (covered scan k) → Reads (w.cells k).write scan.at (value_in scan.rows k)) → SeesRows (table_of steps).row scan
+pub sees_rows : (steps : List Step) (w : View) (scan : ScanRead) → Sound steps w
+    → ((k : Key) → IsTrue (covered scan k) → w.collected k ≤ scan.at) → Unblocked w (covered scan) scan.at
+    → IsRising scan.rows → ((k : Key) (v : Value) → value_in scan.rows k ≡ Some v → IsTrue (covered scan k))
+    → length scan.rows ≤ scan.limit
+    → ((k : Key) → IsTrue (covered scan k) → Reads (w.cells k).write scan.at (value_in scan.rows k))
+    → SeesRows (table_of steps).row scan
 sees_rows steps w scan s fresh free rising within upto each = record {
   rising = rising;
   within = within;
   upto = upto;
-  each = λ k inside. sees (table_of steps) w (covered scan) scan.at s.inv s.shows free k inside (fresh k inside) (value_in scan.rows k) (each k inside);
+  each = λ k inside. sees (table_of steps) w (covered scan) scan.at s.inv s.shows free k inside (fresh k inside)
+      (value_in scan.rows k) (each k inside);
 }
 
 -- the scan itself
-pub sound_scan : (steps : List Step) (w : View) (scan : ScanRead) → Sound steps w → scan.at ≤ w.last → ((k : Key) → IsTrue (covered scan k) → scan.at ≤ w.floor k) → Unblocked w (covered scan) scan.at → SeesRows (table_of steps).row scan → Sound (step.Scan scan ∷ steps) (reading w (covered scan) scan.at)
+pub sound_scan : (steps : List Step) (w : View) (scan : ScanRead) → Sound steps w → scan.at ≤ w.last
+    → ((k : Key) → IsTrue (covered scan k) → scan.at ≤ w.floor k) → Unblocked w (covered scan) scan.at
+    → SeesRows (table_of steps).row scan → Sound (step.Scan scan ∷ steps) (reading w (covered scan) scan.at)
 sound_scan steps w scan s upto here free rows =
     record {
       inv = inv_read w (covered scan) scan.at s.inv upto here free;
-      shows = record { row = s.shows.row; last = s.shows.last; drawn = s.shows.drawn; reads = λ q t x. elim x [ inl now ↦ inl now | inr old ↦ inr (s.shows.reads q t old) ] };
+      shows = record {
+        row = s.shows.row;
+        last = s.shows.last;
+        drawn = s.shows.drawn;
+        reads =
+            λ q t x. elim x [ inl now ↦ inl now | inr old ↦ inr (s.shows.reads q t old) ];
+      };
       run = (s.run, (omega (arith, s.shows.last, upto), rows));
     }
 
 -- a commit
-pub sound_decide : (steps : List Step) (w : View) (t c : ℕ) → Sound steps w → CanDecide w t c → Sound (step.Commit t c ∷ steps) (deciding w t c)
+pub sound_decide : (steps : List Step) (w : View) (t c : ℕ) → Sound steps w → CanDecide w t c
+    → Sound (step.Commit t c ∷ steps) (deciding w t c)
 sound_decide steps w t c s may =
     let of = some_of (w.declared t) may.declared in
     record {
@@ -133,7 +172,13 @@ sound_decide steps w t c s may =
       shows = record {
         row = λ q.
             elim (nat_test t q) [
-              | inl e ↦ rw (e.0, s.shows.row t, row_declared w t of.0 s.inv of.1, subst (λ n. w.began n ≡ true) e.1 (s.inv.clock.declares t may.declared), subst (λ n. w.declared n ≡ Some of.0) e.1 of.1) refl
+              | inl e ↦ rw (
+                e.0,
+                s.shows.row t,
+                row_declared w t of.0 s.inv of.1,
+                subst (λ n. w.began n ≡ true) e.1 (s.inv.clock.declares t may.declared),
+                subst (λ n. w.declared n ≡ Some of.0) e.1 of.1,
+              ) refl
               | inr e ↦ rw e.0 (s.shows.row q)
             ];
         last = s.shows.last;
@@ -144,7 +189,8 @@ sound_decide steps w t c s may =
     }
 
 -- an abort
-pub sound_abort : (steps : List Step) (w : View) (t : ℕ) → Sound steps w → w.decided t ≡ Open → w.declared t ≢ None → Sound (step.Abort t ∷ steps) (aborting w t)
+pub sound_abort : (steps : List Step) (w : View) (t : ℕ) → Sound steps w → w.decided t ≡ Open → w.declared t ≢ None
+    → Sound (step.Abort t ∷ steps) (aborting w t)
 sound_abort steps w t s o some =
     let of = some_of (w.declared t) some in
     record {
@@ -152,18 +198,32 @@ sound_abort steps w t s o some =
       shows = record {
         row = λ q.
             elim (nat_test t q) [
-              | inl e ↦ rw (e.0, s.shows.row t, row_declared w t of.0 s.inv of.1, subst (λ n. w.began n ≡ true) e.1 (s.inv.clock.declares t some), subst (λ n. w.declared n ≡ Some of.0) e.1 of.1) refl
+              | inl e ↦ rw (
+                e.0,
+                s.shows.row t,
+                row_declared w t of.0 s.inv of.1,
+                subst (λ n. w.began n ≡ true) e.1 (s.inv.clock.declares t some),
+                subst (λ n. w.declared n ≡ Some of.0) e.1 of.1,
+              ) refl
               | inr e ↦ rw e.0 (s.shows.row q)
             ];
         last = s.shows.last;
         drawn = s.shows.drawn;
         reads = s.shows.reads;
       };
-      run = (s.run, (Some of.0.changes, s.shows.row t ∙ row_declared w t of.0 s.inv of.1 ∙ ap (λ x. Some record { changes = Some of.0.changes; state = x }) o));
+      run = (
+        s.run,
+        (
+          Some of.0.changes,
+          s.shows.row t ∙ row_declared w t of.0 s.inv of.1
+              ∙ ap (λ x. Some record { changes = Some of.0.changes; state = x }) o,
+        ),
+      );
     }
 
 -- an answer of what is decided
-pub sound_answer : (steps : List Step) (w : View) (t : ℕ) (e : Fate) → Sound steps w → w.decided t ≡ Done e → Sound (step.Answer t e ∷ steps) w
+pub sound_answer : (steps : List Step) (w : View) (t : ℕ) (e : Fate) → Sound steps w → w.decided t ≡ Done e
+    → Sound (step.Answer t e ∷ steps) w
 sound_answer steps w t e s end =
     let ended = has_ended (table_of steps) w t e s.inv s.shows end in
     record {
@@ -175,43 +235,112 @@ sound_answer steps w t e s end =
 -- ---- changes that the machine does not see
 
 -- the table shows the same where the last number, the drawers, the rows and the reads are the same
-same_shows : (steps : List Step) (w : View) → Sound steps w → (accepted : ℕ → Key → Option Acceptance) (shown : ℕ → ℕ) (floor safe collected : Key → ℕ) (cells : Key → Cells) → Shows (table_of steps) (record w { accepted = accepted; shown = shown; floor = floor; safe = safe; collected = collected; cells = cells })
-same_shows steps w s accepted shown floor safe collected cells = record { row = s.shows.row; last = s.shows.last; drawn = s.shows.drawn; reads = s.shows.reads }
+same_shows : (steps : List Step) (w : View) → Sound steps w
+    → (accepted : ℕ → Key → Option Acceptance) (shown : ℕ → ℕ) (floor safe collected : Key → ℕ) (cells : Key → Cells)
+    → Shows (table_of steps)
+    (record w { accepted = accepted; shown = shown; floor = floor; safe = safe; collected = collected; cells = cells })
+same_shows steps w s accepted shown floor safe collected cells =
+    record { row = s.shows.row; last = s.shows.last; drawn = s.shows.drawn; reads = s.shows.reads }
 
 -- a change that keeps the invariants keeps what is sound
-pub sound_quiet : (steps : List Step) (w : View) → Sound steps w → (accepted : ℕ → Key → Option Acceptance) (shown : ℕ → ℕ) (floor safe collected : Key → ℕ) (cells : Key → Cells) → Inv (record w { accepted = accepted; shown = shown; floor = floor; safe = safe; collected = collected; cells = cells }) → Sound steps (record w { accepted = accepted; shown = shown; floor = floor; safe = safe; collected = collected; cells = cells })
-sound_quiet steps w s accepted shown floor safe collected cells i = record { inv = i; shows = same_shows steps w s accepted shown floor safe collected cells; run = s.run }
+pub sound_quiet : (steps : List Step) (w : View) → Sound steps w
+    → (accepted : ℕ → Key → Option Acceptance) (shown : ℕ → ℕ) (floor safe collected : Key → ℕ) (cells : Key → Cells)
+    → Inv (record w {
+      accepted = accepted;
+      shown = shown;
+      floor = floor;
+      safe = safe;
+      collected = collected;
+      cells =
+          cells;
+    }) → Sound steps
+    (record w { accepted = accepted; shown = shown; floor = floor; safe = safe; collected = collected; cells = cells })
+sound_quiet steps w s accepted shown floor safe collected cells i =
+    record { inv = i; shows = same_shows steps w s accepted shown floor safe collected cells; run = s.run }
 
-pub sound_raise : (steps : List Step) (w : View) (floor : Key → ℕ) → Sound steps w → ((k : Key) → w.floor k ≤ floor k) → Sound steps (raising w floor)
-sound_raise steps w floor s more = sound_quiet steps w s w.accepted w.shown floor w.safe w.collected w.cells (inv_raise w floor s.inv more)
+pub sound_raise : (steps : List Step) (w : View) (floor : Key → ℕ) → Sound steps w → ((k : Key) → w.floor k ≤ floor k)
+    → Sound steps (raising w floor)
+sound_raise steps w floor s more =
+    sound_quiet steps w s w.accepted w.shown floor w.safe w.collected w.cells (inv_raise w floor s.inv more)
 
-pub sound_raise_safe : (steps : List Step) (w : View) (safe : Key → ℕ) → Sound steps w → ((k : Key) → w.safe k ≤ safe k) → Sound steps (raising_safe w safe)
-sound_raise_safe steps w safe s more = sound_quiet steps w s w.accepted w.shown w.floor safe w.collected w.cells (inv_raise_safe w safe s.inv more)
+pub sound_raise_safe : (steps : List Step) (w : View) (safe : Key → ℕ) → Sound steps w → ((k : Key) → w.safe k ≤ safe k)
+    → Sound steps (raising_safe w safe)
+sound_raise_safe steps w safe s more =
+    sound_quiet steps w s w.accepted w.shown w.floor safe w.collected w.cells (inv_raise_safe w safe s.inv more)
 
-pub sound_lock : (steps : List Step) (w : View) (k : Key) (lock : Lock) → Sound steps w → MayLock w k lock → Sound steps (locking w k lock)
-sound_lock steps w k lock s may = sound_quiet steps w s (locking w k lock).accepted (locking w k lock).shown w.floor w.safe w.collected (locking w k lock).cells (inv_lock w k lock s.inv may)
+pub sound_lock : (steps : List Step) (w : View) (k : Key) (lock : Lock) → Sound steps w → MayLock w k lock
+    → Sound steps (locking w k lock)
+sound_lock steps w k lock s may =
+    sound_quiet steps w s (locking w k lock).accepted (locking w k lock).shown w.floor w.safe w.collected
+    (locking w k lock).cells (inv_lock w k lock s.inv may)
 
 -- other cells on one key
-pub sound_keyed : (steps : List Step) (w : View) (k : Key) (new : Cells) → Sound steps w → Inv (keyed w k new) → Sound steps (keyed w k new)
-sound_keyed steps w k new s i = sound_quiet steps w s w.accepted w.shown w.floor w.safe w.collected (keyed w k new).cells i
+pub sound_keyed : (steps : List Step) (w : View) (k : Key) (new : Cells) → Sound steps w → Inv (keyed w k new)
+    → Sound steps (keyed w k new)
+sound_keyed steps w k new s i =
+    sound_quiet steps w s w.accepted w.shown w.floor w.safe w.collected (keyed w k new).cells i
 
-pub sound_lengthen : (steps : List Step) (w : View) (k : Key) (t ttl : ℕ) → Sound steps w → Sound steps (lengthening w k t ttl)
-sound_lengthen steps w k t ttl s = record { inv = inv_lengthen w k t ttl s.inv; shows = record { row = s.shows.row; last = s.shows.last; drawn = s.shows.drawn; reads = s.shows.reads }; run = s.run }
+pub sound_lengthen : (steps : List Step) (w : View) (k : Key) (t ttl : ℕ) → Sound steps w
+    → Sound steps (lengthening w k t ttl)
+sound_lengthen steps w k t ttl s =
+    record {
+      inv = inv_lengthen w k t ttl s.inv;
+      shows =
+          record { row = s.shows.row; last = s.shows.last; drawn = s.shows.drawn; reads = s.shows.reads };
+      run = s.run;
+    }
 
-pub sound_settle : (steps : List Step) (w : View) (k : Key) (t c : ℕ) → Sound steps w → IsCommitted w.decided t c → Sound steps (settling w k t c)
-sound_settle steps w k t c s end = record { inv = inv_settle w k t c s.inv end; shows = record { row = s.shows.row; last = s.shows.last; drawn = s.shows.drawn; reads = s.shows.reads }; run = s.run }
+pub sound_settle : (steps : List Step) (w : View) (k : Key) (t c : ℕ) → Sound steps w → IsCommitted w.decided t c
+    → Sound steps (settling w k t c)
+sound_settle steps w k t c s end =
+    record {
+      inv = inv_settle w k t c s.inv end;
+      shows =
+          record { row = s.shows.row; last = s.shows.last; drawn = s.shows.drawn; reads = s.shows.reads };
+      run = s.run;
+    }
 
-pub sound_roll_back : (steps : List Step) (w : View) (k : Key) (t : ℕ) → Sound steps w → IsAborted w.decided t → Sound steps (rolling_back w k t)
-sound_roll_back steps w k t s gone = record { inv = inv_roll_back w k t s.inv gone; shows = record { row = s.shows.row; last = s.shows.last; drawn = s.shows.drawn; reads = s.shows.reads }; run = s.run }
+pub sound_roll_back : (steps : List Step) (w : View) (k : Key) (t : ℕ) → Sound steps w → IsAborted w.decided t
+    → Sound steps (rolling_back w k t)
+sound_roll_back steps w k t s gone =
+    record {
+      inv = inv_roll_back w k t s.inv gone;
+      shows =
+          record { row = s.shows.row; last = s.shows.last; drawn = s.shows.drawn; reads = s.shows.reads };
+      run = s.run;
+    }
 
-pub sound_leave_rollback : (steps : List Step) (w : View) (k : Key) (t : ℕ) → Sound steps w → IsAborted w.decided t → Sound steps (leaving_rollback w k t)
-sound_leave_rollback steps w k t s gone = record { inv = inv_leave_rollback w k t s.inv gone; shows = record { row = s.shows.row; last = s.shows.last; drawn = s.shows.drawn; reads = s.shows.reads }; run = s.run }
+pub sound_leave_rollback : (steps : List Step) (w : View) (k : Key) (t : ℕ) → Sound steps w → IsAborted w.decided t
+    → Sound steps (leaving_rollback w k t)
+sound_leave_rollback steps w k t s gone =
+    record {
+      inv = inv_leave_rollback w k t s.inv gone;
+      shows =
+          record { row = s.shows.row; last = s.shows.last; drawn = s.shows.drawn; reads = s.shows.reads };
+      run = s.run;
+    }
 
-pub sound_resolve_back : (steps : List Step) (w : View) (k : Key) (t : ℕ) → Sound steps w → IsAborted w.decided t → Sound steps (resolving_back w k t)
-sound_resolve_back steps w k t s gone = record { inv = inv_resolve_back w k t s.inv gone; shows = record { row = s.shows.row; last = s.shows.last; drawn = s.shows.drawn; reads = s.shows.reads }; run = s.run }
+pub sound_resolve_back : (steps : List Step) (w : View) (k : Key) (t : ℕ) → Sound steps w → IsAborted w.decided t
+    → Sound steps (resolving_back w k t)
+sound_resolve_back steps w k t s gone =
+    record {
+      inv = inv_resolve_back w k t s.inv gone;
+      shows =
+          record { row = s.shows.row; last = s.shows.last; drawn = s.shows.drawn; reads = s.shows.reads };
+      run = s.run;
+    }
 
-pub sound_push : (steps : List Step) (w : View) (k : Key) (t min : ℕ) (lock : Lock) → Sound steps w → OwnLock (w.cells k).lock t lock → IsPrimary w.declared t k → lock.min ≤ min → FellBack w.accepted t → ((c : ℕ) → IsCommitted w.decided t c → ⊥) → Sound steps (pushing w k t min)
-sound_push steps w k t min lock s own first more fell uncommitted = sound_quiet steps w s w.accepted (pushing w k t min).shown w.floor w.safe w.collected (pushing w k t min).cells (inv_push w k t min lock s.inv own first more fell uncommitted)
+pub sound_push : (steps : List Step) (w : View) (k : Key) (t min : ℕ) (lock : Lock) → Sound steps w
+    → OwnLock (w.cells k).lock t lock → IsPrimary w.declared t k → lock.min ≤ min → FellBack w.accepted t
+    → ((c : ℕ) → IsCommitted w.decided t c → ⊥) → Sound steps (pushing w k t min)
+sound_push steps w k t min lock s own first more fell uncommitted =
+    sound_quiet steps w s w.accepted (pushing w k t min).shown w.floor w.safe w.collected (pushing w k t min).cells
+    (inv_push w k t min lock s.inv own first more fell uncommitted)
 
-pub sound_collect : (steps : List Step) (w : View) (within : Key → Bool) (safe : ℕ) → Sound steps w → ((q : Key) → within q ≡ true → (w.collected q ≤ safe) × (safe ≤ w.safe q)) → ((q : Key) (lock : Lock) → within q ≡ true → (w.cells q).lock ≡ Some lock → safe ≤ lock.start) → Sound steps (collecting w within safe)
-sound_collect steps w within safe s more free = sound_quiet steps w s w.accepted w.shown w.floor w.safe (collecting w within safe).collected (collecting w within safe).cells (inv_collect w within safe s.inv more free)
+pub sound_collect : (steps : List Step) (w : View) (within : Key → Bool) (safe : ℕ) → Sound steps w
+    → ((q : Key) → within q ≡ true → (w.collected q ≤ safe) × (safe ≤ w.safe q))
+    → ((q : Key) (lock : Lock) → within q ≡ true → (w.cells q).lock ≡ Some lock → safe ≤ lock.start)
+    → Sound steps (collecting w within safe)
+sound_collect steps w within safe s more free =
+    sound_quiet steps w s w.accepted w.shown w.floor w.safe (collecting w within safe).collected
+    (collecting w within safe).cells (inv_collect w within safe s.inv more free)

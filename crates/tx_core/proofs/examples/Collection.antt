@@ -29,13 +29,26 @@ abbrev collect : Taken
 collect = record { region = 0; body = Collect record { region = 0; safe = 4 }; loaded = 4; answer = Collected 0 0 }
 
 abbrev get_low : Taken
-get_low = record { region = 0; body = Get record { key = a; at = 3; bypass = [] }; loaded = 4; answer = BelowSafePoint 4 }
+get_low = record {
+  region = 0;
+  body = Get record { key = a; at = 3; bypass = [] };
+  loaded = 4;
+  answer =
+      BelowSafePoint 4;
+}
 
 abbrev get_high : Taken
 get_high = record { region = 0; body = Get record { key = a; at = 4; bypass = [] }; loaded = 4; answer = Found x }
 
 raises : MayTake [] committed_run raise
-raises = record { region = omega arith; allowed = tt; holds = refl; loaded = last_was committed_run; answers = inr (λ h. omega (arith, h), inr (λ h. omega (arith, h), refl)) }
+raises = record {
+  region = omega arith;
+  allowed = tt;
+  holds = refl;
+  loaded = last_was committed_run;
+  answers =
+      inr (λ h. omega (arith, h), inr (λ h. omega (arith, h), refl));
+}
 
 abbrev raised_run : History
 raised_run = Took raise ∷ committed_run
@@ -44,8 +57,11 @@ drops_none : (k : Key) (q : ℕ) → IsDropped (left raised_run 0).cells 4 (k, q
 drops_none k q d =
     elim (key_test a k) [
       | inl e ↦ elim (nat_test 3 q) [
-        | inl here ↦ (let at : IsDropped (left raised_run 0).cells 4 (a, 3) = subst (λ j. IsDropped (left raised_run 0).cells 4 (j, 3)) (sym e.1) (subst (λ n. IsDropped (left raised_run 0).cells 4 (k, n)) (sym here.1) d) in cc (at.1))
-        | inr other ↦ (let at : IsDropped (left raised_run 0).cells 4 (a, q) = subst (λ j. IsDropped (left raised_run 0).cells 4 (j, q)) (sym e.1) d in at.0 (rw other.0 refl))
+        | inl here ↦ (let at : IsDropped (left raised_run 0).cells 4 (a, 3) =
+            subst (λ j. IsDropped (left raised_run 0).cells 4 (j, 3)) (sym e.1)
+            (subst (λ n. IsDropped (left raised_run 0).cells 4 (k, n)) (sym here.1) d) in cc (at.1))
+        | inr other ↦ (let at : IsDropped (left raised_run 0).cells 4 (a, q) =
+            subst (λ j. IsDropped (left raised_run 0).cells 4 (j, q)) (sym e.1) d in at.0 (rw other.0 refl))
       ]
       | inr e ↦ d.0 (rw e.0 refl)
     ]
@@ -56,12 +72,27 @@ collects = record {
   allowed = tt;
   holds = refl;
   loaded = last_was raised_run;
-  answers = inr (λ other. other refl, inr (λ some. unlocked some.0 some.1, ([], record { once = λ i j d low high. absurd (omega (arith, high)); each = λ version. (λ c. absurd (omega (arith, c.1)), λ d. absurd (drops_none version.0 version.1 d)) }, refl)));
+  answers = inr (
+    λ other. other refl,
+    inr (
+      λ some. unlocked some.0 some.1,
+      (
+        [],
+        record {
+          once = λ i j d low high. absurd (omega (arith, high));
+          each =
+              λ version. (λ c. absurd (omega (arith, c.1)), λ d. absurd (drops_none version.0 version.1 d));
+        },
+        refl,
+      ),
+    ),
+  );
 }
   where
     unlocked : (info : LockInfo) → IsLockBelow (left raised_run 0).cells 4 info → ⊥
     unlocked info is = elim (key_test a info.key) [
-      | inl e ↦ (let at : ((left raised_run 0).cells a).lock ≡ Some is.lock = subst (λ j. ((left raised_run 0).cells j).lock ≡ Some is.lock) (sym e.1) is.stands in cc (at))
+      | inl e ↦ (let at : ((left raised_run 0).cells a).lock ≡ Some is.lock =
+          subst (λ j. ((left raised_run 0).cells j).lock ≡ Some is.lock) (sym e.1) is.stands in cc (at))
       | inr e ↦ (let at : None ≡ Some is.lock = rw e.0 at is.stands in cc (at))
     ]
 
@@ -69,7 +100,14 @@ abbrev collected_run : History
 collected_run = Took collect ∷ raised_run
 
 reads_low : MayTake [] collected_run get_low
-reads_low = record { region = omega arith; allowed = λ t within. absurd (none t within); holds = refl; loaded = last_was collected_run; answers = inl (omega arith, refl) }
+reads_low = record {
+  region = omega arith;
+  allowed = λ t within. absurd (none t within);
+  holds = refl;
+  loaded =
+      last_was collected_run;
+  answers = inl (omega arith, refl);
+}
 
 reads_high : MayTake [] (Took get_low ∷ collected_run) get_high
 reads_high = record {
@@ -77,11 +115,24 @@ reads_high = record {
   allowed = λ t within. absurd (none t within);
   holds = refl;
   loaded = last_was (Took get_low ∷ collected_run);
-  answers = inr (λ h. omega (arith, h), inr (λ h. omega (arith, h), inr (λ lock b. (cc (b.stands)), (Some x, refl, record { at = 3; rec = _; stands = refl; puts = refl; upto = omega arith; newest = only }))));
+  answers = inr (
+    λ h. omega (arith, h),
+    inr (
+      λ h. omega (arith, h),
+      inr (
+        λ lock b. (cc (b.stands)),
+        (Some x, refl, record { at = 3; rec = _; stands = refl; puts = refl; upto = omega arith; newest = only }),
+      ),
+    ),
+  );
 }
   where
-    only : (c : ℕ) (rec : CommitRecord) → ((left collected_run 0).cells a).write c ≡ Some (CommitOf rec) → IsVisible rec.mutation → 3 < c → c ≤ 4 → ⊥
-    only c rec e seen low high = (let four : 4 ≡ c = omega (arith, low, high) in (let at : ((left collected_run 0).cells a).write 4 ≡ Some (CommitOf rec) = subst (λ n. ((left collected_run 0).cells a).write n ≡ Some (CommitOf rec)) (sym four) e in cc (at)))
+    only : (c : ℕ) (rec : CommitRecord) → ((left collected_run 0).cells a).write c ≡ Some (CommitOf rec)
+        → IsVisible rec.mutation → 3 < c → c ≤ 4 → ⊥
+    only c rec e seen low high =
+        (let four : 4 ≡ c = omega (arith, low, high) in
+        (let at : ((left collected_run 0).cells a).write 4 ≡ Some (CommitOf rec) =
+        subst (λ n. ((left collected_run 0).cells a).write n ≡ Some (CommitOf rec)) (sym four) e in cc (at)))
 
 pub collection_refuses_reads_below : IsWorldRun [] (Took get_high ∷ Took get_low ∷ collected_run)
 collection_refuses_reads_below = ((((rollback_committed, raises), collects), reads_low), reads_high)

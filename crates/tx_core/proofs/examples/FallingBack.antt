@@ -18,16 +18,47 @@ use Rattle.tx_core.proofs.seats.Staying.{last_was}
 use Rattle.tx_core.proofs.examples.Words.{a, x, none, unrolled, decides}
 
 abbrev bounded : Declaration
-bounded = record { start = 1; changes = record { key = a; mutation = Put x } ∷ []; mode = mode.Async; ttl = 10; max_commit = Some 3; drawn = 2 }
+bounded = record {
+  start = 1;
+  changes = record { key = a; mutation = Put x } ∷ [];
+  mode = mode.Async;
+  ttl =
+      10;
+  max_commit = Some 3;
+  drawn = 2;
+}
 
 abbrev get_none : Taken
 get_none = record { region = 0; body = Get record { key = a; at = 3; bypass = [] }; loaded = 3; answer = Nothing }
 
 abbrev prewrite : Taken
-prewrite = record { region = 0; body = Prewrite record { key = a; mutation = Put x; start = 1; primary = a; mode = mode.Async; max_commit = Some 3; floor = 3; ttl = 10; others = [] }; loaded = 3; answer = Prewritten 0 }
+prewrite = record {
+  region = 0;
+  body =
+      Prewrite record {
+        key = a;
+        mutation = Put x;
+        start = 1;
+        primary = a;
+        mode = mode.Async;
+        max_commit = Some 3;
+        floor =
+            3;
+        ttl = 10;
+        others = [];
+      };
+  loaded = 3;
+  answer = Prewritten 0;
+}
 
 abbrev commit : Taken
-commit = record { region = 0; body = Commit record { key = a; start = 1; commit = 4 }; loaded = 4; answer = Committed 4 }
+commit = record {
+  region = 0;
+  body = Commit record { key = a; start = 1; commit = 4 };
+  loaded = 4;
+  answer =
+      Committed 4;
+}
 
 abbrev begun : History
 begun = Began 3 ∷ Drawn 2 3 ∷ Declared bounded ∷ Drawn 1 2 ∷ Began 1 ∷ Drawn 1 1 ∷ []
@@ -36,7 +67,16 @@ abbrev bounded_run : History
 bounded_run = Took get_none ∷ begun
 
 begun_ok : IsWorldRun [] begun
-begun_ok = ((((((tt, omega arith), (λ e. (cc (e)), refl)), omega arith), record { begun = refl; once = refl; some = λ e. (cc (e)); distinct = (refl, tt); drew = inl (refl, refl, refl) }), omega arith), (λ e. (cc (e)), refl))
+begun_ok = (
+  (
+    (
+      (((tt, omega arith), (λ e. (cc (e)), refl)), omega arith),
+      record { begun = refl; once = refl; some = λ e. (cc (e)); distinct = (refl, tt); drew = inl (refl, refl, refl) },
+    ),
+    omega arith,
+  ),
+  (λ e. (cc (e)), refl),
+)
 
 reads_none : MayTake [] begun get_none
 reads_none = record {
@@ -44,7 +84,10 @@ reads_none = record {
   allowed = λ t within. absurd (none t within);
   holds = refl;
   loaded = last_was begun;
-  answers = inr (λ h. omega arith, inr (λ h. omega arith, inr (λ lock b. (cc (b.stands)), (None, refl, λ v f. (cc (f.stands))))));
+  answers = inr (
+    λ h. omega arith,
+    inr (λ h. omega arith, inr (λ lock b. (cc (b.stands)), (None, refl, λ v f. (cc (f.stands))))),
+  );
 }
 
 bounded_ok : IsWorldRun [] bounded_run
@@ -53,10 +96,42 @@ bounded_ok = (begun_ok, reads_none)
 promises_nothing : MayTake [] bounded_run prewrite
 promises_nothing = record {
   region = omega arith;
-  allowed = record { of = bounded; stands = refl; mutation = refl; primary = refl; mode = refl; max_commit = refl; floor = refl; ttl = refl; others = refl };
+  allowed = record {
+    of = bounded;
+    stands = refl;
+    mutation = refl;
+    primary = refl;
+    mode = refl;
+    max_commit = refl;
+    floor
+        = refl;
+    ttl = refl;
+    others = refl;
+  };
   holds = refl;
   loaded = last_was bounded_run;
-  answers = inr (λ h. omega arith, inr (λ h. omega arith, inr (λ lock own. (cc (own.stands)), inr (unrolled 1, inr (λ c own. (cc (own.stands)), inr (λ lock e. (cc (e)), inr (λ some. (cc (some.stands)), inr (λ ins. ins.0, inl (refl, (4, (omega arith, omega arith), inr (λ low. omega (arith, low), refl)))))))))));
+  answers = inr (
+    λ h. omega arith,
+    inr (
+      λ h. omega arith,
+      inr (
+        λ lock own. (cc (own.stands)),
+        inr (
+          unrolled 1,
+          inr (
+            λ c own. (cc (own.stands)),
+            inr (
+              λ lock e. (cc (e)),
+              inr (
+                λ some. (cc (some.stands)),
+                inr (λ ins. ins.0, inl (refl, (4, (omega arith, omega arith), inr (λ low. omega (arith, low), refl)))),
+              ),
+            ),
+          ),
+        ),
+      ),
+    ),
+  );
 }
 
 abbrev fallen : History
@@ -65,10 +140,18 @@ fallen = Drawn 1 4 ∷ Took prewrite ∷ bounded_run
 commits : MayTake [] fallen commit
 commits = record {
   region = omega arith;
-  allowed = record { of = bounded; stands = refl; may = inr (decides fallen (Put x) 4 _ refl refl refl refl refl (omega arith)) };
+  allowed = record {
+    of = bounded;
+    stands = refl;
+    may =
+        inr (decides fallen (Put x) 4 _ refl refl refl refl refl (omega arith));
+  };
   holds = refl;
   loaded = last_was fallen;
-  answers = inr (λ h. omega arith, inl (_, record { stands = refl; own = refl }, inr (λ h. omega arith, inr (λ rec h. (cc (h.stands)), refl))));
+  answers = inr (
+    λ h. omega arith,
+    inl (_, record { stands = refl; own = refl }, inr (λ h. omega arith, inr (λ rec h. (cc (h.stands)), refl))),
+  );
 }
 
 pub falls_back : IsWorldRun [] (Took commit ∷ fallen)

@@ -20,16 +20,66 @@ use Rattle.tx_core.proofs.seats.Staying.{last_was}
 use Rattle.tx_core.proofs.examples.Words.{a, b, x, unrolled}
 
 abbrev first_set : Declaration
-first_set = record { start = 1; changes = record { key = a; mutation = Put x } ∷ []; mode = mode.Async; ttl = 10; max_commit = None; drawn = 3 }
+first_set = record {
+  start = 1;
+  changes = record { key = a; mutation = Put x } ∷ [];
+  mode = mode.Async;
+  ttl =
+      10;
+  max_commit = None;
+  drawn = 3;
+}
 
 abbrev second_set : Declaration
-second_set = record { start = 2; changes = record { key = b; mutation = Put x } ∷ []; mode = mode.Async; ttl = 10; max_commit = None; drawn = 5 }
+second_set = record {
+  start = 2;
+  changes = record { key = b; mutation = Put x } ∷ [];
+  mode = mode.Async;
+  ttl =
+      10;
+  max_commit = None;
+  drawn = 5;
+}
 
 abbrev lock_first : Taken
-lock_first = record { region = 0; body = Prewrite record { key = a; mutation = Put x; start = 1; primary = a; mode = mode.Async; max_commit = None; floor = 4; ttl = 10; others = [] }; loaded = 3; answer = Prewritten 4 }
+lock_first = record {
+  region = 0;
+  body =
+      Prewrite record {
+        key = a;
+        mutation = Put x;
+        start = 1;
+        primary = a;
+        mode = mode.Async;
+        max_commit = None;
+        floor =
+            4;
+        ttl = 10;
+        others = [];
+      };
+  loaded = 3;
+  answer = Prewritten 4;
+}
 
 abbrev lock_second : Taken
-lock_second = record { region = 0; body = Prewrite record { key = b; mutation = Put x; start = 2; primary = b; mode = mode.Async; max_commit = None; floor = 6; ttl = 10; others = [] }; loaded = 5; answer = Prewritten 6 }
+lock_second = record {
+  region = 0;
+  body =
+      Prewrite record {
+        key = b;
+        mutation = Put x;
+        start = 2;
+        primary = b;
+        mode = mode.Async;
+        max_commit = None;
+        floor =
+            6;
+        ttl = 10;
+        others = [];
+      };
+  loaded = 5;
+  answer = Prewritten 6;
+}
 
 abbrev begins : History
 begins = Declared first_set ∷ Drawn 1 3 ∷ Began 2 ∷ Drawn 2 2 ∷ Began 1 ∷ Drawn 1 1 ∷ []
@@ -38,27 +88,97 @@ abbrev answers_first : History
 answers_first = Declared second_set ∷ Drawn 2 5 ∷ Answered 1 (outcome.Committed 4) ∷ Took lock_first ∷ begins
 
 begins_run : IsWorldRun [] begins
-begins_run = ((((((tt, omega arith), (λ e. (cc (e)), refl)), omega arith), (λ e. (cc (e)), refl)), omega arith), record { begun = refl; once = refl; some = λ e. (cc (e)); distinct = (refl, tt); drew = inl (refl, refl, refl) })
+begins_run = (
+  (((((tt, omega arith), (λ e. (cc (e)), refl)), omega arith), (λ e. (cc (e)), refl)), omega arith),
+  record { begun = refl; once = refl; some = λ e. (cc (e)); distinct = (refl, tt); drew = inl (refl, refl, refl) },
+)
 
 locks_first : MayTake [] begins lock_first
 locks_first = record {
   region = omega arith;
-  allowed = record { of = first_set; stands = refl; mutation = refl; primary = refl; mode = refl; max_commit = refl; floor = refl; ttl = refl; others = refl };
+  allowed = record {
+    of = first_set;
+    stands = refl;
+    mutation = refl;
+    primary = refl;
+    mode = refl;
+    max_commit =
+        refl;
+    floor = refl;
+    ttl = refl;
+    others = refl;
+  };
   holds = refl;
   loaded = last_was begins;
-  answers = inr (λ h. omega arith, inr (λ h. omega arith, inr (λ lock own. (cc (own.stands)), inr (unrolled 1, inr (λ c own. (cc (own.stands)), inr (λ lock e. (cc (e)), inr (λ some. (cc (some.stands)), inr (λ ins. ins.0, inl (refl, (4, (omega arith, omega arith), inl (tt, refl)))))))))));
+  answers = inr (
+    λ h. omega arith,
+    inr (
+      λ h. omega arith,
+      inr (
+        λ lock own. (cc (own.stands)),
+        inr (
+          unrolled 1,
+          inr (
+            λ c own. (cc (own.stands)),
+            inr (
+              λ lock e. (cc (e)),
+              inr (
+                λ some. (cc (some.stands)),
+                inr (λ ins. ins.0, inl (refl, (4, (omega arith, omega arith), inl (tt, refl)))),
+              ),
+            ),
+          ),
+        ),
+      ),
+    ),
+  );
 }
 
 answers_first_run : IsWorldRun [] answers_first
-answers_first_run = ((((begins_run, locks_first), (refl, refl, inr refl)), omega arith), record { begun = refl; once = refl; some = λ e. (cc (e)); distinct = (refl, tt); drew = inl (refl, refl, refl) })
+answers_first_run = (
+  (((begins_run, locks_first), (refl, refl, inr refl)), omega arith),
+  record { begun = refl; once = refl; some = λ e. (cc (e)); distinct = (refl, tt); drew = inl (refl, refl, refl) },
+)
 
 locks_second : MayTake [] answers_first lock_second
 locks_second = record {
   region = omega arith;
-  allowed = record { of = second_set; stands = refl; mutation = refl; primary = refl; mode = refl; max_commit = refl; floor = refl; ttl = refl; others = refl };
+  allowed = record {
+    of = second_set;
+    stands = refl;
+    mutation = refl;
+    primary = refl;
+    mode = refl;
+    max_commit =
+        refl;
+    floor = refl;
+    ttl = refl;
+    others = refl;
+  };
   holds = refl;
   loaded = last_was answers_first;
-  answers = inr (λ h. omega arith, inr (λ h. omega arith, inr (λ lock own. (cc (own.stands)), inr (unrolled 2, inr (λ c own. (cc (own.stands)), inr (λ lock e. (cc (e)), inr (λ some. (cc (some.stands)), inr (λ ins. ins.0, inl (refl, (6, (omega arith, omega arith), inl (tt, refl)))))))))));
+  answers = inr (
+    λ h. omega arith,
+    inr (
+      λ h. omega arith,
+      inr (
+        λ lock own. (cc (own.stands)),
+        inr (
+          unrolled 2,
+          inr (
+            λ c own. (cc (own.stands)),
+            inr (
+              λ lock e. (cc (e)),
+              inr (
+                λ some. (cc (some.stands)),
+                inr (λ ins. ins.0, inl (refl, (6, (omega arith, omega arith), inl (tt, refl)))),
+              ),
+            ),
+          ),
+        ),
+      ),
+    ),
+  );
 }
 
 pub ordered_commits : IsWorldRun [] (Took lock_second ∷ answers_first)

@@ -27,7 +27,16 @@ abbrev cut : List Key
 cut = b ∷ []
 
 abbrev two_keys : Declaration
-two_keys = record { start = 1; changes = record { key = a; mutation = Put x } ∷ record { key = b; mutation = Put x } ∷ []; mode = mode.Async; ttl = 10; max_commit = None; drawn = 2 }
+two_keys = record {
+  start = 1;
+  changes =
+      record { key = a; mutation = Put x } ∷ record { key = b; mutation = Put x } ∷ [];
+  mode = mode.Async;
+  ttl =
+      10;
+  max_commit = None;
+  drawn = 2;
+}
 
 abbrev lock_a : Lock
 lock_a = record { mutation = Put x; mode = mode.Async; secondaries = b ∷ []; start = 1; min = 3; ttl = 10; primary = a }
@@ -36,25 +45,91 @@ abbrev lock_b : Lock
 lock_b = record { mutation = Put x; mode = mode.Async; secondaries = []; start = 1; min = 4; ttl = 10; primary = a }
 
 abbrev prewrite_a : Taken
-prewrite_a = record { region = 0; body = Prewrite record { key = a; mutation = Put x; start = 1; primary = a; mode = mode.Async; max_commit = None; floor = 3; ttl = 10; others = b ∷ [] }; loaded = 2; answer = Prewritten 3 }
+prewrite_a = record {
+  region = 0;
+  body =
+      Prewrite record {
+        key = a;
+        mutation = Put x;
+        start = 1;
+        primary = a;
+        mode = mode.Async;
+        max_commit = None;
+        floor =
+            3;
+        ttl = 10;
+        others = b ∷ [];
+      };
+  loaded = 2;
+  answer = Prewritten 3;
+}
 
 abbrev get_b : Taken
 get_b = record { region = 1; body = Get record { key = b; at = 3; bypass = [] }; loaded = 3; answer = Nothing }
 
 abbrev prewrite_b : Taken
-prewrite_b = record { region = 1; body = Prewrite record { key = b; mutation = Put x; start = 1; primary = a; mode = mode.Async; max_commit = None; floor = 3; ttl = 10; others = [] }; loaded = 2; answer = Prewritten 4 }
+prewrite_b = record {
+  region = 1;
+  body =
+      Prewrite record {
+        key = b;
+        mutation = Put x;
+        start = 1;
+        primary = a;
+        mode = mode.Async;
+        max_commit = None;
+        floor =
+            3;
+        ttl = 10;
+        others = [];
+      };
+  loaded = 2;
+  answer = Prewritten 4;
+}
 
 abbrev get_a : Taken
-get_a = record { region = 0; body = Get record { key = a; at = 3; bypass = [] }; loaded = 3; answer = KeyIsLocked (info_of a lock_a) }
+get_a = record {
+  region = 0;
+  body = Get record { key = a; at = 3; bypass = [] };
+  loaded = 3;
+  answer =
+      KeyIsLocked (info_of a lock_a);
+}
 
 abbrev check_a : Taken
-check_a = record { region = 0; body = CheckTxnStatus record { key = a; start = 1; caller = 3; current = 100; rollback_if_not_exist = true; force_sync_commit = false }; loaded = 3; answer = Locked (info_of a lock_a) }
+check_a = record {
+  region = 0;
+  body =
+      CheckTxnStatus record {
+        key = a;
+        start = 1;
+        caller = 3;
+        current = 100;
+        rollback_if_not_exist =
+            true;
+        force_sync_commit = false;
+      };
+  loaded = 3;
+  answer = Locked (info_of a lock_a);
+}
 
 abbrev check_b : Taken
-check_b = record { region = 1; body = CheckSecondaryLocks record { key = b; start = 1 }; loaded = 3; answer = Locked (info_of b lock_b) }
+check_b = record {
+  region = 1;
+  body = CheckSecondaryLocks record { key = b; start = 1 };
+  loaded = 3;
+  answer =
+      Locked (info_of b lock_b);
+}
 
 abbrev resolve_a : Taken
-resolve_a = record { region = 0; body = ResolveLock record { key = a; start = 1; fate = fate.Committed 4 }; loaded = 3; answer = Resolved }
+resolve_a = record {
+  region = 0;
+  body = ResolveLock record { key = a; start = 1; fate = fate.Committed 4 };
+  loaded =
+      3;
+  answer = Resolved;
+}
 
 abbrev get_again : Taken
 get_again = record { region = 0; body = Get record { key = a; at = 3; bypass = [] }; loaded = 3; answer = Nothing }
@@ -72,15 +147,57 @@ abbrev asked : History
 asked = Took check_b ∷ Took check_a ∷ Took get_a ∷ locked_both
 
 begun_run : IsWorldRun cut begun
-begun_run = ((((tt, omega arith), (λ e. (cc (e)), refl)), omega arith), record { begun = refl; once = refl; some = λ e. (cc (e)); distinct = (refl, (refl, tt)); drew = inl (refl, refl, refl) })
+begun_run = (
+  (((tt, omega arith), (λ e. (cc (e)), refl)), omega arith),
+  record {
+    begun = refl;
+    once = refl;
+    some = λ e. (cc (e));
+    distinct = (refl, (refl, tt));
+    drew =
+        inl (refl, refl, refl);
+  },
+)
 
 takes_prewrite_a : MayTake cut begun prewrite_a
 takes_prewrite_a = record {
   region = omega arith;
-  allowed = record { of = two_keys; stands = refl; mutation = refl; primary = refl; mode = refl; max_commit = refl; floor = refl; ttl = refl; others = refl };
+  allowed = record {
+    of = two_keys;
+    stands = refl;
+    mutation = refl;
+    primary = refl;
+    mode = refl;
+    max_commit =
+        refl;
+    floor = refl;
+    ttl = refl;
+    others = refl;
+  };
   holds = refl;
   loaded = last_was begun;
-  answers = inr (λ h. omega arith, inr (λ h. omega arith, inr (λ lock own. (cc (own.stands)), inr (unrolled 1, inr (λ c own. (cc (own.stands)), inr (λ lock e. (cc (e)), inr (λ some. (cc (some.stands)), inr (λ ins. ins.0, inl (refl, (3, (omega arith, omega arith), inl (tt, refl)))))))))));
+  answers = inr (
+    λ h. omega arith,
+    inr (
+      λ h. omega arith,
+      inr (
+        λ lock own. (cc (own.stands)),
+        inr (
+          unrolled 1,
+          inr (
+            λ c own. (cc (own.stands)),
+            inr (
+              λ lock e. (cc (e)),
+              inr (
+                λ some. (cc (some.stands)),
+                inr (λ ins. ins.0, inl (refl, (3, (omega arith, omega arith), inl (tt, refl)))),
+              ),
+            ),
+          ),
+        ),
+      ),
+    ),
+  );
 }
 
 locked_a_run : IsWorldRun cut locked_a
@@ -92,17 +209,52 @@ takes_get_b = record {
   allowed = λ t within. absurd (none t within);
   holds = refl;
   loaded = last_was locked_a;
-  answers = inr (λ h. omega arith, inr (λ h. omega arith, inr (λ lock y. (cc (y.stands)), (None, refl, λ v f. (cc (f.stands))))));
+  answers = inr (
+    λ h. omega arith,
+    inr (λ h. omega arith, inr (λ lock y. (cc (y.stands)), (None, refl, λ v f. (cc (f.stands))))),
+  );
 }
 
 -- the number that its region loaded is an old one
 takes_prewrite_b : MayTake cut (Took get_b ∷ locked_a) prewrite_b
 takes_prewrite_b = record {
   region = omega arith;
-  allowed = record { of = two_keys; stands = refl; mutation = refl; primary = refl; mode = refl; max_commit = refl; floor = refl; ttl = refl; others = refl };
+  allowed = record {
+    of = two_keys;
+    stands = refl;
+    mutation = refl;
+    primary = refl;
+    mode = refl;
+    max_commit =
+        refl;
+    floor = refl;
+    ttl = refl;
+    others = refl;
+  };
   holds = refl;
   loaded = (Took prewrite_a ∷ begun, inr (inr (inr (inl refl))), refl);
-  answers = inr (λ h. omega arith, inr (λ h. omega arith, inr (λ lock own. (cc (own.stands)), inr (unrolled 1, inr (λ c own. (cc (own.stands)), inr (λ lock e. (cc (e)), inr (λ some. (cc (some.stands)), inr (λ ins. ins.0, inl (refl, (4, (omega arith, omega arith), inl (tt, refl)))))))))));
+  answers = inr (
+    λ h. omega arith,
+    inr (
+      λ h. omega arith,
+      inr (
+        λ lock own. (cc (own.stands)),
+        inr (
+          unrolled 1,
+          inr (
+            λ c own. (cc (own.stands)),
+            inr (
+              λ lock e. (cc (e)),
+              inr (
+                λ some. (cc (some.stands)),
+                inr (λ ins. ins.0, inl (refl, (4, (omega arith, omega arith), inl (tt, refl)))),
+              ),
+            ),
+          ),
+        ),
+      ),
+    ),
+  );
 }
 
 locked_both_run : IsWorldRun cut locked_both
@@ -120,7 +272,13 @@ takes_get_a = record {
   allowed = λ t within. absurd (none t within);
   holds = refl;
   loaded = last_was locked_both;
-  answers = inr (λ h. omega arith, inr (λ h. omega arith, inl (lock_a, record { stands = refl; visible = tt; below = omega arith; met = none 1 }, refl)));
+  answers = inr (
+    λ h. omega arith,
+    inr (
+      λ h. omega arith,
+      inl (lock_a, record { stands = refl; visible = tt; below = omega arith; met = none 1 }, refl),
+    ),
+  );
 }
 
 takes_check_a : MayTake cut (Took get_a ∷ locked_both) check_a
@@ -129,7 +287,10 @@ takes_check_a = record {
   allowed = record { of = two_keys; stands = refl; primary = refl; forced = λ e. (cc (e)) };
   holds = refl;
   loaded = last_was (Took get_a ∷ locked_both);
-  answers = inr (λ h. omega arith, inr (λ h. omega arith, inl (lock_a, record { stands = refl; own = refl }, inl ((refl, refl), refl))));
+  answers = inr (
+    λ h. omega arith,
+    inr (λ h. omega arith, inl (lock_a, record { stands = refl; own = refl }, inl ((refl, refl), refl))),
+  );
 }
 
 takes_check_b : MayTake cut (Took check_a ∷ Took get_a ∷ locked_both) check_b
@@ -150,7 +311,14 @@ takes_resolve_a = record {
   allowed = record { stands = λ e. (cc (e)); decision = refl };
   holds = refl;
   loaded = last_was asked;
-  answers = inr (λ h. omega arith, inl (lock_a, record { stands = refl; own = refl }, inr (λ low. omega (arith, low), inr (λ rec others. (cc (others.stands)), refl))));
+  answers = inr (
+    λ h. omega arith,
+    inl (
+      lock_a,
+      record { stands = refl; own = refl },
+      inr (λ low. omega (arith, low), inr (λ rec others. (cc (others.stands)), refl)),
+    ),
+  );
 }
 
 takes_get_again : MayTake cut (Took resolve_a ∷ asked) get_again
@@ -159,14 +327,24 @@ takes_get_again = record {
   allowed = λ t within. absurd (none t within);
   holds = refl;
   loaded = last_was (Took resolve_a ∷ asked);
-  answers = inr (λ h. omega arith, inr (λ h. omega arith, inr (λ lock y. (cc (y.stands)), (None, refl, λ v f. above f.at f.rec f.stands f.upto))));
+  answers = inr (
+    λ h. omega arith,
+    inr (λ h. omega arith, inr (λ lock y. (cc (y.stands)), (None, refl, λ v f. above f.at f.rec f.stands f.upto))),
+  );
 }
   where
-    above : (c : ℕ) (rec : CommitRecord) → cond (4 == c) (Some (CommitOf record { mutation = Put x; start = 1; overlapped_rollback = false })) None ≡ Some (CommitOf rec) → c ≤ 3 → ⊥
-    above c rec e low = elim (nat_test 4 c) [ inl y ↦ omega (arith, y.1, low) | inr y ↦ (let at : None ≡ Some (CommitOf rec) = rw y.0 at e in cc (at)) ]
+    above : (c : ℕ) (rec : CommitRecord)
+        → cond (4 == c) (Some (CommitOf record { mutation = Put x; start = 1; overlapped_rollback = false })) None
+        ≡ Some (CommitOf rec) → c ≤ 3 → ⊥
+    above c rec e low = elim (nat_test 4 c) [
+      | inl y ↦ omega (arith, y.1, low)
+      | inr y ↦ (let at : None ≡ Some (CommitOf rec) = rw y.0 at e in cc (at))
+    ]
 
 pub resolver_finishes : IsWorldRun cut (Took get_again ∷ Took resolve_a ∷ asked)
 resolver_finishes = ((asked_run, takes_resolve_a), takes_get_again)
 
-pub shadow_of_it : shadow (Took get_again ∷ Took resolve_a ∷ asked) ≡ step.Read a 3 None ∷ step.Commit 1 4 ∷ step.Read b 3 None ∷ step.Begin 3 ∷ step.Draw 3 ∷ step.Declare 1 two_keys.changes ∷ step.Draw 2 ∷ step.Begin 1 ∷ step.Draw 1 ∷ []
+pub shadow_of_it : shadow (Took get_again ∷ Took resolve_a ∷ asked) ≡ step.Read a 3 None ∷ step.Commit 1 4
+    ∷ step.Read b 3 None ∷ step.Begin 3 ∷ step.Draw 3 ∷ step.Declare 1 two_keys.changes ∷ step.Draw 2 ∷ step.Begin 1
+    ∷ step.Draw 1 ∷ []
 shadow_of_it = refl

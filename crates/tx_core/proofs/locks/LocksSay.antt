@@ -51,10 +51,16 @@ stood o lock e = (lock, e, same_lock lock)
 
 own_left : (o : Option Lock) (t : ℕ) (lock : Lock) → without_own o t ≡ Some lock → Stood o lock
 own_left None t lock e = absurd (cc (e))
-own_left (Some old) t lock e = elim (chosen (old.start == t) None (Some old) (Some lock) e) [ inl x ↦ absurd (cc (x.1)) | inr x ↦ stood (Some old) lock x.1 ]
+own_left (Some old) t lock e =
+    elim (chosen (old.start == t) None (Some old) (Some lock) e) [
+      | inl x ↦ absurd (cc (x.1))
+      | inr x ↦ stood (Some old) lock x.1
+    ]
 
 -- a change of its own lock
-own_changed : (cells : Cells) (t : ℕ) (f : Lock → Cells) → ((old lock : Lock) → cells.lock ≡ Some old → (f old).lock ≡ Some lock → Stood cells.lock lock) → (lock : Lock) → (on_own_lock cells t f).lock ≡ Some lock → Stood cells.lock lock
+own_changed : (cells : Cells) (t : ℕ) (f : Lock → Cells)
+    → ((old lock : Lock) → cells.lock ≡ Some old → (f old).lock ≡ Some lock → Stood cells.lock lock) → (lock : Lock)
+    → (on_own_lock cells t f).lock ≡ Some lock → Stood cells.lock lock
 own_changed cells t f does lock e =
     elim (own_cases cells t f) [
       | inl x ↦ does x.0 lock x.1 (ap (λ (c : Cells). c.lock) (sym x.3) ∙ e)
@@ -65,11 +71,16 @@ settle_left : (cells : Cells) (t c : ℕ) (lock : Lock) → (commit_lock cells t
 settle_left cells t c = own_changed cells t (λ lock. lock_committed cells c lock) (λ old lock is e. absurd (cc (e)))
 
 -- its own lock, put back with another minimum or time to live
-put_back : (cells : Cells) (t : ℕ) (f : Lock → Lock) → ((old : Lock) → SameLock old (f old)) → (lock : Lock) → (on_own_lock cells t (λ old. with_lock cells (Some (f old)))).lock ≡ Some lock → Stood cells.lock lock
-put_back cells t f same = own_changed cells t (λ old. with_lock cells (Some (f old))) (λ old lock is e. (old, is, subst (SameLock old) (some_same (f old) lock e) (same old)))
+put_back : (cells : Cells) (t : ℕ) (f : Lock → Lock) → ((old : Lock) → SameLock old (f old)) → (lock : Lock)
+    → (on_own_lock cells t (λ old. with_lock cells (Some (f old)))).lock ≡ Some lock → Stood cells.lock lock
+put_back cells t f same =
+    own_changed cells t (λ old. with_lock cells (Some (f old)))
+    (λ old lock is e. (old, is, subst (SameLock old) (some_same (f old) lock e) (same old)))
 
-resolve_left : (cells : Cells) (t : ℕ) (end : Fate) (lock : Lock) → (resolve cells t end).lock ≡ Some lock → Stood cells.lock lock
-resolve_left cells t fate.Aborted lock e = own_changed cells t (λ old. roll_back cells t) (λ old new is y. own_left cells.lock t new y) lock e
+resolve_left : (cells : Cells) (t : ℕ) (end : Fate) (lock : Lock) → (resolve cells t end).lock ≡ Some lock
+    → Stood cells.lock lock
+resolve_left cells t fate.Aborted lock e =
+    own_changed cells t (λ old. roll_back cells t) (λ old new is y. own_left cells.lock t new y) lock e
 resolve_left cells t (fate.Committed c) lock e = settle_left cells t c lock e
 
 -- ---- of a region
@@ -80,54 +91,79 @@ data Left (r : Region) (x : Body) (k : Key) (lock : Lock) : Type 0 where
   put : (b : Prewrite) (m : ℕ) (is : x ≡ body.Prewrite b) (at : b.key ≡ k) (new : lock ≡ lock_of b m) → Left r x k lock
 
 -- the cells of one key changed
-left_keyed : (r : Region) (x : Body) (key : Key) (new : Cells) → ((lock : Lock) → new.lock ≡ Some lock → Left r x key lock) → (k : Key) (lock : Lock) → ((with_cells r key new).cells k).lock ≡ Some lock → Left r x k lock
+left_keyed : (r : Region) (x : Body) (key : Key) (new : Cells)
+    → ((lock : Lock) → new.lock ≡ Some lock → Left r x key lock) → (k : Key) (lock : Lock)
+    → ((with_cells r key new).cells k).lock ≡ Some lock → Left r x k lock
 left_keyed r x key new does k lock e =
     elim (key_test key k) [
-      | inl y ↦ subst (λ q. Left r x q lock) y.1 (does lock (ap (λ (c : Cells). c.lock) (sym (cond_true (bytes_eq key k) new (r.cells k) y.0)) ∙ e))
-      | inr y ↦ was (stood (r.cells k).lock lock (ap (λ (c : Cells). c.lock) (sym (cond_false (bytes_eq key k) new (r.cells k) y.0)) ∙ e))
+      | inl y ↦ subst (λ q. Left r x q lock) y.1
+          (does lock (ap (λ (c : Cells). c.lock) (sym (cond_true (bytes_eq key k) new (r.cells k) y.0)) ∙ e))
+      | inr y ↦ was (stood (r.cells k).lock lock
+          (ap (λ (c : Cells). c.lock) (sym (cond_false (bytes_eq key k) new (r.cells k) y.0)) ∙ e))
     ]
 
-left_lock : (r : Region) (x : Body) (a : Answer) (k : Key) (lock : Lock) → ((leaves r x a).cells k).lock ≡ Some lock → Left r x k lock
+left_lock : (r : Region) (x : Body) (a : Answer) (k : Key) (lock : Lock) → ((leaves r x a).cells k).lock ≡ Some lock
+    → Left r x k lock
 left_lock r (body.Get b) a k lock e = was (stood (r.cells k).lock lock e)
 left_lock r (body.Scan b) a k lock e = was (stood (r.cells k).lock lock e)
-left_lock r (body.Prewrite b) a k lock e = left_keyed r (body.Prewrite b) b.key (leaves_prewrite (r.cells b.key) b a) (does a) k lock e
+left_lock r (body.Prewrite b) a k lock e =
+    left_keyed r (body.Prewrite b) b.key (leaves_prewrite (r.cells b.key) b a) (does a) k lock e
   where
-    locks : (m : ℕ) (o : Option Lock) → (r.cells b.key).lock ≡ o → (new : Lock) → (leaves_prewrite (record { lock = o; write = (r.cells b.key).write }) b (Prewritten m)).lock ≡ Some new → Left r (body.Prewrite b) b.key new
+    locks : (m : ℕ) (o : Option Lock) → (r.cells b.key).lock ≡ o → (new : Lock)
+        → (leaves_prewrite (record { lock = o; write = (r.cells b.key).write }) b (Prewritten m)).lock ≡ Some new
+        → Left r (body.Prewrite b) b.key new
     locks m None is new y = put b m refl refl (some_same new (lock_of b m) (sym y))
     locks m (Some old) is new y = was (stood (r.cells b.key).lock new (is ∙ y))
 
-    does : (a : Answer) (new : Lock) → (leaves_prewrite (r.cells b.key) b a).lock ≡ Some new → Left r (body.Prewrite b) b.key new
+    does : (a : Answer) (new : Lock) → (leaves_prewrite (r.cells b.key) b a).lock ≡ Some new
+        → Left r (body.Prewrite b) b.key new
     does (Prewritten m) new y = locks m (r.cells b.key).lock refl new y
     does _ new y = was (stood (r.cells b.key).lock new y)
-left_lock r (body.Commit b) a k lock e = left_keyed r (body.Commit b) b.key (leaves_commit (r.cells b.key) b a) (does a) k lock e
+left_lock r (body.Commit b) a k lock e =
+    left_keyed r (body.Commit b) b.key (leaves_commit (r.cells b.key) b a) (does a) k lock e
   where
-    does : (a : Answer) (new : Lock) → (leaves_commit (r.cells b.key) b a).lock ≡ Some new → Left r (body.Commit b) b.key new
+    does : (a : Answer) (new : Lock) → (leaves_commit (r.cells b.key) b a).lock ≡ Some new
+        → Left r (body.Commit b) b.key new
     does (Committed c) new y = was (settle_left (r.cells b.key) b.start b.commit new y)
     does _ new y = was (stood (r.cells b.key).lock new y)
-left_lock r (body.BatchRollback b) a k lock e = left_keyed r (body.BatchRollback b) b.key (leaves_batch_rollback (r.cells b.key) b a) (does a) k lock e
+left_lock r (body.BatchRollback b) a k lock e =
+    left_keyed r (body.BatchRollback b) b.key (leaves_batch_rollback (r.cells b.key) b a) (does a) k lock e
   where
-    does : (a : Answer) (new : Lock) → (leaves_batch_rollback (r.cells b.key) b a).lock ≡ Some new → Left r (body.BatchRollback b) b.key new
+    does : (a : Answer) (new : Lock) → (leaves_batch_rollback (r.cells b.key) b a).lock ≡ Some new
+        → Left r (body.BatchRollback b) b.key new
     does RolledBack new y = was (own_left (r.cells b.key).lock b.start new y)
     does _ new y = was (stood (r.cells b.key).lock new y)
-left_lock r (body.TxnHeartBeat b) a k lock e = left_keyed r (body.TxnHeartBeat b) b.key (leaves_txn_heart_beat (r.cells b.key) b a) (does a) k lock e
+left_lock r (body.TxnHeartBeat b) a k lock e =
+    left_keyed r (body.TxnHeartBeat b) b.key (leaves_txn_heart_beat (r.cells b.key) b a) (does a) k lock e
   where
-    does : (a : Answer) (new : Lock) → (leaves_txn_heart_beat (r.cells b.key) b a).lock ≡ Some new → Left r (body.TxnHeartBeat b) b.key new
-    does (Ttl ttl) new y = was (put_back (r.cells b.key) b.start (λ old. with_ttl old ttl) (λ old. record { start = refl; mode = refl; primary = refl; secondaries = refl }) new y)
+    does : (a : Answer) (new : Lock) → (leaves_txn_heart_beat (r.cells b.key) b a).lock ≡ Some new
+        → Left r (body.TxnHeartBeat b) b.key new
+    does (Ttl ttl) new y =
+        was (put_back (r.cells b.key) b.start (λ old. with_ttl old ttl)
+        (λ old. record { start = refl; mode = refl; primary = refl; secondaries = refl }) new y)
     does _ new y = was (stood (r.cells b.key).lock new y)
-left_lock r (body.CheckTxnStatus b) a k lock e = left_keyed r (body.CheckTxnStatus b) b.key (leaves_check_txn_status (r.cells b.key) b a) (does a) k lock e
+left_lock r (body.CheckTxnStatus b) a k lock e =
+    left_keyed r (body.CheckTxnStatus b) b.key (leaves_check_txn_status (r.cells b.key) b a) (does a) k lock e
   where
-    does : (a : Answer) (new : Lock) → (leaves_check_txn_status (r.cells b.key) b a).lock ≡ Some new → Left r (body.CheckTxnStatus b) b.key new
+    does : (a : Answer) (new : Lock) → (leaves_check_txn_status (r.cells b.key) b a).lock ≡ Some new
+        → Left r (body.CheckTxnStatus b) b.key new
     does RolledBack new y = was (own_left (r.cells b.key).lock b.start new y)
-    does (Locked info) new y = was (put_back (r.cells b.key) b.start (λ old. with_minimum old info.min) (λ old. record { start = refl; mode = refl; primary = refl; secondaries = refl }) new y)
+    does (Locked info) new y =
+        was (put_back (r.cells b.key) b.start (λ old. with_minimum old info.min)
+        (λ old. record { start = refl; mode = refl; primary = refl; secondaries = refl }) new y)
     does _ new y = was (stood (r.cells b.key).lock new y)
-left_lock r (body.CheckSecondaryLocks b) a k lock e = left_keyed r (body.CheckSecondaryLocks b) b.key (leaves_check_secondary_locks (r.cells b.key) b a) (does a) k lock e
+left_lock r (body.CheckSecondaryLocks b) a k lock e =
+    left_keyed r (body.CheckSecondaryLocks b) b.key (leaves_check_secondary_locks (r.cells b.key) b a) (does a) k lock e
   where
-    does : (a : Answer) (new : Lock) → (leaves_check_secondary_locks (r.cells b.key) b a).lock ≡ Some new → Left r (body.CheckSecondaryLocks b) b.key new
+    does : (a : Answer) (new : Lock) → (leaves_check_secondary_locks (r.cells b.key) b a).lock ≡ Some new
+        → Left r (body.CheckSecondaryLocks b) b.key new
     does Missing new y = was (stood (r.cells b.key).lock new y)
     does _ new y = was (stood (r.cells b.key).lock new y)
-left_lock r (body.ResolveLock b) a k lock e = left_keyed r (body.ResolveLock b) b.key (leaves_resolve_lock (r.cells b.key) b a) (does a) k lock e
+left_lock r (body.ResolveLock b) a k lock e =
+    left_keyed r (body.ResolveLock b) b.key (leaves_resolve_lock (r.cells b.key) b a) (does a) k lock e
   where
-    does : (a : Answer) (new : Lock) → (leaves_resolve_lock (r.cells b.key) b a).lock ≡ Some new → Left r (body.ResolveLock b) b.key new
+    does : (a : Answer) (new : Lock) → (leaves_resolve_lock (r.cells b.key) b a).lock ≡ Some new
+        → Left r (body.ResolveLock b) b.key new
     does Resolved new y = was (resolve_left (r.cells b.key) b.start b.fate new y)
     does _ new y = was (stood (r.cells b.key).lock new y)
 left_lock r (body.RaiseSafe b) Raised k lock e = was (stood (r.cells k).lock lock e)
@@ -171,15 +207,27 @@ put_says h k b m may at =
     }
 
 -- an event that declares nothing that was declared before
-says_later : (h : History) (e : Event) (k : Key) (lock : Lock) → ((d : Declaration) → declared h lock.start ≡ Some d → declared (e ∷ h) lock.start ≡ Some d) → Says h k lock → Says (e ∷ h) k lock
-says_later h e k lock still says = record { of = says.of; stands = still says.of says.stands; primary = says.primary; listed = says.listed }
+says_later : (h : History) (e : Event) (k : Key) (lock : Lock)
+    → ((d : Declaration) → declared h lock.start ≡ Some d → declared (e ∷ h) lock.start ≡ Some d) → Says h k lock
+    → Says (e ∷ h) k lock
+says_later h e k lock still says =
+    record { of = says.of; stands = still says.of says.stands; primary = says.primary; listed = says.listed }
 
 say_next : (bounds : List Key) (h : History) → AllSay h → (e : Event) → MayCome bounds h e → AllSay (e ∷ h)
-say_next bounds h before (Drawn s n) may i k lock e = (let says = before i k lock e in record { of = says.of; stands = says.stands; primary = says.primary; listed = says.listed })
-say_next bounds h before (Began t) may i k lock e = (let says = before i k lock e in record { of = says.of; stands = says.stands; primary = says.primary; listed = says.listed })
-say_next bounds h before (Answered t o) may i k lock e = (let says = before i k lock e in record { of = says.of; stands = says.stands; primary = says.primary; listed = says.listed })
-say_next bounds h before (Stopped s) may i k lock e = (let says = before i k lock e in record { of = says.of; stands = says.stands; primary = says.primary; listed = says.listed })
-say_next bounds h before (Declared d) may n k lock e = says_later h (Declared d) k lock (λ x is. still x is) (before n k lock e)
+say_next bounds h before (Drawn s n) may i k lock e =
+    (let says = before i k lock e in
+    record { of = says.of; stands = says.stands; primary = says.primary; listed = says.listed })
+say_next bounds h before (Began t) may i k lock e =
+    (let says = before i k lock e in
+    record { of = says.of; stands = says.stands; primary = says.primary; listed = says.listed })
+say_next bounds h before (Answered t o) may i k lock e =
+    (let says = before i k lock e in
+    record { of = says.of; stands = says.stands; primary = says.primary; listed = says.listed })
+say_next bounds h before (Stopped s) may i k lock e =
+    (let says = before i k lock e in
+    record { of = says.of; stands = says.stands; primary = says.primary; listed = says.listed })
+say_next bounds h before (Declared d) may n k lock e =
+    says_later h (Declared d) k lock (λ x is. still x is) (before n k lock e)
   where
     still : (x : Declaration) → declared h lock.start ≡ Some x → declared (Declared d ∷ h) lock.start ≡ Some x
     still x is =
@@ -189,8 +237,12 @@ say_next bounds h before (Declared d) may n k lock e = says_later h (Declared d)
         ]
 say_next bounds h before (Took x) may n k lock e =
     elim (nat_test x.region n) [
-      | inl same ↦ go (left_lock (left h n) x.body x.answer k lock (ap (λ (r : Region). (r.cells k).lock) (sym (cond_true (x.region == n) (leaves (left h n) x.body x.answer) (left h n) same.0)) ∙ e))
-      | inr other ↦ again (before n k lock (ap (λ (r : Region). (r.cells k).lock) (sym (cond_false (x.region == n) (leaves (left h n) x.body x.answer) (left h n) other.0)) ∙ e))
+      | inl same ↦ go (left_lock (left h n) x.body x.answer k lock
+          (ap (λ (r : Region). (r.cells k).lock)
+          (sym (cond_true (x.region == n) (leaves (left h n) x.body x.answer) (left h n) same.0)) ∙ e))
+      | inr other ↦ again (before n k lock
+          (ap (λ (r : Region). (r.cells k).lock)
+          (sym (cond_false (x.region == n) (leaves (left h n) x.body x.answer) (left h n) other.0)) ∙ e))
     ]
   where
     again : Says h k lock → Says (Took x ∷ h) k lock

@@ -24,10 +24,20 @@ use Rattle.tx_core.proofs.requests.Good.{Good, Next, OnKey, took, cells_at, quie
 
 module _ (bounds : List Key) (h : History) (good : Good bounds h) (b : CheckSecondaryLocks) (l : ℕ) where
   on_key : (a : Answer) → OnKey b.key (body.CheckSecondaryLocks b) a b.start (λ c. leaves_check_secondary_locks c b a)
-  on_key a = record { named = refl; does = λ r. refl; unread = λ before. refl; unseen = refl; unnoted = λ e before. refl; unchecked = λ e. refl }
+  on_key a = record {
+    named = refl;
+    does = λ r. refl;
+    unread = λ before. refl;
+    unseen = refl;
+    unnoted =
+        λ e before. refl;
+    unchecked = λ e. refl;
+  }
 
-  silent : (a x : Answer) → a ≡ x → Next bounds h (took (route bounds b.key) (body.CheckSecondaryLocks b) l x) → Next bounds h (took (route bounds b.key) (body.CheckSecondaryLocks b) l a)
-  silent a x e next = subst (λ y. Next bounds h (took (route bounds b.key) (body.CheckSecondaryLocks b) l y)) (sym e) next
+  silent : (a x : Answer) → a ≡ x → Next bounds h (took (route bounds b.key) (body.CheckSecondaryLocks b) l x)
+      → Next bounds h (took (route bounds b.key) (body.CheckSecondaryLocks b) l a)
+  silent a x e next = subst (λ y. Next bounds h (took (route bounds b.key) (body.CheckSecondaryLocks b) l y)) (sym e)
+      next
 
   -- its rollback is left
   abbrev roll : Cells → Cells
@@ -49,25 +59,45 @@ module _ (bounds : List Key) (h : History) (good : Good bounds h) (b : CheckSeco
 
   -- nothing of it stands there but perhaps its rollback: it was never accepted there where
   -- it is not aborted
-  missing : AllowsCheckSecondaryLocks h b → (b.start < (left h (route bounds b.key)).collected → ⊥) → ((lock : Lock) → OwnLock (cells_at bounds h b.key).lock b.start lock → ⊥) → ((c : ℕ) → OwnCommit (cells_at bounds h b.key).write b.start c → ⊥) → Next bounds h (took (route bounds b.key) (body.CheckSecondaryLocks b) l Missing)
+  missing : AllowsCheckSecondaryLocks h b → (b.start < (left h (route bounds b.key)).collected → ⊥)
+      → ((lock : Lock) → OwnLock (cells_at bounds h b.key).lock b.start lock → ⊥)
+      → ((c : ℕ) → OwnCommit (cells_at bounds h b.key).write b.start c → ⊥)
+      → Next bounds h (took (route bounds b.key) (body.CheckSecondaryLocks b) l Missing)
   missing may fresh unlocked uncommitted =
       rolled bounds h good b.key (body.CheckSecondaryLocks b) l Missing b.start roll leaves some
       (λ c e. missing_live (view bounds h) b.key b.start c good.sound.inv within (never (λ gone. (cc (e, gone)))) e)
-      (λ o. ends_abort_leaving (view bounds h) b.key b.start good.sound.inv good.ends o some within (never (λ gone. (cc (o, gone)))))
+      (λ o. ends_abort_leaving (view bounds h) b.key b.start good.sound.inv good.ends o some within
+      (never (λ gone. (cc (o, gone)))))
     where
       some : declared h b.start ≢ None
       some none = cc (none, may.stands)
 
       never : (IsAborted (decided h) b.start → ⊥) → accepted h b.start b.key ≡ None
-      never live = never_accepted (view bounds h) b.key b.start good.sound.inv (elim (cases_lt b.start (left h (route bounds b.key)).collected) [ inl lt ↦ absurd (fresh lt) | inr le ↦ le ]) unlocked uncommitted (λ own. live ((good.sound.inv.keys b.key).records.rolled b.start own))
+      never live = never_accepted (view bounds h) b.key b.start good.sound.inv
+          (elim (cases_lt b.start (left h (route bounds b.key)).collected) [ inl lt ↦ absurd (fresh lt) | inr le ↦ le ])
+          unlocked uncommitted (λ own. live ((good.sound.inv.keys b.key).records.rolled b.start own))
 
       within : mutation_at (set_at h b.start) b.key ≢ None
       within none = may.within (sym (ap (λ o. mutation_at (set_of o) b.key) may.stands) ∙ none)
 
   -- ---- the rows
 
-  pub next_check_secondary : (a : Answer) → AllowsCheckSecondaryLocks h b → AnswersCheckSecondaryLocks (cells_at bounds h b.key) (left h (route bounds b.key)).collected b a → Next bounds h (took (route bounds b.key) (body.CheckSecondaryLocks b) l a)
-  next_check_secondary a may (inl x) = silent a (BelowSafePoint (left h (route bounds b.key)).collected) x.1 (quiet bounds h good b.key (body.CheckSecondaryLocks b) l (BelowSafePoint (left h (route bounds b.key)).collected) b.start (λ c. leaves_check_secondary_locks c b (BelowSafePoint (left h (route bounds b.key)).collected)) (on_key (BelowSafePoint (left h (route bounds b.key)).collected)) refl (λ u n. refl) refl tt)
-  next_check_secondary a may (inr (no0, inl (lock, own, e))) = silent a (Locked (info_of b.key lock)) e (quiet bounds h good b.key (body.CheckSecondaryLocks b) l (Locked (info_of b.key lock)) b.start (λ c. leaves_check_secondary_locks c b (Locked (info_of b.key lock))) (on_key (Locked (info_of b.key lock))) refl (λ u n. refl) refl tt)
-  next_check_secondary a may (inr (no0, inr (no1, inl (c, own, e)))) = silent a (Committed c) e (quiet bounds h good b.key (body.CheckSecondaryLocks b) l (Committed c) b.start (λ x. leaves_check_secondary_locks x b (Committed c)) (on_key (Committed c)) refl (λ u n. refl) refl (true_commit bounds h good b.key b.start c own))
+  pub next_check_secondary : (a : Answer) → AllowsCheckSecondaryLocks h b
+      → AnswersCheckSecondaryLocks (cells_at bounds h b.key) (left h (route bounds b.key)).collected b a
+      → Next bounds h (took (route bounds b.key) (body.CheckSecondaryLocks b) l a)
+  next_check_secondary a may (inl x) =
+      silent a (BelowSafePoint (left h (route bounds b.key)).collected) x.1
+      (quiet bounds h good b.key (body.CheckSecondaryLocks b) l (BelowSafePoint (left h (route bounds b.key)).collected)
+      b.start (λ c. leaves_check_secondary_locks c b (BelowSafePoint (left h (route bounds b.key)).collected))
+      (on_key (BelowSafePoint (left h (route bounds b.key)).collected)) refl (λ u n. refl) refl tt)
+  next_check_secondary a may (inr (no0, inl (lock, own, e))) =
+      silent a (Locked (info_of b.key lock)) e
+      (quiet bounds h good b.key (body.CheckSecondaryLocks b) l (Locked (info_of b.key lock)) b.start
+      (λ c. leaves_check_secondary_locks c b (Locked (info_of b.key lock))) (on_key (Locked (info_of b.key lock))) refl
+      (λ u n. refl) refl tt)
+  next_check_secondary a may (inr (no0, inr (no1, inl (c, own, e)))) =
+      silent a (Committed c) e
+      (quiet bounds h good b.key (body.CheckSecondaryLocks b) l (Committed c) b.start
+      (λ x. leaves_check_secondary_locks x b (Committed c)) (on_key (Committed c)) refl (λ u n. refl) refl
+      (true_commit bounds h good b.key b.start c own))
   next_check_secondary a may (inr (no0, inr (no1, inr (no2, e)))) = silent a Missing e (missing may no0 no1 no2)

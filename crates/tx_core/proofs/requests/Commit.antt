@@ -31,21 +31,37 @@ use Rattle.tx_core.proofs.requests.Good.{Good, Next, OnKey, took, cells_at, asse
 
 module _ (bounds : List Key) (h : History) (good : Good bounds h) (b : Commit) (l : ℕ) where
   on_key : (a : Answer) → OnKey b.key (body.Commit b) a b.start (λ c. leaves_commit c b a)
-  on_key a = record { named = refl; does = λ r. refl; unread = λ before. refl; unseen = refl; unnoted = λ e before. refl; unchecked = λ e. refl }
+  on_key a = record {
+    named = refl;
+    does = λ r. refl;
+    unread = λ before. refl;
+    unseen = refl;
+    unnoted =
+        λ e before. refl;
+    unchecked = λ e. refl;
+  }
 
-  silent : (a x : Answer) → a ≡ x → Next bounds h (took (route bounds b.key) (body.Commit b) l x) → Next bounds h (took (route bounds b.key) (body.Commit b) l a)
+  silent : (a x : Answer) → a ≡ x → Next bounds h (took (route bounds b.key) (body.Commit b) l x)
+      → Next bounds h (took (route bounds b.key) (body.Commit b) l a)
   silent a x e next = subst (λ y. Next bounds h (took (route bounds b.key) (body.Commit b) l y)) (sym e) next
 
   -- ---- the lock is settled
 
   module _ (lock : Lock) (own : OwnLock (cells_at bounds h b.key).lock b.start lock) where
-    settles : cond (is_own (cells_at bounds h b.key).lock b.start) (Settles b.key b.start b.commit) NoEffect ≡ Settles b.key b.start b.commit
-    settles = ap (λ o. cond (is_own o b.start) (Settles b.key b.start b.commit) NoEffect) own.stands ∙ cond_true (lock.start == b.start) (Settles b.key b.start b.commit) NoEffect (eq-eqb lock.start b.start own.own)
+    settles : cond (is_own (cells_at bounds h b.key).lock b.start) (Settles b.key b.start b.commit) NoEffect
+        ≡ Settles b.key b.start b.commit
+    settles = ap (λ o. cond (is_own o b.start) (Settles b.key b.start b.commit) NoEffect) own.stands
+        ∙ cond_true (lock.start == b.start) (Settles b.key b.start b.commit) NoEffect
+        (eq-eqb lock.start b.start own.own)
 
     -- of a transaction that was decided so before
-    follows : IsCommitted (decided h) b.start b.commit → Next bounds h (took (route bounds b.key) (body.Commit b) l (Committed b.commit))
+    follows : IsCommitted (decided h) b.start b.commit
+        → Next bounds h (took (route bounds b.key) (body.Commit b) l (Committed b.commit))
     follows end =
-        assemble bounds h b.key (body.Commit b) l (Committed b.commit) b.start (λ c. leaves_commit c b (Committed b.commit)) (on_key (Committed b.commit)) (Settles b.key b.start b.commit) settles (decided h) (accepted h) (shown_in h) (commit_lock (cells_at bounds h b.key) b.start b.commit) (shadow h) same_fate
+        assemble bounds h b.key (body.Commit b) l (Committed b.commit) b.start
+        (λ c. leaves_commit c b (Committed b.commit)) (on_key (Committed b.commit)) (Settles b.key b.start b.commit)
+        settles (decided h) (accepted h) (shown_in h) (commit_lock (cells_at bounds h b.key) b.start b.commit)
+        (shadow h) same_fate
         (λ u q. refl)
         (λ u. refl)
         refl
@@ -54,68 +70,132 @@ module _ (bounds : List Key) (h : History) (good : Good bounds h) (b : Commit) (
         (ends_settle (view bounds h) b.key b.start b.commit good.sound.inv good.ends end)
         (true_end bounds h good b.start (fate.Committed b.commit) end)
       where
-        same_fate : (u : ℕ) → first_decided (cond ((b.start == u) && is_first (set_at h u) b.key) (Done (fate.Committed b.commit)) Open) (decided h u) ≡ decided h u
+        same_fate : (u : ℕ) → first_decided
+            (cond ((b.start == u) && is_first (set_at h u) b.key) (Done (fate.Committed b.commit)) Open) (decided h u)
+            ≡ decided h u
         same_fate u =
             elim (cases_Bool ((b.start == u) && is_first (set_at h u) b.key)) [
-              | inl e ↦ (let was : decided h u ≡ Done (fate.Committed b.commit) = subst (λ n. IsCommitted (decided h) n b.commit) (eqb-true b.start u (and_parts (b.start == u) (is_first (set_at h u) b.key) e).0) end in rw (e, was) refl)
+              | inl e ↦ (let was : decided h u ≡ Done (fate.Committed b.commit) =
+                  subst (λ n. IsCommitted (decided h) n b.commit)
+                  (eqb-true b.start u (and_parts (b.start == u) (is_first (set_at h u) b.key) e).0) end in
+                  rw (e, was) refl)
               | inr e ↦ rw e refl
             ]
 
     -- of a transaction that this decides
-    decides : FellBack (accepted h) b.start → is_first (set_at h b.start) b.key ≡ true → decide.CanDecide (view bounds h) b.start b.commit → Next bounds h (took (route bounds b.key) (body.Commit b) l (Committed b.commit))
+    decides : FellBack (accepted h) b.start → is_first (set_at h b.start) b.key ≡ true
+        → decide.CanDecide (view bounds h) b.start b.commit
+        → Next bounds h (took (route bounds b.key) (body.Commit b) l (Committed b.commit))
     decides fell first may =
         let w = decide.deciding (view bounds h) b.start b.commit in
-        let sound = sound_settle (step.Commit b.start b.commit ∷ shadow h) w b.key b.start b.commit (sound_decide (shadow h) (view bounds h) b.start b.commit good.sound may) now in
-        assemble bounds h b.key (body.Commit b) l (Committed b.commit) b.start (λ c. leaves_commit c b (Committed b.commit)) (on_key (Committed b.commit)) (Settles b.key b.start b.commit) settles w.decided (accepted h) (shown_in h) (commit_lock (cells_at bounds h b.key) b.start b.commit) (step.Commit b.start b.commit ∷ shadow h) new_fate
+        let sound = sound_settle (step.Commit b.start b.commit
+        ∷ shadow h) w b.key b.start b.commit
+        (sound_decide (shadow h) (view bounds h) b.start b.commit good.sound may) now in
+        assemble bounds h b.key (body.Commit b) l (Committed b.commit) b.start
+        (λ c. leaves_commit c b (Committed b.commit)) (on_key (Committed b.commit)) (Settles b.key b.start b.commit)
+        settles w.decided (accepted h) (shown_in h) (commit_lock (cells_at bounds h b.key) b.start b.commit)
+        (step.Commit b.start b.commit ∷ shadow h) new_fate
         (λ u q. refl)
         (λ u. refl)
         refl
-        (ap (λ s. s ++ shadow h) (ap (λ s. deciding b.start s (w.decided b.start)) may.opened ∙ ap (deciding b.start Open) now))
+        (ap (λ s. s ++ shadow h) (ap (λ s. deciding b.start s (w.decided b.start)) may.opened
+        ∙ ap (deciding b.start Open) now))
         sound
         (ends_finish (view bounds h) b.key b.start b.commit lock good.sound.inv good.ends may fell first own)
-        (has_ended (table_of (step.Commit b.start b.commit ∷ shadow h)) (settling w b.key b.start b.commit) b.start (fate.Committed b.commit) sound.inv sound.shows now)
+        (has_ended (table_of (step.Commit b.start b.commit ∷ shadow h)) (settling w b.key b.start b.commit) b.start
+        (fate.Committed b.commit) sound.inv sound.shows now)
       where
-        now : cond (b.start == b.start) (Done (fate.Committed b.commit)) (decided h b.start) ≡ Done (fate.Committed b.commit)
+        now : cond (b.start == b.start) (Done (fate.Committed b.commit)) (decided h b.start)
+            ≡ Done (fate.Committed b.commit)
         now = cond_true (b.start == b.start) (Done (fate.Committed b.commit)) (decided h b.start) (nat_same b.start)
 
-        new_fate : (u : ℕ) → first_decided (cond ((b.start == u) && is_first (set_at h u) b.key) (Done (fate.Committed b.commit)) Open) (decided h u) ≡ cond (b.start == u) (Done (fate.Committed b.commit)) (decided h u)
+        new_fate : (u : ℕ) → first_decided
+            (cond ((b.start == u) && is_first (set_at h u) b.key) (Done (fate.Committed b.commit)) Open) (decided h u)
+            ≡ cond (b.start == u) (Done (fate.Committed b.commit)) (decided h u)
         new_fate u =
             elim (nat_test b.start u) [
-              | inl e ↦ rw (e.0, subst (λ n. is_first (set_at h n) b.key ≡ true) e.1 first, subst (λ n. decided h n ≡ Open) e.1 may.opened) refl
+              | inl e ↦ rw (
+                e.0,
+                subst (λ n. is_first (set_at h n) b.key ≡ true) e.1 first,
+                subst (λ n. decided h n ≡ Open) e.1 may.opened,
+              ) refl
               | inr e ↦ rw e.0 refl
             ]
 
     -- the lock is settled by a commit that is allowed and not below its minimum
-    done : AllowsCommit h b → (b.commit < lock.min → ⊥) → Next bounds h (took (route bounds b.key) (body.Commit b) l (Committed b.commit))
+    done : AllowsCommit h b → (b.commit < lock.min → ⊥)
+        → Next bounds h (took (route bounds b.key) (body.Commit b) l (Committed b.commit))
     done may high = elim may.may [ inl end ↦ follows end | inr new ↦ first_time new ]
       where
-        first_time : MayDecide h may.of.changes b → Next bounds h (took (route bounds b.key) (body.Commit b) l (Committed b.commit))
+        first_time : MayDecide h may.of.changes b
+            → Next bounds h (took (route bounds b.key) (body.Commit b) l (Committed b.commit))
         first_time new =
-            let first : is_first (set_at h b.start) b.key ≡ true = ap (λ o. is_first (set_of o) b.key) may.stands ∙ new.primary in
-            let fell : FellBack (accepted h) b.start = record { key = new.two_phase.key; by = new.two_phase.by; stands = new.two_phase.stands; two_phase = new.two_phase.two_phase } in
-            let o : decided h b.start ≡ Open = first_opens (view bounds h) b.key b.start lock good.ends fell first own new.accepted in
-            let low : lock.min ≤ b.commit = elim (cases_lt b.commit lock.min) [ inl lt ↦ absurd (high lt) | inr le ↦ le ] in
-            decides fell first (decide.decide_drawn (view bounds h) b.start b.commit b.key lock good.sound.inv o new.accepted (λ none. (cc (none, new.drawn.of_commit))) (λ k by e. new.drawn.after k by (does_within (declared h) b.start k by.lock.mutation (good.sound.inv.acceptances b.start k by e).does) e) first own low)
+            let first : is_first (set_at h b.start) b.key ≡ true =
+            ap (λ o. is_first (set_of o) b.key) may.stands ∙ new.primary in
+            let fell : FellBack (accepted h) b.start =
+            record {
+              key = new.two_phase.key;
+              by = new.two_phase.by;
+              stands = new.two_phase.stands;
+              two_phase =
+                  new.two_phase.two_phase;
+            } in
+            let o : decided h b.start ≡ Open =
+            first_opens (view bounds h) b.key b.start lock good.ends fell first own new.accepted in
+            let low : lock.min ≤ b.commit =
+            elim (cases_lt b.commit lock.min) [ inl lt ↦ absurd (high lt) | inr le ↦ le ] in
+            decides fell first (decide.decide_drawn (view bounds h) b.start b.commit b.key lock good.sound.inv o
+            new.accepted (λ none. (cc (none, new.drawn.of_commit)))
+            (λ k by e. new.drawn.after k by
+            (does_within (declared h) b.start k by.lock.mutation (good.sound.inv.acceptances b.start k by e).does)
+            e) first own low)
 
   -- ---- the rows
 
   -- a commit that is told again
-  again : (c : ℕ) → OwnCommit (cells_at bounds h b.key).write b.start c → ((lock : Lock) → OwnLock (cells_at bounds h b.key).lock b.start lock → ⊥) → Next bounds h (took (route bounds b.key) (body.Commit b) l (Committed c))
+  again : (c : ℕ) → OwnCommit (cells_at bounds h b.key).write b.start c
+      → ((lock : Lock) → OwnLock (cells_at bounds h b.key).lock b.start lock → ⊥)
+      → Next bounds h (took (route bounds b.key) (body.Commit b) l (Committed c))
   again c own unlocked =
-      quiet bounds h good b.key (body.Commit b) l (Committed c) b.start (λ x. leaves_commit x b (Committed c)) (on_key (Committed c))
-      (ap (λ y. cond y (Settles b.key b.start b.commit) NoEffect) (not_own (cells_at bounds h b.key).lock b.start (λ lock e mine. unlocked lock (record { stands = e; own = mine }))))
+      quiet bounds h good b.key (body.Commit b) l (Committed c) b.start (λ x. leaves_commit x b (Committed c))
+      (on_key (Committed c))
+      (ap (λ y. cond y (Settles b.key b.start b.commit) NoEffect)
+      (not_own (cells_at bounds h b.key).lock b.start
+      (λ lock e mine. unlocked lock (record { stands = e; own = mine }))))
       (λ u n. refl)
-      (elim (own_cases (cells_at bounds h b.key) b.start (λ lock. lock_committed (cells_at bounds h b.key) b.commit lock)) [
+      (elim (own_cases (cells_at bounds h b.key) b.start
+      (λ lock. lock_committed (cells_at bounds h b.key) b.commit lock)) [
         | inl x ↦ absurd (unlocked x.0 (record { stands = x.1; own = x.2 }))
         | inr x ↦ x.1
       ])
       (true_commit bounds h good b.key b.start c own)
 
-  pub next_commit : (a : Answer) → AllowsCommit h b → AnswersCommit (cells_at bounds h b.key) (left h (route bounds b.key)).collected b a → Next bounds h (took (route bounds b.key) (body.Commit b) l a)
-  next_commit a may (inl x) = silent a (BelowSafePoint (left h (route bounds b.key)).collected) x.1 (quiet bounds h good b.key (body.Commit b) l (BelowSafePoint (left h (route bounds b.key)).collected) b.start (λ c. leaves_commit c b (BelowSafePoint (left h (route bounds b.key)).collected)) (on_key (BelowSafePoint (left h (route bounds b.key)).collected)) refl (λ u n. refl) refl tt)
-  next_commit a may (inr (no0, inl (lock, own, inl x))) = silent a (CommitTsExpired lock.min) x.1 (quiet bounds h good b.key (body.Commit b) l (CommitTsExpired lock.min) b.start (λ c. leaves_commit c b (CommitTsExpired lock.min)) (on_key (CommitTsExpired lock.min)) refl (λ u n. refl) refl tt)
-  next_commit a may (inr (no0, inl (lock, own, inr (no1, inl (rec, x, e))))) = silent a (WriteConflict rec.start b.commit) e (quiet bounds h good b.key (body.Commit b) l (WriteConflict rec.start b.commit) b.start (λ c. leaves_commit c b (WriteConflict rec.start b.commit)) (on_key (WriteConflict rec.start b.commit)) refl (λ u n. refl) refl tt)
-  next_commit a may (inr (no0, inl (lock, own, inr (no1, inr (no2, e))))) = silent a (Committed b.commit) e (done lock own may no1)
+  pub next_commit : (a : Answer) → AllowsCommit h b
+      → AnswersCommit (cells_at bounds h b.key) (left h (route bounds b.key)).collected b a
+      → Next bounds h (took (route bounds b.key) (body.Commit b) l a)
+  next_commit a may (inl x) =
+      silent a (BelowSafePoint (left h (route bounds b.key)).collected) x.1
+      (quiet bounds h good b.key (body.Commit b) l (BelowSafePoint (left h (route bounds b.key)).collected) b.start
+      (λ c. leaves_commit c b (BelowSafePoint (left h (route bounds b.key)).collected))
+      (on_key (BelowSafePoint (left h (route bounds b.key)).collected)) refl (λ u n. refl) refl tt)
+  next_commit a may (inr (no0, inl (lock, own, inl x))) =
+      silent a (CommitTsExpired lock.min) x.1
+      (quiet bounds h good b.key (body.Commit b) l (CommitTsExpired lock.min) b.start
+      (λ c. leaves_commit c b (CommitTsExpired lock.min)) (on_key (CommitTsExpired lock.min)) refl (λ u n. refl) refl
+      tt)
+  next_commit a may (inr (no0, inl (lock, own, inr (no1, inl (rec, x, e))))) =
+      silent a (WriteConflict rec.start b.commit) e
+      (quiet bounds h good b.key (body.Commit b) l (WriteConflict rec.start b.commit) b.start
+      (λ c. leaves_commit c b (WriteConflict rec.start b.commit)) (on_key (WriteConflict rec.start b.commit)) refl
+      (λ u n. refl) refl tt)
+  next_commit a may (inr (no0, inl (lock, own, inr (no1, inr (no2, e))))) =
+      silent a (Committed b.commit) e (done lock own may no1)
   next_commit a may (inr (no0, inr (no1, inl (c, own, e)))) = silent a (Committed c) e (again c own no1)
-  next_commit a may (inr (no0, inr (no1, inr (no2, inl x)))) = silent a AlreadyRolledBack x.1 (quiet bounds h good b.key (body.Commit b) l AlreadyRolledBack b.start (λ c. leaves_commit c b AlreadyRolledBack) (on_key AlreadyRolledBack) refl (λ u n. refl) refl (true_rollback bounds h good b.key b.start x.0))
-  next_commit a may (inr (no0, inr (no1, inr (no2, inr (no3, e))))) = silent a TxnLockNotFound e (quiet bounds h good b.key (body.Commit b) l TxnLockNotFound b.start (λ c. leaves_commit c b TxnLockNotFound) (on_key TxnLockNotFound) refl (λ u n. refl) refl tt)
+  next_commit a may (inr (no0, inr (no1, inr (no2, inl x)))) =
+      silent a AlreadyRolledBack x.1
+      (quiet bounds h good b.key (body.Commit b) l AlreadyRolledBack b.start (λ c. leaves_commit c b AlreadyRolledBack)
+      (on_key AlreadyRolledBack) refl (λ u n. refl) refl (true_rollback bounds h good b.key b.start x.0))
+  next_commit a may (inr (no0, inr (no1, inr (no2, inr (no3, e))))) =
+      silent a TxnLockNotFound e
+      (quiet bounds h good b.key (body.Commit b) l TxnLockNotFound b.start (λ c. leaves_commit c b TxnLockNotFound)
+      (on_key TxnLockNotFound) refl (λ u n. refl) refl tt)

@@ -27,33 +27,71 @@ use Rattle.tx_core.proofs.requests.Good.{Good, Next, IsRead, took, cells_at, flo
 
 module _ (bounds : List Key) (h : History) (good : Good bounds h) (b : Get) (l : ℕ) where
   is_read : (a : Answer) → IsRead (body.Get b) a b.at
-  is_read a = record { unnamed = refl; does = λ r. refl; none = λ cells. refl; untold = λ u n. refl; unnoted = λ e before. refl; unchecked = λ e. refl }
+  is_read a = record {
+    unnamed = refl;
+    does = λ r. refl;
+    none = λ cells. refl;
+    untold = λ u n. refl;
+    unnoted =
+        λ e before. refl;
+    unchecked = λ e. refl;
+  }
 
-  silent : (a x : Answer) → a ≡ x → Next bounds h (took (route bounds b.key) (body.Get b) l x) → Next bounds h (took (route bounds b.key) (body.Get b) l a)
+  silent : (a x : Answer) → a ≡ x → Next bounds h (took (route bounds b.key) (body.Get b) l x)
+      → Next bounds h (took (route bounds b.key) (body.Get b) l a)
   silent a x e next = subst (λ y. Next bounds h (took (route bounds b.key) (body.Get b) l y)) (sym e) next
 
-  refused : (a : Answer) → Sound (shadow h) (raising (view bounds h) (floor_after bounds h (took (route bounds b.key) (body.Get b) l a)))
+  refused : (a : Answer)
+      → Sound (shadow h) (raising (view bounds h) (floor_after bounds h (took (route bounds b.key) (body.Get b) l a)))
   refused a = sound_floor bounds h good (route bounds b.key) (body.Get b) l a b.at (is_read a)
 
   -- a read that meets no lock
-  module _ (upto : b.at ≤ last h) (fresh : (left h (route bounds b.key)).collected ≤ b.at) (free : Unblocked (view bounds h) (bytes_eq b.key) b.at) where
-    gives : (found : Option Value) → Reads (cells_at bounds h b.key).write b.at found → Next bounds h (took (route bounds b.key) (body.Get b) l (read_answer found))
+  module _ (upto : b.at ≤ last h) (fresh : (left h (route bounds b.key)).collected ≤ b.at) (free :
+      Unblocked (view bounds h) (bytes_eq b.key) b.at) where
+    gives : (found : Option Value) → Reads (cells_at bounds h b.key).write b.at found
+        → Next bounds h (took (route bounds b.key) (body.Get b) l (read_answer found))
     gives (Some v) reads =
-        let here = floor_reaches bounds h (route bounds b.key) (body.Get b) l (Found v) b.at (is_read (Found v)) (λ m. le-max_right m b.at) b.key refl in
-        let sound = sound_read (shadow h) (raising (view bounds h) (floor_after bounds h (took (route bounds b.key) (body.Get b) l (Found v)))) b.key b.at (Some v) (refused (Found v)) upto here fresh free reads in
-        assemble_read bounds h good (route bounds b.key) (body.Get b) l (Found v) b.at (is_read (Found v)) sound sound.run.1.1
+        let here = floor_reaches bounds h (route bounds b.key) (body.Get b) l (Found v) b.at (is_read (Found v))
+        (λ m. le-max_right m b.at) b.key refl in
+        let sound = sound_read (shadow h)
+        (raising (view bounds h) (floor_after bounds h (took (route bounds b.key) (body.Get b) l (Found v)))) b.key
+        b.at (Some v) (refused (Found v)) upto here fresh free reads in
+        assemble_read bounds h good (route bounds b.key) (body.Get b) l (Found v) b.at (is_read (Found v)) sound
+        sound.run.1.1
     gives None reads =
-        let here = floor_reaches bounds h (route bounds b.key) (body.Get b) l Nothing b.at (is_read Nothing) (λ m. le-max_right m b.at) b.key refl in
-        let sound = sound_read (shadow h) (raising (view bounds h) (floor_after bounds h (took (route bounds b.key) (body.Get b) l Nothing))) b.key b.at None (refused Nothing) upto here fresh free reads in
-        assemble_read bounds h good (route bounds b.key) (body.Get b) l Nothing b.at (is_read Nothing) sound sound.run.1.1
+        let here = floor_reaches bounds h (route bounds b.key) (body.Get b) l Nothing b.at (is_read Nothing)
+        (λ m. le-max_right m b.at) b.key refl in
+        let sound = sound_read (shadow h)
+        (raising (view bounds h) (floor_after bounds h (took (route bounds b.key) (body.Get b) l Nothing))) b.key
+        b.at None (refused Nothing) upto here fresh free reads in
+        assemble_read bounds h good (route bounds b.key) (body.Get b) l Nothing b.at (is_read Nothing) sound
+        sound.run.1.1
 
-  pub next_get : (a : Answer) → ((t : ℕ) → Contains b.bypass t → Passes (decided h) (shown_in h) b.at t) → l ≤ last h → AnswersGet (cells_at bounds h b.key) (left h (route bounds b.key)).safe l b a → Next bounds h (took (route bounds b.key) (body.Get b) l a)
-  next_get a may upto (inl x) = silent a (BelowSafePoint (left h (route bounds b.key)).safe) x.1 (assemble_read bounds h good (route bounds b.key) (body.Get b) l (BelowSafePoint (left h (route bounds b.key)).safe) b.at (is_read (BelowSafePoint (left h (route bounds b.key)).safe)) (refused (BelowSafePoint (left h (route bounds b.key)).safe)) tt)
-  next_get a may upto (inr (no0, inl x)) = silent a (FutureTimestamp l) x.1 (assemble_read bounds h good (route bounds b.key) (body.Get b) l (FutureTimestamp l) b.at (is_read (FutureTimestamp l)) (refused (FutureTimestamp l)) tt)
-  next_get a may upto (inr (no0, inr (no1, inl (lock, blocks, e)))) = silent a (KeyIsLocked (info_of b.key lock)) e (assemble_read bounds h good (route bounds b.key) (body.Get b) l (KeyIsLocked (info_of b.key lock)) b.at (is_read (KeyIsLocked (info_of b.key lock))) (refused (KeyIsLocked (info_of b.key lock))) tt)
+  pub next_get : (a : Answer) → ((t : ℕ) → Contains b.bypass t → Passes (decided h) (shown_in h) b.at t) → l ≤ last h
+      → AnswersGet (cells_at bounds h b.key) (left h (route bounds b.key)).safe l b a
+      → Next bounds h (took (route bounds b.key) (body.Get b) l a)
+  next_get a may upto (inl x) =
+      silent a (BelowSafePoint (left h (route bounds b.key)).safe) x.1
+      (assemble_read bounds h good (route bounds b.key) (body.Get b) l
+      (BelowSafePoint (left h (route bounds b.key)).safe) b.at
+      (is_read (BelowSafePoint (left h (route bounds b.key)).safe))
+      (refused (BelowSafePoint (left h (route bounds b.key)).safe)) tt)
+  next_get a may upto (inr (no0, inl x)) =
+      silent a (FutureTimestamp l) x.1
+      (assemble_read bounds h good (route bounds b.key) (body.Get b) l (FutureTimestamp l) b.at
+      (is_read (FutureTimestamp l)) (refused (FutureTimestamp l)) tt)
+  next_get a may upto (inr (no0, inr (no1, inl (lock, blocks, e)))) =
+      silent a (KeyIsLocked (info_of b.key lock)) e
+      (assemble_read bounds h good (route bounds b.key) (body.Get b) l (KeyIsLocked (info_of b.key lock)) b.at
+      (is_read (KeyIsLocked (info_of b.key lock))) (refused (KeyIsLocked (info_of b.key lock))) tt)
   next_get a may upto (inr (no0, inr (no1, inr (free, (found, e, reads))))) =
       silent a (read_answer found) e (gives
       (elim (cases_lt l b.at) [ inl lt ↦ absurd (no1 lt) | inr le ↦ omega (arith, le, upto) ])
-      (elim (cases_lt b.at (left h (route bounds b.key)).safe) [ inl lt ↦ absurd (no0 lt) | inr le ↦ omega (arith, le, good.sound.inv.marks.low b.key) ])
-      (unblocked (view bounds h) (bytes_eq b.key) b.at b.bypass (λ k lock inside. (let same : b.key ≡ k = key_true b.key k inside in subst (λ q. Blocks (cells_at bounds h q).lock b.at b.bypass lock → ⊥) same (free lock))) may)
+      (elim (cases_lt b.at (left h (route bounds b.key)).safe) [
+        | inl lt ↦ absurd (no0 lt)
+        | inr le ↦ omega (arith, le, good.sound.inv.marks.low b.key)
+      ])
+      (unblocked (view bounds h) (bytes_eq b.key) b.at b.bypass
+      (λ k lock inside. (let same : b.key ≡ k = key_true b.key k inside in
+      subst (λ q. Blocks (cells_at bounds h q).lock b.at b.bypass lock → ⊥) same (free lock))) may)
       found reads)

@@ -34,7 +34,8 @@ use Rattle.tx_core.proofs.view.HistoryView.{reads_by, checks_by, reads_in, shown
 pub record Good (bounds : List Key) (h : History) : Type 0 where
   pub sound : Sound (shadow h) (view bounds h)
   pub ends : Ends (view bounds h)
-  pub told : (x : Taken) → Among h (Took x) → (t : ℕ) → start_in x.body ≡ Some t → (end : Fate) → fate_in x.answer ≡ Some end → decided h t ≡ Done end
+  pub told : (x : Taken) → Among h (Took x) → (t : ℕ) → start_in x.body ≡ Some t → (end : Fate)
+      → fate_in x.answer ≡ Some end → decided h t ≡ Done end
 
 abbrev pub took : ℕ → Body → ℕ → Answer → Taken
 took n body l a = record { region = n; body = body; loaded = l; answer = a }
@@ -95,7 +96,8 @@ pub record OnKey (k : Key) (body : Body) (a : Answer) (t : ℕ) (f : Cells → C
   pub unchecked : (e : Effect) → checking body e ≡ []
 
 -- where a region answers, what it leaves of itself stays in what the answer does not touch
-pub part_same : {X : Type 0} (h : History) (n m : ℕ) (body : Body) (l : ℕ) (a : Answer) (part : Region → X) → ((r : Region) → part (leaves r body a) ≡ part r) → part (left (Took (took n body l a) ∷ h) m) ≡ part (left h m)
+pub part_same : {X : Type 0} (h : History) (n m : ℕ) (body : Body) (l : ℕ) (a : Answer) (part : Region → X)
+    → ((r : Region) → part (leaves r body a) ≡ part r) → part (left (Took (took n body l a) ∷ h) m) ≡ part (left h m)
 part_same h n m body l a part same =
     elim (nat_test n m) [
       | inl x ↦ ap part (cond_true (n == m) (leaves (left h m) body a) (left h m) x.0) ∙ same (left h m)
@@ -103,18 +105,31 @@ part_same h n m body l a part same =
     ]
 
 -- the cells after an answer that changes those of one key
-pub cells_keyed : (bounds : List Key) (h : History) (k : Key) (body : Body) (l : ℕ) (a : Answer) (f : Cells → Cells) → ((r : Region) (q : Key) → (leaves r body a).cells q ≡ cond (bytes_eq k q) (f (r.cells k)) (r.cells q)) → (q : Key) → cells_at bounds (Took (took (route bounds k) body l a) ∷ h) q ≡ cond (bytes_eq k q) (f (cells_at bounds h k)) (cells_at bounds h q)
+pub cells_keyed : (bounds : List Key) (h : History) (k : Key) (body : Body) (l : ℕ) (a : Answer) (f : Cells → Cells)
+    → ((r : Region) (q : Key) → (leaves r body a).cells q ≡ cond (bytes_eq k q) (f (r.cells k)) (r.cells q)) → (q : Key)
+    → cells_at bounds (Took (took (route bounds k) body l a) ∷ h) q
+    ≡ cond (bytes_eq k q) (f (cells_at bounds h k)) (cells_at bounds h q)
 cells_keyed bounds h k body l a f does q =
     elim (key_test k q) [
-      | inl e ↦ subst (λ x. cells_at bounds (Took (took (route bounds k) body l a) ∷ h) x ≡ cond (bytes_eq k x) (f (cells_at bounds h k)) (cells_at bounds h x)) e.1 (here k (nat_same (route bounds k)))
+      | inl e ↦ subst (λ x. cells_at bounds (Took (took (route bounds k) body l a) ∷ h) x
+          ≡ cond (bytes_eq k x) (f (cells_at bounds h k)) (cells_at bounds h x)) e.1
+          (here k (nat_same (route bounds k)))
       | inr e ↦ elim (nat_test (route bounds k) (route bounds q)) [
-        | inl x ↦ here q x.0 ∙ cond_false (bytes_eq k q) (f ((left h (route bounds q)).cells k)) (cells_at bounds h q) e.0 ∙ sym (cond_false (bytes_eq k q) (f (cells_at bounds h k)) (cells_at bounds h q) e.0)
-        | inr x ↦ ap (λ (r : Region). r.cells q) (cond_false (route bounds k == route bounds q) (leaves (left h (route bounds q)) body a) (left h (route bounds q)) x.0) ∙ sym (cond_false (bytes_eq k q) (f (cells_at bounds h k)) (cells_at bounds h q) e.0)
+        | inl x ↦ here q x.0 ∙ cond_false (bytes_eq k q) (f ((left h (route bounds q)).cells k)) (cells_at bounds h q)
+            e.0 ∙ sym (cond_false (bytes_eq k q) (f (cells_at bounds h k)) (cells_at bounds h q) e.0)
+        | inr x ↦ ap (λ (r : Region). r.cells q)
+            (cond_false (route bounds k == route bounds q) (leaves (left h (route bounds q)) body a)
+            (left h (route bounds q)) x.0)
+            ∙ sym (cond_false (bytes_eq k q) (f (cells_at bounds h k)) (cells_at bounds h q) e.0)
       ]
     ]
   where
-    here : (y : Key) → (route bounds k == route bounds y) ≡ true → cells_at bounds (Took (took (route bounds k) body l a) ∷ h) y ≡ cond (bytes_eq k y) (f ((left h (route bounds y)).cells k)) (cells_at bounds h y)
-    here y e = ap (λ (r : Region). r.cells y) (cond_true (route bounds k == route bounds y) (leaves (left h (route bounds y)) body a) (left h (route bounds y)) e) ∙ does (left h (route bounds y)) y
+    here : (y : Key) → (route bounds k == route bounds y) ≡ true
+        → cells_at bounds (Took (took (route bounds k) body l a) ∷ h) y
+        ≡ cond (bytes_eq k y) (f ((left h (route bounds y)).cells k)) (cells_at bounds h y)
+    here y e = ap (λ (r : Region). r.cells y)
+        (cond_true (route bounds k == route bounds y) (leaves (left h (route bounds y)) body a)
+        (left h (route bounds y)) e) ∙ does (left h (route bounds y)) y
 
 pub decided_same : (t : ℕ) (s : State) → deciding t s s ≡ []
 decided_same t Open = refl
@@ -122,11 +137,40 @@ decided_same t (Done e) = refl
 
 -- What an answer leaves, by its parts: its effect, and the decisions, the acceptances, what is
 -- shown and the cells of k after it.
-pub assemble : (bounds : List Key) (h : History) (k : Key) (body : Body) (l : ℕ) (a : Answer) (t : ℕ) (f : Cells → Cells) → OnKey k body a t f → (e : Effect) → effect_in h (took (route bounds k) body l a) ≡ e → (d : ℕ → State) (acc : ℕ → Key → Option Acceptance) (shown : ℕ → ℕ) (new : Cells) (steps : List Step) → ((u : ℕ) → first_decided (decision (set_at h u) (λ q. accepted_by e (last h) u q (accepted h u q)) e u) (decided h u) ≡ d u) → ((u : ℕ) (q : Key) → accepted_by e (last h) u q (accepted h u q) ≡ acc u q) → ((u : ℕ) → shown_told body a u (shown_put (set_at h u) e u (shown_in h u)) ≡ shown u) → f (cells_at bounds h k) ≡ new → deciding t (decided h t) (d t) ++ shadow h ≡ steps → Sound steps (record (view bounds h) { decided = d; accepted = acc; shown = shown; cells = λ q. cond (bytes_eq k q) new (cells_at bounds h q) }) → Ends (record (view bounds h) { decided = d; accepted = acc; shown = shown; cells = λ q. cond (bytes_eq k q) new (cells_at bounds h q) }) → IsTrueAnswer (table_of steps) body a → Next bounds h (took (route bounds k) body l a)
+pub assemble : (bounds : List Key) (h : History) (k : Key) (body : Body) (l : ℕ) (a : Answer) (t : ℕ) (f : Cells
+    → Cells) → OnKey k body a t f → (e : Effect) → effect_in h (took (route bounds k) body l a) ≡ e
+    → (d : ℕ → State) (acc : ℕ → Key → Option Acceptance) (shown : ℕ → ℕ) (new : Cells) (steps : List Step)
+    → ((u : ℕ) → first_decided (decision (set_at h u) (λ q. accepted_by e (last h) u q (accepted h u q)) e u)
+    (decided h u) ≡ d u) → ((u : ℕ) (q : Key) → accepted_by e (last h) u q (accepted h u q) ≡ acc u q)
+    → ((u : ℕ) → shown_told body a u (shown_put (set_at h u) e u (shown_in h u)) ≡ shown u)
+    → f (cells_at bounds h k) ≡ new → deciding t (decided h t) (d t) ++ shadow h ≡ steps
+    → Sound steps (record (view bounds h) {
+      decided = d;
+      accepted = acc;
+      shown = shown;
+      cells =
+          λ q. cond (bytes_eq k q) new (cells_at bounds h q);
+    })
+    → Ends (record (view bounds h) {
+      decided = d;
+      accepted = acc;
+      shown = shown;
+      cells =
+          λ q. cond (bytes_eq k q) new (cells_at bounds h q);
+    }) → IsTrueAnswer (table_of steps) body a
+    → Next bounds h (took (route bounds k) body l a)
 assemble bounds h k body l a t f on e is d acc shown new steps fates accepts shows cells same sound ends truth =
     let x = took (route bounds k) body l a in
-    let v : View = record (view bounds h) { decided = d; accepted = acc; shown = shown; cells = λ q. cond (bytes_eq k q) new (cells_at bounds h q) } in
-    let now : (u : ℕ) → decided (Took x ∷ h) u ≡ d u = λ u. ap (λ y. first_decided (decision (set_at h u) (λ q. accepted_by y (last h) u q (accepted h u q)) y u) (decided h u)) is ∙ fates u in
+    let v : View = record (view bounds h) {
+      decided = d;
+      accepted = acc;
+      shown = shown;
+      cells =
+          λ q. cond (bytes_eq k q) new (cells_at bounds h q);
+    } in
+    let now : (u : ℕ) → decided (Took x ∷ h) u ≡ d u =
+    λ u. ap (λ y. first_decided (decision (set_at h u) (λ q. accepted_by y (last h) u q (accepted h u q)) y u)
+    (decided h u)) is ∙ fates u in
     let w : view bounds (Took x ∷ h) ≡ v = same_view (view bounds (Took x ∷ h)) v record {
       last = refl;
       drawer = λ u. refl;
@@ -136,12 +180,20 @@ assemble bounds h k body l a t f on e is d acc shown new steps fates accepts sho
       accepted = λ u q. ap (λ y. accepted_by y (last h) u q (accepted h u q)) is ∙ accepts u q;
       reads = on.unnoted (effect_in h x) (reads_by body a (reads_in h)) ∙ on.unread (reads_in h);
       shown = λ u. ap (λ y. shown_told body a u (shown_put (set_at h u) y u (shown_in h u))) is ∙ shows u;
-      floor = λ q. part_same h (route bounds k) (route bounds q) body l a (λ r. r.max_read) (λ r. ap (λ (y : Region). y.max_read) (on.does r));
-      safe = λ q. part_same h (route bounds k) (route bounds q) body l a (λ r. r.safe) (λ r. ap (λ (y : Region). y.safe) (on.does r));
-      collected = λ q. part_same h (route bounds k) (route bounds q) body l a (λ r. r.collected) (λ r. ap (λ (y : Region). y.collected) (on.does r));
-      cells = λ q. cells_keyed bounds h k body l a f (λ r j. ap (λ (y : Region). y.cells j) (on.does r)) q ∙ ap (λ c. cond (bytes_eq k q) c (cells_at bounds h q)) cells;
+      floor = λ q. part_same h (route bounds k) (route bounds q) body l a (λ r. r.max_read)
+          (λ r. ap (λ (y : Region). y.max_read) (on.does r));
+      safe = λ q. part_same h (route bounds k) (route bounds q) body l a (λ r. r.safe)
+          (λ r. ap (λ (y : Region). y.safe) (on.does r));
+      collected = λ q. part_same h (route bounds k) (route bounds q) body l a (λ r. r.collected)
+          (λ r. ap (λ (y : Region). y.collected) (on.does r));
+      cells = λ q. cells_keyed bounds h k body l a f (λ r j. ap (λ (y : Region). y.cells j) (on.does r)) q
+          ∙ ap (λ c. cond (bytes_eq k q) c (cells_at bounds h q)) cells;
     } in
-    let made : shadow (Took x ∷ h) ≡ steps = ap (λ r. deciding_in h x (start_in body) ++ (r ++ (reading body a ++ shadow h))) (on.unchecked (effect_in h x)) ∙ ap (λ r. deciding_in h x (start_in body) ++ (r ++ shadow h)) on.unseen ∙ ap (λ o. deciding_in h x o ++ shadow h) on.named ∙ ap (λ s. deciding t (decided h t) s ++ shadow h) (now t) ∙ same in
+    let made : shadow (Took x ∷ h) ≡ steps =
+    ap (λ r. deciding_in h x (start_in body) ++ (r ++ (reading body a ++ shadow h))) (on.unchecked (effect_in h x))
+    ∙ ap (λ r. deciding_in h x (start_in body) ++ (r ++ shadow h)) on.unseen
+    ∙ ap (λ o. deciding_in h x o ++ shadow h) on.named ∙ ap (λ s. deciding t (decided h t) s ++ shadow h) (now t)
+    ∙ same in
     record {
       sound = subst (λ s. Sound s (view bounds (Took x ∷ h))) (sym made) (subst (Sound steps) (sym w) sound);
       ends = subst Ends (sym w) ends;
@@ -149,28 +201,42 @@ assemble bounds h k body l a t f on e is d acc shown new steps fates accepts sho
     }
 
 -- An answer of no effect that leaves the cells as they were.
-pub quiet : (bounds : List Key) (h : History) → Good bounds h → (k : Key) (body : Body) (l : ℕ) (a : Answer) (t : ℕ) (f : Cells → Cells) → OnKey k body a t f → effect_in h (took (route bounds k) body l a) ≡ NoEffect → ((u n : ℕ) → shown_told body a u n ≡ n) → f (cells_at bounds h k) ≡ cells_at bounds h k → IsTrueAnswer (table_of (shadow h)) body a → Next bounds h (took (route bounds k) body l a)
+pub quiet : (bounds : List Key) (h : History) → Good bounds h
+    → (k : Key) (body : Body) (l : ℕ) (a : Answer) (t : ℕ) (f : Cells → Cells) → OnKey k body a t f
+    → effect_in h (took (route bounds k) body l a) ≡ NoEffect → ((u n : ℕ) → shown_told body a u n ≡ n)
+    → f (cells_at bounds h k) ≡ cells_at bounds h k → IsTrueAnswer (table_of (shadow h)) body a
+    → Next bounds h (took (route bounds k) body l a)
 quiet bounds h good k body l a t f on is shows cells truth =
-    let kept : (q : Key) → cond (bytes_eq k q) (cells_at bounds h k) (cells_at bounds h q) ≡ cells_at bounds h q = λ q. elim (key_test k q) [ inl e ↦ rw e.0 (ap (cells_at bounds h) e.1) | inr e ↦ rw e.0 refl ] in
-    let v : View = record (view bounds h) { cells = λ q. cond (bytes_eq k q) (cells_at bounds h k) (cells_at bounds h q) } in
+    let kept : (q : Key) → cond (bytes_eq k q) (cells_at bounds h k) (cells_at bounds h q) ≡ cells_at bounds h q =
+    λ q. elim (key_test k q) [ inl e ↦ rw e.0 (ap (cells_at bounds h) e.1) | inr e ↦ rw e.0 refl ] in
+    let v : View = record (view bounds h) {
+      cells =
+          λ q. cond (bytes_eq k q) (cells_at bounds h k) (cells_at bounds h q);
+    } in
     let w : v ≡ view bounds h = λ i. record (view bounds h) { cells = λ q. kept q i } in
-    assemble bounds h k body l a t f on NoEffect is (decided h) (accepted h) (shown_in h) (cells_at bounds h k) (shadow h) (λ u. refl) (λ u q. refl) (λ u. shows u (shown_in h u)) cells (ap (λ s. s ++ shadow h) (decided_same t (decided h t))) (subst (Sound (shadow h)) (sym w) good.sound) (subst Ends (sym w) good.ends) truth
+    assemble bounds h k body l a t f on NoEffect is (decided h) (accepted h) (shown_in h) (cells_at bounds h k)
+    (shadow h) (λ u. refl) (λ u q. refl) (λ u. shows u (shown_in h u)) cells
+    (ap (λ s. s ++ shadow h) (decided_same t (decided h t))) (subst (Sound (shadow h)) (sym w) good.sound)
+    (subst Ends (sym w) good.ends) truth
 
 -- ---- what records tell
 
 module _ (bounds : List Key) (h : History) (good : Good bounds h) where
   -- its commit record: it is committed there
   pub own_commit : (k : Key) (t c : ℕ) → OwnCommit (cells_at bounds h k).write t c → IsCommitted (decided h) t c
-  own_commit k t c own = subst (λ n. IsCommitted (decided h) n c) own.own ((good.sound.inv.keys k).records.committed c own.rec own.stands)
+  own_commit k t c own =
+      subst (λ n. IsCommitted (decided h) n c) own.own ((good.sound.inv.keys k).records.committed c own.rec own.stands)
 
   -- what is decided is told truly
   pub true_end : (t : ℕ) (e : Fate) → decided h t ≡ Done e → HasEnded (table_of (shadow h)) t e
   true_end t e end = has_ended (table_of (shadow h)) (view bounds h) t e good.sound.inv good.sound.shows end
 
-  pub true_commit : (k : Key) (t c : ℕ) → OwnCommit (cells_at bounds h k).write t c → HasEnded (table_of (shadow h)) t (Committed c)
+  pub true_commit : (k : Key) (t c : ℕ) → OwnCommit (cells_at bounds h k).write t c
+      → HasEnded (table_of (shadow h)) t (Committed c)
   true_commit k t c own = true_end t (Committed c) (own_commit k t c own)
 
-  pub true_rollback : (k : Key) (t : ℕ) → OwnRollback (cells_at bounds h k).write t → HasEnded (table_of (shadow h)) t Aborted
+  pub true_rollback : (k : Key) (t : ℕ) → OwnRollback (cells_at bounds h k).write t
+      → HasEnded (table_of (shadow h)) t Aborted
   true_rollback k t own = true_end t Aborted ((good.sound.inv.keys k).records.rolled t own)
 
 -- a lock that is not its own
@@ -201,27 +267,50 @@ raised_more (Rows rows) r m = le-max_left m r
 raised_more (KeyIsLocked info) r m = le-max_left m r
 raised_more _ r m = omega arith
 
-pub floor_more : (bounds : List Key) (h : History) (n : ℕ) (body : Body) (l : ℕ) (a : Answer) (at : ℕ) → IsRead body a at → (k : Key) → (left h (route bounds k)).max_read ≤ floor_after bounds h (took n body l a) k
+pub floor_more : (bounds : List Key) (h : History) (n : ℕ) (body : Body) (l : ℕ) (a : Answer) (at : ℕ)
+    → IsRead body a at → (k : Key) → (left h (route bounds k)).max_read ≤ floor_after bounds h (took n body l a) k
 floor_more bounds h n body l a at read k =
     elim (nat_test n (route bounds k)) [
-      | inl x ↦ (let new : floor_after bounds h (took n body l a) k ≡ raised a at (left h (route bounds k)).max_read = ap (λ (r : Region). r.max_read) (cond_true (n == route bounds k) (leaves (left h (route bounds k)) body a) (left h (route bounds k)) x.0 ∙ read.does (left h (route bounds k))) in
+      | inl x ↦ (let new : floor_after bounds h (took n body l a) k ≡ raised a at (left h (route bounds k)).max_read =
+          ap (λ (r : Region). r.max_read)
+          (cond_true (n == route bounds k) (leaves (left h (route bounds k)) body a) (left h (route bounds k)) x.0
+          ∙ read.does (left h (route bounds k))) in
           omega (arith, new, raised_more a at (left h (route bounds k)).max_read))
-      | inr x ↦ (let same : floor_after bounds h (took n body l a) k ≡ (left h (route bounds k)).max_read = ap (λ (r : Region). r.max_read) (cond_false (n == route bounds k) (leaves (left h (route bounds k)) body a) (left h (route bounds k)) x.0) in
+      | inr x ↦ (let same : floor_after bounds h (took n body l a) k ≡ (left h (route bounds k)).max_read =
+          ap (λ (r : Region). r.max_read)
+          (cond_false (n == route bounds k) (leaves (left h (route bounds k)) body a) (left h (route bounds k)) x.0) in
           omega (arith, same))
     ]
 
 -- and reaches a read that was answered, in its region
-pub floor_reaches : (bounds : List Key) (h : History) (n : ℕ) (body : Body) (l : ℕ) (a : Answer) (at : ℕ) → IsRead body a at → ((m : ℕ) → at ≤ raised a at m) → (k : Key) → route bounds k ≡ n → at ≤ floor_after bounds h (took n body l a) k
+pub floor_reaches : (bounds : List Key) (h : History) (n : ℕ) (body : Body) (l : ℕ) (a : Answer) (at : ℕ)
+    → IsRead body a at → ((m : ℕ) → at ≤ raised a at m) → (k : Key) → route bounds k ≡ n
+    → at ≤ floor_after bounds h (took n body l a) k
 floor_reaches bounds h n body l a at read up k here =
-    let new : floor_after bounds h (took n body l a) k ≡ raised a at (left h (route bounds k)).max_read = ap (λ (r : Region). r.max_read) (cond_true (n == route bounds k) (leaves (left h (route bounds k)) body a) (left h (route bounds k)) (eq-eqb n (route bounds k) (sym here)) ∙ read.does (left h (route bounds k))) in
+    let new : floor_after bounds h (took n body l a) k ≡ raised a at (left h (route bounds k)).max_read =
+    ap (λ (r : Region). r.max_read)
+    (cond_true (n == route bounds k) (leaves (left h (route bounds k)) body a) (left h (route bounds k))
+    (eq-eqb n (route bounds k) (sym here)) ∙ read.does (left h (route bounds k))) in
     omega (arith, new, up (left h (route bounds k)).max_read)
 
 -- the view before the answer is as sound with that number raised
-pub sound_floor : (bounds : List Key) (h : History) → Good bounds h → (n : ℕ) (body : Body) (l : ℕ) (a : Answer) (at : ℕ) → IsRead body a at → Sound (shadow h) (raising (view bounds h) (floor_after bounds h (took n body l a)))
-sound_floor bounds h good n body l a at read = sound_raise (shadow h) (view bounds h) (floor_after bounds h (took n body l a)) good.sound (floor_more bounds h n body l a at read)
+pub sound_floor : (bounds : List Key) (h : History) → Good bounds h
+    → (n : ℕ) (body : Body) (l : ℕ) (a : Answer) (at : ℕ) → IsRead body a at
+    → Sound (shadow h) (raising (view bounds h) (floor_after bounds h (took n body l a)))
+sound_floor bounds h good n body l a at read =
+    sound_raise (shadow h) (view bounds h) (floor_after bounds h (took n body l a)) good.sound
+    (floor_more bounds h n body l a at read)
 
 -- What an answer to a read leaves.
-pub assemble_read : (bounds : List Key) (h : History) → Good bounds h → (n : ℕ) (body : Body) (l : ℕ) (a : Answer) (at : ℕ) → IsRead body a at → Sound (reading body a ++ shadow h) (record (view bounds h) { floor = floor_after bounds h (took n body l a); reads = reads_by body a (reads_in h) }) → IsTrueAnswer (table_of (reading body a ++ shadow h)) body a → Next bounds h (took n body l a)
+pub assemble_read : (bounds : List Key) (h : History) → Good bounds h
+    → (n : ℕ) (body : Body) (l : ℕ) (a : Answer) (at : ℕ) → IsRead body a at
+    → Sound (reading body a
+    ++ shadow h) (record (view bounds h) {
+      floor = floor_after bounds h (took n body l a);
+      reads =
+          reads_by body a (reads_in h);
+    }) → IsTrueAnswer (table_of (reading body a ++ shadow h)) body a
+    → Next bounds h (took n body l a)
 assemble_read bounds h good n body l a at read sound truth =
     let x = took n body l a in
     let v : View = record (view bounds h) { floor = floor_after bounds h x; reads = reads_by body a (reads_in h) } in
@@ -231,18 +320,27 @@ assemble_read bounds h good n body l a at read sound truth =
       drawer = λ u. refl;
       began = λ u. refl;
       declared = λ u. refl;
-      decided = λ u. ap (λ y. first_decided (decision (set_at h u) (λ q. accepted_by y (last h) u q (accepted h u q)) y u) (decided h u)) none;
+      decided = λ u. ap (λ y. first_decided
+          (decision (set_at h u) (λ q. accepted_by y (last h) u q (accepted h u q)) y u) (decided h u)) none;
       accepted = λ u q. ap (λ y. accepted_by y (last h) u q (accepted h u q)) none;
       reads = read.unnoted (effect_in h x) (reads_by body a (reads_in h));
-      shown = λ u. ap (λ y. shown_told body a u (shown_put (set_at h u) y u (shown_in h u))) none ∙ read.untold u (shown_in h u);
+      shown = λ u. ap (λ y. shown_told body a u (shown_put (set_at h u) y u (shown_in h u))) none
+          ∙ read.untold u (shown_in h u);
       floor = λ q. refl;
-      safe = λ q. part_same h n (route bounds q) body l a (λ r. r.safe) (λ r. ap (λ (y : Region). y.safe) (read.does r));
-      collected = λ q. part_same h n (route bounds q) body l a (λ r. r.collected) (λ r. ap (λ (y : Region). y.collected) (read.does r));
-      cells = λ q. part_same h n (route bounds q) body l a (λ r. r.cells q) (λ r. ap (λ (y : Region). y.cells q) (read.does r));
+      safe = λ q. part_same h n (route bounds q) body l a (λ r. r.safe)
+          (λ r. ap (λ (y : Region). y.safe) (read.does r));
+      collected = λ q. part_same h n (route bounds q) body l a (λ r. r.collected)
+          (λ r. ap (λ (y : Region). y.collected) (read.does r));
+      cells = λ q. part_same h n (route bounds q) body l a (λ r. r.cells q)
+          (λ r. ap (λ (y : Region). y.cells q) (read.does r));
     } in
-    let made : shadow (Took x ∷ h) ≡ reading body a ++ shadow h = ap (λ r. deciding_in h x (start_in body) ++ (r ++ (reading body a ++ shadow h))) (read.unchecked (effect_in h x)) ∙ ap (λ o. deciding_in h x o ++ (reading body a ++ shadow h)) read.unnamed in
+    let made : shadow (Took x ∷ h) ≡ reading body a ++ shadow h =
+    ap (λ r. deciding_in h x (start_in body)
+    ++ (r ++ (reading body a ++ shadow h))) (read.unchecked (effect_in h x))
+    ∙ ap (λ o. deciding_in h x o ++ (reading body a ++ shadow h)) read.unnamed in
     record {
-      sound = subst (λ s. Sound s (view bounds (Took x ∷ h))) (sym made) (subst (Sound (reading body a ++ shadow h)) (sym w) sound);
+      sound = subst (λ s. Sound s (view bounds (Took x ∷ h))) (sym made)
+          (subst (Sound (reading body a ++ shadow h)) (sym w) sound);
       ends = subst Ends (sym w) good.ends;
       truth = subst (λ s. IsTrueAnswer (table_of s) body a) (sym made) truth;
     }

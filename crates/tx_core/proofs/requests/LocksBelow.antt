@@ -11,5 +11,19 @@ use Rattle.tx_core.proofs.requests.Good.{Good, Next, took}
 use Rattle.tx_core.proofs.requests.OnRegion.{still}
 
 module _ (bounds : List Key) (h : History) (good : Good bounds h) (n : ℕ) (l : ℕ) where
-  pub next_locks_below : (b : LocksBelow) (a : Answer) → AnswersLocksBelow (left h n).cells b a → Next bounds h (took n (body.LocksBelow b) l a)
-  next_locks_below b a (infos, all, e) = subst (λ y. Next bounds h (took n (body.LocksBelow b) l y)) (sym e) (still bounds h good n l (body.LocksBelow b) (Locks infos) (record { unnamed = refl; none = λ cells. refl; untold = λ u m. refl; unread = λ before. refl; unseen = refl; unnoted = λ e before. refl; unchecked = λ e. refl; floor = λ r. refl }) (λ r. refl) tt)
+  pub next_locks_below : (b : LocksBelow) (a : Answer) → AnswersLocksBelow (left h n).cells b a
+      → Next bounds h (took n (body.LocksBelow b) l a)
+  next_locks_below b a (infos, all, e) =
+      subst (λ y. Next bounds h (took n (body.LocksBelow b) l y)) (sym e)
+      (still bounds h good n l (body.LocksBelow b) (Locks infos)
+      (record {
+        unnamed = refl;
+        none = λ cells. refl;
+        untold = λ u m. refl;
+        unread = λ before. refl;
+        unseen =
+            refl;
+        unnoted = λ e before. refl;
+        unchecked = λ e. refl;
+        floor = λ r. refl;
+      }) (λ r. refl) tt)

@@ -32,7 +32,14 @@ pub record IsOfRegion (body : Body) (a : Answer) : Type 0 where
 
 module _ (bounds : List Key) (h : History) (good : Good bounds h) (n : ℕ) (l : ℕ) where
   -- what an answer leaves, by the safe points, the points of collection and the cells after it
-  pub assemble_region : (body : Body) (a : Answer) → IsOfRegion body a → (safe collected : Key → ℕ) (cells : Key → Cells) → ((k : Key) → (left (Took (took n body l a) ∷ h) (route bounds k)).safe ≡ safe k) → ((k : Key) → (left (Took (took n body l a) ∷ h) (route bounds k)).collected ≡ collected k) → ((k : Key) → cells_at bounds (Took (took n body l a) ∷ h) k ≡ cells k) → Sound (shadow h) (record (view bounds h) { safe = safe; collected = collected; cells = cells }) → Ends (record (view bounds h) { safe = safe; collected = collected; cells = cells }) → IsTrueAnswer (table_of (shadow h)) body a → Next bounds h (took n body l a)
+  pub assemble_region : (body : Body) (a : Answer) → IsOfRegion body a
+      → (safe collected : Key → ℕ) (cells : Key → Cells)
+      → ((k : Key) → (left (Took (took n body l a) ∷ h) (route bounds k)).safe ≡ safe k)
+      → ((k : Key) → (left (Took (took n body l a) ∷ h) (route bounds k)).collected ≡ collected k)
+      → ((k : Key) → cells_at bounds (Took (took n body l a) ∷ h) k ≡ cells k)
+      → Sound (shadow h) (record (view bounds h) { safe = safe; collected = collected; cells = cells })
+      → Ends (record (view bounds h) { safe = safe; collected = collected; cells = cells })
+      → IsTrueAnswer (table_of (shadow h)) body a → Next bounds h (took n body l a)
   assemble_region body a is safe collected cells safes collects stands sound ends truth =
       let x = took n body l a in
       let v : View = record (view bounds h) { safe = safe; collected = collected; cells = cells } in
@@ -42,16 +49,22 @@ module _ (bounds : List Key) (h : History) (good : Good bounds h) (n : ℕ) (l :
         drawer = λ u. refl;
         began = λ u. refl;
         declared = λ u. refl;
-        decided = λ u. ap (λ y. first_decided (decision (set_at h u) (λ q. accepted_by y (last h) u q (accepted h u q)) y u) (decided h u)) none;
+        decided = λ u. ap (λ y. first_decided
+            (decision (set_at h u) (λ q. accepted_by y (last h) u q (accepted h u q)) y u) (decided h u)) none;
         accepted = λ u q. ap (λ y. accepted_by y (last h) u q (accepted h u q)) none;
         reads = is.unnoted (effect_in h x) (reads_by body a (reads_in h)) ∙ is.unread (reads_in h);
-        shown = λ u. ap (λ y. shown_told body a u (shown_put (set_at h u) y u (shown_in h u))) none ∙ is.untold u (shown_in h u);
+        shown = λ u. ap (λ y. shown_told body a u (shown_put (set_at h u) y u (shown_in h u))) none
+            ∙ is.untold u (shown_in h u);
         floor = λ q. part_same h n (route bounds q) body l a (λ r. r.max_read) is.floor;
         safe = safes;
         collected = collects;
         cells = stands;
       } in
-      let made : shadow (Took x ∷ h) ≡ shadow h = ap (λ r. deciding_in h x (start_in body) ++ (r ++ (reading body a ++ shadow h))) (is.unchecked (effect_in h x)) ∙ ap (λ r. deciding_in h x (start_in body) ++ (r ++ shadow h)) is.unseen ∙ ap (λ o. deciding_in h x o ++ shadow h) is.unnamed in
+      let made : shadow (Took x ∷ h) ≡ shadow h =
+      ap (λ r. deciding_in h x (start_in body)
+      ++ (r ++ (reading body a ++ shadow h))) (is.unchecked (effect_in h x))
+      ∙ ap (λ r. deciding_in h x (start_in body) ++ (r ++ shadow h)) is.unseen
+      ∙ ap (λ o. deciding_in h x o ++ shadow h) is.unnamed in
       record {
         sound = subst (λ s. Sound s (view bounds (Took x ∷ h))) (sym made) (subst (Sound (shadow h)) (sym w) sound);
         ends = subst Ends (sym w) ends;
@@ -59,7 +72,8 @@ module _ (bounds : List Key) (h : History) (good : Good bounds h) (n : ℕ) (l :
       }
 
   -- an answer that leaves the region as it was
-  pub still : (body : Body) (a : Answer) → IsOfRegion body a → ((r : Region) → leaves r body a ≡ r) → IsTrueAnswer (table_of (shadow h)) body a → Next bounds h (took n body l a)
+  pub still : (body : Body) (a : Answer) → IsOfRegion body a → ((r : Region) → leaves r body a ≡ r)
+      → IsTrueAnswer (table_of (shadow h)) body a → Next bounds h (took n body l a)
   still body a is same truth =
       assemble_region body a is (view bounds h).safe (view bounds h).collected (view bounds h).cells
       (λ k. part_same h n (route bounds k) body l a (λ r. r.safe) (λ r. ap (λ (y : Region). y.safe) (same r)))

@@ -18,15 +18,26 @@ use Rattle.tx_core.proofs.requests.Good.{Good, Next, OnKey, took, cells_at, asse
 
 module _ (bounds : List Key) (h : History) (good : Good bounds h) (b : TxnHeartBeat) (l : ℕ) where
   on_key : (a : Answer) → OnKey b.key (body.TxnHeartBeat b) a b.start (λ c. leaves_txn_heart_beat c b a)
-  on_key a = record { named = refl; does = λ r. refl; unread = λ before. refl; unseen = refl; unnoted = λ e before. refl; unchecked = λ e. refl }
+  on_key a = record {
+    named = refl;
+    does = λ r. refl;
+    unread = λ before. refl;
+    unseen = refl;
+    unnoted =
+        λ e before. refl;
+    unchecked = λ e. refl;
+  }
 
-  silent : (a x : Answer) → a ≡ x → Next bounds h (took (route bounds b.key) (body.TxnHeartBeat b) l x) → Next bounds h (took (route bounds b.key) (body.TxnHeartBeat b) l a)
+  silent : (a x : Answer) → a ≡ x → Next bounds h (took (route bounds b.key) (body.TxnHeartBeat b) l x)
+      → Next bounds h (took (route bounds b.key) (body.TxnHeartBeat b) l a)
   silent a x e next = subst (λ y. Next bounds h (took (route bounds b.key) (body.TxnHeartBeat b) l y)) (sym e) next
 
   -- the lock has this time to live now
   lives : (ttl : ℕ) → Next bounds h (took (route bounds b.key) (body.TxnHeartBeat b) l (Ttl ttl))
   lives ttl =
-      assemble bounds h b.key (body.TxnHeartBeat b) l (Ttl ttl) b.start (λ c. leaves_txn_heart_beat c b (Ttl ttl)) (on_key (Ttl ttl)) NoEffect refl (decided h) (accepted h) (shown_in h) (lengthened (cells_at bounds h b.key) b.start ttl) (shadow h)
+      assemble bounds h b.key (body.TxnHeartBeat b) l (Ttl ttl) b.start (λ c. leaves_txn_heart_beat c b (Ttl ttl))
+      (on_key (Ttl ttl)) NoEffect refl (decided h) (accepted h) (shown_in h)
+      (lengthened (cells_at bounds h b.key) b.start ttl) (shadow h)
       (λ u. refl)
       (λ u q. refl)
       (λ u. refl)
@@ -36,7 +47,17 @@ module _ (bounds : List Key) (h : History) (good : Good bounds h) (b : TxnHeartB
       (ends_lengthen (view bounds h) b.key b.start ttl good.ends)
       tt
 
-  pub next_heart_beat : (a : Answer) → declared h b.start ≢ None → AnswersTxnHeartBeat (cells_at bounds h b.key) (left h (route bounds b.key)).collected b a → Next bounds h (took (route bounds b.key) (body.TxnHeartBeat b) l a)
-  next_heart_beat a may (inl x) = silent a (BelowSafePoint (left h (route bounds b.key)).collected) x.1 (quiet bounds h good b.key (body.TxnHeartBeat b) l (BelowSafePoint (left h (route bounds b.key)).collected) b.start (λ c. leaves_txn_heart_beat c b (BelowSafePoint (left h (route bounds b.key)).collected)) (on_key (BelowSafePoint (left h (route bounds b.key)).collected)) refl (λ u n. refl) refl tt)
-  next_heart_beat a may (inr (no0, inl (lock, own, e))) = silent a (Ttl (max lock.ttl b.ttl)) e (lives (max lock.ttl b.ttl))
-  next_heart_beat a may (inr (no0, inr (no1, e))) = silent a TxnLockNotFound e (quiet bounds h good b.key (body.TxnHeartBeat b) l TxnLockNotFound b.start (λ c. leaves_txn_heart_beat c b TxnLockNotFound) (on_key TxnLockNotFound) refl (λ u n. refl) refl tt)
+  pub next_heart_beat : (a : Answer) → declared h b.start ≢ None
+      → AnswersTxnHeartBeat (cells_at bounds h b.key) (left h (route bounds b.key)).collected b a
+      → Next bounds h (took (route bounds b.key) (body.TxnHeartBeat b) l a)
+  next_heart_beat a may (inl x) =
+      silent a (BelowSafePoint (left h (route bounds b.key)).collected) x.1
+      (quiet bounds h good b.key (body.TxnHeartBeat b) l (BelowSafePoint (left h (route bounds b.key)).collected)
+      b.start (λ c. leaves_txn_heart_beat c b (BelowSafePoint (left h (route bounds b.key)).collected))
+      (on_key (BelowSafePoint (left h (route bounds b.key)).collected)) refl (λ u n. refl) refl tt)
+  next_heart_beat a may (inr (no0, inl (lock, own, e))) =
+      silent a (Ttl (max lock.ttl b.ttl)) e (lives (max lock.ttl b.ttl))
+  next_heart_beat a may (inr (no0, inr (no1, e))) =
+      silent a TxnLockNotFound e
+      (quiet bounds h good b.key (body.TxnHeartBeat b) l TxnLockNotFound b.start
+      (λ c. leaves_txn_heart_beat c b TxnLockNotFound) (on_key TxnLockNotFound) refl (λ u n. refl) refl tt)

@@ -44,26 +44,37 @@ use Rattle.tx_core.proofs.runs.Events.{good_first, good_drawn, good_began, good_
 module _ (table : Table) (w : View) (t : ℕ) (s : Shows table w) where
   is_decided : (e : Fate) → HasEnded table t e → w.decided t ≡ Done e
   is_decided e ended =
-      elim (chosen (w.began t) (Some record { changes = changes_of (w.declared t); state = w.decided t }) None (Some record { changes = ended.0; state = Done e }) (sym (s.row t) ∙ ended.1)) [
-        | inl x ↦ ap (λ (r : Row). r.state) (some_same record { changes = changes_of (w.declared t); state = w.decided t } record { changes = ended.0; state = Done e } x.1)
+      elim (chosen (w.began t) (Some record { changes = changes_of (w.declared t); state = w.decided t }) None
+      (Some record { changes = ended.0; state = Done e }) (sym (s.row t) ∙ ended.1)) [
+        | inl x ↦ ap (λ (r : Row). r.state)
+            (some_same record { changes = changes_of (w.declared t); state = w.decided t } record {
+              changes =
+                  ended.0;
+              state = Done e;
+            } x.1)
         | inr x ↦ absurd (cc (x.1))
       ]
 
   named_end : (named : Option ℕ) (e : Fate) → named ≡ Some t → EndsBy table named (Some e) → w.decided t ≡ Done e
   named_end named e is ended = is_decided e (subst (λ o. EndsBy table o (Some e)) is ended)
 
-  told_fate : (body : Body) (a : Answer) (end : Fate) → start_in body ≡ Some t → EndsBy table (start_in body) (fate_in a) → fate_in a ≡ Some end → w.decided t ≡ Done end
-  told_fate body a end is truth tells = named_end (start_in body) end is (subst (EndsBy table (start_in body)) tells truth)
+  told_fate : (body : Body) (a : Answer) (end : Fate) → start_in body ≡ Some t
+      → EndsBy table (start_in body) (fate_in a) → fate_in a ≡ Some end → w.decided t ≡ Done end
+  told_fate body a end is truth tells =
+      named_end (start_in body) end is (subst (EndsBy table (start_in body)) tells truth)
 
   -- an answer that tells a fate is no read
-  told_end : (body : Body) (a : Answer) (end : Fate) → start_in body ≡ Some t → IsTrueAnswer table body a → fate_in a ≡ Some end → w.decided t ≡ Done end
+  told_end : (body : Body) (a : Answer) (end : Fate) → start_in body ≡ Some t → IsTrueAnswer table body a
+      → fate_in a ≡ Some end → w.decided t ≡ Done end
   told_end (Get b) a end is truth tells = absurd (cc (is))
   told_end (Scan b) a end is truth tells = absurd (cc (is))
   told_end body a end is truth tells = told_fate body a end is truth tells
 
 -- what was decided stays so
 still_decided : (h : History) (x : Taken) (t : ℕ) (e : Fate) → decided h t ≡ Done e → decided (Took x ∷ h) t ≡ Done e
-still_decided h x t e end = ap (first_decided (decision (set_at h t) (accepted (Took x ∷ h) t) (effect_in h x) t)) end ∙ go (decision (set_at h t) (accepted (Took x ∷ h) t) (effect_in h x) t)
+still_decided h x t e end =
+    ap (first_decided (decision (set_at h t) (accepted (Took x ∷ h) t) (effect_in h x) t)) end
+    ∙ go (decision (set_at h t) (accepted (Took x ∷ h) t) (effect_in h x) t)
   where
     go : (s : State) → first_decided s (Done e) ≡ Done e
     go Open = refl
@@ -71,27 +82,63 @@ still_decided h x t e end = ap (first_decided (decision (set_at h t) (accepted (
 
 -- ---- what a region takes
 
-module _ (bounds : List Key) (h : History) (run : IsWorldRun bounds h) (good : Good bounds h) (told : ToldShown bounds h) where
+module _ (bounds : List Key) (h : History) (run : IsWorldRun bounds h) (good : Good bounds h) (told :
+    ToldShown bounds h) where
   -- a read passes by the transactions that it may pass by
-  passes : (r : ℕ) (bypass : List ℕ) → AllowsRead h r bypass → (t : ℕ) → Contains bypass t → Passes (decided h) (shown_in h) r t
-  passes r bypass may t named = elim (may t named) [ inl gone ↦ inl gone | inr rest ↦ elim rest [ inl done ↦ inr (inl done) | inr shown ↦ inr (inr (omega (arith, shown_above bounds h told t shown.0 shown.1, shown.2))) ] ]
+  passes : (r : ℕ) (bypass : List ℕ) → AllowsRead h r bypass → (t : ℕ) → Contains bypass t
+      → Passes (decided h) (shown_in h) r t
+  passes r bypass may t named =
+      elim (may t named) [
+        | inl gone ↦ inl gone
+        | inr rest ↦ elim rest [
+          | inl done ↦ inr (inl done)
+          | inr shown ↦ inr (inr (omega (arith, shown_above bounds h told t shown.0 shown.1, shown.2)))
+        ]
+      ]
 
-  next_taken : (n : ℕ) (body : Body) (l : ℕ) (a : Answer) → l ≤ last h → Allowed h body → Holds bounds n body → Answers (left h n) l (last h) body a → Next bounds h (took n body l a)
-  next_taken n (Get b) l a upto allowed holds answers = subst (λ m. Next bounds h (took m (Get b) l a)) holds (next_get bounds h good b l a (passes b.at b.bypass allowed) upto (subst (λ m. Answers (left h m) l (last h) (Get b) a) (sym holds) answers))
-  next_taken n (Scan b) l a upto allowed holds answers = next_scan bounds h good n b l a holds (passes b.at b.bypass allowed) upto answers
-  next_taken n (Prewrite b) l a upto allowed holds answers = subst (λ m. Next bounds h (took m (Prewrite b) l a)) holds (next_prewrite bounds h good b l a allowed (declared_drew bounds h run b.start allowed.of allowed.stands) upto (subst (λ m. Answers (left h m) l (last h) (Prewrite b) a) (sym holds) answers))
-  next_taken n (Commit b) l a upto allowed holds answers = subst (λ m. Next bounds h (took m (Commit b) l a)) holds (next_commit bounds h good b l a allowed (subst (λ m. Answers (left h m) l (last h) (Commit b) a) (sym holds) answers))
-  next_taken n (BatchRollback b) l a upto allowed holds answers = subst (λ m. Next bounds h (took m (BatchRollback b) l a)) holds (next_rollback bounds h good b l a allowed (subst (λ m. Answers (left h m) l (last h) (BatchRollback b) a) (sym holds) answers))
-  next_taken n (TxnHeartBeat b) l a upto allowed holds answers = subst (λ m. Next bounds h (took m (TxnHeartBeat b) l a)) holds (next_heart_beat bounds h good b l a allowed (subst (λ m. Answers (left h m) l (last h) (TxnHeartBeat b) a) (sym holds) answers))
-  next_taken n (CheckTxnStatus b) l a upto allowed holds answers = subst (λ m. Next bounds h (took m (CheckTxnStatus b) l a)) holds (next_check_status bounds h good b l a allowed (subst (λ m. Answers (left h m) l (last h) (CheckTxnStatus b) a) (sym holds) answers))
-  next_taken n (CheckSecondaryLocks b) l a upto allowed holds answers = subst (λ m. Next bounds h (took m (CheckSecondaryLocks b) l a)) holds (next_check_secondary bounds h good b l a allowed (subst (λ m. Answers (left h m) l (last h) (CheckSecondaryLocks b) a) (sym holds) answers))
-  next_taken n (ResolveLock b) l a upto allowed holds answers = subst (λ m. Next bounds h (took m (ResolveLock b) l a)) holds (next_resolve bounds h good b l a allowed (subst (λ m. Answers (left h m) l (last h) (ResolveLock b) a) (sym holds) answers))
+  next_taken : (n : ℕ) (body : Body) (l : ℕ) (a : Answer) → l ≤ last h → Allowed h body → Holds bounds n body
+      → Answers (left h n) l (last h) body a → Next bounds h (took n body l a)
+  next_taken n (Get b) l a upto allowed holds answers =
+      subst (λ m. Next bounds h (took m (Get b) l a)) holds
+      (next_get bounds h good b l a (passes b.at b.bypass allowed) upto
+      (subst (λ m. Answers (left h m) l (last h) (Get b) a) (sym holds) answers))
+  next_taken n (Scan b) l a upto allowed holds answers =
+      next_scan bounds h good n b l a holds (passes b.at b.bypass allowed) upto answers
+  next_taken n (Prewrite b) l a upto allowed holds answers =
+      subst (λ m. Next bounds h (took m (Prewrite b) l a)) holds
+      (next_prewrite bounds h good b l a allowed (declared_drew bounds h run b.start allowed.of allowed.stands) upto
+      (subst (λ m. Answers (left h m) l (last h) (Prewrite b) a) (sym holds) answers))
+  next_taken n (Commit b) l a upto allowed holds answers =
+      subst (λ m. Next bounds h (took m (Commit b) l a)) holds
+      (next_commit bounds h good b l a allowed
+      (subst (λ m. Answers (left h m) l (last h) (Commit b) a) (sym holds) answers))
+  next_taken n (BatchRollback b) l a upto allowed holds answers =
+      subst (λ m. Next bounds h (took m (BatchRollback b) l a)) holds
+      (next_rollback bounds h good b l a allowed
+      (subst (λ m. Answers (left h m) l (last h) (BatchRollback b) a) (sym holds) answers))
+  next_taken n (TxnHeartBeat b) l a upto allowed holds answers =
+      subst (λ m. Next bounds h (took m (TxnHeartBeat b) l a)) holds
+      (next_heart_beat bounds h good b l a allowed
+      (subst (λ m. Answers (left h m) l (last h) (TxnHeartBeat b) a) (sym holds) answers))
+  next_taken n (CheckTxnStatus b) l a upto allowed holds answers =
+      subst (λ m. Next bounds h (took m (CheckTxnStatus b) l a)) holds
+      (next_check_status bounds h good b l a allowed
+      (subst (λ m. Answers (left h m) l (last h) (CheckTxnStatus b) a) (sym holds) answers))
+  next_taken n (CheckSecondaryLocks b) l a upto allowed holds answers =
+      subst (λ m. Next bounds h (took m (CheckSecondaryLocks b) l a)) holds
+      (next_check_secondary bounds h good b l a allowed
+      (subst (λ m. Answers (left h m) l (last h) (CheckSecondaryLocks b) a) (sym holds) answers))
+  next_taken n (ResolveLock b) l a upto allowed holds answers =
+      subst (λ m. Next bounds h (took m (ResolveLock b) l a)) holds
+      (next_resolve bounds h good b l a allowed
+      (subst (λ m. Answers (left h m) l (last h) (ResolveLock b) a) (sym holds) answers))
   next_taken n (RaiseSafe b) l a upto allowed holds answers = next_raise_safe bounds h good n l b a answers
   next_taken n (LocksBelow b) l a upto allowed holds answers = next_locks_below bounds h good n l b a answers
   next_taken n (Collect b) l a upto allowed holds answers = next_collect bounds h good n l b a answers
 
   next : (x : Taken) → MayTake bounds h x → Next bounds h x
-  next x may = next_taken x.region x.body x.loaded x.answer (was_last_upto bounds h run x.loaded may.loaded) may.allowed may.holds may.answers
+  next x may = next_taken x.region x.body x.loaded x.answer (was_last_upto bounds h run x.loaded may.loaded) may.allowed
+      may.holds may.answers
 
   good_took : (x : Taken) → Next bounds h x → Good bounds (Took x ∷ h)
   good_took x n =
@@ -100,7 +147,10 @@ module _ (bounds : List Key) (h : History) (run : IsWorldRun bounds h) (good : G
         ends = n.ends;
         told = λ y among t of end tells.
             elim among [
-              | inl now ↦ (let same : x ≡ y = cc (now) in told_end (table_of (shadow (Took x ∷ h))) (view bounds (Took x ∷ h)) t n.sound.shows x.body x.answer end (ap (λ (z : Taken). start_in z.body) same ∙ of) n.truth (ap (λ (z : Taken). fate_in z.answer) same ∙ tells))
+              | inl now ↦ (let same : x ≡ y = cc (now) in
+                  told_end (table_of (shadow (Took x ∷ h))) (view bounds (Took x ∷ h)) t n.sound.shows x.body x.answer
+                  end (ap (λ (z : Taken). start_in z.body) same ∙ of) n.truth (ap (λ (z : Taken). fate_in z.answer) same
+                  ∙ tells))
               | inr before ↦ still_decided h x t end (good.told y before t of end tells)
             ];
       }
@@ -142,5 +192,6 @@ all_true bounds (e ∷ h) run =
     (all_true bounds h run.0, true_next bounds h run.0 before.0 before.1 e run.1)
 
 -- what is decided is how the machine's transaction has ended
-pub decisions_true : (bounds : List Key) (h : History) → IsWorldRun bounds h → (t : ℕ) (end : Fate) → decided h t ≡ Done end → HasEnded (table_of (shadow h)) t end
+pub decisions_true : (bounds : List Key) (h : History) → IsWorldRun bounds h → (t : ℕ) (end : Fate)
+    → decided h t ≡ Done end → HasEnded (table_of (shadow h)) t end
 decisions_true bounds h run t end is = true_end bounds h (run_told bounds h run).0 t end is

@@ -23,20 +23,28 @@ use Rattle.tx_core.proofs.seats.Staying.{among_on}
 use Rattle.tx_core.proofs.seats.StaysDecided.{decided_on}
 
 -- what was answered committed is decided so
-answered_decided : (bounds : List Key) (h : History) → IsWorldRun bounds h → (u c : ℕ) → Among h (Answered u (outcome.Committed c)) → decided h u ≡ Done (fate.Committed c)
+answered_decided : (bounds : List Key) (h : History) → IsWorldRun bounds h → (u c : ℕ)
+    → Among h (Answered u (outcome.Committed c)) → decided h u ≡ Done (fate.Committed c)
 answered_decided bounds [] run u c among = absurd among
 answered_decided bounds (e ∷ h) run u c among =
     decided_on h (e ∷ h) (inr (begins_all h)) u (fate.Committed c) (elim among [
       | inr before ↦ answered_decided bounds h run.0 u c before
-      | inl now ↦ (let may : MayCome bounds h (Answered u (outcome.Committed c)) = subst (MayCome bounds h) now run.1 in elim may.2 [ inl told ↦ told_fate bounds h run.0 u (fate.Committed c) told | inr all ↦ (run_told bounds h run.0).0.ends.all_async u c all ])
+      | inl now ↦ (let may : MayCome bounds h (Answered u (outcome.Committed c)) = subst (MayCome bounds h) now run.1 in
+          elim may.2 [
+            | inl told ↦ told_fate bounds h run.0 u (fate.Committed c) told
+            | inr all ↦ (run_told bounds h run.0).0.ends.all_async u c all
+          ])
     ])
 
 -- what was answered committed before a number was drawn lies at or below that number
-pub answered_below : (bounds : List Key) (h : History) → IsWorldRun bounds h → (p u c : ℕ) → AnsweredBefore h p u c → c ≤ p
+pub answered_below : (bounds : List Key) (h : History) → IsWorldRun bounds h → (p u c : ℕ) → AnsweredBefore h p u c
+    → c ≤ p
 answered_below bounds [] run p u c before = absurd before
 answered_below bounds (Drawn s n ∷ h) run p u c before =
     elim before [
-      | inl now ↦ (let range = ((run_told bounds h run.0).0.sound.inv.commits u c (answered_decided bounds h run.0 u c now.1)).range in omega (arith, range.1, run.1, now.0))
+      | inl now ↦ (let range =
+          ((run_told bounds h run.0).0.sound.inv.commits u c (answered_decided bounds h run.0 u c now.1)).range in
+          omega (arith, range.1, run.1, now.0))
       | inr earlier ↦ answered_below bounds h run.0 p u c earlier
     ]
 answered_below bounds (Began t ∷ h) run p u c before = answered_below bounds h run.0 p u c before
@@ -58,13 +66,20 @@ answered_before_on l h b p u c = kept_on (λ x. AnsweredBefore x p u c) (λ x e 
     next x (Took y) is = is
 
 -- a number that is drawn now lies after what is known to be answered
-pub drawn_after : (i p u c : ℕ) (l h : History) → Begins l h → Among l (Answered u (outcome.Committed c)) → AnsweredBefore (Drawn i p ∷ h) p u c
+pub drawn_after : (i p u c : ℕ) (l h : History) → Begins l h → Among l (Answered u (outcome.Committed c))
+    → AnsweredBefore (Drawn i p ∷ h) p u c
 drawn_after i p u c l h b among = inl (refl, among_on l h b (Answered u (outcome.Committed c)) among)
 
 -- what is declared is not empty
-declared_some : (bounds : List Key) (h : History) → IsWorldRun bounds h → (t : ℕ) (d : Declaration) → declared h t ≡ Some d → d.changes ≢ []
+declared_some : (bounds : List Key) (h : History) → IsWorldRun bounds h → (t : ℕ) (d : Declaration)
+    → declared h t ≡ Some d → d.changes ≢ []
 declared_some bounds [] run t d e = absurd (cc (e))
-declared_some bounds (Declared x ∷ h) run t d e = elim (chosen (x.start == t) (Some x) (declared h t) (Some d) e) [ inl now ↦ subst (λ (y : Declaration). y.changes ≢ []) (some_same x d now.1) run.1.some | inr before ↦ declared_some bounds h run.0 t d before.1 ]
+declared_some bounds (Declared x ∷ h) run t d e =
+    elim (chosen (x.start == t) (Some x) (declared h t) (Some d) e) [
+      | inl now ↦
+          subst (λ (y : Declaration). y.changes ≢ []) (some_same x d now.1) run.1.some
+      | inr before ↦ declared_some bounds h run.0 t d before.1
+    ]
 declared_some bounds (Drawn s n ∷ h) run t d e = declared_some bounds h run.0 t d e
 declared_some bounds (Began u ∷ h) run t d e = declared_some bounds h run.0 t d e
 declared_some bounds (Answered u o ∷ h) run t d e = declared_some bounds h run.0 t d e
@@ -73,7 +88,8 @@ declared_some bounds (Took x ∷ h) run t d e = declared_some bounds h run.0 t d
 
 -- a transaction commits above what was answered committed before it drew the number of its
 -- declaration: the bound of each of its keys lies above that number
-pub commits_in_order : (bounds : List Key) (h : History) (t u c e : ℕ) (d : Declaration) → IsWorldRun bounds h → declared h t ≡ Some d → AnsweredBefore h d.drawn u c → decided h t ≡ Done (fate.Committed e) → c < e
+pub commits_in_order : (bounds : List Key) (h : History) (t u c e : ℕ) (d : Declaration) → IsWorldRun bounds h
+    → declared h t ≡ Some d → AnsweredBefore h d.drawn u c → decided h t ≡ Done (fate.Committed e) → c < e
 commits_in_order bounds h t u c e d run stands before end = go (set_at h t) refl
   where
     i : Inv (view bounds h)
@@ -84,5 +100,11 @@ commits_in_order bounds h t u c e d run stands before end = go (set_at h t) refl
     go (x ∷ xs) is =
         let first : is_first (set_at h t) x.key ≡ true = ap (λ s. is_first s x.key) is ∙ key_same x.key in
         let does = first_within (declared h) t x.key first in
-        let of = some_of (accepted h t x.key) ((i.commits t e end).accepts x.key (does_within (declared h) t x.key does.0 does.1)) in
-        omega (arith, answered_below bounds h run d.drawn u c before, (i.acceptances t x.key of.0 of.1).after d stands, (i.commits t e end).bounds x.key of.0 of.1)
+        let of = some_of (accepted h t x.key)
+        ((i.commits t e end).accepts x.key (does_within (declared h) t x.key does.0 does.1)) in
+        omega (
+          arith,
+          answered_below bounds h run d.drawn u c before,
+          (i.acceptances t x.key of.0 of.1).after d stands,
+          (i.commits t e end).bounds x.key of.0 of.1,
+        )

@@ -27,23 +27,29 @@ inv_of bounds h run = (run_told bounds h run).0.sound.inv
 -- ---- decisions
 
 -- what was told is decided
-pub told_fate : (bounds : List Key) (h : History) → IsWorldRun bounds h → (t : ℕ) (end : Fate) → WasTold h t end → decided h t ≡ Done end
+pub told_fate : (bounds : List Key) (h : History) → IsWorldRun bounds h → (t : ℕ) (end : Fate) → WasTold h t end
+    → decided h t ≡ Done end
 told_fate bounds h run t end told = (run_told bounds h run).0.told told.by told.among t told.of end told.tells
 
 -- who is decided declared
-pub decided_declared : (bounds : List Key) (h : History) → IsWorldRun bounds h → (t : ℕ) (end : Fate) → decided h t ≡ Done end → declared h t ≢ None
+pub decided_declared : (bounds : List Key) (h : History) → IsWorldRun bounds h → (t : ℕ) (end : Fate)
+    → decided h t ≡ Done end → declared h t ≢ None
 decided_declared bounds h run t end is = (inv_of bounds h run).clock.decides t (λ o. cc (o, is))
 
 -- ---- who did not begin
 
-pub undeclared : (bounds : List Key) (h : History) → IsWorldRun bounds h → (t : ℕ) → began h t ≡ false → declared h t ≡ None
-undeclared bounds h run t not_yet = none_is (declared h t) (λ d is. cc ((inv_of bounds h run).clock.declares t (is_some (declared h t) d is), not_yet))
+pub undeclared : (bounds : List Key) (h : History) → IsWorldRun bounds h → (t : ℕ) → began h t ≡ false
+    → declared h t ≡ None
+undeclared bounds h run t not_yet =
+    none_is (declared h t) (λ d is. cc ((inv_of bounds h run).clock.declares t (is_some (declared h t) d is), not_yet))
 
-pub unanswered : (bounds : List Key) (h : History) → IsWorldRun bounds h → (t : ℕ) → began h t ≡ false → answered h t ≡ false
+pub unanswered : (bounds : List Key) (h : History) → IsWorldRun bounds h → (t : ℕ) → began h t ≡ false
+    → answered h t ≡ false
 unanswered bounds [] run t not_yet = refl
 unanswered bounds (Answered u o ∷ h) run t not_yet =
     elim (nat_test u t) [
-      | inl x ↦ (let begun : began h t ≡ true = subst (λ n. began h n ≡ true) x.1 run.1.0 in absurd (cc (begun, not_yet)))
+      | inl x ↦ (let begun : began h t ≡ true = subst (λ n. began h n ≡ true) x.1 run.1.0 in
+          absurd (cc (begun, not_yet)))
       | inr x ↦ rw x.0 (unanswered bounds h run.0 t not_yet)
     ]
 unanswered bounds (Began u ∷ h) run t not_yet =
@@ -59,15 +65,18 @@ unanswered bounds (Took x ∷ h) run t not_yet = unanswered bounds h run.0 t not
 -- ---- acceptances
 
 -- a key was accepted at most at the last number
-pub accepted_upto : (bounds : List Key) (h : History) → IsWorldRun bounds h → (t : ℕ) (k : Key) (by : Acceptance) → accepted h t k ≡ Some by → by.at ≤ last h
+pub accepted_upto : (bounds : List Key) (h : History) → IsWorldRun bounds h → (t : ℕ) (k : Key) (by : Acceptance)
+    → accepted h t k ≡ Some by → by.at ≤ last h
 accepted_upto bounds h run t k by e = ((inv_of bounds h run).acceptances t k by e).at
 
 -- the locks of a transaction that was declared two-phase are two-phase
-pub accepted_two_phase : (bounds : List Key) (h : History) → IsWorldRun bounds h → (t : ℕ) (k : Key) (by : Acceptance) → accepted h t k ≡ Some by → (d : Declaration) → declared h t ≡ Some d → d.mode ≡ TwoPhase → by.lock.mode ≡ TwoPhase
+pub accepted_two_phase : (bounds : List Key) (h : History) → IsWorldRun bounds h → (t : ℕ) (k : Key) (by : Acceptance)
+    → accepted h t k ≡ Some by → (d : Declaration) → declared h t ≡ Some d → d.mode ≡ TwoPhase → by.lock.mode ≡ TwoPhase
 accepted_two_phase bounds h run t k by e = ((inv_of bounds h run).acceptances t k by e).mode
 
 -- a lock that is put is an acceptance, where none stood before
-put_accepted : (key : Key) (lock : Lock) (n : ℕ) (before : Option Acceptance) → accepted_by (Puts key lock) n lock.start key before ≢ None
+put_accepted : (key : Key) (lock : Lock) (n : ℕ) (before : Option Acceptance)
+    → accepted_by (Puts key lock) n lock.start key before ≢ None
 put_accepted key lock n before = rw (nat_same lock.start, key_same key) (some before)
   where
     some : (o : Option Acceptance) → first_accepted o record { lock = lock; at = n } ≢ None
@@ -79,8 +88,12 @@ abbrev effect_by : Prewrite → ℕ → Option Lock → Effect
 effect_by b m o = cond (is_own o b.start) NoEffect (Puts b.key (lock_of b m))
 
 -- a prewrite that was answered so has put its lock, or found it there
-pub prewritten_accepted : (bounds : List Key) (h : History) → IsWorldRun bounds h → (x : Taken) (b : Prewrite) (m : ℕ) → x.region ≡ route bounds b.key → x.body ≡ body.Prewrite b → x.answer ≡ Prewritten m → accepted (Took x ∷ h) b.start b.key ≢ None
-prewritten_accepted bounds h run x b m in_region is answer = subst (λ e. accepted_by e (last h) b.start b.key (accepted h b.start b.key) ≢ None) (sym does) (go ((left h (route bounds b.key)).cells b.key).lock refl)
+pub prewritten_accepted : (bounds : List Key) (h : History) → IsWorldRun bounds h → (x : Taken) (b : Prewrite) (m : ℕ)
+    → x.region ≡ route bounds b.key → x.body ≡ body.Prewrite b → x.answer ≡ Prewritten m
+    → accepted (Took x ∷ h) b.start b.key ≢ None
+prewritten_accepted bounds h run x b m in_region is answer =
+    subst (λ e. accepted_by e (last h) b.start b.key (accepted h b.start b.key) ≢ None) (sym does)
+    (go ((left h (route bounds b.key)).cells b.key).lock refl)
   where
     does : effect_in h x ≡ effect_by b m ((left h (route bounds b.key)).cells b.key).lock
     does = λ i. effect (left h (in_region i)).cells (is i) (answer i)
@@ -88,10 +101,12 @@ prewritten_accepted bounds h run x b m in_region is answer = subst (λ e. accept
     put : accepted_by (Puts b.key (lock_of b m)) (last h) b.start b.key (accepted h b.start b.key) ≢ None
     put = put_accepted b.key (lock_of b m) (last h) (accepted h b.start b.key)
 
-    go : (o : Option Lock) → ((left h (route bounds b.key)).cells b.key).lock ≡ o → accepted_by (effect_by b m o) (last h) b.start b.key (accepted h b.start b.key) ≢ None
+    go : (o : Option Lock) → ((left h (route bounds b.key)).cells b.key).lock ≡ o
+        → accepted_by (effect_by b m o) (last h) b.start b.key (accepted h b.start b.key) ≢ None
     go None e = put
     go (Some lock) e =
         elim (nat_test lock.start b.start) [
-          | inl y ↦ rw y.0 (subst (λ t. accepted h t b.key ≢ None) y.1 (((inv_of bounds h run).keys b.key).lock lock e).accepts)
+          | inl y ↦ rw y.0 (subst (λ t. accepted h t b.key ≢ None) y.1
+              (((inv_of bounds h run).keys b.key).lock lock e).accepts)
           | inr y ↦ rw y.0 put
         ]

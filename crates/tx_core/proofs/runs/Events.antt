@@ -35,7 +35,8 @@ module _ (bounds : List Key) (h : History) (good : Good bounds h) where
   before e other x among = elim among [ inl now ↦ absurd (other x now) | inr old ↦ old ]
 
   -- an event that leaves what was drawn and decided as it was
-  quiet_event : (e : Event) → ((x : Taken) → e ≡ Took x → ⊥) → decided (e ∷ h) ≡ decided h → Sound (shadow (e ∷ h)) (view bounds (e ∷ h)) → Ends (view bounds (e ∷ h)) → Good bounds (e ∷ h)
+  quiet_event : (e : Event) → ((x : Taken) → e ≡ Took x → ⊥) → decided (e ∷ h) ≡ decided h
+      → Sound (shadow (e ∷ h)) (view bounds (e ∷ h)) → Ends (view bounds (e ∷ h)) → Good bounds (e ∷ h)
   quiet_event e other same sound ends =
       record {
         sound = sound;
@@ -44,20 +45,31 @@ module _ (bounds : List Key) (h : History) (good : Good bounds h) where
       }
 
   pub good_drawn : (seat n : ℕ) → last h < n → Good bounds (Drawn seat n ∷ h)
-  good_drawn seat n more = quiet_event (Drawn seat n) (λ x e. (cc (e))) refl (sound_draw (shadow h) (view bounds h) seat n good.sound more) good.ends
+  good_drawn seat n more =
+      quiet_event (Drawn seat n) (λ x e. (cc (e))) refl (sound_draw (shadow h) (view bounds h) seat n good.sound more)
+      good.ends
 
   pub good_began : (t : ℕ) → drawer h t ≢ None → began h t ≡ false → Good bounds (Began t ∷ h)
-  good_began t drawn new = quiet_event (Began t) (λ x e. (cc (e))) refl (sound_begin (shadow h) (view bounds h) t good.sound drawn new) good.ends
+  good_began t drawn new =
+      quiet_event (Began t) (λ x e. (cc (e))) refl (sound_begin (shadow h) (view bounds h) t good.sound drawn new)
+      good.ends
 
   pub good_declared : (d : Declaration) → MayDeclare h d → Good bounds (Declared d ∷ h)
-  good_declared d may = quiet_event (Declared d) (λ x e. (cc (e))) refl (sound_declare (shadow h) (view bounds h) d good.sound may.once may.begun may.some may.distinct) (ends_declare (view bounds h) d good.ends good.sound.inv may.once)
+  good_declared d may =
+      quiet_event (Declared d) (λ x e. (cc (e))) refl
+      (sound_declare (shadow h) (view bounds h) d good.sound may.once may.begun may.some may.distinct)
+      (ends_declare (view bounds h) d good.ends good.sound.inv may.once)
 
   pub good_stopped : (seat : ℕ) → Good bounds (Stopped seat ∷ h)
   good_stopped seat = quiet_event (Stopped seat) (λ x e. (cc (e))) refl good.sound good.ends
 
   -- what a session knows of its transaction is decided
   known_commit : (t c : ℕ) → MayAnswer h t (outcome.Committed c) → IsCommitted (decided h) t c
-  known_commit t c may = elim may [ inl told ↦ good.told told.by told.among t told.of (fate.Committed c) told.tells | inr all ↦ good.ends.all_async t c all ]
+  known_commit t c may =
+      elim may [
+        | inl told ↦ good.told told.by told.among t told.of (fate.Committed c) told.tells
+        | inr all ↦ good.ends.all_async t c all
+      ]
 
   known_abort : (t : ℕ) → MayAnswer h t outcome.Aborted → IsAborted (decided h) t
   known_abort t told = good.told told.by told.among t told.of fate.Aborted told.tells
@@ -66,13 +78,17 @@ module _ (bounds : List Key) (h : History) (good : Good bounds h) where
   good_answered t o may = quiet_event (Answered t o) (λ x e. (cc (e))) refl (sound o may) good.ends
     where
       sound : (o : Outcome) → MayAnswer h t o → Sound (answering t o ++ shadow h) (view bounds h)
-      sound (outcome.Committed c) may = sound_answer (shadow h) (view bounds h) t (fate.Committed c) good.sound (known_commit t c may)
+      sound (outcome.Committed c) may =
+          sound_answer (shadow h) (view bounds h) t (fate.Committed c) good.sound (known_commit t c may)
       sound outcome.Aborted may = sound_answer (shadow h) (view bounds h) t fate.Aborted good.sound (known_abort t may)
       sound (outcome.Unknown cause) may = good.sound
       sound outcome.ReadOnly may = good.sound
 
   pub true_outcome : (t : ℕ) (o : Outcome) → MayAnswer h t o → IsTrueOutcome (table_of (shadow (Answered t o ∷ h))) t o
-  true_outcome t (outcome.Committed c) may = has_ended (table_of (shadow h)) (view bounds h) t (fate.Committed c) good.sound.inv good.sound.shows (known_commit t c may)
-  true_outcome t outcome.Aborted may = has_ended (table_of (shadow h)) (view bounds h) t fate.Aborted good.sound.inv good.sound.shows (known_abort t may)
+  true_outcome t (outcome.Committed c) may =
+      has_ended (table_of (shadow h)) (view bounds h) t (fate.Committed c) good.sound.inv good.sound.shows
+      (known_commit t c may)
+  true_outcome t outcome.Aborted may =
+      has_ended (table_of (shadow h)) (view bounds h) t fate.Aborted good.sound.inv good.sound.shows (known_abort t may)
   true_outcome t (outcome.Unknown cause) may = tt
   true_outcome t outcome.ReadOnly may = tt

@@ -18,7 +18,8 @@ begins_none (e ∷ h) = inr (begins_none h)
 
 pub begins_more : (a b c : History) → Begins a b → Begins b c → Begins a c
 begins_more a b [] p q = subst (λ x. Begins a x) q p
-begins_more a b (e ∷ c) p q = elim q [ inl same ↦ subst (λ x. Begins a x) same p | inr more ↦ inr (begins_more a b c p more) ]
+begins_more a b (e ∷ c) p q =
+    elim q [ inl same ↦ subst (λ x. Begins a x) same p | inr more ↦ inr (begins_more a b c p more) ]
 
 -- a beginning is a tail
 pub begins_append : (more l : History) → Begins l (more ++ l)
@@ -35,15 +36,22 @@ begins_rest l (e ∷ h) b =
 
 pub begins_length : (l h : History) → Begins l h → length l ≤ length h
 begins_length l [] b = omega (arith, ap length b)
-begins_length l (e ∷ h) b = elim b [ inl same ↦ omega (arith, ap length same) | inr more ↦ omega (arith, begins_length l h more) ]
+begins_length l (e ∷ h) b =
+    elim b [ inl same ↦ omega (arith, ap length same) | inr more ↦ omega (arith, begins_length l h more) ]
 
 -- of two beginnings of one history the shorter begins the longer
 pub begins_shorter : (a b h : History) → Begins a h → Begins b h → length a ≤ length b → Begins a b
 begins_shorter a b [] p q le = subst (λ x. Begins a x) (p ∙ sym q) (begins_all a)
 begins_shorter a b (e ∷ h) p q le =
     elim p [
-      | inl all ↦ elim q [ inl same ↦ subst (λ x. Begins a x) (all ∙ sym same) (begins_all a) | inr more ↦ absurd (omega (arith, le, ap length all, begins_length b h more)) ]
-      | inr less ↦ elim q [ inl same ↦ subst (λ x. Begins a x) (sym same) (inr less) | inr more ↦ begins_shorter a b h less more le ]
+      | inl all ↦ elim q [
+        | inl same ↦ subst (λ x. Begins a x) (all ∙ sym same) (begins_all a)
+        | inr more ↦ absurd (omega (arith, le, ap length all, begins_length b h more))
+      ]
+      | inr less ↦ elim q [
+        | inl same ↦ subst (λ x. Begins a x) (sym same) (inr less)
+        | inr more ↦ begins_shorter a b h less more le
+      ]
     ]
 
 -- of two beginnings of one history one begins the other
@@ -52,7 +60,10 @@ begins_either a b [] p q = inl (subst (λ x. Begins a x) (p ∙ sym q) (begins_a
 begins_either a b (e ∷ h) p q =
     elim p [
       | inl all ↦ inr (subst (λ x. Begins b x) (sym all) q)
-      | inr less ↦ elim q [ inl same ↦ inl (subst (λ x. Begins a x) (sym same) (inr less)) | inr more ↦ begins_either a b h less more ]
+      | inr less ↦ elim q [
+        | inl same ↦ inl (subst (λ x. Begins a x) (sym same) (inr less))
+        | inr more ↦ begins_either a b h less more
+      ]
     ]
 
 -- a beginning that is no shorter is the whole
@@ -63,29 +74,42 @@ begins_whole l (e ∷ h) b le = elim b [ inl same ↦ same | inr more ↦ absurd
 -- ---- facts that events keep
 
 -- a fact that each event keeps
-pub kept_on : (P : History → Type 0) → ((h : History) (e : Event) → P h → P (e ∷ h)) → (l h : History) → Begins l h → P l → P h
+pub kept_on : (P : History → Type 0) → ((h : History) (e : Event) → P h → P (e ∷ h)) → (l h : History) → Begins l h
+    → P l → P h
 kept_on P step l [] b p = subst P b p
 kept_on P step l (e ∷ h) b p = elim b [ inl same ↦ subst P same p | inr more ↦ step h e (kept_on P step l h more p) ]
 
 -- a fact that each event of a world run keeps
-pub run_on : (bounds : List Key) (P : History → Type 0) → ((h : History) (e : Event) → IsWorldRun bounds h → MayCome bounds h e → P h → P (e ∷ h)) → (l h : History) → IsWorldRun bounds h → Begins l h → P l → P h
+pub run_on : (bounds : List Key) (P : History → Type 0)
+    → ((h : History) (e : Event) → IsWorldRun bounds h → MayCome bounds h e → P h → P (e ∷ h)) → (l h : History)
+    → IsWorldRun bounds h → Begins l h → P l → P h
 run_on bounds P step l [] run b p = subst P b p
-run_on bounds P step l (e ∷ h) run b p = elim b [ inl same ↦ subst P same p | inr more ↦ step h e run.0 run.1 (run_on bounds P step l h run.0 more p) ]
+run_on bounds P step l (e ∷ h) run b p =
+    elim b [ inl same ↦ subst P same p | inr more ↦ step h e run.0 run.1 (run_on bounds P step l h run.0 more p) ]
 
 -- a fact that each event of another seat keeps
-pub other_on : (i : ℕ) (P : History → Type 0) → ((h : History) (e : Event) → owner h e ≢ Some i → P h → P (e ∷ h)) → (l h : History) → Extends i l h → P l → P h
+pub other_on : (i : ℕ) (P : History → Type 0) → ((h : History) (e : Event) → owner h e ≢ Some i → P h → P (e ∷ h))
+    → (l h : History) → Extends i l h → P l → P h
 other_on i P step l [] g p = subst P g p
-other_on i P step l (e ∷ h) g p = elim g [ inl same ↦ subst P same p | inr more ↦ step h e more.1 (other_on i P step l h more.0 p) ]
+other_on i P step l (e ∷ h) g p =
+    elim g [ inl same ↦ subst P same p | inr more ↦ step h e more.1 (other_on i P step l h more.0 p) ]
 
 -- a fact that each event of another seat keeps in a world run
-pub other_run_on : (bounds : List Key) (i : ℕ) (P : History → Type 0) → ((h : History) (e : Event) → IsWorldRun bounds h → MayCome bounds h e → owner h e ≢ Some i → P h → P (e ∷ h)) → (l h : History) → IsWorldRun bounds h → Extends i l h → P l → P h
+pub other_run_on : (bounds : List Key) (i : ℕ) (P : History → Type 0)
+    → ((h : History) (e : Event) → IsWorldRun bounds h → MayCome bounds h e → owner h e ≢ Some i → P h → P (e ∷ h))
+    → (l h : History) → IsWorldRun bounds h → Extends i l h → P l → P h
 other_run_on bounds i P step l [] run g p = subst P g p
-other_run_on bounds i P step l (e ∷ h) run g p = elim g [ inl same ↦ subst P same p | inr more ↦ step h e run.0 run.1 more.1 (other_run_on bounds i P step l h run.0 more.0 p) ]
+other_run_on bounds i P step l (e ∷ h) run g p =
+    elim g [
+      | inl same ↦ subst P same p
+      | inr more ↦ step h e run.0 run.1 more.1 (other_run_on bounds i P step l h run.0 more.0 p)
+    ]
 
 -- a beginning of a world run is a world run
 pub run_beginning : (bounds : List Key) (l h : History) → IsWorldRun bounds h → Begins l h → IsWorldRun bounds l
 run_beginning bounds l [] run b = subst (IsWorldRun bounds) (sym b) run
-run_beginning bounds l (e ∷ h) run b = elim b [ inl same ↦ subst (IsWorldRun bounds) (sym same) run | inr more ↦ run_beginning bounds l h run.0 more ]
+run_beginning bounds l (e ∷ h) run b =
+    elim b [ inl same ↦ subst (IsWorldRun bounds) (sym same) run | inr more ↦ run_beginning bounds l h run.0 more ]
 
 -- ---- histories that extend one
 
@@ -99,14 +123,16 @@ extends_begins i l (e ∷ h) g = elim g [ inl same ↦ inl same | inr more ↦ i
 
 pub extends_more : (i : ℕ) (l m h : History) → Extends i l m → Extends i m h → Extends i l h
 extends_more i l m [] p q = subst (λ x. Extends i l x) q p
-extends_more i l m (e ∷ h) p q = elim q [ inl same ↦ subst (λ x. Extends i l x) same p | inr more ↦ inr (extends_more i l m h p more.0, more.1) ]
+extends_more i l m (e ∷ h) p q =
+    elim q [ inl same ↦ subst (λ x. Extends i l x) same p | inr more ↦ inr (extends_more i l m h p more.0, more.1) ]
 
 -- an event of another seat
 pub extends_next : (i : ℕ) (l h : History) (e : Event) → Extends i l h → owner h e ≢ Some i → Extends i l (e ∷ h)
 extends_next i l h e g other = inr (g, other)
 
 -- what extends l, and a longer beginning m, had no event of the seat between them
-pub extends_between : (i : ℕ) (l m h : History) → Extends i l h → Begins l m → Begins m h → Extends i l m × Extends i m h
+pub extends_between : (i : ℕ) (l m h : History) → Extends i l h → Begins l m → Begins m h
+    → Extends i l m × Extends i m h
 extends_between i l m [] g p q = (subst (λ x. Extends i l x) (sym q) g, q)
 extends_between i l m (e ∷ h) g p q =
     elim q [

@@ -9,7 +9,8 @@ use Rattle.tx_core.proofs.seats.Beginnings.{begins_all}
 -- a test of an owner, with what it means
 pub seat_test : (o : Option ℕ) (i : ℕ) → ((is_seat o i ≡ true) × (o ≡ Some i)) ⊎ ((is_seat o i ≡ false) × (o ≢ Some i))
 seat_test None i = inr (refl, λ e. cc (e))
-seat_test (Some s) i = elim (nat_test s i) [ inl x ↦ inl (x.0, ap Some x.1) | inr x ↦ inr (x.0, λ e. x.1 (some_same s i e)) ]
+seat_test (Some s) i =
+    elim (nat_test s i) [ inl x ↦ inl (x.0, ap Some x.1) | inr x ↦ inr (x.0, λ e. x.1 (some_same s i e)) ]
 
 -- its own event, and another seat's
 pub part_own : (i : ℕ) (h : History) (e : Event) → owner h e ≡ Some i → part i (e ∷ h) ≡ e ∷ part i h
@@ -46,7 +47,8 @@ part_shorter i l (e ∷ h) b =
 -- what extends a history with no event of a seat has the same events of it
 pub part_extends : (i : ℕ) (l h : History) → Extends i l h → part i h ≡ part i l
 part_extends i l [] g = ap (part i) (sym g)
-part_extends i l (e ∷ h) g = elim g [ inl same ↦ ap (part i) (sym same) | inr more ↦ part_other i h e more.1 ∙ part_extends i l h more.0 ]
+part_extends i l (e ∷ h) g =
+    elim g [ inl same ↦ ap (part i) (sym same) | inr more ↦ part_other i h e more.1 ∙ part_extends i l h more.0 ]
 
 -- and what begins with l and has no more events of a seat than l extends l without one
 pub extends_by_part : (i : ℕ) (l h : History) → Begins l h → length (part i h) ≤ length (part i l) → Extends i l h
@@ -57,7 +59,9 @@ extends_by_part i l (e ∷ h) b le =
       | inr more ↦
           elim (seat_test (owner h e) i) [
             | inl own ↦ absurd (omega (arith, le, ap length (part_own i h e own.1), part_shorter i l h more))
-            | inr other ↦ (let fewer : length (part i h) ≤ length (part i l) = omega (arith, le, ap length (part_other i h e other.1)) in inr (extends_by_part i l h more fewer, other.1))
+            | inr other ↦ (let fewer : length (part i h) ≤ length (part i l) =
+                omega (arith, le, ap length (part_other i h e other.1)) in
+                inr (extends_by_part i l h more fewer, other.1))
           ]
     ]
 
@@ -72,4 +76,5 @@ extends_absent i l h b none = extends_by_part i l h b (let equal = ap length non
 -- of two beginnings that one history extends with no event of a seat, the longer
 -- extends the shorter so
 pub extends_shorter : (i : ℕ) (a b h : History) → Extends i a h → Begins b h → Begins a b → Extends i a b
-extends_shorter i a b h g q p = extends_by_part i a b p (let same = ap length (part_extends i a h g) in omega (arith, same, part_shorter i b h q))
+extends_shorter i a b h g q p =
+    extends_by_part i a b p (let same = ap length (part_extends i a h g) in omega (arith, same, part_shorter i b h q))

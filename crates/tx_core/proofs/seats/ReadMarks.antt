@@ -27,7 +27,9 @@ region_within (Stopped s ∷ h) n = region_within h n
 region_within (Took x ∷ h) n =
     let before = region_within h n in
     elim (nat_test x.region n) [
-      | inl same ↦ rw same.0 (subst (λ m. (leaves (left h m) x.body x.answer).max_read ≤ max (max_ts h) (leaves (left h x.region) x.body x.answer).max_read) same.1 (omega arith))
+      | inl same ↦ rw same.0
+          (subst (λ m. (leaves (left h m) x.body x.answer).max_read ≤ max (max_ts h)
+          (leaves (left h x.region) x.body x.answer).max_read) same.1 (omega arith))
       | inr other ↦ rw other.0 (omega (arith, before))
     ]
 
@@ -59,7 +61,11 @@ read_next h (Stopped s) = omega arith
 
 pub read_on : (l h : History) → Begins l h → max_ts l ≤ max_ts h
 read_on l [] b = (let same = ap max_ts b in omega (arith, same))
-read_on l (e ∷ h) b = elim b [ inl same ↦ (let is = ap max_ts same in omega (arith, is)) | inr on ↦ (let before = read_on l h on in let next = read_next h e in omega (arith, before, next)) ]
+read_on l (e ∷ h) b =
+    elim b [
+      | inl same ↦ (let is = ap max_ts same in omega (arith, is))
+      | inr on ↦ (let before = read_on l h on in let next = read_next h e in omega (arith, before, next))
+    ]
 
 -- ---- what one event makes of it
 
@@ -69,11 +75,17 @@ raises_more a b c d le same = omega (arith, le, same)
 
 module _ (i : ℕ) (l h : History) (goes : Extends i l h) where
   -- what a seat's event makes of it, by what the seat knew
-  pub raised_on : (e : Event) (r : ℕ) → owner h e ≡ Some i → max_ts (e ∷ l) ≡ max (max_ts l) r → max_ts (e ∷ h) ≡ max (max_ts h) r
+  pub raised_on : (e : Event) (r : ℕ) → owner h e ≡ Some i → max_ts (e ∷ l) ≡ max (max_ts l) r
+      → max_ts (e ∷ h) ≡ max (max_ts h) r
   raised_on (Took x) r own is =
-      let same : left h x.region ≡ left l x.region = subst (λ n. left h n ≡ left l n) (sym (some_same x.region i own)) (left_on i l h goes) in
-      let mark : (leaves (left h x.region) x.body x.answer).max_read ≡ (leaves (left l x.region) x.body x.answer).max_read = ap (λ (region : Region). (leaves region x.body x.answer).max_read) same in
-      ap (max (max_ts h)) mark ∙ raises_more (max_ts l) (max_ts h) (leaves (left l x.region) x.body x.answer).max_read r (read_on l h (extends_begins i l h goes)) is
+      let same : left h x.region ≡ left l x.region =
+      subst (λ n. left h n ≡ left l n) (sym (some_same x.region i own)) (left_on i l h goes) in
+      let mark : (leaves (left h x.region) x.body x.answer).max_read
+      ≡ (leaves (left l x.region) x.body x.answer).max_read =
+      ap (λ (region : Region). (leaves region x.body x.answer).max_read) same in
+      ap (max (max_ts h)) mark
+      ∙ raises_more (max_ts l) (max_ts h) (leaves (left l x.region) x.body x.answer).max_read r
+      (read_on l h (extends_begins i l h goes)) is
   raised_on (Drawn s n) r own is = (let on = read_on l h (extends_begins i l h goes) in omega (arith, on, is))
   raised_on (Began t) r own is = (let on = read_on l h (extends_begins i l h goes) in omega (arith, on, is))
   raised_on (Declared d) r own is = (let on = read_on l h (extends_begins i l h goes) in omega (arith, on, is))
@@ -85,6 +97,8 @@ module _ (i : ℕ) (l h : History) (goes : Extends i l h) where
   unraised_on e own is = (let raised = raised_on e 0 own (omega (arith, is)) in omega (arith, raised))
 
 -- what a region's answer makes of it, by what was read
-pub taken_raises : (h : History) (x : Taken) (read : Option ℕ) → (leaves (left h x.region) x.body x.answer).max_read ≡ read_upto read (left h x.region).max_read → max_ts (Took x ∷ h) ≡ read_upto read (max_ts h)
+pub taken_raises : (h : History) (x : Taken) (read : Option ℕ)
+    → (leaves (left h x.region) x.body x.answer).max_read ≡ read_upto read (left h x.region).max_read
+    → max_ts (Took x ∷ h) ≡ read_upto read (max_ts h)
 taken_raises h x None is = (let within = region_within h x.region in omega (arith, within, is))
 taken_raises h x (Some r) is = (let within = region_within h x.region in omega (arith, within, is))

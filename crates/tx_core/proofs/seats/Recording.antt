@@ -27,7 +27,8 @@ use Rattle.tx_core.proofs.seats.Answering.{left_on, answers_later, may_answer_on
 
 module _ (i t : ℕ) (h : History) (by : drawer h t ≡ Some i) where
   unbegun_next : (e : Event) → owner h e ≢ Some i → began h t ≡ false → began (e ∷ h) t ≡ false
-  unbegun_next (Began u) other is = elim (nat_test u t) [ inl x ↦ absurd (other (ap (drawer h) x.1 ∙ by)) | inr x ↦ rw x.0 is ]
+  unbegun_next (Began u) other is =
+      elim (nat_test u t) [ inl x ↦ absurd (other (ap (drawer h) x.1 ∙ by)) | inr x ↦ rw x.0 is ]
   unbegun_next (Drawn s n) other is = is
   unbegun_next (Declared d) other is = is
   unbegun_next (Answered u o) other is = is
@@ -35,7 +36,8 @@ module _ (i t : ℕ) (h : History) (by : drawer h t ≡ Some i) where
   unbegun_next (Took x) other is = is
 
   undeclared_next : (e : Event) → owner h e ≢ Some i → declared h t ≡ None → declared (e ∷ h) t ≡ None
-  undeclared_next (Declared d) other is = elim (nat_test d.start t) [ inl x ↦ absurd (other (ap (drawer h) x.1 ∙ by)) | inr x ↦ rw x.0 is ]
+  undeclared_next (Declared d) other is =
+      elim (nat_test d.start t) [ inl x ↦ absurd (other (ap (drawer h) x.1 ∙ by)) | inr x ↦ rw x.0 is ]
   undeclared_next (Drawn s n) other is = is
   undeclared_next (Began u) other is = is
   undeclared_next (Answered u o) other is = is
@@ -43,17 +45,22 @@ module _ (i t : ℕ) (h : History) (by : drawer h t ≡ Some i) where
   undeclared_next (Took x) other is = is
 
   unanswered_next : (e : Event) → owner h e ≢ Some i → answered h t ≡ false → answered (e ∷ h) t ≡ false
-  unanswered_next (Answered u o) other is = elim (nat_test u t) [ inl x ↦ absurd (other (ap (drawer h) x.1 ∙ by)) | inr x ↦ rw x.0 is ]
+  unanswered_next (Answered u o) other is =
+      elim (nat_test u t) [ inl x ↦ absurd (other (ap (drawer h) x.1 ∙ by)) | inr x ↦ rw x.0 is ]
   unanswered_next (Drawn s n) other is = is
   unanswered_next (Began u) other is = is
   unanswered_next (Declared d) other is = is
   unanswered_next (Stopped s) other is = is
   unanswered_next (Took x) other is = is
 
-module _ (bounds : List Key) (i t : ℕ) (l h : History) (run : IsWorldRun bounds h) (goes : Extends i l h) (by : drawer l t ≡ Some i) where
+module _ (bounds : List Key) (i t : ℕ) (l h : History) (run : IsWorldRun bounds h) (goes : Extends i l h) (by :
+    drawer l t ≡ Some i) where
   -- a fact of what the seat drew, which each event of another seat keeps
-  own_on : (P : History → Type 0) → ((x : History) (e : Event) → drawer x t ≡ Some i → owner x e ≢ Some i → P x → P (e ∷ x)) → P l → P h
-  own_on P step p = (other_run_on bounds i (λ x. (drawer x t ≡ Some i) × P x) (λ x e r may other both. (drawer_next bounds x e r may t i both.0, step x e both.0 other both.1)) l h run goes (by, p)).1
+  own_on : (P : History → Type 0)
+      → ((x : History) (e : Event) → drawer x t ≡ Some i → owner x e ≢ Some i → P x → P (e ∷ x)) → P l → P h
+  own_on P step p = (other_run_on bounds i (λ x. (drawer x t ≡ Some i)
+      × P x) (λ x e r may other both. (drawer_next bounds x e r may t i both.0, step x e both.0 other both.1)) l h run
+      goes (by, p)).1
 
   pub unbegun_on : began l t ≡ false → began h t ≡ false
   unbegun_on = own_on (λ x. began x t ≡ false) (λ x e drawn. unbegun_next i t x drawn e)
@@ -67,8 +74,10 @@ module _ (bounds : List Key) (i t : ℕ) (l h : History) (run : IsWorldRun bound
 -- ---- what may be recorded
 
 -- the floor of a prewrite lies at most one above the last number
-floor_upto : (bounds : List Key) (h : History) → IsWorldRun bounds h → (body : Body) → Allowed h body → floor_in body ≤ last h + 1
-floor_upto bounds h run (Prewrite b) may = omega (arith, may.floor, of_mode may.of.mode, declared_drew bounds h run b.start may.of may.stands)
+floor_upto : (bounds : List Key) (h : History) → IsWorldRun bounds h → (body : Body) → Allowed h body
+    → floor_in body ≤ last h + 1
+floor_upto bounds h run (Prewrite b) may =
+    omega (arith, may.floor, of_mode may.of.mode, declared_drew bounds h run b.start may.of may.stands)
   where
     of_mode : (m : Mode) → elim m as (λ _. ℕ) [ TwoPhase ↦ 0 | Async ↦ may.of.drawn + 1 ] ≤ may.of.drawn + 1
     of_mode TwoPhase = omega arith
@@ -77,7 +86,8 @@ floor_upto bounds h run _ may = omega arith
 
 module _ (bounds : List Key) (i : ℕ) (l : History) where
   -- a region takes a request that is allowed after what it has seen
-  pub may_take : (x : Taken) → x.region ≡ i → i ≤ length bounds → Allowed l x.body → Holds bounds x.region x.body → WasLast l x.loaded → Answers (left l x.region) x.loaded (last l) x.body x.answer → MayRecord bounds i l (Took x)
+  pub may_take : (x : Taken) → x.region ≡ i → i ≤ length bounds → Allowed l x.body → Holds bounds x.region x.body
+      → WasLast l x.loaded → Answers (left l x.region) x.loaded (last l) x.body x.answer → MayRecord bounds i l (Took x)
   may_take x own inside allowed holds was answers h run goes =
       let b = extends_begins i l h goes in
       let same : left h x.region ≡ left l x.region = subst (λ n. left h n ≡ left l n) (sym own) (left_on i l h goes) in (
@@ -86,15 +96,21 @@ module _ (bounds : List Key) (i : ℕ) (l : History) where
           allowed = allowed_on bounds l h run b x.body allowed;
           holds = holds;
           loaded = was_last_on l h b x.loaded was;
-          answers = answers_later (left h x.region) x.loaded (last l) (last h) (last_on bounds l h run b) x.body x.answer (subst (λ region. Answers region x.loaded (last l) x.body x.answer) (sym same) answers);
+          answers = answers_later (left h x.region) x.loaded (last l) (last h) (last_on bounds l h run b) x.body
+              x.answer (subst (λ region. Answers region x.loaded (last l) x.body x.answer) (sym same) answers);
         },
         ap Some own,
       )
 
   -- so it may answer with the least minimum above a mark, which covers what was read in the region
   -- and does not lie above the last number drawn
-  pub may_take_from : (mark : ℕ) (x : Taken) → x.region ≡ i → i ≤ length bounds → Allowed l x.body → Holds bounds x.region x.body → WasLast l x.loaded → IsWorldRun bounds l → (left l x.region).max_read ≤ mark → mark ≤ last l → AnswersFrom mark (left l x.region) x.loaded x.body x.answer → MayRecord bounds i l (Took x)
-  may_take_from mark x own inside allowed holds was run covers upto answers = may_take x own inside allowed holds was (mark_admitted mark (left l x.region) x.loaded (last l) x.body x.answer covers upto (was_last_upto bounds l run x.loaded was) (floor_upto bounds l run x.body allowed) answers)
+  pub may_take_from : (mark : ℕ) (x : Taken) → x.region ≡ i → i ≤ length bounds → Allowed l x.body
+      → Holds bounds x.region x.body → WasLast l x.loaded → IsWorldRun bounds l → (left l x.region).max_read ≤ mark
+      → mark ≤ last l → AnswersFrom mark (left l x.region) x.loaded x.body x.answer → MayRecord bounds i l (Took x)
+  may_take_from mark x own inside allowed holds was run covers upto answers =
+      may_take x own inside allowed holds was
+      (mark_admitted mark (left l x.region) x.loaded (last l) x.body x.answer covers upto
+      (was_last_upto bounds l run x.loaded was) (floor_upto bounds l run x.body allowed) answers)
 
   -- a session begins at a number that it drew, and that did not begin yet
   pub may_begin : (t : ℕ) → drawer l t ≡ Some i → began l t ≡ false → MayRecord bounds i l (Began t)
@@ -103,35 +119,53 @@ module _ (bounds : List Key) (i : ℕ) (l : History) where
       ((is_some (drawer h t) i still, unbegun_on bounds i t l h run goes by new), still)
 
   -- it declares once, with a number that it drew since
-  pub may_declare : (d : Declaration) → drawer l d.start ≡ Some i → began l d.start ≡ true → declared l d.start ≡ None → d.changes ≢ [] → IsDistinct d.changes → DrewSince l d.start d.drawn → MayRecord bounds i l (Declared d)
+  pub may_declare : (d : Declaration) → drawer l d.start ≡ Some i → began l d.start ≡ true → declared l d.start ≡ None
+      → d.changes ≢ [] → IsDistinct d.changes → DrewSince l d.start d.drawn → MayRecord bounds i l (Declared d)
   may_declare d by begun new some distinct drew h run goes =
-      let b = extends_begins i l h goes in
-      (record { begun = began_on l h b d.start begun; once = undeclared_on bounds i d.start l h run goes by new; some = some; distinct = distinct; drew = drew_since_on l h b d.start d.drawn drew }, drawer_on bounds l h run b d.start i by)
+      let b = extends_begins i l h goes in (
+        record {
+          begun = began_on l h b d.start begun;
+          once = undeclared_on bounds i d.start l h run goes by new;
+          some =
+              some;
+          distinct = distinct;
+          drew = drew_since_on l h b d.start d.drawn drew;
+        },
+        drawer_on bounds l h run b d.start i by,
+      )
 
   -- it answers once, what it knows
-  pub may_answer : (t : ℕ) (o : Outcome) → drawer l t ≡ Some i → began l t ≡ true → answered l t ≡ false → MayAnswer l t o → MayRecord bounds i l (Answered t o)
+  pub may_answer : (t : ℕ) (o : Outcome) → drawer l t ≡ Some i → began l t ≡ true → answered l t ≡ false
+      → MayAnswer l t o → MayRecord bounds i l (Answered t o)
   may_answer t o by begun new may h run goes =
-      let b = extends_begins i l h goes in
-      ((began_on l h b t begun, unanswered_on bounds i t l h run goes by new, may_answer_on bounds l h run b t o may), drawer_on bounds l h run b t i by)
+      let b = extends_begins i l h goes in (
+        (began_on l h b t begun, unanswered_on bounds i t l h run goes by new, may_answer_on bounds l h run b t o may),
+        drawer_on bounds l h run b t i by,
+      )
 
   -- it may stop at any time
   pub may_stop : MayRecord bounds i l (Stopped i)
   may_stop h run goes = (tt, refl)
 
 -- a session may begin at the number that it just drew
-pub may_begin_drawn : (bounds : List Key) (i t : ℕ) (h : History) → IsWorldRun bounds (Drawn i t ∷ h) → MayRecord bounds i (Drawn i t ∷ h) (Began t)
-may_begin_drawn bounds i t h run = may_begin bounds i (Drawn i t ∷ h) t (drawer_new i t h) (began_drawn bounds i t h run)
+pub may_begin_drawn : (bounds : List Key) (i t : ℕ) (h : History) → IsWorldRun bounds (Drawn i t ∷ h)
+    → MayRecord bounds i (Drawn i t ∷ h) (Began t)
+may_begin_drawn bounds i t h run =
+    may_begin bounds i (Drawn i t ∷ h) t (drawer_new i t h) (began_drawn bounds i t h run)
 
 -- ---- world runs that go on
 
 -- a draw above the last number may follow any world run
-pub run_drawn : (bounds : List Key) (h : History) (i n : ℕ) → IsWorldRun bounds h → last h < n → IsWorldRun bounds (Drawn i n ∷ h)
+pub run_drawn : (bounds : List Key) (h : History) (i n : ℕ) → IsWorldRun bounds h → last h < n
+    → IsWorldRun bounds (Drawn i n ∷ h)
 run_drawn bounds h i n run above = (run, above)
 
 -- what may be recorded makes a world run
-pub run_recorded : (bounds : List Key) (i : ℕ) (l h : History) (e : Event) → MayRecord bounds i l e → IsWorldRun bounds h → Extends i l h → IsWorldRun bounds (e ∷ h)
+pub run_recorded : (bounds : List Key) (i : ℕ) (l h : History) (e : Event) → MayRecord bounds i l e
+    → IsWorldRun bounds h → Extends i l h → IsWorldRun bounds (e ∷ h)
 run_recorded bounds i l h e may run goes = (run, (may h run goes).0)
 
 -- what may be recorded after l may be recorded after what extends l
-pub may_record_on : (bounds : List Key) (i : ℕ) (l m : History) (e : Event) → Extends i l m → MayRecord bounds i l e → MayRecord bounds i m e
+pub may_record_on : (bounds : List Key) (i : ℕ) (l m : History) (e : Event) → Extends i l m → MayRecord bounds i l e
+    → MayRecord bounds i m e
 may_record_on bounds i l m e goes may h run more = may h run (extends_more i l m h goes more)

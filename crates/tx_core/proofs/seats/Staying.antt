@@ -24,7 +24,9 @@ last_next bounds h (Stopped s) may = omega arith
 last_next bounds h (Took x) may = omega arith
 
 pub last_on : (bounds : List Key) (l h : History) → IsWorldRun bounds h → Begins l h → last l ≤ last h
-last_on bounds l h run b = run_on bounds (λ x. last l ≤ last x) (λ x e r may le. omega (arith, le, last_next bounds x e may)) l h run b (omega arith)
+last_on bounds l h run b =
+    run_on bounds (λ x. last l ≤ last x) (λ x e r may le. omega (arith, le, last_next bounds x e may)) l h run b
+    (omega arith)
 
 -- the last number of a beginning was the last
 pub last_was : (h : History) → WasLast h (last h)
@@ -47,7 +49,8 @@ drawn_upto bounds [] run t drawn = absurd (drawn refl)
 drawn_upto bounds (Drawn s n ∷ h) run t drawn =
     elim (nat_test n t) [
       | inl x ↦ omega (arith, x.1)
-      | inr x ↦ (let before : drawer h t ≢ None = λ none. drawn (rw x.0 none) in omega (arith, drawn_upto bounds h run.0 t before, run.1))
+      | inr x ↦ (let before : drawer h t ≢ None = λ none. drawn (rw x.0 none) in
+          omega (arith, drawn_upto bounds h run.0 t before, run.1))
     ]
 drawn_upto bounds (Began u ∷ h) run t drawn = drawn_upto bounds h run.0 t drawn
 drawn_upto bounds (Declared d ∷ h) run t drawn = drawn_upto bounds h run.0 t drawn
@@ -56,7 +59,8 @@ drawn_upto bounds (Stopped s ∷ h) run t drawn = drawn_upto bounds h run.0 t dr
 drawn_upto bounds (Took x ∷ h) run t drawn = drawn_upto bounds h run.0 t drawn
 
 -- the seat that drew a number stays the one: each number is drawn once, as they rise
-pub drawer_next : (bounds : List Key) (h : History) (e : Event) → IsWorldRun bounds h → MayCome bounds h e → (t s : ℕ) → drawer h t ≡ Some s → drawer (e ∷ h) t ≡ Some s
+pub drawer_next : (bounds : List Key) (h : History) (e : Event) → IsWorldRun bounds h → MayCome bounds h e → (t s : ℕ)
+    → drawer h t ≡ Some s → drawer (e ∷ h) t ≡ Some s
 drawer_next bounds h (Drawn i n) run may t s by =
     elim (nat_test n t) [
       | inl x ↦ absurd (omega (arith, x.1, may, drawn_upto bounds h run t (is_some (drawer h t) s by)))
@@ -68,11 +72,15 @@ drawer_next bounds h (Answered u o) run may t s by = by
 drawer_next bounds h (Stopped i) run may t s by = by
 drawer_next bounds h (Took x) run may t s by = by
 
-pub drawer_on : (bounds : List Key) (l h : History) → IsWorldRun bounds h → Begins l h → (t s : ℕ) → drawer l t ≡ Some s → drawer h t ≡ Some s
-drawer_on bounds l h run b t s = run_on bounds (λ x. drawer x t ≡ Some s) (λ x e r may by. drawer_next bounds x e r may t s by) l h run b
+pub drawer_on : (bounds : List Key) (l h : History) → IsWorldRun bounds h → Begins l h → (t s : ℕ) → drawer l t ≡ Some s
+    → drawer h t ≡ Some s
+drawer_on bounds l h run b t s =
+    run_on bounds (λ x. drawer x t ≡ Some s) (λ x e r may by. drawer_next bounds x e r may t s by) l h run b
 
-pub drawn_on : (bounds : List Key) (l h : History) → IsWorldRun bounds h → Begins l h → (t : ℕ) → drawer l t ≢ None → drawer h t ≢ None
-drawn_on bounds l h run b t drawn = (let by = some_of (drawer l t) drawn in is_some (drawer h t) by.0 (drawer_on bounds l h run b t by.0 by.1))
+pub drawn_on : (bounds : List Key) (l h : History) → IsWorldRun bounds h → Begins l h → (t : ℕ) → drawer l t ≢ None
+    → drawer h t ≢ None
+drawn_on bounds l h run b t drawn =
+    (let by = some_of (drawer l t) drawn in is_some (drawer h t) by.0 (drawer_on bounds l h run b t by.0 by.1))
 
 -- what was drawn since a start stays so, and is at most the last number
 pub drew_since_on : (l h : History) → Begins l h → (t p : ℕ) → DrewSince l t p → DrewSince h t p
@@ -88,7 +96,11 @@ drew_since_on l h b t p = kept_on (λ x. DrewSince x t p) (λ x e is. next x e i
 
 pub drew_upto : (bounds : List Key) (h : History) → IsWorldRun bounds h → (t p : ℕ) → DrewSince h t p → p ≤ last h
 drew_upto bounds [] run t p drew = absurd drew
-drew_upto bounds (Drawn s n ∷ h) run t p drew = elim drew [ inl now ↦ omega (arith, now.0) | inr before ↦ omega (arith, drew_upto bounds h run.0 t p before, run.1) ]
+drew_upto bounds (Drawn s n ∷ h) run t p drew =
+    elim drew [
+      | inl now ↦ omega (arith, now.0)
+      | inr before ↦ omega (arith, drew_upto bounds h run.0 t p before, run.1)
+    ]
 drew_upto bounds (Began u ∷ h) run t p drew = drew_upto bounds h run.0 t p drew
 drew_upto bounds (Declared d ∷ h) run t p drew = drew_upto bounds h run.0 t p drew
 drew_upto bounds (Answered u o ∷ h) run t p drew = drew_upto bounds h run.0 t p drew
@@ -96,11 +108,13 @@ drew_upto bounds (Stopped s ∷ h) run t p drew = drew_upto bounds h run.0 t p d
 drew_upto bounds (Took x ∷ h) run t p drew = drew_upto bounds h run.0 t p drew
 
 -- so is the number that was drawn for a declaration
-pub declared_drew : (bounds : List Key) (h : History) → IsWorldRun bounds h → (t : ℕ) (d : Declaration) → declared h t ≡ Some d → d.drawn ≤ last h
+pub declared_drew : (bounds : List Key) (h : History) → IsWorldRun bounds h → (t : ℕ) (d : Declaration)
+    → declared h t ≡ Some d → d.drawn ≤ last h
 declared_drew bounds [] run t d e = absurd (cc (e))
 declared_drew bounds (Declared x ∷ h) run t d e =
     elim (chosen (x.start == t) (Some x) (declared h t) (Some d) e) [
-      | inl now ↦ (let same : x ≡ d = some_same x d now.1 in omega (arith, drew_upto bounds h run.0 x.start x.drawn run.1.drew, ap (λ (y : Declaration). y.drawn) same))
+      | inl now ↦ (let same : x ≡ d = some_same x d now.1 in
+          omega (arith, drew_upto bounds h run.0 x.start x.drawn run.1.drew, ap (λ (y : Declaration). y.drawn) same))
       | inr before ↦ declared_drew bounds h run.0 t d before.1
     ]
 declared_drew bounds (Drawn s n ∷ h) run t d e = omega (arith, declared_drew bounds h run.0 t d e, run.1)
@@ -141,7 +155,8 @@ pub answered_on : (l h : History) → Begins l h → (t : ℕ) → answered l t 
 answered_on l h b t = kept_on (λ x. answered x t ≡ true) (λ x e is. answered_next x e t is) l h b
 
 -- a transaction declares once
-declared_next : (bounds : List Key) (h : History) (e : Event) → MayCome bounds h e → (t : ℕ) (d : Declaration) → declared h t ≡ Some d → declared (e ∷ h) t ≡ Some d
+declared_next : (bounds : List Key) (h : History) (e : Event) → MayCome bounds h e → (t : ℕ) (d : Declaration)
+    → declared h t ≡ Some d → declared (e ∷ h) t ≡ Some d
 declared_next bounds h (Declared x) may t d is =
     elim (nat_test x.start t) [
       | inl y ↦ absurd (cc (may.once, subst (λ n. declared h n ≡ Some d) (sym y.1) is))
@@ -153,21 +168,29 @@ declared_next bounds h (Answered u o) may t d is = is
 declared_next bounds h (Stopped s) may t d is = is
 declared_next bounds h (Took x) may t d is = is
 
-pub declared_on : (bounds : List Key) (l h : History) → IsWorldRun bounds h → Begins l h → (t : ℕ) (d : Declaration) → declared l t ≡ Some d → declared h t ≡ Some d
-declared_on bounds l h run b t d = run_on bounds (λ x. declared x t ≡ Some d) (λ x e r may is. declared_next bounds x e may t d is) l h run b
+pub declared_on : (bounds : List Key) (l h : History) → IsWorldRun bounds h → Begins l h → (t : ℕ) (d : Declaration)
+    → declared l t ≡ Some d → declared h t ≡ Some d
+declared_on bounds l h run b t d =
+    run_on bounds (λ x. declared x t ≡ Some d) (λ x e r may is. declared_next bounds x e may t d is) l h run b
 
-pub set_on : (bounds : List Key) (l h : History) → IsWorldRun bounds h → Begins l h → (t : ℕ) → declared l t ≢ None → set_at h t ≡ set_at l t
-set_on bounds l h run b t some = (let d = some_of (declared l t) some in ap set_of (declared_on bounds l h run b t d.0 d.1) ∙ sym (ap set_of d.1))
+pub set_on : (bounds : List Key) (l h : History) → IsWorldRun bounds h → Begins l h → (t : ℕ) → declared l t ≢ None
+    → set_at h t ≡ set_at l t
+set_on bounds l h run b t some =
+    (let d = some_of (declared l t) some in ap set_of (declared_on bounds l h run b t d.0 d.1) ∙ sym (ap set_of d.1))
 
 -- what began was drawn
-pub begun_drawn : (bounds : List Key) (h : History) → IsWorldRun bounds h → (t : ℕ) → began h t ≡ true → drawer h t ≢ None
+pub begun_drawn : (bounds : List Key) (h : History) → IsWorldRun bounds h → (t : ℕ) → began h t ≡ true
+    → drawer h t ≢ None
 begun_drawn bounds [] run t is = absurd (cc (is))
 begun_drawn bounds (Began u ∷ h) run t is =
     elim (nat_test u t) [
       | inl x ↦ subst (λ n. drawer h n ≢ None) x.1 run.1.0
-      | inr x ↦ (let before : began h t ≡ true = subst (λ c. cond c true (began h t) ≡ true) x.0 is in begun_drawn bounds h run.0 t before)
+      | inr x ↦ (let before : began h t ≡ true = subst (λ c. cond c true (began h t) ≡ true) x.0 is in
+          begun_drawn bounds h run.0 t before)
     ]
-begun_drawn bounds (Drawn s n ∷ h) run t is = (let by = some_of (drawer h t) (begun_drawn bounds h run.0 t is) in is_some (drawer (Drawn s n ∷ h) t) by.0 (drawer_next bounds h (Drawn s n) run.0 run.1 t by.0 by.1))
+begun_drawn bounds (Drawn s n ∷ h) run t is =
+    (let by = some_of (drawer h t) (begun_drawn bounds h run.0 t is) in
+    is_some (drawer (Drawn s n ∷ h) t) by.0 (drawer_next bounds h (Drawn s n) run.0 run.1 t by.0 by.1))
 begun_drawn bounds (Declared d ∷ h) run t is = begun_drawn bounds h run.0 t is
 begun_drawn bounds (Answered u o ∷ h) run t is = begun_drawn bounds h run.0 t is
 begun_drawn bounds (Stopped s ∷ h) run t is = begun_drawn bounds h run.0 t is
@@ -178,7 +201,8 @@ pub begun_upto : (bounds : List Key) (h : History) → IsWorldRun bounds h → (
 begun_upto bounds h run t is = drawn_upto bounds h run t (begun_drawn bounds h run t is)
 
 -- a number that was just drawn did not begin yet
-pub began_drawn : (bounds : List Key) (i t : ℕ) (h : History) → IsWorldRun bounds (Drawn i t ∷ h) → began (Drawn i t ∷ h) t ≡ false
+pub began_drawn : (bounds : List Key) (i t : ℕ) (h : History) → IsWorldRun bounds (Drawn i t ∷ h)
+    → began (Drawn i t ∷ h) t ≡ false
 began_drawn bounds i t h run = go (began h t) refl
   where
     go : (b : Bool) → began h t ≡ b → began h t ≡ false
@@ -186,12 +210,14 @@ began_drawn bounds i t h run = go (began h t) refl
     go false e = e
 
 -- what was declared began, and is of its own start
-pub declared_began : (bounds : List Key) (h : History) → IsWorldRun bounds h → (t : ℕ) (d : Declaration) → declared h t ≡ Some d → began h t ≡ true
+pub declared_began : (bounds : List Key) (h : History) → IsWorldRun bounds h → (t : ℕ) (d : Declaration)
+    → declared h t ≡ Some d → began h t ≡ true
 declared_began bounds [] run t d is = absurd (cc (is))
 declared_began bounds (Declared x ∷ h) run t d is =
     elim (nat_test x.start t) [
       | inl y ↦ subst (λ n. began h n ≡ true) y.1 run.1.begun
-      | inr y ↦ (let before : declared h t ≡ Some d = subst (λ c. cond c (Some x) (declared h t) ≡ Some d) y.0 is in declared_began bounds h run.0 t d before)
+      | inr y ↦ (let before : declared h t ≡ Some d = subst (λ c. cond c (Some x) (declared h t) ≡ Some d) y.0 is in
+          declared_began bounds h run.0 t d before)
     ]
 declared_began bounds (Began u ∷ h) run t d is = began_next h (Began u) t (declared_began bounds h run.0 t d is)
 declared_began bounds (Drawn s n ∷ h) run t d is = declared_began bounds h run.0 t d is
@@ -203,8 +229,10 @@ pub declared_start : (h : History) (t : ℕ) (d : Declaration) → declared h t 
 declared_start [] t d is = absurd (cc (is))
 declared_start (Declared x ∷ h) t d is =
     elim (nat_test x.start t) [
-      | inl y ↦ (let same : x ≡ d = some_same x d (subst (λ c. cond c (Some x) (declared h t) ≡ Some d) y.0 is) in subst (λ (z : Declaration). z.start ≡ t) same y.1)
-      | inr y ↦ (let before : declared h t ≡ Some d = subst (λ c. cond c (Some x) (declared h t) ≡ Some d) y.0 is in declared_start h t d before)
+      | inl y ↦ (let same : x ≡ d = some_same x d (subst (λ c. cond c (Some x) (declared h t) ≡ Some d) y.0 is) in
+          subst (λ (z : Declaration). z.start ≡ t) same y.1)
+      | inr y ↦ (let before : declared h t ≡ Some d = subst (λ c. cond c (Some x) (declared h t) ≡ Some d) y.0 is in
+          declared_start h t d before)
     ]
 declared_start (Began u ∷ h) t d is = declared_start h t d is
 declared_start (Drawn s n ∷ h) t d is = declared_start h t d is
@@ -215,7 +243,8 @@ declared_start (Took x ∷ h) t d is = declared_start h t d is
 -- ---- owners
 
 -- the seat that makes an event stays the one
-pub owner_on : (bounds : List Key) (l h : History) → IsWorldRun bounds h → Begins l h → (e : Event) (i : ℕ) → owner l e ≡ Some i → owner h e ≡ Some i
+pub owner_on : (bounds : List Key) (l h : History) → IsWorldRun bounds h → Begins l h → (e : Event) (i : ℕ)
+    → owner l e ≡ Some i → owner h e ≡ Some i
 owner_on bounds l h run b (Drawn s n) i own = own
 owner_on bounds l h run b (Began t) i own = drawer_on bounds l h run b t i own
 owner_on bounds l h run b (Declared d) i own = drawer_on bounds l h run b d.start i own
@@ -224,7 +253,8 @@ owner_on bounds l h run b (Stopped s) i own = own
 owner_on bounds l h run b (Took x) i own = own
 
 -- each event of a world run is some seat's
-pub owner_some : (bounds : List Key) (h : History) → IsWorldRun bounds h → (e : Event) → MayCome bounds h e → owner h e ≢ None
+pub owner_some : (bounds : List Key) (h : History) → IsWorldRun bounds h → (e : Event) → MayCome bounds h e
+    → owner h e ≢ None
 owner_some bounds h run (Drawn s n) may = λ none. cc (none)
 owner_some bounds h run (Began t) may = may.0
 owner_some bounds h run (Declared d) may = begun_drawn bounds h run d.start may.begun
@@ -238,9 +268,11 @@ pub among_on : (l h : History) → Begins l h → (e : Event) → Among l e → 
 among_on l h b e = kept_on (λ x. Among x e) (λ x y among. inr among) l h b
 
 pub told_on : (l h : History) → Begins l h → (t : ℕ) (end : Fate) → WasTold l t end → WasTold h t end
-told_on l h b t end told = record { by = told.by; among = among_on l h b (Took told.by) told.among; of = told.of; tells = told.tells }
+told_on l h b t end told =
+    record { by = told.by; among = among_on l h b (Took told.by) told.among; of = told.of; tells = told.tells }
 
-accepted_next : (h : History) (e : Event) (t : ℕ) (k : Key) (by : Acceptance) → accepted h t k ≡ Some by → accepted (e ∷ h) t k ≡ Some by
+accepted_next : (h : History) (e : Event) (t : ℕ) (k : Key) (by : Acceptance) → accepted h t k ≡ Some by
+    → accepted (e ∷ h) t k ≡ Some by
 accepted_next h (Took x) t k by is = ap (accepted_by (effect_in h x) (last h) t k) is ∙ stands (effect_in h x)
   where
     stands : (e : Effect) → accepted_by e (last h) t k (Some by) ≡ Some by
@@ -254,5 +286,6 @@ accepted_next h (Declared d) t k by is = is
 accepted_next h (Answered u o) t k by is = is
 accepted_next h (Stopped s) t k by is = is
 
-pub accepted_on : (l h : History) → Begins l h → (t : ℕ) (k : Key) (by : Acceptance) → accepted l t k ≡ Some by → accepted h t k ≡ Some by
+pub accepted_on : (l h : History) → Begins l h → (t : ℕ) (k : Key) (by : Acceptance) → accepted l t k ≡ Some by
+    → accepted h t k ≡ Some by
 accepted_on l h b t k by = kept_on (λ x. accepted x t k ≡ Some by) (λ x e is. accepted_next x e t k by is) l h b

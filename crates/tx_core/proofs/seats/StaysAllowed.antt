@@ -16,7 +16,8 @@ use Rattle.tx_core.proofs.seats.StaysDecided.{decided_on, two_phase_on, shown_on
 
 module _ (bounds : List Key) (l h : History) (run : IsWorldRun bounds h) (b : Begins l h) where
   still_declared : (t : ℕ) → declared l t ≢ None → declared h t ≢ None
-  still_declared t some = (let d = some_of (declared l t) some in is_some (declared h t) d.0 (declared_on bounds l h run b t d.0 d.1))
+  still_declared t some =
+      (let d = some_of (declared l t) some in is_some (declared h t) d.0 (declared_on bounds l h run b t d.0 d.1))
 
   -- a transaction that a read may pass by
   pub may_pass_on : (r t : ℕ) → MayPass l r t → MayPass h r t
@@ -29,7 +30,8 @@ module _ (bounds : List Key) (l h : History) (run : IsWorldRun bounds h) (b : Be
         ]
       ]
 
-  decide_on : (c : Commit) (d : Declaration) → declared l c.start ≢ None → MayDecide l d.changes c → MayDecide h d.changes c
+  decide_on : (c : Commit) (d : Declaration) → declared l c.start ≢ None → MayDecide l d.changes c
+      → MayDecide h d.changes c
   decide_on c d some may =
       record {
         primary = may.primary;
@@ -41,12 +43,27 @@ module _ (bounds : List Key) (l h : History) (run : IsWorldRun bounds h) (b : Be
   pub allowed_on : (x : Body) → Allowed l x → Allowed h x
   allowed_on (body.Get x) a = λ t named. may_pass_on x.at t (a t named)
   allowed_on (body.Scan x) a = λ t named. may_pass_on x.at t (a t named)
-  allowed_on (body.Prewrite x) a = record { of = a.of; stands = declared_on bounds l h run b x.start a.of a.stands; mutation = a.mutation; primary = a.primary; mode = a.mode; max_commit = a.max_commit; floor = a.floor; ttl = a.ttl; others = a.others }
+  allowed_on (body.Prewrite x) a =
+      record {
+        of = a.of;
+        stands = declared_on bounds l h run b x.start a.of a.stands;
+        mutation = a.mutation;
+        primary =
+            a.primary;
+        mode = a.mode;
+        max_commit = a.max_commit;
+        floor = a.floor;
+        ttl = a.ttl;
+        others = a.others;
+      }
   allowed_on (body.Commit x) a =
       record {
         of = a.of;
         stands = declared_on bounds l h run b x.start a.of a.stands;
-        may = elim a.may [ inl done ↦ inl (decided_on l h b x.start (Committed x.commit) done) | inr may ↦ inr (decide_on x a.of (is_some (declared l x.start) a.of a.stands) may) ];
+        may = elim a.may [
+          | inl done ↦ inl (decided_on l h b x.start (Committed x.commit) done)
+          | inr may ↦ inr (decide_on x a.of (is_some (declared l x.start) a.of a.stands) may)
+        ];
       }
   allowed_on (body.BatchRollback x) a =
       record {
@@ -55,13 +72,29 @@ module _ (bounds : List Key) (l h : History) (run : IsWorldRun bounds h) (b : Be
         may = elim a.may [ inl gone ↦ inl (decided_on l h b x.start Aborted gone) | inr two ↦ inr two ];
       }
   allowed_on (body.TxnHeartBeat x) a = still_declared x.start a
-  allowed_on (body.CheckTxnStatus x) a = record { of = a.of; stands = declared_on bounds l h run b x.start a.of a.stands; primary = a.primary; forced = λ f. two_phase_on l h b x.start (a.forced f) }
-  allowed_on (body.CheckSecondaryLocks x) a = record { of = a.of; stands = declared_on bounds l h run b x.start a.of a.stands; async = a.async; within = a.within }
-  allowed_on (body.ResolveLock x) a = record { stands = still_declared x.start a.stands; decision = decided_on l h b x.start x.fate a.decision }
+  allowed_on (body.CheckTxnStatus x) a =
+      record {
+        of = a.of;
+        stands = declared_on bounds l h run b x.start a.of a.stands;
+        primary = a.primary;
+        forced =
+            λ f. two_phase_on l h b x.start (a.forced f);
+      }
+  allowed_on (body.CheckSecondaryLocks x) a =
+      record {
+        of = a.of;
+        stands = declared_on bounds l h run b x.start a.of a.stands;
+        async = a.async;
+        within =
+            a.within;
+      }
+  allowed_on (body.ResolveLock x) a =
+      record { stands = still_declared x.start a.stands; decision = decided_on l h b x.start x.fate a.decision }
   allowed_on (body.RaiseSafe x) a = tt
   allowed_on (body.LocksBelow x) a = tt
   allowed_on (body.Collect x) a = tt
 
 -- after the events of a world run that goes on from it
-pub allowed_later : (bounds : List Key) (more h : History) (x : Body) → IsWorldRun bounds (more ++ h) → Allowed h x → Allowed (more ++ h) x
+pub allowed_later : (bounds : List Key) (more h : History) (x : Body) → IsWorldRun bounds (more ++ h) → Allowed h x
+    → Allowed (more ++ h) x
 allowed_later bounds more h x run = allowed_on bounds h (more ++ h) run (begins_append more h) x

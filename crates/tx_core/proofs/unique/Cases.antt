@@ -19,7 +19,8 @@ one_case here else (inl x) (inr y) = absurd (y.0 x.0)
 one_case here else (inr x) (inl y) = absurd (x.0 y.0)
 one_case here else (inr x) (inr y) = else x.1 y.1
 
-pub one_case_of : {X : Type 0} {C P S : X → Type 0} {Q T R : Type 0} → ((x y : X) → C x → C y → P x → S y → R) → (Q → T → R) → CaseOf C P Q → CaseOf C S T → R
+pub one_case_of : {X : Type 0} {C P S : X → Type 0} {Q T R : Type 0} → ((x y : X) → C x → C y → P x → S y → R)
+    → (Q → T → R) → CaseOf C P Q → CaseOf C S T → R
 one_case_of here else (inl (x, c, p)) (inl (y, d, s)) = here x y c d p s
 one_case_of here else (inl (x, c, p)) (inr (none, t)) = absurd (none x c)
 one_case_of here else (inr (none, q)) (inl (y, d, s)) = absurd (none y d)
@@ -38,7 +39,8 @@ pub one_lock : (standing : Option Lock) (x y : Lock) → standing ≡ Some x →
 one_lock standing x y is also = some_same x y (sym is ∙ also)
 
 -- there is one commit record at a timestamp
-pub one_record : (write : Writes) (c : ℕ) (x y : CommitRecord) → write c ≡ Some (CommitOf x) → write c ≡ Some (CommitOf y) → x ≡ y
+pub one_record : (write : Writes) (c : ℕ) (x y : CommitRecord) → write c ≡ Some (CommitOf x)
+    → write c ≡ Some (CommitOf y) → x ≡ y
 one_record write c x y is also = cc
 
 -- ---- reads
@@ -50,12 +52,16 @@ module _ (write : Writes) (r : ℕ) where
 
   -- of two newest puts none is newer
   not_newer : (v u : Value) (x : Finds write r v) (y : Finds write r u) → y.at ≤ x.at
-  not_newer v u x y = elim (cases_lt x.at y.at) [ inl lt ↦ absurd (x.newest y.at y.rec y.stands (is_seen u y) lt y.upto) | inr le ↦ le ]
+  not_newer v u x y = elim (cases_lt x.at y.at) [
+    | inl lt ↦ absurd (x.newest y.at y.rec y.stands (is_seen u y) lt y.upto)
+    | inr le ↦ le
+  ]
 
   one_found : (v u : Value) → Finds write r v → Finds write r u → v ≡ u
   one_found v u x y =
       let at : y.at ≡ x.at = omega (arith, not_newer v u x y, not_newer u v y x) in
-      let rec : x.rec ≡ y.rec = one_record write x.at x.rec y.rec x.stands (subst (λ n. write n ≡ Some (CommitOf y.rec)) at y.stands) in
+      let rec : x.rec ≡ y.rec =
+      one_record write x.at x.rec y.rec x.stands (subst (λ n. write n ≡ Some (CommitOf y.rec)) at y.stands) in
       cc (rec, x.puts, y.puts)
 
   -- a read finds one thing

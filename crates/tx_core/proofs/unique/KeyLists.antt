@@ -24,7 +24,8 @@ contains_cases x xs y (zero, lt, e) = inl e
 contains_cases x xs y (suc k, lt, e) = inr (k, omega (arith, lt), e)
 
 -- a member of a filtered list is a member that passes the test
-pub contains_passing : {X : Type 0} (test : X → Bool) (xs : List X) (x : X) → Contains xs x → test x ≡ true → Contains (filter test xs) x
+pub contains_passing : {X : Type 0} (test : X → Bool) (xs : List X) (x : X) → Contains xs x → test x ≡ true
+    → Contains (filter test xs) x
 contains_passing test [] x c e = absurd (contains_none x c)
 contains_passing test (y ∷ xs) x c e =
     elim (cases_Bool (test y)) [
@@ -38,15 +39,18 @@ contains_passing test (y ∷ xs) x c e =
       ]))
     ]
 
-pub passing_contained : {X : Type 0} (test : X → Bool) (xs : List X) (x : X) → Contains (filter test xs) x → Contains xs x × (test x ≡ true)
+pub passing_contained : {X : Type 0} (test : X → Bool) (xs : List X) (x : X) → Contains (filter test xs) x
+    → Contains xs x × (test x ≡ true)
 passing_contained test [] x c = absurd (contains_none x c)
 passing_contained test (y ∷ xs) x c =
     elim (cases_Bool (test y)) [
-      | inl passes ↦ (let d : Contains (y ∷ filter test xs) x = rw passes at c in elim (contains_cases y (filter test xs) x d) [
-        | inl is ↦ (subst (Contains (y ∷ xs)) is (contains_first y xs), subst (λ z. test z ≡ true) is passes)
-        | inr later ↦ (let rest = passing_contained test xs x later in (contains_next y xs x rest.0, rest.1))
-      ])
-      | inr fails ↦ (let d : Contains (filter test xs) x = rw fails at c in let rest = passing_contained test xs x d in (contains_next y xs x rest.0, rest.1))
+      | inl passes ↦ (let d : Contains (y ∷ filter test xs) x = rw passes at c in
+          elim (contains_cases y (filter test xs) x d) [
+            | inl is ↦ (subst (Contains (y ∷ xs)) is (contains_first y xs), subst (λ z. test z ≡ true) is passes)
+            | inr later ↦ (let rest = passing_contained test xs x later in (contains_next y xs x rest.0, rest.1))
+          ])
+      | inr fails ↦ (let d : Contains (filter test xs) x = rw fails at c in let rest = passing_contained test xs x d in
+          (contains_next y xs x rest.0, rest.1))
     ]
 
 -- ---- lists in which nothing is twice
@@ -57,8 +61,10 @@ Once {X} (x ∷ xs) = ((y : X) → Contains xs y → x ≢ y) × Once xs
 
 pub once_pairs : {X : Type 0} (xs : List X) → AllPairs (λ x y. x ≢ y) xs → Once xs
 once_pairs [] pairs = tt
-once_pairs (x ∷ xs) pairs =
-    (λ y c e. pairs zero (suc c.0) y (omega arith) (omega (arith, c.1)) (e ∙ sym c.2), once_pairs xs (λ i j d lt bound. pairs (suc i) (suc j) d (omega (arith, lt)) (omega (arith, bound))))
+once_pairs (x ∷ xs) pairs = (
+  λ y c e. pairs zero (suc c.0) y (omega arith) (omega (arith, c.1)) (e ∙ sym c.2),
+  once_pairs xs (λ i j d lt bound. pairs (suc i) (suc j) d (omega (arith, lt)) (omega (arith, bound))),
+)
 
 pub once_filter : {X : Type 0} (test : X → Bool) (xs : List X) → Once xs → Once (filter test xs)
 once_filter test [] once = tt
@@ -79,9 +85,11 @@ length_without [] k lt = absurd (omega (arith, lt))
 length_without (y ∷ ys) zero lt = omega arith
 length_without (y ∷ ys) (suc k) lt = let rest = length_without ys k (omega (arith, lt)) in omega (arith, rest)
 
-still_contained : {X : Type 0} (ys : List X) (k : ℕ) (d z : X) → k < length ys → Contains ys z → (slice_index_or ys k d ≡ z → ⊥) → Contains (without ys k) z
+still_contained : {X : Type 0} (ys : List X) (k : ℕ) (d z : X) → k < length ys → Contains ys z
+    → (slice_index_or ys k d ≡ z → ⊥) → Contains (without ys k) z
 still_contained [] k d z lt c other = absurd (contains_none z c)
-still_contained (y ∷ ys) zero d z lt c other = elim (contains_cases y ys z c) [ inl e ↦ absurd (other e) | inr later ↦ later ]
+still_contained (y ∷ ys) zero d z lt c other =
+    elim (contains_cases y ys z c) [ inl e ↦ absurd (other e) | inr later ↦ later ]
 still_contained (y ∷ ys) (suc k) d z lt c other =
     elim (contains_cases y ys z c) [
       | inl e ↦ subst (Contains (y ∷ without ys k)) e (contains_first y (without ys k))
@@ -93,7 +101,8 @@ pub fewer : {X : Type 0} (xs ys : List X) → Once xs → ((x : X) → Contains 
 fewer [] ys once all = omega arith
 fewer (x ∷ xs) ys once all =
     let at = all x (contains_first x xs) in
-    let rest = fewer xs (without ys at.0) once.1 (λ z c. still_contained ys at.0 x z at.1 (all z (contains_next x xs z c)) (λ e. once.0 z c (sym at.2 ∙ e))) in
+    let rest = fewer xs (without ys at.0) once.1
+    (λ z c. still_contained ys at.0 x z at.1 (all z (contains_next x xs z c)) (λ e. once.0 z c (sym at.2 ∙ e))) in
     omega (arith, rest, length_without ys at.0 at.1)
 
 -- ---- lists in the order of their keys
@@ -107,17 +116,25 @@ module _ {X : Type 0} (key : X → Key) where
   -- so nothing is in it twice
   pub order_once : (xs : List X) → InOrder xs → Once xs
   order_once [] h = tt
-  order_once (x ∷ xs) h = (λ y c e. lt_itself (key x) (subst (λ z. IsTrue (key_lt (key x) (key z))) (sym e) (h.0 y c)), order_once xs h.1)
+  order_once (x ∷ xs) h =
+      (λ y c e. lt_itself (key x) (subst (λ z. IsTrue (key_lt (key x) (key z))) (sym e) (h.0 y c)), order_once xs h.1)
 
   -- a list whose neighbours are in order is in order
   pub order_one : (x : X) → InOrder (x ∷ [])
   order_one x = (λ y c. absurd (contains_none y c), tt)
 
   pub order_more : (x y : X) (xs : List X) → IsTrue (key_lt (key x) (key y)) → InOrder (y ∷ xs) → InOrder (x ∷ y ∷ xs)
-  order_more x y xs lt h = (λ z c. elim (contains_cases y xs z c) [ inl e ↦ subst (λ w. IsTrue (key_lt (key x) (key w))) e lt | inr later ↦ lt_trans (key x) (key y) (key z) lt (h.0 z later) ], h)
+  order_more x y xs lt h = (
+    λ z c. elim (contains_cases y xs z c) [
+      | inl e ↦ subst (λ w. IsTrue (key_lt (key x) (key w))) e lt
+      | inr later ↦ lt_trans (key x) (key y) (key z) lt (h.0 z later)
+    ],
+    h,
+  )
 
   -- such a list that has no member but those of another, and is no shorter, is the other
-  pub one_list : (xs ys : List X) → InOrder xs → InOrder ys → ((x : X) → Contains xs x → Contains ys x) → length ys ≤ length xs → xs ≡ ys
+  pub one_list : (xs ys : List X) → InOrder xs → InOrder ys → ((x : X) → Contains xs x → Contains ys x)
+      → length ys ≤ length xs → xs ≡ ys
   one_list [] [] p q all le = refl
   one_list [] (y ∷ ys) p q all le = absurd (omega (arith, le))
   one_list (x ∷ xs) [] p q all le = absurd (contains_none x (all x (contains_first x xs)))
@@ -131,7 +148,8 @@ module _ {X : Type 0} (key : X → Key) where
       others : y ≡ x → (z : X) → Contains xs z → Contains ys z
       others e z c =
           elim (contains_cases y ys z (all z (contains_next x xs z c))) [
-            | inl same ↦ absurd (lt_itself (key x) (subst (λ w. IsTrue (key_lt (key x) (key w))) (sym same ∙ e) (p.0 z c)))
+            | inl same ↦ absurd (lt_itself (key x)
+                (subst (λ w. IsTrue (key_lt (key x) (key w))) (sym same ∙ e) (p.0 z c)))
             | inr there ↦ there
           ]
 
@@ -141,7 +159,8 @@ module _ {X : Type 0} (key : X → Key) where
           elim (contains_cases x xs z c) [
             | inl e ↦ subst (Contains ys) e later
             | inr rest ↦ elim (contains_cases y ys z (all z c)) [
-              | inl same ↦ absurd (lt_back (key x) (key y) (subst (λ w. IsTrue (key_lt (key x) (key w))) (sym same) (p.0 z rest)) (q.0 x later))
+              | inl same ↦ absurd (lt_back (key x) (key y)
+                  (subst (λ w. IsTrue (key_lt (key x) (key w))) (sym same) (p.0 z rest)) (q.0 x later))
               | inr there ↦ there
             ]
           ]

@@ -86,13 +86,16 @@ view bounds h =
 
 -- ---- events that no region takes change the view as the changes say
 
-pub view_drawn : (bounds : List Key) (h : History) (seat n : ℕ) → ◌≡◌ {A = View} (view bounds (Drawn seat n ∷ h)) (drawing (view bounds h) seat n)
+pub view_drawn : (bounds : List Key) (h : History) (seat n : ℕ)
+    → ◌≡◌ {A = View} (view bounds (Drawn seat n ∷ h)) (drawing (view bounds h) seat n)
 view_drawn bounds h seat n = refl
 
-pub view_began : (bounds : List Key) (h : History) (t : ℕ) → ◌≡◌ {A = View} (view bounds (Began t ∷ h)) (beginning (view bounds h) t)
+pub view_began : (bounds : List Key) (h : History) (t : ℕ)
+    → ◌≡◌ {A = View} (view bounds (Began t ∷ h)) (beginning (view bounds h) t)
 view_began bounds h t = refl
 
-pub view_declared : (bounds : List Key) (h : History) (d : Declaration) → ◌≡◌ {A = View} (view bounds (Declared d ∷ h)) (declaring (view bounds h) d)
+pub view_declared : (bounds : List Key) (h : History) (d : Declaration)
+    → ◌≡◌ {A = View} (view bounds (Declared d ∷ h)) (declaring (view bounds h) d)
 view_declared bounds h d = refl
 
 -- ---- at first
@@ -101,7 +104,13 @@ view_declared bounds h d = refl
 pub inv_first : (bounds : List Key) → Inv (view bounds [])
 inv_first bounds =
     record {
-      clock = record { drawn = λ t some. absurd (some refl); begun = λ t e. absurd (cc (e)); declares = λ t some. absurd (some refl); decides = λ t some. absurd (some refl) };
+      clock = record {
+        drawn = λ t some. absurd (some refl);
+        begun = λ t e. absurd (cc (e));
+        declares =
+            λ t some. absurd (some refl);
+        decides = λ t some. absurd (some refl);
+      };
       marks = record { upto = λ k r e. absurd e; known = λ k r e. absurd e; low = λ k. omega arith };
       acceptances = λ t k by e. absurd (cc (e));
       keys = λ k. record {
@@ -113,7 +122,12 @@ inv_first bounds =
           rolled = λ t own. elim own [ inl e ↦ absurd (cc (e)) | inr x ↦ absurd (cc (x.1.stands)) ];
           newest = λ q rec e. absurd (cc (e));
         };
-        kept = record { complete = λ u d m e. absurd (cc (e)); held = λ t some. absurd (some refl); cleared = λ t some. absurd (some refl) };
+        kept = record {
+          complete = λ u d m e. absurd (cc (e));
+          held = λ t some. absurd (some refl);
+          cleared =
+              λ t some. absurd (some refl);
+        };
       };
       commits = λ t c e. absurd (cc (e));
       unread = λ t k by e. absurd (cc (e));

@@ -39,7 +39,9 @@ contains_cases (x ∷ xs) n =
     go (suc k) low at other none = none (k, omega (arith, low), at)
 
 -- where no lock blocks a read and it may pass by each transaction that it names, it meets no lock
-pub unblocked : (w : View) (covers : Key → Bool) (r : ℕ) (bypass : List ℕ) → ((k : Key) (lock : Lock) → IsTrue (covers k) → Blocks (w.cells k).lock r bypass lock → ⊥) → ((t : ℕ) → Contains bypass t → Passes w.decided w.shown r t) → Unblocked w covers r
+pub unblocked : (w : View) (covers : Key → Bool) (r : ℕ) (bypass : List ℕ)
+    → ((k : Key) (lock : Lock) → IsTrue (covers k) → Blocks (w.cells k).lock r bypass lock → ⊥)
+    → ((t : ℕ) → Contains bypass t → Passes w.decided w.shown r t) → Unblocked w covers r
 unblocked w covers r bypass free may k lock inside stands v =
     elim (cases_lt r lock.min) [
       | inl below ↦ inl below
@@ -50,7 +52,11 @@ unblocked w covers r bypass free may k lock inside stands v =
     ]
 
 -- a scan whose walk was free
-module _ (steps : List Step) (w : View) (b : Scan) (rows : List KeyValue) (s : Sound steps w) (upto : b.at ≤ w.last) (fresh : (k : Key) → IsTrue (in_range b k) → w.collected k ≤ b.at) (here : (k : Key) → IsTrue (in_range b k) → b.at ≤ w.floor k) (may : (t : ℕ) → Contains b.bypass t → Passes w.decided w.shown b.at t) (few : length rows ≤ b.limit) (walked : Walked w.cells b.at b.bypass (reads.covered b rows) rows) where
+module _ (steps : List Step) (w : View) (b : Scan) (rows : List KeyValue) (s : Sound steps w) (upto :
+    b.at ≤ w.last) (fresh : (k : Key) → IsTrue (in_range b k) → w.collected k ≤ b.at) (here : (k : Key)
+    → IsTrue (in_range b k) → b.at ≤ w.floor k) (may : (t : ℕ) → Contains b.bypass t
+    → Passes w.decided w.shown b.at t) (few : length rows ≤ b.limit) (walked :
+    Walked w.cells b.at b.bypass (reads.covered b rows) rows) where
   in_its_range : (k : Key) → IsTrue (covered (scan_read b rows) k) → IsTrue (in_range b k)
   in_its_range k inside = (and_parts (in_range b k) (nat_lt (length rows) b.limit || reaches rows k) inside).0
 
@@ -60,7 +66,9 @@ module _ (steps : List Step) (w : View) (b : Scan) (rows : List KeyValue) (s : S
   -- its rows are what the machine sees
   pub walked_rows : SeesRows (table_of steps).row (scan_read b rows)
   walked_rows =
-      sees_rows steps w (scan_read b rows) s (λ k inside. fresh k (in_its_range k inside)) meets_none walked.rising walked.inside few walked.read
+      sees_rows steps w (scan_read b rows) s (λ k inside. fresh k (in_its_range k inside)) meets_none walked.rising
+      walked.inside few walked.read
 
   pub sound_walk : Sound (step.Scan (scan_read b rows) ∷ steps) (reading w (covered (scan_read b rows)) b.at)
-  sound_walk = sound_scan steps w (scan_read b rows) s upto (λ k inside. here k (in_its_range k inside)) meets_none walked_rows
+  sound_walk = sound_scan steps w (scan_read b rows) s upto (λ k inside. here k (in_its_range k inside)) meets_none
+      walked_rows

@@ -48,14 +48,23 @@ pub record Sound (steps : List Step) (w : View) : Type 0 where
   pub run : IsRun steps
 
 -- the row of a declared transaction
-pub row_declared : (w : View) (t : ℕ) (d : Declaration) → Inv w → w.declared t ≡ Some d → row_of w t ≡ Some record { changes = Some d.changes; state = w.decided t }
+pub row_declared : (w : View) (t : ℕ) (d : Declaration) → Inv w → w.declared t ≡ Some d
+    → row_of w t ≡ Some record { changes = Some d.changes; state = w.decided t }
 row_declared w t d i e = rw (i.clock.declares t (λ none. (cc (none, e))), e) refl
 
 -- what stands in the table is so in the view
-pub row_parts : (w : View) (t : ℕ) (set : List Change) (s : State) → row_of w t ≡ Some record { changes = Some set; state = s } → (w.decided t ≡ s) × (set_of (w.declared t) ≡ set)
+pub row_parts : (w : View) (t : ℕ) (set : List Change) (s : State)
+    → row_of w t ≡ Some record { changes = Some set; state = s } → (w.decided t ≡ s) × (set_of (w.declared t) ≡ set)
 row_parts w t set s e =
-    elim (chosen (w.began t) (Some record { changes = changes_of (w.declared t); state = w.decided t }) None (Some record { changes = Some set; state = s }) e) [
-      | inl x ↦ (let same = some_same record { changes = changes_of (w.declared t); state = w.decided t } record { changes = Some set; state = s } x.1 in (ap (λ (r : Row). r.state) same, by_changes (w.declared t) (ap (λ (r : Row). r.changes) same)))
+    elim (chosen (w.began t) (Some record { changes = changes_of (w.declared t); state = w.decided t }) None
+    (Some record { changes = Some set; state = s }) e) [
+      | inl x ↦ (let same =
+          some_same record { changes = changes_of (w.declared t); state = w.decided t } record {
+            changes =
+                Some set;
+            state = s;
+          } x.1 in
+          (ap (λ (r : Row). r.state) same, by_changes (w.declared t) (ap (λ (r : Row). r.changes) same)))
       | inr x ↦ absurd (cc (x.1))
     ]
   where
@@ -66,7 +75,8 @@ row_parts w t set s e =
 -- ---- mutations as locks have them
 
 -- what is done so was declared as some mutation
-of_does : (o : Option Mutation) (m : Mutation) → option_map as_locked o ≡ Some m → (n : Mutation) × (o ≡ Some n) × (as_locked n ≡ m)
+of_does : (o : Option Mutation) (m : Mutation) → option_map as_locked o ≡ Some m
+    → (n : Mutation) × (o ≡ Some n) × (as_locked n ≡ m)
 of_does None m e = absurd (cc (e))
 of_does (Some n) m e = (n, refl, some_same (as_locked n) m e)
 
@@ -96,7 +106,8 @@ locked_visible mutation.Lock h = h
 
 -- ---- the commits of the table are those of the view, and the other way round
 
-pub commits_is : (table : Table) (w : View) (k : Key) (u c : ℕ) (m : Mutation) → Shows table w → Commits table.row k u c m → IsCommitted w.decided u c × Does w.declared u k (as_locked m)
+pub commits_is : (table : Table) (w : View) (k : Key) (u c : ℕ) (m : Mutation) → Shows table w
+    → Commits table.row k u c m → IsCommitted w.decided u c × Does w.declared u k (as_locked m)
 commits_is table w k u c m s h =
     let parts = row_parts w u h.set (Done (Committed c)) (sym (s.row u) ∙ h.row_is) in
     (parts.0, declared_does w.declared u k m (ap (λ set. mutation_at set k) parts.1 ∙ h.does))
@@ -107,7 +118,8 @@ pub record HasCommitted (table : Table) (k : Key) (u c : ℕ) (m : Mutation) : T
   pub commits : Commits table.row k u c declared
   pub does : as_locked declared ≡ m
 
-pub is_commits : (table : Table) (w : View) (k : Key) (u c : ℕ) (m : Mutation) → Inv w → Shows table w → IsCommitted w.decided u c → Does w.declared u k m → HasCommitted table k u c m
+pub is_commits : (table : Table) (w : View) (k : Key) (u c : ℕ) (m : Mutation) → Inv w → Shows table w
+    → IsCommitted w.decided u c → Does w.declared u k m → HasCommitted table k u c m
 is_commits table w k u c m i s end does =
     let of = some_of (w.declared u) (i.clock.decides u (λ o. (cc (o, end)))) in
     let n = of_does (mutation_at (set_of (w.declared u)) k) m does in
@@ -115,65 +127,91 @@ is_commits table w k u c m i s end does =
       declared = n.0;
       commits = record {
         set = of.0.changes;
-        row_is = s.row u ∙ row_declared w u of.0 i of.1 ∙ ap (λ x. Some record { changes = Some of.0.changes; state = x }) end;
+        row_is = s.row u ∙ row_declared w u of.0 i of.1
+            ∙ ap (λ x. Some record { changes = Some of.0.changes; state = x }) end;
         does = sym (ap (λ o. mutation_at (set_of o) k) of.1) ∙ n.1;
       };
       does = n.2;
     }
 
-is_seen : (table : Table) (k : Key) (u c : ℕ) (m : Mutation) (x : HasCommitted table k u c m) → IsVisible m → IsVisible x.declared
+is_seen : (table : Table) (k : Key) (u c : ℕ) (m : Mutation) (x : HasCommitted table k u c m) → IsVisible m
+    → IsVisible x.declared
 is_seen table k u c m x v = locked_visible x.declared (subst IsVisible (sym x.does) v)
 
 -- where the view says that there is no value, a read of the table sees none
-sees_no_value : (table : Table) (w : View) (k : Key) (r : ℕ) → Inv w → Shows table w → HasNoValue w.declared w.decided k r → Sees table.row k r None
+sees_no_value : (table : Table) (w : View) (k : Key) (r : ℕ) → Inv w → Shows table w
+    → HasNoValue w.declared w.decided k r → Sees table.row k r None
 sees_no_value table w k r i s none m v new puts =
     let of = commits_is table w k new.start new.at m s new.commits in
-    let later = none new.start new.at v of.0 (subst (Does w.declared new.start k) (put_locked m v puts) of.1) new.upto in
+    let later = none new.start new.at v of.0 (subst (Does w.declared new.start k) (put_locked m v puts) of.1)
+    new.upto in
     let x = is_commits table w k later.start later.at later.mutation i s later.committed later.does in
-    new.newest later.start later.at x.declared x.commits (is_seen table k later.start later.at later.mutation x later.visible) later.above later.upto
+    new.newest later.start later.at x.declared x.commits
+    (is_seen table k later.start later.at later.mutation x later.visible) later.above later.upto
 
 -- who is decided has ended so in the machine
-pub has_ended : (table : Table) (w : View) (t : ℕ) (e : Fate) → Inv w → Shows table w → w.decided t ≡ Done e → HasEnded table t e
+pub has_ended : (table : Table) (w : View) (t : ℕ) (e : Fate) → Inv w → Shows table w → w.decided t ≡ Done e
+    → HasEnded table t e
 has_ended table w t e i s end =
-    let of = some_of (w.declared t) (i.clock.decides t (λ o. (cc (o, end)))) in
-    (Some of.0.changes, s.row t ∙ row_declared w t of.0 i of.1 ∙ ap (λ x. Some record { changes = Some of.0.changes; state = x }) end)
+    let of = some_of (w.declared t) (i.clock.decides t (λ o. (cc (o, end)))) in (
+      Some of.0.changes,
+      s.row t ∙ row_declared w t of.0 i of.1
+          ∙ ap (λ x. Some record { changes = Some of.0.changes; state = x }) end,
+    )
 
 -- the machine may commit what the view may decide
 pub may_commit : (table : Table) (w : View) (t c : ℕ) → Inv w → Shows table w → CanDecide w t c → MayCommit table t c
 may_commit table w t c i s may =
     let of = some_of (w.declared t) may.declared in
-    let declares : (k : Key) (m : Mutation) → mutation_at of.0.changes k ≡ Some m → mutation_at (set_of (w.declared t)) k ≡ Some m = λ k m e. ap (λ x. mutation_at (set_of x) k) of.1 ∙ e in
-    let does_to : (k : Key) (m : Mutation) → mutation_at of.0.changes k ≡ Some m → Does w.declared t k (as_locked m) = λ k m e. declared_does w.declared t k m (declares k m e) in
+    let declares : (k : Key) (m : Mutation) → mutation_at of.0.changes k ≡ Some m
+    → mutation_at (set_of (w.declared t)) k ≡ Some m = λ k m e. ap (λ x. mutation_at (set_of x) k) of.1 ∙ e in
+    let does_to : (k : Key) (m : Mutation) → mutation_at of.0.changes k ≡ Some m → Does w.declared t k (as_locked m) =
+    λ k m e. declared_does w.declared t k m (declares k m e) in
     record {
       set = of.0.changes;
-      opened = s.row t ∙ row_declared w t of.0 i of.1 ∙ ap (λ x. Some record { changes = Some of.0.changes; state = x }) may.opened;
+      opened = s.row t ∙ row_declared w t of.0 i of.1
+          ∙ ap (λ x. Some record { changes = Some of.0.changes; state = x }) may.opened;
       above = may.above;
       upto = omega (arith, may.upto, s.last);
       unread = λ k m r e v read.
           let does = does_to k m e in
           let by = some_of (w.accepted t k) (may.accepts k (does_within w.declared t k (as_locked m) does)) in
-          elim (i.unread t k by.0 by.1 may.opened (as_locked m) does (visible_locked m v) r (s.reads k r read)) [ inl x ↦ omega (arith, x, may.bounds k by.0 by.1) | inr x ↦ omega (arith, x, may.shown) ];
+          elim (i.unread t k by.0 by.1 may.opened (as_locked m) does (visible_locked m v) r (s.reads k r read))
+          [ inl x ↦ omega (arith, x, may.bounds k by.0 by.1) | inr x ↦ omega (arith, x, may.shown) ];
       fresh = λ k v e.
           let does = does_to k (mutation.Insert v) e in
-          let own = (i.keys k).kept.held t (may.accepts k (does_within w.declared t k (mutation.Put v) does)) may.opened in
-          let unseen = ((i.keys k).alone own.lock own.stands).unseen v (ap (λ q. mutation_at (set_of (w.declared q)) k) own.own ∙ declares k (mutation.Insert v) e) in
+          let own = (i.keys k).kept.held t (may.accepts k (does_within w.declared t k (mutation.Put v) does))
+          may.opened in
+          let unseen = ((i.keys k).alone own.lock own.stands).unseen v
+          (ap (λ q. mutation_at (set_of (w.declared q)) k) own.own ∙ declares k (mutation.Insert v) e) in
           sees_no_value table w k t i s (subst (HasNoValue w.declared w.decided k) own.own unseen);
       apart = λ k m n u d e commits overlap.
-          let own = (i.keys k).kept.held t (may.accepts k (does_within w.declared t k (as_locked m) (does_to k m e))) may.opened in
+          let own = (i.keys k).kept.held t (may.accepts k (does_within w.declared t k (as_locked m) (does_to k m e)))
+          may.opened in
           let of_u = commits_is table w k u d n s commits in
           elim (nat_test u own.lock.start) [
             | inl x ↦ (cc (may.opened, own.own, x.1, of_u.0))
-            | inr x ↦ omega (arith, ((i.keys k).alone own.lock own.stands).above u d (as_locked n) of_u.0 of_u.1 x.1, own.own, overlap.0)
+            | inr x ↦ omega (
+              arith,
+              ((i.keys k).alone own.lock own.stands).above u d (as_locked n) of_u.0 of_u.1 x.1,
+              own.own,
+              overlap.0,
+            )
           ];
     }
 
 -- what the cells give a read is what the machine's table sees, where no lock stops the read and the
 -- collection does not lie above it
-module _ (table : Table) (w : View) (covers : Key → Bool) (r : ℕ) (i : Inv w) (s : Shows table w) (free : Unblocked w covers r) (k : Key) (inside : IsTrue (covers k)) (fresh : w.collected k ≤ r) where
+module _ (table : Table) (w : View) (covers : Key
+    → Bool) (r : ℕ) (i : Inv w) (s : Shows table w) (free : Unblocked w covers r) (k : Key) (inside :
+    IsTrue (covers k)) (fresh : w.collected k ≤ r) where
   -- a lock that still stands hides no commit that the read should see
-  unhidden : (u c : ℕ) (m : Mutation) → IsCommitted w.decided u c → Does w.declared u k m → IsVisible m → c ≤ r → Held (w.cells k) u → ⊥
+  unhidden : (u c : ℕ) (m : Mutation) → IsCommitted w.decided u c → Does w.declared u k m → IsVisible m → c ≤ r
+      → Held (w.cells k) u → ⊥
   unhidden u c m end does v upto x =
-      let same : m ≡ x.lock.mutation = one_does w.declared u x.lock.start k m x.lock.mutation (sym x.own) does ((i.keys k).lock x.lock x.stands).does in
+      let same : m ≡ x.lock.mutation =
+      one_does w.declared u x.lock.start k m x.lock.mutation (sym x.own) does
+      ((i.keys k).lock x.lock x.stands).does in
       let own : IsCommitted w.decided x.lock.start c = ap w.decided x.own ∙ end in
       elim (free k x.lock inside x.stands (subst IsVisible same v)) [
         | inl below ↦ omega (arith, below, lock_ends w k x.lock c i x.stands own, upto)
@@ -188,32 +226,47 @@ module _ (table : Table) (w : View) (covers : Key → Bool) (r : ℕ) (i : Inv w
 
   -- a record does what its transaction was declared to do
   record_does : (u c : ℕ) (m : Mutation) → Does w.declared u k m → (x : Written (w.cells k) u c) → x.rec.mutation ≡ m
-  record_does u c m does x = one_does w.declared x.rec.start u k x.rec.mutation m x.own ((i.keys k).records.does c x.rec x.stands) does
+  record_does u c m does x =
+      one_does w.declared x.rec.start u k x.rec.mutation m x.own ((i.keys k).records.does c x.rec x.stands) does
 
-  none_between : (at : ℕ) (rec : CommitRecord) → (w.cells k).write at ≡ Some (CommitOf rec) → IsVisible rec.mutation → NoneWritten (w.cells k).write at r → NoneBetween table.row k at r
+  none_between : (at : ℕ) (rec : CommitRecord) → (w.cells k).write at ≡ Some (CommitOf rec) → IsVisible rec.mutation
+      → NoneWritten (w.cells k).write at r → NoneBetween table.row k at r
   none_between at rec stands seen none u c m commits v above upto =
       let of = commits_is table w k u c m s commits in
       elim ((i.keys k).kept.complete u c (as_locked m) of.0 of.1) [
-        | inl x ↦ none c x.rec x.stands (subst IsVisible (sym (record_does u c (as_locked m) of.1 x)) (visible_locked m v)) above upto
+        | inl x ↦ none c x.rec x.stands
+            (subst IsVisible (sym (record_does u c (as_locked m) of.1 x)) (visible_locked m v)) above upto
         | inr rest ↦ elim rest [
           | inl x ↦ unhidden u c (as_locked m) of.0 of.1 (visible_locked m v) upto x
-          | inr gone ↦ (i.keys k).records.newest at rec stands seen (omega (arith, gone.below, above)) u c (as_locked m) of.0 of.1 (visible_locked m v) above (omega (arith, gone.below))
+          | inr gone ↦ (i.keys k).records.newest at rec stands seen (omega (arith, gone.below, above)) u c (as_locked m)
+              of.0 of.1 (visible_locked m v) above (omega (arith, gone.below))
         ]
       ]
 
   sees_put : (v : Value) → Finds (w.cells k).write r v → (m : Mutation) × Newest table.row k r m × (put_by m ≡ Some v)
   sees_put v h =
-      let x = is_commits table w k h.rec.start h.at (mutation.Put v) i s ((i.keys k).records.committed h.at h.rec h.stands) ((i.keys k).records.does h.at h.rec h.stands ∙ ap (λ m. Some m) h.puts) in (
+      let x = is_commits table w k h.rec.start h.at (mutation.Put v) i s
+      ((i.keys k).records.committed h.at h.rec h.stands) ((i.keys k).records.does h.at h.rec h.stands
+      ∙ ap (λ m. Some m) h.puts) in (
         x.declared,
-        record { start = h.rec.start; at = h.at; commits = x.commits; upto = h.upto; newest = none_between h.at h.rec h.stands (subst IsVisible (sym h.puts) tt) h.newest },
+        record {
+          start = h.rec.start;
+          at = h.at;
+          commits = x.commits;
+          upto = h.upto;
+          newest =
+              none_between h.at h.rec h.stands (subst IsVisible (sym h.puts) tt) h.newest;
+        },
         sym (locked_put x.declared) ∙ ap put_by x.does,
       )
 
   -- the newest put that the machine knows stands on the key
-  sees_none : ((v : Value) → Finds (w.cells k).write r v → ⊥) → (m : Mutation) (v : Value) → Newest table.row k r m → put_by m ≡ Some v → ⊥
+  sees_none : ((v : Value) → Finds (w.cells k).write r v → ⊥) → (m : Mutation) (v : Value) → Newest table.row k r m
+      → put_by m ≡ Some v → ⊥
   sees_none h m v new puts =
       let of = commits_is table w k new.start new.at m s new.commits in
-      let does : Does w.declared new.start k (mutation.Put v) = subst (Does w.declared new.start k) (put_locked m v puts) of.1 in
+      let does : Does w.declared new.start k (mutation.Put v) =
+      subst (Does w.declared new.start k) (put_locked m v puts) of.1 in
       elim ((i.keys k).kept.complete new.start new.at (mutation.Put v) of.0 does) [
         | inl x ↦ h v record {
           at = new.at;
@@ -221,13 +274,20 @@ module _ (table : Table) (w : View) (covers : Key → Bool) (r : ℕ) (i : Inv w
           stands = x.stands;
           puts = record_does new.start new.at (mutation.Put v) does x;
           upto = new.upto;
-          newest = λ c rec e seen low high. (let y = is_commits table w k rec.start c rec.mutation i s ((i.keys k).records.committed c rec e) ((i.keys k).records.does c rec e) in new.newest rec.start c y.declared y.commits (is_seen table k rec.start c rec.mutation y seen) low high);
+          newest = λ c rec e seen low high. (let y =
+              is_commits table w k rec.start c rec.mutation i s ((i.keys k).records.committed c rec e)
+              ((i.keys k).records.does c rec e) in
+              new.newest rec.start c y.declared y.commits (is_seen table k rec.start c rec.mutation y seen) low high);
         }
         | inr rest ↦ elim rest [
           | inl x ↦ unhidden new.start new.at (mutation.Put v) of.0 does tt new.upto x
           | inr gone ↦ elim gone.way [
             | inl other ↦ other v refl
-            | inr later ↦ (let y = is_commits table w k later.start later.at later.mutation i s later.committed later.does in new.newest later.start later.at y.declared y.commits (is_seen table k later.start later.at later.mutation y later.visible) later.above (omega (arith, later.upto, fresh)))
+            | inr later ↦ (let y =
+                is_commits table w k later.start later.at later.mutation i s later.committed later.does in
+                new.newest later.start later.at y.declared y.commits
+                (is_seen table k later.start later.at later.mutation y later.visible) later.above
+                (omega (arith, later.upto, fresh)))
           ]
         ]
       ]

@@ -4,7 +4,8 @@ ghost use Rattle.std.specs.Prelude.{◌≡◌, ◌<◌, ◌&&◌, true, IfOk};
 ghost use Rattle.tx_client.specs.Walks.{get_walk, scan_walk};
 ghost use Rattle.tx_steps.specs.Steps.{delivered};
 ghost use Rattle.tx_engine.specs.Slots.{Did, Sent};
-ghost use Rattle.tx_engine.specs.Semantics.{is_key as key_test, draws, gets, scans, prewrites, commits, aborts, beats, runs_to, missed_by, said_by, read_by};
+ghost use Rattle.tx_types.specs.Lengths.{is_key as key_test};
+ghost use Rattle.tx_engine.specs.Semantics.{draws, gets, scans, prewrites, commits, aborts, beats, runs_to, missed_by, said_by, read_by};
 
 use crate::acts::draw_at;
 use crate::operations::is_key;

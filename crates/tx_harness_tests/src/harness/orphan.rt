@@ -11,7 +11,7 @@ use crate::network::Network;
 use crate::words::{Short, by_response};
 use std::alloc::Global;
 use tx_client::ask;
-use tx_core::{Body, BoxedPrewrite, Declaration, Event, Prewrite};
+use tx_core::{Body, Boxed, Declaration, Event, Prewrite};
 use tx_journal::{JournalId, Seat};
 use tx_types::{Change, Changes, Key, Mode, Mutation, Secondaries, Ts};
 
@@ -56,7 +56,7 @@ fn second_of(alloc: Global, start: Ts, first: &Key, second: &Key) -> Option<Body
         ttl: 10,
         others: Secondaries::new(alloc),
     };
-    Some(Body::Prewrite(BoxedPrewrite::new(alloc, body).ok()?))
+    Some(Body::Prewrite(Boxed::new(alloc, body).ok()?))
 }
 
 // Records the event, and lets it go.

@@ -27,10 +27,11 @@ impl<F: Families> Records<F> {
         ensures same_numbers { OnErr result (HasSameNumbers F.numbers self.old self.new) }
         ensures err { IfErr result (λ e. e ≡ Fault.OutOfMemory) }
     {
-        let view = self.view(body)?;
+        let key = self.spell(body)?;
+        let view = self.view(&key, body)?;
         let copied = self.numbers();
         let planned = plan(view, &copied, loaded, body);
-        self.make(body, planned)
+        self.make(&key, body, planned)
     }
 
     /// Answers a request of any command, by a seat that loaded `loaded`, with minimums above

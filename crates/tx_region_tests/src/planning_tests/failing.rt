@@ -6,7 +6,8 @@ use std::alloc::Global;
 use std::sync::atomic::{AtomicU64, Ordering};
 use tx_cells::{Changes, Families, Fresh, Holds, KeyVersions, Sees};
 use tx_plan::{Answer, Dropped, Infos, KeyChange, NewLock, Prewrite, ReadView, Scan, TxnView};
-use tx_types::{Fault, Key, LockInfo, Ts};
+use tx_spelling::SpeltKey;
+use tx_types::{Fault, LockInfo, Ts};
 
 /// Families whose Nth call that may be refused memory is, and no other.
 #[derive(Drop)]
@@ -34,17 +35,23 @@ impl<F: Fresh, const N: u64> Holds for Failing<F, N> {
 }
 
 impl<F: Fresh, const N: u64> Sees for Failing<F, N> {
-    fn view(&self, alloc: Global, key: &Key, start: Ts, commit: Ts) -> Result<TxnView, Fault> {
+    fn view(
+        &self,
+        alloc: Global,
+        key: &SpeltKey<'_>,
+        start: Ts,
+        commit: Ts,
+    ) -> Result<TxnView, Fault> {
         self.count()?;
         self.cells.view(alloc, key, start, commit)
     }
 
-    fn read(&self, alloc: Global, key: &Key, at: Ts) -> Result<ReadView, Fault> {
+    fn read(&self, alloc: Global, key: &SpeltKey<'_>, at: Ts) -> Result<ReadView, Fault> {
         self.count()?;
         self.cells.read(alloc, key, at)
     }
 
-    fn lock_info(&self, alloc: Global, key: &Key) -> Result<Option<LockInfo>, Fault> {
+    fn lock_info(&self, alloc: Global, key: &SpeltKey<'_>) -> Result<Option<LockInfo>, Fault> {
         self.count()?;
         self.cells.lock_info(alloc, key)
     }
@@ -69,12 +76,12 @@ impl<F: Fresh, const N: u64> Sees for Failing<F, N> {
         self.cells.count_below(alloc, safe)
     }
 
-    fn cells(&self, alloc: Global, key: &Key) -> Result<KeyVersions, Fault> {
+    fn cells(&self, alloc: Global, key: &SpeltKey<'_>) -> Result<KeyVersions, Fault> {
         self.count()?;
         self.cells.cells(alloc, key)
     }
 
-    fn number(&self, alloc: Global, key: &Key) -> Result<u64, Fault> {
+    fn number(&self, alloc: Global, key: &SpeltKey<'_>) -> Result<u64, Fault> {
         self.count()?;
         self.cells.number(alloc, key)
     }
@@ -88,18 +95,19 @@ impl<F: Fresh, const N: u64> Changes for Failing<F, N> {
     fn put_lock(
         &mut self,
         alloc: Global,
+        key: &SpeltKey<'_>,
         body: &Prewrite,
         new: NewLock,
         number: u64,
     ) -> Result<(), Fault> {
         self.count()?;
-        self.cells.put_lock(alloc, body, new, number)
+        self.cells.put_lock(alloc, key, body, new, number)
     }
 
     fn apply(
         &mut self,
         alloc: Global,
-        key: &Key,
+        key: &SpeltKey<'_>,
         change: KeyChange,
         number: u64,
     ) -> Result<(), Fault> {

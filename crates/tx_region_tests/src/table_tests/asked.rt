@@ -4,8 +4,8 @@ ghost use Rattle.tx_core.specs.Histories.{History};
 
 use std::alloc::Global;
 use tx_plan::{
-    BatchRollback, Body, BoxedPrewrite, BoxedScan, CheckSecondaryLocks, CheckTxnStatus, Collect,
-    Commit, Get, LocksBelow, Prewrite, RaiseSafe, ResolveLock, Scan, Starts, TxnHeartBeat,
+    BatchRollback, Body, Boxed, CheckSecondaryLocks, CheckTxnStatus, Collect, Commit, Get,
+    LocksBelow, Prewrite, RaiseSafe, ResolveLock, Scan, Starts, TxnHeartBeat,
 };
 use tx_types::{Fate, Fault, Key, Mode, Mutation, RegionNo, Secondaries, Ts, Value};
 
@@ -87,7 +87,7 @@ fn scan(alloc: Global, from: u8, to: u8, at: u64, limit: u32, bypass: u64) -> Re
         limit,
         bypass,
     };
-    Ok(Body::Scan(BoxedScan::new(alloc, body)?))
+    Ok(Body::Scan(Boxed::new(alloc, body)?))
 }
 
 fn value(alloc: Global, length: usize) -> Result<Value, Fault> {
@@ -133,7 +133,7 @@ fn prewrite(
         ttl: 10,
         others: Secondaries::new(alloc),
     };
-    Ok(Body::Prewrite(BoxedPrewrite::new(alloc, body)?))
+    Ok(Body::Prewrite(Boxed::new(alloc, body)?))
 }
 
 fn fate(commit: u64) -> Fate {

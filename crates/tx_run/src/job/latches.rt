@@ -5,7 +5,7 @@ ghost use Rattle.tx_latch.specs.Slots.{slot_of_key};
 ghost use Rattle.tx_run.specs.Latches.{key_of};
 
 use super::ScriptJob;
-use crate::script::LatchNeed;
+use crate::session_line::LatchNeed;
 use std::sync::Wait;
 use tx_cells::Families;
 use tx_client::Session;

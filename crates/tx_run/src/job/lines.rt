@@ -1,13 +1,13 @@
 //! What a session of a run does by its lines.
-ghost use Rattle.std.specs.Prelude.{None, Some};
+ghost use Rattle.std.specs.Prelude.{◌≡◌, None, Some};
 ghost use Rattle.tx_steps.specs.Steps.{asked, IsApart};
-ghost use Rattle.tx_run.specs.Jobs.{StaysSame};
+ghost use Rattle.tx_run.specs.Jobs.{GoesOn, MayAnswer, with_line};
+ghost use Rattle.tx_run.specs.LineNumbers.{number_of};
 ghost use Rattle.tx_transfer.specs.Sources.{HasPair, pair_of};
 
 use super::ScriptJob;
-use crate::script::{ScriptLine, SessionLine};
+use crate::session_line::{ScriptLine, SessionLine};
 use crate::state::JobState;
-use std::mem::replace;
 use std::sync::Wait;
 use tx_cells::Families;
 use tx_client::Session;
@@ -20,7 +20,8 @@ use tx_types::{Cause, is_name};
 
 impl<J: JournalId, L: Source, F: Families + Drop, R: Wait + Drop> ScriptJob<J, L, F, R> {
     fn begin(&mut self, number: u64, seat: Seat<J>)
-        ensures { StaysSame self.old self.new }
+        requires { MayAnswer self.old }
+        ensures { GoesOn (with_line number self.old) self.new }
     {
         match Session::begin(self.context.alloc, seat) {
             Ok(session) => self.on_begun(number, session),
@@ -33,7 +34,8 @@ impl<J: JournalId, L: Source, F: Families + Drop, R: Wait + Drop> ScriptJob<J, L
 
     // Keeps a session that has just begun.
     pub(super) fn on_begun(&mut self, number: u64, session: Session<J>)
-        ensures { StaysSame self.old self.new }
+        requires { MayAnswer self.old }
+        ensures { GoesOn (with_line number self.old) self.new }
     {
         let start = session.start();
         match Box::new(self.context.alloc, session) {
@@ -52,13 +54,11 @@ impl<J: JournalId, L: Source, F: Families + Drop, R: Wait + Drop> ScriptJob<J, L
     }
 
     fn finish(&mut self, number: u64, session: Session<J>)
-        requires { HasPair L.text number None }
-        ensures { StaysSame self.old self.new }
+        requires may { MayAnswer self.old }
+        requires pair { HasPair L.text number None }
+        ensures { GoesOn (with_line number self.old) self.new }
     {
-        match self
-            .log
-            .finish(self.context.resolver(), number, session, None)
-        {
+        match self.conclude(number, session, None) {
             Ok(seat) => self.set_state(JobState::Free(seat)),
             Err(session) => {
                 self.set_state(JobState::Free(session.stop()));
@@ -68,33 +68,43 @@ impl<J: JournalId, L: Source, F: Families + Drop, R: Wait + Drop> ScriptJob<J, L
     }
 
     pub(super) fn stop(&mut self, number: u64, session: Session<J>, plain: PlainReply)
-        ensures { StaysSame self.old self.new }
+        requires { MayAnswer self.old }
+        ensures { GoesOn (with_line number self.old) self.new }
     {
         self.set_state(JobState::Free(session.stop()));
         self.report(number, plain);
     }
 
-    // A step of a session that is live.
-    fn operate(&mut self, number: u64, mut session: Box<Session<J>>, step: Step<&str>)
-        ensures { StaysSame self.old self.new }
+    // What a step of a session that is live comes to.
+    fn result_of(&mut self, session: &mut Session<J>, step: Step<&str>) -> Result<PlainReply, Cause>
+        ensures { self.new ≡ self.old }
     {
-        let result = match step {
-            Step::Act(_, action) => act(&mut session, &mut self.context, action),
-            Step::Send(_, request, _) => send(&mut session, &mut self.context, request),
+        match step {
+            Step::Act(_, action) => act(session, &mut self.context, action),
+            Step::Send(_, request, _) => send(session, &mut self.context, request),
             Step::Begin(_) => Err(Cause::Name),
             _ => Err(Cause::Order),
-        };
+        }
+    }
+
+    // A step of a session that is live.
+    fn operate(&mut self, number: u64, mut session: Box<Session<J>>, step: Step<&str>)
+        requires { MayAnswer self.old }
+        ensures { GoesOn (with_line number self.old) self.new }
+    {
+        let result = self.result_of(&mut session, step);
         self.set_state(JobState::Live(session));
         self.on_answer(number, result);
     }
 
     // Makes the step of a line.
     fn make(&mut self, number: u64, step: Step<&str>)
+        requires may { MayAnswer self.old }
         requires apart { IsApart (asked step) }
         requires pair { HasPair L.text number (pair_of (asked step)) }
-        ensures { StaysSame self.old self.new }
+        ensures { GoesOn (with_line number self.old) self.new }
     {
-        match replace(&mut self.state, JobState::Taken) {
+        match self.take_state() {
             JobState::Free(seat) => match step {
                 Step::Begin(name) if is_name(name) => self.begin(number, seat),
                 Step::Transfer(name, transfer) if is_name(name) => {
@@ -122,7 +132,8 @@ impl<J: JournalId, L: Source, F: Families + Drop, R: Wait + Drop> ScriptJob<J, L
 
     // Makes the step that a line says.
     fn play(&mut self, script_line: &ScriptLine<L>)
-        ensures { StaysSame self.old self.new }
+        requires { MayAnswer self.old }
+        ensures { GoesOn (with_line script_line.now.number self.old) self.new }
     {
         let mut parts = Parts::new();
         match Line::read(
@@ -145,7 +156,8 @@ impl<J: JournalId, L: Source, F: Families + Drop, R: Wait + Drop> ScriptJob<J, L
 
     // Makes the step that a line of the session says.
     pub(super) fn enter(&mut self, line: SessionLine<L>)
-        ensures { StaysSame self.old self.new }
+        requires { MayAnswer self.old }
+        ensures { GoesOn (with_line (number_of line) self.old) self.new }
     {
         match line {
             SessionLine::Transfer(order) => self.on_order(Box::into_inner(order)),

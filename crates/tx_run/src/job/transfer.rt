@@ -1,11 +1,10 @@
 //! A transfer of a session of a run: it begins, goes on, and ends.
-ghost use Rattle.std.specs.Prelude.{◌≢◌, Some};
-ghost use Rattle.tx_run.specs.Jobs.{StaysSame};
+ghost use Rattle.std.specs.Prelude.{◌≡◌, ◌≢◌, Some};
+ghost use Rattle.tx_run.specs.Jobs.{GoesOn, MayAnswer, with_line};
 ghost use Rattle.tx_transfer.specs.Sources.{HasPair};
 
 use super::ScriptJob;
 use crate::state::JobState;
-use std::mem::replace;
 use std::sync::Wait;
 use tx_cells::Families;
 use tx_client::Session;
@@ -16,14 +15,25 @@ use tx_transfer::{Order, PlainReply, Source, TransferProgress, TransferState, re
 use tx_types::Cause;
 
 impl<J: JournalId, L: Source, F: Families + Drop, R: Wait + Drop> ScriptJob<J, L, F, R> {
+    // A transfer is on its way.
+    fn go_on(&mut self, number: u64, transfer: Box<TransferState<J, L>>)
+        requires may { MayAnswer self.old }
+        requires of { transfer.value ≡ number }
+        ensures { GoesOn (with_line number self.old) self.new }
+    {
+        let _ = number;
+        self.set_state(JobState::Transfer(transfer));
+    }
+
     // A transfer begins: nothing is told before it ends.
     pub(super) fn start_transfer(&mut self, seat: Seat<J>, order: Order<L>)
-        ensures { StaysSame self.old self.new }
+        requires { MayAnswer self.old }
+        ensures { GoesOn (with_line order.number self.old) self.new }
     {
         let number = order.number;
         match Session::begin(self.context.alloc, seat) {
             Ok(session) => match Box::new(self.context.alloc, TransferState::new(session, order)) {
-                Ok(transfer) => self.set_state(JobState::Transfer(transfer)),
+                Ok(transfer) => self.go_on(number, transfer),
                 Err(refused) => {
                     self.give_up(refused.value, PlainReply::new(ScriptReply::OutOfMemory));
                 }
@@ -37,9 +47,10 @@ impl<J: JournalId, L: Source, F: Families + Drop, R: Wait + Drop> ScriptJob<J, L
 
     // A transfer begins whose keys were refused as it was read.
     pub(super) fn order_transfer(&mut self, number: u64, seat: Seat<J>, transfer: Transfer<&str>)
+        requires may { MayAnswer self.old }
         requires apart { transfer.from.now ≢ transfer.to.now }
         requires pair { HasPair L.text number (Some (transfer.from.now, transfer.to.now)) }
-        ensures { StaysSame self.old self.new }
+        ensures { GoesOn (with_line number self.old) self.new }
     {
         match Order::new(self.context.alloc, number, &transfer) {
             Err(fault) => {
@@ -52,9 +63,10 @@ impl<J: JournalId, L: Source, F: Families + Drop, R: Wait + Drop> ScriptJob<J, L
 
     // A transfer begins, where no transaction is open.
     pub(super) fn on_order(&mut self, order: Order<L>)
-        ensures { StaysSame self.old self.new }
+        requires { MayAnswer self.old }
+        ensures { GoesOn (with_line order.number self.old) self.new }
     {
-        match replace(&mut self.state, JobState::Taken) {
+        match self.take_state() {
             JobState::Free(seat) => self.start_transfer(seat, order),
             other => {
                 self.set_state(other);
@@ -65,13 +77,11 @@ impl<J: JournalId, L: Source, F: Families + Drop, R: Wait + Drop> ScriptJob<J, L
 
     // A transfer is over.
     fn end_transfer(&mut self, transfer: TransferState<J, L>)
-        ensures { StaysSame self.old self.new }
+        requires { MayAnswer self.old }
+        ensures { GoesOn (with_line transfer self.old) self.new }
     {
         let (session, number, keys) = transfer.into_parts();
-        match self
-            .log
-            .finish(self.context.resolver(), number, session, Some(keys))
-        {
+        match self.conclude(number, session, Some(keys)) {
             Ok(seat) => self.set_state(JobState::Free(seat)),
             Err(session) => self.stop(number, session, PlainReply::new(ScriptReply::OutOfMemory)),
         }
@@ -79,7 +89,8 @@ impl<J: JournalId, L: Source, F: Families + Drop, R: Wait + Drop> ScriptJob<J, L
 
     // A transfer is left as it is.
     fn give_up(&mut self, transfer: TransferState<J, L>, plain: PlainReply)
-        ensures { StaysSame self.old self.new }
+        requires { MayAnswer self.old }
+        ensures { GoesOn (with_line transfer self.old) self.new }
     {
         let (session, number, keys) = transfer.into_parts();
         drop(keys);
@@ -88,7 +99,7 @@ impl<J: JournalId, L: Source, F: Families + Drop, R: Wait + Drop> ScriptJob<J, L
 
     // Makes the next step of a transfer, if one is on its way.
     pub(super) fn advance_transfer(&mut self) -> TransferProgress
-        ensures { StaysSame self.old self.new }
+        ensures { self.new ≡ self.old }
     {
         match &mut self.state {
             JobState::Transfer(transfer) => transfer.step(&mut self.context),
@@ -98,9 +109,9 @@ impl<J: JournalId, L: Source, F: Families + Drop, R: Wait + Drop> ScriptJob<J, L
 
     // A transfer that goes on no more.
     pub(super) fn finish_transfer(&mut self, progress: TransferProgress)
-        ensures { StaysSame self.old self.new }
+        ensures { GoesOn self.old self.new }
     {
-        match replace(&mut self.state, JobState::Taken) {
+        match self.take_state() {
             JobState::Transfer(transfer) => match progress {
                 TransferProgress::More => self.set_state(JobState::Transfer(transfer)),
                 TransferProgress::Over => self.end_transfer(Box::into_inner(transfer)),

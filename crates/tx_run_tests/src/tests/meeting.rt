@@ -11,6 +11,7 @@ use tx_nested::NestedCells;
 use tx_plan::{Answer, Dropped, Infos, KeyChange, NewLock, Prewrite, ReadView, Scan, TxnView};
 use tx_run::{Makes, Settings, run_script};
 use tx_sched::Open;
+use tx_spelling::SpeltKey;
 use tx_text::Broken;
 use tx_types::{Fault, Key, LockInfo, Ts};
 
@@ -92,16 +93,22 @@ impl Holds for Meeting {
 }
 
 impl Sees for Meeting {
-    fn view(&self, alloc: Global, key: &Key, start: Ts, commit: Ts) -> Result<TxnView, Fault> {
-        self.place.visit(key);
+    fn view(
+        &self,
+        alloc: Global,
+        key: &SpeltKey<'_>,
+        start: Ts,
+        commit: Ts,
+    ) -> Result<TxnView, Fault> {
+        self.place.visit(key.key());
         self.cells.view(alloc, key, start, commit)
     }
 
-    fn read(&self, alloc: Global, key: &Key, at: Ts) -> Result<ReadView, Fault> {
+    fn read(&self, alloc: Global, key: &SpeltKey<'_>, at: Ts) -> Result<ReadView, Fault> {
         self.cells.read(alloc, key, at)
     }
 
-    fn lock_info(&self, alloc: Global, key: &Key) -> Result<Option<LockInfo>, Fault> {
+    fn lock_info(&self, alloc: Global, key: &SpeltKey<'_>) -> Result<Option<LockInfo>, Fault> {
         self.cells.lock_info(alloc, key)
     }
 
@@ -121,11 +128,11 @@ impl Sees for Meeting {
         self.cells.count_below(alloc, safe)
     }
 
-    fn cells(&self, alloc: Global, key: &Key) -> Result<KeyVersions, Fault> {
+    fn cells(&self, alloc: Global, key: &SpeltKey<'_>) -> Result<KeyVersions, Fault> {
         self.cells.cells(alloc, key)
     }
 
-    fn number(&self, alloc: Global, key: &Key) -> Result<u64, Fault> {
+    fn number(&self, alloc: Global, key: &SpeltKey<'_>) -> Result<u64, Fault> {
         self.cells.number(alloc, key)
     }
 }
@@ -138,17 +145,18 @@ impl Changes for Meeting {
     fn put_lock(
         &mut self,
         alloc: Global,
+        key: &SpeltKey<'_>,
         body: &Prewrite,
         new: NewLock,
         number: u64,
     ) -> Result<(), Fault> {
-        self.cells.put_lock(alloc, body, new, number)
+        self.cells.put_lock(alloc, key, body, new, number)
     }
 
     fn apply(
         &mut self,
         alloc: Global,
-        key: &Key,
+        key: &SpeltKey<'_>,
         change: KeyChange,
         number: u64,
     ) -> Result<(), Fault> {

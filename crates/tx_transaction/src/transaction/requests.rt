@@ -3,6 +3,7 @@ ghost use Rattle.std.specs.Prelude.{◌≡◌, ◌<◌, length, true, false, IfO
 ghost use Rattle.tx_core.specs.Allowed.{floor_of};
 ghost use Rattle.tx_plan.specs.declared.body.Body.TheVariants as request;
 ghost use Rattle.tx_transaction.specs.Buffers.{not_empty};
+ghost use Rattle.tx_transaction.specs.Next.{due};
 ghost use Rattle.tx_transaction.specs.Sessions.{has_primary, declaration_of, exceeds, others_at, prewrite_of, due_prewrite, due_commit, due_abort, commit_at, check_at, rollback_at, heartbeat_of, read_of, scan_of, abort_open};
 
 use super::Transaction;
@@ -10,8 +11,7 @@ use crate::buffer::{has_keys, index_of, key_of, mutation_of, other_keys};
 use crate::state::{Due, Phase, Terms};
 use std::alloc::Global;
 use tx_core::{
-    BatchRollback, Body, BoxedPrewrite, BoxedScan, CheckSecondaryLocks, Commit, Get, Prewrite,
-    Scan, TxnHeartBeat,
+    BatchRollback, Body, Boxed, CheckSecondaryLocks, Commit, Get, Prewrite, Scan, TxnHeartBeat,
 };
 use tx_types::{Fate, Fault, Key, Mode, Secondaries, Ts};
 
@@ -62,8 +62,8 @@ impl Transaction {
         })
     }
 
-    /// The prewrite that is due: of the first key in buffer order that has no accepted lock.
-    pub fn due_prewrite(&self, alloc: Global) -> Result<Option<Due>, Fault>
+    // The prewrite that is due: of the first key in buffer order that has no accepted lock.
+    fn due_prewrite(&self, alloc: Global) -> Result<Option<Due>, Fault>
         ensures ok { IfOk result (λ due. due ≡ due_prewrite self.now) }
         ensures within { IfOk result (λ due. IfSome due (λ d. d.index < length self.now.buffer)) }
         ensures err { IfErr result (λ e. e ≡ Fault.OutOfMemory) }
@@ -76,7 +76,7 @@ impl Transaction {
             return Ok(None);
         };
         let body = self.prewrite_at(alloc, terms, index)?;
-        let body = Body::Prewrite(BoxedPrewrite::new(alloc, body)?);
+        let body = Body::Prewrite(Boxed::new(alloc, body)?);
         Ok(Some(Due { index, body }))
     }
 
@@ -97,9 +97,9 @@ impl Transaction {
         Ok(Some(Due { index, body }))
     }
 
-    /// The commit that is due: of the primary at the drawn timestamp, and once the transaction is
-    /// committed of each key in buffer order.
-    pub fn due_commit(&self) -> Result<Option<Due>, Fault>
+    // The commit that is due: of the primary at the drawn timestamp, and once the transaction is
+    // committed of each key in buffer order.
+    fn due_commit(&self) -> Result<Option<Due>, Fault>
         ensures ok { IfOk result (λ due. due ≡ due_commit self.now) }
         ensures within { IfOk result (λ due. IfSome due (λ d. d.index < length self.now.buffer)) }
         ensures err { IfErr result (λ e. e ≡ Fault.OutOfMemory) }
@@ -174,9 +174,9 @@ impl Transaction {
         }
     }
 
-    /// The request of an abort that is due: what may decide, and once the transaction is aborted a
-    /// rollback of each key that was sent.
-    pub fn due_abort(&self) -> Result<Option<Due>, Fault>
+    // The request of an abort that is due: what may decide, and once the transaction is aborted a
+    // rollback of each key that was sent.
+    fn due_abort(&self) -> Result<Option<Due>, Fault>
         ensures ok { IfOk result (λ due. due ≡ due_abort self.now) }
         ensures within { IfOk result (λ due. IfSome due (λ d. d.index < length self.now.buffer)) }
         ensures err { IfErr result (λ e. e ≡ Fault.OutOfMemory) }
@@ -186,6 +186,20 @@ impl Transaction {
             None => self.abort_open(),
             Some(Fate::Committed(_)) => Ok(None),
             Some(Fate::Aborted) => self.rollback_at(index_of(&self.buffer, Phase::Abort)),
+        }
+    }
+
+    /// The request of a phase that is due, where one is.
+    pub fn next(&self, alloc: Global, phase: Phase) -> Result<Option<Due>, Fault>
+        ensures ok { IfOk result (λ next. next ≡ due self.now phase) }
+        ensures within { IfOk result (λ next. IfSome next (λ d. d.index < length self.now.buffer)) }
+        ensures err { IfErr result (λ e. e ≡ Fault.OutOfMemory) }
+        ensures some { OnErr result (is_some (due self.now phase) ≡ true) }
+    {
+        match phase {
+            Phase::Prewrite => self.due_prewrite(alloc),
+            Phase::Commit => self.due_commit(),
+            Phase::Abort => self.due_abort(),
         }
     }
 
@@ -224,6 +238,6 @@ impl Transaction {
             limit,
             bypass,
         };
-        Ok(Body::Scan(BoxedScan::new(alloc, body)?))
+        Ok(Body::Scan(Boxed::new(alloc, body)?))
     }
 }

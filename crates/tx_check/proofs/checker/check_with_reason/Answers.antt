@@ -9,7 +9,8 @@ returns-clause-ends g c =
     let old = g.W.Write.contents c.args.writer.now in
     let new = g.W.Write.contents c.write_out.new.writer in
     if_both _
-    (λ input verdict stops. ends_so input _ c.as_slice.result.now c.as_slice.ensures.value verdict (c.in_ok-text.ensures (lines_of input) stops) old new
+    (λ input verdict stops. ends_so input _ c.as_slice.result.now c.as_slice.ensures.value verdict
+    (c.in_ok-text.ensures (lines_of input) stops) old new
     c.end_of_check.result (c.end_of_check.ensures ∙ ap end_of c.verdict.ensures) c.in_ok-write_out.ensures.all)
     c.in_ok-stop.ensures.verdict c.in_ok-stop.ensures.stops
 
@@ -20,6 +21,7 @@ returns-in_err-write_out-clause-breaks g c =
     let e = c.in_err-write_out.field-0.0 in
     if_err_is _ _ e c.from_residual-in_err-write_out.ensures.1
     (if_both _
-    (λ input verdict stops. breaks_so input _ c.as_slice.result.now c.as_slice.ensures.value verdict (c.in_ok-text.ensures (lines_of input) stops) old new
+    (λ input verdict stops. breaks_so input _ c.as_slice.result.now c.as_slice.ensures.value verdict
+    (c.in_ok-text.ensures (lines_of input) stops) old new
     e c.in_err-write_out.ensures.err c.in_err-write_out.ensures.part)
     c.in_ok-stop.ensures.verdict c.in_ok-stop.ensures.stops)

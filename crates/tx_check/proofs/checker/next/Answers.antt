@@ -14,7 +14,8 @@ returns-in-Err-Step-clause-turns g c =
     let refused = rw c.in-Err-Step.field-0-is at c.in-Err-Step.ensures.refused in
     let keeps = c.in-Err-Step.ensures.same in
     if_some _ (λ bytes read.
-    let turns : Turns bytes (g.R.Read.remaining c.read_line.new.reader) c.args.machine.now c.step.new.self c.args.number (Refused c.in-Ok.step) =
+    let turns : Turns bytes (g.R.Read.remaining c.read_line.new.reader) c.args.machine.now c.step.new.self c.args.number
+    (Refused c.in-Ok.step) =
     (line, lines_of read.0, read.3, found, refused (search rules), keeps) in turns) reads
 
 pub returns-in-Ok-step-clause-turns : goal.returns-in-Ok-step-clause-turns
@@ -24,5 +25,6 @@ returns-in-Ok-step-clause-turns g c =
     let found : step_in c.args.number line ≡ Ok c.in-Ok.step = search rules in
     let makes = c.in-Ok-step.ensures.ok in
     if_some _ (λ bytes read.
-    let turns : Turns bytes (g.R.Read.remaining c.read_line.new.reader) c.args.machine.now c.step.new.self c.args.number Made =
+    let turns : Turns bytes (g.R.Read.remaining c.read_line.new.reader) c.args.machine.now c.step.new.self c.args.number
+    Made =
     (line, read.0, c.in-Ok.step, read.1, read.3, found, makes) in turns) reads

@@ -9,25 +9,30 @@ pub lines-preserved : goal.lines-preserved
 lines-preserved g c =
     let turns = rw c.in-Made.is at c.in_ok-next.ensures.turns in (
       c.in_ok-next.ensures.early c.in-Made.is,
-      if_some _ (λ input soon. made soon (g.R.Read.remaining c.next.new.reader) c.next.new.machine turns) c.lines.invariant.1,
+      if_some _ (λ input soon. made soon (g.R.Read.remaining c.next.new.reader) c.next.new.machine turns)
+          c.lines.invariant.1,
     )
 
 pub returns-in-Refused-clause-verdict : goal.returns-in-Refused-clause-verdict
 returns-in-Refused-clause-verdict g c =
     let turns = rw c.in-Refused.is at c.in_ok-next.ensures.turns in
-    if_some _ (λ input soon. refused soon (g.R.Read.remaining c.next.new.reader) c.next.new.machine c.in-Refused.step turns) c.lines.invariant.1
+    if_some _ (λ input soon. refused soon (g.R.Read.remaining c.next.new.reader) c.next.new.machine c.in-Refused.step
+    turns) c.lines.invariant.1
 
 pub returns-in-Refused-clause-stops : goal.returns-in-Refused-clause-stops
 returns-in-Refused-clause-stops g c =
     let turns = rw c.in-Refused.is at c.in_ok-next.ensures.turns in
-    if_some _ (λ input soon. stands_at soon (g.R.Read.remaining c.next.new.reader) c.next.new.machine c.in-Refused.step turns) c.lines.invariant.1
+    if_some _ (λ input soon. stands_at soon (g.R.Read.remaining c.next.new.reader) c.next.new.machine c.in-Refused.step
+    turns) c.lines.invariant.1
 
 pub returns-in-End-clause-verdict : goal.returns-in-End-clause-verdict
 returns-in-End-clause-verdict g c =
     let turns = rw c.in-End.is at c.in_ok-next.ensures.turns in
-    if_some _ (λ input soon. ended soon (g.R.Read.remaining c.next.new.reader) c.next.new.machine turns) c.lines.invariant.1
+    if_some _ (λ input soon. ended soon (g.R.Read.remaining c.next.new.reader) c.next.new.machine turns)
+    c.lines.invariant.1
 
 pub returns-in-Faulted-clause-verdict : goal.returns-in-Faulted-clause-verdict
 returns-in-Faulted-clause-verdict g c =
     let turns = rw c.in-Faulted.is at c.in_ok-next.ensures.turns in
-    if_some _ (λ input soon. faulted soon (g.R.Read.remaining c.next.new.reader) c.next.new.machine c.in-Faulted.cause turns) c.lines.invariant.1
+    if_some _ (λ input soon. faulted soon (g.R.Read.remaining c.next.new.reader) c.next.new.machine c.in-Faulted.cause
+    turns) c.lines.invariant.1

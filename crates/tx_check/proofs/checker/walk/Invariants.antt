@@ -4,7 +4,9 @@ use Rattle.tx_check.proofs.Traces.{SoFar}
 use Rattle.tx_check.proofs.checker.walk.Given as goal
 
 abbrev pub invariant-lines : goal.invariant-lines
-invariant-lines g l = (l.number ≤ MAX_LINES) × IfSome (g.R.Read.remaining l.fn.reader) (λ input. SoFar input (g.R.Read.remaining l.reader) l.machine l.number)
+invariant-lines g l =
+    (l.number ≤ MAX_LINES)
+    × IfSome (g.R.Read.remaining l.fn.reader) (λ input. SoFar input (g.R.Read.remaining l.reader) l.machine l.number)
 
 abbrev pub decreases-lines : goal.decreases-lines
 decreases-lines g l = (MAX_LINES + 1) - l.number

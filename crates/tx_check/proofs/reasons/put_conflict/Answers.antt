@@ -7,4 +7,5 @@ use Rattle.tx_check.proofs.reasons.put_conflict.Goals as goal
 pub returns : goal.returns
 unfolding escape_byte
 returns c = if_ok c.extend_from_slice.result _ _ _ c.extend_from_slice.ensures.items
-    (λ e. e ∙ join_four c.args.out.now.items _ _ _ _ _ c.in_ok-put_key.ensures c.in_ok-put_stamp.ensures c.in_ok-put_stamp-2.ensures c.in_ok-put_stamp-3.ensures)
+    (λ e. e ∙ join_four c.args.out.now.items _ _ _ _ _ c.in_ok-put_key.ensures c.in_ok-put_stamp.ensures
+    c.in_ok-put_stamp-2.ensures c.in_ok-put_stamp-3.ensures)

@@ -6,4 +6,5 @@ use Rattle.tx_check.proofs.reasons.put_exists.Goals as goal
 
 pub returns : goal.returns
 unfolding escape_byte
-returns c = on_ok c.put_seen.result c.put_seen.ensures (λ e. e ∙ join_two c.args.out.now.items _ _ _ c.in_ok-put_key.ensures c.in_ok-put_stamp.ensures)
+returns c = on_ok c.put_seen.result c.put_seen.ensures (λ e. e
+    ∙ join_two c.args.out.now.items _ _ _ c.in_ok-put_key.ensures c.in_ok-put_stamp.ensures)

@@ -13,6 +13,10 @@ returns c =
     let w = string (step_word c.args.step.now) in
     let ds = step_fields c.args.step.now in
     let first : c.extend_from_slice.new.self.items ≡ old ++ 91 ∷ [] = c.in_ok-extend_from_slice.ensures.items in
-    let word : c.extend_from_slice-2.new.self.items ≡ (old ++ 91 ∷ []) ++ compact_text w = c.in_ok-extend_from_slice-2.ensures.items ∙ (ap (λ t. t ++ c.word_of.result.now) first ∙ ap (λ t. (old ++ 91 ∷ []) ++ t) c.word_of.ensures) in
-    let all : c.put_fields.new.out.items ≡ ((old ++ 91 ∷ []) ++ compact_text w) ++ members_text ds = c.in_ok-put_fields.ensures ∙ ap (λ t. t ++ members_text ds) word in
-    if_ok c.extend_from_slice-3.result _ _ _ c.extend_from_slice-3.ensures.items (λ e. e ∙ ap (λ t. t ++ 93 ∷ 10 ∷ []) all ∙ line_from old w ds)
+    let word : c.extend_from_slice-2.new.self.items ≡ (old ++ 91 ∷ []) ++ compact_text w =
+    c.in_ok-extend_from_slice-2.ensures.items
+    ∙ (ap (λ t. t ++ c.word_of.result.now) first ∙ ap (λ t. (old ++ 91 ∷ []) ++ t) c.word_of.ensures) in
+    let all : c.put_fields.new.out.items ≡ ((old ++ 91 ∷ []) ++ compact_text w) ++ members_text ds =
+    c.in_ok-put_fields.ensures ∙ ap (λ t. t ++ members_text ds) word in
+    if_ok c.extend_from_slice-3.result _ _ _ c.extend_from_slice-3.ensures.items (λ e. e
+    ∙ ap (λ t. t ++ 93 ∷ 10 ∷ []) all ∙ line_from old w ds)

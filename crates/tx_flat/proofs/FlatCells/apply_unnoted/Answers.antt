@@ -6,16 +6,27 @@ use Rattle.tx_flat.proofs.FlatCells.apply_unnoted.Goals as goal
 
 pub returns-in-Ttl-clause-cells : goal.returns-in-Ttl-clause-cells
 returns-in-Ttl-clause-cells c =
-    on_ok c.set_ttl.result _ _ (changed_cells (flat_content c.args.self.now) (flat_content c.set_ttl.new.self) c.args.key.now c.args.change (change.Ttl c.in-Ttl.ttl) c.args.self.now.whole c.requires c.in-Ttl.is) c.set_ttl.ensures.content
+    on_ok c.set_ttl.result _ _
+    (changed_cells (flat_content c.args.self.now) (flat_content c.set_ttl.new.self) c.args.key.now c.args.change
+    (change.Ttl c.in-Ttl.ttl) c.args.self.now.whole c.requires c.in-Ttl.is) c.set_ttl.ensures.content
 
 pub returns-in-Minimum-clause-cells : goal.returns-in-Minimum-clause-cells
 returns-in-Minimum-clause-cells c =
-    on_ok c.set_minimum.result _ _ (changed_cells (flat_content c.args.self.now) (flat_content c.set_minimum.new.self) c.args.key.now c.args.change (change.Minimum c.in-Minimum.min) c.args.self.now.whole c.requires c.in-Minimum.is) c.set_minimum.ensures.content
+    on_ok c.set_minimum.result _ _
+    (changed_cells (flat_content c.args.self.now) (flat_content c.set_minimum.new.self) c.args.key.now c.args.change
+    (change.Minimum c.in-Minimum.min) c.args.self.now.whole c.requires c.in-Minimum.is)
+    c.set_minimum.ensures.content
 
 pub returns-in-Commit-clause-cells : goal.returns-in-Commit-clause-cells
 returns-in-Commit-clause-cells c =
-    on_ok c.commit.result _ _ (changed_cells (flat_content c.args.self.now) (flat_content c.commit.new.self) c.args.key.now c.args.change (change.Commit c.in-Commit.commit c.in-Commit.overlapped_rollback) c.args.self.now.whole c.requires c.in-Commit.is) c.commit.ensures.content
+    on_ok c.commit.result _ _
+    (changed_cells (flat_content c.args.self.now) (flat_content c.commit.new.self) c.args.key.now c.args.change
+    (change.Commit c.in-Commit.commit c.in-Commit.overlapped_rollback) c.args.self.now.whole c.requires
+    c.in-Commit.is) c.commit.ensures.content
 
 pub returns-in-RollBack-clause-cells : goal.returns-in-RollBack-clause-cells
 returns-in-RollBack-clause-cells c =
-    on_ok c.roll_back.result _ _ (changed_cells (flat_content c.args.self.now) (flat_content c.roll_back.new.self) c.args.key.now c.args.change (change.RollBack c.in-RollBack.start c.in-RollBack.removes_lock c.in-RollBack.left) c.args.self.now.whole c.requires c.in-RollBack.is) c.roll_back.ensures.content
+    on_ok c.roll_back.result _ _
+    (changed_cells (flat_content c.args.self.now) (flat_content c.roll_back.new.self) c.args.key.now c.args.change
+    (change.RollBack c.in-RollBack.start c.in-RollBack.removes_lock c.in-RollBack.left) c.args.self.now.whole
+    c.requires c.in-RollBack.is) c.roll_back.ensures.content

@@ -8,4 +8,5 @@ use Rattle.tx_flat.proofs.FlatCells.value_below.Goals as goal
 pub returns-in_default-clause-value : goal.returns-in_default-clause-value
 returns-in_default-clause-value c =
     let flat = c.args.self.now in
-    none_found (flat_content flat c.args.key.now) c.args.at (subst (λ (k : List ℕ). NoneSeen (flat_content flat k).write c.args.at) c.requires c.in_default.ensures.seen)
+    none_found (flat_content flat c.args.key.now) c.args.at
+    (subst (λ (k : List ℕ). NoneSeen (flat_content flat k).write c.args.at) c.requires c.in_default.ensures.seen)

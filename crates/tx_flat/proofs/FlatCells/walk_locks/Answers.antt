@@ -8,4 +8,5 @@ use Rattle.tx_flat.proofs.FlatCells.walk_locks.Goals as goal
 pub returns-clause-walk : goal.returns-clause-walk
 returns-clause-walk c =
     let content = flat_content c.args.self.now in
-    subst (λ es. IsLockWalk (cells_in content) (lock_rows_in content es)) (sym c.iter.ensures.rest) (flat_walk c.args.self.now c.iter.ensures.ordered)
+    subst (λ es. IsLockWalk (cells_in content) (lock_rows_in content es)) (sym c.iter.ensures.rest)
+    (flat_walk c.args.self.now c.iter.ensures.ordered)

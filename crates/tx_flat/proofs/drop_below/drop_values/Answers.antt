@@ -4,7 +4,7 @@ use Rattle.std.specs.BTreeMap as tree
 use Rattle.std.specs.BTreeMap.{BTreeMap}
 use Rattle.tx_types.specs.declared.write.WriteRec.{WriteRec}
 use Rattle.tx_flat.specs.Sieves.{Outdated}
-use Rattle.tx_encoded.specs.Spelt.{version_cmp}
+use Rattle.tx_spelling.specs.Spelt.{version_cmp}
 use Rattle.tx_flat.proofs.Retaining.{Sifted, sifts}
 use Rattle.tx_flat.proofs.Sieving.{Version}
 use Rattle.tx_flat.proofs.drop_below.drop_values.Goals as goal
@@ -12,7 +12,8 @@ use Rattle.tx_flat.proofs.drop_below.drop_values.Goals as goal
 abbrev Out : BTreeMap Version WriteRec → ℕ → Version → Type 0
 Out writes safe u = Outdated (λ q. tree.get version_cmp writes (u.0, q)) safe u.1
 
-each : (c : goal.After-retain) (u : Version) → Sifted (Out c.args.writes.now c.args.safe) c.args.values.now.entries c.retain.new.self.entries u
+each : (c : goal.After-retain) (u : Version)
+    → Sifted (Out c.args.writes.now c.args.safe) c.args.values.now.entries c.retain.new.self.entries u
 each c = sifts _ (λ f es. (f.0.now ≡ c.args.writes.now) × (f.1.now ≡ c.args.safe)) (Out c.args.writes.now c.args.safe)
     (λ f e es b w g i t.
     let m = t.called.met in
@@ -25,7 +26,10 @@ each c = sifts _ (λ f es. (f.0.now ≡ c.args.writes.now) × (f.1.now ≡ c.arg
       sym t.leaves ∙ m.1.1 ∙ t.shows.1,
       (ap (λ x. x.now) m.0.0 ∙ i.0, ap (λ x. x.now) m.0.1 ∙ i.1),
     ))
-    _ c.args.values.now.entries c.retain.new.self.entries (refl, refl) c.retain.ensures.was_ordered c.retain.ensures.filtered
+    _ c.args.values.now.entries c.retain.new.self.entries (
+      refl,
+      refl,
+    ) c.retain.ensures.was_ordered c.retain.ensures.filtered
 
 pub returns-clause-gone : goal.returns-clause-gone
 returns-clause-gone c = λ k t d. (each c (k, t)).gone d

@@ -9,5 +9,7 @@ fetch_max-requires g c =
     let t = c.args.token.now in (
       c.requires.table.0,
       omega (arith, size),
-      raises c.args.words.now.key c.args.words.now.table_id.slots t.id c.get.result t.me g.E.StepEvent.event c.requires.owns c.requires.right.0 c.requires.right.1 (c.requires.read ∙ ap (λ n. max (max_ts t.me.0.seen) n) (sym c.get.ensures)),
+      raises c.args.words.now.key c.args.words.now.table_id.slots t.id c.get.result t.me g.E.StepEvent.event
+          c.requires.owns c.requires.right.0 c.requires.right.1 (c.requires.read
+          ∙ ap (λ n. max (max_ts t.me.0.seen) n) (sym c.get.ensures)),
     )

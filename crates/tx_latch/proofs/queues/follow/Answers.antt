@@ -12,6 +12,8 @@ unreachable-requires c =
     (let last : List ℕ → Bool = λ xs. is_number c.args.cid (slice_get xs (length xs - 1)) in
     ap not (sym (ap last c.as_slice.ensures.value) ∙ sym c.ends_with.ensures ∙ c.if-ends_with.false)) in
     let room : length c.in-Some.entry.behind.items < vec_capacity c.in-Some.entry.behind =
-    subst (λ (o : Option QueueEntry). HasRoom c.args.cid (option_map link_of o) (room_of o)) c.in-Some.is c.requires (link_of c.in-Some.entry) refl apart in
-    let full : vec_capacity c.in-Some.entry.behind ≤ length c.in-Some.entry.behind.items = omega (arith, c.in_default-push.ensures.full) in
+    subst (λ (o : Option QueueEntry). HasRoom c.args.cid (option_map link_of o) (room_of o)) c.in-Some.is c.requires
+    (link_of c.in-Some.entry) refl apart in
+    let full : vec_capacity c.in-Some.entry.behind ≤ length c.in-Some.entry.behind.items =
+    omega (arith, c.in_default-push.ensures.full) in
     omega arith

@@ -7,4 +7,5 @@ use Rattle.tx_machine.proofs.commit.first_block.Given as goal
 
 abbrev pub invariant-loop-change : goal.invariant-loop-change
 invariant-loop-change l = InOrder l.index l.fates
-    → (k : Key) (m : Mutation) → mutation_at (take l.change-index l.set) k ≡ Some m → IsFree l.index l.fates l.reads l.t l.c record { key = k; mutation = m }
+    → (k : Key) (m : Mutation) → mutation_at (take l.change-index l.set) k ≡ Some m
+    → IsFree l.index l.fates l.reads l.t l.c record { key = k; mutation = m }

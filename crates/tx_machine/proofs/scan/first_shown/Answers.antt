@@ -4,7 +4,8 @@ use Rattle.tx_machine.proofs.Scans.{ShowsNone, all_first, all_next, all_passed, 
 use Rattle.tx_machine.proofs.scan.first_shown.Goals as goal
 
 pub loop-key-init : goal.loop-key-init
-loop-key-init c = all_first (ShowsNone c.args.fates.now c.args.at) _ _ (c.into_iter-key-iterator.ensures.into_iter_gives ∙ c.range-key-items.ensures.between tt)
+loop-key-init c = all_first (ShowsNone c.args.fates.now c.args.at) _ _ (c.into_iter-key-iterator.ensures.into_iter_gives
+    ∙ c.range-key-items.ensures.between tt)
 
 pub loop-key-preserved : goal.loop-key-preserved
 loop-key-preserved c =
@@ -13,4 +14,6 @@ loop-key-preserved c =
 
 pub returns-clause-none : goal.returns-clause-none
 returns-clause-none c =
-    bare_from_entries c.args.index.now c.args.fates.now (bound_map (λ x. x.now) c.args.from) c.args.to.now c.args.at c.range-key-items.ensures.ordered (all_passed (ShowsNone c.args.fates.now c.args.at) _ _ c.loop-key.invariant c.in-None.ensures.steps.0)
+    bare_from_entries c.args.index.now c.args.fates.now (bound_map (λ x. x.now) c.args.from) c.args.to.now c.args.at
+    c.range-key-items.ensures.ordered
+    (all_passed (ShowsNone c.args.fates.now c.args.at) _ _ c.loop-key.invariant c.in-None.ensures.steps.0)

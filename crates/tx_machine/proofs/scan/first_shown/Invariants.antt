@@ -10,5 +10,6 @@ use Rattle.tx_machine.proofs.scan.first_shown.Given as goal
 
 abbrev pub invariant-loop-key : goal.invariant-loop-key
 invariant-loop-key l =
-    All (ShowsNone l.fates l.at) (entries_between (slice_cmp nat_cmp) (bound_map (λ x. x.now) l.from) (Excluded l.to) l.index.entries)
+    All (ShowsNone l.fates l.at)
+    (entries_between (slice_cmp nat_cmp) (bound_map (λ x. x.now) l.from) (Excluded l.to) l.index.entries)
     ↔ All (ShowsNone l.fates l.at) l.key-iterator

@@ -9,5 +9,6 @@ use Rattle.tx_machine.proofs.sets.looked_up.Given as goal
 abbrev pub invariant-loop-change : goal.invariant-loop-change
 invariant-loop-change l = record {
   distinct : IsDistinct (take l.change-index l.set);
-  earlier : (k : Key) → sorted.contains (slice_cmp nat_cmp) l.earlier k ≡ is_some (mutation_at (take l.change-index l.set) k);
+  earlier : (k : Key) → sorted.contains (slice_cmp nat_cmp) l.earlier k
+      ≡ is_some (mutation_at (take l.change-index l.set) k);
 }

@@ -6,4 +6,6 @@ use Rattle.tx_nested.proofs.NestedRows.{lock_walk}
 use Rattle.tx_nested.proofs.NestedCells.locks.Goals as goal
 
 pub returns-clause-walk : goal.returns-clause-walk
-returns-clause-walk c = subst (λ es. IsLockWalk (cells_in (nested_content c.args.self.now)) (lock_rows es)) (sym c.iter.ensures.rest) (lock_walk c.args.self.now.keys.entries c.iter.ensures.ordered)
+returns-clause-walk c =
+    subst (λ es. IsLockWalk (cells_in (nested_content c.args.self.now)) (lock_rows es)) (sym c.iter.ensures.rest)
+    (lock_walk c.args.self.now.keys.entries c.iter.ensures.ordered)

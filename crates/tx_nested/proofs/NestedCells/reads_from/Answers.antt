@@ -14,5 +14,7 @@ returns-clause-walk c =
     let es = c.args.self.now.keys.entries in
     let spelt = c.in_ok-from.from in
     subst (λ w. IsWalk (cells_in (nested_content c.args.self.now)) (key_le from) (key_rows w))
-    (filter_same (key_le from) (λ (k : Key). key_le spelt k && true) (λ k. ap (λ j. key_le j k) (sym c.in_ok-from.ensures) ∙ sym (and-true (key_le spelt k))) es ∙ sym (c.range.ensures.between tt))
+    (filter_same (key_le from) (λ (k : Key). key_le spelt k
+    && true) (λ k. ap (λ j. key_le j k) (sym c.in_ok-from.ensures) ∙ sym (and-true (key_le spelt k))) es
+    ∙ sym (c.range.ensures.between tt))
     (filter_walk (key_le from) es c.range.ensures.ordered)

@@ -14,5 +14,8 @@ differ stay at e t = (
 
 pub records-preserved-then-ne : goal.records-preserved-then-ne
 records-preserved-then-ne c =
-    goes_on (tree.get nat_cmp c.args.writes.now) (tree.get nat_cmp c.args.values.now) c.args.safe c.args.stay c.records.below (tree.get nat_cmp c.records.values) c.records.invariant
-    c.in-Some.at c.in-Some.ensures.found.0 c.in-Some.ensures.newest (λ e. differ c.args.stay c.in-Some.at e c.if-ne.ensures) (tree.get nat_cmp c.drop_value.new.values) c.drop_value.ensures
+    goes_on (tree.get nat_cmp c.args.writes.now) (tree.get nat_cmp c.args.values.now) c.args.safe c.args.stay
+    c.records.below (tree.get nat_cmp c.records.values) c.records.invariant
+    c.in-Some.at c.in-Some.ensures.found.0 c.in-Some.ensures.newest
+    (λ e. differ c.args.stay c.in-Some.at e c.if-ne.ensures) (tree.get nat_cmp c.drop_value.new.values)
+    c.drop_value.ensures

@@ -6,7 +6,8 @@ use Rattle.tx_network.proofs.network.copy_held.Goals as goal
 pub returns-in-Some-clause-same : goal.returns-in-Some-clause-same
 returns-in-Some-clause-same g c =
     let w = c.again.new.request in
-    let there : get_by_text c.args.held.now c.args.name.now ≡ Some w = sym c.in-Some.ensures.value ∙ ap Some (sym c.again.ensures.same) in
+    let there : get_by_text c.args.held.now c.args.name.now ≡ Some w =
+    sym c.in-Some.ensures.value ∙ ap Some (sym c.again.ensures.same) in
     (c.get_mut.follows.holds w).0 ∙ set_value_same _ c.args.held.now.entries w there
 
 pub returns-in-Some-clause-some : goal.returns-in-Some-clause-some

@@ -1,7 +1,6 @@
-use Rattle.std.proofs.Common.{◌≡◌, ◌≤◌, ℕ, ◌∷◌, max, Some, sym, subst, ◌∙◌, arith}
+use Rattle.std.proofs.Common.{◌≤◌, sym, subst, arith}
 use Rattle.std.proofs.lemmas.Map.Keys.{ge_from_not_lt}
-use Rattle.tx_core.specs.ReadMarks.{max_ts}
-use Rattle.tx_core.specs.Recording.{owner, MayRecord}
+use Rattle.tx_core.specs.Recording.{MayRecord}
 use Rattle.tx_core.proofs.seats.ReadMarks.{raised_on}
 use Rattle.tx_core.proofs.seats.Recording.{may_record_on}
 use Rattle.tx_journal.specs.Known.{HasRecorded}

@@ -7,17 +7,30 @@ use Rattle.tx_resolve.proofs.collector.clear_all.Goals as goal
 pub returns-in_err-clear-clause-sends : goal.returns-in_err-clear-clause-sends
 returns-in_err-clear-clause-sends g c =
     let bounds = g.J.JournalId.bounds in
-    let within = is_region c.bounds.result.now (g.S.Sender.keys_between c.args.sender.now) bounds c.loop-n.n c.bounds.ensures.value (c.requires.way.between c.args.sender.now) c.loop-n-test.true in
-    let sent = subst (λ (m : ℕ). Sends g.S.Sender.sends bounds c.loop-n.seat c.loop-n.sender (clear_walk c.args.safe m) (Err c.in_err-clear.field-0.0) c.clear.new.sender c.clear.new.seat) c.new.ensures c.in_err-clear.ensures.sends in
-    regions_refused g.S.Sender.sends bounds (λ n u. clear_walk c.args.safe n) c.args.seat.now c.args.sender.now (clears_walk bounds c.args.safe) (length bounds + 1) c.loop-n.n c.loop-n.seat c.loop-n.sender tt within c.loop-n.invariant.sends
-    c.from_residual.result c.in_err-clear.field-0.0 (is_fault c.from_residual.result c.in_err-clear.field-0.0 c.from_residual.ensures.1) c.clear.new.seat c.clear.new.sender sent
+    let within = is_region c.bounds.result.now (g.S.Sender.keys_between c.args.sender.now) bounds c.loop-n.n
+    c.bounds.ensures.value (c.requires.way.between c.args.sender.now) c.loop-n-test.true in
+    let sent = subst (λ (m :
+    ℕ). Sends g.S.Sender.sends bounds c.loop-n.seat c.loop-n.sender (clear_walk c.args.safe m)
+    (Err c.in_err-clear.field-0.0) c.clear.new.sender c.clear.new.seat) c.new.ensures
+    c.in_err-clear.ensures.sends in
+    regions_refused g.S.Sender.sends bounds (λ n u. clear_walk c.args.safe n) c.args.seat.now c.args.sender.now
+    (clears_walk bounds c.args.safe) (length bounds + 1) c.loop-n.n c.loop-n.seat c.loop-n.sender tt within
+    c.loop-n.invariant.sends
+    c.from_residual.result c.in_err-clear.field-0.0
+    (is_fault c.from_residual.result c.in_err-clear.field-0.0 c.from_residual.ensures.1) c.clear.new.seat
+    c.clear.new.sender sent
 
 pub loop-n-preserved : goal.loop-n-preserved
 loop-n-preserved g c =
     let bounds = g.J.JournalId.bounds in
-    let within = is_region c.bounds.result.now (g.S.Sender.keys_between c.args.sender.now) bounds c.loop-n.n c.bounds.ensures.value (c.requires.way.between c.args.sender.now) c.loop-n-test.true in
-    let sent = subst (λ (m : ℕ). Sends g.S.Sender.sends bounds c.loop-n.seat c.loop-n.sender (clear_walk c.args.safe m) (Ok tt) c.clear.new.sender c.clear.new.seat) c.new.ensures c.in_ok-clear.ensures.sends in
+    let within = is_region c.bounds.result.now (g.S.Sender.keys_between c.args.sender.now) bounds c.loop-n.n
+    c.bounds.ensures.value (c.requires.way.between c.args.sender.now) c.loop-n-test.true in
+    let sent = subst (λ (m :
+    ℕ). Sends g.S.Sender.sends bounds c.loop-n.seat c.loop-n.sender (clear_walk c.args.safe m) (Ok tt)
+    c.clear.new.sender c.clear.new.seat) c.new.ensures c.in_ok-clear.ensures.sends in
     record {
-      sends = more_regions g.S.Sender.sends bounds (λ n u. clear_walk c.args.safe n) c.args.seat.now c.args.sender.now (clears_walk bounds c.args.safe) (length bounds + 1) c.loop-n.n c.loop-n.seat c.loop-n.sender tt within c.loop-n.invariant.sends tt c.clear.new.seat c.clear.new.sender sent;
+      sends = more_regions g.S.Sender.sends bounds (λ n u. clear_walk c.args.safe n) c.args.seat.now c.args.sender.now
+          (clears_walk bounds c.args.safe) (length bounds + 1) c.loop-n.n c.loop-n.seat c.loop-n.sender tt within
+          c.loop-n.invariant.sends tt c.clear.new.seat c.clear.new.sender sent;
       run = c.in_ok-clear.ensures.run;
     }

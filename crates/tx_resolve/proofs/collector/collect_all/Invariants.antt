@@ -7,6 +7,8 @@ use Rattle.tx_resolve.proofs.collector.collect_all.Given as goal
 -- the regions that are left
 abbrev pub invariant-loop-n : goal.invariant-loop-n
 invariant-loop-n g l = record {
-  sends : Continues g.S.Sender.sends g.J.JournalId.bounds l.initial.seat l.initial.sender (collects_walk g.J.JournalId.bounds l.safe) l.seat l.sender (in_regions (collect_walk l.safe) (length g.J.JournalId.bounds + 1 - l.n) l.n l.counts);
+  sends : Continues g.S.Sender.sends g.J.JournalId.bounds l.initial.seat l.initial.sender
+      (collects_walk g.J.JournalId.bounds l.safe) l.seat l.sender
+      (in_regions (collect_walk l.safe) (length g.J.JournalId.bounds + 1 - l.n) l.n l.counts);
   run : IsWorldRun g.J.JournalId.bounds l.seat.events;
 }

@@ -5,5 +5,8 @@ use Rattle.tx_resolve.proofs.collector.raise.Goals as goal
 pub raised_by-requires : goal.raised_by-requires
 raised_by-requires g c =
     let asked = c.ask-response.ensures.asked in
-    let more = asked_more g.S.Sender.sends g.J.JournalId.bounds c.args.seat.now c.ask-response.new.seat c.args.sender.now c.ask-response.new.sender _ c.ask-response.result c.requires.run asked in
-    to_raise g.J.JournalId.bounds c.ask-response.new.seat.events more.0 _ c.ask-response.result (not_lost g.S.Sender.sends c.requires.lossless g.J.JournalId.bounds _ _ _ _ _ _ asked) c.ask-response.ensures.told
+    let more = asked_more g.S.Sender.sends g.J.JournalId.bounds c.args.seat.now c.ask-response.new.seat
+    c.args.sender.now c.ask-response.new.sender _ c.ask-response.result c.requires.run asked in
+    to_raise g.J.JournalId.bounds c.ask-response.new.seat.events more.0 _ c.ask-response.result
+    (not_lost g.S.Sender.sends c.requires.lossless g.J.JournalId.bounds _ _ _ _ _ _ asked)
+    c.ask-response.ensures.told

@@ -7,6 +7,8 @@ use Rattle.tx_resolve.proofs.collector.raise_all.Given as goal
 -- the regions that are left
 abbrev pub invariant-loop-n : goal.invariant-loop-n
 invariant-loop-n g l = record {
-  sends : Continues g.S.Sender.sends g.J.JournalId.bounds l.initial.seat l.initial.sender (raises_walk g.J.JournalId.bounds l.safe) l.seat l.sender (in_regions (λ q u. raise_walk l.safe q) (length g.J.JournalId.bounds + 1 - l.n) l.n tt);
+  sends : Continues g.S.Sender.sends g.J.JournalId.bounds l.initial.seat l.initial.sender
+      (raises_walk g.J.JournalId.bounds l.safe) l.seat l.sender
+      (in_regions (λ q u. raise_walk l.safe q) (length g.J.JournalId.bounds + 1 - l.n) l.n tt);
   run : IsWorldRun g.J.JournalId.bounds l.seat.events;
 }

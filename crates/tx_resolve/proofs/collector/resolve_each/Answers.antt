@@ -13,9 +13,14 @@ loop-info-preserved g c =
     let i = c.loop-info.info-index in
     let info = c.info-item.result in
     let left = next_of infos i (i + 1) info refl c.loop-info-test.true c.info-item.is in
-    let more = sent_more g.S.Sender.sends g.J.JournalId.bounds (resolve_walk info Collector) c.loop-info.seat c.resolve_for.new.seat c.loop-info.sender c.resolve_for.new.sender c.resolve_for.result c.loop-info.invariant.run c.resolve_for.ensures.sends in
+    let more = sent_more g.S.Sender.sends g.J.JournalId.bounds (resolve_walk info Collector) c.loop-info.seat
+    c.resolve_for.new.seat c.loop-info.sender c.resolve_for.new.sender c.resolve_for.result
+    c.loop-info.invariant.run c.resolve_for.ensures.sends in
     record {
-      sends = more_resolved g.S.Sender.sends g.J.JournalId.bounds c.args.seat.now c.args.sender.now (locks_walk infos) c.loop-info.seat c.loop-info.sender info (drop (i + 1) infos) (drop i infos) c.resolve_for.result c.resolve_for.new.seat c.resolve_for.new.sender left c.loop-info.invariant.sends c.resolve_for.ensures.sends;
+      sends = more_resolved g.S.Sender.sends g.J.JournalId.bounds c.args.seat.now c.args.sender.now (locks_walk infos)
+          c.loop-info.seat c.loop-info.sender info (drop (i + 1) infos) (drop i infos) c.resolve_for.result
+          c.resolve_for.new.seat c.resolve_for.new.sender left c.loop-info.invariant.sends c.resolve_for.ensures.sends;
       run = more.0;
-      told = λ other has. told_on c.loop-info.seat.events c.resolve_for.new.seat.events more.1 other (c.loop-info.invariant.told other has);
+      told = λ other has. told_on c.loop-info.seat.events c.resolve_for.new.seat.events more.1 other
+          (c.loop-info.invariant.told other has);
     }

@@ -12,21 +12,30 @@ use Rattle.tx_resolve.proofs.Finding.{other_ok}
 use Rattle.tx_resolve.proofs.resolver.ask_other.Goals as goal
 
 pub ask-requires-clause-held : goal.ask-requires-clause-held
-ask-requires-clause-held g c = subst (λ (b : Body). IsHeld g.J.JournalId.bounds b) (sym c.in-Ok.ensures.ok) (held_at g.J.JournalId.bounds _)
+ask-requires-clause-held g c =
+    subst (λ (b : Body). IsHeld g.J.JournalId.bounds b) (sym c.in-Ok.ensures.ok) (held_at g.J.JournalId.bounds _)
 
 pub ask-requires-clause-allowed : goal.ask-requires-clause-allowed
 ask-requires-clause-allowed g c =
-    let asks : c.in-Ok.body ≡ other_of c.args.met.now.start c.args.key.now = c.in-Ok.ensures.ok ∙ ap (λ (x : LockInfo). other_of x.start c.args.key.now) c.facts.ensures in
+    let asks : c.in-Ok.body ≡ other_of c.args.met.now.start c.args.key.now =
+    c.in-Ok.ensures.ok ∙ ap (λ (x : LockInfo). other_of x.start c.args.key.now) c.facts.ensures in
     subst (λ (b : Body). Allowed c.args.seat.now.events b) (sym asks) c.requires.allowed
 
 pub returns-clause-knows : goal.returns-clause-knows
 returns-clause-knows g c =
-    let more = asked_more g.S.Sender.sends g.J.JournalId.bounds c.args.seat.now c.ask.new.seat c.args.sender.now c.ask.new.sender c.in-Ok.body c.ask.result c.requires.knows.run c.ask.ensures.asked in
-    knows_on g.J.JournalId.bounds c.args.seat.now.events c.ask.new.seat.events c.args.met.now c.requires.knows more.0 more.1
+    let more = asked_more g.S.Sender.sends g.J.JournalId.bounds c.args.seat.now c.ask.new.seat c.args.sender.now
+    c.ask.new.sender c.in-Ok.body c.ask.result c.requires.knows.run c.ask.ensures.asked in
+    knows_on g.J.JournalId.bounds c.args.seat.now.events c.ask.new.seat.events c.args.met.now c.requires.knows more.0
+    more.1
 
 pub returns-clause-found : goal.returns-clause-found
 returns-clause-found g c =
-    let more = asked_more g.S.Sender.sends g.J.JournalId.bounds c.args.seat.now c.ask.new.seat c.args.sender.now c.ask.new.sender c.in-Ok.body c.ask.result c.requires.knows.run c.ask.ensures.asked in
-    let asks : c.in-Ok.body ≡ other_of c.args.met.now.start c.args.key.now = c.in-Ok.ensures.ok ∙ ap (λ (x : LockInfo). other_of x.start c.args.key.now) c.facts.ensures in
-    let response : RespondsSo c.ask.new.seat.events (other_of c.args.met.now.start c.args.key.now) c.ask.result = subst (λ (b : Body). RespondsSo c.ask.new.seat.events b c.ask.result) asks c.ask.ensures.told in
-    subst (IsOther c.ask.new.seat.events c.args.met.now.start c.args.key.now) (sym c.other_by.ensures) (other_ok g.J.JournalId.bounds c.ask.new.seat.events more.0 c.args.met.now.start c.args.key.now c.ask.result response)
+    let more = asked_more g.S.Sender.sends g.J.JournalId.bounds c.args.seat.now c.ask.new.seat c.args.sender.now
+    c.ask.new.sender c.in-Ok.body c.ask.result c.requires.knows.run c.ask.ensures.asked in
+    let asks : c.in-Ok.body ≡ other_of c.args.met.now.start c.args.key.now =
+    c.in-Ok.ensures.ok ∙ ap (λ (x : LockInfo). other_of x.start c.args.key.now) c.facts.ensures in
+    let response : RespondsSo c.ask.new.seat.events (other_of c.args.met.now.start c.args.key.now) c.ask.result =
+    subst (λ (b : Body). RespondsSo c.ask.new.seat.events b c.ask.result) asks c.ask.ensures.told in
+    subst (IsOther c.ask.new.seat.events c.args.met.now.start c.args.key.now) (sym c.other_by.ensures)
+    (other_ok g.J.JournalId.bounds c.ask.new.seat.events more.0 c.args.met.now.start c.args.key.now c.ask.result
+    response)

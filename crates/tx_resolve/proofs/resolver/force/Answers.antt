@@ -4,4 +4,8 @@ use Rattle.tx_resolve.specs.Resolving.{primary_walk, after_forced}
 use Rattle.tx_resolve.proofs.resolver.force.Goals as goal
 
 pub returns-clause-sends : goal.returns-clause-sends
-returns-clause-sends g c = sent_then g.S.Sender.sends g.J.JournalId.bounds (primary_walk c.args.met.now c.args.who.now true) (after_forced c.args.met.now) c.args.seat.now c.ask_primary-primary.new.seat c.after_forced.new.seat c.args.sender.now c.ask_primary-primary.new.sender c.after_forced.new.sender c.ask_primary-primary.result c.after_forced.result c.ask_primary-primary.ensures.sends c.after_forced.ensures.sends
+returns-clause-sends g c =
+    sent_then g.S.Sender.sends g.J.JournalId.bounds (primary_walk c.args.met.now c.args.who.now true)
+    (after_forced c.args.met.now) c.args.seat.now c.ask_primary-primary.new.seat c.after_forced.new.seat
+    c.args.sender.now c.ask_primary-primary.new.sender c.after_forced.new.sender c.ask_primary-primary.result
+    c.after_forced.result c.ask_primary-primary.ensures.sends c.after_forced.ensures.sends

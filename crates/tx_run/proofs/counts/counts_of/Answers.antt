@@ -18,5 +18,9 @@ loop-reply-preserved c =
     let lines = map (λ p. p.1.now) c.args.lines.now in
     let d = c.loop-reply-item.result.1.now in
     let len = length-map c.args.lines.now (λ p. p.1.now) in
-    let at : get_or lines i d ≡ d = get_or-map (λ p. p.1.now) c.args.lines.now i c.loop-reply-item.result d c.loop-reply-test.true ∙ ap (λ p. p.1.now) (sym c.loop-reply-item.is) in
-    c.add.ensures ∙ ap (λ counts. counted counts d.answer) c.loop-reply.invariant ∙ ap (λ s. counted (counts_of (take i lines)) s.answer) (sym at) ∙ sym (counted_more lines i d (omega (arith, len)))
+    let at : get_or lines i d ≡ d =
+    get_or-map (λ p. p.1.now) c.args.lines.now i c.loop-reply-item.result d c.loop-reply-test.true
+    ∙ ap (λ p. p.1.now) (sym c.loop-reply-item.is) in
+    c.add.ensures ∙ ap (λ counts. counted counts d.answer) c.loop-reply.invariant
+    ∙ ap (λ s. counted (counts_of (take i lines)) s.answer) (sym at)
+    ∙ sym (counted_more lines i d (omega (arith, len)))

@@ -1,5 +1,6 @@
 use Rattle.std.proofs.Common.{◌≡◌, ◌++◌}
-use Rattle.tx_run.specs.Jobs.{AreJoined}
+use Rattle.std.specs.List.{list_any}
+use Rattle.tx_run.specs.Jobs.{AreJoined, Output}
 use Rattle.tx_run.proofs.Gathering.{AreLeft}
 use Rattle.tx_run.proofs.play.gather.Given as goal
 
@@ -8,4 +9,5 @@ invariant-loop-output g l = record {
   left : AreLeft g.L.Source.text l.seat.events l.replies l.output-iterator.rest.items;
   split : l.fn.outputs.items ≡ l.yielded ++ l.output-iterator.rest.items;
   joined : AreJoined l.fn.replies l.seat.events l.replies l.yielded;
+  faulted : l.faulted ≡ list_any (λ (o : Output). o.faulted) l.yielded;
 }

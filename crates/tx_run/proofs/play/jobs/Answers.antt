@@ -1,6 +1,8 @@
-use Rattle.std.proofs.Common.{◌+◌, length, vec_len, sym, ap, subst, arith}
-use Rattle.tx_run.specs.Jobs.{HaveOwnSeats}
-use Rattle.tx_run.proofs.Seating.{own_push}
+use Rattle.std.proofs.Common.{◌+◌, length, map, vec_len, sym, ap, subst, ◌∙◌, arith}
+use Rattle.tx_run.specs.Jobs.{HaveOwnSeats, job_lines}
+use Rattle.tx_run.specs.LineNumbers.{number_of, numbers_in}
+use Rattle.tx_run.proofs.Seating.{own_push, map_push}
+use Rattle.tx_run.proofs.Gathering.{one_goes, all_went}
 use Rattle.tx_run.proofs.play.jobs.Goals as goal
 
 pub loop-lines-preserved : goal.loop-lines-preserved
@@ -18,5 +20,18 @@ loop-lines-preserved g c =
       number = omega (arith, before.number, c.in_ok-push.ensures.len);
       few = omega (arith, before.few, step);
       jobs = subst (λ l. HaveOwnSeats last l) (sym c.in_ok-push.ensures.items)
-          (own_push last c.loop-lines.jobs.items job before.jobs (omega (arith, made.0, before.number, ok)) (omega (arith, made.1, two.1, before.left, before.number, ok)));
+          (own_push last c.loop-lines.jobs.items job before.jobs (omega (arith, made.job.0, before.number, ok))
+          (omega (arith, made.job.1, two.1, before.left, before.number, ok)));
+      split = one_goes c.args.sessions.items c.loop-lines.yielded c.loop-lines.lines-iterator.rest.items _
+          c.in-Some.lines before.split c.in-Some.ensures.steps.0;
+      lines = ap (map job_lines) c.in_ok-push.ensures.items
+          ∙ map_push job_lines (λ lines. map number_of lines.items) c.loop-lines.jobs.items c.loop-lines.yielded job
+          c.in-Some.lines before.lines made.lines;
     }
+
+pub returns-clause-lines : goal.returns-clause-lines
+returns-clause-lines g c =
+    let went = all_went c.args.sessions.items c.loop-lines.yielded c.loop-lines.lines-iterator.rest.items
+    c.loop-lines.lines-iterator.rest.len c.loop-lines.invariant.split c.loop-lines.lines-iterator.rest.ok.0
+    c.in-None.ensures.steps.0 in
+    c.loop-lines.invariant.lines ∙ ap numbers_in went

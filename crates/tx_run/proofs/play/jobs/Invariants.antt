@@ -1,5 +1,6 @@
-use Rattle.std.proofs.Common.{◌≡◌, ◌+◌, ◌*◌, ◌≤◌, length, vec_len}
-use Rattle.tx_run.specs.Jobs.{AreFrom, HaveOwnSeats}
+use Rattle.std.proofs.Common.{◌≡◌, ◌+◌, ◌*◌, ◌≤◌, ◌++◌, length, map, vec_len}
+use Rattle.tx_run.specs.Jobs.{AreFrom, HaveOwnSeats, job_lines}
+use Rattle.tx_run.specs.LineNumbers.{numbers_in}
 use Rattle.tx_run.proofs.play.jobs.Given as goal
 
 abbrev pub invariant-loop-lines : goal.invariant-loop-lines
@@ -9,4 +10,6 @@ invariant-loop-lines g l = record {
   number : vec_len l.jobs ≡ l.number;
   few : l.number + length l.lines-iterator.rest.items ≤ 256;
   jobs : HaveOwnSeats (length g.J.JournalId.bounds + vec_len l.fn.seats) l.jobs.items;
+  split : l.fn.sessions.items ≡ l.yielded ++ l.lines-iterator.rest.items;
+  lines : map job_lines l.jobs.items ≡ numbers_in l.yielded;
 }

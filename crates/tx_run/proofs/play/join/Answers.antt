@@ -6,7 +6,7 @@ use Rattle.std.proofs.lemmas.List.Elements.{All-append}
 use Rattle.tx_run.specs.Outcomes.{TellsOutcomes}
 use Rattle.tx_run.specs.Pairs.{TellsPair}
 use Rattle.tx_run.specs.Logs.{TellsBy}
-use Rattle.tx_run.specs.Jobs.{IsAbove, Working, Joins}
+use Rattle.tx_run.specs.Jobs.{IsAbove, Output, Joins}
 use Rattle.tx_run.proofs.Answering.{tells_on}
 use Rattle.tx_run.proofs.Gathering.{joined, joined_above, outcomes_on, all_above_on}
 use Rattle.tx_run.proofs.play.join.Goals as goal
@@ -21,12 +21,14 @@ returns-clause-told g c =
     let log = c.output.inside.log in
     let seat = c.args.output.log.seat in
     let xs = c.args.replies.now in
-    let same = ap (λ (o : Working). o.log.seat) c.output.view_is in
+    let same = ap (λ (o : Output). o.log.seat) c.output.view_is in
     let knows = subst (λ (h : History). Begins h now) c.into_parts-told.ensures.parts.0 c.learn.ensures.told in
-    let tells = subst (λ (s : ℕ). TellsBy now s log.replies) same (tells_on bounds log.told now run knows log.seat log.replies c.into_parts-told.ensures.tells) in
+    let tells = subst (λ (s : ℕ). TellsBy now s log.replies) same
+    (tells_on bounds log.told now run knows log.seat log.replies c.into_parts-told.ensures.tells) in
     let all = c.in_ok-add.ensures ∙ ap (λ (l : List LineReply). xs ++ l) c.into_parts-told.ensures.parts.1 in
     subst (λ (l : List LineReply). TellsOutcomes now l) (sym all)
-    (joined now seat xs log.replies (outcomes_on bounds old now run more xs c.requires.told) (all_above_on bounds old now run more (seat + 1) xs c.requires.above) tells)
+    (joined now seat xs log.replies (outcomes_on bounds old now run more xs c.requires.told)
+    (all_above_on bounds old now run more (seat + 1) xs c.requires.above) tells)
 
 pub returns-clause-above : goal.returns-clause-above
 returns-clause-above g c =
@@ -38,9 +40,10 @@ returns-clause-above g c =
     let log = c.output.inside.log in
     let seat = c.args.output.log.seat in
     let xs = c.args.replies.now in
-    let same = ap (λ (o : Working). o.log.seat) c.output.view_is in
+    let same = ap (λ (o : Output). o.log.seat) c.output.view_is in
     let knows = subst (λ (h : History). Begins h now) c.into_parts-told.ensures.parts.0 c.learn.ensures.told in
-    let tells = subst (λ (s : ℕ). TellsBy now s log.replies) same (tells_on bounds log.told now run knows log.seat log.replies c.into_parts-told.ensures.tells) in
+    let tells = subst (λ (s : ℕ). TellsBy now s log.replies) same
+    (tells_on bounds log.told now run knows log.seat log.replies c.into_parts-told.ensures.tells) in
     let all = c.in_ok-add.ensures ∙ ap (λ (l : List LineReply). xs ++ l) c.into_parts-told.ensures.parts.1 in
     subst (λ (l : List LineReply). All (λ s. IsAbove now seat s.answer) l) (sym all)
     (joined_above now seat xs log.replies (all_above_on bounds old now run more (seat + 1) xs c.requires.above) tells)
@@ -59,9 +62,15 @@ returns-clause-joins g c =
     let now = c.learn.new.self.events in
     let log = c.output.inside.log in
     let xs = c.args.replies.now in
-    let output : Working = record { number = c.output.inside.number; log = log } in
-    subst (λ (o : Working). Joins old xs o now c.add.new.self) c.output.view_is (record {
-      learnt = record { tells = c.into_parts-told.ensures.tells; knows = subst (λ (h : History). Begins h now) c.into_parts-told.ensures.parts.0 c.learn.ensures.told };
+    let output : Output = record { number = c.output.inside.number; log = log; faulted = c.output.inside.faulted } in
+    subst (λ (o : Output). Joins old xs o now c.add.new.self) c.output.view_is (record {
+      learnt = record {
+        kept = sym c.into_parts-told.ensures.parts.2 ∙ c.if-lost.false;
+        tells =
+            c.into_parts-told.ensures.tells;
+        knows =
+            subst (λ (h : History). Begins h now) c.into_parts-told.ensures.parts.0 c.learn.ensures.told;
+      };
       grew = extends_begins c.args.seat.now.seat old now c.learn.ensures.seen.extends;
       all = c.in_ok-add.ensures ∙ ap (λ (l : List LineReply). xs ++ l) c.into_parts-told.ensures.parts.1;
     })

@@ -8,6 +8,9 @@ loop-reply-preserved c =
     let items = c.in_ok-push.ensures.items in
     let before = c.loop-reply.invariant in
     record {
-      numbers = subst (All (λ p. p.0 ≡ p.1.now.number)) (sym items) (All-push (λ p. p.0 ≡ p.1.now.number) c.loop-reply.lines.items _ before.numbers refl);
-      lines = ap (map (λ p. p.1.now)) items ∙ entered (λ p. p.0) (λ p. p.1.now) c.loop-reply.lines.items _ (map (λ p. p.1.now) c.args.lines.now.items) c.args.replies.now c.loop-reply.reply-index c.loop-reply-test.true before.lines c.reply-item.is;
+      numbers = subst (All (λ p. p.0 ≡ p.1.now.number)) (sym items)
+          (All-push (λ p. p.0 ≡ p.1.now.number) c.loop-reply.lines.items _ before.numbers refl);
+      lines = ap (map (λ p. p.1.now)) items
+          ∙ entered (λ p. p.0) (λ p. p.1.now) c.loop-reply.lines.items _ (map (λ p. p.1.now) c.args.lines.now.items)
+          c.args.replies.now c.loop-reply.reply-index c.loop-reply-test.true before.lines c.reply-item.is;
     }

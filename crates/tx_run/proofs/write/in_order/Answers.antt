@@ -19,7 +19,8 @@ pub returns : goal.returns
 returns c =
     let parts = c.parts-part-items.result.now in
     let all = take_all c.loop-part.part-index parts (omega arith) in
-    in_order (λ p. p.0) (λ p. p.1.now) c.loop-part.lines.items c.sort_by_key.new.self.items c.args.replies.now c.loop-part.invariant.numbers
+    in_order (λ p. p.0) (λ p. p.1.now) c.loop-part.lines.items c.sort_by_key.new.self.items c.args.replies.now
+    c.loop-part.invariant.numbers
     (c.loop-part.invariant.lines ∙ ap all_of all ∙ c.parts-part-items.ensures)
     c.in_ok-sort_by_key.ensures.permutation
     (IsNonDecreasingBy-from_sort_by_key (λ p. p.0) _ c.in_ok-sort_by_key.ensures.sorted (λ a r q k. search rules))

@@ -14,16 +14,22 @@ pub returns-in_err-send-clause-part : goal.returns-in_err-send-clause-part
 returns-in_err-send-clause-part g c =
     let line = reply_text (c.args.number, fault_words c.args.cause) in
     let text = c.as_slice.ensures.value ∙ c.in_ok-put_fault.ensures ∙ ap (λ l. l ++ line) c.new-text.ensures.items in
-    on_any_err _ _ (subst (AppendsPart (g.W.Write.contents c.args.writer.now) (g.W.Write.contents c.send.new.writer)) text c.in_err-send.ensures.part)
+    on_any_err _ _ (subst (AppendsPart (g.W.Write.contents c.args.writer.now) (g.W.Write.contents c.send.new.writer))
+    text c.in_err-send.ensures.part)
 
 pub returns-clause-all : goal.returns-clause-all
 returns-clause-all g c =
     let line = reply_text (c.args.number, fault_words c.args.cause) in
     let text = c.as_slice.ensures.value ∙ c.in_ok-put_fault.ensures ∙ ap (λ l. l ++ line) c.new-text.ensures.items in
-    on_any_ok _ _ (Appends-kept _ _ _ _ (subst (Appends (g.W.Write.contents c.args.writer.now) (g.W.Write.contents c.send.new.writer)) text c.in_ok-send.ensures.all) c.finish.ensures.kept)
+    on_any_ok _ _ (Appends-kept _ _ _ _
+    (subst (Appends (g.W.Write.contents c.args.writer.now) (g.W.Write.contents c.send.new.writer)) text
+    c.in_ok-send.ensures.all) c.finish.ensures.kept)
 
 pub returns-clause-part : goal.returns-clause-part
 returns-clause-part g c =
     let line = reply_text (c.args.number, fault_words c.args.cause) in
     let text = c.as_slice.ensures.value ∙ c.in_ok-put_fault.ensures ∙ ap (λ l. l ++ line) c.new-text.ensures.items in
-    on_any_err _ _ (part_all _ _ _ (Appends-kept _ _ _ _ (subst (Appends (g.W.Write.contents c.args.writer.now) (g.W.Write.contents c.send.new.writer)) text c.in_ok-send.ensures.all) c.finish.ensures.kept))
+    on_any_err _ _ (part_all _ _ _
+    (Appends-kept _ _ _ _
+    (subst (Appends (g.W.Write.contents c.args.writer.now) (g.W.Write.contents c.send.new.writer)) text
+    c.in_ok-send.ensures.all) c.finish.ensures.kept))

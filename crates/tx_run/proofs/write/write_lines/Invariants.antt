@@ -5,4 +5,6 @@ use Rattle.tx_run.specs.Lines.{line_of}
 use Rattle.tx_run.proofs.write.write_lines.Given as goal
 
 abbrev pub invariant-lines : goal.invariant-lines
-invariant-lines g l = Appends (g.W.Write.contents l.fn.writer) (g.W.Write.contents l.writer) (flat_map line_of (take l.reply-index (map (λ p. p.1.now) l.lines)))
+invariant-lines g l =
+    Appends (g.W.Write.contents l.fn.writer) (g.W.Write.contents l.writer)
+    (flat_map line_of (take l.reply-index (map (λ p. p.1.now) l.lines)))

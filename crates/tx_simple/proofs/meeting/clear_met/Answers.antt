@@ -14,7 +14,15 @@ pub returns-in_default-clause-resolver : goal.returns-in_default-clause-resolver
 returns-in_default-clause-resolver g c = goes_itself c.args.resolver.now
 
 pub returns-in_err-learn-clause-resolver : goal.returns-in_err-learn-clause-resolver
-returns-in_err-learn-clause-resolver g c = resolved_goes g.S.Sender.sends g.J.JournalId.bounds c.args.resolver.now c.last-now.new.self c.resolve_met-found.new.seat c.args.sender.now c.resolve_met-found.new.sender c.in-Some.met c.start.result c.last-now.result c.resolve_met-found.result.status c.last-now.ensures.same.0 c.last-now.ensures.seen c.resolve_met-found.ensures.sends
+returns-in_err-learn-clause-resolver g c =
+    resolved_goes g.S.Sender.sends g.J.JournalId.bounds c.args.resolver.now c.last-now.new.self
+    c.resolve_met-found.new.seat c.args.sender.now c.resolve_met-found.new.sender c.in-Some.met c.start.result
+    c.last-now.result c.resolve_met-found.result.status c.last-now.ensures.same.0 c.last-now.ensures.seen
+    c.resolve_met-found.ensures.sends
 
 pub returns-clause-resolver : goal.returns-clause-resolver
-returns-clause-resolver g c = resolved_goes g.S.Sender.sends g.J.JournalId.bounds c.args.resolver.now c.last-now.new.self c.resolve_met-found.new.seat c.args.sender.now c.resolve_met-found.new.sender c.in-Some.met c.start.result c.last-now.result c.resolve_met-found.result.status c.last-now.ensures.same.0 c.last-now.ensures.seen c.resolve_met-found.ensures.sends
+returns-clause-resolver g c =
+    resolved_goes g.S.Sender.sends g.J.JournalId.bounds c.args.resolver.now c.last-now.new.self
+    c.resolve_met-found.new.seat c.args.sender.now c.resolve_met-found.new.sender c.in-Some.met c.start.result
+    c.last-now.result c.resolve_met-found.result.status c.last-now.ensures.same.0 c.last-now.ensures.seen
+    c.resolve_met-found.ensures.sends

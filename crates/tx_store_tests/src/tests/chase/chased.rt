@@ -8,7 +8,8 @@ use std::sync::atomic::{AtomicU64, Ordering};
 use std::thread::yield_now;
 use tx_cells::{Changes, Families, Fresh, Holds, KeyVersions, Sees};
 use tx_plan::{Answer, Dropped, Infos, KeyChange, NewLock, Prewrite, ReadView, Scan, TxnView};
-use tx_types::{Fault, Key, LockInfo, Ts};
+use tx_spelling::SpeltKey;
+use tx_types::{Fault, LockInfo, Ts};
 
 /// How far two threads are, of which one reads while the other prewrites.
 #[derive(Drop)]
@@ -103,16 +104,22 @@ impl<F: Fresh> Holds for Chased<F> {
 }
 
 impl<F: Fresh> Sees for Chased<F> {
-    fn view(&self, alloc: Global, key: &Key, start: Ts, commit: Ts) -> Result<TxnView, Fault> {
+    fn view(
+        &self,
+        alloc: Global,
+        key: &SpeltKey<'_>,
+        start: Ts,
+        commit: Ts,
+    ) -> Result<TxnView, Fault> {
         self.chase.look();
         self.cells.view(alloc, key, start, commit)
     }
 
-    fn read(&self, alloc: Global, key: &Key, at: Ts) -> Result<ReadView, Fault> {
+    fn read(&self, alloc: Global, key: &SpeltKey<'_>, at: Ts) -> Result<ReadView, Fault> {
         self.cells.read(alloc, key, at)
     }
 
-    fn lock_info(&self, alloc: Global, key: &Key) -> Result<Option<LockInfo>, Fault> {
+    fn lock_info(&self, alloc: Global, key: &SpeltKey<'_>) -> Result<Option<LockInfo>, Fault> {
         self.cells.lock_info(alloc, key)
     }
 
@@ -132,11 +139,11 @@ impl<F: Fresh> Sees for Chased<F> {
         self.cells.count_below(alloc, safe)
     }
 
-    fn cells(&self, alloc: Global, key: &Key) -> Result<KeyVersions, Fault> {
+    fn cells(&self, alloc: Global, key: &SpeltKey<'_>) -> Result<KeyVersions, Fault> {
         self.cells.cells(alloc, key)
     }
 
-    fn number(&self, alloc: Global, key: &Key) -> Result<u64, Fault> {
+    fn number(&self, alloc: Global, key: &SpeltKey<'_>) -> Result<u64, Fault> {
         self.cells.number(alloc, key)
     }
 }
@@ -149,17 +156,18 @@ impl<F: Fresh> Changes for Chased<F> {
     fn put_lock(
         &mut self,
         alloc: Global,
+        key: &SpeltKey<'_>,
         body: &Prewrite,
         new: NewLock,
         number: u64,
     ) -> Result<(), Fault> {
-        self.cells.put_lock(alloc, body, new, number)
+        self.cells.put_lock(alloc, key, body, new, number)
     }
 
     fn apply(
         &mut self,
         alloc: Global,
-        key: &Key,
+        key: &SpeltKey<'_>,
         change: KeyChange,
         number: u64,
     ) -> Result<(), Fault> {

@@ -11,4 +11,5 @@ returns c =
     let ds = fault_words c.args.cause in
     let n = c.args.number in
     let all : c.put_cause.new.out.items ≡ ((old ++ 91 ∷ []) ++ decimal n) ++ members_text ds = search rules in
-    if_ok c.extend_from_slice-2.result _ _ _ c.extend_from_slice-2.ensures.items (λ e. e ∙ ap (λ t. t ++ 93 ∷ 10 ∷ []) all ∙ line_is old n ds)
+    if_ok c.extend_from_slice-2.result _ _ _ c.extend_from_slice-2.ensures.items (λ e. e
+    ∙ ap (λ t. t ++ 93 ∷ 10 ∷ []) all ∙ line_is old n ds)

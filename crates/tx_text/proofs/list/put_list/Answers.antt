@@ -14,5 +14,8 @@ returns g c =
     let first = c.in-Some.first.now in
     let others = c.in-Some.others.now in
     let split : c.args.list.now ≡ first ∷ others = search rules in
-    let all : c.put_more.new.out.items ≡ ((old ++ 91 ∷ []) ++ compact_text (value first)) ++ members_text (items_of (map value others)) = search rules in
-    if_ok c.extend_from_slice-3.result _ _ _ c.extend_from_slice-3.ensures.items (λ e. e ∙ ap (λ t. t ++ 93 ∷ []) all ∙ list_is old (value first) (items_of (map value others)) ∙ ap (λ xs. old ++ compact_text (array (items_of (map value xs)))) (sym split))
+    let all : c.put_more.new.out.items ≡ ((old ++ 91 ∷ []) ++ compact_text (value first))
+    ++ members_text (items_of (map value others)) = search rules in
+    if_ok c.extend_from_slice-3.result _ _ _ c.extend_from_slice-3.ensures.items (λ e. e ∙ ap (λ t. t ++ 93 ∷ []) all
+    ∙ list_is old (value first) (items_of (map value others))
+    ∙ ap (λ xs. old ++ compact_text (array (items_of (map value xs)))) (sym split))

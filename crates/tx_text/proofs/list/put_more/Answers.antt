@@ -11,5 +11,6 @@ loop-entry-preserved g c =
     let xs = c.args.list.now in
     let at = c.loop-entry.entry-index in
     let value = g.E.Entries.value in
-    let all : c.put.new.out.items ≡ ((old ++ members_text (items_of (map value (take at xs)))) ++ 44 ∷ []) ++ compact_text (value (get_or xs at c.entry-item.result)) = search rules in
+    let all : c.put.new.out.items ≡ ((old ++ members_text (items_of (map value (take at xs)))) ++ 44 ∷ [])
+    ++ compact_text (value (get_or xs at c.entry-item.result)) = search rules in
     all ∙ entry_more value old xs at c.entry-item.result c.loop-entry-test.true

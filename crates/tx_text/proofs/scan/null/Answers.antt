@@ -10,5 +10,7 @@ returns-clause-begins c =
     let bytes = c.as_bytes-bytes.result.now in
     let start = c.past_spaces-start.result in
     subst (λ b. Begins (drop c.args.from b) (token null) (drop (start + 4) b)) c.as_bytes-bytes.ensures.value
-    (null_begins (drop c.args.from bytes) bytes start (omega arith) c.past_spaces-start.ensures.same c.if-bytes-start-ne110.false c.if-bytes-start-ne117.false c.if-bytes-start-ne108.false c.if-bytes-start-ne108-2.false
+    (null_begins (drop c.args.from bytes) bytes start (omega arith) c.past_spaces-start.ensures.same
+    c.if-bytes-start-ne110.false c.if-bytes-start-ne117.false c.if-bytes-start-ne108.false
+    c.if-bytes-start-ne108-2.false
     (c.ends_word.ensures c.if-not-ends_word.false))

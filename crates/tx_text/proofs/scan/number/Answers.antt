@@ -17,7 +17,9 @@ returns-clause-begins c =
     let small : digits_of (scan (slice_range bytes s e)) < 2 ^ 64 = subst (λ p. digits_of p < 2 ^ 64) parts found.0.1 in
     let begins : BeginsNumber (drop c.args.from bytes) c.in_ok-n.n (drop e bytes) = (
       slice_range bytes s e,
-      number_begins (drop c.args.from bytes) bytes s e (omega arith) (omega arith) c.past_spaces-start.ensures.same c.digits_end-end.ensures.digits c.digits_end-end.ensures.lexemes (omega arith) (omega arith) ends,
-      number_reads (slice_range bytes s e) c.in_ok-n.n (no_sign bytes s e (omega arith) (omega arith)) integer small (ap digits_of (sym parts) ∙ sym found.1),
+      number_begins (drop c.args.from bytes) bytes s e (omega arith) (omega arith) c.past_spaces-start.ensures.same
+          c.digits_end-end.ensures.digits c.digits_end-end.ensures.lexemes (omega arith) (omega arith) ends,
+      number_reads (slice_range bytes s e) c.in_ok-n.n (no_sign bytes s e (omega arith) (omega arith)) integer small
+          (ap digits_of (sym parts) ∙ sym found.1),
     ) in
     subst (λ b. BeginsNumber (drop c.args.from b) c.in_ok-n.n (drop e b)) c.as_bytes-bytes.ensures.value begins

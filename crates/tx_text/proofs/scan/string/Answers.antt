@@ -14,7 +14,8 @@ range-requires-clause-start_boundary c =
     let start = c.in_ok-start.start in
     let quote = c.in_ok-start.ensures.after in
     let same : start - 1 + 1 ≡ start = omega arith in
-    λ _. subst (IsCharBoundary line) same (IsCharBoundary-after_ascii line (start - 1) c.utf8.line (omega arith) (omega arith))
+    λ _. subst (IsCharBoundary line) same
+    (IsCharBoundary-after_ascii line (start - 1) c.utf8.line (omega arith) (omega arith))
 
 pub returns-clause-begins : goal.returns-clause-begins
 returns-clause-begins c =
@@ -23,7 +24,10 @@ returns-clause-begins c =
     let start = c.in_ok-start.start in
     let stop = c.plain_end-stop.result in
     let inside = slice_range bytes start stop in
-    let runs = runs_next (drop start bytes) inside bytes stop 34 (omega arith) c.if-bytes-stop-ne34.false c.plain_end-stop.ensures.runs in
-    let same = subst (λ b. Runs (drop start b) (slice_range b start stop) (34 ∷ drop (stop + 1) b)) c.as_bytes-bytes.ensures.value runs in
+    let runs = runs_next (drop start bytes) inside bytes stop 34 (omega arith) c.if-bytes-stop-ne34.false
+    c.plain_end-stop.ensures.runs in
+    let same = subst (λ b. Runs (drop start b) (slice_range b start stop) (34 ∷ drop (stop + 1) b))
+    c.as_bytes-bytes.ensures.value runs in
     subst (λ s. Begins (drop c.args.from line) (token (string s)) (drop (stop + 1) line)) (sym c.range.ensures.value)
-    (quoted_begins (drop c.args.from line) (drop start line) (slice_range line start stop) (drop (stop + 1) line) c.in_ok-start.ensures.same same)
+    (quoted_begins (drop c.args.from line) (drop start line) (slice_range line start stop) (drop (stop + 1) line)
+    c.in_ok-start.ensures.same same)

@@ -3,7 +3,8 @@ use Rattle.tx_text.specs.Plain.{is_foreign}
 use Rattle.tx_text.proofs.text.is_simple_from.Given as goal
 
 abbrev pub invariant-bytes : goal.invariant-bytes
-invariant-bytes l = (l.from ≤ l.at) × (l.at ≤ length l.bytes) × ((k : ℕ) → l.from ≤ k → k < l.at → is_foreign (get_or l.bytes k 0) ≡ false)
+invariant-bytes l = (l.from ≤ l.at) × (l.at ≤ length l.bytes)
+    × ((k : ℕ) → l.from ≤ k → k < l.at → is_foreign (get_or l.bytes k 0) ≡ false)
 
 abbrev pub decreases-bytes : goal.decreases-bytes
 decreases-bytes l = length l.bytes - l.at

@@ -9,12 +9,14 @@ pub returns-then-is_simple : goal.returns-then-is_simple
 returns-then-is_simple c =
     let bytes = c.args.bytes.now in
     let is = c.if-is_simple.ensures in
-    on_ok c.put_quoted.result c.put_quoted.ensures (λ e. e ∙ plain_is c.args.out.now.items bytes (IsUtf8-from_ascii bytes (is.ascii refl)) (is.same refl))
+    on_ok c.put_quoted.result c.put_quoted.ensures (λ e. e
+    ∙ plain_is c.args.out.now.items bytes (IsUtf8-from_ascii bytes (is.ascii refl)) (is.same refl))
 
 pub returns-then-is_err : goal.returns-then-is_err
 returns-then-is_err c =
     let none : ¬ (IsUtf8 c.args.bytes.now) = search rules in
-    if_ok c.extend_from_slice.result _ _ _ c.extend_from_slice.ensures.items (λ e. e ∙ null_is c.args.out.now.items c.args.bytes.now none)
+    if_ok c.extend_from_slice.result _ _ _ c.extend_from_slice.ensures.items (λ e. e
+    ∙ null_is c.args.out.now.items c.args.bytes.now none)
 
 pub returns : goal.returns
 returns c =
@@ -22,4 +24,5 @@ returns c =
     let bytes = c.args.bytes.now in
     let text : IsUtf8 bytes = search rules in
     let all : c.put_escaped.new.out.items ≡ (old ++ 34 ∷ []) ++ escape bytes = search rules in
-    if_ok c.extend_from_slice-3.result _ _ _ c.extend_from_slice-3.ensures.items (λ e. e ∙ ap (λ t. t ++ 34 ∷ []) all ∙ text_is old bytes text)
+    if_ok c.extend_from_slice-3.result _ _ _ c.extend_from_slice-3.ensures.items (λ e. e ∙ ap (λ t. t ++ 34 ∷ []) all
+    ∙ text_is old bytes text)

@@ -4,4 +4,5 @@ use Rattle.tx_timeline.proofs.Finding.{held_is}
 use Rattle.tx_timeline.proofs.Timeline.get.Goals as goal
 
 pub returns : goal.returns
-returns g c = c.value_in.ensures ∙ held_is c.args.self.now.entries c.args.at c.index.result c.index.ensures.ordered c.index.ensures.index
+returns g c = c.value_in.ensures
+    ∙ held_is c.args.self.now.entries c.args.at c.index.result c.index.ensures.ordered c.index.ensures.index

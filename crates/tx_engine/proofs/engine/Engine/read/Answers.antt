@@ -3,7 +3,7 @@ use Rattle.tx_types.specs.declared.key.Key.{Key}
 use Rattle.tx_plan.specs.declared.body.Body.TheVariants as request
 use Rattle.tx_reply.specs.declared.reply.ScriptReply.{ScriptReply}
 use Rattle.tx_network.specs.Networks.{network_state, Met}
-use Rattle.tx_engine.specs.Semantics.{is_key}
+use Rattle.tx_types.specs.Lengths.{is_key}
 use Rattle.tx_steps.specs.declared.step.Step.TheVariants as step
 use Rattle.tx_engine.specs.Slots.{Held, texts, Serves, Goes, Turned}
 use Rattle.tx_engine.proofs.Engines.{step_unkeyed, step_unread, step_read}

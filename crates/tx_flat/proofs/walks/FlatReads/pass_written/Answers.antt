@@ -13,15 +13,17 @@ pub value_by-requires-clause-stands : goal.value_by-requires-clause-stands
 value_by-requires-clause-stands c =
     let flat = c.args.self.now.cells.now in
     let v = c.args.newest.0.now in
-    subst (λ (k : List ℕ). (flat_content flat k).write v.1 ≡ Some c.args.newest.1.now) (sym c.in_ok-key.ensures.ok)
-    (written_stands flat v.0 v.1 c.args.newest.1.now (coming c.args.lock c.args.self.now.locks) c.args.self.now.writes c.requires.slot c.requires.first)
+    subst (λ (k : List ℕ). (flat_content flat k).write v.1 ≡ Some c.args.newest.1.now) (sym c.spelt.ensures)
+    (written_stands flat v.0 v.1 c.args.newest.1.now (coming c.args.lock c.args.self.now.locks) c.args.self.now.writes
+    c.requires.slot c.requires.first)
 
 pub value_by-requires-clause-newest : goal.value_by-requires-clause-newest
 value_by-requires-clause-newest c =
     let flat = c.args.self.now.cells.now in
     let v = c.args.newest.0.now in
-    subst (λ (k : List ℕ). (q : ℕ) → IsSome ((flat_content flat k).write q) → q ≤ v.1) (sym c.in_ok-key.ensures.ok)
-    (written_newest flat v.0 v.1 c.args.newest.1.now (coming c.args.lock c.args.self.now.locks) c.args.self.now.writes c.requires.slot c.requires.first)
+    subst (λ (k : List ℕ). (q : ℕ) → IsSome ((flat_content flat k).write q) → q ≤ v.1) (sym c.spelt.ensures)
+    (written_newest flat v.0 v.1 c.args.newest.1.now (coming c.args.lock c.args.self.now.locks) c.args.self.now.writes
+    c.requires.slot c.requires.first)
 
 pub invariant_of-self-2 : goal.invariant_of-self-2
 invariant_of-self-2 c =
@@ -29,7 +31,8 @@ invariant_of-self-2 c =
     let k = c.args.newest.0.now.0 in
     let ls = coming c.args.lock c.args.self.now.locks in
     let ws = deref_pair c.args.newest ∷ c.args.self.now.writes in
-    let locks : coming c.lock_behind-head.result.1 c.lock_behind-head.new.locks ≡ locks_where (key_lt k) flat.locks.entries =
+    let locks : coming c.lock_behind-head.result.1 c.lock_behind-head.new.locks
+    ≡ locks_where (key_lt k) flat.locks.entries =
     c.lock_behind-head.ensures.behind ∙ locks_passed flat k ls ws c.requires.slot c.requires.first in
     let writes : coming c.in_ok-write.write c.next_front.new.rest ≡ writes_where (key_lt k) flat.writes.entries =
     c.in_ok-write.ensures ∙ ap (λ (j : List ℕ). writes_where (key_lt j) flat.writes.entries) c.in_ok-key.ensures.ok in
@@ -41,14 +44,17 @@ returns-clause-passes c =
     let k = c.args.newest.0.now.0 in
     let ls = coming c.args.lock c.args.self.now.locks in
     let ws = deref_pair c.args.newest ∷ c.args.self.now.writes in
-    let locks : coming c.lock_behind-head.result.1 c.lock_behind-head.new.locks ≡ locks_where (key_lt k) flat.locks.entries =
+    let locks : coming c.lock_behind-head.result.1 c.lock_behind-head.new.locks
+    ≡ locks_where (key_lt k) flat.locks.entries =
     c.lock_behind-head.ensures.behind ∙ locks_passed flat k ls ws c.requires.slot c.requires.first in
     let writes : coming c.in_ok-write.write c.next_front.new.rest ≡ writes_where (key_lt k) flat.writes.entries =
     c.in_ok-write.ensures ∙ ap (λ (j : List ℕ). writes_where (key_lt j) flat.writes.entries) c.in_ok-key.ensures.ok in
     record {
       shows = record {
-        lock = head_is flat k ls ws c.requires.slot c.requires.first c.lock_behind-head.result.0 c.lock_behind-head.ensures.head;
-        value = subst (λ (j : List ℕ). Reads (cells_of (flat_content flat j)).write c.args.at c.in_ok-value.value) c.in_ok-key.ensures.ok c.in_ok-value.ensures.value;
+        lock = head_is flat k ls ws c.requires.slot c.requires.first c.lock_behind-head.result.0
+            c.lock_behind-head.ensures.head;
+        value = subst (λ (j : List ℕ). Reads (cells_of (flat_content flat j)).write c.args.at c.in_ok-value.value)
+            c.spelt.ensures c.in_ok-value.ensures.value;
       };
       next = next_behind flat k ls ws c.requires.slot c.requires.first _ _ locks writes;
     }

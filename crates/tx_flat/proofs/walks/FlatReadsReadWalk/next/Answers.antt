@@ -33,16 +33,22 @@ returns-then-comes_first-clause-next c =
     let to = c.pass_locked.new.self in
     let next = next_key (coming to.lock to.locks) (coming to.write to.writes) in
     let before : comes_before k (first_of (fronts_of (coming c.args.self.now.write ws))) ≡ true =
-    ap (comes_before k) (front_coming c.args.self.now.write ws ∙ ap (option_map (λ x. x.0.now.0)) (sym c.take-write.ensures.value)) ∙ sym c.comes_first.ensures ∙ c.if-comes_first.true in
+    ap (comes_before k) (front_coming c.args.self.now.write ws
+    ∙ ap (option_map (λ x. x.0.now.0)) (sym c.take-write.ensures.value)) ∙ sym c.comes_first.ensures
+    ∙ c.if-comes_first.true in
     let first : next_key (coming c.args.self.now.lock ls) (coming c.args.self.now.write ws) ≡ Some k =
-    ap (λ o. next_key (coming o ls) (coming c.args.self.now.write ws)) (sym c.in-Some.ensures.value) ∙ lock_first k (first_of (fronts_of (coming c.args.self.now.write ws))) before in
+    ap (λ o. next_key (coming o ls) (coming c.args.self.now.write ws)) (sym c.in-Some.ensures.value)
+    ∙ lock_first k (first_of (fronts_of (coming c.args.self.now.write ws))) before in
     let passes = c.in_ok-pass_locked.ensures.passes c.args.at in
     record {
       cells = cells_in (flat_content flat) k;
       first = ap (rows_from flat) first
           ∙ rows_step flat k next passes.next
-          ∙ ap (λ (j : Key). (record { key = j; cells = cells_in (flat_content flat) k }) ∷ rows_from flat next) (sym c.in_ok-pass_locked.ensures.key)
-          ∙ ap (λ (f : FlatCells). (record { key = c.in_ok-pass_locked.field-0.0; cells = cells_in (flat_content flat) k }) ∷ rows_from f next) (sym c.in_ok-pass_locked.ensures.same);
+          ∙ ap (λ (j : Key). (record { key = j; cells = cells_in (flat_content flat) k })
+          ∷ rows_from flat next) (sym c.in_ok-pass_locked.ensures.key)
+          ∙ ap (λ (f : FlatCells).
+          (record { key = c.in_ok-pass_locked.field-0.0; cells = cells_in (flat_content flat) k })
+          ∷ rows_from f next) (sym c.in_ok-pass_locked.ensures.same);
       shows = passes.shows;
     }
 
@@ -54,8 +60,11 @@ pass_written-requires-clause-first c =
     elim c.match-lock.branch [
       | in-Some+else-comes_first w ↦ (
           let k = w.in-Some.held.0.now in
-          let before : comes_before k (Some j) ≡ false = ap (λ o. comes_before k (option_map (λ x. x.0.now.0) o)) (sym c.in-Some-write.is) ∙ sym w.comes_first.ensures ∙ w.if-comes_first.false in
-          ap (λ o. next_key (coming o ls) (deref_pair c.in-Some-write.newest ∷ ws)) w.in-Some.is ∙ write_first k (Some j) (λ none. cc none) before
+          let before : comes_before k (Some j) ≡ false =
+          ap (λ o. comes_before k (option_map (λ x. x.0.now.0) o)) (sym c.in-Some-write.is)
+          ∙ sym w.comes_first.ensures ∙ w.if-comes_first.false in
+          ap (λ o. next_key (coming o ls) (deref_pair c.in-Some-write.newest ∷ ws)) w.in-Some.is
+          ∙ write_first k (Some j) (λ none. cc none) before
           )
       | in_default w ↦ ap (λ o. next_key (coming o ls) (deref_pair c.in-Some-write.newest ∷ ws)) w.in_default.is
     ]
@@ -68,11 +77,15 @@ returns-clause-next c =
     let j = c.in-Some-write.newest.0.now.0 in
     let to = c.pass_written.new.self in
     let next = next_key (coming to.lock to.locks) (coming to.write to.writes) in
-    let taken : next_key (coming c.take-lock.result ls) (deref_pair c.in-Some-write.newest ∷ ws) ≡ Some j = elim c.match-lock.branch [
+    let taken : next_key (coming c.take-lock.result ls) (deref_pair c.in-Some-write.newest ∷ ws) ≡ Some j =
+    elim c.match-lock.branch [
       | in-Some+else-comes_first w ↦ (
           let k = w.in-Some.held.0.now in
-          let before : comes_before k (Some j) ≡ false = ap (λ o. comes_before k (option_map (λ x. x.0.now.0) o)) (sym c.in-Some-write.is) ∙ sym w.comes_first.ensures ∙ w.if-comes_first.false in
-          ap (λ o. next_key (coming o ls) (deref_pair c.in-Some-write.newest ∷ ws)) w.in-Some.is ∙ write_first k (Some j) (λ none. cc none) before
+          let before : comes_before k (Some j) ≡ false =
+          ap (λ o. comes_before k (option_map (λ x. x.0.now.0) o)) (sym c.in-Some-write.is)
+          ∙ sym w.comes_first.ensures ∙ w.if-comes_first.false in
+          ap (λ o. next_key (coming o ls) (deref_pair c.in-Some-write.newest ∷ ws)) w.in-Some.is
+          ∙ write_first k (Some j) (λ none. cc none) before
           )
       | in_default w ↦ ap (λ o. next_key (coming o ls) (deref_pair c.in-Some-write.newest ∷ ws)) w.in_default.is
     ] in
@@ -85,7 +98,10 @@ returns-clause-next c =
       cells = cells_in (flat_content flat) j;
       first = ap (rows_from flat) first
           ∙ rows_step flat j next passes.next
-          ∙ ap (λ (i : Key). (record { key = i; cells = cells_in (flat_content flat) j }) ∷ rows_from flat next) (sym c.in_ok-pass_written.ensures.key)
-          ∙ ap (λ (f : FlatCells). (record { key = c.in_ok-pass_written.field-0.0; cells = cells_in (flat_content flat) j }) ∷ rows_from f next) (sym c.in_ok-pass_written.ensures.same);
+          ∙ ap (λ (i : Key). (record { key = i; cells = cells_in (flat_content flat) j })
+          ∷ rows_from flat next) (sym c.in_ok-pass_written.ensures.key)
+          ∙ ap (λ (f : FlatCells).
+          (record { key = c.in_ok-pass_written.field-0.0; cells = cells_in (flat_content flat) j })
+          ∷ rows_from f next) (sym c.in_ok-pass_written.ensures.same);
       shows = passes.shows;
     }

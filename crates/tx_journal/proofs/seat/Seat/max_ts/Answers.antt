@@ -13,8 +13,12 @@ load-requires g c =
     let s = c.self.inside in
     let same = ap (λ h. h.shared.table_id) c.deref.ensures in
     let words = ap (λ z. z.words) (same ∙ i.0.words_of) in
-    let size = i.0.size in
-    (i.0.token_of ∙ (sym i.0.words_of ∙ sym same), omega arith, looks_read c.deref.result.now.shared.key c.deref.result.now.shared.table_id.slots s.token.id s.token.me (ready g.J.JournalId.bounds g.J.JournalId.seats s.number s.left s.token.me.0.seen s.token.me i.1.owns))
+    let size = i.0.size in (
+      i.0.token_of ∙ (sym i.0.words_of ∙ sym same),
+      omega arith,
+      looks_read c.deref.result.now.shared.key c.deref.result.now.shared.table_id.slots s.token.id s.token.me
+          (ready g.J.JournalId.bounds g.J.JournalId.seats s.number s.left s.token.me.0.seen s.token.me i.1.owns),
+    )
 
 pub returns-clause-least : goal.returns-clause-least
 returns-clause-least g c =

@@ -11,6 +11,10 @@ add-requires-clause-absent c =
     let ls = c.args.self.now.lone.items in
     let one = c.in-Some.one in
     let q = asked_of c.args.self.now.queues in
-    let first : slice_get ls 0 ≡ Some one = ap (λ t. slice_get t 0) (sym c.as_slice.ensures.value) ∙ sym c.first.ensures.value ∙ sym c.copied.ensures ∙ c.in-Some.is in
+    let first : slice_get ls 0 ≡ Some one =
+    ap (λ t. slice_get t 0) (sym c.as_slice.ensures.value) ∙ sym c.first.ensures.value ∙ sym c.copied.ensures
+    ∙ c.in-Some.is in
     let whole = starts ls one first in
-    ap (is_asked q) c.new.ensures ∙ absent-first q one (drop 1 ls) (subst (λ t. Distinct (Rattle.std.proofs.Common.◌++◌ q (lones t))) whole c.requires.distinct)
+    ap (is_asked q) c.new.ensures
+    ∙ absent-first q one (drop 1 ls)
+    (subst (λ t. Distinct (Rattle.std.proofs.Common.◌++◌ q (lones t))) whole c.requires.distinct)

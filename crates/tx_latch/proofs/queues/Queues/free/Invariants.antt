@@ -6,7 +6,9 @@ use Rattle.tx_latch.proofs.queues.Queues.free.Given as goal
 
 abbrev pub invariant-loop-slot : goal.invariant-loop-slot
 invariant-loop-slot l = record {
-  last : (s : ℕ) → s < LATCH_SLOTS → last_of l.self s ≡ cond (contains s (take l.slot-index l.slots) && is_number l.cid (last_of l.initial.self s)) None (last_of l.initial.self s);
+  last : (s : ℕ) → s < LATCH_SLOTS
+      → last_of l.self s ≡ cond (contains s (take l.slot-index l.slots)
+      && is_number l.cid (last_of l.initial.self s)) None (last_of l.initial.self s);
   asked : l.self.asked ≡ l.initial.self.asked;
   positions : l.self.positions ≡ l.initial.self.positions;
 }

@@ -18,7 +18,8 @@ loop-cid-preserved c =
     let xs = c.args.cids.now in
     let i = c.loop-cid.cid-index in
     let x = c.cid-item.result in
-    let more : take (i + 1) xs ≡ take i xs ++ x ∷ [] = take_more xs i x (omega arith) ∙ ap (λ d. take i xs ++ d ∷ []) (sym c.cid-item.is) in
+    let more : take (i + 1) xs ≡ take i xs ++ x ∷ [] =
+    take_more xs i x (omega arith) ∙ ap (λ d. take i xs ++ d ∷ []) (sym c.cid-item.is) in
     record {
       same = c.lower.ensures.lowered
           ∙ ap (λ o. at_position o lowered (links c.loop-cid.self.asked.items)) (c.loop-cid.invariant.found x)

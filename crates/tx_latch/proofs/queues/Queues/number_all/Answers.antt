@@ -19,9 +19,11 @@ loop-position-preserved c =
       asked = c.number_one.ensures.asked ∙ c.loop-position.invariant.asked;
       lasts = c.number_one.ensures.last ∙ c.loop-position.invariant.lasts;
       placed = λ q. c.number_one.ensures.placed q
-          ∙ ap (λ v. replaced (get_or (links v.items) k None ∷ []) k q (position_of c.loop-position.self q)) c.loop-position.invariant.asked
+          ∙ ap (λ v. replaced (get_or (links v.items) k None ∷ []) k q (position_of c.loop-position.self q))
+          c.loop-position.invariant.asked
           ∙ ap (replaced (get_or ls k None ∷ []) k q) (c.loop-position.invariant.placed q)
-          ∙ ap (λ n. replaced (get_or ls k None ∷ []) n q (replaced (take k ls) 0 q (position_of c.args.self.now q))) (sym long)
+          ∙ ap (λ n. replaced (get_or ls k None ∷ []) n q (replaced (take k ls) 0 q (position_of c.args.self.now q)))
+          (sym long)
           ∙ sym (replaced-append (take k ls) (get_or ls k None ∷ []) 0 q (position_of c.args.self.now q))
           ∙ ap (λ t. replaced t 0 q (position_of c.args.self.now q)) (sym more);
     }

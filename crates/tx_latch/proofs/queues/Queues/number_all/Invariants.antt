@@ -6,5 +6,6 @@ abbrev pub invariant-loop-position : goal.invariant-loop-position
 invariant-loop-position l = record {
   asked : l.self.asked ≡ l.initial.self.asked;
   lasts : l.self.last ≡ l.initial.self.last;
-  placed : (c : ℕ) → position_of l.self c ≡ replaced (take l.position (links l.initial.self.asked.items)) 0 c (position_of l.initial.self c);
+  placed : (c : ℕ) → position_of l.self c
+      ≡ replaced (take l.position (links l.initial.self.asked.items)) 0 c (position_of l.initial.self c);
 }

@@ -15,18 +15,26 @@ use Rattle.tx_machine.proofs.machine.Machine.commit.Goals as goal
 
 pub returns-then-is_some-2-clause-refused : goal.returns-then-is_some-2-clause-refused
 returns-then-is_some-2-clause-refused c e table tells may =
-    let stage : tree.get nat_cmp c.args.self.now.stages c.args.t ≡ Some (Declared c.in-Some-Declared.set) = sym c.in-Some-Declared.ensures.value ∙ ap (λ (x : TxnStage). Some x) c.in-Some-Declared.field-0-is in
-    let none : tree.get nat_cmp c.args.self.now.fates c.args.t ≡ None = no_fate _ _ c.if-is_some.ensures c.get-2.ensures.value in
+    let stage : tree.get nat_cmp c.args.self.now.stages c.args.t ≡ Some (Declared c.in-Some-Declared.set) =
+    sym c.in-Some-Declared.ensures.value ∙ ap (λ (x : TxnStage). Some x) c.in-Some-Declared.field-0-is in
+    let none : tree.get nat_cmp c.args.self.now.fates c.args.t ≡ None =
+    no_fate _ _ c.if-is_some.ensures c.get-2.ensures.value in
     let b = some_of _ _ c.if-is_some-2.ensures c.first_block.ensures.blocked in
-    not_blocked c.args.self.now.last (tree.get nat_cmp c.args.self.now.stages) c.args.self.now.fates c.args.self.now.index c.args.self.now.reads table tells
-    c.args.t c.args.c c.in-Some-Declared.set stage none b.0.0.now b.0.1 (subst (λ (xs : List Change). Contains xs b.0.0.now) c.as_slice.ensures b.1.0) b.1.1 may
+    not_blocked c.args.self.now.last (tree.get nat_cmp c.args.self.now.stages) c.args.self.now.fates
+    c.args.self.now.index c.args.self.now.reads table tells
+    c.args.t c.args.c c.in-Some-Declared.set stage none b.0.0.now b.0.1
+    (subst (λ (xs : List Change). Contains xs b.0.0.now) c.as_slice.ensures b.1.0) b.1.1 may
 
 pub returns-in_err-list_all-clause-same : goal.returns-in_err-list_all-clause-same
 returns-in_err-list_all-clause-same c =
-    let stage : tree.get nat_cmp c.args.self.now.stages c.args.t ≡ Some (Declared c.in-Some-Declared.set) = sym c.in-Some-Declared.ensures.value ∙ ap (λ (x : TxnStage). Some x) c.in-Some-Declared.field-0-is in
-    let none : tree.get nat_cmp c.args.self.now.fates c.args.t ≡ None = no_fate _ _ c.if-is_some.ensures c.get-2.ensures.value in
-    let above : c.args.t < c.args.c = omega (arith, c.get-start.ensures, c.get-commit.ensures, c.if-commit-start.false) in
-    let upto : c.args.c ≤ c.args.self.now.last + 1 = omega (arith, c.get-commit.ensures, c.get-else-commit-start.ensures, c.if-commit-get.false) in
+    let stage : tree.get nat_cmp c.args.self.now.stages c.args.t ≡ Some (Declared c.in-Some-Declared.set) =
+    sym c.in-Some-Declared.ensures.value ∙ ap (λ (x : TxnStage). Some x) c.in-Some-Declared.field-0-is in
+    let none : tree.get nat_cmp c.args.self.now.fates c.args.t ≡ None =
+    no_fate _ _ c.if-is_some.ensures c.get-2.ensures.value in
+    let above : c.args.t < c.args.c =
+    omega (arith, c.get-start.ensures, c.get-commit.ensures, c.if-commit-start.false) in
+    let upto : c.args.c ≤ c.args.self.now.last + 1 =
+    omega (arith, c.get-commit.ensures, c.get-else-commit-start.ensures, c.if-commit-get.false) in
     let kept : Keeps c.args.self.now record {
       alloc = c.args.self.now.alloc;
       last = c.args.self.now.last;
@@ -35,18 +43,24 @@ returns-in_err-list_all-clause-same c =
       index = c.list_all.new.index;
       reads = c.args.self.now.reads;
     } = λ table tells.
-    kept_some c.args.self.now.last (tree.get nat_cmp c.args.self.now.stages) c.args.self.now.fates c.args.self.now.index c.args.self.now.reads
+    kept_some c.args.self.now.last (tree.get nat_cmp c.args.self.now.stages) c.args.self.now.fates c.args.self.now.index
+    c.args.self.now.reads
     c.args.t c.args.c c.in-Some-Declared.set c.as_slice-2.result.now c.as_slice-2.ensures stage none above upto
-    (λ order k m e. none_of _ _ c.if-is_some-2.ensures c.first_block.ensures.free order k m (ap (λ (ys : List Change). mutation_at ys k) (c.as_slice.ensures ∙ sym c.as_slice-2.ensures) ∙ e))
+    (λ order k m e. none_of _ _ c.if-is_some-2.ensures c.first_block.ensures.free order k m
+    (ap (λ (ys : List Change). mutation_at ys k) (c.as_slice.ensures ∙ sym c.as_slice-2.ensures) ∙ e))
     table tells c.list_all.new.index c.in_err-list_all.ensures.some in
     on_err _ _ kept
 
 pub returns-in_err-insert-clause-same : goal.returns-in_err-insert-clause-same
 returns-in_err-insert-clause-same c =
-    let stage : tree.get nat_cmp c.args.self.now.stages c.args.t ≡ Some (Declared c.in-Some-Declared.set) = sym c.in-Some-Declared.ensures.value ∙ ap (λ (x : TxnStage). Some x) c.in-Some-Declared.field-0-is in
-    let none : tree.get nat_cmp c.args.self.now.fates c.args.t ≡ None = no_fate _ _ c.if-is_some.ensures c.get-2.ensures.value in
-    let above : c.args.t < c.args.c = omega (arith, c.get-start.ensures, c.get-commit.ensures, c.if-commit-start.false) in
-    let upto : c.args.c ≤ c.args.self.now.last + 1 = omega (arith, c.get-commit.ensures, c.get-else-commit-start.ensures, c.if-commit-get.false) in
+    let stage : tree.get nat_cmp c.args.self.now.stages c.args.t ≡ Some (Declared c.in-Some-Declared.set) =
+    sym c.in-Some-Declared.ensures.value ∙ ap (λ (x : TxnStage). Some x) c.in-Some-Declared.field-0-is in
+    let none : tree.get nat_cmp c.args.self.now.fates c.args.t ≡ None =
+    no_fate _ _ c.if-is_some.ensures c.get-2.ensures.value in
+    let above : c.args.t < c.args.c =
+    omega (arith, c.get-start.ensures, c.get-commit.ensures, c.if-commit-start.false) in
+    let upto : c.args.c ≤ c.args.self.now.last + 1 =
+    omega (arith, c.get-commit.ensures, c.get-else-commit-start.ensures, c.if-commit-get.false) in
     let kept : Keeps c.args.self.now record {
       alloc = c.args.self.now.alloc;
       last = c.args.self.now.last;
@@ -55,19 +69,28 @@ returns-in_err-insert-clause-same c =
       index = c.list_all.new.index;
       reads = c.args.self.now.reads;
     } = λ table tells.
-    kept_all c.args.self.now.last (tree.get nat_cmp c.args.self.now.stages) c.args.self.now.fates c.args.self.now.index c.args.self.now.reads
+    kept_all c.args.self.now.last (tree.get nat_cmp c.args.self.now.stages) c.args.self.now.fates c.args.self.now.index
+    c.args.self.now.reads
     c.args.t c.args.c c.in-Some-Declared.set c.as_slice-2.result.now c.as_slice-2.ensures stage none above upto
-    (λ order k m e. none_of _ _ c.if-is_some-2.ensures c.first_block.ensures.free order k m (ap (λ (ys : List Change). mutation_at ys k) (c.as_slice.ensures ∙ sym c.as_slice-2.ensures) ∙ e))
+    (λ order k m e. none_of _ _ c.if-is_some-2.ensures c.first_block.ensures.free order k m
+    (ap (λ (ys : List Change). mutation_at ys k) (c.as_slice.ensures ∙ sym c.as_slice-2.ensures) ∙ e))
     table tells c.list_all.new.index c.in_ok-list_all.ensures.all c.insert.new.self c.in_err-insert.ensures.err in
     on_err _ _ kept
 
 pub returns-clause-ok : goal.returns-clause-ok
 returns-clause-ok c table tells =
-    let stage : tree.get nat_cmp c.args.self.now.stages c.args.t ≡ Some (Declared c.in-Some-Declared.set) = sym c.in-Some-Declared.ensures.value ∙ ap (λ (x : TxnStage). Some x) c.in-Some-Declared.field-0-is in
-    let none : tree.get nat_cmp c.args.self.now.fates c.args.t ≡ None = no_fate _ _ c.if-is_some.ensures c.get-2.ensures.value in
-    let above : c.args.t < c.args.c = omega (arith, c.get-start.ensures, c.get-commit.ensures, c.if-commit-start.false) in
-    let upto : c.args.c ≤ c.args.self.now.last + 1 = omega (arith, c.get-commit.ensures, c.get-else-commit-start.ensures, c.if-commit-get.false) in
-    done c.args.self.now.last (tree.get nat_cmp c.args.self.now.stages) c.args.self.now.fates c.args.self.now.index c.args.self.now.reads
+    let stage : tree.get nat_cmp c.args.self.now.stages c.args.t ≡ Some (Declared c.in-Some-Declared.set) =
+    sym c.in-Some-Declared.ensures.value ∙ ap (λ (x : TxnStage). Some x) c.in-Some-Declared.field-0-is in
+    let none : tree.get nat_cmp c.args.self.now.fates c.args.t ≡ None =
+    no_fate _ _ c.if-is_some.ensures c.get-2.ensures.value in
+    let above : c.args.t < c.args.c =
+    omega (arith, c.get-start.ensures, c.get-commit.ensures, c.if-commit-start.false) in
+    let upto : c.args.c ≤ c.args.self.now.last + 1 =
+    omega (arith, c.get-commit.ensures, c.get-else-commit-start.ensures, c.if-commit-get.false) in
+    done c.args.self.now.last (tree.get nat_cmp c.args.self.now.stages) c.args.self.now.fates c.args.self.now.index
+    c.args.self.now.reads
     c.args.t c.args.c c.in-Some-Declared.set c.as_slice-2.result.now c.as_slice-2.ensures stage none above upto
-    (λ order k m e. none_of _ _ c.if-is_some-2.ensures c.first_block.ensures.free order k m (ap (λ (ys : List Change). mutation_at ys k) (c.as_slice.ensures ∙ sym c.as_slice-2.ensures) ∙ e))
-    table tells c.list_all.new.index c.in_ok-list_all.ensures.all (tree.get nat_cmp c.insert.new.self) c.in_ok-insert.ensures.updates.0
+    (λ order k m e. none_of _ _ c.if-is_some-2.ensures c.first_block.ensures.free order k m
+    (ap (λ (ys : List Change). mutation_at ys k) (c.as_slice.ensures ∙ sym c.as_slice-2.ensures) ∙ e))
+    table tells c.list_all.new.index c.in_ok-list_all.ensures.all (tree.get nat_cmp c.insert.new.self)
+    c.in_ok-insert.ensures.updates.0

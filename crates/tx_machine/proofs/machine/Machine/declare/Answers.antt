@@ -14,16 +14,22 @@ use Rattle.tx_machine.proofs.machine.Machine.declare.Goals as goal
 
 pub returns-clause-ok : goal.returns-clause-ok
 returns-clause-ok c table tells =
-    let there : tree.get nat_cmp c.args.self.now.stages c.args.t ≡ Some Begun = sym c.in-Some.ensures.value ∙ ap (λ (x : TxnStage). Some x) c.in-Begun.is in
-    let open_ : tree.get nat_cmp c.args.self.now.fates c.args.t ≡ None = no_fate _ _ c.if-is_some.ensures c.get.ensures.value in
+    let there : tree.get nat_cmp c.args.self.now.stages c.args.t ≡ Some Begun =
+    sym c.in-Some.ensures.value ∙ ap (λ (x : TxnStage). Some x) c.in-Begun.is in
+    let open_ : tree.get nat_cmp c.args.self.now.fates c.args.t ≡ None =
+    no_fate _ _ c.if-is_some.ensures c.get.ensures.value in
     let distinct = none_of _ _ c.if-is_some-2.ensures c.in_ok-repeated.ensures.once in
-    declares c.args.self.now.last (tree.get nat_cmp c.args.self.now.stages) (tree.get nat_cmp c.args.self.now.fates) (version_of c.args.self.now.index) (IsNoted c.args.self.now.reads) table tells
+    declares c.args.self.now.last (tree.get nat_cmp c.args.self.now.stages) (tree.get nat_cmp c.args.self.now.fates)
+    (version_of c.args.self.now.index) (IsNoted c.args.self.now.reads) table tells
     c.args.t c.args.set.now there open_
-    (some_changes c.as_slice.result.now c.args.set.now c.as_slice.ensures (sym c.is_empty.ensures ∙ c.if-is_empty.false))
+    (some_changes c.as_slice.result.now c.args.set.now c.as_slice.ensures (sym c.is_empty.ensures
+    ∙ c.if-is_empty.false))
     (subst (λ (xs : List Change). IsDistinct xs) c.as_slice-2.ensures distinct)
-    _ c.in_ok-stage-in-Begun.field-0 c.in_ok-stage-in-Begun.ensures.ok ((c.get_mut.follows.holds c.in_ok-stage-in-Begun.field-0).3 (rw there refl)).0
+    _ c.in_ok-stage-in-Begun.field-0 c.in_ok-stage-in-Begun.ensures.ok
+    ((c.get_mut.follows.holds c.in_ok-stage-in-Begun.field-0).3 (rw there refl)).0
 
 pub returns-then-is_some-2-clause-refused : goal.returns-then-is_some-2-clause-refused
 returns-then-is_some-2-clause-refused c e table tells admits =
     let twice = some_of _ _ c.if-is_some-2.ensures c.in_ok-repeated.ensures.twice in
-    twice_not_distinct c.as_slice-2.result.now _ twice.1 (subst (λ (xs : List Change). IsDistinct xs) (sym c.as_slice-2.ensures) admits.2)
+    twice_not_distinct c.as_slice-2.result.now _ twice.1
+    (subst (λ (xs : List Change). IsDistinct xs) (sym c.as_slice-2.ensures) admits.2)

@@ -14,8 +14,10 @@ use Rattle.tx_machine.proofs.machine.Machine.new.Goals as goal
 
 pub returns : goal.returns
 returns c =
-    tells_empty (tree.get nat_cmp c.new.result) (tree.get nat_cmp c.new-2.result) (version_of c.new-3.result) (IsNoted c.new-4.result)
+    tells_empty (tree.get nat_cmp c.new.result) (tree.get nat_cmp c.new-2.result) (version_of c.new-3.result)
+    (IsNoted c.new-4.result)
     (λ t. ap (λ (es : List (ℕ × TxnStage)). lookup (tree.is_at (nat_cmp t)) es) c.new.ensures.empty)
     (λ t. ap (λ (es : List (ℕ × Fate)). lookup (tree.is_at (nat_cmp t)) es) c.new-2.ensures.empty)
-    (λ k q. ap (λ (es : List (Key × Versions)). version_in (lookup (tree.is_at (slice_cmp nat_cmp k)) es) q) c.new-3.ensures.empty)
+    (λ k q. ap (λ (es : List (Key × Versions)). version_in (lookup (tree.is_at (slice_cmp nat_cmp k)) es) q)
+    c.new-3.ensures.empty)
     c.new-4.ensures

@@ -7,11 +7,17 @@ use Rattle.tx_machine.proofs.ReadSteps.{shows_sees, sees_shows, reads_more, read
 use Rattle.tx_machine.proofs.machine.Machine.read.Goals as goal
 
 pub returns-then-get-clause-refused : goal.returns-then-get-clause-refused
-returns-then-get-clause-refused c e table tells admits = let h = c.if-get.true in let l = tells.last_is in omega (arith, c.get.ensures, c.get-2.ensures, admits.0)
+returns-then-get-clause-refused c e table tells admits = let h = c.if-get.true in let l = tells.last_is in
+    omega (arith, c.get.ensures, c.get-2.ensures, admits.0)
 
 pub returns-then-not-shows-clause-refused : goal.returns-then-not-shows-clause-refused
 returns-then-not-shows-clause-refused c e table tells admits =
-    cc (c.if-not-shows.true, c.shows.ensures.1 (sees_shows c.args.self.now.last (tree.get nat_cmp c.args.self.now.stages) c.args.self.now.fates c.args.self.now.index c.args.self.now.reads table tells c.args.key.now c.args.at c.args.found.now admits.1))
+    cc (
+      c.if-not-shows.true,
+      c.shows.ensures.1 (sees_shows c.args.self.now.last (tree.get nat_cmp c.args.self.now.stages)
+          c.args.self.now.fates c.args.self.now.index c.args.self.now.reads table tells c.args.key.now c.args.at
+          c.args.found.now admits.1),
+    )
 
 pub returns-in_err-add_key-clause-same : goal.returns-in_err-add_key-clause-same
 returns-in_err-add_key-clause-same c =
@@ -23,7 +29,8 @@ returns-in_err-add_key-clause-same c =
       index = c.args.self.now.index;
       reads = c.add_key.new.self;
     } = λ table tells.
-    reads_same c.args.self.now.last (tree.get nat_cmp c.args.self.now.stages) c.args.self.now.fates c.args.self.now.index c.args.self.now.reads table tells c.add_key.new.self c.in_err-add_key.ensures.same in
+    reads_same c.args.self.now.last (tree.get nat_cmp c.args.self.now.stages) c.args.self.now.fates
+    c.args.self.now.index c.args.self.now.reads table tells c.add_key.new.self c.in_err-add_key.ensures.same in
     on_err _ _ kept
 
 pub returns-clause-ok : goal.returns-clause-ok
@@ -31,8 +38,11 @@ returns-clause-ok c table tells =
     let l = tells.last_is in (
       (
         omega (arith, c.get.ensures, c.get-2.ensures, c.if-get.false),
-        shows_sees c.args.self.now.last (tree.get nat_cmp c.args.self.now.stages) c.args.self.now.fates c.args.self.now.index c.args.self.now.reads table tells c.args.key.now c.args.at c.args.found.now
+        shows_sees c.args.self.now.last (tree.get nat_cmp c.args.self.now.stages) c.args.self.now.fates
+            c.args.self.now.index c.args.self.now.reads table tells c.args.key.now c.args.at c.args.found.now
             (c.shows.ensures.0 c.if-not-shows.false),
       ),
-      reads_more c.args.self.now.last (tree.get nat_cmp c.args.self.now.stages) c.args.self.now.fates c.args.self.now.index c.args.self.now.reads table tells (bytes_eq c.args.key.now) c.args.at c.add_key.new.self c.in_ok-add_key.ensures.ok,
+      reads_more c.args.self.now.last (tree.get nat_cmp c.args.self.now.stages) c.args.self.now.fates
+          c.args.self.now.index c.args.self.now.reads table tells (bytes_eq c.args.key.now) c.args.at c.add_key.new.self
+          c.in_ok-add_key.ensures.ok,
     )

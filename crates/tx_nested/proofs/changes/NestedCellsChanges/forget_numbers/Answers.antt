@@ -7,4 +7,5 @@ use Rattle.tx_nested.specs.Nested.{held_on}
 use Rattle.tx_nested.proofs.changes.NestedCellsChanges.forget_numbers.Goals as goal
 
 pub returns-clause-content : goal.returns-clause-content
-returns-clause-content c = (λ i k. held_on (lookup (tree.is_at (slice_cmp nat_cmp k)) (c.new.ensures.empty i))) ∙ sym c.requires
+returns-clause-content c =
+    (λ i k. held_on (lookup (tree.is_at (slice_cmp nat_cmp k)) (c.new.ensures.empty i))) ∙ sym c.requires

@@ -5,4 +5,5 @@ use Rattle.tx_nested.proofs.collection.NestedRecordsKeyRecords.newest_upto.Goals
 pub returns-clause-newest : goal.returns-clause-newest
 returns-clause-newest c =
     let key = c.args.self.now.key.now in
-    next_found (held key) key.whole c.args.bound c.kind_upto.result c.kind_upto.ensures.found c.kind_upto.ensures.nearest c.kind_upto.ensures.none
+    next_found (held key) key.whole c.args.bound c.kind_upto.result c.kind_upto.ensures.found
+    c.kind_upto.ensures.nearest c.kind_upto.ensures.none

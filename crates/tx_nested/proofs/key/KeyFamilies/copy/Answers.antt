@@ -15,7 +15,12 @@ returns-clause-copies c =
     let key = c.args.self.now in
     let values = key.values.entries in
     let starts = c.in_ok-values.ensures.ok in
-    copied (held key) (record { lock = c.lock_head-lock.result; records = c.in_ok-records.records; values = c.in_ok-values.values }) key.whole c.lock_head-lock.ensures
+    copied (held key) (record {
+      lock = c.lock_head-lock.result;
+      records = c.in_ok-records.records;
+      values =
+          c.in_ok-values.values;
+    }) key.whole c.lock_head-lock.ensures
     c.in_ok-records.ensures.fall c.in_ok-records.ensures.all
     (subst AreFalling (sym starts) (starts_fall values c.starts.ensures.ordered))
     (λ t. (

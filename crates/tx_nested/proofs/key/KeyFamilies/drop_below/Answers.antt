@@ -20,7 +20,11 @@ invariant_of-self c =
     let stay = c.collection-kept.result.kept in
     let value = tree.get nat_cmp c.drop_records.new.values in
     let is = ap (λ (f : ℕ → Option WriteRec). on_key x.lock f value) (same_maps c.drop_records.ensures.writes) in
-    record { whole = stays_whole x (Left x (goes_below safe stay) value) _ c.args.self.now.whole (λ w. whole_left x (goes_below safe stay) value w c.drop_records.ensures.values safe (tells_left x safe stay c.collection-kept.ensures.kept)) is }
+    record {
+      whole = stays_whole x (Left x (goes_below safe stay) value) _ c.args.self.now.whole
+          (λ w. whole_left x (goes_below safe stay) value w c.drop_records.ensures.values safe
+          (tells_left x safe stay c.collection-kept.ensures.kept)) is;
+    }
 
 pub returns-clause-content : goal.returns-clause-content
 returns-clause-content c =
@@ -29,7 +33,9 @@ returns-clause-content c =
     let stay = c.collection-kept.result.kept in
     let value = tree.get nat_cmp c.drop_records.new.values in
     let is = ap (λ (f : ℕ → Option WriteRec). on_key x.lock f value) (same_maps c.drop_records.ensures.writes) in
-    subst (λ (y : OnKey). Collected safe x y) (sym is) (collected_left x (goes_below safe stay) value c.args.self.now.whole c.drop_records.ensures.values safe (tells_left x safe stay c.collection-kept.ensures.kept))
+    subst (λ (y : OnKey). Collected safe x y) (sym is)
+    (collected_left x (goes_below safe stay) value c.args.self.now.whole c.drop_records.ensures.values safe
+    (tells_left x safe stay c.collection-kept.ensures.kept))
 
 pub returns-clause-cells : goal.returns-clause-cells
 returns-clause-cells c =
@@ -38,4 +44,6 @@ returns-clause-cells c =
     let stay = c.collection-kept.result.kept in
     let value = tree.get nat_cmp c.drop_records.new.values in
     let is = ap (λ (f : ℕ → Option WriteRec). on_key x.lock f value) (same_maps c.drop_records.ensures.writes) in
-    ap cells_of is ∙ cells_left x (goes_below safe stay) value (stays_of x (goes_below safe stay) value c.args.self.now.whole c.drop_records.ensures.values) safe (tells_left x safe stay c.collection-kept.ensures.kept)
+    ap cells_of is ∙ cells_left x (goes_below safe stay) value
+    (stays_of x (goes_below safe stay) value c.args.self.now.whole c.drop_records.ensures.values) safe
+    (tells_left x safe stay c.collection-kept.ensures.kept)

@@ -11,6 +11,9 @@ pub invariant_of-self : goal.invariant_of-self
 invariant_of-self c =
     let x = held c.args.self.now in
     record {
-      whole = stays_whole x (after x (change.Minimum c.args.min)) _ c.args.self.now.whole (λ w. whole_after x (change.Minimum c.args.min) w c.requires tt)
-          (ap (λ (rec : LockRec). with_lock x (Some rec)) c.in_ok-rec.ensures.ok ∙ sym (on_same x c.in-Some.lock (λ (rec : LockRec). with_lock x (Some (with_min rec c.args.min))) c.in-Some.is));
+      whole = stays_whole x (after x (change.Minimum c.args.min)) _ c.args.self.now.whole
+          (λ w. whole_after x (change.Minimum c.args.min) w c.requires tt)
+          (ap (λ (rec : LockRec). with_lock x (Some rec)) c.in_ok-rec.ensures.ok
+          ∙ sym (on_same x c.in-Some.lock (λ (rec : LockRec). with_lock x (Some (with_min rec c.args.min)))
+          c.in-Some.is));
     }

@@ -10,4 +10,5 @@ pub commits_above-own_commit-requires-clause-fitting : goal.commits_above-own_co
 commits_above-own_commit-requires-clause-fitting c = fitting (held c.args.self.now) c.args.self.now.whole
 
 pub returns : goal.returns
-returns c = shown (held c.args.self.now) c.args.start c.args.commit _ c.requires c.head_at-at_start.ensures c.head_at-at_commit.ensures c.commits_above-own_commit.ensures.own c.commits_above-own_commit.ensures.newest
+returns c = shown (held c.args.self.now) c.args.start c.args.commit _ c.requires c.head_at-at_start.ensures
+    c.head_at-at_commit.ensures c.commits_above-own_commit.ensures.own c.commits_above-own_commit.ensures.newest

@@ -10,7 +10,9 @@ use Rattle.tx_nested.specs.Nested.{held_on}
 use Rattle.tx_cells.proofs.Copied.{copied_none}
 use Rattle.tx_nested.proofs.sees.NestedCellsSees.cells.Goals as goal
 
-pub returns-clause-copies : goal.returns-clause-copies
-returns-clause-copies c =
-    let copy : KeyVersions = record { lock = None; records = c.new-in-None.result; values = c.new-in-None-2.result } in
-    subst (λ (o : Option KeyFamilies). Copies (cells_of (held_on o)) copy) (c.in-None.ensures.value ∙ ap (tree.get (slice_cmp nat_cmp) c.args.self.now.keys) c.in_ok-spelt.ensures) (copied_none copy refl c.new-in-None.ensures c.new-in-None-2.ensures)
+pub returns-in-None-clause-copies : goal.returns-in-None-clause-copies
+returns-in-None-clause-copies c =
+    let copy : KeyVersions = record { lock = None; records = c.new.result; values = c.new-in-None.result } in
+    subst (λ (o : Option KeyFamilies). Copies (cells_of (held_on o)) copy) (c.in-None.ensures.value
+    ∙ ap (tree.get (slice_cmp nat_cmp) c.args.self.now.keys) c.bytes.ensures)
+    (copied_none copy refl c.new.ensures c.new-in-None.ensures)

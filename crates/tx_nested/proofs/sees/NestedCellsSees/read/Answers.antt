@@ -11,4 +11,7 @@ use Rattle.tx_nested.specs.Nested.{held_on}
 use Rattle.tx_nested.proofs.sees.NestedCellsSees.read.Goals as goal
 
 pub returns-in-Some-clause-shows : goal.returns-in-Some-clause-shows
-returns-in-Some-clause-shows c = subst (λ (o : Option KeyFamilies). IfOk c.read.result (λ (view : ReadView). ShowsRead (cells_of (held_on o)) c.args.at view)) (c.in-Some.ensures.value ∙ ap (tree.get (slice_cmp nat_cmp) c.args.self.now.keys) c.in_ok-spelt.ensures) c.read.ensures.shows
+returns-in-Some-clause-shows c =
+    subst (λ (o : Option KeyFamilies). IfOk c.read.result
+    (λ (view : ReadView). ShowsRead (cells_of (held_on o)) c.args.at view)) (c.in-Some.ensures.value
+    ∙ ap (tree.get (slice_cmp nat_cmp) c.args.self.now.keys) c.bytes.ensures) c.read.ensures.shows

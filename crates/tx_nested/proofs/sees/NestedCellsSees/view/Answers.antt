@@ -9,4 +9,6 @@ use Rattle.tx_nested.specs.Nested.{held_on}
 use Rattle.tx_nested.proofs.sees.NestedCellsSees.view.Goals as goal
 
 pub returns-in-Some-clause-shows : goal.returns-in-Some-clause-shows
-returns-in-Some-clause-shows c = subst (λ (o : Option KeyFamilies). Shows (cells_of (held_on o)) c.args.start c.args.commit c.view.result) (c.in-Some.ensures.value ∙ ap (tree.get (slice_cmp nat_cmp) c.args.self.now.keys) c.in_ok-spelt.ensures) c.view.ensures
+returns-in-Some-clause-shows c =
+    subst (λ (o : Option KeyFamilies). Shows (cells_of (held_on o)) c.args.start c.args.commit c.view.result)
+    (c.in-Some.ensures.value ∙ ap (tree.get (slice_cmp nat_cmp) c.args.self.now.keys) c.bytes.ensures) c.view.ensures

@@ -8,5 +8,7 @@ pub returns-then-is_name : goal.returns-then-is_name
 returns-then-is_name g c =
     let held = c.self.inside.held in
     let name = c.args.name.now in
-    subst (λ (d : NetworkParts). not c.contains_key.result ≡ (is_name name && not (is_some (body_at d.held name)))) c.self.view_is
-    (ap not (c.contains_key.ensures ∙ sym (in_use held name)) ∙ ap (λ b. b && not (is_some (body_at (requests held.entries) name))) c.if-is_name.ensures)
+    subst (λ (d : NetworkParts). not c.contains_key.result
+    ≡ (is_name name && not (is_some (body_at d.held name)))) c.self.view_is
+    (ap not (c.contains_key.ensures ∙ sym (in_use held name))
+    ∙ ap (λ b. b && not (is_some (body_at (requests held.entries) name))) c.if-is_name.ensures)

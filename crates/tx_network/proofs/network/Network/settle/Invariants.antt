@@ -7,7 +7,8 @@ use Rattle.tx_network.proofs.network.Network.settle.Given as goal
 abbrev pub invariant-regions : goal.invariant-regions
 invariant-regions g l = record {
   newest : l.newest ≡ l.fn.newest;
-  rest : ((k : Known) → Contains l.regions.items k → IsDone l.fn.newest k) → (k : Known) → Contains l.fn.self.regions k → IsDone l.fn.newest k;
+  rest : ((k : Known) → Contains l.regions.items k → IsDone l.fn.newest k) → (k : Known) → Contains l.fn.self.regions k
+      → IsDone l.fn.newest k;
 }
 
 abbrev pub decreases-regions : goal.decreases-regions

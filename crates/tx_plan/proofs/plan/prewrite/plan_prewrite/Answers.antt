@@ -14,7 +14,16 @@ pub returns-in-Some-clause-answers : goal.returns-in-Some-clause-answers
 returns-in-Some-clause-answers c cells commit shows knows =
     let b = c.args.body.now in
     let own = c.in-Some.ensures cells commit shows in
-    rw (c.given-in-Some.ensures, c.async_min.ensures) (inr (not_below b.start c.args.safe c.if-lt.ensures, inr (not_below c.args.loaded b.start c.if-lt-2.ensures, inl (own.lock, own.stands, ap Prewritten (ap (λ (x : LockHead). async_min x.mode x.min) own.shown)))))
+    rw (
+      c.given-in-Some.ensures,
+      c.async_min.ensures,
+    ) (inr (
+      not_below b.start c.args.safe c.if-lt.ensures,
+      inr (
+        not_below c.args.loaded b.start c.if-lt-2.ensures,
+        inl (own.lock, own.stands, ap Prewritten (ap (λ (x : LockHead). async_min x.mode x.min) own.shown)),
+      ),
+    ))
 
 pub returns-in-Some-own_commit-clause-answers : goal.returns-in-Some-own_commit-clause-answers
 returns-in-Some-own_commit-clause-answers c cells commit shows knows =
@@ -26,8 +35,14 @@ returns-in-Some-own_commit-clause-answers c cells commit shows knows =
         inr (
           c.in_default.ensures cells commit shows,
           inr (
-            λ own. not_true c.is_rolled_back.result c.if-is_rolled_back.false ((c.is_rolled_back.ensures cells commit shows).1 own),
-            inl (c.in-Some-own_commit.commit, own_commit cells b.start commit c.args.view.now shows c.in-Some-own_commit.commit c.in-Some-own_commit.is, refl),
+            λ own. not_true c.is_rolled_back.result c.if-is_rolled_back.false
+                ((c.is_rolled_back.ensures cells commit shows).1 own),
+            inl (
+              c.in-Some-own_commit.commit,
+              own_commit cells b.start commit c.args.view.now shows c.in-Some-own_commit.commit
+                  c.in-Some-own_commit.is,
+              refl,
+            ),
           ),
         ),
       ),
@@ -47,12 +62,16 @@ returns-in-Some-newest_above-clause-answers c cells commit shows knows =
         inr (
           c.in_default.ensures cells commit shows,
           inr (
-            λ own. not_true c.is_rolled_back.result c.if-is_rolled_back.false ((c.is_rolled_back.ensures cells commit shows).1 own),
+            λ own. not_true c.is_rolled_back.result c.if-is_rolled_back.false
+                ((c.is_rolled_back.ensures cells commit shows).1 own),
             inr (
               no_commit cells b.start commit view shows c.in_default-own_commit.is,
               inr (
                 λ lock stands. (cc (free, stands)),
-                inl (record { at = at.commit; rec = found.rec; stands = found.stands; above = found.above }, (at.start, at.commit, found, refl)),
+                inl (
+                  record { at = at.commit; rec = found.rec; stands = found.stands; above = found.above },
+                  (at.start, at.commit, found, refl),
+                ),
               ),
             ),
           ),
@@ -73,12 +92,16 @@ returns-then-finds_value-clause-answers c cells commit shows knows =
         inr (
           c.in_default.ensures cells commit shows,
           inr (
-            λ own. not_true c.is_rolled_back.result c.if-is_rolled_back.false ((c.is_rolled_back.ensures cells commit shows).1 own),
+            λ own. not_true c.is_rolled_back.result c.if-is_rolled_back.false
+                ((c.is_rolled_back.ensures cells commit shows).1 own),
             inr (
               no_commit cells b.start commit view shows c.in_default-own_commit.is,
               inr (
                 λ lock stands. (cc (free, stands)),
-                inr (none_above cells b.start commit view shows c.in_default-newest_above.is, inl ((found.0, (knows found.0).0 found.1), refl)),
+                inr (
+                  none_above cells b.start commit view shows c.in_default-newest_above.is,
+                  inl ((found.0, (knows found.0).0 found.1), refl),
+                ),
               ),
             ),
           ),
@@ -89,10 +112,13 @@ returns-then-finds_value-clause-answers c cells commit shows knows =
 pub returns-in-Some-clause-read : goal.returns-in-Some-clause-read
 returns-in-Some-clause-read c cells commit shows =
     let own = c.in-Some.ensures cells commit shows in
-    rw c.given-in-Some.ensures (sym (ap (λ o. read_by_prewrite (Prewritten c.async_min.result) o c.args.body.now) own.stands.stands))
+    rw c.given-in-Some.ensures
+    (sym (ap (λ o. read_by_prewrite (Prewritten c.async_min.result) o c.args.body.now) own.stands.stands))
 
 pub returns-clause-read : goal.returns-clause-read
-returns-clause-read c cells commit shows = c.lock_key.ensures.read cells (no_lock cells c.args.body.now.start commit c.args.view.now shows (sym c.is_some.ensures ∙ c.if-is_some.false))
+returns-clause-read c cells commit shows =
+    c.lock_key.ensures.read cells
+    (no_lock cells c.args.body.now.start commit c.args.view.now shows (sym c.is_some.ensures ∙ c.if-is_some.false))
 
 pub returns-clause-answers : goal.returns-clause-answers
 returns-clause-answers c cells commit shows knows =
@@ -106,12 +132,20 @@ returns-clause-answers c cells commit shows knows =
         inr (
           c.in_default.ensures cells commit shows,
           inr (
-            λ own. not_true c.is_rolled_back.result c.if-is_rolled_back.false ((c.is_rolled_back.ensures cells commit shows).1 own),
+            λ own. not_true c.is_rolled_back.result c.if-is_rolled_back.false
+                ((c.is_rolled_back.ensures cells commit shows).1 own),
             inr (
               no_commit cells b.start commit view shows c.in_default-own_commit.is,
               inr (
                 λ lock stands. (cc (free, stands)),
-                inr (none_above cells b.start commit view shows c.in_default-newest_above.is, inr (λ x. not_true c.finds_value.result c.if-finds_value.false (c.finds_value.ensures.1 (x.0, (knows x.0).1 x.1)), c.lock_key.ensures.answers (info_on cells b.key))),
+                inr (
+                  none_above cells b.start commit view shows c.in_default-newest_above.is,
+                  inr (
+                    λ x. not_true c.finds_value.result c.if-finds_value.false
+                        (c.finds_value.ensures.1 (x.0, (knows x.0).1 x.1)),
+                    c.lock_key.ensures.answers (info_on cells b.key),
+                  ),
+                ),
               ),
             ),
           ),
@@ -122,7 +156,8 @@ returns-clause-answers c cells commit shows knows =
 pub returns-clause-applies : goal.returns-clause-applies
 returns-clause-applies c cells commit shows = by_lock (new_lock c.lock_key.result.change) c.lock_key.ensures.minimum
   where
-    by_lock : (o : Option NewLock) → IfSome o (λ new. c.args.body.now.start < new.min) → IfSome o (λ new. CanPut cells c.args.body.now new)
+    by_lock : (o : Option NewLock) → IfSome o (λ new. c.args.body.now.start < new.min)
+        → IfSome o (λ new. CanPut cells c.args.body.now new)
     by_lock None e = tt
     by_lock (Some new) e =
         (let b = c.args.body.now in
@@ -130,6 +165,7 @@ returns-clause-applies c cells commit shows = by_lock (new_lock c.lock_key.resul
         record {
           free = no_lock cells b.start commit view shows (sym c.is_some.ensures ∙ c.if-is_some.false);
           uncommitted = no_commit cells b.start commit view shows c.in_default-own_commit.is;
-          not_rolled_back = λ own. not_true c.is_rolled_back.result c.if-is_rolled_back.false ((c.is_rolled_back.ensures cells commit shows).1 own);
+          not_rolled_back = λ own. not_true c.is_rolled_back.result c.if-is_rolled_back.false
+              ((c.is_rolled_back.ensures cells commit shows).1 own);
           above = e;
         })

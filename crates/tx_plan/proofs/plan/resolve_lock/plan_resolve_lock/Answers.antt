@@ -12,7 +12,16 @@ returns-in-Some-commit_refusal-clause-answers c cells shows =
     let here = subst (λ n. Shows cells b.start n c.args.view.now) (ap commit_in c.in-Committed.is) shows in
     let own = c.in-Some.ensures cells (commit_in b.fate) shows in
     let refuses = c.in-Some-commit_refusal.ensures cells here own in
-    rw c.given-in-Some-commit_refusal.ensures (inr (not_below b.start c.args.collected c.if-lt.ensures, inl (own.lock, own.stands, resolves cells.write b.start c.in-Committed.commit own.lock b.fate c.in-Some-commit_refusal.refusal c.in-Committed.is (refuses.decides Resolved))))
+    rw c.given-in-Some-commit_refusal.ensures
+    (inr (
+      not_below b.start c.args.collected c.if-lt.ensures,
+      inl (
+        own.lock,
+        own.stands,
+        resolves cells.write b.start c.in-Committed.commit own.lock b.fate c.in-Some-commit_refusal.refusal
+            c.in-Committed.is (refuses.decides Resolved),
+      ),
+    ))
 
 pub returns-in-Some-commit_refusal-clause-leaves : goal.returns-in-Some-commit_refusal-clause-leaves
 returns-in-Some-commit_refusal-clause-leaves c cells shows =
@@ -28,7 +37,16 @@ returns-in-None-clause-answers c cells shows =
     let here = subst (λ n. Shows cells b.start n c.args.view.now) (ap commit_in c.in-Committed.is) shows in
     let own = c.in-Some.ensures cells (commit_in b.fate) shows in
     let may = c.in-None.ensures cells here own in
-    rw c.changes-in-None.ensures (inr (not_below b.start c.args.collected c.if-lt.ensures, inl (own.lock, own.stands, resolves cells.write b.start c.in-Committed.commit own.lock b.fate Resolved c.in-Committed.is (not_refused cells b.start c.in-Committed.commit c.in-Some.lock own may Resolved))))
+    rw c.changes-in-None.ensures
+    (inr (
+      not_below b.start c.args.collected c.if-lt.ensures,
+      inl (
+        own.lock,
+        own.stands,
+        resolves cells.write b.start c.in-Committed.commit own.lock b.fate Resolved c.in-Committed.is
+            (not_refused cells b.start c.in-Committed.commit c.in-Some.lock own may Resolved),
+      ),
+    ))
 
 pub returns-in-None-clause-applies : goal.returns-in-None-clause-applies
 returns-in-None-clause-applies c cells shows =
@@ -36,4 +54,8 @@ returns-in-None-clause-applies c cells shows =
     let here = subst (λ n. Shows cells b.start n c.args.view.now) (ap commit_in c.in-Committed.is) shows in
     let own = c.in-Some.ensures cells (commit_in b.fate) shows in
     let may = c.in-None.ensures cells here own in
-    rw (c.changes-in-None.ensures, c.commit_lock.ensures cells b.start here) (commit_applies cells b.start c.in-Committed.commit c.in-Some.lock own may)
+    rw (
+      c.changes-in-None.ensures,
+      c.commit_lock.ensures cells b.start here,
+    )
+    (commit_applies cells b.start c.in-Committed.commit c.in-Some.lock own may)

@@ -1,13 +1,8 @@
-use Rattle.std.proofs.Common.{rules, ◌≡◌, ◌≢◌, ◌⊎◌, ℕ, ◌+◌, inl, inr, length, refl, sym, ap, ◌∙◌, arith}
-use Rattle.tx_types.specs.declared.key.Key.{Key}
+use Rattle.std.proofs.Common.{rules, ◌≡◌, ◌≢◌, inl, inr, length, refl, sym, ap, ◌∙◌, arith}
 use Rattle.tx_plan.specs.declared.answer.Answer.TheVariants.{Collected}
-use Rattle.tx_plan.specs.declared.body.Body.TheVariants as request
 use Rattle.tx_plan.specs.cases.Collect.{SomeLockBelow, long_values, leaves_collect}
 use Rattle.tx_plan.specs.Plans.{read_upto}
-use Rattle.tx_later.specs.Noting.{Drops}
-use Rattle.tx_region.specs.Calls.{Counts}
 use Rattle.tx_region.specs.Regions.{region_of}
-use Rattle.tx_region.proofs.Notes.{counts_still}
 use Rattle.tx_region.proofs.records.Records.collect.Goals as goal
 
 pub drop_below-requires : goal.drop_below-requires

@@ -1,4 +1,4 @@
-use Rattle.std.proofs.Common.{rules, ◌≡◌, ◌≢◌, ℕ, inr, length, sym, ap, ◌∙◌}
+use Rattle.std.proofs.Common.{rules, ◌≡◌, ◌≢◌, inr, sym, ◌∙◌}
 use Rattle.tx_cells.specs.Contents.{cells_in}
 use Rattle.tx_region.proofs.Notes.{none_dropped, some_dropped}
 use Rattle.tx_region.proofs.records.Records.drop_below.Goals as goal

@@ -1,4 +1,4 @@
-use Rattle.std.proofs.Common.{ℕ, ◌↔◌, ◌≡◌, Option, Some, None, is_some, IsTrue, refl, sym, subst}
+use Rattle.std.proofs.Common.{ℕ, ◌↔◌, Option, Some, None, is_some, IsTrue, refl, sym, subst}
 use Rattle.tx_types.specs.declared.value.Value.{Value}
 use Rattle.tx_plan.specs.Cells.{Writes}
 use Rattle.tx_plan.specs.Reads.{Reads}

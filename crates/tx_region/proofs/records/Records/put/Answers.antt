@@ -26,6 +26,6 @@ returns-in-Lock-clause-notes g c =
     let s = c.args.self.now in
     let b = c.args.body.now in
     let before = region_of content s 0 in
-    let can : CanPut (before.cells b.key) b c.in-Lock.new = subst (λ ch. IfSome (new_lock ch) (λ new. CanPut (before.cells b.key) b new)) c.in-Lock.is c.requires in
+    let can : CanPut (before.cells b.key) b c.in-Lock.new = subst (λ ch. IfSome (new_lock ch) (λ new. CanPut (before.cells b.key) b new)) c.in-Lock.is c.requires.can in
     on_ok_three c.put_lock.result _ _ _ _ (λ only cells note more.
     notes_put (content s.families) (content c.put_lock.new.self) (numbers s.families) (numbers c.put_lock.new.self) b.key _ s.taken c.args.number only b c.in-Lock.new cells can note more) c.put_lock.ensures.content c.put_lock.ensures.cells c.put_lock.ensures.noted

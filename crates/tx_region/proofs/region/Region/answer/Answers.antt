@@ -1,6 +1,5 @@
-use Rattle.std.proofs.Common.{◌≡◌, ◌≤◌, ℕ, Some, length, refl, sym, ap, subst, ◌∙◌, arith}
+use Rattle.std.proofs.Common.{◌≡◌, ℕ, refl, sym, ap, subst, ◌∙◌, arith}
 use Rattle.tx_plan.specs.declared.body.Body.{Body}
-use Rattle.tx_plan.specs.Cells.{Region}
 use Rattle.tx_core.specs.Worlds.{Holds}
 use Rattle.tx_core.specs.declared.event.Event.TheVariants.{Took}
 use Rattle.tx_journal.specs.Known.{Known, HasRecorded}
@@ -8,7 +7,7 @@ use Rattle.tx_journal.specs.Replies.{Asked}
 use Rattle.tx_region.specs.Calls.{Executes, Counts}
 use Rattle.tx_region.specs.Regions.{region_of}
 use Rattle.tx_region.specs.Taking.{Loads, Answered}
-use Rattle.tx_region.proofs.Taking.{least_taken, does_taken, knows_taken, may_take_it, reads_taken, keeps_took, keeps_same, answered, if_some_is, if_none_is}
+use Rattle.tx_region.proofs.Taking.{least_taken, does_taken, knows_taken, may_take_it, reads_taken, keeps_took, keeps_same, answered, if_some_is}
 use Rattle.tx_region.proofs.region.Region.answer.Goals as goal
 
 pub answer-requires : goal.answer-requires

@@ -1,19 +1,17 @@
-use Rattle.std.proofs.Common.{◌≡◌, ℕ, Some, true, refl, sym, ap, subst, ◌∙◌}
+use Rattle.std.proofs.Common.{◌≡◌, ℕ, refl, sym, ap, subst, ◌∙◌}
 use Rattle.tx_plan.specs.declared.body.Body.{Body}
-use Rattle.tx_plan.specs.Cells.{Region}
 use Rattle.tx_core.specs.declared.event.Event.TheVariants.{Took}
 use Rattle.tx_core.specs.Histories.{History}
-use Rattle.tx_journal.specs.Known.{Known, HasSeen, HasRecorded}
-use Rattle.tx_journal.specs.Replies.{Asked}
+use Rattle.tx_journal.specs.Known.{Known, HasRecorded}
 use Rattle.tx_region.specs.Calls.{CarriesOut, Counts}
-use Rattle.tx_region.specs.Copies.{IsOfKey, IsAbove, IsPlan, MayMake, key_in, made}
+use Rattle.tx_region.specs.Copies.{IsOfKey, IsAbove, MayMake, key_in, made}
 use Rattle.tx_region.specs.Regions.{region_of}
 use Rattle.tx_region.proofs.Applying.{plan_holds, knows_here, may_here, reads_here, does_here, carried}
 use Rattle.tx_region.proofs.Taking.{seen_inside, keeps_took, keeps_same, if_some_is, if_none_is}
 use Rattle.tx_region.proofs.region.Region.carry_plan.Goals as goal
 
-pub make-requires : goal.make-requires
-make-requires g c =
+pub make_by_bytes-requires : goal.make_by_bytes-requires
+make_by_bytes-requires g c =
     let bounds = g.J.JournalId.bounds in
     let content = g.F.Holds.content in
     let old = c.args.self.now in
@@ -25,6 +23,7 @@ make-requires g c =
     let plan = plan_holds bounds old s.seat here number (content s.records.families) s.records.safe s.records.collected s.records.taken (g.F.Holds.numbers s.records.families) c.self.invariant c.args.loaded.now.mark c.args.loaded.now.last q.body c.args.planned c.requires.plan in
     record {
       of_key = subst IsOfKey (sym c.body.ensures.body) c.requires.of_key;
+      of = c.requires.bytes ∙ ap key_in (sym c.body.ensures.body);
       may = subst (λ (b : Body). MayMake b ((region_of content s.records 0).cells (key_in b)) c.args.planned.change) (sym c.body.ensures.body) plan.may;
     }
 
@@ -38,7 +37,7 @@ reply_done-requires g c =
     let same = c.is_above.ensures.same.0 in
     let number : s.seat.seat ≡ old.seat = ap (λ (k : Known). k.seat) c.self.view_is ∙ same in
     let here = seen_inside bounds old c.is_above.new.self s.seat c.self.view_is same c.is_above.ensures.seen in
-    let after = region_of content c.make.new.self in
+    let after = region_of content c.make_by_bytes.new.self in
     let a = c.in-Ok.done.answer in
     let read = c.in-Ok.done.read in
     let p = c.args.planned in
@@ -61,7 +60,7 @@ invariant_of-self-in-Ok g c =
     let same = c.is_above.ensures.same.0 in
     let number : s.seat.seat ≡ old.seat = ap (λ (k : Known). k.seat) c.self.view_is ∙ same in
     let here = seen_inside bounds old c.is_above.new.self s.seat c.self.view_is same c.is_above.ensures.seen in
-    let records = c.make.new.self in
+    let records = c.make_by_bytes.new.self in
     let before = region_of content s.records in
     let after = region_of content records in
     let a = c.in-Ok.done.answer in
@@ -79,7 +78,7 @@ invariant_of-self g c =
     let content = g.F.Holds.content in
     let numbers = g.F.Holds.numbers in
     let s = c.self.inside in
-    let records = c.make.new.self in
+    let records = c.make_by_bytes.new.self in
     keeps_same g.J.JournalId.bounds s.seat c.tell-told.new.self (region_of content s.records) (region_of content records) s.records.taken records.taken (numbers s.records.families) (numbers records.families) c.tell-told.ensures.same c.in-Err.ensures.same c.in-Err.ensures.same_numbers c.self.invariant
 
 pub returns-clause-comes : goal.returns-clause-comes
@@ -92,7 +91,7 @@ returns-clause-comes g c =
     let same = c.is_above.ensures.same.0 in
     let number : s.seat.seat ≡ old.seat = ap (λ (k : Known). k.seat) c.self.view_is ∙ same in
     let here = seen_inside bounds old c.is_above.new.self s.seat c.self.view_is same c.is_above.ensures.seen in
-    let after = region_of content c.make.new.self in
+    let after = region_of content c.make_by_bytes.new.self in
     let a = c.in-Ok.done.answer in
     let read = c.in-Ok.done.read in
     let p = c.args.planned in

@@ -1,4 +1,4 @@
-use Rattle.std.proofs.Common.{◌≡◌, ◌≤◌, ℕ, sym, ap, subst, ◌∙◌}
+use Rattle.std.proofs.Common.{sym, ap, subst, ◌∙◌}
 use Rattle.tx_plan.specs.declared.body.Body.{Body}
 use Rattle.tx_core.specs.Histories.{Begins}
 use Rattle.tx_core.proofs.seats.Beginnings.{begins_more, extends_begins}

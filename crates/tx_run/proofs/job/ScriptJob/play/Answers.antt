@@ -7,7 +7,8 @@ use Rattle.tx_run.proofs.job.ScriptJob.play.Goals as goal
 pub make-requires-clause-pair : goal.make-requires-clause-pair
 make-requires-clause-pair g c =
     let number = c.args.script_line.now.number in
-    let line = subst (λ (l : List ℕ). HasLine g.L.Source.text number l) (sym c.as_slice.ensures.value) c.args.script_line.now.line in
+    let line = subst (λ (l : List ℕ). HasLine g.L.Source.text number l) (sym c.as_slice.ensures.value)
+    c.args.script_line.now.line in
     let is = rw c.in-Ok-Ok.field-0-is at c.in-Ok-Ok.ensures in
     let said = rw c.in-Some.is at c.step.ensures.said in
     pair_made g.L.Source.text number c.as_slice.result.now (data_of c.in-Ok-Ok.line) c.in-Some.step line is said

@@ -1,6 +1,9 @@
+use Rattle.std.proofs.Common.{subst}
+use Rattle.std.specs.Prelude.{◌||◌, not}
 use Rattle.tx_run.specs.declared.reply.LineReply.{LineReply}
 use Rattle.tx_run.specs.declared.reply.LineAnswer.TheVariants.{Plain}
-use Rattle.tx_run.proofs.Answering.{told_if, plain_apart}
+use Rattle.tx_run.specs.Logs.{KeepsAnswer, Logged}
+use Rattle.tx_run.proofs.Answering.{told_if, plain_apart, kept_if}
 use Rattle.tx_run.proofs.Sourcing.{pairs_if}
 use Rattle.tx_run.proofs.log.RunLog.keep.Goals as goal
 
@@ -8,7 +11,23 @@ pub invariant_of-self : goal.invariant_of-self
 invariant_of-self g c =
     let xs = c.self.inside.replies.items in
     let x : LineReply = record { number = c.args.number; answer = Plain c.args.answer } in (
-      told_if c.self.inside.told c.self.inside.seat xs c.add-kept.new.replies.items x c.add-kept.result c.add-kept.ensures c.self.invariant.0 tt
+      told_if c.self.inside.told c.self.inside.seat xs c.add-kept.new.replies.items x c.add-kept.result
+          c.add-kept.ensures c.self.invariant.0 tt
           (plain_apart c.args.answer c.args.number xs),
-      pairs_if g.L.Source.text xs c.add-kept.new.replies.items x c.add-kept.result c.add-kept.ensures c.self.invariant.1 tt,
+      pairs_if g.L.Source.text xs c.add-kept.new.replies.items x c.add-kept.result c.add-kept.ensures c.self.invariant.1
+          tt,
     )
+
+pub returns-clause-kept : goal.returns-clause-kept
+returns-clause-kept g c =
+    let xs = c.self.inside.replies.items in
+    let x : LineReply = record { number = c.args.number; answer = Plain c.args.answer } in
+    let log : Logged = record {
+      seat = c.self.inside.seat;
+      told = c.self.inside.told;
+      replies =
+          c.add-kept.new.replies.items;
+      lost = c.self.inside.lost || not c.add-kept.result;
+    } in
+    subst (λ (l : Logged). KeepsAnswer l c.args.number (Plain c.args.answer) log) c.self.view_is
+    (kept_if c.self.inside.lost xs c.add-kept.new.replies.items x c.add-kept.result c.add-kept.ensures)

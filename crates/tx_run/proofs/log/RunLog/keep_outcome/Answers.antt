@@ -1,8 +1,9 @@
 use Rattle.std.proofs.Common.{sym, subst}
+use Rattle.std.specs.Prelude.{◌||◌, not}
 use Rattle.tx_run.specs.declared.reply.LineReply.{LineReply}
 use Rattle.tx_run.specs.declared.reply.LineAnswer.TheVariants.{Ended}
-use Rattle.tx_run.specs.Logs.{Logged, IsAnswered, TellsNone}
-use Rattle.tx_run.proofs.Answering.{told_if, none_apart}
+use Rattle.tx_run.specs.Logs.{Logged, IsAnswered, KeepsAnswer, TellsNone}
+use Rattle.tx_run.proofs.Answering.{told_if, none_apart, kept_if}
 use Rattle.tx_run.proofs.Sourcing.{pairs_if}
 use Rattle.tx_run.proofs.log.RunLog.keep_outcome.Goals as goal
 
@@ -10,9 +11,27 @@ pub invariant_of-self : goal.invariant_of-self
 invariant_of-self g c =
     let xs = c.self.inside.replies.items in
     let x : LineReply = record { number = c.args.number; answer = Ended c.args.start c.args.outcome.now c.args.keys } in
-    let stands = subst (λ (l : Logged). IsAnswered l.told l.seat c.args.start c.args.outcome.now c.args.keys) (sym c.self.view_is) c.requires.answered in
+    let stands = subst (λ (l : Logged). IsAnswered l.told l.seat c.args.start c.args.outcome.now c.args.keys)
+    (sym c.self.view_is) c.requires.answered in
     let fresh = subst (λ (l : Logged). TellsNone c.args.start l.replies) (sym c.self.view_is) c.requires.fresh in (
-      told_if c.self.inside.told c.self.inside.seat xs c.add-kept.new.replies.items x c.add-kept.result c.add-kept.ensures c.self.invariant.0 stands
+      told_if c.self.inside.told c.self.inside.seat xs c.add-kept.new.replies.items x c.add-kept.result
+          c.add-kept.ensures c.self.invariant.0 stands
           (none_apart c.args.start c.args.outcome.now c.args.keys c.args.number xs fresh),
-      pairs_if g.L.Source.text xs c.add-kept.new.replies.items x c.add-kept.result c.add-kept.ensures c.self.invariant.1 c.requires.pair,
+      pairs_if g.L.Source.text xs c.add-kept.new.replies.items x c.add-kept.result c.add-kept.ensures c.self.invariant.1
+          c.requires.pair,
     )
+
+pub returns-clause-kept : goal.returns-clause-kept
+returns-clause-kept g c =
+    let xs = c.self.inside.replies.items in
+    let answer = Ended c.args.start c.args.outcome.now c.args.keys in
+    let x : LineReply = record { number = c.args.number; answer = answer } in
+    let log : Logged = record {
+      seat = c.self.inside.seat;
+      told = c.self.inside.told;
+      replies =
+          c.add-kept.new.replies.items;
+      lost = c.self.inside.lost || not c.add-kept.result;
+    } in
+    subst (λ (l : Logged). KeepsAnswer l c.args.number answer log) c.self.view_is
+    (kept_if c.self.inside.lost xs c.add-kept.new.replies.items x c.add-kept.result c.add-kept.ensures)

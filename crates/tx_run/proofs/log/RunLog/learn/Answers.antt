@@ -9,6 +9,7 @@ invariant_of-self g c =
     let events = c.args.seat.now.events in
     let knows = subst (λ (l : Logged). Begins l.told events) (sym c.self.view_is) c.requires in (
       subst (λ h. TellsBy h c.self.inside.seat c.self.inside.replies.items) (sym c.tell.ensures.told)
-          (tells_on g.J.JournalId.bounds c.self.inside.told events c.tell.ensures.run.0 knows c.self.inside.seat c.self.inside.replies.items c.self.invariant.0),
+          (tells_on g.J.JournalId.bounds c.self.inside.told events c.tell.ensures.run.0 knows c.self.inside.seat
+          c.self.inside.replies.items c.self.invariant.0),
       c.self.invariant.1,
     )

@@ -6,9 +6,13 @@ use Rattle.tx_run.specs.declared.reply.LineReply.{LineReply}
 use Rattle.tx_run.specs.Replies.{all_of}
 use Rattle.tx_run.proofs.replies.Replies.add.Goals as goal
 
-all_of_push : (parts : List (Vec LineReply Global)) (part : Vec LineReply Global) → all_of (parts ++ part ∷ []) ≡ all_of parts ++ part.items
+all_of_push : (parts : List (Vec LineReply Global)) (part : Vec LineReply Global)
+    → all_of (parts ++ part ∷ []) ≡ all_of parts ++ part.items
 all_of_push [] part = append-nil part.items
-all_of_push (first ∷ parts) part = ap (λ (t : List LineReply). first.items ++ t) (all_of_push parts part) ∙ sym (append_assoc first.items (all_of parts) part.items)
+all_of_push (first ∷ parts) part =
+    ap (λ (t : List LineReply). first.items ++ t) (all_of_push parts part)
+    ∙ sym (append_assoc first.items (all_of parts) part.items)
 
 pub returns : goal.returns
-returns c = ap all_of c.in_ok-push.ensures.items ∙ all_of_push c.self.inside.parts.items c.args.part ∙ ap (λ (t : List LineReply). t ++ c.args.part.items) c.self.view_is
+returns c = ap all_of c.in_ok-push.ensures.items ∙ all_of_push c.self.inside.parts.items c.args.part
+    ∙ ap (λ (t : List LineReply). t ++ c.args.part.items) c.self.view_is

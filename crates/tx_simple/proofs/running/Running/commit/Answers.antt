@@ -7,5 +7,6 @@ pub invariant_of-self : goal.invariant_of-self
 invariant_of-self g c =
     let old = c.self.inside.session in
     let new = c.commit_next.new.self in
-    let follows = follows_due g.S.Sender.sends g.J.JournalId.bounds old new _ _ phase.Commit (due_commit old.state) c.commit_next.result c.commit_next.ensures in
+    let follows = follows_due g.S.Sender.sends g.J.JournalId.bounds old new _ _ phase.Commit (due_commit old.state)
+    c.commit_next.result c.commit_next.ensures in
     (c.self.invariant.0, follows_more g.B.Begun.session old new c.self.invariant.1 follows, c.self.invariant.2)

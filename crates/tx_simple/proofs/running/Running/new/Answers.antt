@@ -3,4 +3,8 @@ use Rattle.tx_simple.proofs.running.Running.new.Goals as goal
 
 -- it sets out from itself
 pub invariant_of-result : goal.invariant_of-result
-invariant_of-result g c = (c.requires.way, follows_same g.B.Begun.session c.args.session c.requires.session, goes_same g.B.Begun.resolver c.args.resolver c.requires.resolver)
+invariant_of-result g c = (
+  c.requires.way,
+  follows_same g.B.Begun.session c.args.session c.requires.session,
+  goes_same g.B.Begun.resolver c.args.resolver c.requires.resolver,
+)

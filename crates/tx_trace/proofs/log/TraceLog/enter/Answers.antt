@@ -9,7 +9,10 @@ returns-clause-ok c =
     record {
       first = c.in_ok-first.first;
       is = c.in_ok-first.ensures.ok;
-      steps = one_more c.args.self.now.steps.items c.reserve.new.self.items c.push_reserved.new.self.items c.in_ok-step.step c.in_ok-reserve.ensures.items c.push_reserved.ensures.items ∙ ap (λ (s : Step). s ∷ steps_of c.args.self.now) c.in_ok-step.ensures.ok;
+      steps = one_more c.args.self.now.steps.items c.reserve.new.self.items c.push_reserved.new.self.items
+          c.in_ok-step.step c.in_ok-reserve.ensures.items c.push_reserved.ensures.items
+          ∙ ap (λ (s : Step). s ∷ steps_of c.args.self.now) c.in_ok-step.ensures.ok;
       still = λ q k. refl;
-      others = changed_at (kept_in c.args.self.now) _ c.args.of.now.start (Some c.in_ok-first.first) c.in_ok-insert.ensures.updates.0;
+      others = changed_at (kept_in c.args.self.now) _ c.args.of.now.start (Some c.in_ok-first.first)
+          c.in_ok-insert.ensures.updates.0;
     }

@@ -12,15 +12,30 @@ use Rattle.tx_trace.proofs.log.TraceLog.read_first.Goals as goal
 pub returns-in_err-first-clause-same : goal.returns-in_err-first-clause-same
 returns-in_err-first-clause-same c =
     let old = c.args.self.now in
-    let new : TraceLog = record { alloc = old.alloc; steps = old.steps; pending = old.pending; checked = c.insert.new.self } in
-    on_err_is c.from_residual-in_err-first.result (Stays old new) (stays_same old new refl (λ t. refl) (λ t k. ap (λ ks. list_any (tree.is_at (by_start (t, k))) ks) c.in_err-first.ensures.err))
+    let new : TraceLog = record {
+      alloc = old.alloc;
+      steps = old.steps;
+      pending = old.pending;
+      checked =
+          c.insert.new.self;
+    } in
+    on_err_is c.from_residual-in_err-first.result (Stays old new)
+    (stays_same old new refl (λ t. refl)
+    (λ t k. ap (λ ks. list_any (tree.is_at (by_start (t, k))) ks) c.in_err-first.ensures.err))
 
 pub returns-then-not-first-clause-ok : goal.returns-then-not-first-clause-ok
 returns-then-not-first-clause-ok c =
     let key = c.in_ok-clone-2.ensures.ok in
     inr (inl (
-      ap (λ k. checked_in c.args.self.now c.args.body.now.start k) (sym key) ∙ was_there _ c.in_ok-first.first c.in_ok-first.ensures.added c.if-not-first.true,
-      record { steps = refl; same = λ t. refl; still = λ t k. ap (λ ks. list_any (tree.is_at (by_start (t, k))) ks) (false_of c.in_ok-first.first _ c.if-not-first.true c.in_ok-first.ensures.unchanged) },
+      ap (λ k. checked_in c.args.self.now c.args.body.now.start k) (sym key)
+          ∙ was_there _ c.in_ok-first.first c.in_ok-first.ensures.added c.if-not-first.true,
+      record {
+        steps = refl;
+        same = λ t. refl;
+        still =
+            λ t k. ap (λ ks. list_any (tree.is_at (by_start (t, k))) ks)
+            (false_of c.in_ok-first.first _ c.if-not-first.true c.in_ok-first.ensures.unchanged);
+      },
     ))
 
 pub returns-clause-ok : goal.returns-clause-ok
@@ -29,8 +44,13 @@ returns-clause-ok c =
     let start = c.args.body.now.start in
     inr (inr (record {
       inserts = c.requires.inserts;
-      first = ap (λ k. checked_in c.args.self.now start k) (sym key) ∙ was_new _ c.in_ok-first.first c.in_ok-first.ensures.added c.if-not-first.false;
-      steps = one_more c.args.self.now.steps.items c.args.self.now.steps.items c.push_reserved.new.self.items (step.Read c.in_ok-clone.field-0 start None) refl c.push_reserved.ensures.items ∙ ap (λ (k : Key). step.Read k start None ∷ steps_of c.args.self.now) c.in_ok-clone.ensures.ok;
+      first = ap (λ k. checked_in c.args.self.now start k) (sym key)
+          ∙ was_new _ c.in_ok-first.first c.in_ok-first.ensures.added c.if-not-first.false;
+      steps = one_more c.args.self.now.steps.items c.args.self.now.steps.items c.push_reserved.new.self.items
+          (step.Read c.in_ok-clone.field-0 start None) refl c.push_reserved.ensures.items
+          ∙ ap (λ (k : Key). step.Read k start None ∷ steps_of c.args.self.now) c.in_ok-clone.ensures.ok;
       same = λ t. refl;
-      keys = λ t k. c.in_ok-first.ensures.updates.0 (t, k) ∙ (ap (λ b. cond b true (checked_in c.args.self.now t k)) (at_pair start c.in_ok-clone-2.field-0 (t, k)) ∙ ap (λ (q : Key). cond ((start == t) && bytes_eq q k) true (checked_in c.args.self.now t k)) key);
+      keys = λ t k. c.in_ok-first.ensures.updates.0 (t, k)
+          ∙ (ap (λ b. cond b true (checked_in c.args.self.now t k)) (at_pair start c.in_ok-clone-2.field-0 (t, k))
+          ∙ ap (λ (q : Key). cond ((start == t) && bytes_eq q k) true (checked_in c.args.self.now t k)) key);
     }))

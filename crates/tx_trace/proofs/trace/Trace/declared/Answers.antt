@@ -3,7 +3,11 @@ use Rattle.tx_trace.proofs.Noting.{adds_view, stays_view}
 use Rattle.tx_trace.proofs.trace.Trace.declared.Goals as goal
 
 pub returns-clause-ok : goal.returns-clause-ok
-returns-clause-ok c = adds_view c.declared.result c.self.inside.log c.declared.new.self c.args.self.now c.self.view_is (Declared c.args.of.now) c.declared.ensures.ok
+returns-clause-ok c =
+    adds_view c.declared.result c.self.inside.log c.declared.new.self c.args.self.now c.self.view_is
+    (Declared c.args.of.now) c.declared.ensures.ok
 
 pub returns-clause-same : goal.returns-clause-same
-returns-clause-same c = stays_view c.declared.result c.self.inside.log c.declared.new.self c.args.self.now c.self.view_is c.declared.ensures.same
+returns-clause-same c =
+    stays_view c.declared.result c.self.inside.log c.declared.new.self c.args.self.now c.self.view_is
+    c.declared.ensures.same

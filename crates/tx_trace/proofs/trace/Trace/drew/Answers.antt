@@ -2,7 +2,10 @@ use Rattle.tx_trace.proofs.Noting.{drawn_view, stays_view}
 use Rattle.tx_trace.proofs.trace.Trace.drew.Goals as goal
 
 pub returns-clause-ok : goal.returns-clause-ok
-returns-clause-ok c = drawn_view c.drew.result c.self.inside.log c.drew.new.self c.args.self.now c.self.view_is c.args.ts c.drew.ensures.ok
+returns-clause-ok c =
+    drawn_view c.drew.result c.self.inside.log c.drew.new.self c.args.self.now c.self.view_is c.args.ts
+    c.drew.ensures.ok
 
 pub returns-clause-same : goal.returns-clause-same
-returns-clause-same c = stays_view c.drew.result c.self.inside.log c.drew.new.self c.args.self.now c.self.view_is c.drew.ensures.same
+returns-clause-same c =
+    stays_view c.drew.result c.self.inside.log c.drew.new.self c.args.self.now c.self.view_is c.drew.ensures.same

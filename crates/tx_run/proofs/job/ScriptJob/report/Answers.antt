@@ -1,0 +1,22 @@
+use Rattle.std.proofs.Common.{map, sym, subst, ◌∙◌, Ok}
+use Rattle.std.specs.Prelude.{reverse}
+use Rattle.tx_run.specs.LineNumbers.{number_of}
+use Rattle.tx_run.specs.States.{going_of}
+use Rattle.tx_run.specs.declared.reply.LineAnswer.TheVariants.{Plain}
+use Rattle.tx_run.specs.Jobs.{GoesOn, MayAnswer, Working, with_line}
+use Rattle.tx_run.proofs.Going.{answered}
+use Rattle.tx_run.proofs.job.ScriptJob.report.Goals as goal
+
+pub returns : goal.returns
+returns g c =
+    let j : Working = record {
+      number = c.self.inside.number;
+      log = c.self.inside.log;
+      going = going_of c.self.inside.state (λ transfer. transfer.value);
+      left = map number_of (reverse c.self.inside.lines.items);
+      faulted = c.self.inside.faulted;
+    } in
+    let is = c.self.view_is ∙ c.meet.ensures in
+    subst (λ (w : Working). GoesOn (with_line c.args.number w) (record j { log = c.keep.new.self })) is
+    (answered j c.keep.new.self c.args.number (Plain (Ok c.args.plain)) (subst MayAnswer (sym is) c.requires)
+    c.keep.ensures.same.0 c.keep.ensures.kept)
