@@ -35,6 +35,8 @@ fn enter<T: Tx>(tx: &mut T, account: u8, balance: u8) -> Result<(), Stop> {
 pub struct Open;
 
 impl Work for Open {
+    ghost does = { λ before buffer answer entered after_it. Unit {0} };
+
     fn apply<T: Tx>(&mut self, tx: &mut T) -> Result<(), Stop> {
         for account in 0..4 {
             enter(tx, account, OPENING)?;
@@ -52,6 +54,8 @@ pub struct Transfer {
 }
 
 impl Work for Transfer {
+    ghost does = { λ before buffer answer entered after_it. Unit {0} };
+
     fn apply<T: Tx>(&mut self, tx: &mut T) -> Result<(), Stop> {
         let from = balance(tx, self.from)?;
         let to = balance(tx, self.to)?;
@@ -71,6 +75,8 @@ pub struct Total {
 }
 
 impl Work for Total {
+    ghost does = { λ before buffer answer entered after_it. Unit {0} };
+
     fn apply<T: Tx>(&mut self, tx: &mut T) -> Result<(), Stop> {
         let mut sum: u32 = 0;
         for account in 0..4 {

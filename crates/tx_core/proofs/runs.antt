@@ -2,3 +2,4 @@ pub mod Events
 pub mod AllRuns
 pub mod Consequences
 pub mod CommitOrder
+pub mod Inserts

@@ -16,7 +16,9 @@ use Rattle.tx_core.specs.declared.event.Taken.{Taken}
 use Rattle.tx_core.specs.declared.event.Outcome.TheVariants as outcome
 use Rattle.tx_core.specs.declared.event.Event.TheVariants.{Drawn, Answered, Took}
 use Rattle.tx_core.specs.Histories.{History, declared, is_first, Among}
-use Rattle.tx_core.specs.Decisions.{Acceptance, accepted, HasTwoPhaseLock, infos_in}
+use Rattle.tx_types.specs.declared.mutation.Fate.TheVariants as fate
+use Rattle.tx_machine.specs.Machine.{Done}
+use Rattle.tx_core.specs.Decisions.{Acceptance, accepted, HasTwoPhaseLock, infos_in, decided}
 use Rattle.tx_core.specs.Allowed.{listed_on}
 
 -- ---- one lock
@@ -66,6 +68,13 @@ AnsweredBefore [] p u c = ⊥
 AnsweredBefore (Drawn seat n ∷ h) p u c = ((n ≡ p) × Among h (Answered u (outcome.Committed c)))
     ⊎ AnsweredBefore h p u c
 AnsweredBefore (_ ∷ h) p u c = AnsweredBefore h p u c
+
+-- u was decided as committed at c when the number p was drawn
+abbrev pub DecidedBefore : History → ℕ → ℕ → ℕ → Type 0
+DecidedBefore [] p u c = ⊥
+DecidedBefore (Drawn seat n ∷ h) p u c = ((n ≡ p) × (decided h u ≡ Done (fate.Committed c)))
+    ⊎ DecidedBefore h p u c
+DecidedBefore (_ ∷ h) p u c = DecidedBefore h p u c
 
 -- ---- the locks of all keys
 

@@ -22,6 +22,10 @@ pub mod ReadSteps
 -- Runs of a list of steps, oldest first.
 pub mod Runs
 pub mod Snapshots
+-- Between a commit that leaves a value and a later insert of the key lies a delete.
+pub mod Inserts
+-- What is seen of a key between the start and the commit of a transaction that changes it.
+pub mod Serial
 -- The walk over the rows of a scan finds the first key that a read sees otherwise.
 pub mod Differences
 -- What is told of a refused step is so in the machine's table, and refuses it.

@@ -1,5 +1,5 @@
 -- Reads: what the versions show is what the table sees.
-use Rattle.std.proofs.Common.{zero, suc, length, get_or, ◌&&◌, ◌||◌, nat_lt, ◌≡◌, ℕ, ◌<◌, ◌≤◌, inl, inr, Bool, true, false, List, [], ◌∷◌, Option, Some, None, bytes_eq, refl, sym, ap, subst, ◌∙◌, arith}
+use Rattle.std.proofs.Common.{zero, suc, length, get_or, ◌&&◌, ◌||◌, nat_lt, ◌≡◌, ℕ, ◌<◌, ◌≤◌, ◌⊎◌, inl, inr, Bool, true, false, List, [], ◌∷◌, Option, Some, None, bytes_eq, refl, sym, ap, subst, ◌∙◌, arith}
 use Rattle.std.specs.Ordering.{nat_cmp}
 use Rattle.std.specs.BTreeMap as tree
 use Rattle.tx_types.specs.declared.key.Key.{Key}
@@ -14,7 +14,7 @@ use Rattle.tx_machine.specs.Machine.{Table, Commits, Newest, Sees, SeesRows, IsR
 use Rattle.tx_machine.specs.Versions.{Versions, Fates, Listed, NewestIn, SeenIn}
 use Rattle.tx_machine.specs.Noted.{IsNoted, AddsRead, SameReads, EndsWithin}
 use Rattle.tx_machine.specs.Shown.{Index, versions_of, SeenOf, Shows, ShowsRows}
-use Rattle.tx_machine.specs.Representation.{version_of, Tells, ListedOn}
+use Rattle.tx_machine.specs.Representation.{version_of, Inserts, Tells, ListedOn}
 use Rattle.tx_machine.proofs.Basics.{cond_true, cond_false, key_test, key_same}
 use Rattle.tx_machine.proofs.CommitSteps.{on_commit, commit_on}
 
@@ -109,13 +109,14 @@ module _ (last : ℕ) (stages : ℕ → Option TxnStage) (fates : Fates) (index 
   ]
 
   kept_more : (covers : Key → Bool) (r : ℕ) (new : Reads) → AddsRead reads new covers r → (k : Key) (s : ℕ)
-      → IsRead (with_read table covers r).reads k s → (u : ℕ) × (s ≤ u) × IsNoted new k u
+      → IsRead (with_read table covers r).reads k s → Inserts table.row k s ⊎ ((u : ℕ) × (s ≤ u) × IsNoted new k u)
   kept_more covers r new grows k s (inl own) = let h = grows.added k own.0 in
-      (h.0, (let a : r ≤ h.0 = h.1 in let b : r ≡ s = own.1 in omega arith), h.2)
-  kept_more covers r new grows k s (inr old) =
-      let h = tells.reads.kept k s old in
-      let g = grows.kept k h.0 h.2 in
-      (g.0, (let a : s ≤ h.0 = h.1 in let b : h.0 ≤ g.0 = g.1 in omega arith), g.2)
+      inr (h.0, (let a : r ≤ h.0 = h.1 in let b : r ≡ s = own.1 in omega arith), h.2)
+  kept_more covers r new grows k s (inr old) = elim (tells.reads.kept k s old) [
+    | inl x ↦ inl x
+    | inr h ↦ let g = grows.kept k h.0 h.2 in
+        inr (g.0, (let a : s ≤ h.0 = h.1 in let b : h.0 ≤ g.0 = g.1 in omega arith), g.2)
+  ]
 
   -- one read more is kept
   pub reads_more : (covers : Key → Bool) (r : ℕ) (new : Reads) → AddsRead reads new covers r
@@ -128,7 +129,11 @@ module _ (last : ℕ) (stages : ℕ → Option TxnStage) (fates : Fates) (index 
     ended = tells.ended;
     distinct = tells.distinct;
     commits = tells.commits;
-    reads = record { made = made_more covers r new grows; kept = kept_more covers r new grows };
+    reads = record {
+      made = made_more covers r new grows;
+      left = λ k s x. inr (tells.reads.left k s x);
+      kept = kept_more covers r new grows;
+    };
   }
 
   -- the same reads are kept
@@ -144,7 +149,8 @@ module _ (last : ℕ) (stages : ℕ → Option TxnStage) (fates : Fates) (index 
     commits = tells.commits;
     reads = record {
       made = λ k r x. tells.reads.made k r (same.only k r x);
-      kept = λ k r x. let h = tells.reads.kept k r x in (h.0, h.1, same.kept k h.0 h.2);
+      left = tells.reads.left;
+      kept = λ k r x. elim (tells.reads.kept k r x) [ inl y ↦ inl y | inr h ↦ inr (h.0, h.1, same.kept k h.0 h.2) ];
     };
   }
 

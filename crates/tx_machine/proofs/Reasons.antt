@@ -42,7 +42,7 @@ use Rattle.tx_machine.specs.Scans.{Differs}
 use Rattle.tx_types.specs.Keys.{value_in}
 use Rattle.tx_machine.proofs.Basics.{some_same}
 use Rattle.tx_machine.proofs.Distinct.{contained, twice_not_distinct}
-use Rattle.tx_machine.proofs.CommitSteps.{on_commit, commit_on, not_blocked}
+use Rattle.tx_machine.proofs.CommitSteps.{on_commit, commit_on, kept_read, not_blocked}
 use Rattle.tx_machine.proofs.Differences.{not_misplaced, shown_placed}
 use Rattle.tx_machine.proofs.ReadSteps.{shows_sees, sees_shows, sees_rows_shown}
 
@@ -253,7 +253,12 @@ module _ (last : ℕ) (stages : ℕ → Option TxnStage) (fates : Fates) (index 
 
     pub is_read : (c r : ℕ) (change : Change) → Contains set change → Blocks index fates reads t c change (block.Read r)
         → (m : Mutation) × Writes table t change.key m × IsVisible m × IsRead table.reads change.key r
-    is_read c r change among x = (change.mutation, writes change among, x.0, tells.reads.made change.key r x.2)
+    is_read c r change among x = (
+      change.mutation,
+      writes change among,
+      x.0,
+      kept_read last stages fates index reads table tells change.key r x.2,
+    )
 
     pub inserts : (change : Change) → Contains set change → IsInsert change.mutation
         → (v : Value) × Writes table t change.key (mutation.Insert v)

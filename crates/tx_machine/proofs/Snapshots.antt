@@ -1,6 +1,6 @@
 -- What every run of the machine says: what has ended stays so, no two overlapping transactions
 -- commit one key, and what a read has seen is what it would see at any later moment.
-use Rattle.std.proofs.Common.{◌≡◌, ◌≢◌, ℕ, ◌≤◌, ◌==◌, ◌++◌, ◌⊎◌, inl, inr, List, [], ◌∷◌, Option, Some, None, refl, sym, ap, subst, ◌∙◌, arith}
+use Rattle.std.proofs.Common.{◌≡◌, ◌≢◌, ℕ, ◌<◌, ◌≤◌, ◌==◌, ◌++◌, ◌⊎◌, inl, inr, List, [], ◌∷◌, Option, Some, None, refl, sym, ap, subst, ◌∙◌, arith}
 use Rattle.std.proofs.lemmas.Bool.{eq-eqb}
 use Rattle.tx_types.specs.declared.key.Key.{Key}
 use Rattle.tx_types.specs.declared.value.Value.{Value}
@@ -36,7 +36,7 @@ module _ (table : Table) (t : ℕ) (changes : Option (List Change)) (state : Sta
   abbrev new : Rows
   new = (with_row table t changes state).row
 
-  here : (q : ℕ) → t ≡ q → new q ≡ Some record { changes = changes; state = state }
+  pub here : (q : ℕ) → t ≡ q → new q ≡ Some record { changes = changes; state = state }
   here q e = cond_true (t == q) (Some record { changes = changes; state = state }) (table.row q) (eq-eqb t q e)
 
   module _ (going : (set : Option (List Change)) (end : Fate)
@@ -62,7 +62,7 @@ module _ (table : Table) (t : ℕ) (changes : Option (List Change)) (state : Sta
         ]
 
   -- a commit that stands after it stood before, or is that of the row
-  came : (k : Key) (u d : ℕ) (n : Mutation) → Commits new k u d n
+  pub came : (k : Key) (u d : ℕ) (n : Mutation) → Commits new k u d n
       → Commits table.row k u d n
       ⊎ ((t ≡ u) × ((set : List Change) × (changes ≡ Some set) × (mutation_at set k ≡ Some n))
       × (state ≡ Done (Committed d)))
@@ -84,10 +84,10 @@ module _ (table : Table) (t : ℕ) (changes : Option (List Change)) (state : Sta
 -- ---- a step
 
 -- a commit that comes with a step is one that the machine may make then
-abbrev New : Table → Key → ℕ → ℕ → Mutation → Type 0
+abbrev pub New : Table → Key → ℕ → ℕ → Mutation → Type 0
 New table k u d n = (may : MayCommit table u d) × (mutation_at may.set k ≡ Some n)
 
-stands_kept : (table : Table) (s : Step) → Admits table s → (k : Key) (u d : ℕ) (n : Mutation)
+pub stands_kept : (table : Table) (s : Step) → Admits table s → (k : Key) (u d : ℕ) (n : Mutation)
     → Commits table.row k u d n → Commits (after table s).row k u d n
 stands_kept table (step.Draw m) a k u d n c = record { set = c.set; row_is = c.row_is; does = c.does }
 stands_kept table (step.Begin t) a k u d n c = kept table t None Open (λ set end e. cc (e, a.1)) k u d n c
@@ -103,7 +103,7 @@ stands_kept table (step.Read j r found) a k u d n c = record { set = c.set; row_
 stands_kept table (step.Scan scan) a k u d n c = record { set = c.set; row_is = c.row_is; does = c.does }
 stands_kept table (step.Answer t end) a k u d n c = record { set = c.set; row_is = c.row_is; does = c.does }
 
-stands_new : (table : Table) (s : Step) → Admits table s → (k : Key) (u d : ℕ) (n : Mutation)
+pub stands_new : (table : Table) (s : Step) → Admits table s → (k : Key) (u d : ℕ) (n : Mutation)
     → Commits (after table s).row k u d n → Commits table.row k u d n ⊎ ((s ≡ step.Commit u d) × New table k u d n)
 stands_new table (step.Draw m) a k u d n c = inl (record { set = c.set; row_is = c.row_is; does = c.does })
 stands_new table (step.Begin t) a k u d n c =
@@ -147,11 +147,11 @@ ended_next table (step.Read j r found) a q end e = e
 ended_next table (step.Scan scan) a q end e = e
 ended_next table (step.Answer t f) a q end e = e
 
-read_next : (table : Table) (s : Step) → (k : Key) (r : ℕ) → IsRead table.reads k r → IsRead (after table s).reads k r
+pub read_next : (table : Table) (s : Step) → (k : Key) (r : ℕ) → IsRead table.reads k r → IsRead (after table s).reads k r
 read_next table (step.Draw m) k r x = x
 read_next table (step.Begin t) k r x = x
 read_next table (step.Declare t set) k r x = x
-read_next table (step.Commit t c) k r x = x
+read_next table (step.Commit t c) k r x = inr x
 read_next table (step.Abort t) k r x = x
 read_next table (step.Read j q found) k r x = inr x
 read_next table (step.Scan scan) k r x = inr x
@@ -160,49 +160,54 @@ read_next table (step.Answer t f) k r x = x
 -- ---- what a read has seen
 
 -- what leaves a value is seen
-put_visible : (m : Mutation) (v : Value) → put_by m ≡ Some v → IsVisible m
+pub put_visible : (m : Mutation) (v : Value) → put_by m ≡ Some v → IsVisible m
 put_visible (mutation.Put w) v e = tt
 put_visible (mutation.Insert w) v e = tt
 put_visible mutation.Delete v e = tt
 put_visible mutation.Lock v e = cc e
 
+-- what puts or deletes k and is committed at most at r once the step is made was so before
+abbrev pub AddsNone : Table → Step → Key → ℕ → Type 0
+AddsNone table s k r = (u d : ℕ) (n : Mutation) → Commits (after table s).row k u d n → IsVisible n → d ≤ r
+    → Commits table.row k u d n
+
 -- a step commits nothing below a read of what it puts or deletes
-above_read : (table : Table) (s : Step) → Admits table s → (k : Key) (r : ℕ) → IsRead table.reads k r
-    → (u d : ℕ) (n : Mutation) → Commits (after table s).row k u d n → IsVisible n → d ≤ r → Commits table.row k u d n
+pub above_read : (table : Table) (s : Step) → Admits table s → (k : Key) (r : ℕ) → IsRead table.reads k r
+    → AddsNone table s k r
 above_read table s a k r read u d n c v le =
     elim (stands_new table s a k u d n c) [
       | inl x ↦ x
       | inr x ↦ absurd (omega (arith, le, x.1.0.unread k n r x.1.1 v read))
     ]
 
-newest_next : (table : Table) (s : Step) → Admits table s → (k : Key) (r : ℕ) → IsRead table.reads k r → (m : Mutation)
+pub newest_next : (table : Table) (s : Step) → Admits table s → (k : Key) (r : ℕ) → AddsNone table s k r → (m : Mutation)
     → Newest table.row k r m → Newest (after table s).row k r m
-newest_next table s a k r read m w =
+newest_next table s a k r none m w =
     record {
       start = w.start;
       at = w.at;
       commits = stands_kept table s a k w.start w.at m w.commits;
       upto = w.upto;
-      newest = λ u c n is visible low high. w.newest u c n (above_read table s a k r read u c n is visible high) visible
+      newest = λ u c n is visible low high. w.newest u c n (none u c n is visible high) visible
           low high;
     }
 
-newest_before : (table : Table) (s : Step) → Admits table s → (k : Key) (r : ℕ) → IsRead table.reads k r
+newest_before : (table : Table) (s : Step) → Admits table s → (k : Key) (r : ℕ) → AddsNone table s k r
     → (m : Mutation) → IsVisible m → Newest (after table s).row k r m → Newest table.row k r m
-newest_before table s a k r read m seen w =
+newest_before table s a k r none m seen w =
     record {
       start = w.start;
       at = w.at;
-      commits = above_read table s a k r read w.start w.at m w.commits seen w.upto;
+      commits = none w.start w.at m w.commits seen w.upto;
       upto = w.upto;
       newest = λ u c n is visible low high. w.newest u c n (stands_kept table s a k u c n is) visible low high;
     }
 
-sees_next : (table : Table) (s : Step) → Admits table s → (k : Key) (r : ℕ) → IsRead table.reads k r
+pub sees_next : (table : Table) (s : Step) → Admits table s → (k : Key) (r : ℕ) → AddsNone table s k r
     → (found : Option Value) → Sees table.row k r found → Sees (after table s).row k r found
-sees_next table s a k r read (Some v) (m, w, puts) = (m, newest_next table s a k r read m w, puts)
-sees_next table s a k r read None w =
-    λ m v x puts. w m v (newest_before table s a k r read m (put_visible m v puts) x) puts
+sees_next table s a k r none (Some v) (m, w, puts) = (m, newest_next table s a k r none m w, puts)
+sees_next table s a k r none None w =
+    λ m v x puts. w m v (newest_before table s a k r none m (put_visible m v puts) x) puts
 
 -- ---- runs
 
@@ -234,6 +239,15 @@ commits_apart (s ∷ steps) run k t c u d m n x y other overlap =
     one : (t c u d : ℕ) → step.Commit t c ≡ step.Commit u d → t ≡ u
     one t c u d e = ap start_of e
 
+-- each commit lies above its start
+pub commits_above : (steps : List Step) → IsRun steps → (k : Key) (t c : ℕ) (m : Mutation)
+    → Commits (table_of steps).row k t c m → t < c
+commits_above [] run k t c m x = cc (x.row_is)
+commits_above (s ∷ steps) run k t c m x = elim (stands_new (table_of steps) s run.1 k t c m x) [
+  | inl old ↦ commits_above steps run.0 k t c m old
+  | inr new ↦ new.1.0.above
+]
+
 -- what was read and seen at one moment is seen at any later one
 stays_seen : (more steps : List Step) (k : Key) (r : ℕ) (found : Option Value) → IsRun (more ++ steps)
     → IsRead (table_of steps).reads k r → Sees (table_of steps).row k r found
@@ -242,7 +256,8 @@ stays_seen [] steps k r found run read sees = (read, sees)
 stays_seen (s ∷ more) steps k r found run read sees =
     let before = stays_seen more steps k r found run.0 read sees in (
       read_next (table_of (more ++ steps)) s k r before.0,
-      sees_next (table_of (more ++ steps)) s run.1 k r before.0 found before.1,
+      sees_next (table_of (more ++ steps)) s run.1 k r
+          (above_read (table_of (more ++ steps)) s run.1 k r before.0) found before.1,
     )
 
 -- a run begins with runs

@@ -1,5 +1,5 @@
 -- What a step makes of the maps is what it makes of the table.
-use Rattle.std.proofs.Common.{◌≡◌, ◌≢◌, ℕ, ◌==◌, inl, inr, Bool, false, cond, List, [], Option, Some, None, refl, sym, ap, subst, ◌∙◌, is_some}
+use Rattle.std.proofs.Common.{◌≡◌, ◌≢◌, ℕ, ◌≤◌, ◌==◌, ◌⊎◌, inl, inr, Bool, false, cond, List, [], Option, Some, None, refl, sym, ap, subst, ◌∙◌, is_some}
 use Rattle.std.specs.Cmp.{unsigned_ties}
 use Rattle.std.specs.Ordering.{nat_cmp, is_eq}
 use Rattle.tx_types.specs.declared.key.Key.{Key}
@@ -12,8 +12,8 @@ use Rattle.tx_machine.specs.declared.machine.TxnStage.{TxnStage}
 use Rattle.tx_machine.specs.declared.machine.TxnStage.TheVariants.{Drawn, Begun, Declared}
 use Rattle.tx_machine.specs.declared.step.Step.TheVariants.{Begin, Declare, Abort}
 use Rattle.tx_machine.specs.Keys.{IsDistinct}
-use Rattle.tx_machine.specs.Machine.{State, Open, Done, Row, Rows, Table, Commits, Admits, after, empty, changes_in, with_row}
-use Rattle.tx_machine.specs.Representation.{row_of, ListsCommits, Tells}
+use Rattle.tx_machine.specs.Machine.{State, Open, Done, Row, Rows, Reading, Table, Commits, IsRead, Admits, after, empty, changes_in, with_row}
+use Rattle.tx_machine.specs.Representation.{row_of, ListsCommits, Inserts, KeepsReads, Tells}
 use Rattle.tx_machine.proofs.Basics.{nat_test, cond_true, cond_false, some_same, nat_same, none_is}
 
 -- ---- rows
@@ -99,7 +99,8 @@ module _ (last : ℕ) (stages : ℕ → Option TxnStage) (fates : ℕ → Option
         (other_fates : (q : ℕ) → (t == q) ≡ false → new_fates q ≡ fates q)
         (drawn_here : is_some (new_stages t) ≡ is_some (stages t))
         (distinct_here : (set : List Change) → changes ≡ Some set → IsDistinct set)
-        (lists : ListsCommits rows new_versions) where
+        (lists : ListsCommits rows new_versions)
+        (list : List Reading) (keeps : KeepsReads rows list noted) where
       row_drawn : (q : ℕ) → table.drawn q ≡ is_some (new_stages q)
       row_drawn q = elim (nat_test t q) [
         | inl x ↦ tells.drawn q
@@ -130,7 +131,8 @@ module _ (last : ℕ) (stages : ℕ → Option TxnStage) (fates : ℕ → Option
         | inr x ↦ tells.distinct q set s (sym (row_other q x.0) ∙ e)
       ]
 
-      pub one_row : Tells last new_stages new_fates new_versions noted (with_row table t changes state)
+      pub one_row : Tells last new_stages new_fates new_versions noted
+          (record (with_row table t changes state) { reads = list })
       one_row = record {
         last_is = tells.last_is;
         drawn = row_drawn;
@@ -139,7 +141,7 @@ module _ (last : ℕ) (stages : ℕ → Option TxnStage) (fates : ℕ → Option
         ended = row_ends;
         distinct = row_distinct;
         commits = lists;
-        reads = tells.reads;
+        reads = keeps;
       }
 
   -- a row that was not committed and is not now
@@ -170,6 +172,29 @@ module _ (last : ℕ) (stages : ℕ → Option TxnStage) (fates : ℕ → Option
     lists_still = same_commits table.row (rows t changes state) versions
         (record { back = row_back; declared = row_stays }) tells.commits
 
+    -- nor was committed before
+    module _ (never_was : (c : ℕ) (set : List Change)
+        → table.row t ≡ Some record { changes = Some set; state = Done (Committed c) } → ⊥) where
+      inserts_on : (k : Key) (r : ℕ) → Inserts table.row k r → Inserts (rows t changes state) k r
+      inserts_on k r (c, v, x) = elim (nat_test t r) [
+        | inl e ↦ absurd (never_was c x.set (ap table.row e.1 ∙ x.row_is))
+        | inr e ↦ (c, v, record { set = x.set; row_is = row_other t changes state r e.0 ∙ x.row_is; does = x.does })
+      ]
+
+      inserts_back : (k : Key) (r : ℕ) → Inserts (rows t changes state) k r → Inserts table.row k r
+      inserts_back k r (c, v, x) = (c, v, record { set = x.set; row_is = row_back r c x.set x.row_is; does = x.does })
+
+      kept_still : (k : Key) (r : ℕ) → IsRead table.reads k r
+          → Inserts (rows t changes state) k r ⊎ ((s : ℕ) × (r ≤ s) × noted k s)
+      kept_still k r x = elim (tells.reads.kept k r x) [ inl y ↦ inl (inserts_on k r y) | inr y ↦ inr y ]
+
+      pub reads_still : KeepsReads (rows t changes state) table.reads noted
+      reads_still = record {
+        made = tells.reads.made;
+        left = λ k r x. tells.reads.left k r (inserts_back k r x);
+        kept = kept_still;
+      }
+
   -- ---- begin, declare, abort
 
   module _ (t : ℕ) (stage : stages t ≡ Some Drawn) (new : ℕ → Option TxnStage) (was : (q : ℕ)
@@ -189,7 +214,10 @@ module _ (last : ℕ) (stages : ℕ → Option TxnStage) (fates : ℕ → Option
           (λ q e. refl)
           (ap (is_some {T = TxnStage}) (now_begun ∙ refl) ∙ sym (ap (is_some {T = TxnStage}) stage))
           (λ set e. absurd (cc e))
-          (lists_still t None Open (λ c e. cc e) (λ set s e. absurd (cc (sym no_row ∙ e)))),
+          (lists_still t None Open (λ c e. cc e) (λ set s e. absurd (cc (sym no_row ∙ e))))
+          table.reads
+          (reads_still t None Open (λ c e. cc e) (λ set s e. absurd (cc (sym no_row ∙ e)))
+          (λ c set e. cc (sym no_row ∙ e))),
     )
 
   module _ (t : ℕ) (set : List Change) (stage : stages t ≡ Some Begun) (open_ : fates t
@@ -211,7 +239,10 @@ module _ (last : ℕ) (stages : ℕ → Option TxnStage) (fates : ℕ → Option
           (λ q e. refl)
           (ap (is_some {T = TxnStage}) now_declared ∙ sym (ap (is_some {T = TxnStage}) stage))
           (λ xs e. subst (λ (ys : List Change). IsDistinct ys) (some_same _ _ e) distinct)
-          (lists_still t (Some set) Open (λ c e. cc e) (λ xs s e. absurd (cc (ap changes_in (sym begun_row ∙ e))))),
+          (lists_still t (Some set) Open (λ c e. cc e) (λ xs s e. absurd (cc (ap changes_in (sym begun_row ∙ e)))))
+          table.reads
+          (reads_still t (Some set) Open (λ c e. cc e) (λ xs s e. absurd (cc (ap changes_in (sym begun_row ∙ e))))
+          (λ c xs e. cc (ap changes_in (sym begun_row ∙ e)))),
     )
 
   module _ (t : ℕ) (changes : Option (List Change)) (open_row : table.row t
@@ -232,7 +263,11 @@ module _ (last : ℕ) (stages : ℕ → Option TxnStage) (fates : ℕ → Option
           (λ xs e. tells.distinct t xs Open (open_row
           ∙ ap (λ (cs : Option (List Change)). Some record { changes = cs; state = Open }) e))
           (lists_still t changes (Done Aborted) (λ c e. cc e)
-          (λ xs s e. some_same _ _ (ap some_changes (sym open_row ∙ e)))),
+          (λ xs s e. some_same _ _ (ap some_changes (sym open_row ∙ e))))
+          table.reads
+          (reads_still t changes (Done Aborted) (λ c e. cc e)
+          (λ xs s e. some_same _ _ (ap some_changes (sym open_row ∙ e)))
+          (λ c xs e. cc (ap state_in (sym open_row ∙ e)))),
     )
 
 -- ---- before the first step
@@ -257,6 +292,7 @@ tells_empty stages fates versions noted no_stage no_fate no_version no_read = re
   };
   reads = record {
     made = λ k r x. absurd (no_read k r x);
+    left = λ k r x. absurd (cc x.2.row_is);
     kept = λ k r x. absurd x;
   };
 }

@@ -1,8 +1,8 @@
 -- Snapshot isolation, with timestamps in the open. A transaction is named by the number at which it
 -- starts, and commits at one number in one step. Whoever reads at r sees what is committed at or
 -- below r; to keep that so for ever, no later commit may come at or below r on a key that was read
--- there (`unread`). An insert commits only where its transaction, reading at its start, would have
--- seen no value there (`fresh`). Two transactions overlap where each starts below the other's
+-- there (`unread`). An insert commits only where its transaction, reading at its start, sees no value
+-- there (`fresh`), and its commit leaves that read. Two transactions overlap where each starts below the other's
 -- commit; of two that share a key only one commits (`apart`). An async commit takes a number that
 -- nobody need have drawn, at most one above the last: a transaction that starts at that number sees
 -- it. Lists of steps are newest first.
@@ -18,7 +18,7 @@ use Rattle.tx_machine.specs.declared.step.ScanRead.{ScanRead}
 use Rattle.tx_machine.specs.declared.step.Step.{Step}
 use Rattle.tx_machine.specs.declared.step.Step.TheVariants.{Draw, Begin, Declare, Commit, Abort, Read, Scan, Answer}
 use Rattle.tx_types.specs.Keys.{IsRising, value_in, IsVisible, put_by}
-use Rattle.tx_machine.specs.Keys.{mutation_at, IsDistinct, covered}
+use Rattle.tx_machine.specs.Keys.{mutation_at, inserted, IsDistinct, covered}
 
 -- what has become of a transaction
 pub data State : Type 0 where
@@ -137,12 +137,13 @@ abbrev pub changes_in : Option Row → Option (List Change)
 changes_in None = None
 changes_in (Some row) = row.changes
 
--- the table that a step leaves
+-- the table that a step leaves: the commit of an insert leaves a read of its key at the start
 abbrev pub after : Table → Step → Table
 after table (Draw n) = record table { last = n; drawn = λ q. cond (n == q) true (table.drawn q) }
 after table (Begin t) = with_row table t None Open
 after table (Declare t set) = with_row table t (Some set) Open
-after table (Commit t c) = with_row table t (changes_in (table.row t)) (Done (Committed c))
+after table (Commit t c) = with_read (with_row table t (changes_in (table.row t)) (Done (Committed c)))
+    (inserted (changes_in (table.row t))) t
 after table (Abort t) = with_row table t (changes_in (table.row t)) (Done Aborted)
 after table (Read k r found) = with_read table (bytes_eq k) r
 after table (Scan s) = with_read table (covered s) s.at

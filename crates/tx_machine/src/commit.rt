@@ -1,5 +1,5 @@
 //! What forbids a commit, and the versions that it lists.
-ghost use Rattle.std.specs.Prelude.{◌≡◌, ℕ, ◌==◌, true, false, cond, Some, None, take, OnOk, OnErr, IfErr, IfSome, IfNone, Contains, IsTrue, ◌↔◌};
+ghost use Rattle.std.specs.Prelude.{◌≡◌, ℕ, ◌==◌, true, false, cond, Some, None, take, OnOk, OnErr, IfErr, IfSome, IfNone, Contains, ◌≤◌, ◌<◌};
 ghost use Rattle.std.specs.Prelude.{bytes_eq};
 ghost use Rattle.tx_types.specs.declared.key.Key.{Key};
 ghost use Rattle.tx_types.specs.declared.mutation.Change.{Change};
@@ -8,24 +8,15 @@ ghost use Rattle.tx_types.specs.Keys.{IsVisible, IsInsert};
 ghost use Rattle.tx_machine.specs.Keys.{mutation_at};
 ghost use Rattle.tx_machine.specs.Machine.{Overlap};
 ghost use Rattle.tx_machine.specs.Shown.{versions_of, Shows};
-ghost use Rattle.tx_machine.specs.Representation.{InOrder, IsFree, Blocks, ListedOn, version_of, puts};
+ghost use Rattle.tx_machine.specs.Representation.{InOrder, IsFree, Blocks, ListedOn, InsertedOn, version_of, puts};
 
 use crate::machine::Refused;
 use crate::reads::Reads;
 use crate::scan::{Index, shown};
-use crate::versions::{Fates, Version, Writer, overlapping};
+use crate::versions::{Fates, Version, Writer, inserted_from, is_insert, overlapping};
 use std::alloc::Global;
 use std::collections::BTreeMap;
 use tx_types::{Change, Key, Mutation, Ts};
-
-fn is_insert(mutation: &Mutation) -> bool
-    ensures { IsTrue result ↔ IsInsert mutation.now }
-{
-    match mutation {
-        Mutation::Insert(_) => true,
-        _ => false,
-    }
-}
 
 // Whether a read at the start sees no value of what the change inserts, if it inserts.
 fn is_fresh(index: &Index, fates: &Fates, t: Ts, change: &Change) -> bool
@@ -53,12 +44,25 @@ fn overlapping_on(index: &Index, fates: &Fates, t: Ts, c: Ts, key: &Key) -> Opti
     }
 }
 
+// Where a transaction started that committed an insert of the key, at this timestamp or above.
+fn inserted_on(index: &Index, fates: &Fates, from: Ts, key: &Key) -> Option<Ts>
+    ensures some { IfSome result (λ r. (from ≤ r) × InsertedOn (versions_of index.now key.now) fates.now r) }
+    ensures none { IfNone result (InOrder index.now fates.now → (r : ℕ)
+        → InsertedOn (versions_of index.now key.now) fates.now r → r < from) }
+{
+    match index.get(key) {
+        None => None,
+        Some(versions) => inserted_from(versions, fates, from),
+    }
+}
+
 /// What forbids that a change is committed.
 #[derive(Clone, Copy, Debug, PartialEq, Eq)]
 pub(crate) enum Block {
     /// A listed commit would overlap.
     Conflict(Writer),
-    /// A read at this timestamp, at the commit or above, covers the key.
+    /// A read at this timestamp, at the commit or above, covers the key. The commit of an insert
+    /// is one, at its start.
     Read(Ts),
     /// A read at the start sees a value of what is inserted.
     Exists,
@@ -85,7 +89,10 @@ fn block_of(
     if !change.mutation.is_visible() {
         return None;
     }
-    match reads.read_from(&change.key, c) {
+    if let Some(at) = reads.read_from(&change.key, c) {
+        return Some(Block::Read(at));
+    }
+    match inserted_on(index, fates, c, &change.key) {
         None => None,
         Some(at) => Some(Block::Read(at)),
     }

@@ -11,7 +11,8 @@ ghost use Rattle.tx_types.specs.declared.mutation.Mutation.{Mutation};
 ghost use Rattle.tx_machine.specs.Versions.{Listed, SeenIn, IsOrderly};
 ghost use Rattle.tx_machine.specs.Why.{LeftBy, IsSeen};
 ghost use Rattle.tx_machine.specs.declared.reason.SeenValue.TheVariants as SeenValue;
-ghost use Rattle.tx_types.specs.Keys.{IsVisible, put_by};
+ghost use Rattle.tx_types.specs.Keys.{IsVisible, IsInsert, put_by};
+ghost use Rattle.tx_types.specs.declared.value.Value.{Value};
 
 use std::collections::BTreeMap;
 use std::ops::Bound;
@@ -119,6 +120,16 @@ pub(crate) fn newest<'a>(versions: &'a Versions, fates: &Fates, at: Ts) -> Optio
     }
 }
 
+/// Whether a mutation asks that its key have no value.
+pub(crate) fn is_insert(mutation: &Mutation) -> bool
+    ensures { IsTrue result ↔ IsInsert mutation.now }
+{
+    match mutation {
+        Mutation::Insert(_) => true,
+        _ => false,
+    }
+}
+
 /// The value that a mutation leaves.
 fn put_by(mutation: &Mutation) -> Option<&Value>
     ensures { option_map (λ v. v.now) result ≡ put_by mutation.now }
@@ -166,6 +177,28 @@ pub(crate) fn overlapping(
                 start: version.start,
                 commit: above,
             });
+        }
+        bound = above.get();
+    }
+}
+
+/// Where a transaction started that committed an insert, at this timestamp or above.
+pub(crate) fn inserted_from(versions: &Versions, fates: &Fates, from: Ts) -> Option<Ts>
+    ensures some { IfSome result (λ r. (from ≤ r) × ((d : ℕ) × (v : Value)
+        × Listed versions.now fates.now r d (Mutation.Insert v))) }
+    ensures none { IfNone result ((r d : ℕ) (v : Value) → Listed versions.now fates.now r d (Mutation.Insert v)
+        → from < d → r < from) }
+{
+    let mut bound = from.get();
+    'versions: loop {
+        let Some((above, version)) = first_above(versions, Ts::new(bound)) else {
+            return None;
+        };
+        if version.start >= from
+            && is_insert(&version.mutation)
+            && is_committed(fates, version.start, above)
+        {
+            return Some(version.start);
         }
         bound = above.get();
     }

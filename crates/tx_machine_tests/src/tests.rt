@@ -178,3 +178,33 @@ fn no_insert_over_a_value(rt: HostRuntime) -> Result<(), Fail> {
     assert!(rt; !inserts_from(&rt, 3)?);
     Ok(())
 }
+
+// Transactions that start at 1 and at 3 insert a; the later one commits first, at 4.
+fn two_inserts(rt: &HostRuntime) -> Result<Vec<Step>, Fault> {
+    let mut steps = Vec::new(rt.alloc());
+    steps.push(Step::Draw(Ts::new(1)))?;
+    steps.push(Step::Begin(Ts::new(1)))?;
+    steps.push(Step::Draw(Ts::new(3)))?;
+    steps.push(Step::Begin(Ts::new(3)))?;
+    steps.push(declare(rt, 1, insert(rt, b"a", b"x")?)?)?;
+    steps.push(declare(rt, 3, insert(rt, b"a", b"y")?)?)?;
+    steps.push(Step::Draw(Ts::new(4)))?;
+    steps.push(Step::Commit(Ts::new(3), Ts::new(4)))?;
+    steps.push(Step::Answer(Ts::new(3), Fate::Committed(Ts::new(4))))?;
+    Ok(steps)
+}
+
+#[test]
+fn a_committed_insert_was_a_read(rt: HostRuntime) -> Result<(), Fail> {
+    let steps = two_inserts(&rt)?;
+    let mut machine = Machine::new(rt.alloc());
+    for step in steps.as_slice() {
+        assert!(rt; machine.step(step).is_ok());
+    }
+    let below = Step::Commit(Ts::new(1), Ts::new(2));
+    assert!(rt; matches!(machine.step(&below), Err(Refused::Step)));
+    let why = machine.why(&below)?;
+    assert!(rt; matches!(why, Some(Why::Unread { at, commit, .. }) if at.get() == 3 && commit.get() == 2));
+    assert!(rt; machine.step(&Step::Abort(Ts::new(1))).is_ok());
+    Ok(())
+}

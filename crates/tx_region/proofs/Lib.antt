@@ -16,3 +16,5 @@ pub mod Routes
 pub mod KeyFronts
 -- The first eight bytes of a key spell its front.
 pub mod Groups
+-- What a try that stays in one place keeps.
+pub mod Attempts

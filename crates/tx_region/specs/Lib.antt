@@ -5,3 +5,4 @@ pub mod KeyFronts
 pub mod Copies
 pub mod Planning
 pub mod Commands
+pub mod Attempts

@@ -5,6 +5,7 @@
 #![tactic(auto)]
 
 mod applied;
+mod attempt;
 mod calls;
 mod commands;
 mod copy;
@@ -15,6 +16,7 @@ mod region;
 mod routing;
 
 pub use applied::Applied;
+pub use attempt::Attempt;
 pub use copy::{KeyView, Loaded, RegionNumbers};
 pub use key_copy::{KeyCopy, Planned};
 pub use planning::is_of_key;

@@ -1,11 +1,13 @@
 //! Any plan of a copy.
 ghost use Rattle.std.specs.Prelude.{◌≡◌, ◌<◌, ◌↔◌, IsTrue};
 ghost use Rattle.tx_plan.specs.Cells.{Region};
+ghost use Rattle.tx_region.specs.Attempts.{IsRead};
 ghost use Rattle.tx_region.specs.Copies.{IsOfKey, key_in, LooksLike, IsPlan};
 
 use crate::copy::{KeyView, Loaded, RegionNumbers};
+use std::mem::replace;
 use tx_plan::{
-    Body, Plan, plan_batch_rollback, plan_check_secondary_locks, plan_check_txn_status,
+    Body, Plan, ReadView, plan_batch_rollback, plan_check_secondary_locks, plan_check_txn_status,
     plan_commit, plan_get, plan_prewrite, plan_resolve_lock, plan_txn_heart_beat,
 };
 use tx_types::Key;
@@ -84,5 +86,65 @@ pub(crate) fn plan(view: KeyView, numbers: &RegionNumbers, loaded: &Loaded, body
         }
         (KeyView::Txn(view), Body::ResolveLock(body)) => plan_resolve_lock(&view, collected, body),
         _ => unreachable!(),
+    }
+}
+
+// As `plan`, of a copy for a request of a transaction, which stays where it is.
+fn plan_seen(view: &KeyView, numbers: &RegionNumbers, loaded: &Loaded, body: &Body) -> Plan
+    requires room { (loaded.now.last < u64.MAX) × (loaded.now.mark < u64.MAX) }
+    requires seen { (region : Region) × LooksLike region body.now view.now numbers.now }
+    requires txn { IsRead body.now → ⊥ }
+    ensures { (region : Region) → LooksLike region body.now view.now numbers.now
+        → IsPlan loaded.now.mark region loaded.now.last body.now result }
+{
+    let collected = numbers.collected;
+    match (view, body) {
+        (KeyView::Prewrite { view, has_value }, Body::Prewrite(body)) => plan_prewrite(
+            view,
+            *has_value,
+            numbers.safe,
+            loaded.last,
+            loaded.mark,
+            body.asked(),
+        ),
+        (KeyView::Txn(view), Body::Commit(body)) => plan_commit(view, collected, body),
+        (KeyView::Txn(view), Body::BatchRollback(body)) => {
+            plan_batch_rollback(view, collected, body)
+        }
+        (KeyView::Txn(view), Body::TxnHeartBeat(body)) => {
+            plan_txn_heart_beat(view, collected, body)
+        }
+        (KeyView::Txn(view), Body::CheckTxnStatus(body)) => {
+            plan_check_txn_status(view, collected, loaded.last, body)
+        }
+        (KeyView::Txn(view), Body::CheckSecondaryLocks(body)) => {
+            plan_check_secondary_locks(view, collected, body)
+        }
+        (KeyView::Txn(view), Body::ResolveLock(body)) => plan_resolve_lock(view, collected, body),
+        _ => unreachable!(),
+    }
+}
+
+/// As `plan`, of a copy that stays where it is; only what a read sees is taken out of it.
+pub(crate) fn plan_on(
+    view: &mut KeyView,
+    numbers: &RegionNumbers,
+    loaded: &Loaded,
+    body: &Body,
+) -> Plan
+    requires room { (loaded.now.last < u64.MAX) × (loaded.now.mark < u64.MAX) }
+    requires seen { (region : Region) × LooksLike region body.now view.old numbers.now }
+    ensures { (region : Region) → LooksLike region body.now view.old numbers.now
+        → IsPlan loaded.now.mark region loaded.now.last body.now result }
+{
+    match body {
+        Body::Get(_) => {
+            let empty = KeyView::Read(ReadView {
+                lock: None,
+                value: None,
+            });
+            plan(replace(view, empty), numbers, loaded, body)
+        }
+        _ => plan_seen(view, numbers, loaded, body),
     }
 }

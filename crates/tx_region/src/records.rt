@@ -33,6 +33,7 @@ ghost use Rattle.tx_region.specs.Planning.{StayedKey};
 use crate::copy::{KeyView, RegionNumbers};
 use crate::planning::key_of;
 use std::alloc::Global;
+use std::mem::replace;
 use tx_cells::{Families, ShownKey};
 use tx_journal::AnswerWithLock;
 use tx_plan::{Answer, Body, KeyChange, Plan, PlannedAnswer, Prewrite};
@@ -282,17 +283,17 @@ impl<F: Families> Records<F> {
     }
 
     // Carries out the plan of a read.
-    fn make_read(&self, key: &SpeltKey<'_>, planned: Plan) -> Result<Executed, Fault>
-        requires { planned.change ≡ KeyChange.Nothing }
+    fn make_read(&self, key: &SpeltKey<'_>, planned: &mut Plan) -> Result<Executed, Fault>
+        requires { planned.old.change ≡ KeyChange.Nothing }
         ensures ok { IfOk result (λ r. (n : ℕ) → CarriesOut (region_of F.content self.now n) key.now
-            (changed ((region_of F.content self.now n).cells key.now) planned.change) planned r.answer r.read
+            (changed ((region_of F.content self.now n).cells key.now) planned.old.change) planned.old r.answer r.read
             (region_of F.content self.now n)) }
         ensures err { IfErr result (λ e. e ≡ Fault.OutOfMemory) }
     {
-        let Plan { answer, read, .. } = planned;
+        let answer = replace(&mut planned.answer, PlannedAnswer::KeyIsLocked);
         Ok(Executed {
             answer: self.fill_in(key, answer)?,
-            read,
+            read: planned.read,
         })
     }
 
@@ -329,13 +330,13 @@ impl<F: Families> Records<F> {
         &mut self,
         key: &SpeltKey<'_>,
         body: &Prewrite,
-        planned: Plan,
+        planned: &mut Plan,
     ) -> Result<Executed, Fault>
         requires of { key.now ≡ body.now.key }
-        requires can { IfSome (new_lock planned.change)
+        requires can { IfSome (new_lock planned.old.change)
             (λ new. CanPut ((region_of F.content self.old 0).cells body.now.key) body.now new) }
         ensures ok { IfOk result (λ r. (n : ℕ) → CarriesOut (region_of F.content self.old n) body.now.key
-            (after_put ((region_of F.content self.old n).cells body.now.key) body.now (new_lock planned.change)) planned
+            (after_put ((region_of F.content self.old n).cells body.now.key) body.now (new_lock planned.old.change)) planned.old
             r.answer r.read (region_of F.content self.new n)) }
         ensures taken { OnOk result (self.new.taken ≡ self.old.taken + 1) }
         ensures notes { OnOk result (NotesAll self.old.taken self.new.taken (region_of F.content self.old 0).cells
@@ -344,24 +345,23 @@ impl<F: Families> Records<F> {
         ensures same_numbers { OnErr result (HasSameNumbers F.numbers self.old self.new) }
         ensures err { IfErr result (λ e. e ≡ Fault.OutOfMemory) }
     {
-        let Plan {
-            answer,
-            change,
-            read,
-        } = planned;
         let number = self.next_number()?;
+        let answer = replace(&mut planned.answer, PlannedAnswer::KeyIsLocked);
         let answer = self.fill_in(key, answer)?;
-        self.put(key, body, change, number)?;
+        self.put(key, body, planned.change, number)?;
         self.taken = number;
-        Ok(Executed { answer, read })
+        Ok(Executed {
+            answer,
+            read: planned.read,
+        })
     }
 
     // Carries out the plan of another request on its key. `OutOfMemory` leaves all as it was.
-    fn carry_out(&mut self, key: &SpeltKey<'_>, planned: Plan) -> Result<Executed, Fault>
-        requires applies { Applies ((region_of F.content self.old 0).cells key.now) planned.change }
-        requires makes { Makes ((region_of F.content self.old 0).cells key.now) planned.change }
+    fn carry_out(&mut self, key: &SpeltKey<'_>, planned: &mut Plan) -> Result<Executed, Fault>
+        requires applies { Applies ((region_of F.content self.old 0).cells key.now) planned.old.change }
+        requires makes { Makes ((region_of F.content self.old 0).cells key.now) planned.old.change }
         ensures ok { IfOk result (λ r. (n : ℕ) → CarriesOut (region_of F.content self.old n) key.now
-            (changed ((region_of F.content self.old n).cells key.now) planned.change) planned r.answer r.read
+            (changed ((region_of F.content self.old n).cells key.now) planned.old.change) planned.old r.answer r.read
             (region_of F.content self.new n)) }
         ensures taken { OnOk result (self.new.taken ≡ self.old.taken + 1) }
         ensures notes { OnOk result (NotesAll self.old.taken self.new.taken (region_of F.content self.old 0).cells
@@ -370,16 +370,16 @@ impl<F: Families> Records<F> {
         ensures same_numbers { OnErr result (HasSameNumbers F.numbers self.old self.new) }
         ensures err { IfErr result (λ e. e ≡ Fault.OutOfMemory) }
     {
-        let Plan {
-            answer,
-            change,
-            read,
-        } = planned;
         let number = self.next_number()?;
+        let answer = replace(&mut planned.answer, PlannedAnswer::KeyIsLocked);
         let answer = self.fill_in(key, answer)?;
-        self.families.apply(self.alloc, key, change, number)?;
+        self.families
+            .apply(self.alloc, key, planned.change, number)?;
         self.taken = number;
-        Ok(Executed { answer, read })
+        Ok(Executed {
+            answer,
+            read: planned.read,
+        })
     }
 
     /// Carries out a plan for a request of a region that is as the plan takes for granted.
@@ -389,13 +389,13 @@ impl<F: Families> Records<F> {
         &mut self,
         key: &SpeltKey<'_>,
         body: &Body,
-        planned: Plan,
+        planned: &mut Plan,
     ) -> Result<Executed, Fault>
         requires of_key { IsOfKey body.now }
         requires of { key.now ≡ key_in body.now }
-        requires may { MayMake body.now ((region_of F.content self.old 0).cells key.now) planned.change }
+        requires may { MayMake body.now ((region_of F.content self.old 0).cells key.now) planned.old.change }
         ensures ok { IfOk result (λ r. (n : ℕ) → CarriesOut (region_of F.content self.old n) key.now
-            (made body.now ((region_of F.content self.old n).cells key.now) planned.change) planned r.answer r.read
+            (made body.now ((region_of F.content self.old n).cells key.now) planned.old.change) planned.old r.answer r.read
             (region_of F.content self.new n)) }
         ensures counts { IfOk result (λ r. Counts body.now self.old.taken (region_of F.content self.old 0).cells
             (F.numbers self.old.families) self.new.taken (region_of F.content self.new 0).cells
@@ -425,13 +425,13 @@ impl<F: Families> Records<F> {
         &mut self,
         bytes: KeyBytes,
         body: &Body,
-        planned: Plan,
+        planned: &mut Plan,
     ) -> Result<Executed, Fault>
         requires of_key { IsOfKey body.now }
         requires of { bytes ≡ key_in body.now }
-        requires may { MayMake body.now ((region_of F.content self.old 0).cells (key_in body.now)) planned.change }
+        requires may { MayMake body.now ((region_of F.content self.old 0).cells (key_in body.now)) planned.old.change }
         ensures ok { IfOk result (λ r. (n : ℕ) → CarriesOut (region_of F.content self.old n) (key_in body.now)
-            (made body.now ((region_of F.content self.old n).cells (key_in body.now)) planned.change) planned r.answer
+            (made body.now ((region_of F.content self.old n).cells (key_in body.now)) planned.old.change) planned.old r.answer
             r.read (region_of F.content self.new n)) }
         ensures counts { IfOk result (λ r. Counts body.now self.old.taken (region_of F.content self.old 0).cells
             (F.numbers self.old.families) self.new.taken (region_of F.content self.new 0).cells

@@ -1,5 +1,5 @@
 //! A region: a seat and records, which are what the seat's own events left.
-ghost use Rattle.std.specs.Prelude.{◌≡◌, ◌≤◌, ◌<◌, ◌↔◌, [], ◌∷◌, max, length, Some, IsTrue, IfOk, IfErr, IfSome, IfNone, IsSome};
+ghost use Rattle.std.specs.Prelude.{◌≡◌, ◌≤◌, ◌<◌, ◌↔◌, [], ◌∷◌, max, length, None, Some, IsTrue, IfOk, IfErr, IfSome, IfNone, IsSome, IsSomeAnd, OnOk};
 ghost use Rattle.tx_types.specs.declared.key.Key.{Key};
 ghost use Rattle.tx_plan.specs.Plans.{read_upto};
 ghost use Rattle.tx_cells.specs.Contents.{nothing_held};
@@ -10,12 +10,15 @@ ghost use Rattle.tx_core.specs.ReadMarks.{max_ts};
 ghost use Rattle.tx_core.specs.Recording.{MayRecord, part};
 ghost use Rattle.tx_core.specs.Worlds.{Holds};
 ghost use Rattle.tx_journal.specs.Known.{greatest_ts, DrawsNothing, HasSeen, HasRecorded};
+ghost use Rattle.tx_journal.specs.Replies.{IsGiven};
+ghost use Rattle.tx_region.specs.Attempts.{CarriesIn, ComesIn};
 ghost use Rattle.tx_region.specs.Calls.{TakesNoMemory};
 ghost use Rattle.tx_region.specs.Copies.{IsOfKey, key_in, IsPlan, IsAbove, promised};
 ghost use Rattle.tx_region.specs.Planning.{IsCopyFor, IsPlanFor, CarriesPlan, ComesOf};
 ghost use Rattle.tx_region.specs.Taking.{NeedsMark, IsMark, Loads, Knows, Answered};
 
 use crate::applied::Applied;
+use crate::attempt::{Attempt, Seen};
 use crate::copy::Loaded;
 use crate::key_copy::{KeyCopy, Planned};
 use crate::records::{Executed, Records};
@@ -24,7 +27,7 @@ use std::alloc::Global;
 use std::marker::{Brand, Model};
 use tx_cells::{Families, ShownKey};
 use tx_core::{Answer, Body, SeatNo};
-use tx_journal::{Journal, JournalId, Reply, Request, Seat, StepEvent, Told};
+use tx_journal::{AnswerWithLock, Journal, JournalId, Reply, Request, Seat, StepEvent, Told};
 use tx_plan::KeyChange;
 use tx_spelling::KeyBytes;
 use tx_types::{Fault, Key, Mode, Ts};
@@ -239,6 +242,46 @@ fn reply_done<J: JournalId>(
     Reply::new(request, Some(answer), told)
 }
 
+// Records that the region of this seat, which loaded `loaded`, answered a request so, and leaves the
+// answer at a place.
+#[inline(always)]
+fn note_done<J: JournalId>(
+    seat: &mut Seat<J>,
+    request: &Request<J>,
+    loaded: Ts,
+    done: Executed,
+    place: &mut Option<AnswerWithLock>,
+) -> Told<J>
+    requires right { MayRecord J.bounds seat.old.seat seat.old.events (events.Took record {
+      region = seat.old.seat;
+      body = request.now.body;
+      loaded = loaded;
+      answer = done.answer;
+    }) }
+    requires read { max_ts (events.Took record {
+      region = seat.old.seat;
+      body = request.now.body;
+      loaded = loaded;
+      answer = done.answer;
+    } ∷ seat.old.events) ≡ read_upto done.read (max_ts seat.old.events) }
+    requires knows { Knows request.now.by seat.old.events loaded }
+    ensures same { (seat.new.seat ≡ seat.old.seat) × (seat.new.ticks ≡ seat.old.ticks) }
+    ensures told { seat.new.events ≡ result }
+    ensures answer { place.new ≡ Some done.answer }
+    ensures added { HasRecorded J.bounds seat.old.seat seat.old.events (events.Took record {
+      region = seat.old.seat;
+      body = request.now.body;
+      loaded = loaded;
+      answer = done.answer;
+    }) seat.new.events }
+    ensures given { IsGiven J.bounds (record { request = request.now; answer = place.new; events = result }) }
+{
+    let Executed { answer, read } = done;
+    record_taken(seat, loaded, request.body(), answer.answer(), read);
+    *place = Some(answer);
+    seat.tell()
+}
+
 impl<J: JournalId, F: Families> Region<J, F> {
     /// A region in which nothing happened, with the next seat of its journal.
     pub fn new(alloc: Global, journal: Journal<J>, seat: Seat<J>, families: F) -> Region<J, F>
@@ -411,7 +454,11 @@ impl<J: JournalId, F: Families> Region<J, F> {
         if !self.is_above(&planned.change) {
             return Applied::Stale(request);
         }
-        match self.records.make_by_bytes(bytes, request.body(), planned) {
+        let mut planned = planned;
+        match self
+            .records
+            .make_by_bytes(bytes, request.body(), &mut planned)
+        {
             Err(_) => {
                 let told = self.seat.tell();
                 Applied::Done(Reply::new(request, None, told))
@@ -449,6 +496,120 @@ impl<J: JournalId, F: Families> Region<J, F> {
             }
             Ok(None) => Applied::Stale(request),
             Ok(Some(bytes)) => self.carry_plan(request, bytes, planned, &loaded),
+        }
+    }
+
+    /// As `copy_key`, into a try, which has no plan and no answer then.
+    pub fn copy_into(
+        &mut self,
+        request: &mut Request<J>,
+        attempt: &mut Attempt<J>,
+    ) -> Result<(), Fault>
+        requires { IsOfKey request.old.body }
+        ensures request { request.new ≡ request.old }
+        ensures same { (self.new.seat ≡ self.old.seat) × (self.new.ticks ≡ self.old.ticks) }
+        ensures seen { HasSeen J.bounds self.old.seat self.old.events self.new.events }
+        ensures copy { OnOk result (IsSomeAnd attempt.new.copy (λ copy. IsCopyFor request.old copy
+            × (copy.region ≡ self.new.seat) × (copy.events ≡ self.new.events))) }
+        ensures empty { OnOk result ((attempt.new.plan ≡ None) × (attempt.new.answer ≡ None)) }
+        ensures err { IfErr result (λ e. e ≡ Fault.OutOfMemory) }
+    {
+        attempt.seen = None;
+        attempt.planned = None;
+        attempt.answer = None;
+        let loaded = self.load(request);
+        let key = self.records.spell(request.body())?;
+        let view = self.records.view(&key, request.body())?;
+        let bytes = key.into_bytes();
+        let told = self.seat.tell();
+        attempt.loaded = loaded;
+        attempt.view = view;
+        attempt.region = self.seat.number();
+        attempt.numbers = self.records.numbers();
+        attempt.taken = self.records.taken;
+        attempt.seen = Some(Seen { told, bytes });
+        Ok(())
+    }
+
+    // Answers a request with a plan that is right for the records, where no read has passed the
+    // minimum that it promises, and leaves the answer at a place.
+    fn carry_into(
+        &mut self,
+        request: &Request<J>,
+        bytes: KeyBytes,
+        planned: &mut tx_plan::Plan,
+        loaded: &Loaded,
+        place: &mut Option<AnswerWithLock>,
+    ) -> Option<Told<J>>
+        requires holds { Holds J.bounds self.old.seat request.now.body }
+        requires of_key { IsOfKey request.now.body }
+        requires bytes { bytes ≡ key_in request.now.body }
+        requires knows { Knows request.now.by self.old.events loaded.now.last }
+        requires mark { NeedsMark request.now.body → loaded.now.mark ≤ max_ts self.old.events }
+        requires plan { IsPlan loaded.now.mark (left self.old.events self.old.seat) loaded.now.last request.now.body
+            planned.old }
+        ensures same { (self.new.seat ≡ self.old.seat) × (self.new.ticks ≡ self.old.ticks) }
+        ensures comes { CarriesIn J.bounds self.old.seat self.old.events self.new.events request.now loaded.now.last
+            planned.old place.new result }
+        ensures given { IfSome result (λ told. IsGiven J.bounds (record {
+          request = request.now;
+          answer = place.new;
+          events = told;
+        })) }
+    {
+        if !self.is_above(&planned.change) {
+            return None;
+        }
+        match self.records.make_by_bytes(bytes, request.body(), planned) {
+            Err(_) => {
+                let told = self.seat.tell();
+                *place = None;
+                Some(told)
+            }
+            Ok(done) => Some(note_done(&mut self.seat, request, loaded.last, done, place)),
+        }
+    }
+
+    /// As `apply`, of a try, which then has the answer, for a request that its caller keeps: what
+    /// the region then knows, or none where what was planned is no longer right.
+    pub fn apply_attempt(
+        &mut self,
+        request: &Request<J>,
+        attempt: &mut Attempt<J>,
+    ) -> Option<Told<J>>
+        requires holds { Holds J.bounds self.old.seat request.now.body }
+        requires of { IsSomeAnd attempt.old.plan (λ plan. IsPlanFor request.now plan × (plan.region ≡ self.old.seat)) }
+        ensures same { (self.new.seat ≡ self.old.seat) × (self.new.ticks ≡ self.old.ticks) }
+        ensures comes { IfSome attempt.old.plan (λ plan. ComesIn J.bounds self.old.seat self.old.events
+            self.new.events request.now plan attempt.new.answer result) }
+        ensures given { IfSome result (λ told. IsGiven J.bounds (record {
+          request = request.now;
+          answer = attempt.new.answer;
+          events = told;
+        })) }
+    {
+        let Some(seen) = attempt.seen.take() else {
+            unreachable!()
+        };
+        let Some(planned) = &mut attempt.planned else {
+            unreachable!()
+        };
+        let Seen { told, bytes } = seen;
+        let loaded = attempt.loaded;
+        self.learn(told);
+        match self
+            .records
+            .bytes_if_stayed(bytes, request.body(), &attempt.numbers, attempt.taken)
+        {
+            Err(_) => {
+                let told = self.seat.tell();
+                attempt.answer = None;
+                Some(told)
+            }
+            Ok(None) => None,
+            Ok(Some(bytes)) => {
+                self.carry_into(request, bytes, planned, &loaded, &mut attempt.answer)
+            }
         }
     }
 }

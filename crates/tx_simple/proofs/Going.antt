@@ -11,11 +11,10 @@ use Rattle.tx_plan.specs.declared.answer.Answer.TheVariants.{Rows}
 use Rattle.tx_plan.specs.declared.body.Body.{Body}
 use Rattle.tx_core.specs.declared.event.Declaration.{Declaration}
 use Rattle.tx_core.specs.declared.event.Event.{Event}
-use Rattle.tx_core.specs.declared.event.Event.TheVariants.{Drawn, Began, Declared, Answered}
-use Rattle.tx_core.specs.declared.event.Outcome.{Outcome}
+use Rattle.tx_core.specs.declared.event.Event.TheVariants.{Drawn, Began, Declared}
 use Rattle.tx_core.specs.Histories.{History, Begins}
 use Rattle.tx_core.specs.Recording.{Extends}
-use Rattle.tx_core.proofs.seats.Beginnings.{extends_all}
+use Rattle.tx_core.proofs.seats.Beginnings.{extends_all, begins_more}
 use Rattle.tx_journal.specs.Known.{Known, HasSeen, HasRecorded, HasDrawn}
 use Rattle.tx_journal.specs.Replies.{Asked}
 use Rattle.tx_journal.proofs.Calls.{drawn_recorded}
@@ -35,7 +34,7 @@ use Rattle.tx_client.specs.declared.resolved.Status.{Status}
 use Rattle.tx_client.specs.Statuses.{Stopping}
 use Rattle.tx_resolve.specs.Reading.{read_walk}
 use Rattle.tx_simple.specs.Meeting.{HasLearnt, Resolves}
-use Rattle.tx_simple.specs.Updates.{IsWithoutEffect, AnswersNoEffect, GoesWithoutEffect, GoesOn, Follows, Ends}
+use Rattle.tx_simple.specs.Updates.{AnswersNoEffect, GoesWithoutEffect, GoesOn, Follows}
 
 -- ---- histories
 
@@ -68,6 +67,10 @@ module _ (bounds : List Key) (i : ℕ) (l h : History) where
   drawn_without : (ticks ts : ℕ) → HasDrawn bounds i l ticks ts h → GoesWithoutEffect i l h
   drawn_without ticks ts d = recorded_without (Drawn i ts) (drawn_recorded bounds i l h ticks ts d) tt
 
+pub recorded_begins : (bounds : List Key) (i : ℕ) (l h : History) (e : Event) → HasRecorded bounds i l e h → Begins l h
+recorded_begins bounds i l h e r =
+    subst (Begins l) (sym r.is) (inr (without_begins i l r.before (extends_without i l r.before r.extends)))
+
 -- ---- seats
 
 pub goes_itself : (k : Known) → GoesOn k k
@@ -96,13 +99,11 @@ module _ (bounds : List Key) where
   heard_goes old new told h =
       record { number = h.number; knows = seen_without bounds old.seat old.events new.events h.seen }
 
-  pub began_goes : (old new : Known) (start : ℕ) → BeganAt bounds old start new → GoesOn old new
-  began_goes old new start b = record {
-    number = b.number;
-    knows = without_more old.seat old.events b.mid new.events
-        (drawn_without bounds old.seat old.events b.mid 1 start b.drew)
-        (recorded_without bounds old.seat b.mid new.events (Began start) b.began tt);
-  }
+  pub began_begins : (old new : Known) (start : ℕ) → BeganAt bounds old start new → Begins old.events new.events
+  began_begins old new start b =
+      begins_more old.events b.mid new.events
+      (without_begins old.seat old.events b.mid (drawn_without bounds old.seat old.events b.mid 1 start b.drew))
+      (recorded_begins bounds old.seat b.mid new.events (Began start) b.began)
 
   pub draws_goes : (old new : Known) (c : ℕ) → Draws bounds old c new → GoesOn old new
   draws_goes old new c d =
@@ -116,18 +117,6 @@ module _ (bounds : List Key) where
         (drawn_without bounds old.seat old.events w.mid 1 d.drawn w.drew)
         (recorded_without bounds old.seat w.mid new.events (Declared d) w.recorded tt);
   }
-
-  -- what was without effect has ended
-  pub ends_go : (old new : Known) (start : ℕ) (o : Outcome) → Ends bounds old start o new → IsWithoutEffect o
-      → GoesOn old new
-  ends_go old new start o e none =
-      goes_more old e.session.seat new e.seat
-      (record {
-        number = e.recorded.number;
-        knows =
-            recorded_without bounds e.session.seat.seat e.session.seat.events new.events (Answered start o)
-            e.recorded.recorded none;
-      })
 
 module _ {S : Type 0} (sends : S → Asked → Reached → S → Type 0) (bounds : List Key) where
   -- who sends goes on

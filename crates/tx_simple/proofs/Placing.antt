@@ -1,9 +1,11 @@
 -- A session's commit lies above those that its seat was told of before it declared.
 use Rattle.std.proofs.Common.{◌≡◌, ◌⊎◌, ◌<◌, inl, inr, ℕ, Bool, true, false, List, [], ◌∷◌, Option, Some, None, is_some, ◌&&◌, refl, sym, ap, subst, ◌∙◌}
 use Rattle.tx_types.specs.declared.key.Key.{Key}
+use Rattle.tx_types.specs.declared.mutation.Fate.{Fate}
 use Rattle.tx_types.specs.declared.mutation.Fate.TheVariants as fate
 use Rattle.tx_core.specs.declared.event.Declaration.{Declaration}
 use Rattle.tx_core.specs.declared.event.Outcome.{Outcome}
+use Rattle.tx_core.specs.declared.event.UnknownCause.{UnknownCause}
 use Rattle.tx_core.specs.declared.event.Outcome.TheVariants as outcome
 use Rattle.tx_core.specs.declared.event.Event.TheVariants.{Answered}
 use Rattle.tx_core.specs.Histories.{History, declared, Begins}
@@ -14,12 +16,12 @@ use Rattle.tx_core.proofs.runs.CommitOrder.{answered_before_on}
 use Rattle.tx_core.proofs.runs.Consequences.{decided_declared}
 use Rattle.tx_transaction.specs.declared.state.Terms.{Terms}
 use Rattle.tx_transaction.specs.Buffers.{Entries, not_empty}
-use Rattle.tx_transaction.specs.Sessions.{SessionState, is_declared, has_primary, finish_of}
+use Rattle.tx_transaction.specs.Sessions.{SessionState, is_declared, has_primary, unknown_by, undecided, finish_by, finish_of}
 use Rattle.tx_client.specs.Calls.{Seated, Records, IsDecidedSo}
 use Rattle.tx_client.specs.Facts.{standing}
 use Rattle.tx_client.specs.Order.{IsDrawnAfter, CommitsAbove}
 use Rattle.tx_journal.specs.Known.{Known}
-use Rattle.tx_simple.specs.Updates.{GoesOn, Follows, Writes, Ends, CommitsAboveTold}
+use Rattle.tx_simple.specs.Updates.{IsWithoutEffect, CameToNothing, GoesOn, Follows, Writes, Ends, CommitsAboveTold}
 use Rattle.tx_simple.proofs.Going.{goes_more, goes_begins}
 
 -- what declares nothing has no primary
@@ -64,7 +66,7 @@ writes_placed old mid new goes start after f = record {
 }
 
 -- what was told is told to who goes on
-told_on : (a b : History) → Begins a b → (o : Outcome) → CommitsAboveTold b o → CommitsAboveTold a o
+pub told_on : (a b : History) → Begins a b → (o : Outcome) → CommitsAboveTold b o → CommitsAboveTold a o
 told_on a b more (outcome.Committed c) above =
     λ u d among. above u d (among_on a b more (Answered u (outcome.Committed d)) among)
 told_on a b more outcome.Aborted above = tt
@@ -89,19 +91,38 @@ pub writes_empty : (old new : Seated) → GoesOn old.seat new.seat → new.state
     → has_primary new.state ≡ false → Writes old new
 writes_empty old new goes start none = record { seat = goes; start = start; placed = inl none }
 
--- a seat that went on before the session that ended
-pub ends_after : (bounds : List Key) (a b new : Known) (start : ℕ) (o : Outcome) → GoesOn a b
-    → Ends bounds b start o new → Ends bounds a start o new
-ends_after bounds a b new start o goes e = record {
-  session = e.session;
-  seat = goes_more a b e.session.seat goes e.seat;
-  start = e.start;
-  outcome = e.outcome;
-  recorded = e.recorded;
-  decided = e.decided;
-  in_order = e.in_order;
-  above = told_on a.events b.events (goes_begins a b goes) o e.above;
-}
+-- what is not declared stands as nothing
+none_stands : (start placed : ℕ) (es : Entries) (o : Option Terms) → is_some o && not_empty es ≡ false
+    → standing start placed es o ≡ None
+none_stands start placed es None none = refl
+none_stands start placed [] (Some terms) none = refl
+none_stands start placed (e ∷ es) (Some terms) none = absurd (cc (none))
+
+-- what is read-only has no primary
+unknown_apart : (o : Option UnknownCause) → unknown_by o ≡ Some outcome.ReadOnly → ⊥
+unknown_apart None e = cc (e)
+unknown_apart (Some c) e = cc (e)
+
+undecided_none : (s : SessionState) (b : Bool) → undecided s b ≡ Some outcome.ReadOnly → b ≡ false
+undecided_none s true e = absurd (unknown_apart s.cause e)
+undecided_none s false e = refl
+
+read_only_none : (s : SessionState) (o : Option Fate) → finish_by s o ≡ Some outcome.ReadOnly → has_primary s ≡ false
+read_only_none s (Some (fate.Committed c)) e = absurd (cc (e))
+read_only_none s (Some fate.Aborted) e = absurd (cc (e))
+read_only_none s None e = undecided_none s (has_primary s) e
+
+-- what ended without effect came to nothing
+pub came_to_nothing : (session : Seated) (end : Outcome) → declared session.seat.events session.state.start
+    ≡ standing session.state.start session.state.placed session.state.buffer session.state.declared
+    → finish_of session.state ≡ Some end → IsDecidedSo session.seat.events session.state.start end
+    → IsWithoutEffect end → CameToNothing session.seat.events session.state.start
+came_to_nothing session (outcome.Committed c) stands is decided none = absurd none
+came_to_nothing session outcome.Aborted stands is decided none = inr decided
+came_to_nothing session (outcome.Unknown why) stands is decided none = absurd none
+came_to_nothing session outcome.ReadOnly stands is decided none = inl (stands
+    ∙ none_stands session.state.start session.state.placed session.state.buffer session.state.declared
+    (read_only_none session.state session.state.decision is))
 
 -- what was committed lies above what was told
 pub above_told : (bounds : List Key) (old new : Seated) (end : Outcome) → IsWorldRun bounds new.seat.events
@@ -131,14 +152,16 @@ pub ended_so : (bounds : List Key) (begun session : Seated) (end : Outcome) (t :
     → Writes begun session → t ≡ session.state.start
     → (finish_of session.state ≡ Some end) × Records bounds session.seat (Answered session.state.start end) new
     × IsDecidedSo session.seat.events session.state.start end
-    → CommitsAbove session.seat.events session.state.placed end → Ends bounds begun.seat t end new
-ended_so bounds begun session end t new run stands writes is (outcome, recorded, decided) order = record {
+    → CommitsAbove session.seat.events session.state.placed end → (ends : Ends bounds begun.seat t end new) × (ends.session ≡ session)
+ended_so bounds begun session end t new run stands writes is (outcome, recorded, decided) order = (record {
   session = session;
   seat = writes.seat;
   start = sym is;
   outcome = outcome;
   recorded = subst (λ (u : ℕ). Records bounds session.seat (Answered u end) new) (sym is) recorded;
   decided = subst (λ (u : ℕ). IsDecidedSo session.seat.events u end) (sym is) decided;
+  nothing = λ none. subst (CameToNothing session.seat.events) (sym is)
+      (came_to_nothing session end stands outcome decided none);
   in_order = order;
   above = above_told bounds begun session end run stands writes decided order;
-}
+}, refl)

@@ -1,75 +1,180 @@
--- How a try ends after tries without effect, so the whole ends.
-use Rattle.std.proofs.Common.{◌≡◌, ◌<◌, List, Result, Ok, Err, None, IfOk, IfErr, sym, subst}
+-- How a try ends after tries that came to nothing, so the whole ends.
+use Rattle.std.proofs.Common.{◌≡◌, ◌<◌, ℕ, zero, suc, List, Option, Result, Ok, Err, None, IfOk, IfErr, refl, sym, ap, subst, ◌∙◌}
 use Rattle.tx_types.specs.declared.key.Key.{Key}
+use Rattle.tx_core.specs.declared.event.Event.TheVariants.{Answered}
+use Rattle.tx_core.specs.Histories.{Begins}
+use Rattle.tx_core.proofs.seats.Beginnings.{begins_all, begins_more}
 use Rattle.tx_journal.specs.Known.{Known}
+use Rattle.tx_transaction.specs.declared.state.Terms.{Terms}
+use Rattle.tx_transaction.specs.Buffers.{Entries}
 use Rattle.tx_transaction.specs.Sessions.{finish_of}
-use Rattle.tx_client.specs.Calls.{Seated}
+use Rattle.tx_client.specs.Calls.{Seated, BeganAt}
+use Rattle.tx_simple.specs.declared.stopping.Stop.{Stop}
 use Rattle.tx_simple.specs.declared.ending.Seats.{Seats}
 use Rattle.tx_simple.specs.declared.ending.Ended.{Ended}
 use Rattle.tx_simple.specs.declared.ending.Unended.{Unended}
 use Rattle.tx_simple.specs.declared.ending.Unended.TheVariants.{Spent, Open}
-use Rattle.tx_simple.specs.Updates.{IsWithoutEffect, GoesOn}
-use Rattle.tx_simple.specs.Endings.{GoOn, EndsFrom, EndsOver, IsOpen, IsUnended}
-use Rattle.tx_simple.proofs.Going.{goes_itself, goes_more, ends_go}
-use Rattle.tx_simple.proofs.Placing.{ends_after}
+use Rattle.tx_simple.specs.Updates.{IsWithoutEffect, GoesOn, Writes, Works, ComesToNothing, TriesInVain}
+use Rattle.tx_simple.specs.Endings.{EndsFrom, EndsOver, IsOpen, StaysOpen, IsUnended}
+use Rattle.tx_simple.proofs.Going.{goes_itself, goes_more, goes_begins, began_begins, recorded_begins}
+use Rattle.tx_simple.proofs.Placing.{told_on}
 
-module _ {J : Type 0} where
-  pub go_on_itself : (seats : Seats J) → GoOn seats seats
-  go_on_itself seats = (goes_itself seats.begins, goes_itself seats.resolves)
+-- ---- tries in vain
 
-  -- a session that began over the seats, and finished
-  pub ended_over : (bounds : List Key) (seats : Seats J) (begun : Seated) (resolves : Known) (r :
-      Result (Ended J) (Unended J)) → IfOk r (EndsFrom bounds begun.seat resolves) → GoesOn seats.begins begun.seat
-      → GoesOn seats.resolves resolves → IfOk r (EndsOver bounds seats)
-  ended_over bounds seats begun resolves (Ok e) from b q = (
-    ends_after bounds seats.begins begun.seat e.seats.begins e.start e.outcome b from.0,
-    subst (λ (k : Known). GoesOn seats.resolves k) (sym from.1) q,
+module _ {W : Type 0} (does : W → Entries → Result (Unit {0}) Stop → Entries → W → Type 0) (bounds : List Key) (terms :
+    Terms) where
+  one_begins : (old new : Known) (v w : W) → ComesToNothing does bounds terms old new v w → Begins old.events new.events
+  one_begins old new v w t =
+      let session = t.ends.session in
+      begins_more old.events t.begun.seat.events new.events
+      (began_begins bounds old t.begun.seat t.begun.state.start t.began)
+      (begins_more t.begun.seat.events session.seat.events new.events (goes_begins t.begun.seat session.seat t.ends.seat)
+      (recorded_begins bounds session.seat.seat session.seat.events new.events (Answered t.start t.end)
+      t.ends.recorded.recorded))
+
+  vain_begins : (n : ℕ) (old new : Known) (v w : W) → TriesInVain does bounds terms n old new v w
+      → Begins old.events new.events
+  vain_begins zero old new v w same =
+      subst (λ (k : Known). Begins old.events k.events) (sym same.0) (begins_all old.events)
+  vain_begins (suc n) old new v w (mid, x, vain, one) =
+      begins_more old.events mid.events new.events (vain_begins n old mid v x vain) (one_begins mid new x w one)
+
+  -- from where they left off
+  vain_to : (n : ℕ) (old a b : Known) (v w x : W) → (b ≡ a) × (x ≡ w) → TriesInVain does bounds terms n old a v w
+      → TriesInVain does bounds terms n old b v x
+  vain_to n old a b v w x same vain =
+      subst (λ (k : Known). TriesInVain does bounds terms n old k v x) (sym same.0)
+      (subst (λ (y : W). TriesInVain does bounds terms n old a v y) (sym same.1) vain)
+
+module _ {J W : Type 0} (does : W → Entries → Result (Unit {0}) Stop → Entries → W → Type 0) (bounds : List Key) (terms :
+    Terms) where
+  -- the seats, and the work, after tries in vain
+  abbrev pub InVain : Seats J → W → Seats J → W → Type 0
+  InVain old v new w = (n : ℕ) × TriesInVain does bounds terms n old.begins new.begins v w
+      × GoesOn old.resolves new.resolves
+
+  pub vain_itself : (seats : Seats J) (w : W) → InVain seats w seats w
+  vain_itself seats w = (0, (refl, refl), goes_itself seats.resolves)
+
+  -- a session began over the seats, and has no outcome
+  pub unended_in : (old : Seats J) (begun session : Seated) (resolves : Known) (stop : Option Stop) (r :
+      Result (Ended J) (Unended J)) (v w : W) → BeganAt bounds old.begins begun.state.start begun.seat
+      → Writes begun session → Works does bounds terms begun session stop v w
+      → GoesOn old.resolves resolves → IfErr r (IsOpen session resolves stop)
+      → IfErr r (λ (u : Unended J). IsUnended does bounds terms old v 0 u w)
+  unended_in old begun session resolves stop (Ok e) v w began writes works goes is = tt
+  unended_in old begun session resolves stop (Err (Spent s)) v w began writes works goes is = absurd is
+  unended_in old begun session resolves stop (Err (Open again same why)) v w began writes works goes is = (
+    old.begins,
+    v,
+    (refl, refl),
+    subst (λ (s : Seated). StaysOpen does bounds terms old.begins s why v w) (sym is.1)
+        (record {
+          begun = begun;
+          began = began;
+          seat = writes.seat;
+          start = writes.start;
+          works = subst (λ (o : Option Stop). Works does bounds terms begun session o v w) (sym is.3) works;
+          none = is.0;
+        }),
+    subst (λ (k : Known). GoesOn old.resolves k) (sym is.2) goes,
   )
-  ended_over bounds seats begun resolves (Err u) from b q = tt
 
-  -- or could not
-  pub unended_in : (seats : Seats J) (session : Seated) (resolves : Known) (r : Result (Ended J) (Unended J))
-      → IfErr r (IsOpen session resolves) → GoesOn seats.begins session.seat → GoesOn seats.resolves resolves
-      → IfErr r (IsUnended seats)
-  unended_in seats session resolves (Ok e) is b q = tt
-  unended_in seats session resolves (Err (Spent s)) is b q = absurd is
-  unended_in seats session resolves (Err (Open again same stop)) is b q = (
-    subst (λ (s : Seated). GoesOn seats.begins s.seat) (sym is.1) b,
-    subst (λ (k : Known). GoesOn seats.resolves k) (sym is.2) q,
-    subst (λ (s : Seated). finish_of s.state ≡ None) (sym is.1) is.0,
+  pub unended_after : (old mid : Seats J) (u : Unended J) (v x w : W) → InVain old v mid x
+      → IsUnended does bounds terms mid x 0 u w → (n : ℕ) × IsUnended does bounds terms old v n u w
+  unended_after old mid (Spent s) v x w (n, vain, goes) is = (
+    n,
+    (
+      vain_to does bounds terms n old.begins mid.begins s.begins v x w is.0 vain,
+      goes_more old.resolves mid.resolves s.resolves goes is.1,
+      is.2,
+    ),
+  )
+  unended_after old mid (Open session resolves stop) v x w (n, vain, goes) (last, between, same, stays, on) = (
+    n,
+    (
+      last,
+      between,
+      vain_to does bounds terms n old.begins mid.begins last v x between same vain,
+      stays,
+      goes_more old.resolves mid.resolves resolves goes on,
+    ),
   )
 
-  -- the seats went on before
-  pub over_after : (bounds : List Key) (a b : Seats J) (e : Ended J) → GoOn a b → EndsOver bounds b e
-      → EndsOver bounds a e
-  over_after bounds a b e goes over = (
-    ends_after bounds a.begins b.begins e.seats.begins e.start e.outcome goes.0 over.0,
-    goes_more a.resolves b.resolves e.seats.resolves goes.1 over.1,
+  pub if_unended_after : (old mid : Seats J) (r : Result (Ended J) (Unended J)) (v x w : W) → InVain old v mid x
+      → IfErr r (λ (u : Unended J). IsUnended does bounds terms mid x 0 u w)
+      → IfErr r (λ (u : Unended J). (n : ℕ) × IsUnended does bounds terms old v n u w)
+  if_unended_after old mid (Ok e) v x w vain is = tt
+  if_unended_after old mid (Err u) v x w vain is = unended_after old mid u v x w vain is
+
+  -- a session began over the seats, and finished
+  pub ended_over : (old : Seats J) (begun session : Seated) (resolves : Known) (stop : Option Stop) (r :
+      Result (Ended J) (Unended J)) (v w : W) → BeganAt bounds old.begins begun.state.start begun.seat
+      → Writes begun session → Works does bounds terms begun session stop v w → GoesOn old.resolves resolves
+      → IfOk r (EndsFrom bounds begun.seat session resolves stop)
+      → IfOk r (λ (e : Ended J). EndsOver does bounds terms old v 0 e w)
+  ended_over old begun session resolves stop (Err u) v w began writes works goes is = tt
+  ended_over old begun session resolves stop (Ok e) v w began writes works goes (ends, is, at, why) = record {
+    last = old.begins;
+    between = v;
+    vain = (refl, refl);
+    begun = begun;
+    began = began;
+    ends = ends;
+    start = sym ends.start ∙ (ap (λ (s : Seated). s.state.start) is ∙ writes.start);
+    works = subst (λ (s : Seated). Works does bounds terms begun s e.stop v w) (sym is)
+        (subst (λ (o : Option Stop). Works does bounds terms begun session o v w) (sym why) works);
+    above = told_on old.begins.events begun.seat.events
+        (began_begins bounds old.begins begun.seat begun.state.start began) e.outcome ends.above;
+    resolves = subst (λ (k : Known). GoesOn old.resolves k) (sym at) goes;
+  }
+
+  -- tries before it were in vain
+  pub over_after : (old mid : Seats J) (e : Ended J) (v x w : W) → InVain old v mid x
+      → EndsOver does bounds terms mid x 0 e w → (n : ℕ) × EndsOver does bounds terms old v n e w
+  over_after old mid e v x w (n, vain, goes) over = (
+    n,
+    record {
+      last = over.last;
+      between = over.between;
+      vain = vain_to does bounds terms n old.begins mid.begins over.last v x over.between over.vain vain;
+      begun = over.begun;
+      began = over.began;
+      ends = over.ends;
+      start = over.start;
+      works = over.works;
+      above = told_on old.begins.events mid.begins.events
+          (vain_begins does bounds terms n old.begins mid.begins v x vain) e.outcome over.above;
+      resolves = goes_more old.resolves mid.resolves e.seats.resolves goes over.resolves;
+    },
   )
 
-  pub unended_after : (a b : Seats J) (u : Unended J) → GoOn a b → IsUnended b u → IsUnended a u
-  unended_after a b (Spent s) goes is = (
-    (goes_more a.begins b.begins s.begins goes.0 is.0.0, goes_more a.resolves b.resolves s.resolves goes.1 is.0.1),
-    is.1,
-  )
-  unended_after a b (Open session resolves stop) goes is =
-      (goes_more a.begins b.begins session.seat goes.0 is.0, goes_more a.resolves b.resolves resolves goes.1 is.1, is.2)
+  pub if_over_after : (old mid : Seats J) (r : Result (Ended J) (Unended J)) (v x w : W) → InVain old v mid x
+      → IfOk r (λ (e : Ended J). EndsOver does bounds terms mid x 0 e w)
+      → IfOk r (λ (e : Ended J). (n : ℕ) × EndsOver does bounds terms old v n e w)
+  if_over_after old mid (Ok e) v x w vain over = over_after old mid e v x w vain over
+  if_over_after old mid (Err u) v x w vain over = tt
 
-  pub if_over_after : (bounds : List Key) (a b : Seats J) (r : Result (Ended J) (Unended J)) → GoOn a b
-      → IfOk r (EndsOver bounds b) → IfOk r (EndsOver bounds a)
-  if_over_after bounds a b (Ok e) goes over = over_after bounds a b e goes over
-  if_over_after bounds a b (Err u) goes over = tt
-
-  pub if_unended_after : (a b : Seats J) (r : Result (Ended J) (Unended J)) → GoOn a b → IfErr r (IsUnended b)
-      → IfErr r (IsUnended a)
-  if_unended_after a b (Ok e) goes is = tt
-  if_unended_after a b (Err u) goes is = unended_after a b u goes is
-
-  -- a try without effect
-  pub go_on_again : (bounds : List Key) (a b : Seats J) (e : Ended J) → GoOn a b → EndsOver bounds b e
-      → IsWithoutEffect e.outcome → GoOn a e.seats
-  go_on_again bounds a b e goes over none = (
-    goes_more a.begins b.begins e.seats.begins goes.0
-        (ends_go bounds b.begins e.seats.begins e.start e.outcome over.0 none),
-    goes_more a.resolves b.resolves e.seats.resolves goes.1 over.1,
+  -- one more in vain
+  pub vain_again : (old mid : Seats J) (e : Ended J) (v x w : W) → InVain old v mid x
+      → EndsOver does bounds terms mid x 0 e w → IsWithoutEffect e.outcome → InVain old v e.seats w
+  vain_again old mid e v x w (n, vain, goes) over none = (
+    suc n,
+    (
+      over.last,
+      over.between,
+      vain_to does bounds terms n old.begins mid.begins over.last v x over.between over.vain vain,
+      record {
+        begun = over.begun;
+        began = over.began;
+        start = e.start;
+        end = e.outcome;
+        ends = over.ends;
+        same = over.start;
+        nothing = over.ends.nothing none;
+        stop = e.stop;
+        works = over.works;
+      },
+    ),
+    goes_more old.resolves mid.resolves e.seats.resolves goes over.resolves,
   )

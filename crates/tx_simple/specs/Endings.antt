@@ -1,35 +1,63 @@
 -- How an update ends.
-use Rattle.std.specs.Prelude.{◌≡◌, ◌<◌, List, None}
+use Rattle.std.specs.Prelude.{◌≡◌, ◌<◌, ℕ, List, Option, None, Result}
 use Rattle.tx_types.specs.declared.key.Key.{Key}
 use Rattle.tx_journal.specs.Known.{Known}
 use Rattle.tx_transaction.specs.Sessions.{finish_of}
-use Rattle.tx_client.specs.Calls.{Seated}
+use Rattle.tx_client.specs.Calls.{Seated, BeganAt}
+use Rattle.tx_transaction.specs.declared.state.Terms.{Terms}
+use Rattle.tx_transaction.specs.Buffers.{Entries}
+use Rattle.tx_simple.specs.declared.stopping.Stop.{Stop}
 use Rattle.tx_simple.specs.declared.ending.Seats.{Seats}
 use Rattle.tx_simple.specs.declared.ending.Ended.{Ended}
 use Rattle.tx_simple.specs.declared.ending.Unended.{Unended}
 use Rattle.tx_simple.specs.declared.ending.Unended.TheVariants as unended
-use Rattle.tx_simple.specs.Updates.{GoesOn, Ends}
+use Rattle.tx_simple.specs.Updates.{GoesOn, Ends, TriesInVain, Works, CommitsAboveTold}
 
--- both seats go on
-abbrev pub GoOn : {J : Type 0} → Seats J → Seats J → Type 0
-GoOn old new = GoesOn old.begins new.begins × GoesOn old.resolves new.resolves
-
--- a transaction over this seat ended so, and the other seat is this one
-abbrev pub EndsFrom : {J : Type 0} → List Key → Known → Known → Ended J → Type 0
-EndsFrom bounds begins resolves e = Ends bounds begins e.start e.outcome e.seats.begins × (e.seats.resolves ≡ resolves)
-
--- a transaction over the seat that begins ended so, and the other seat went on
-abbrev pub EndsOver : {J : Type 0} → List Key → Seats J → Ended J → Type 0
-EndsOver bounds old e = Ends bounds old.begins e.start e.outcome e.seats.begins × GoesOn old.resolves e.seats.resolves
+-- the session over this seat ended so, this stopped it, and the other seat is this one
+abbrev pub EndsFrom : {J : Type 0} → List Key → Known → Seated → Known → Option Stop → Ended J → Type 0
+EndsFrom bounds begins session resolves stop e = (ends : Ends bounds begins e.start e.outcome e.seats.begins)
+    × (ends.session ≡ session) × (e.seats.resolves ≡ resolves) × (e.stop ≡ stop)
 
 -- a session that has no outcome is handed back
-abbrev pub IsOpen : {J : Type 0} → Seated → Known → Unended J → Type 0
-IsOpen session resolves (unended.Spent seats) = ⊥
-IsOpen session resolves (unended.Open again same stop) = (finish_of session.state ≡ None)
-    × (again ≡ session) × (same ≡ resolves)
+abbrev pub IsOpen : {J : Type 0} → Seated → Known → Option Stop → Unended J → Type 0
+IsOpen session resolves stop (unended.Spent seats) = ⊥
+IsOpen session resolves stop (unended.Open again same why) = (finish_of session.state ≡ None)
+    × (again ≡ session) × (same ≡ resolves) × (why ≡ stop)
 
--- nothing ended: the seat has no ticks to begin with, or the session has no outcome
-abbrev pub IsUnended : {J : Type 0} → Seats J → Unended J → Type 0
-IsUnended old (unended.Spent seats) = GoOn old seats × (seats.begins.ticks < 1)
-IsUnended old (unended.Open session resolves stop) = GoesOn old.begins session.seat
-    × GoesOn old.resolves resolves × (finish_of session.state ≡ None)
+module _ {W : Type 0} (does : W → Entries → Result (Unit {0}) Stop → Entries → W → Type 0) (bounds : List Key) (terms :
+    Terms) where
+  -- a session began over this seat, the work was done in it, and it has no outcome
+  pub record StaysOpen (last : Known) (session : Seated) (stop : Option Stop) (between new : W) : Type 0 where
+    pub begun : Seated
+    pub began : BeganAt bounds last begun.state.start begun.seat
+    pub seat : GoesOn begun.seat session.seat
+    pub start : session.state.start ≡ begun.state.start
+    pub works : Works does bounds terms begun session stop between new
+    pub none : finish_of session.state ≡ None
+
+module _ {J W : Type 0} (does : W → Entries → Result (Unit {0}) Stop → Entries → W → Type 0) (bounds : List Key) (terms :
+    Terms) where
+  -- How the last try ended, after so many that came to nothing: a transaction began over the seat
+  -- that begins and ended so, the work was done in it, and the other seat went on. A commit lies above
+  -- each that the seat had been told of before the first.
+  pub record EndsOver (old : Seats J) (before : W) (tries : ℕ) (e : Ended J) (new : W) : Type 0 where
+    pub last : Known
+    pub between : W
+    pub vain : TriesInVain does bounds terms tries old.begins last before between
+    pub begun : Seated
+    pub began : BeganAt bounds last begun.state.start begun.seat
+    pub ends : Ends bounds begun.seat e.start e.outcome e.seats.begins
+    pub start : e.start ≡ begun.state.start
+    pub works : Works does bounds terms begun ends.session e.stop between new
+    pub above : CommitsAboveTold old.begins.events e.outcome
+    pub resolves : GoesOn old.resolves e.seats.resolves
+
+  -- nothing ended after so many tries that came to nothing: the seat has no ticks to begin with, or
+  -- the session has no outcome
+  abbrev pub IsUnended : Seats J → W → ℕ → Unended J → W → Type 0
+  IsUnended old before tries (unended.Spent seats) new =
+      TriesInVain does bounds terms tries old.begins seats.begins before new
+      × GoesOn old.resolves seats.resolves × (seats.begins.ticks < 1)
+  IsUnended old before tries (unended.Open session resolves stop) new = (last : Known) × (between : W)
+      × TriesInVain does bounds terms tries old.begins last before between
+      × StaysOpen does bounds terms last session stop between new × GoesOn old.resolves resolves

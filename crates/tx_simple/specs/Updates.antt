@@ -1,15 +1,18 @@
 -- How a transaction is run over a seat, and how it ends.
-use Rattle.std.specs.Prelude.{◌≡◌, ◌≢◌, ◌⊎◌, ◌<◌, ℕ, List, [], ◌∷◌, false, Some}
+use Rattle.std.specs.Prelude.{◌≡◌, ◌≢◌, ◌⊎◌, ◌<◌, ℕ, zero, suc, List, [], ◌∷◌, false, Option, Some, None, Result, Ok, Err}
+use Rattle.tx_transaction.specs.declared.state.Terms.{Terms}
+use Rattle.tx_transaction.specs.Buffers.{Entries}
+use Rattle.tx_simple.specs.declared.stopping.Stop.{Stop}
 use Rattle.tx_types.specs.declared.key.Key.{Key}
 use Rattle.tx_core.specs.declared.event.Outcome.{Outcome}
 use Rattle.tx_core.specs.declared.event.Outcome.TheVariants as outcome
 use Rattle.tx_core.specs.declared.event.Event.{Event}
 use Rattle.tx_core.specs.declared.event.Event.TheVariants.{Drawn, Began, Declared, Answered, Stopped, Took}
-use Rattle.tx_core.specs.Histories.{History, Among}
+use Rattle.tx_core.specs.Histories.{History, Among, declared}
 use Rattle.tx_core.specs.Recording.{owner}
 use Rattle.tx_journal.specs.Known.{Known}
-use Rattle.tx_transaction.specs.Sessions.{has_primary, finish_of}
-use Rattle.tx_client.specs.Calls.{Seated, Records, IsDecidedSo}
+use Rattle.tx_transaction.specs.Sessions.{has_primary, finish_of, declaration}
+use Rattle.tx_client.specs.Calls.{Seated, Records, IsDecidedSo, BeganAt, RecordsDeclared}
 use Rattle.tx_client.specs.Order.{IsDrawnAfter, CommitsAbove}
 
 -- it was without effect
@@ -19,22 +22,22 @@ IsWithoutEffect outcome.Aborted = Unit {0}
 IsWithoutEffect (outcome.Unknown why) = ⊥
 IsWithoutEffect outcome.ReadOnly = Unit {0}
 
--- it answers of no transaction that it is committed, or may be
+-- it begins, answers and stops no transaction
 abbrev pub AnswersNoEffect : Event → Type 0
 AnswersNoEffect (Drawn seat n) = Unit {0}
-AnswersNoEffect (Began t) = Unit {0}
+AnswersNoEffect (Began t) = ⊥
 AnswersNoEffect (Declared d) = Unit {0}
-AnswersNoEffect (Answered t o) = IsWithoutEffect o
-AnswersNoEffect (Stopped seat) = Unit {0}
+AnswersNoEffect (Answered t o) = ⊥
+AnswersNoEffect (Stopped seat) = ⊥
 AnswersNoEffect (Took x) = Unit {0}
 
--- h goes on from l with no answer of this seat that a transaction is committed, or may be
+-- h goes on from l, and since then this seat began no transaction, answered of none and stopped none
 abbrev pub GoesWithoutEffect : ℕ → History → History → Type 0
 GoesWithoutEffect i l [] = l ≡ []
 GoesWithoutEffect i l (e ∷ h) = (l ≡ e ∷ h) ⊎ GoesWithoutEffect i l h × ((owner h e ≢ Some i) ⊎ AnswersNoEffect e)
 
--- a seat goes on: it has its number, knows what it knew, and has answered of no transaction since
--- that it is committed, or may be
+-- a seat goes on within a transaction, or beside one: it has its number, knows what it knew, and has
+-- since begun no transaction, answered of none and stopped none
 pub record GoesOn (old new : Known) : Type 0 where
   pub number : new.seat ≡ old.seat
   pub knows : GoesWithoutEffect old.seat old.events new.events
@@ -60,9 +63,13 @@ CommitsAboveTold told outcome.Aborted = Unit {0}
 CommitsAboveTold told (outcome.Unknown why) = Unit {0}
 CommitsAboveTold told outcome.ReadOnly = Unit {0}
 
--- A session over this seat, which knew `old`, has ended, and none before it had an effect: a
--- session that began at t and has seen more has this outcome, which the seat recorded; a fate is
--- decided so, and a commit is in order, above each that the seat was told of before.
+-- nothing was declared of it, or it is decided that it is aborted
+abbrev pub CameToNothing : History → ℕ → Type 0
+CameToNothing h t = (declared h t ≡ None) ⊎ IsDecidedSo h t outcome.Aborted
+
+-- A session over this seat, which knew `old` when it had begun, has ended: it began at t, has seen
+-- more and has this outcome, which the seat recorded; a fate is decided so, without effect is what
+-- came to nothing, and a commit is in order, above each that the seat was told of before.
 pub record Ends (bounds : List Key) (old : Known) (t : ℕ) (end : Outcome) (new : Known) : Type 0 where
   pub session : Seated
   pub seat : GoesOn old session.seat
@@ -70,5 +77,55 @@ pub record Ends (bounds : List Key) (old : Known) (t : ℕ) (end : Outcome) (new
   pub outcome : finish_of session.state ≡ Some end
   pub recorded : Records bounds session.seat (Answered t end) new
   pub decided : IsDecidedSo session.seat.events t end
+  pub nothing : IsWithoutEffect end → CameToNothing session.seat.events t
   pub in_order : CommitsAbove session.seat.events session.state.placed end
   pub above : CommitsAboveTold old.events end
+
+-- what was entered is what was declared under these terms, and the seat went on from there
+pub record Wrote (bounds : List Key) (terms : Terms) (start : ℕ) (entered : Entries) (old new : Known) : Type 0 where
+  pub placed : ℕ
+  pub after : Known
+  pub declares : RecordsDeclared bounds old (declaration start placed entered terms) after
+  pub goes : GoesOn after new
+
+-- why it stopped
+abbrev pub stop_in : Result (Unit {0}) Stop → Option Stop
+stop_in (Ok x) = None
+stop_in (Err stop) = Some stop
+
+-- where nothing stopped it
+abbrev pub OnNoStop : Option Stop → Type 0 → Type 0
+OnNoStop None P = P
+OnNoStop (Some stop) P = Unit {0}
+
+module _ {W : Type 0} (does : W → Entries → Result (Unit {0}) Stop → Entries → W → Type 0) (bounds : List Key) (terms :
+    Terms) where
+  -- The work was called, once, in a transaction in which nothing was entered; where nothing stopped
+  -- that, the work answered well, and what it left entered is what was declared.
+  pub record Works (begun session : Seated) (stop : Option Stop) (old new : W) : Type 0 where
+    pub answered : Result (Unit {0}) Stop
+    pub entered : Entries
+    pub did : does old [] answered entered new
+    pub before : Known
+    pub goes : GoesOn begun.seat before
+    pub wrote : OnNoStop stop ((stop_in answered ≡ None)
+        × Wrote bounds terms begun.state.start entered before session.seat)
+
+  -- A try that is over and came to nothing: the seat began a transaction, went on within it alone,
+  -- and answered of it, of which nothing was declared, or it is decided that it is aborted.
+  pub record ComesToNothing (old new : Known) (before after_it : W) : Type 0 where
+    pub begun : Seated
+    pub began : BeganAt bounds old begun.state.start begun.seat
+    pub start : ℕ
+    pub end : Outcome
+    pub ends : Ends bounds begun.seat start end new
+    pub same : start ≡ begun.state.start
+    pub nothing : CameToNothing ends.session.seat.events start
+    pub stop : Option Stop
+    pub works : Works begun ends.session stop before after_it
+
+  -- so many tries, one after another, came to nothing, and neither the seat nor the work did anything else
+  abbrev pub TriesInVain : ℕ → Known → Known → W → W → Type 0
+  TriesInVain zero old new before after_all = (new ≡ old) × (after_all ≡ before)
+  TriesInVain (suc n) old new before after_all = (mid : Known) × (between : W) × TriesInVain n old mid before between
+      × ComesToNothing mid new between after_all

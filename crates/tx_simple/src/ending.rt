@@ -79,8 +79,8 @@ pub(crate) fn finished<J: JournalId>(
     stop: Option<Stop>,
 ) -> Result<Ended<J>, Unended<J>>
     ensures ended { (begun : Seated) → Writes begun session
-        → IfOk result (λ e. EndsFrom J.bounds begun.seat resolves e) }
-    ensures open_yet { IfErr result (λ u. IsOpen session resolves u) }
+        → IfOk result (λ e. EndsFrom J.bounds begun.seat session resolves stop e) }
+    ensures open_yet { IfErr result (λ u. IsOpen session resolves stop u) }
 {
     // For proofs: what its seat has seen declared.
     session.show();

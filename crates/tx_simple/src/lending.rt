@@ -93,12 +93,15 @@ impl<'a, J: JournalId, S: Sender<Request<J>, Reply<J>>, B: Begun> Lent<'a, J, S,
     /// Lends what sets out here.
     pub(crate) fn new(running: Running<'a, J, S, B>) -> Lent<'a, J, S, B>
         requires { is_declared B.session.state ≡ false }
+        ensures { result.running ≡ running.entry }
     {
         Lent { running }
     }
 
     /// What runs.
-    pub(crate) fn into_running(self) -> Running<'a, J, S, B> {
+    pub(crate) fn into_running(self) -> Running<'a, J, S, B>
+        ensures { result ≡ self.entry.running }
+    {
         let Lent { running } = self;
         running
     }

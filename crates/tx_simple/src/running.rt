@@ -98,6 +98,7 @@ impl<'a, J: JournalId, S: Sender<Request<J>, Reply<J>>, B: Begun> Running<'a, J,
     pub(crate) fn into_parts(self) -> (Session<J>, Seat<J>)
         ensures session { Follows B.session result.0 }
         ensures resolver { GoesOn B.resolver result.1 }
+        ensures same { result.0 ≡ self.entry }
     {
         let Running {
             alloc: _,

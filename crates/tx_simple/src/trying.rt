@@ -1,8 +1,8 @@
 //! A work in one transaction: one try of an update.
-ghost use Rattle.std.specs.Prelude.{◌≡◌, true, false, IfOk, IfErr};
+ghost use Rattle.std.specs.Prelude.{◌≡◌, true, false, [], OnOk, IfOk, IfErr};
 ghost use Rattle.tx_transaction.specs.Sessions.{is_declared, has_primary};
 ghost use Rattle.tx_journal.specs.Senders.{IsWay};
-ghost use Rattle.tx_simple.specs.Updates.{GoesOn, Follows, Writes};
+ghost use Rattle.tx_simple.specs.Updates.{GoesOn, Follows, Writes, Wrote, Works, stop_in};
 ghost use Rattle.tx_simple.specs.Endings.{EndsOver, IsUnended};
 
 use crate::ending::{Ended, Seats, Unended, finished};
@@ -32,6 +32,7 @@ fn applied<J: JournalId, S: Sender<Request<J>, Reply<J>>, W: Work, B: Begun>(
     requires resolver { resolver ≡ B.resolver }
     ensures session { Follows B.session result.0 }
     ensures resolver { GoesOn B.resolver result.1 }
+    ensures did { W.does work.old session.state.buffer result.2 result.0.state.buffer work.new }
 {
     let running = Running::<'_, J, S, B>::new(alloc, session, resolver, sender);
     let mut lent = Lent::new(running);
@@ -52,6 +53,7 @@ fn apply<J: JournalId, S: Sender<Request<J>, Reply<J>>, W: Work>(
     requires open { is_declared session.state ≡ false }
     ensures session { Follows session result.0 }
     ensures resolver { GoesOn resolver result.1 }
+    ensures did { W.does work.old session.state.buffer result.2 result.0.state.buffer work.new }
 {
     applied::<J, S, W, Brand>(alloc, session, resolver, work, sender)
 }
@@ -101,6 +103,8 @@ fn write<J: JournalId, S: Sender<Request<J>, Reply<J>>>(
     requires open { is_declared session.state ≡ false }
     ensures session { Writes session result.0 }
     ensures resolver { GoesOn resolver result.1 }
+    ensures wrote { OnOk result.2
+        (Wrote J.bounds terms.now session.state.start session.state.buffer session.seat result.0.seat) }
 {
     if let Err(fault) = session.declare(*terms) {
         return (session, resolver, Err(Stop::from(fault)));
@@ -122,14 +126,26 @@ fn run<J: JournalId, S: Sender<Request<J>, Reply<J>>, W: Work>(
 ) -> Done<J>
     requires way { IsWay J.bounds S.fits S.sends S.keys_between }
     requires open { is_declared session.state ≡ false }
+    requires empty { session.state.buffer ≡ [] }
     ensures session { Writes session result.0 }
     ensures resolver { GoesOn resolver result.1 }
+    ensures works { Works W.does J.bounds terms.now session result.0 (stop_in result.2) work.old work.new }
 {
     let (session, resolver, done) = apply(alloc, session, resolver, work, sender);
-    if done.is_err() {
-        return (session, resolver, done);
+    if let Err(stop) = done {
+        return (session, resolver, Err(stop));
     }
     write(alloc, session, resolver, terms, sender)
+}
+
+// Why it went no further, if it did not.
+fn stopped_by(done: Result<(), Stop>) -> Option<Stop>
+    ensures { result ≡ stop_in done }
+{
+    match done {
+        Ok(()) => None,
+        Err(stop) => Some(stop),
+    }
 }
 
 /// Does a work in one transaction.
@@ -141,14 +157,14 @@ pub(crate) fn try_once<J: JournalId, S: Sender<Request<J>, Reply<J>>, W: Work>(
     sender: &mut S,
 ) -> Result<Ended<J>, Unended<J>>
     requires way { IsWay J.bounds S.fits S.sends S.keys_between }
-    ensures ended { IfOk result (λ e. EndsOver J.bounds seats e) }
-    ensures unended { IfErr result (λ u. IsUnended seats u) }
+    ensures ended { IfOk result (λ e. EndsOver W.does J.bounds terms.now seats work.old 0 e work.new) }
+    ensures unended { IfErr result (λ u. IsUnended W.does J.bounds terms.now seats work.old 0 u work.new) }
 {
     let Seats { begins, resolves } = seats;
     match Session::begin(alloc, begins) {
         Ok(session) => {
             let (session, resolves, done) = run(alloc, session, resolves, terms, work, sender);
-            finished(session, resolves, done.err())
+            finished(session, resolves, stopped_by(done))
         }
         Err(begins) => Err(Unended::Spent(Seats { begins, resolves })),
     }

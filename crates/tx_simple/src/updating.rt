@@ -1,5 +1,5 @@
 //! A transaction from its begin to its end, in one call.
-ghost use Rattle.std.specs.Prelude.{IfOk, IfErr};
+ghost use Rattle.std.specs.Prelude.{ℕ, ◌≡◌, IfOk, IfErr};
 ghost use Rattle.tx_journal.specs.Senders.{IsWay};
 ghost use Rattle.tx_simple.specs.Endings.{EndsOver, IsUnended};
 
@@ -13,10 +13,19 @@ use tx_journal::{JournalId, Reply, Request, Sender};
 
 /// What a transaction is to do.
 pub trait Work {
+    ghost use Rattle.std.specs.Prelude.{Result};
+    ghost use Rattle.tx_transaction.specs.Buffers.{Entries};
+    ghost use Rattle.tx_simple.specs.declared.stopping.Stop.{Stop};
+
+    /// How its value before, what was entered before, what it answers, what is entered after, and
+    /// its value after belong together.
+    ghost does: { Self → Entries → Result (Unit {0}) Stop → Entries → Self → Type 0 };
+
     /// Reads, and enters what is to be written. It is called anew for each try, with a transaction
     /// in which nothing is entered yet. After an `Err` nothing is written; `GaveUp` is for a reason
     /// of its own.
-    fn apply<T: Tx>(&mut self, tx: &mut T) -> Result<(), Stop>;
+    fn apply<T: Tx>(&mut self, tx: &mut T) -> Result<(), Stop>
+        ensures { does self.old (T.buffer tx.old) result (T.buffer tx.new) self.new };
 }
 
 /// Does a work in a transaction: begins it, has the work read and enter what it writes, declares
@@ -40,8 +49,8 @@ pub fn update<J: JournalId, S: Sender<Request<J>, Reply<J>>, W: Work>(
     sender: &mut S,
 ) -> Result<Ended<J>, Unended<J>>
     requires way { IsWay J.bounds S.fits S.sends S.keys_between }
-    ensures ended { IfOk result (λ e. EndsOver J.bounds seats e) }
-    ensures unended { IfErr result (λ u. IsUnended seats u) }
+    ensures ended { IfOk result (λ e. (n : ℕ) × EndsOver W.does J.bounds terms seats work.old n e work.new) }
+    ensures unended { IfErr result (λ u. (n : ℕ) × IsUnended W.does J.bounds terms seats work.old n u work.new) }
 {
     for _try in 0..again {
         match try_once(alloc, seats, &terms, work, sender) {

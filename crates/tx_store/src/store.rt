@@ -1,5 +1,5 @@
 //! Regions, each behind a lock of its own.
-ghost use Rattle.std.specs.Prelude.{◌≡◌, ◌↔◌, IsTrue, ℕ, ◌+◌, ◌<◌, ◌≤◌, [], All, Some, IfErr, IfOk, length, slice_get, vec_len};
+ghost use Rattle.std.specs.Prelude.{◌≡◌, ◌↔◌, IsTrue, ℕ, ◌+◌, ◌<◌, ◌≤◌, [], All, Some, IfErr, IfOk, IfSome, IsSomeAnd, OnOk, length, slice_get, vec_len};
 ghost use Rattle.tx_types.specs.declared.key.Key.{Key};
 ghost use Rattle.tx_types.specs.declared.fault.Fault.TheVariants.{OutOfMemory};
 ghost use Rattle.tx_cells.specs.Contents.{nothing_held};
@@ -9,17 +9,18 @@ ghost use Rattle.tx_types.specs.Keys.{AreRising};
 ghost use Rattle.tx_region.specs.KeyFronts.{AreFronts};
 ghost use Rattle.tx_region.specs.Copies.{IsOfKey};
 ghost use Rattle.tx_region.specs.Planning.{IsCopyFor, IsPlanFor};
+ghost use Rattle.tx_journal.specs.Replies.{IsGiven};
 ghost use Rattle.tx_journal.specs.Senders.{IsHeld};
-ghost use Rattle.tx_store.specs.Stores.{AreForSessions, GivesBack};
+ghost use Rattle.tx_store.specs.Stores.{AreForSessions};
 
 use crate::seats::split_seats;
 use std::alloc::Global;
 use std::hint::spin_loop;
 use std::sync::{Mutex, MutexGuard, Wait};
 use tx_cells::Families;
-use tx_core::{Body, RegionNo, Target};
-use tx_journal::{Journal, JournalId, Opened, Reply, Request, Seat};
-use tx_region::{Applied, KeyCopy, Planned, Region, fronts, is_of_key, route_by};
+use tx_core::{Body, RegionNo, SeatNo, Target};
+use tx_journal::{Journal, JournalId, Opened, Reply, Request, Seat, Told};
+use tx_region::{Attempt, Region, fronts, is_of_key, route_by};
 use tx_types::{Fault, Key};
 
 /// How often a call looks whether the lock of a region is free before it sleeps. A region has its
@@ -174,44 +175,51 @@ impl<J: JournalId, F: Families + Drop> Store<J, F> {
         region.lock(rt)
     }
 
-    // Copies what a request of one key sees of it in the region that holds it.
+    // Copies what a request of one key sees of it in the region that holds it, into a try.
     fn copy_at<R: Wait>(
         &self,
         rt: &R,
         index: usize,
         request: &mut Request<J>,
-    ) -> Result<KeyCopy<J>, Fault>
+        attempt: &mut Attempt<J>,
+    ) -> Result<(), Fault>
         requires index { index ≤ length J.bounds }
         requires of_key { IsOfKey request.old.body }
         ensures same { request.new ≡ request.old }
-        ensures copy { IfOk result (λ copy. IsCopyFor request.old copy × (copy.region ≡ index)) }
+        ensures copy { OnOk result (IsSomeAnd attempt.new.copy (λ copy. IsCopyFor request.old copy
+            × (copy.region ≡ index))) }
     {
         for _ in rt.forever() {
             let mut region = self.locked(rt, index);
             if is_at(&*region, index) {
-                return region.copy_key(request);
+                return region.copy_into(request, attempt);
             }
         }
         unreachable!()
     }
 
-    // Applies a plan in the region that holds the request.
+    // Applies the plan of a try in the region that holds the request: what the region then knows,
+    // or none where the plan is no longer right.
     fn apply_at<R: Wait>(
         &self,
         rt: &R,
         index: usize,
-        request: Request<J>,
-        plan: Planned<J>,
-    ) -> Applied<J>
+        request: &Request<J>,
+        attempt: &mut Attempt<J>,
+    ) -> Option<Told<J>>
         requires index { index ≤ length J.bounds }
-        requires holds { Holds J.bounds index request.body }
-        requires of { IsPlanFor request plan × (plan.region ≡ index) }
-        ensures { GivesBack request result }
+        requires holds { Holds J.bounds index request.now.body }
+        requires of { IsSomeAnd attempt.old.plan (λ plan. IsPlanFor request.now plan × (plan.region ≡ index)) }
+        ensures { IfSome result (λ told. IsGiven J.bounds (record {
+          request = request.now;
+          answer = attempt.new.answer;
+          events = told;
+        })) }
     {
         for _ in rt.forever() {
             let mut region = self.locked(rt, index);
             if is_at(&*region, index) {
-                return region.apply(request, plan);
+                return region.apply_attempt(request, attempt);
             }
         }
         unreachable!()
@@ -243,14 +251,14 @@ impl<J: JournalId, F: Families + Drop> Store<J, F> {
         requires of_key { IsOfKey request.body }
         ensures { result.request ≡ request }
     {
+        let mut attempt = Attempt::new(SeatNo::new(0));
         for _try in 0..TRIES {
-            let Ok(copy) = self.copy_at(rt, index, &mut request) else {
+            if self.copy_at(rt, index, &mut request, &mut attempt).is_err() {
                 break;
-            };
-            let plan = copy.plan(&request);
-            match self.apply_at(rt, index, request, plan) {
-                Applied::Done(reply) => return reply,
-                Applied::Stale(again) => request = again,
+            }
+            attempt.plan(&request);
+            if let Some(told) = self.apply_at(rt, index, &request, &mut attempt) {
+                return Reply::new(request, attempt.take_answer(), told);
             }
         }
         self.take_at(rt, index, request)

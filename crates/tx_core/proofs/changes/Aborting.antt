@@ -90,5 +90,6 @@ module _ (w : View) (t : ℕ) (i : Inv w) (opened : w.decided t ≡ Open) (some 
         };
         commits = λ q d e. i.commits q d (was_committed q d e);
         unread = λ q k by e o. i.unread q k by e (was_open q o);
+        checks = i.checks;
         shown = i.shown;
       }

@@ -28,5 +28,6 @@ inv_begin w t i drawn =
       keys = i.keys;
       commits = i.commits;
       unread = i.unread;
+      checks = i.checks;
       shown = i.shown;
     }

@@ -302,6 +302,7 @@ module _ (w : View) (within : Key → Bool) (safe : ℕ) where
           };
           commits = i.commits;
           unread = i.unread;
+          checks = i.checks;
           shown = i.shown;
         }
 

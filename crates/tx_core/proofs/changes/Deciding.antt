@@ -247,6 +247,7 @@ module _ (w : View) (t c : ℕ) (i : Inv w) (may : CanDecide w t c) where
         };
         commits = λ q d e. elim (was_committed q d e) [ inl x ↦ new_commit q d x.0 x.1 | inr x ↦ i.commits q d x ];
         unread = λ q k by e o. i.unread q k by e (was_open q o);
+        checks = i.checks;
         shown = i.shown;
       }
     where

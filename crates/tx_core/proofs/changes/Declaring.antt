@@ -99,6 +99,8 @@ module _ (w : View) (d : Declaration) (none : w.declared d.start ≡ None) where
           bounds = x.bounds;
           shows = x.shows;
         });
+        checks = λ t k by e v ins. i.checks t k by e v
+            (kept_inserts t k v (does_declared w.declared t k by.lock.mutation (i.acceptances t k by e).does) ins);
         unread = λ t k by e o m does. i.unread t k by e o m
             (kept_does t k m (does_declared w.declared t k by.lock.mutation (i.acceptances t k by e).does) does);
         shown = record {

@@ -51,5 +51,6 @@ inv_draw w seat n i lt =
                 x.shows;
           });
       unread = i.unread;
+      checks = i.checks;
       shown = i.shown;
     }

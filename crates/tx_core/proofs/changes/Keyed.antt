@@ -65,6 +65,7 @@ inv_keyed w k new i fits =
       keys = λ q. at_cells w k q new (Fits w) fits (λ other. i.keys q);
       commits = i.commits;
       unread = i.unread;
+      checks = i.checks;
       shown = i.shown;
     }
 

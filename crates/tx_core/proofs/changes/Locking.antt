@@ -96,7 +96,7 @@ seen_above write low (suc r) =
 -- The key is free and was never accepted for the transaction, which is not committed; no commit on
 -- the key and no collection lies above its start; an async minimum lies above each read; the bound
 -- lies above the number that was drawn for the declaration. Of what it inserts there is no value at
--- its start.
+-- its start, where it was read.
 pub record MayLock (w : View) (k : Key) (lock : Lock) : Type 0 where
   pub free : (w.cells k).lock ≡ None
   pub new : w.accepted lock.start k ≡ None
@@ -109,6 +109,7 @@ pub record MayLock (w : View) (k : Key) (lock : Lock) : Type 0 where
   pub mode : (d : Declaration) → w.declared lock.start ≡ Some d → d.mode ≡ TwoPhase → lock.mode ≡ TwoPhase
   pub after : (d : Declaration) → w.declared lock.start ≡ Some d → d.drawn < bound (accepting w lock)
   pub unseen : (v : Value) → Inserts w.declared lock.start k v → HasNoValue w.declared w.decided k lock.start
+  pub checked : (v : Value) → Inserts w.declared lock.start k v → IsRead w.reads k lock.start
   pub uncommitted : (c : ℕ) → IsCommitted w.decided lock.start c → ⊥
   pub above : (u d : ℕ) (m : Mutation) → IsCommitted w.decided u d → Does w.declared u k m → d ≤ lock.start
 
@@ -315,6 +316,8 @@ module _ (w : View) (k : Key) (lock : Lock) (i : Inv w) (may : MayLock w k lock)
             | inr x ↦ omega (arith, x, was.shows)
           ];
         });
+        checks = at_accepted (λ t q by. (v : Value) → Inserts w.declared t q v → IsRead w.reads q t) may.checked
+            i.checks;
         unread = at_accepted (λ t q by. w.decided t ≡ Open → (m : Mutation) → Does w.declared t q m → IsVisible m
             → (r : ℕ) → IsRead w.reads q r
             → (r < bound by) ⊎ (r < (locking w k lock).shown t)) (λ o m does v r read. inl (new_unread r read))
@@ -429,8 +432,9 @@ pub may_lock : (w : View) (k : Key) (lock : Lock) → Inv w → w.collected k �
     → bound (accepting w lock) ≤ w.last + 1 → (lock.mode ≡ Async → w.floor k < lock.min)
     → ((d : Declaration) → w.declared lock.start ≡ Some d → d.mode ≡ TwoPhase → lock.mode ≡ TwoPhase)
     → ((d : Declaration) → w.declared lock.start ≡ Some d → d.drawn < bound (accepting w lock))
-    → ((v : Value) → Inserts w.declared lock.start k v → Reads (w.cells k).write lock.start None) → MayLock w k lock
-may_lock w k lock i fresh uncommitted unrolled free low does above least upto after mode drawn checked =
+    → ((v : Value) → Inserts w.declared lock.start k v → Reads (w.cells k).write lock.start None)
+    → ((v : Value) → Inserts w.declared lock.start k v → IsRead w.reads k lock.start) → MayLock w k lock
+may_lock w k lock i fresh uncommitted unrolled free low does above least upto after mode drawn none checked =
     record {
       free = none_is (w.cells k).lock free;
       new = new;
@@ -442,7 +446,8 @@ may_lock w k lock i fresh uncommitted unrolled free low does above least upto af
       after_reads = after;
       mode = mode;
       after = drawn;
-      unseen = λ v ins. no_value w k lock.start i fresh free (checked v ins);
+      unseen = λ v ins. no_value w k lock.start i fresh free (none v ins);
+      checked = checked;
       uncommitted = λ c end. (i.commits lock.start c end).accepts k
           (does_within w.declared lock.start k lock.mutation does) new;
       above = λ u d m end does.

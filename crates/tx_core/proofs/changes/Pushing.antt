@@ -143,6 +143,7 @@ module _ (w : View) (k : Key) (t min : ℕ) (lock : Lock) (i : Inv w) (own : Own
             | inr y ↦ omega (arith, y.1, x.shows)
           ];
         });
+        checks = i.checks;
         unread = λ u q by e o m does v r read.
             elim (i.unread u q by e o m does v r read) [
               | inl x ↦ inl x

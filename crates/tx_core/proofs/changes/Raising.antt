@@ -22,6 +22,7 @@ inv_raise w floor i more =
       keys = i.keys;
       commits = i.commits;
       unread = i.unread;
+      checks = i.checks;
       shown = i.shown;
     }
 
@@ -39,5 +40,6 @@ inv_raise_safe w safe i more =
       keys = i.keys;
       commits = i.commits;
       unread = i.unread;
+      checks = i.checks;
       shown = i.shown;
     }

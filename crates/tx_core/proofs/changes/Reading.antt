@@ -42,6 +42,7 @@ inv_read w covers r i upto here free =
       acceptances = i.acceptances;
       keys = i.keys;
       commits = i.commits;
+      checks = λ t k by e v ins. inr (i.checks t k by e v ins);
       unread = λ t k by e o m does v s read. elim read [
         | inl now ↦
             subst (λ n. (n < bound by) ⊎ (n < w.shown t)) now.1 (new t k by e o m does v now.0)

@@ -1,21 +1,24 @@
 -- Each change of a view, with the machine's step that goes with it, keeps what is sound.
-use Rattle.std.proofs.Common.{◌≡◌, ◌≢◌, ℕ, ◌<◌, ◌≤◌, ◌==◌, inl, inr, Bool, true, false, cond, List, [], ◌∷◌, Option, Some, None, IsTrue, length, bytes_eq, refl, ap, subst, ◌∙◌, arith}
+use Rattle.std.proofs.Common.{◌≡◌, ◌≢◌, ℕ, ◌<◌, ◌≤◌, ◌==◌, inl, inr, Bool, true, false, cond, List, [], ◌∷◌, Option, Some, None, IsTrue, length, bytes_eq, refl, sym, ap, subst, ◌∙◌, arith}
 use Rattle.tx_types.specs.declared.key.Key.{Key}
 use Rattle.tx_types.specs.declared.value.Value.{Value}
+use Rattle.tx_types.specs.declared.mutation.Mutation.{Mutation}
+use Rattle.tx_types.specs.declared.mutation.Mutation.TheVariants as mutation
 use Rattle.tx_types.specs.declared.mutation.Fate.{Fate}
 use Rattle.tx_machine.specs.Machine.{State, Open, Done}
 use Rattle.tx_plan.specs.Cells.{Lock, Cells}
 use Rattle.tx_plan.specs.Own.{OwnLock}
 use Rattle.tx_core.specs.declared.event.Declaration.{Declaration}
+use Rattle.tx_core.specs.Histories.{set_of}
 use Rattle.tx_core.specs.Decisions.{Acceptance}
 use Rattle.tx_core.proofs.Basics.{nat_test, key_same, key_true, some_of, none_is}
-use Rattle.tx_core.proofs.view.View.{View, Inv, IsPrimary, IsCommitted, IsAborted, FellBack}
+use Rattle.tx_core.proofs.view.View.{View, Inv, Inserts, IsPrimary, IsCommitted, IsAborted, FellBack}
 use Rattle.tx_machine.specs.declared.step.ScanRead.{ScanRead}
 use Rattle.tx_machine.specs.declared.step.Step.{Step}
 use Rattle.tx_machine.specs.declared.step.Step.TheVariants as step
 use Rattle.tx_types.specs.Keys.{IsRising, value_in}
-use Rattle.tx_machine.specs.Keys.{IsDistinct, covered}
-use Rattle.tx_machine.specs.Machine.{SeesRows, table_of}
+use Rattle.tx_machine.specs.Keys.{mutation_at, is_insert, inserted, IsDistinct, covered}
+use Rattle.tx_machine.specs.Machine.{SeesRows, IsRead, changes_in, table_of}
 use Rattle.tx_plan.specs.Reads.{Reads}
 use Rattle.tx_core.proofs.changes.Drawing.{drawing, inv_draw}
 use Rattle.tx_core.proofs.changes.Beginning.{beginning, inv_begin}
@@ -162,6 +165,21 @@ sound_scan steps w scan s upto here free rows =
       run = (s.run, (omega (arith, s.shows.last, upto), rows));
     }
 
+-- the read that the commit of an insert leaves was made by its check
+insert_read : (w : View) (t c : ℕ) (d : Declaration) → Inv w → CanDecide w t c → w.declared t ≡ Some d → (k : Key)
+    → inserted (Some d.changes) k ≡ true → IsRead w.reads k t
+insert_read w t c d i may is k e = go (mutation_at d.changes k) refl e
+  where
+    go : (o : Option Mutation) → mutation_at d.changes k ≡ o → is_insert o ≡ true → IsRead w.reads k t
+    go None at x = absurd (cc x)
+    go (Some (mutation.Put v)) at x = absurd (cc x)
+    go (Some mutation.Delete) at x = absurd (cc x)
+    go (Some mutation.Lock) at x = absurd (cc x)
+    go (Some (mutation.Insert v)) at x =
+        let ins : Inserts w.declared t k v = ap (λ o. mutation_at (set_of o) k) is ∙ at in
+        let by = some_of (w.accepted t k) (may.accepts k (λ none. cc (none, ins))) in
+        i.checks t k by.0 by.1 v ins
+
 -- a commit
 pub sound_decide : (steps : List Step) (w : View) (t c : ℕ) → Sound steps w → CanDecide w t c
     → Sound (step.Commit t c ∷ steps) (deciding w t c)
@@ -183,7 +201,12 @@ sound_decide steps w t c s may =
             ];
         last = s.shows.last;
         drawn = s.shows.drawn;
-        reads = s.shows.reads;
+        reads = λ k r x. elim x [
+          | inl now ↦ subst (IsRead w.reads k) now.1
+              (insert_read w t c of.0 s.inv may of.1 k
+              (ap (λ o. inserted (changes_in o) k) (sym (s.shows.row t ∙ row_declared w t of.0 s.inv of.1)) ∙ now.0))
+          | inr old ↦ s.shows.reads k r old
+        ];
       };
       run = (s.run, may_commit (table_of steps) w t c s.inv s.shows may);
     }

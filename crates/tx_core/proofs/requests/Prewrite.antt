@@ -14,7 +14,7 @@ use Rattle.tx_machine.specs.declared.step.Step.TheVariants as step
 use Rattle.tx_types.specs.Keys.{IsInsert}
 use Rattle.tx_types.specs.Kinds.{as_locked}
 use Rattle.tx_machine.specs.Keys.{mutation_at}
-use Rattle.tx_machine.specs.Machine.{State, Open, Done, Reading, table_of}
+use Rattle.tx_machine.specs.Machine.{State, Open, Done, Reading, IsRead, table_of}
 use Rattle.tx_plan.specs.declared.body.Prewrite.{Prewrite}
 use Rattle.tx_plan.specs.declared.body.Body.TheVariants as body
 use Rattle.tx_plan.specs.declared.answer.Answer.{Answer}
@@ -35,7 +35,7 @@ use Rattle.tx_core.specs.Allowed.{floor_of, AllowsPrewrite}
 use Rattle.tx_core.specs.Worlds.{route}
 use Rattle.tx_core.specs.Shadow.{deciding, deciding_in, checked, checking, shadow}
 use Rattle.tx_core.specs.Truth.{IsTrueAnswer}
-use Rattle.tx_core.proofs.Basics.{nat_test, nat_same, key_test, key_true, cond_true, cond_false, some_same, none_is}
+use Rattle.tx_core.proofs.Basics.{nat_test, nat_same, key_test, key_same, key_true, cond_true, cond_false, some_same, none_is}
 use Rattle.tx_core.proofs.view.View.{View, Inv, Does, Inserts, declared_does, bound, bound_async}
 use Rattle.tx_core.proofs.view.Tables.{Sound}
 use Rattle.tx_core.proofs.view.Ends.{Ends}
@@ -334,18 +334,23 @@ module _ (bounds : List Key) (h : History) (good : Good bounds h) (b : Prewrite)
       checked_none v ins = finds_none
           (subst IsInsert (some_same (mutation.Insert v) b.mutation (sym ins ∙ declares)) tt)
 
+      -- an insert is checked at its start
+      unchecked : (v : Value) → Inserts (declared h) b.start b.key v → check_by b.mutation b.start ≡ Some b.start
+      unchecked v ins = ap (λ m. check_by m b.start) (some_same b.mutation (mutation.Insert v) (sym declares ∙ ins))
+
       free : (cells_at bounds h b.key).lock ≡ None
       free = none_is (cells_at bounds h b.key).lock no5
 
       -- the lock is put, where what it must meet does not speak of reads
       putting : (m : ℕ) → ((reads : List Reading) → Inv (checked_view m reads)
+          → ((v : Value) → Inserts (declared h) b.start b.key v → IsRead reads b.key b.start)
           → MayLock (checked_view m reads) b.key (lock_of b m)) → Next bounds h (taken (Prewritten m))
       putting m may_be = by_check (check_by b.mutation b.start) refl
         where
           by_check : (o : Option ℕ) → check_by b.mutation b.start ≡ o → Next bounds h (taken (Prewritten m))
           by_check None e = (let sound = raised_sound (Prewritten m) in
               fresh m (reads_in h) [] (ap (λ o. noted b.key o (reads_in h)) e) (ap (checked b) e) sound
-              (may_be (reads_in h) sound.inv) no3)
+              (may_be (reads_in h) sound.inv (λ v ins. absurd (cc (unchecked v ins, e)))) no3)
           by_check (Some at) e =
               (let is = check_is b.mutation b.start at e in
               let same : b.start ≡ at = is.1 in
@@ -365,7 +370,8 @@ module _ (bounds : List Key) (h : History) (good : Good bounds h) (b : Prewrite)
               fresh m (record { covers = bytes_eq b.key; at = b.start } ∷ reads_in h) (step.Read b.key b.start None
               ∷ []) (ap (λ o. noted b.key o (reads_in h)) (e ∙ ap (λ n. Some n) (sym same)))
               (ap (checked b) (e ∙ ap (λ n. Some n) (sym same))) sound
-              (may_be (record { covers = bytes_eq b.key; at = b.start } ∷ reads_in h) sound.inv) no3)
+              (may_be (record { covers = bytes_eq b.key; at = b.start } ∷ reads_in h) sound.inv
+              (λ v ins. inl (key_same b.key, refl))) no3)
 
       low : (at : ℕ) (rec : CommitRecord) → (cells_at bounds h b.key).write at ≡ Some (CommitOf rec) → at ≤ b.start
       low at rec e = elim (cases_lt b.start at) [
@@ -399,9 +405,9 @@ module _ (bounds : List Key) (h : History) (good : Good bounds h) (b : Prewrite)
           let above : b.start < b.start + 1 = omega arith in
           let least : b.start + 1 ≤ last h + 1 = omega (arith, start_drawn) in
           let most : last h + 1 ≤ last h + 1 = omega arith in
-          putting 0 (λ reads j. may_lock (checked_view 0 reads) b.key (lock_of b 0) j from_safe no4 no3 no5 low does
+          putting 0 (λ reads j read. may_lock (checked_view 0 reads) b.key (lock_of b 0) j from_safe no4 no3 no5 low does
           above least most (λ e. absurd (cc (e))) (λ d e x. refl)
-          (λ d e. (let after : d.drawn < last h + 1 = omega (arith, drawn_upto d e) in after)) checked_none)
+          (λ d e. (let after : d.drawn < last h + 1 = omega (arith, drawn_upto d e) in after)) checked_none read)
 
       -- an async lock is put
       async : b.mode ≡ Async → (m : ℕ) → MayPromise (left h (route bounds b.key)).max_read (last h) b m
@@ -425,9 +431,9 @@ module _ (bounds : List Key) (h : History) (good : Good bounds h) (b : Prewrite)
           let bounded : lock.min ≤ bound (accepting (view bounds h) lock) = omega (arith, bound_is) in
           let most : bound (accepting (view bounds h) lock) ≤ last h + 1 = omega (arith, promise.1, bound_is, min_is) in
           let after : floor (Prewritten m) b.key < lock.min = omega (arith, promise.0, least, raised, min_is) in
-          putting m (λ reads j. may_lock (checked_view m reads) b.key lock j from_safe no4 no3 no5 low does above
+          putting m (λ reads j read. may_lock (checked_view m reads) b.key lock j from_safe no4 no3 no5 low does above
           bounded most (λ e. after) (λ d e two. absurd (as_declared mode d e two))
-          (λ d e. omega (arith, below_floor mode d e, own, promise.0, min_is, bound_is)) checked_none)
+          (λ d e. omega (arith, below_floor mode d e, own, promise.0, min_is, bound_is)) checked_none read)
 
       last_rows : Case (b.mode ≡ Async) ((m : ℕ) × MayPromise (left h (route bounds b.key)).max_read (last h) b m
           × Case (IsWithin b.max_commit m) (a ≡ Prewritten m) (a ≡ Prewritten 0)) (a ≡ Prewritten 0)

@@ -11,7 +11,13 @@ use Rattle.tx_core.specs.declared.event.Event.{Event}
 use Rattle.tx_core.specs.declared.event.Event.TheVariants.{Drawn, Began, Declared, Answered, Stopped, Took}
 use Rattle.tx_core.specs.Histories.{History, declared, set_of, set_at, is_first, Among, Begins}
 use Rattle.tx_core.specs.Decisions.{accepted, decided}
-use Rattle.tx_core.specs.Laws.{AnsweredBefore}
+use Rattle.std.proofs.lemmas.Bool.{cases_lt}
+use Rattle.tx_types.specs.declared.mutation.Mutation.{Mutation}
+use Rattle.tx_types.specs.Keys.{IsVisible}
+use Rattle.tx_core.specs.Shadow.{shadow}
+use Rattle.tx_machine.specs.Machine.{Commits, Newest, table_of}
+use Rattle.tx_machine.proofs.Inserts.{find_newest}
+use Rattle.tx_core.specs.Laws.{AnsweredBefore, DecidedBefore}
 use Rattle.tx_core.specs.Worlds.{MayCome, IsWorldRun}
 use Rattle.tx_core.proofs.Basics.{chosen, key_same, some_same, some_of}
 use Rattle.tx_core.proofs.view.View.{Inv, first_within, does_within}
@@ -52,6 +58,23 @@ answered_below bounds (Declared d ∷ h) run p u c before = answered_below bound
 answered_below bounds (Answered t o ∷ h) run p u c before = answered_below bounds h run.0 p u c before
 answered_below bounds (Stopped s ∷ h) run p u c before = answered_below bounds h run.0 p u c before
 answered_below bounds (Took x ∷ h) run p u c before = answered_below bounds h run.0 p u c before
+
+-- what was decided as committed before a number was drawn lies at or below that number
+pub decided_below : (bounds : List Key) (h : History) → IsWorldRun bounds h → (p u c : ℕ) → DecidedBefore h p u c
+    → c ≤ p
+decided_below bounds [] run p u c before = absurd before
+decided_below bounds (Drawn s n ∷ h) run p u c before =
+    elim before [
+      | inl now ↦ (let range =
+          ((run_told bounds h run.0).0.sound.inv.commits u c now.1).range in
+          omega (arith, range.1, run.1, now.0))
+      | inr earlier ↦ decided_below bounds h run.0 p u c earlier
+    ]
+decided_below bounds (Began t ∷ h) run p u c before = decided_below bounds h run.0 p u c before
+decided_below bounds (Declared d ∷ h) run p u c before = decided_below bounds h run.0 p u c before
+decided_below bounds (Answered t o ∷ h) run p u c before = decided_below bounds h run.0 p u c before
+decided_below bounds (Stopped s ∷ h) run p u c before = decided_below bounds h run.0 p u c before
+decided_below bounds (Took x ∷ h) run p u c before = decided_below bounds h run.0 p u c before
 
 -- it stays so
 pub answered_before_on : (l h : History) → Begins l h → (p u c : ℕ) → AnsweredBefore l p u c → AnsweredBefore h p u c
@@ -108,3 +131,44 @@ commits_in_order bounds h t u c e d run stands before end = go (set_at h t) refl
           (i.acceptances t x.key of.0 of.1).after d stands,
           (i.commits t e end).bounds x.key of.0 of.1,
         )
+
+-- a transaction commits above what was decided before it drew the number of its
+-- declaration: the bound of each of its keys lies above that number
+pub decided_in_order : (bounds : List Key) (h : History) (t u c e : ℕ) (d : Declaration) → IsWorldRun bounds h
+    → declared h t ≡ Some d → DecidedBefore h d.drawn u c → decided h t ≡ Done (fate.Committed e) → c < e
+decided_in_order bounds h t u c e d run stands before end = go (set_at h t) refl
+  where
+    i : Inv (view bounds h)
+    i = (run_told bounds h run).0.sound.inv
+
+    go : (set : List Change) → set_at h t ≡ set → c < e
+    go [] none = absurd (declared_some bounds h run t d stands (ap set_of (sym stands) ∙ none))
+    go (x ∷ xs) is =
+        let first : is_first (set_at h t) x.key ≡ true = ap (λ s. is_first s x.key) is ∙ key_same x.key in
+        let does = first_within (declared h) t x.key first in
+        let of = some_of (accepted h t x.key)
+        ((i.commits t e end).accepts x.key (does_within (declared h) t x.key does.0 does.1)) in
+        omega (
+          arith,
+          decided_below bounds h run d.drawn u c before,
+          (i.acceptances t x.key of.0 of.1).after d stands,
+          (i.commits t e end).bounds x.key of.0 of.1,
+        )
+
+-- who starts at such a number sees what it left, or what a later commit left
+pub reads_decided : (bounds : List Key) (h : History) (p u c : ℕ) (k : Key) (m : Mutation) → IsWorldRun bounds h
+    → DecidedBefore h p u c → Commits (table_of (shadow h)).row k u c m → IsVisible m
+    → (n : Mutation) × (seen : Newest (table_of (shadow h)).row k p n) × (c ≤ seen.at)
+reads_decided bounds h p u c k m run before commits visible =
+    let low = decided_below bounds h run p u c before in
+    elim (find_newest (shadow h) (run_told bounds h run).0.sound.run k p) [
+      | inr bare ↦ absurd (bare u c m commits visible low)
+      | inl found ↦ (
+        found.0,
+        found.2,
+        elim (cases_lt found.2.at c) [
+          | inr le ↦ le
+          | inl lt ↦ absurd (found.2.newest u c m commits visible lt low)
+        ],
+      )
+    ]

@@ -131,6 +131,7 @@ inv_first bounds =
       };
       commits = λ t c e. absurd (cc (e));
       unread = λ t k by e. absurd (cc (e));
+      checks = λ t k by e. absurd (cc (e));
       shown = record { undeclared = λ t e. refl; none = λ t k f e. refl; first = λ t k by f e. absurd (cc (e)) };
     }
 

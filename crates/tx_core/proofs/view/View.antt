@@ -223,6 +223,9 @@ pub record Inv (w : View) : Type 0 where
   -- minimum that was shown
   pub unread : (t : ℕ) (k : Key) (by : Acceptance) → w.accepted t k ≡ Some by → w.decided t ≡ Open → (m : Mutation)
       → Does w.declared t k m → IsVisible m → (r : ℕ) → IsRead w.reads k r → (r < bound by) ⊎ (r < w.shown t)
+  -- the check of what an accepted insert puts was a read at its start
+  pub checks : (t : ℕ) (k : Key) (by : Acceptance) → w.accepted t k ≡ Some by → (v : Value)
+      → Inserts w.declared t k v → IsRead w.reads k t
   pub shown : ShownOf w.declared w.accepted w.shown
 
 -- ---- small consequences

@@ -30,8 +30,8 @@ impl<F: Families> Records<F> {
         let key = self.spell(body)?;
         let view = self.view(&key, body)?;
         let copied = self.numbers();
-        let planned = plan(view, &copied, loaded, body);
-        self.make(&key, body, planned)
+        let mut planned = plan(view, &copied, loaded, body);
+        self.make(&key, body, &mut planned)
     }
 
     /// Answers a request of any command, by a seat that loaded `loaded`, with minimums above

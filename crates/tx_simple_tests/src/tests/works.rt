@@ -66,6 +66,8 @@ fn read<T: Tx>(tx: &mut T) -> Result<u8, Stop> {
 }
 
 impl Work for Doing {
+    ghost does = { λ before buffer answer entered after_it. Unit {0} };
+
     fn apply<T: Tx>(&mut self, tx: &mut T) -> Result<(), Stop> {
         self.calls = self.calls.saturating_add(1);
         match self.deed {
@@ -96,6 +98,8 @@ pub struct Contended<'a, J: JournalId, R: Wait> {
 }
 
 impl<'a, J: JournalId, R: Wait> Work for Contended<'a, J, R> {
+    ghost does = { λ before buffer answer entered after_it. Unit {0} };
+
     fn apply<T: Tx>(&mut self, tx: &mut T) -> Result<(), Stop> {
         if let Some(seats) = self.rival.take() {
             let mut wire = Wire::new(self.rt, self.store);

@@ -9,4 +9,5 @@ returns-then-not-is_visible-clause-free c ordered =
 pub returns-in-None-clause-free : goal.returns-in-None-clause-free
 returns-in-None-clause-free c ordered =
     free_seen c.args.index.now c.args.fates.now c.args.reads.now c.args.t c.args.c c.args.change.now
-    (c.in_default.ensures.none ordered) c.in-None.ensures.none (c.is_fresh.ensures.fresh c.if-not-is_fresh.false)
+    (c.in_default.ensures.none ordered) c.in_default-read_from.ensures.none (c.in-None.ensures.none ordered)
+    (c.is_fresh.ensures.fresh c.if-not-is_fresh.false)

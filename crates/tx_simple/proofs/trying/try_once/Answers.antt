@@ -1,33 +1,39 @@
-use Rattle.std.proofs.Common.{◌<◌, sym, subst}
+use Rattle.std.proofs.Common.{◌<◌, Option, refl, sym, subst}
 use Rattle.tx_journal.specs.Known.{Known}
-use Rattle.tx_simple.proofs.Going.{goes_itself, goes_same, goes_more, began_goes}
+use Rattle.tx_simple.specs.declared.stopping.Stop.{Stop}
+use Rattle.tx_simple.specs.Updates.{Works}
+use Rattle.tx_simple.proofs.Going.{goes_itself}
 use Rattle.tx_simple.proofs.Retrying.{ended_over, unended_in}
 use Rattle.tx_simple.proofs.trying.try_once.Goals as goal
 
 pub returns-in-Ok-clause-ended : goal.returns-in-Ok-clause-ended
 returns-in-Ok-clause-ended g c =
-    let seats = c.args.seats in
     let begun = c.in-Ok.session in
-    ended_over g.J.JournalId.bounds seats begun c.run-session.result.1 c.finished.result
-    (c.finished.ensures.ended begun c.run-session.ensures.session)
-    (began_goes g.J.JournalId.bounds seats.begins begun.seat begun.state.start c.in-Ok.ensures.ok.1)
-    c.run-session.ensures.resolver
+    let after = c.run-session.result.0 in
+    ended_over g.W.Work.does g.J.JournalId.bounds c.args.terms.now c.args.seats begun after c.run-session.result.1
+    c.stopped_by.result c.finished.result c.args.work.now c.run-session.new.work c.in-Ok.ensures.ok.1
+    c.run-session.ensures.session
+    (subst
+    (λ (o : Option Stop). Works g.W.Work.does g.J.JournalId.bounds c.args.terms.now begun after o
+        c.args.work.now c.run-session.new.work) (sym c.stopped_by.ensures) c.run-session.ensures.works)
+    c.run-session.ensures.resolver (c.finished.ensures.ended begun c.run-session.ensures.session)
 
 pub returns-in-Ok-clause-unended : goal.returns-in-Ok-clause-unended
 returns-in-Ok-clause-unended g c =
-    let seats = c.args.seats in
     let begun = c.in-Ok.session in
     let after = c.run-session.result.0 in
-    unended_in seats after c.run-session.result.1 c.finished.result c.finished.ensures.open_yet
-    (goes_more seats.begins begun.seat after.seat
-    (began_goes g.J.JournalId.bounds seats.begins begun.seat begun.state.start c.in-Ok.ensures.ok.1)
-    c.run-session.ensures.session.seat)
-    c.run-session.ensures.resolver
+    unended_in g.W.Work.does g.J.JournalId.bounds c.args.terms.now c.args.seats begun after c.run-session.result.1
+    c.stopped_by.result c.finished.result c.args.work.now c.run-session.new.work c.in-Ok.ensures.ok.1
+    c.run-session.ensures.session
+    (subst
+    (λ (o : Option Stop). Works g.W.Work.does g.J.JournalId.bounds c.args.terms.now begun after o
+        c.args.work.now c.run-session.new.work) (sym c.stopped_by.ensures) c.run-session.ensures.works)
+    c.run-session.ensures.resolver c.finished.ensures.open_yet
 
 pub returns-in-Err-clause-unended : goal.returns-in-Err-clause-unended
 returns-in-Err-clause-unended g c =
-    let seats = c.args.seats in
     let spent = c.in-Err.ensures.spent in (
-      (goes_same seats.begins c.in-Err.begins spent.0, goes_itself seats.resolves),
+      (spent.0, refl),
+      goes_itself c.args.seats.resolves,
       subst (λ (k : Known). k.ticks < 1) (sym spent.0) spent.1,
     )

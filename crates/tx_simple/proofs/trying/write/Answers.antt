@@ -35,3 +35,11 @@ returns-clause-session g c =
     (declares_goes g.J.JournalId.bounds old.seat new.seat
     (declaration old.state.start new.state.placed old.state.buffer c.args.terms.now) ok.2)
     (ap (λ (z : SessionState). z.start) ok.1) (c.in_default.ensures.after_told some) c.carry.ensures.session
+
+pub returns-then-not-has_primary-clause-wrote : goal.returns-then-not-has_primary-clause-wrote
+returns-then-not-has_primary-clause-wrote g c = record {
+  placed = c.declare.new.self.state.placed;
+  after = c.declare.new.self.seat;
+  declares = c.in_default.ensures.ok.2;
+  goes = goes_itself c.declare.new.self.seat;
+}

@@ -1,6 +1,7 @@
-use Rattle.tx_simple.specs.Endings.{GoOn}
+use Rattle.tx_simple.proofs.Retrying.{InVain}
 use Rattle.tx_simple.proofs.updating.update.Given as goal
 
--- each try so far was without effect
+-- each try so far came to nothing
 abbrev pub invariant-loop-try : goal.invariant-loop-try
-invariant-loop-try g l = GoOn l.fn.seats l.seats
+invariant-loop-try g l =
+    InVain g.W.Work.does g.J.JournalId.bounds l.fn.terms l.fn.seats l.fn.work l.seats l.work
