@@ -3,3 +3,4 @@ pub mod AllRuns
 pub mod Consequences
 pub mod CommitOrder
 pub mod Inserts
+pub mod EventSteps

@@ -23,6 +23,7 @@ use Rattle.tx_core.specs.Shadow.{shadow}
 use Rattle.tx_core.proofs.Basics.{key_test, nat_test}
 use Rattle.tx_core.proofs.seats.Staying.{last_was}
 use Rattle.tx_core.proofs.examples.Words.{a, x, unrolled, decides}
+use Rattle.tx_core.specs.Happens.{Happens, DropsRecords}
 
 abbrev deletes : Declaration
 deletes = record {
@@ -308,3 +309,12 @@ pub shadow_of_it : shadow (Took lock_late ∷ collected) ≡ step.Draw 6 ∷ ste
     ∷ step.Draw 5 ∷ step.Begin 4 ∷ step.Draw 4 ∷ step.Commit 1 3 ∷ step.Draw 3 ∷ step.Declare 1 deletes.changes
     ∷ step.Draw 2 ∷ step.Begin 1 ∷ step.Draw 1 ∷ []
 shadow_of_it = refl
+
+pub drops_records : Happens DropsRecords
+drops_records = (
+  [],
+  full,
+  collect,
+  (((((second_run, rolls), omega arith), raises), collects)),
+  record { b = _; asked = refl; records = 2; values = 0; answer = refl; some = omega arith },
+)

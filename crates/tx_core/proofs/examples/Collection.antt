@@ -18,6 +18,7 @@ use Rattle.tx_plan.specs.cases.LocksBelow.{IsLockBelow}
 use Rattle.tx_core.specs.Histories.{left}
 use Rattle.tx_core.proofs.Basics.{key_test, nat_test}
 use Rattle.tx_core.proofs.examples.MarkedRollback.{commit_first, roll_second, both_declared, both_ok, rolls_second, commits_first}
+use Rattle.tx_core.specs.Happens.{Happens, ReadsBesideCollection}
 
 abbrev committed_run : History
 committed_run = Took commit_first ∷ Took roll_second ∷ both_declared
@@ -139,3 +140,21 @@ collection_refuses_reads_below = ((((rollback_committed, raises), collects), rea
   where
     rollback_committed : IsWorldRun [] (Took commit_first ∷ Took roll_second ∷ both_declared)
     rollback_committed = ((both_ok, rolls_second), commits_first)
+
+pub reads_beside_collection : Happens ReadsBesideCollection
+reads_beside_collection = (
+  [],
+  Took get_low ∷ collected_run,
+  get_high,
+  collection_refuses_reads_below,
+  record {
+    b = _;
+    asked = refl;
+    found = x;
+    answer = refl;
+    collected = refl;
+    low = get_low;
+    before = inl refl;
+    refused = (refl, refl);
+  },
+)

@@ -17,6 +17,7 @@ use Rattle.tx_core.proofs.examples.Words.{a, x, none, unrolled, start_of, decide
 use Rattle.std.specs.List.{slice_index_or}
 use Rattle.tx_plan.specs.Cells.{Lock, info_of}
 use Rattle.tx_core.specs.Allowed.{MayPass}
+use Rattle.tx_core.specs.Happens.{Happens, PushesMinimum}
 
 abbrev put : Declaration
 put = record {
@@ -286,3 +287,20 @@ pub shadow_of_push : shadow (Took commit_high ∷ again) ≡ step.Commit 1 5 ∷
     ∷ step.Begin 4 ∷ step.Draw 4 ∷ step.Draw 3 ∷ step.Declare 1 put.changes ∷ step.Draw 2 ∷ step.Begin 1 ∷ step.Draw 1
     ∷ []
 shadow_of_push = refl
+
+pub pushes_minimum : Happens PushesMinimum
+pushes_minimum = (
+  [],
+  Took get_blocked ∷ reader,
+  pushes,
+  ((reader_run, blocked), pushing),
+  record {
+    b = _;
+    asked = refl;
+    before = locked_at 2;
+    was = refl;
+    after = locked_at 5;
+    is = refl;
+    raised = omega arith;
+  },
+)
