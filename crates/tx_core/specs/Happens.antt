@@ -1,5 +1,5 @@
 -- What happens in some world run: of the events before, and the request that a region takes next.
-use Rattle.std.specs.Prelude.{◌≡◌, ℕ, ◌<◌, true, List, ◌∷◌, Some}
+use Rattle.std.specs.Prelude.{◌≡◌, ◌≢◌, ℕ, ◌<◌, true, List, ◌∷◌, Some, None}
 use Rattle.tx_types.specs.declared.key.Key.{Key}
 use Rattle.tx_types.specs.declared.value.Value.{Value}
 use Rattle.tx_types.specs.declared.mutation.Mutation.TheVariants.{Insert, Delete}
@@ -116,14 +116,14 @@ pub record FindsByStatus (h : History) (x : Taken) : Type 0 where
 
 -- ---- collection
 
--- a collection drops records
-pub record DropsRecords (h : History) (x : Taken) : Type 0 where
+-- a collection drops a record
+pub record DropsRecord (h : History) (x : Taken) : Type 0 where
   pub b : Collect
   pub asked : x.body ≡ body.Collect b
-  pub records : ℕ
-  pub values : ℕ
-  pub answer : x.answer ≡ reply.Collected records values
-  pub some : 0 < records
+  pub key : Key
+  pub at : ℕ
+  pub there : ((left h x.region).cells key).write at ≢ None
+  pub gone : ((left (Took x ∷ h) x.region).cells key).write at ≡ None
 
 -- beside a collection one read is refused, and one at the safe point finds its value
 pub record ReadsBesideCollection (h : History) (x : Taken) : Type 0 where

@@ -3,7 +3,7 @@
 ghost use Rattle.std.specs.Prelude.{◌≡◌, ℕ, List};
 ghost use Rattle.tx_core.specs.Decisions.{decided};
 ghost use Rattle.tx_core.specs.EventSteps.{AreStepsOf};
-ghost use Rattle.tx_core.specs.Happens.{Happens, CommitsInTwoPhases, CommitsByLatePrewrite, CommitsAfterFallBack, PushesMinimum, AbortsByStatus, AbortsBySecondary, OverlapsRollback, FindsCommit, FindsByStatus, DropsRecords, ReadsBesideCollection, CommitsInsert, RefusesInsert, InsertsOverDelete, ScanMeetsLock};
+ghost use Rattle.tx_core.specs.Happens.{Happens, CommitsInTwoPhases, CommitsByLatePrewrite, CommitsAfterFallBack, PushesMinimum, AbortsByStatus, AbortsBySecondary, OverlapsRollback, FindsCommit, FindsByStatus, DropsRecord, ReadsBesideCollection, CommitsInsert, RefusesInsert, InsertsOverDelete, ScanMeetsLock};
 ghost use Rattle.tx_core.specs.Histories.{History};
 ghost use Rattle.tx_core.specs.Shadow.{shadow};
 ghost use Rattle.tx_core.specs.Truth.{AllTrue, HasEnded};
@@ -40,7 +40,7 @@ pub fn runs_exist()
     ensures overlap { Happens OverlapsRollback }
     ensures commit_again { Happens FindsCommit }
     ensures told_again { Happens FindsByStatus }
-    ensures collection { Happens DropsRecords }
+    ensures collection { Happens DropsRecord }
     ensures beside_collection { Happens ReadsBesideCollection }
     ensures insert { Happens CommitsInsert }
     ensures refused_insert { Happens RefusesInsert }
