@@ -2,4 +2,5 @@ pub mod Events
 pub mod AllRuns
 pub mod Consequences
 pub mod CommitOrder
-pub mod Inserts
+pub mod ReadOnly
+pub mod Truths
