@@ -28,7 +28,7 @@ abbrev pub inserted : History
 inserted = Took (commit_key 1 3) ∷ locked
 
 begun_run : IsWorldRun [] (begins 1 (Insert x) [])
-begun_run = begins_run 1 (Insert x) [] tt (omega arith) refl refl
+begun_run = begins_run 1 (Insert x) [] tt (omega arith) refl refl refl
 
 locked_run : IsWorldRun [] locked
 locked_run = (
@@ -114,7 +114,7 @@ inserted_below t above c rec e = elim (nat_test 3 c) [
 ]
 
 second_run : IsWorldRun [] second
-second_run = begins_run 4 (Insert x) inserted inserted_run (omega arith) refl refl
+second_run = begins_run 4 (Insert x) inserted inserted_run (omega arith) refl refl refl
 
 has_value : HasValue ((left second 0).cells a).write 4
 has_value = (
@@ -153,7 +153,7 @@ deleted_run : IsWorldRun [] deleted
 deleted_run = (
   (
     (
-      begins_run 4 Delete inserted inserted_run (omega arith) refl refl,
+      begins_run 4 Delete inserted inserted_run (omega arith) refl refl refl,
       locks (begins 4 Delete inserted) 4 Delete refl refl refl refl (inserted_below 4 (omega arith)) refl
           (λ fresh. absurd fresh.0),
     ),
@@ -187,7 +187,7 @@ pub reinserted_run : IsWorldRun [] reinserted
 reinserted_run = (
   (
     (
-      begins_run 7 (Insert x) deleted deleted_run (omega arith) refl refl,
+      begins_run 7 (Insert x) deleted deleted_run (omega arith) refl refl refl,
       locks (begins 7 (Insert x) deleted) 7 (Insert x) refl refl refl refl deleted_below refl (λ fresh. no_value fresh.1),
     ),
     omega arith,

@@ -14,7 +14,7 @@ use Rattle.tx_machine.specs.Machine.{Done}
 use Rattle.tx_core.specs.declared.event.Declaration.{Declaration}
 use Rattle.tx_core.specs.declared.event.Taken.{Taken}
 use Rattle.tx_core.specs.declared.event.Event.TheVariants.{Drawn, Began, Declared, Took}
-use Rattle.tx_core.specs.Histories.{History, last, drawer, began, declared, set_of, left}
+use Rattle.tx_core.specs.Histories.{History, last, drawer, began, declared, answered, set_of, left}
 use Rattle.tx_core.specs.Decisions.{Acceptance, accepted, decided}
 use Rattle.tx_core.specs.Allowed.{MayDecide}
 use Rattle.tx_core.specs.Worlds.{IsWorldRun, MayTake}
@@ -64,11 +64,12 @@ commit_key t c = record {
 
 -- it begins and declares
 pub begins_run : (t : ℕ) (m : Mutation) (h : History) → IsWorldRun [] h → last h < t → began h t ≡ false
-    → declared h t ≡ None → IsWorldRun [] (begins t m h)
-begins_run t m h run low unbegun undeclared = (
+    → declared h t ≡ None → answered h t ≡ false → IsWorldRun [] (begins t m h)
+begins_run t m h run low unbegun undeclared unanswered = (
   (((run, low), (λ e. (cc (drew, e)), unbegun)), omega arith),
   record {
     begun = began_now;
+    unanswered = unanswered;
     once = undeclared;
     some = λ e. (cc (e));
     distinct = (refl, tt);

@@ -34,7 +34,7 @@ locked = Drawn 2 3 ∷ Took (lock_key 1 (Put x) (Prewritten 0)) ∷ begins 1 (Pu
 locked_run : IsWorldRun [] locked
 locked_run = (
   (
-    begins_run 1 (Put x) [] tt (omega arith) refl refl,
+    begins_run 1 (Put x) [] tt (omega arith) refl refl refl,
     locks (begins 1 (Put x) []) 1 (Put x) refl refl refl refl (λ c rec e. (cc (e))) refl (λ fresh. absurd fresh.0),
   ),
   omega arith,
