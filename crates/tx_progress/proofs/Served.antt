@@ -37,7 +37,7 @@ pub record SettlesBy {S : Type 0} (sends : S → Asked → Reached → S → Typ
     (met : LockInfo) (at now : ℕ) : Type 0 where
   pub so : (old new : Known) (a b : S) (found : Status) → (sent : Sends sends bounds old a w found b new)
       → AllServed sends bounds old a w found b new sent → at ≤ last old.events → met.start + met.ttl < now
-      → IsSettled at found ⊎ LivesOn new.events met at now
+      → IsSettled new.events met at found ⊎ LivesOn new.events met at now
 
 -- a lock was told of
 told_of : (h : History) (b : Body) (info : LockInfo) → WasAnswered h b (answer.Locked info) → WasToldOf h info
@@ -57,22 +57,24 @@ module _ {S : Type 0} (sends : S → Asked → Reached → S → Type 0) (bounds
   -- whatever this walk is sent as, it settles
   abbrev Sure : Known → S → Walk Status → Known → S → Status → Type 0
   Sure k from w new to found = (sent : Sends sends bounds k from w found to new)
-      → AllServed sends bounds k from w found to new sent → IsSettled at found
+      → AllServed sends bounds k from w found to new sent → IsSettled new.events met at found
 
   -- ---- the lock that was met
 
-  fate_sure : (end : Fate) → IsSettled at (status_of end)
-  fate_sure (fate.Committed c) = tt
-  fate_sure fate.Aborted = tt
+  fate_sure : (h : History) (end : Fate) → WasAnswered h (settle_of met end) answer.Resolved
+      → IsSettled h met at (status_of end)
+  fate_sure h (fate.Committed c) was = was
+  fate_sure h fate.Aborted was = was
 
   settled_sure : (by new : History) (end : Fate) (c : Response)
       → ((x : Answer) → c ≡ response.Answered x → Came by new (settle_of met end) x) → IsServed c
-      → IsSettled at (settled_by end c)
+      → IsSettled new met at (settled_by end c)
   settled_sure by new end response.Lost came served = absurd served
   settled_sure by new end response.OutOfMemory came served = absurd served
   settled_sure by new end (response.Answered a) came served =
       elim (resolves by new met.key met.start end a (came a refl)) [
-        | inl e ↦ subst (λ x. IsSettled at (settled_by end (response.Answered x))) (sym e) (fate_sure end)
+        | inl e ↦ subst (λ x. IsSettled new met at (settled_by end (response.Answered x))) (sym e)
+            (fate_sure new end (subst (WasAnswered new (settle_of met end)) e (came a refl).was))
         | inr below ↦ absurd (not_below a below served)
       ]
 
@@ -80,7 +82,7 @@ module _ {S : Type 0} (sends : S → Asked → Reached → S → Type 0) (bounds
       → Sure k from (settle_walk met end) new to found
   settle_sure end k new from to found (inl short) served = absurd served
   settle_sure end k new from to found (inr (reached, mid, then_known, sent, learns, (is, here, last))) served =
-      subst (IsSettled at) (sym is)
+      subst (λ (z : Known × Status). IsSettled z.0.events met at z.1) (λ j. (sym last j, sym is j))
       (settled_sure k.events then_known.events end (response_of reached)
       (λ x e. came sends bounds asked k then_known from mid (settle_of met end) reached x sent learns e) served.0)
 
@@ -132,7 +134,7 @@ module _ {S : Type 0} (sends : S → Asked → Reached → S → Type 0) (bounds
         (elim is.lets [
           | inl lt ↦ subst (λ o. Sure k from (after_forced met (standing_by info o)) new to found)
               (sym (pushed_by info (above info lt)))
-              (λ sent served. subst (IsSettled at) (sym sent.0) (above info lt))
+              (λ sent served. subst (IsSettled new.events met at) (sym sent.0) (above info lt))
           | inr x ↦ absurd (cc (x.1))
         ])
 
@@ -201,7 +203,7 @@ module _ {S : Type 0} (sends : S → Asked → Reached → S → Type 0) (bounds
     module _ (time : (info : LockInfo) → is_over who info ≡ nat_lt (info.start + info.ttl) now) where
       abbrev Comes : Known → S → Walk Status → Known → S → Status → Type 0
       Comes k from w new to found = (sent : Sends sends bounds k from w found to new)
-          → AllServed sends bounds k from w found to new sent → IsSettled at found ⊎ LivesOn new.events met at now
+          → AllServed sends bounds k from w found to new sent → IsSettled new.events met at found ⊎ LivesOn new.events met at now
 
       -- what follows the lock of the primary
       abbrev Stands : Known → S → Known → S → Status → LockInfo → Option Status → Type 0
@@ -220,7 +222,7 @@ module _ {S : Type 0} (sends : S → Asked → Reached → S → Type 0) (bounds
           → Stands k from new to found info
           (cond p (Some (status.Pushed info.min)) (cond q None (Some (status.Waiting cause.Live))))
       stands_by k new from to found info le told own key async true q e f =
-          λ sent served. inl (subst (IsSettled at) (sym sent.0) (ltb-true at info.min e))
+          λ sent served. inl (subst (IsSettled new.events met at) (sym sent.0) (ltb-true at info.min e))
       stands_by k new from to found info le told own key async false true e f =
           λ sent served. inl (others_sure info.secondaries info.min k new from to found le sent served)
       stands_by k new from to found info le told own key async false false e f =
@@ -241,7 +243,7 @@ module _ {S : Type 0} (sends : S → Asked → Reached → S → Type 0) (bounds
       lock_comes k new from to found info le told is =
           elim is.lets [
             | inl lt ↦ subst (Stands k from new to found info) (sym (pushed_by info (above info lt)))
-                (λ sent served. inl (subst (IsSettled at) (sym sent.0) (above info lt)))
+                (λ sent served. inl (subst (IsSettled new.events met at) (sym sent.0) (above info lt)))
             | inr x ↦ subst (Stands k from new to found info) (sym (rests_is info _ _ refl refl x.0))
                 (stands_by k new from to found info le told is.own is.key x.0 _ _ refl refl)
           ]

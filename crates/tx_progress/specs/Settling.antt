@@ -3,6 +3,7 @@ use Rattle.std.specs.Prelude.{◌≡◌, ◌⊎◌, ℕ, ◌+◌, ◌<◌, ◌�
 use Rattle.std.proofs.Common.{inl, inr}
 use Rattle.tx_types.specs.declared.key.Key.{Key}
 use Rattle.tx_types.specs.declared.lock.LockInfo.{LockInfo}
+use Rattle.tx_types.specs.declared.mutation.Fate.TheVariants as fate
 use Rattle.tx_types.specs.declared.mutation.Mode.TheVariants.{Async}
 use Rattle.tx_plan.specs.declared.answer.Answer.TheVariants as answer
 use Rattle.tx_core.specs.Histories.{History, last}
@@ -14,8 +15,10 @@ use Rattle.tx_transaction.specs.declared.state.Response.{Response}
 use Rattle.tx_transaction.specs.declared.state.Response.TheVariants as response
 use Rattle.tx_client.specs.declared.resolved.Status.{Status}
 use Rattle.tx_client.specs.declared.resolved.Status.TheVariants as status
+use Rattle.tx_client.specs.Facts.{WasAnswered}
 use Rattle.tx_client.specs.Learns.{response_of}
 use Rattle.tx_client.specs.Walks.{Walk, asks, grows, ends, Sends}
+use Rattle.tx_resolve.specs.Resolving.{settle_of}
 use Rattle.tx_resolve.specs.Reading.{read_walk}
 
 -- a request is answered, and not refused below a safe point
@@ -35,12 +38,13 @@ module _ {S R : Type 0} (sends : S → Asked → Reached → S → Type 0) (boun
   AllServed k from (asks body more) result to new (reached, mid, then_known, sent, learns, rest) =
       IsServed (response_of reached) × AllServed then_known mid (more (response_of reached)) result to new rest
 
--- what a read at a timestamp does not wait for: a fate, or a push above it
-abbrev pub IsSettled : ℕ → Status → Type 0
-IsSettled at (status.Committed c) = Unit {0}
-IsSettled at status.Aborted = Unit {0}
-IsSettled at (status.Pushed m) = at < m
-IsSettled at (status.Waiting why) = ⊥
+-- What a read at a timestamp does not wait for: a fate, which the lock that was met was answered to
+-- have got, or a push above the read.
+abbrev pub IsSettled : History → LockInfo → ℕ → Status → Type 0
+IsSettled h met at (status.Committed c) = WasAnswered h (settle_of met (fate.Committed c)) answer.Resolved
+IsSettled h met at status.Aborted = WasAnswered h (settle_of met fate.Aborted) answer.Resolved
+IsSettled h met at (status.Pushed m) = at < m
+IsSettled h met at (status.Waiting why) = ⊥
 
 -- The async lock of its transaction on its primary was shown: it does not let a read at a timestamp
 -- pass, and its time is not over.
@@ -60,7 +64,7 @@ SettlesUnlessAlive {S} bounds sends =
     (old new : Known) (a b : S) (met : LockInfo) (at now : ℕ) (found : Status)
     → (sent : Sends sends bounds old a (read_walk met at now) found b new)
     → AllServed sends bounds old a (read_walk met at now) found b new sent → at ≤ last old.events
-    → met.start + met.ttl < now → IsSettled at found ⊎ LivesOn new.events met at now
+    → met.start + met.ttl < now → IsSettled new.events met at found ⊎ LivesOn new.events met at now
 
 -- So where the time of each of its transaction's locks on its primary that was shown is over too,
 -- it settles.
@@ -71,4 +75,4 @@ Settles {S} bounds sends =
     → AllServed sends bounds old a (read_walk met at now) found b new sent → at ≤ last old.events
     → met.start + met.ttl < now
     → ((info : LockInfo) → WasToldOf new.events info → info.start ≡ met.start → info.key ≡ met.primary
-    → info.start + info.ttl < now) → IsSettled at found
+    → info.start + info.ttl < now) → IsSettled new.events met at found
