@@ -1,5 +1,5 @@
 -- How many requests each call sends.
-use Rattle.std.proofs.Common.{◌≡◌, ◌<◌, ◌≤◌, ◌+◌, ◌-◌, ◌*◌, inl, inr, ℕ, zero, suc, List, [], ◌∷◌, ◌++◌, length, nat_lt, Option, Some, None, Result, Ok, Err, refl, sym, subst, arith}
+use Rattle.std.proofs.Common.{◌≡◌, ◌<◌, ◌≤◌, ◌+◌, ◌-◌, ◌*◌, inl, inr, ℕ, zero, suc, List, [], ◌∷◌, ◌++◌, length, nat_lt, Option, Some, None, Result, Ok, Err, refl, sym, subst, arith, ◌&&◌, cond, Bool, true, false, ap}
 use Rattle.std.proofs.Math.Nat.{suc-mul}
 use Rattle.std.proofs.lemmas.Bool.{cases_Bool}
 use Rattle.tx_types.specs.declared.key.Key.{Key}
@@ -24,8 +24,10 @@ use Rattle.tx_transaction.specs.Buffers.{buffered}
 use Rattle.tx_transaction.specs.Returns.{read}
 use Rattle.tx_transaction.specs.Sessions.{SessionState, after_read}
 use Rattle.tx_client.specs.declared.resolved.Status.{Status}
+use Rattle.tx_client.specs.declared.resolved.Status.TheVariants as status
+use Rattle.tx_client.specs.declared.resolved.WaitCause.TheVariants as cause
 use Rattle.tx_client.specs.Walks.{Walk, then_walk, due_walk, heartbeat_walk, get_by, get_walk, lesser, greater, part_by, part_walk, scan_after, scan_from, scan_walk}
-use Rattle.tx_resolve.specs.Resolving.{rests_by, standing_by, primary_by, settle_walk, other_by, further, others_walk, after_forced, forced_walk, after_others, after_primary, resolve_walk}
+use Rattle.tx_resolve.specs.Resolving.{is_over, lets_pass, is_async, rests_by, standing_by, primary_by, settle_walk, other_by, further, others_walk, after_forced, forced_walk, after_others, after_primary, resolve_walk}
 use Rattle.tx_resolve.specs.Reading.{read_walk}
 use Rattle.tx_resolve.specs.declared.collector.Counts.{Counts}
 use Rattle.tx_resolve.specs.Collecting.{on_ok, in_regions, listed_by, raise_walk, locks_walk, clear_walk, collect_walk, raises_walk, clears_walk, collects_walk, gc_walk}
@@ -160,10 +162,25 @@ module _ (locks most : ℕ) where
   standing_few met who info few None = others_few met who info.secondaries info.min (most + 2) (omega (arith, few))
   standing_few met who info few (Some found) = tt
 
+  two_phase_few : (met : LockInfo) (who : _) (info : LockInfo) (b : Bool) (x y : Status)
+      → AtMost (Lists locks most) (most + 2) (after_primary met who (standing_by info (cond b (Some x) (Some y))))
+  two_phase_few met who info true x y = tt
+  two_phase_few met who info false x y = tt
+
+  primary_few : (met : LockInfo) (who : _) (info : LockInfo) → (info.mode ≡ Async → length info.secondaries ≤ most)
+      → (m : Mode) → info.mode ≡ m
+      → AtMost (Lists locks most) (most + 2) (after_primary met who (standing_by info (rests_by who info)))
+  primary_few met who info few Async e = standing_few met who info (few e) (rests_by who info)
+  primary_few met who info few TwoPhase e =
+      subst (λ o. AtMost (Lists locks most) (most + 2) (after_primary met who (standing_by info o)))
+      (sym (ap (λ m. cond (lets_pass who info.min) (Some (status.Pushed info.min))
+      (cond (is_async m && is_over who info) None (Some (status.Waiting cause.Live)))) e))
+      (two_phase_few met who info (lets_pass who info.min) (status.Pushed info.min) (status.Waiting cause.Live))
+
   pub after_primary_few : (met : LockInfo) (who : _) (c : Response) → Lists locks most c
       → AtMost (Lists locks most) (most + 2) (after_primary met who (primary_by who c))
   after_primary_few met who (response.Answered (answer.Locked info)) few =
-      standing_few met who info few (rests_by who info)
+      primary_few met who info few info.mode refl
   after_primary_few met who (response.Answered (answer.Committed c)) few =
       settle_few met (fate.Committed c) (most + 2) (omega arith)
   after_primary_few met who (response.Answered answer.RolledBack) few = settle_few met fate.Aborted (most + 2) (omega arith)

@@ -1,7 +1,11 @@
 //! How many requests each call sends.
-ghost use Rattle.std.specs.Prelude.{ℕ, ◌+◌, ◌*◌, List, Option, length};
+ghost use Rattle.std.specs.Prelude.{◌≡◌, ℕ, ◌+◌, ◌*◌, ◌<◌, List, Option, length};
 ghost use Rattle.tx_types.specs.declared.key.Key.{Key};
 ghost use Rattle.tx_types.specs.declared.lock.LockInfo.{LockInfo};
+ghost use Rattle.tx_types.specs.declared.mutation.Mode.TheVariants.{Async};
+ghost use Rattle.tx_core.specs.Histories.{History, set_at};
+ghost use Rattle.tx_core.specs.Laws.{WasToldOf};
+ghost use Rattle.tx_core.specs.Worlds.{IsWorldRun};
 ghost use Rattle.tx_transaction.specs.declared.state.Due.{Due};
 ghost use Rattle.tx_transaction.specs.declared.state.Phase.{Phase};
 ghost use Rattle.tx_transaction.specs.Sessions.{SessionState};
@@ -12,7 +16,7 @@ ghost use Rattle.tx_progress.specs.Requests.{AtMost, AnyResponse, Lists};
 
 /// Each call sends at most so many requests: prewrite, commit, abort, a heartbeat and a get one; a
 /// scan one to each region; a resolver one for each other key that the primary's lock lists, and
-/// three more; a collection three to each region, and for each lock that a region lists those of a
+/// three more, so at most two more than its transaction has keys; a collection three to each region, and for each lock that a region lists those of a
 /// resolver. It is so whatever is lost or refused, and whatever else comes of them.
 pub fn requests_are_few()
     ensures phases { (s : SessionState) (x : Phase) (due : Option Due) → AtMost AnyResponse 1 (due_walk s x due) }
@@ -22,6 +26,8 @@ pub fn requests_are_few()
         → AtMost AnyResponse (length bounds + 1) (scan_walk s bounds from to limit) }
     ensures resolve { (met : LockInfo) (at now locks others : ℕ)
         → AtMost (Lists locks others) (others + 3) (read_walk met at now) }
+    ensures lists { (bounds : List Key) (h : History) (info : LockInfo) → IsWorldRun bounds h → WasToldOf h info
+        → info.mode ≡ Async → length info.secondaries < length (set_at h info.start) }
     ensures gc { (bounds : List Key) (safe locks others : ℕ)
         → AtMost (Lists locks others) ((length bounds + 1) * (locks * (others + 3) + 3)) (gc_walk bounds safe) }
 {}

@@ -1,4 +1,5 @@
 use Rattle.tx_progress.proofs.Calls.{scan_few, read_few, gc_few}
+use Rattle.tx_progress.proofs.Listing.{lists_fewer}
 use Rattle.tx_progress.proofs.requests.requests_are_few.Goals as goal
 
 pub returns-clause-scan : goal.returns-clause-scan
@@ -9,3 +10,6 @@ returns-clause-resolve c met at now locks others = read_few locks others met at 
 
 pub returns-clause-gc : goal.returns-clause-gc
 returns-clause-gc c bounds safe locks others = gc_few locks others bounds safe
+
+pub returns-clause-lists : goal.returns-clause-lists
+returns-clause-lists c = lists_fewer
