@@ -15,9 +15,11 @@ ghost use Rattle.tx_resolve.specs.Collecting.{gc_walk};
 ghost use Rattle.tx_progress.specs.Requests.{AtMost, AnyResponse, Lists};
 
 /// Each call sends at most so many requests: prewrite, commit, abort, a heartbeat and a get one; a
-/// scan one to each region; a resolver one for each other key that the primary's lock lists, and
-/// three more, so at most two more than its transaction has keys; a collection three to each region, and for each lock that a region lists those of a
-/// resolver. It is so whatever is lost or refused, and whatever else comes of them.
+/// scan one to each region; a resolver one for each other key that the primary's async lock lists,
+/// and three more; a collection three to each region, and for each lock that a region lists those
+/// of a resolver. It is so whatever is lost or refused, and whatever else comes of them. An async
+/// lock that was told lists fewer keys than its transaction has, so a resolver sends at most two
+/// requests more than those.
 pub fn requests_are_few()
     ensures phases { (s : SessionState) (x : Phase) (due : Option Due) → AtMost AnyResponse 1 (due_walk s x due) }
     ensures heartbeat { (s : SessionState) (ttl : ℕ) → AtMost AnyResponse 1 (heartbeat_walk s ttl) }
