@@ -138,8 +138,10 @@ module _ (locks most : ℕ) where
     other_few : (who : _) (least : ℕ) (more : ℕ → Walk _)
         → ((least : ℕ) → AtMost (Lists locks most) n (then_walk (more least) (after_others met who))) → (c : Response)
         → AtMost (Lists locks most) n (then_walk (further least more (other_by c)) (after_others met who))
-    other_few who least more few (response.Answered (answer.Locked info)) = mode_few who info least more few info.mode refl
-    other_few who least more few (response.Answered (answer.Committed c)) = settle_few met (fate.Committed c) n (omega (arith, le))
+    other_few who least more few (response.Answered (answer.Locked info)) =
+        mode_few who info least more few info.mode refl
+    other_few who least more few (response.Answered (answer.Committed c)) =
+        settle_few met (fate.Committed c) n (omega (arith, le))
     other_few who least more few (response.Answered answer.Missing) = settle_few met fate.Aborted n (omega (arith, le))
     other_few who least more few _ = tt
 
@@ -183,7 +185,8 @@ module _ (locks most : ℕ) where
       primary_few met who info few info.mode refl
   after_primary_few met who (response.Answered (answer.Committed c)) few =
       settle_few met (fate.Committed c) (most + 2) (omega arith)
-  after_primary_few met who (response.Answered answer.RolledBack) few = settle_few met fate.Aborted (most + 2) (omega arith)
+  after_primary_few met who (response.Answered answer.RolledBack) few =
+      settle_few met fate.Aborted (most + 2) (omega arith)
   after_primary_few met who _ few = tt
 
   resolve_few : (met : LockInfo) (who : _) → AtMost (Lists locks most) (most + 3) (resolve_walk met who)

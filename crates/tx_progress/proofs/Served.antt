@@ -88,7 +88,8 @@ module _ {S : Type 0} (sends : S → Asked → Reached → S → Type 0) (bounds
 
   -- ---- the primary
 
-  module _ (who : _) (caller : caller_of who ≡ at) (lets : (m : ℕ) → lets_pass who m ≡ nat_lt at m) (over : is_over who met
+  module _ (who : _) (caller : caller_of who ≡ at) (lets : (m : ℕ)
+      → lets_pass who m ≡ nat_lt at m) (over : is_over who met
       ≡ true) where
     abbrev check_body : Bool → CheckTxnStatus
     check_body forced = record {
@@ -151,7 +152,8 @@ module _ {S : Type 0} (sends : S → Asked → Reached → S → Type 0) (bounds
     forced_sure k new from to found le (inl short) served = absurd served
     forced_sure k new from to found le (inr (reached, mid, then_known, sent, learns, rest)) served =
         after_forced_sure then_known new mid to found k.events then_known.events (response_of reached)
-        (λ x e. came sends bounds asked k then_known from mid (check_of met who true) reached x sent learns e) le served.0
+        (λ x e. came sends bounds asked k then_known from mid (check_of met who true) reached x sent learns e) le
+        served.0
         rest served.1
 
     -- ---- the other keys
@@ -203,7 +205,8 @@ module _ {S : Type 0} (sends : S → Asked → Reached → S → Type 0) (bounds
     module _ (time : (info : LockInfo) → is_over who info ≡ nat_lt (info.start + info.ttl) now) where
       abbrev Comes : Known → S → Walk Status → Known → S → Status → Type 0
       Comes k from w new to found = (sent : Sends sends bounds k from w found to new)
-          → AllServed sends bounds k from w found to new sent → IsSettled new.events met at found ⊎ LivesOn new.events met at now
+          → AllServed sends bounds k from w found to new sent
+          → IsSettled new.events met at found ⊎ LivesOn new.events met at now
 
       -- what follows the lock of the primary
       abbrev Stands : Known → S → Known → S → Status → LockInfo → Option Status → Type 0
