@@ -1,3 +1,4 @@
 pub mod Meeting
 pub mod Updates
 pub mod Endings
+pub mod Reads
