@@ -2,3 +2,4 @@ pub mod Meeting
 pub mod Updates
 pub mod Endings
 pub mod Reads
+pub mod Stops
