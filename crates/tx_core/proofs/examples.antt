@@ -1,15 +1,18 @@
 -- World runs that there are, with what is decided in them and the machine's steps
 -- that are read off.
-mod Words
-mod RaisedMinimum
-mod CommitThenRead
-mod FallingBack
-mod PushThenPass
-mod MarkedRollback
-mod Collection
-mod CollectedRollback
-mod LimitedScan
-mod StatusAborts
-mod Resolver
-mod OrderedCommits
-mod InsertReads
+pub mod Words
+pub mod RaisedMinimum
+pub mod CommitThenRead
+pub mod FallingBack
+pub mod PushThenPass
+pub mod MarkedRollback
+pub mod Collection
+pub mod CollectedRollback
+pub mod LimitedScan
+pub mod StatusAborts
+pub mod Resolver
+pub mod OrderedCommits
+pub mod InsertReads
+pub mod OneKey
+pub mod Inserts
+pub mod ScanMeetsLock

@@ -2,4 +2,6 @@ pub mod Events
 pub mod AllRuns
 pub mod Consequences
 pub mod CommitOrder
-pub mod Inserts
+pub mod ReadOnly
+pub mod Truths
+pub mod EventSteps

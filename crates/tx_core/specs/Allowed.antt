@@ -115,6 +115,4 @@ Allowed h (body.TxnHeartBeat b) = declared h b.start ≢ None
 Allowed h (body.CheckTxnStatus b) = AllowsCheckTxnStatus h b
 Allowed h (body.CheckSecondaryLocks b) = AllowsCheckSecondaryLocks h b
 Allowed h (body.ResolveLock b) = AllowsResolveLock h b
-Allowed h (body.RaiseSafe b) = Unit {0}
-Allowed h (body.LocksBelow b) = Unit {0}
-Allowed h (body.Collect b) = Unit {0}
+Allowed h _ = Unit {0}

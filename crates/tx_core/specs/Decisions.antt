@@ -70,9 +70,7 @@ first_accepted (Some old) new = Some old
 abbrev pub accepted_by : Effect → ℕ → ℕ → Key → Option Acceptance → Option Acceptance
 accepted_by (Puts key lock) n t k before = cond ((lock.start == t)
     && bytes_eq key k) (first_accepted before record { lock = lock; at = n }) before
-accepted_by (Settles key u c) n t k before = before
-accepted_by (RollsBack u) n t k before = before
-accepted_by NoEffect n t k before = before
+accepted_by _ n t k before = before
 
 -- the acceptance of the key k for the transaction that started at t
 abbrev pub accepted : History → ℕ → Key → Option Acceptance

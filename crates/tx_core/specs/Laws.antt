@@ -1,5 +1,5 @@
 -- What a lock that was told of says, and what many such locks say together: what async sessions,
--- resolvers and collectors rely on.
+-- resolvers and collectors rely on. What is decided when a number is drawn.
 use Rattle.std.specs.Prelude.{◌≡◌, ◌≢◌, ◌⊎◌, ℕ, max, true, false, List, [], ◌∷◌, Some, None, Contains}
 use Rattle.tx_types.specs.declared.key.Key.{Key}
 use Rattle.tx_types.specs.declared.mutation.Change.{Change}
@@ -13,8 +13,7 @@ use Rattle.tx_plan.specs.cases.Prewrite.{named_minimum}
 use Rattle.tx_machine.specs.Keys.{mutation_at}
 use Rattle.tx_core.specs.declared.event.Declaration.{Declaration}
 use Rattle.tx_core.specs.declared.event.Taken.{Taken}
-use Rattle.tx_core.specs.declared.event.Outcome.TheVariants as outcome
-use Rattle.tx_core.specs.declared.event.Event.TheVariants.{Drawn, Answered, Took}
+use Rattle.tx_core.specs.declared.event.Event.TheVariants.{Drawn, Took}
 use Rattle.tx_core.specs.Histories.{History, declared, is_first, Among}
 use Rattle.tx_types.specs.declared.mutation.Fate.TheVariants as fate
 use Rattle.tx_machine.specs.Machine.{Done}
@@ -61,13 +60,6 @@ pub record HasPrewritten (h : History) (b : Prewrite) (m : ℕ) : Type 0 where
   pub named : named_minimum lock ≡ m
 
 -- ---- the order of commits
-
--- u had answered that it is committed at c when the number p was drawn
-abbrev pub AnsweredBefore : History → ℕ → ℕ → ℕ → Type 0
-AnsweredBefore [] p u c = ⊥
-AnsweredBefore (Drawn seat n ∷ h) p u c = ((n ≡ p) × Among h (Answered u (outcome.Committed c)))
-    ⊎ AnsweredBefore h p u c
-AnsweredBefore (_ ∷ h) p u c = AnsweredBefore h p u c
 
 -- u was decided as committed at c when the number p was drawn
 abbrev pub DecidedBefore : History → ℕ → ℕ → ℕ → Type 0

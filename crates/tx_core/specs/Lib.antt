@@ -3,7 +3,9 @@ pub mod Decisions
 pub mod Allowed
 pub mod Worlds
 pub mod Shadow
+pub mod EventSteps
 pub mod Truth
 pub mod Recording
 pub mod Laws
 pub mod ReadMarks
+pub mod Happens

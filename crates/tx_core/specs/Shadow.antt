@@ -56,8 +56,7 @@ checking _ _ = []
 abbrev pub answering : ℕ → Outcome → List Step
 answering t (outcome.Committed c) = step.Answer t (Committed c) ∷ []
 answering t outcome.Aborted = step.Answer t Aborted ∷ []
-answering t (outcome.Unknown cause) = []
-answering t outcome.ReadOnly = []
+answering t _ = []
 
 -- the machine's steps, newest first: a draw, a begin, a declaration and an answer where they stand,
 -- a commit or an abort at the event that decides it, each answered read, and before a commit at the

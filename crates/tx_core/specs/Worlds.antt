@@ -49,18 +49,21 @@ pub record WasTold (h : History) (t : ℕ) (end : Fate) : Type 0 where
   pub tells : fate_in by.answer ≡ Some end
 
 -- A fate that is answered was told; a commit may also be known from the acceptances of all keys, at
--- the greatest minimum.
+-- the greatest minimum. Read-only says that nothing was declared. Unknown says nothing: the
+-- transaction may be committed, aborted or open.
 abbrev pub MayAnswer : History → ℕ → Outcome → Type 0
 MayAnswer h t (outcome.Committed c) = WasTold h t (fate.Committed c) ⊎ (greatest (accepted h t) (set_at h t) ≡ Some c)
 MayAnswer h t outcome.Aborted = WasTold h t fate.Aborted
-MayAnswer h t _ = Unit {0}
+MayAnswer h t outcome.ReadOnly = declared h t ≡ None
+MayAnswer h t (outcome.Unknown cause) = Unit {0}
 
 -- ---- what may come next
 
--- A transaction declares once, after it began: at least one key, and each once, and a number that
--- its seat drew since then.
+-- A transaction declares once, after it began and before its session answers: at least one key, and
+-- each once, and a number that its seat drew since it began.
 pub record MayDeclare (h : History) (d : Declaration) : Type 0 where
   pub begun : began h d.start ≡ true
+  pub unanswered : answered h d.start ≡ false
   pub once : declared h d.start ≡ None
   pub some : d.changes ≢ []
   pub distinct : IsDistinct d.changes
@@ -76,8 +79,8 @@ pub record MayTake (bounds : List Key) (h : History) (x : Taken) : Type 0 where
   pub answers : Answers (left h x.region) x.loaded (last h) x.body x.answer
 
 -- What may come after a history, over regions with these bounds. A draw gives a number above
--- the last; a transaction begins once, at a number that was drawn; it declares once and its
--- session answers once, after it began. These events name no seat: they are those of the seat
+-- the last; a transaction begins once, at a number that was drawn; after that it declares once, if
+-- at all, and then its session answers once. These events name no seat: they are those of the seat
 -- that drew the start (`owner`), which alone may record them (`MayRecord`); what a region takes
 -- is its own seat's.
 abbrev pub MayCome : List Key → History → Event → Type 0

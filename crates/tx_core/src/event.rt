@@ -38,8 +38,10 @@ pub enum Outcome {
     /// Committed at this timestamp.
     Committed(Ts),
     Aborted,
+    /// The session does not know: the transaction may be committed, aborted or open. A resolver can
+    /// tell, of a lock of it that stands, or its own reads.
     Unknown(UnknownCause),
-    /// The transaction changed nothing.
+    /// The transaction changed nothing: it declared nothing.
     ReadOnly,
 }
 

@@ -1,7 +1,9 @@
 //! The theorem over every run: whatever events a world run has, what is answered is what the
-//! one-step machine says.
+//! one-step machine says. And that it is not about nothing: runs that exist.
 ghost use Rattle.std.specs.Prelude.{◌≡◌, ℕ, List};
 ghost use Rattle.tx_core.specs.Decisions.{decided};
+ghost use Rattle.tx_core.specs.EventSteps.{AreStepsOf};
+ghost use Rattle.tx_core.specs.Happens.{Happens, CommitsInTwoPhases, CommitsByLatePrewrite, CommitsAfterFallBack, PushesMinimum, AbortsByStatus, AbortsBySecondary, OverlapsRollback, FindsCommit, FindsByStatus, DropsRecord, ReadsBesideCollection, CommitsInsert, RefusesInsert, InsertsOverDelete, ScanMeetsLock};
 ghost use Rattle.tx_core.specs.Histories.{History};
 ghost use Rattle.tx_core.specs.Shadow.{shadow};
 ghost use Rattle.tx_core.specs.Truth.{AllTrue, HasEnded};
@@ -11,12 +13,37 @@ ghost use Rattle.tx_types.specs.declared.key.Key.{Key};
 ghost use Rattle.tx_types.specs.declared.mutation.Fate.{Fate};
 
 /// Of every world run, whatever the bounds between the regions: the steps of the machine that are
-/// read off it are a run of the machine, each answer is true of the machine's table where it
-/// stands, and what is decided of a transaction, which is what a session or a resolver may say of
+/// read off it are those of its events, of each event all and no others, in the order of the
+/// events; they are a run of the machine; each answer is true of the machine's table where it
+/// stands; and what is decided of a transaction, which is what a session or a resolver may say of
 /// it, is how it has ended there.
 pub fn every_run()
+    ensures steps { (bounds : List Key) (events : History) → IsWorldRun bounds events → AreStepsOf events (shadow events) }
     ensures run { (bounds : List Key) (events : History) → IsWorldRun bounds events → IsRun (shadow events) }
     ensures answers { (bounds : List Key) (events : History) → IsWorldRun bounds events → AllTrue events }
     ensures decisions { (bounds : List Key) (events : History) → IsWorldRun bounds events
         → (t : ℕ) (end : Fate) → decided events t ≡ Done end → HasEnded (table_of (shadow events)) t end }
+{}
+
+/// World runs exist, and all of this happens in them: a commit in two phases; an async commit that
+/// a late prewrite decides; a fall back to two phases; a push; rollbacks by a resolver; a commit
+/// over a rollback; a decision that is found again after its answer was lost; a collection, and
+/// readers beside it; an insert that commits, one that is refused and one over a deleted key; a
+/// scan that meets a lock.
+pub fn runs_exist()
+    ensures two_phase { Happens CommitsInTwoPhases }
+    ensures late_prewrite { Happens CommitsByLatePrewrite }
+    ensures fall_back { Happens CommitsAfterFallBack }
+    ensures push { Happens PushesMinimum }
+    ensures status { Happens AbortsByStatus }
+    ensures secondary { Happens AbortsBySecondary }
+    ensures overlap { Happens OverlapsRollback }
+    ensures commit_again { Happens FindsCommit }
+    ensures told_again { Happens FindsByStatus }
+    ensures collection { Happens DropsRecord }
+    ensures beside_collection { Happens ReadsBesideCollection }
+    ensures insert { Happens CommitsInsert }
+    ensures refused_insert { Happens RefusesInsert }
+    ensures insert_again { Happens InsertsOverDelete }
+    ensures scan { Happens ScanMeetsLock }
 {}

@@ -2,20 +2,18 @@
 ghost use Rattle.std.specs.Prelude.{◌≡◌, ◌≢◌, ◌<◌, ◌≤◌, ◌++◌, ◌∷◌, ℕ, List, [], Some, None, length};
 ghost use Rattle.tx_core.specs.Allowed.{Allowed};
 ghost use Rattle.tx_core.specs.Decisions.{accepted, greatest, decided};
-ghost use Rattle.tx_core.specs.Histories.{History, declared, set_at, Begins};
-ghost use Rattle.tx_core.specs.Laws.{WasToldOf, IsLockOf, WasPrewritten, HasPrewritten, HadAsyncLock, greatest_of, AnsweredBefore, DecidedBefore};
+ghost use Rattle.tx_core.specs.Histories.{History, declared, set_at, Among, Begins};
+ghost use Rattle.tx_core.specs.Laws.{WasToldOf, IsLockOf, WasPrewritten, HasPrewritten, HadAsyncLock, greatest_of, DecidedBefore};
 ghost use Rattle.tx_core.specs.declared.event.Declaration.{Declaration};
+ghost use Rattle.tx_core.specs.declared.event.Event.TheVariants.{Drawn, Answered};
+ghost use Rattle.tx_core.specs.declared.event.Outcome.TheVariants as outcome;
 ghost use Rattle.tx_core.specs.Recording.{AllOfSeats, events_of};
 ghost use Rattle.tx_core.specs.Worlds.{IsWorldRun};
 ghost use Rattle.tx_machine.specs.Keys.{mutation_at};
-ghost use Rattle.tx_machine.specs.Machine.{Done, Commits, Newest, Sees, table_of};
+ghost use Rattle.tx_machine.specs.Machine.{Done, Commits, Newest, table_of};
 ghost use Rattle.tx_types.specs.Keys.{IsVisible};
 ghost use Rattle.tx_types.specs.declared.mutation.Mutation.{Mutation};
 ghost use Rattle.tx_core.specs.Shadow.{shadow};
-ghost use Rattle.tx_core.specs.declared.event.Event.TheVariants.{Took};
-ghost use Rattle.tx_plan.specs.declared.body.Body.TheVariants as body;
-ghost use Rattle.tx_plan.specs.declared.answer.Answer.TheVariants.{AlreadyExists};
-ghost use Rattle.tx_types.specs.declared.value.Value.{Value};
 ghost use Rattle.tx_plan.specs.declared.body.Body.{Body};
 ghost use Rattle.tx_plan.specs.declared.body.Prewrite.{Prewrite};
 ghost use Rattle.tx_types.specs.declared.key.Key.{Key};
@@ -57,16 +55,10 @@ pub fn decided_async()
         → greatest (accepted h t) (set_at h t) ≡ Some (greatest_of min (set_at h t)) }
 {}
 
-/// A transaction commits above each commit that a session had answered when it drew the number of
-/// its declaration. So who was told of a commit, and declares then, commits later.
-pub fn commits_in_order()
-    ensures { (bounds : List Key) (h : History) (t u c e : ℕ) (d : Declaration) → IsWorldRun bounds h
-        → declared h t ≡ Some d → AnsweredBefore h d.drawn u c → decided h t ≡ Done (Committed e) → c < e }
-{}
-
-/// What was decided comes first, whoever was told: who begins after a commit was decided starts at or
-/// above it, and reads what it left or what a later commit left; and who declares after that commits
-/// above it.
+/// What was decided comes first, whoever was told of it (strong snapshot isolation): who begins
+/// after a commit was decided starts at or above it, and reads what it left or what a later commit
+/// left; and who declares after that commits above it. What a session has answered as committed was
+/// decided before.
 pub fn decisions_come_first()
     ensures starts { (bounds : List Key) (h : History) (p u c : ℕ) → IsWorldRun bounds h → DecidedBefore h p u c
         → c ≤ p }
@@ -75,17 +67,14 @@ pub fn decisions_come_first()
         → (n : Mutation) × (seen : Newest (table_of (shadow h)).row k p n) × (c ≤ seen.at) }
     ensures commits { (bounds : List Key) (h : History) (t u c e : ℕ) (d : Declaration) → IsWorldRun bounds h
         → declared h t ≡ Some d → DecidedBefore h d.drawn u c → decided h t ≡ Done (Committed e) → c < e }
+    ensures answered { (bounds : List Key) (l h : History) (seat p u c : ℕ) → IsWorldRun bounds h
+        → Begins (Drawn seat p ∷ l) h → Among l (Answered u (outcome.Committed c)) → DecidedBefore h p u c }
 {}
 
-/// An insert that was refused since its key has a value was refused rightly: the machine sees that
-/// value there, at the start of its transaction.
-pub fn refused_inserts()
-    ensures { (bounds : List Key) (h : History) (n l : ℕ) (b : Prewrite) → IsWorldRun bounds (Took (record {
-      region = n;
-      body = body.Prewrite b;
-      loaded = l;
-      answer = AlreadyExists;
-    }) ∷ h) → (v : Value) × Sees (table_of (shadow h)).row b.key b.start (Some v) }
+/// A transaction that its session answered as read-only has declared nothing, and never will.
+pub fn read_only_stays()
+    ensures { (bounds : List Key) (h : History) (t : ℕ) → IsWorldRun bounds h → Among h (Answered t outcome.ReadOnly)
+        → declared h t ≡ None }
 {}
 
 /// Where each event of a history is of a seat below n, the history is as long as the parts of

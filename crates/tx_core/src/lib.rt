@@ -12,10 +12,10 @@ mod laws;
 pub use answers::one_answer;
 pub use event::{Declaration, Event, Outcome, Taken, UnknownCause};
 pub use fate::fate_in;
-pub use headline::every_run;
+pub use headline::{every_run, runs_exist};
 pub use laws::{
-    allowed_stays, commits_in_order, decided_async, decisions_come_first, parts_make_the_whole,
-    prewritten_lock, refused_inserts, told_lock,
+    allowed_stays, decided_async, decisions_come_first, parts_make_the_whole, prewritten_lock,
+    read_only_stays, told_lock,
 };
 pub use tx_plan::{
     Answer, BatchRollback, Body, Boxed, CheckSecondaryLocks, CheckTxnStatus, Collect, Commit, Get,

@@ -12,7 +12,7 @@ use Rattle.tx_plan.specs.declared.answer.Answer.TheVariants.{Raised, Collected}
 use Rattle.tx_plan.specs.Cells.{Region, Cells, with_cells, new_region}
 use Rattle.tx_plan.specs.Answers.{Answers, leaves}
 use Rattle.tx_plan.specs.Plans.{with_read}
-use Rattle.tx_plan.specs.cases.Collect.{AnswersCollect, leaves_collect, kept}
+use Rattle.tx_plan.specs.cases.Collect.{AnswersCollectBy, HasCollected, leaves_collect, kept}
 use Rattle.tx_plan.specs.cases.RaiseSafe.{AnswersRaiseSafe, leaves_raise_safe}
 use Rattle.tx_plan.proofs.Sound.{sound_none}
 use Rattle.tx_later.specs.Later.{IsRegular, AreRegular, IsLater, GoesOn}
@@ -107,7 +107,7 @@ module _ (before : Region) (is : AreRegular before) where
       }
   raises loaded b _ answers = still
 
-  collects : (b : Collect) (a : Answer) → AnswersCollect before.cells before.safe b a
+  collects : (b : Collect) (a : Answer) → AnswersCollectBy HasCollected before.cells before.safe b a
       → Steps before (leaves_collect before b a)
   collects b (Collected records values) (inl x) = absurd (cc (x.1))
   collects b (Collected records values) (inr (no0, rest)) =

@@ -3,6 +3,9 @@ use Rattle.std.proofs.Common.{◌≡◌, inl, inr, ℕ, ◌+◌, ◌<◌, ◌≤
 use Rattle.std.proofs.lemmas.Bool.{cases_lt}
 use Rattle.tx_types.specs.declared.mutation.Mode.TheVariants.{Async}
 use Rattle.tx_plan.specs.declared.body.Prewrite.{Prewrite}
+use Rattle.tx_types.specs.declared.key.Key.{Key}
+use Rattle.tx_plan.specs.declared.body.Collect.{Collect}
+use Rattle.tx_plan.specs.cases.Collect.{AnswersCollect, AnswersCollectBy, HasCollected}
 use Rattle.tx_plan.specs.declared.body.Body.{Body}
 use Rattle.tx_plan.specs.declared.body.Body.TheVariants as body
 use Rattle.tx_plan.specs.declared.answer.Answer.{Answer}
@@ -51,6 +54,13 @@ more_promises cells safe loaded P Q b a f
     (inr (n, inr (n1, inr (n2, inr (n3, inr (n4, inr (n5, inr (n6, inr (n7, inr x))))))))) =
     inr (n, inr (n1, inr (n2, inr (n3, inr (n4, inr (n5, inr (n6, inr (n7, inr x))))))))
 
+-- a collection that counts what it drops has collected
+any_counts : (cells : Key → Cells) (safe : ℕ) (b : Collect) (a : Answer) → AnswersCollect cells safe b a
+    → AnswersCollectBy HasCollected cells safe b a
+any_counts cells safe b a (inl x) = inl x
+any_counts cells safe b a (inr (n, inl x)) = inr (n, inl x)
+any_counts cells safe b a (inr (n, inr (n1, (versions, all, is)))) = inr (n, inr (n1, (_, _, is)))
+
 pub mark_admitted : (mark : ℕ) (region : Region) (loaded top : ℕ) (b : Body) (a : Answer) → region.max_read ≤ mark
     → mark ≤ top → loaded ≤ top → floor_in b ≤ top + 1 → AnswersFrom mark region loaded b a
     → Answers region loaded top b a
@@ -68,7 +78,8 @@ mark_admitted mark region loaded top (body.CheckSecondaryLocks b) a covers read 
 mark_admitted mark region loaded top (body.ResolveLock b) a covers read upto floor may = may
 mark_admitted mark region loaded top (body.RaiseSafe b) a covers read upto floor may = may
 mark_admitted mark region loaded top (body.LocksBelow b) a covers read upto floor may = may
-mark_admitted mark region loaded top (body.Collect b) a covers read upto floor may = may
+mark_admitted mark region loaded top (body.Collect b) a covers read upto floor may =
+    any_counts region.cells region.safe b a may
 
 -- a read at the start of the transaction itself does not raise it
 pub check_leaves : (mark : ℕ) (b : Prewrite) → least_minimum (max mark b.start) b ≡ least_minimum mark b

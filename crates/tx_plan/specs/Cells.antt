@@ -65,8 +65,7 @@ new_region = record { cells = λ k. no_cells; max_read = 0; safe = 0; collected 
 abbrev pub is_long : Mutation → Bool
 is_long (mutation.Put v) = nat_lt MAX_INLINE_BYTES (length v)
 is_long (mutation.Insert v) = nat_lt MAX_INLINE_BYTES (length v)
-is_long mutation.Delete = false
-is_long mutation.Lock = false
+is_long _ = false
 
 -- what is told of a lock that stands on a key
 abbrev pub info_of : Key → Lock → LockInfo

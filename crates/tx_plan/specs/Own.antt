@@ -35,9 +35,8 @@ marked rec = record rec { overlapped_rollback = true }
 -- what a rollback that is left makes of the record at its timestamp: another's commit record is
 -- marked, else a rollback stands there
 abbrev pub rolled : ℕ → Option Write → Write
-rolled t None = Rollback
-rolled t (Some Rollback) = Rollback
-rolled t (Some (CommitOf rec)) = cond (rec.start == t) Rollback (CommitOf (marked rec))
+rolled t (Some (CommitOf rec)) = cond (rec.start == t) Rollback (CommitOf record rec { overlapped_rollback = true })
+rolled t _ = Rollback
 
 -- leave a rollback
 abbrev pub leave_rollback : Cells → ℕ → Cells
@@ -54,9 +53,8 @@ roll_back cells t = with_lock (leave_rollback cells t) (without_own cells.lock t
 
 -- whether a rollback stands of a version
 abbrev pub is_rollback : Option Write → Bool
-is_rollback None = false
 is_rollback (Some Rollback) = true
-is_rollback (Some (CommitOf rec)) = false
+is_rollback _ = false
 
 -- a lock as a commit record, with or without the mark
 abbrev pub committed : Lock → Bool → CommitRecord
@@ -70,7 +68,7 @@ commit_of lock before = committed lock (is_rollback before)
 abbrev pub lock_committed : Cells → ℕ → Lock → Cells
 lock_committed cells c lock = record {
   lock = None;
-  write = with_write cells.write c (CommitOf (commit_of lock (cells.write c)));
+  write = with_write cells.write c (CommitOf (committed lock (is_rollback (cells.write c))));
 }
 
 -- commit its lock at c, where it is there

@@ -11,7 +11,7 @@ use Rattle.tx_plan.specs.declared.body.Body.TheVariants.{Prewrite, Commit, Batch
 use Rattle.tx_plan.specs.declared.answer.Answer.TheVariants.{Prewritten, Committed, RolledBack, Raised, Collected, BelowSafePoint}
 use Rattle.tx_plan.specs.Cells.{Write, CommitOf, Rollback}
 use Rattle.tx_plan.specs.Own.{OwnCommit}
-use Rattle.tx_plan.specs.cases.Collect.{IsDropped, AllDropped}
+use Rattle.tx_plan.specs.cases.Collect.{IsDropped, AllDropped, CountsDropped}
 use Rattle.tx_plan.specs.cases.LocksBelow.{IsLockBelow}
 use Rattle.tx_machine.specs.declared.step.Step.TheVariants as step
 use Rattle.tx_core.specs.declared.event.Declaration.{Declaration}
@@ -23,6 +23,7 @@ use Rattle.tx_core.specs.Shadow.{shadow}
 use Rattle.tx_core.proofs.Basics.{key_test, nat_test}
 use Rattle.tx_core.proofs.seats.Staying.{last_was}
 use Rattle.tx_core.proofs.examples.Words.{a, x, unrolled, decides}
+use Rattle.tx_core.specs.Happens.{Happens, DropsRecord}
 
 abbrev deletes : Declaration
 deletes = record {
@@ -119,7 +120,7 @@ full = Took raise ∷ Drawn 1 6 ∷ Took roll ∷ second
 first_run : IsWorldRun [] first
 first_run = (
   (((tt, omega arith), (λ e. (cc (e)), refl)), omega arith),
-  record { begun = refl; once = refl; some = λ e. (cc (e)); distinct = (refl, tt); drew = inl (refl, refl, refl) },
+  record { begun = refl; unanswered = refl; once = refl; some = λ e. (cc (e)); distinct = (refl, tt); drew = inl (refl, refl, refl) },
 )
 
 locks : MayTake [] first lock
@@ -177,7 +178,7 @@ commits = record {
 second_run : IsWorldRun [] second
 second_run = (
   ((((((first_run, locks), omega arith), commits), omega arith), (λ e. (cc (e)), refl)), omega arith),
-  record { begun = refl; once = refl; some = λ e. (cc (e)); distinct = (refl, tt); drew = inl (refl, refl, refl) },
+  record { begun = refl; unanswered = refl; once = refl; some = λ e. (cc (e)); distinct = (refl, tt); drew = inl (refl, refl, refl) },
 )
 
 -- the start in a record, if it is a commit's
@@ -258,13 +259,17 @@ all_dropped = record {
           | inr e ↦ absurd (d.0 (rw e.0 refl))
         ]
 
+-- both records, and no value apart
+pub counts_both : CountsDropped (left full 0).cells 6 (Collected 2 0)
+counts_both = (versions, all_dropped, refl)
+
 collects : MayTake [] full collect
 collects = record {
   region = omega arith;
   allowed = tt;
   holds = refl;
   loaded = last_was full;
-  answers = inr (λ other. other refl, inr (λ some. unlocked some.0 some.1, (versions, all_dropped, refl)));
+  answers = inr (λ other. other refl, inr (λ some. unlocked some.0 some.1, (2, 0, refl)));
 }
   where
     unlocked : (info : LockInfo) → IsLockBelow (left full 0).cells 6 info → ⊥
@@ -308,3 +313,12 @@ pub shadow_of_it : shadow (Took lock_late ∷ collected) ≡ step.Draw 6 ∷ ste
     ∷ step.Draw 5 ∷ step.Begin 4 ∷ step.Draw 4 ∷ step.Commit 1 3 ∷ step.Draw 3 ∷ step.Declare 1 deletes.changes
     ∷ step.Draw 2 ∷ step.Begin 1 ∷ step.Draw 1 ∷ []
 shadow_of_it = refl
+
+pub drops_record : Happens DropsRecord
+drops_record = (
+  [],
+  full,
+  collect,
+  (((((second_run, rolls), omega arith), raises), collects)),
+  record { b = _; asked = refl; key = a; at = 3; there = λ e. (cc (e)); gone = refl },
+)

@@ -13,11 +13,11 @@ use Rattle.tx_types.specs.declared.key.Key.{Key}
 use Rattle.tx_types.specs.declared.lock.LockInfo.{LockInfo}
 use Rattle.tx_plan.specs.Cells.{CommitRecord, CommitOf}
 use Rattle.tx_types.specs.Keys.{IsVisible}
-use Rattle.tx_plan.specs.cases.Collect.{IsDropped}
 use Rattle.tx_plan.specs.cases.LocksBelow.{IsLockBelow}
 use Rattle.tx_core.specs.Histories.{left}
 use Rattle.tx_core.proofs.Basics.{key_test, nat_test}
 use Rattle.tx_core.proofs.examples.MarkedRollback.{commit_first, roll_second, both_declared, both_ok, rolls_second, commits_first}
+use Rattle.tx_core.specs.Happens.{Happens, ReadsBesideCollection}
 
 abbrev committed_run : History
 committed_run = Took commit_first ∷ Took roll_second ∷ both_declared
@@ -53,19 +53,6 @@ raises = record {
 abbrev raised_run : History
 raised_run = Took raise ∷ committed_run
 
-drops_none : (k : Key) (q : ℕ) → IsDropped (left raised_run 0).cells 4 (k, q) → ⊥
-drops_none k q d =
-    elim (key_test a k) [
-      | inl e ↦ elim (nat_test 3 q) [
-        | inl here ↦ (let at : IsDropped (left raised_run 0).cells 4 (a, 3) =
-            subst (λ j. IsDropped (left raised_run 0).cells 4 (j, 3)) (sym e.1)
-            (subst (λ n. IsDropped (left raised_run 0).cells 4 (k, n)) (sym here.1) d) in cc (at.1))
-        | inr other ↦ (let at : IsDropped (left raised_run 0).cells 4 (a, q) =
-            subst (λ j. IsDropped (left raised_run 0).cells 4 (j, q)) (sym e.1) d in at.0 (rw other.0 refl))
-      ]
-      | inr e ↦ d.0 (rw e.0 refl)
-    ]
-
 collects : MayTake [] raised_run collect
 collects = record {
   region = omega arith;
@@ -76,15 +63,7 @@ collects = record {
     λ other. other refl,
     inr (
       λ some. unlocked some.0 some.1,
-      (
-        [],
-        record {
-          once = λ i j d low high. absurd (omega (arith, high));
-          each =
-              λ version. (λ c. absurd (omega (arith, c.1)), λ d. absurd (drops_none version.0 version.1 d));
-        },
-        refl,
-      ),
+      (0, 0, refl),
     ),
   );
 }
@@ -139,3 +118,21 @@ collection_refuses_reads_below = ((((rollback_committed, raises), collects), rea
   where
     rollback_committed : IsWorldRun [] (Took commit_first ∷ Took roll_second ∷ both_declared)
     rollback_committed = ((both_ok, rolls_second), commits_first)
+
+pub reads_beside_collection : Happens ReadsBesideCollection
+reads_beside_collection = (
+  [],
+  Took get_low ∷ collected_run,
+  get_high,
+  collection_refuses_reads_below,
+  record {
+    b = _;
+    asked = refl;
+    found = x;
+    answer = refl;
+    collected = refl;
+    low = get_low;
+    before = inl refl;
+    refused = (refl, refl);
+  },
+)

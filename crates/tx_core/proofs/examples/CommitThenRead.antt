@@ -18,6 +18,7 @@ use Rattle.tx_core.proofs.examples.Words.{a, x, none, unrolled, decides}
 use Rattle.std.proofs.lemmas.Bool.{eqb-true}
 use Rattle.tx_plan.specs.Cells.{CommitRecord, CommitOf}
 use Rattle.tx_core.proofs.Basics.{chosen}
+use Rattle.tx_core.specs.Happens.{Happens, CommitsInTwoPhases}
 
 abbrev put : Declaration
 put = record {
@@ -74,7 +75,7 @@ committed = Drawn 2 4 ∷ Answered 1 (outcome.Committed 3) ∷ Took commit_put �
 puts_run : IsWorldRun [] puts
 puts_run = (
   (((tt, omega arith), (λ e. (cc (e)), refl)), omega arith),
-  record { begun = refl; once = refl; some = λ e. (cc (e)); distinct = (refl, tt); drew = inl (refl, refl, refl) },
+  record { begun = refl; unanswered = refl; once = refl; some = λ e. (cc (e)); distinct = (refl, tt); drew = inl (refl, refl, refl) },
 )
 
 put_prewrites : MayTake [] puts prewrite_put
@@ -182,3 +183,18 @@ pub shadow_of_the_read : shadow (Took get_put ∷ committed) ≡ step.Read a 4 (
     ∷ step.Answer 1 (fate.Committed 3) ∷ step.Commit 1 3 ∷ step.Draw 3 ∷ step.Declare 1 put.changes ∷ step.Draw 2
     ∷ step.Begin 1 ∷ step.Draw 1 ∷ []
 shadow_of_the_read = refl
+
+pub commits_in_two_phases : Happens CommitsInTwoPhases
+commits_in_two_phases = (
+  [],
+  drawn,
+  commit_put,
+  (((puts_run, put_prewrites), omega arith), put_commits),
+  record {
+    of = put;
+    stands = refl;
+    two_phase = refl;
+    asked = (_, refl);
+    decides = (3, record { before = refl; now = refl });
+  },
+)

@@ -16,6 +16,7 @@ use Rattle.tx_core.specs.Decisions.{decided}
 use Rattle.tx_core.specs.Worlds.{IsWorldRun, MayTake}
 use Rattle.tx_core.proofs.seats.Staying.{last_was}
 use Rattle.tx_core.proofs.examples.Words.{a, x, none, unrolled, decides}
+use Rattle.tx_core.specs.Happens.{Happens, CommitsAfterFallBack}
 
 abbrev bounded : Declaration
 bounded = record {
@@ -71,7 +72,7 @@ begun_ok = (
   (
     (
       (((tt, omega arith), (λ e. (cc (e)), refl)), omega arith),
-      record { begun = refl; once = refl; some = λ e. (cc (e)); distinct = (refl, tt); drew = inl (refl, refl, refl) },
+      record { begun = refl; unanswered = refl; once = refl; some = λ e. (cc (e)); distinct = (refl, tt); drew = inl (refl, refl, refl) },
     ),
     omega arith,
   ),
@@ -162,3 +163,19 @@ undecided_until_the_primary = refl
 
 pub decided_by_the_primary : decided (Took commit ∷ fallen) 1 ≡ Done (fate.Committed 4)
 decided_by_the_primary = refl
+
+pub commits_after_fall_back : Happens CommitsAfterFallBack
+commits_after_fall_back = (
+  [],
+  fallen,
+  commit,
+  falls_back,
+  record {
+    of = bounded;
+    stands = refl;
+    async = refl;
+    fell_back = record { key = a; by = _; stands = refl; two_phase = refl };
+    asked = (_, refl);
+    decides = (4, record { before = refl; now = refl });
+  },
+)

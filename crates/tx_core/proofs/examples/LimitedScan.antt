@@ -92,6 +92,7 @@ begins_run = (
   (((tt, omega arith), (λ e. (cc (e)), refl)), omega arith),
   record {
     begun = refl;
+    unanswered = refl;
     once = refl;
     some = λ e. (cc (e));
     distinct = (refl, (refl, tt));

@@ -14,6 +14,7 @@ use Rattle.tx_core.specs.Worlds.{IsWorldRun, MayTake}
 use Rattle.tx_core.specs.Shadow.{shadow}
 use Rattle.tx_core.proofs.seats.Staying.{last_was}
 use Rattle.tx_core.proofs.examples.Words.{a, x, unrolled, start_of}
+use Rattle.tx_core.specs.Happens.{Happens, OverlapsRollback}
 
 abbrev first_set : Declaration
 first_set = record {
@@ -101,7 +102,7 @@ marked_run = Took lock_second ∷ Took commit_first ∷ Took roll_second ∷ bot
 first_ok : IsWorldRun [] first_declared
 first_ok = (
   (((tt, omega arith), (λ e. (cc (e)), refl)), omega arith),
-  record { begun = refl; once = refl; some = λ e. (cc (e)); distinct = (refl, tt); drew = inl (refl, refl, refl) },
+  record { begun = refl; unanswered = refl; once = refl; some = λ e. (cc (e)); distinct = (refl, tt); drew = inl (refl, refl, refl) },
 )
 
 locks_first : MayTake [] first_declared lock_first
@@ -148,7 +149,7 @@ locks_first = record {
 pub both_ok : IsWorldRun [] both_declared
 both_ok = (
   ((((first_ok, locks_first), omega arith), (λ e. (cc (e)), refl)), omega arith),
-  record { begun = refl; once = refl; some = λ e. (cc (e)); distinct = (refl, tt); drew = inl (refl, refl, refl) },
+  record { begun = refl; unanswered = refl; once = refl; some = λ e. (cc (e)); distinct = (refl, tt); drew = inl (refl, refl, refl) },
 )
 
 pub rolls_second : MayTake [] both_declared roll_second
@@ -214,3 +215,12 @@ rollback_is_marked = (((both_ok, rolls_second), commits_first), late_second)
 pub shadow_of_marked : shadow marked_run ≡ step.Abort 3 ∷ step.Declare 3 second_set.changes ∷ step.Draw 4 ∷ step.Begin 3
     ∷ step.Draw 3 ∷ step.Commit 1 3 ∷ step.Declare 1 first_set.changes ∷ step.Draw 2 ∷ step.Begin 1 ∷ step.Draw 1 ∷ []
 shadow_of_marked = refl
+
+pub overlaps_rollback : Happens OverlapsRollback
+overlaps_rollback = (
+  [],
+  Took roll_second ∷ both_declared,
+  commit_first,
+  ((both_ok, rolls_second), commits_first),
+  record { b = _; asked = refl; committed = refl; aborted = refl; rec = _; is = refl; marked = refl },
+)

@@ -1,7 +1,7 @@
 -- Two async transactions on two keys, of which one declares after the other was answered: the
 -- number that it draws then is the floor of its minimum, so it commits above the other, though it
 -- began before and nothing was read.
-use Rattle.std.proofs.Common.{◌≡◌, ℕ, inl, inr, [], ◌∷◌, Some, None, refl, arith}
+use Rattle.std.proofs.Common.{◌≡◌, inl, inr, [], ◌∷◌, None, refl, arith}
 use Rattle.tx_types.specs.declared.mutation.Mutation.TheVariants.{Put}
 use Rattle.tx_types.specs.declared.mutation.Mode.TheVariants as mode
 use Rattle.tx_types.specs.declared.mutation.Fate.TheVariants as fate
@@ -14,7 +14,7 @@ use Rattle.tx_core.specs.declared.event.Outcome.TheVariants as outcome
 use Rattle.tx_core.specs.declared.event.Event.TheVariants.{Drawn, Began, Declared, Answered, Took}
 use Rattle.tx_core.specs.Histories.{History}
 use Rattle.tx_core.specs.Decisions.{decided}
-use Rattle.tx_core.specs.Laws.{AnsweredBefore}
+use Rattle.tx_core.specs.Laws.{DecidedBefore}
 use Rattle.tx_core.specs.Worlds.{IsWorldRun, MayTake}
 use Rattle.tx_core.proofs.seats.Staying.{last_was}
 use Rattle.tx_core.proofs.examples.Words.{a, b, x, unrolled}
@@ -90,7 +90,7 @@ answers_first = Declared second_set ∷ Drawn 2 5 ∷ Answered 1 (outcome.Commit
 begins_run : IsWorldRun [] begins
 begins_run = (
   (((((tt, omega arith), (λ e. (cc (e)), refl)), omega arith), (λ e. (cc (e)), refl)), omega arith),
-  record { begun = refl; once = refl; some = λ e. (cc (e)); distinct = (refl, tt); drew = inl (refl, refl, refl) },
+  record { begun = refl; unanswered = refl; once = refl; some = λ e. (cc (e)); distinct = (refl, tt); drew = inl (refl, refl, refl) },
 )
 
 locks_first : MayTake [] begins lock_first
@@ -137,7 +137,7 @@ locks_first = record {
 answers_first_run : IsWorldRun [] answers_first
 answers_first_run = (
   (((begins_run, locks_first), (refl, refl, inr refl)), omega arith),
-  record { begun = refl; once = refl; some = λ e. (cc (e)); distinct = (refl, tt); drew = inl (refl, refl, refl) },
+  record { begun = refl; unanswered = refl; once = refl; some = λ e. (cc (e)); distinct = (refl, tt); drew = inl (refl, refl, refl) },
 )
 
 locks_second : MayTake [] answers_first lock_second
@@ -184,8 +184,8 @@ locks_second = record {
 pub ordered_commits : IsWorldRun [] (Took lock_second ∷ answers_first)
 ordered_commits = (answers_first_run, locks_second)
 
-pub answered_before_the_draw : AnsweredBefore (Took lock_second ∷ answers_first) 5 1 4
-answered_before_the_draw = inl (refl, inl refl)
+pub decided_before_the_draw : DecidedBefore (Took lock_second ∷ answers_first) 5 1 4
+decided_before_the_draw = inl (refl, refl)
 
 -- its start and the reads alone would give 3
 pub second_commits_above : decided (Took lock_second ∷ answers_first) 2 ≡ Done (fate.Committed 6)

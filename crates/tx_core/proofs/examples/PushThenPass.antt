@@ -17,6 +17,7 @@ use Rattle.tx_core.proofs.examples.Words.{a, x, none, unrolled, start_of, decide
 use Rattle.std.specs.List.{slice_index_or}
 use Rattle.tx_plan.specs.Cells.{Lock, info_of}
 use Rattle.tx_core.specs.Allowed.{MayPass}
+use Rattle.tx_core.specs.Happens.{Happens, PushesMinimum}
 
 abbrev put : Declaration
 put = record {
@@ -127,7 +128,7 @@ again = Drawn 1 5 ∷ Took commit_low ∷ passed
 puts_run : IsWorldRun [] puts
 puts_run = (
   (((tt, omega arith), (λ e. (cc (e)), refl)), omega arith),
-  record { begun = refl; once = refl; some = λ e. (cc (e)); distinct = (refl, tt); drew = inl (refl, refl, refl) },
+  record { begun = refl; unanswered = refl; once = refl; some = λ e. (cc (e)); distinct = (refl, tt); drew = inl (refl, refl, refl) },
 )
 
 put_prewrites : MayTake [] puts prewrite_put
@@ -286,3 +287,20 @@ pub shadow_of_push : shadow (Took commit_high ∷ again) ≡ step.Commit 1 5 ∷
     ∷ step.Begin 4 ∷ step.Draw 4 ∷ step.Draw 3 ∷ step.Declare 1 put.changes ∷ step.Draw 2 ∷ step.Begin 1 ∷ step.Draw 1
     ∷ []
 shadow_of_push = refl
+
+pub pushes_minimum : Happens PushesMinimum
+pushes_minimum = (
+  [],
+  Took get_blocked ∷ reader,
+  pushes,
+  ((reader_run, blocked), pushing),
+  record {
+    b = _;
+    asked = refl;
+    before = locked_at 2;
+    was = refl;
+    after = locked_at 5;
+    is = refl;
+    raised = omega arith;
+  },
+)

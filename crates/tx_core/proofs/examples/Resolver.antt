@@ -6,7 +6,7 @@ use Rattle.tx_types.specs.declared.mutation.Mutation.TheVariants.{Put}
 use Rattle.tx_types.specs.declared.mutation.Mode.TheVariants as mode
 use Rattle.tx_types.specs.declared.mutation.Fate.TheVariants as fate
 use Rattle.tx_plan.specs.declared.body.Body.TheVariants.{Get, Prewrite, CheckTxnStatus, CheckSecondaryLocks, ResolveLock}
-use Rattle.tx_plan.specs.declared.answer.Answer.TheVariants.{Nothing, Prewritten, KeyIsLocked, Locked, Resolved}
+use Rattle.tx_plan.specs.declared.answer.Answer.TheVariants.{Nothing, Prewritten, KeyIsLocked, Locked, Missing, Resolved}
 use Rattle.tx_machine.specs.Machine.{Done}
 use Rattle.tx_machine.specs.declared.step.Step.TheVariants as step
 use Rattle.tx_core.specs.declared.event.Declaration.{Declaration}
@@ -21,6 +21,7 @@ use Rattle.tx_core.proofs.examples.Words.{a, b, x, none, unrolled}
 use Rattle.tx_plan.specs.Cells.{Lock, CommitRecord, CommitOf, info_of}
 use Rattle.tx_types.specs.declared.key.Key.{Key}
 use Rattle.tx_core.proofs.Basics.{nat_test}
+use Rattle.tx_core.specs.Happens.{Happens, CommitsByLatePrewrite, AbortsBySecondary}
 
 -- one bound: keys below b, and keys from b on
 abbrev cut : List Key
@@ -151,6 +152,7 @@ begun_run = (
   (((tt, omega arith), (λ e. (cc (e)), refl)), omega arith),
   record {
     begun = refl;
+    unanswered = refl;
     once = refl;
     some = λ e. (cc (e));
     distinct = (refl, (refl, tt));
@@ -348,3 +350,52 @@ pub shadow_of_it : shadow (Took get_again ∷ Took resolve_a ∷ asked) ≡ step
     ∷ step.Read b 3 None ∷ step.Begin 3 ∷ step.Draw 3 ∷ step.Declare 1 two_keys.changes ∷ step.Draw 2 ∷ step.Begin 1
     ∷ step.Draw 1 ∷ []
 shadow_of_it = refl
+
+pub late_prewrite_commits : Happens CommitsByLatePrewrite
+late_prewrite_commits = (
+  cut,
+  Took get_b ∷ locked_a,
+  prewrite_b,
+  locked_both_run,
+  record {
+    of = two_keys;
+    stands = refl;
+    async = refl;
+    asked = (_, refl);
+    commit = 4;
+    decides = record { before = refl; now = refl };
+    primary = a;
+    first = refl;
+    by = _;
+    accepted = refl;
+    above = omega arith;
+  },
+)
+
+-- ---- where the secondary lock is missing
+
+abbrev check_missing : Taken
+check_missing = record {
+  region = 1;
+  body = CheckSecondaryLocks record { key = b; start = 1 };
+  loaded = 3;
+  answer = Missing;
+}
+
+takes_check_missing : MayTake cut locked_a check_missing
+takes_check_missing = record {
+  region = omega arith;
+  allowed = record { of = two_keys; stands = refl; async = refl; within = λ e. (cc (e)) };
+  holds = refl;
+  loaded = last_was locked_a;
+  answers = inr (λ h. omega arith, inr (λ lock own. (cc (own.stands)), inr (λ c own. (cc (own.stands)), refl)));
+}
+
+pub aborts_by_secondary : Happens AbortsBySecondary
+aborts_by_secondary = (
+  cut,
+  locked_a,
+  check_missing,
+  (locked_a_run, takes_check_missing),
+  record { b = _; asked = refl; decides = record { before = refl; now = refl } },
+)

@@ -18,6 +18,7 @@ use Rattle.tx_core.specs.Worlds.{IsWorldRun, MayTake}
 use Rattle.tx_core.specs.Shadow.{shadow}
 use Rattle.tx_core.proofs.seats.Staying.{last_was}
 use Rattle.tx_core.proofs.examples.Words.{a, x, unrolled}
+use Rattle.tx_core.specs.Happens.{Happens, AbortsByStatus}
 
 abbrev put : Declaration
 put = record {
@@ -77,7 +78,7 @@ puts_run : IsWorldRun [] puts
 puts_run = (
   (
     (((tt, omega arith), (λ e. (cc (e)), refl)), omega arith),
-    record { begun = refl; once = refl; some = λ e. (cc (e)); distinct = (refl, tt); drew = inl (refl, refl, refl) },
+    record { begun = refl; unanswered = refl; once = refl; some = λ e. (cc (e)); distinct = (refl, tt); drew = inl (refl, refl, refl) },
   ),
   omega arith,
 )
@@ -130,3 +131,12 @@ decided_by_the_check = refl
 pub shadow_of_it : shadow (Answered 1 outcome.Aborted ∷ late) ≡ step.Answer 1 fate.Aborted ∷ step.Abort 1 ∷ step.Draw 3
     ∷ step.Declare 1 put.changes ∷ step.Draw 2 ∷ step.Begin 1 ∷ step.Draw 1 ∷ []
 shadow_of_it = refl
+
+pub aborts_by_status : Happens AbortsByStatus
+aborts_by_status = (
+  [],
+  puts,
+  check,
+  (puts_run, checks),
+  record { b = _; asked = refl; decides = record { before = refl; now = refl } },
+)

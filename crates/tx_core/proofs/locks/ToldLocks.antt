@@ -108,7 +108,7 @@ module _ (r : Region) where
   checks b a lock own (inr (no0, inr (no1, inr (no2, e)))) =
       one (body.CheckTxnStatus b) a _ e b.key (with_minimum lock lock.min) refl (checked b lock lock.min own)
 
-  tells : (l top : ℕ) (x : Body) (a : Answer) → Answers r l top x a → Tells x a
+  pub tells : (l top : ℕ) (x : Body) (a : Answer) → Answers r l top x a → Tells x a
   tells l top (body.Get b) a (inl x) = nothing (body.Get b) a _ x.1 refl
   tells l top (body.Get b) a (inr (no0, inl x)) = nothing (body.Get b) a _ x.1 refl
   tells l top (body.Get b) a (inr (no0, inr (no1, inl (lock, blocks, e)))) =

@@ -4,6 +4,9 @@ use Rattle.std.proofs.lemmas.Bool.{cases_Bool, cases_lt}
 use Rattle.tx_types.specs.declared.key.Key.{Key}
 use Rattle.tx_types.specs.declared.mutation.Mode.{Mode}
 use Rattle.tx_types.specs.declared.mutation.Mode.TheVariants.{TwoPhase, Async}
+use Rattle.tx_types.specs.declared.mutation.Fate.TheVariants as fate
+use Rattle.tx_machine.specs.Keys.{mutation_at}
+use Rattle.tx_machine.specs.Machine.{table_of}
 use Rattle.tx_plan.specs.declared.body.CheckTxnStatus.{CheckTxnStatus}
 use Rattle.tx_plan.specs.declared.body.Body.TheVariants as body
 use Rattle.tx_plan.specs.declared.answer.Answer.{Answer}
@@ -16,12 +19,13 @@ use Rattle.tx_core.specs.Decisions.{NoEffect, accepted, decided}
 use Rattle.tx_core.specs.Allowed.{AllowsCheckTxnStatus}
 use Rattle.tx_core.specs.Worlds.{route}
 use Rattle.tx_core.specs.Shadow.{shadow}
+use Rattle.tx_core.specs.Truth.{HasEnded}
 use Rattle.tx_core.proofs.view.View.{FellBack, IsPrimary, first_within, does_within, never_accepted}
 use Rattle.tx_core.proofs.changes.Pushing.{pushed, pushing, push_same, ends_push}
 use Rattle.tx_core.proofs.view.Ends.{Ends, fell_of_lock, missing_live}
 use Rattle.tx_core.proofs.changes.CellsEnds.{ends_roll_back, ends_abort_first, ends_abort_missing}
 use Rattle.tx_core.proofs.changes.Sounds.{sound_roll_back, sound_push}
-use Rattle.tx_core.proofs.view.Tables.{Sound}
+use Rattle.tx_core.proofs.view.Tables.{Sound, ended_decided}
 use Rattle.tx_core.proofs.view.HistoryView.{view}
 use Rattle.tx_core.proofs.requests.LeavingRollback.{LeavesRollback, follows, rolled}
 use Rattle.tx_core.proofs.requests.Good.{Good, Next, OnKey, took, cells_at, assemble, quiet, decided_same, true_commit}
@@ -137,24 +141,33 @@ module _ (bounds : List Key) (h : History) (good : Good bounds h) (b : CheckTxnS
       checks a (inr (no0, inr (no1, inr (no2, e)))) = silent a (Locked (info_of b.key lock)) e stays
 
     -- nothing of it stands there: it was never accepted there
-    missing : (b.start < (left h (route bounds b.key)).collected → ⊥)
-        → ((lock : Lock) → OwnLock (cells_at bounds h b.key).lock b.start lock → ⊥)
-        → ((c : ℕ) → OwnCommit (cells_at bounds h b.key).write b.start c → ⊥)
-        → (OwnRollback (cells_at bounds h b.key).write b.start → ⊥)
-        → Next bounds h (took (route bounds b.key) (body.CheckTxnStatus b) l RolledBack)
-    missing fresh unlocked uncommitted unrolled =
-        let does = first_within (declared h) b.start b.key first in
-        let within = does_within (declared h) b.start b.key does.0 does.1 in
-        rolled bounds h good b.key (body.CheckTxnStatus b) l RolledBack b.start roll leaves some
-        (λ c e. missing_live (view bounds h) b.key b.start c good.sound.inv within never e)
-        (λ o. ends_abort_missing (view bounds h) b.key b.start good.sound.inv good.ends o some within never)
-      where
-        never : accepted h b.start b.key ≡ None
-        never = never_accepted (view bounds h) b.key b.start good.sound.inv
-            (elim (cases_lt b.start (left h (route bounds b.key)).collected) [
-              | inl lt ↦ absurd (fresh lt)
-              | inr le ↦ le
-            ]) unlocked uncommitted unrolled
+    module _ (fresh : b.start < (left h (route bounds b.key)).collected → ⊥) (unlocked :
+        (lock : Lock) → OwnLock (cells_at bounds h b.key).lock b.start lock → ⊥) (uncommitted :
+        (c : ℕ) → OwnCommit (cells_at bounds h b.key).write b.start c → ⊥) (unrolled :
+        OwnRollback (cells_at bounds h b.key).write b.start → ⊥) where
+      within : mutation_at (set_of (declared h b.start)) b.key ≢ None
+      within =
+          let does = first_within (declared h) b.start b.key first in
+          does_within (declared h) b.start b.key does.0 does.1
+
+      never : accepted h b.start b.key ≡ None
+      never = never_accepted (view bounds h) b.key b.start good.sound.inv
+          (elim (cases_lt b.start (left h (route bounds b.key)).collected) [
+            | inl lt ↦ absurd (fresh lt)
+            | inr le ↦ le
+          ]) unlocked uncommitted unrolled
+
+      missing : Next bounds h (took (route bounds b.key) (body.CheckTxnStatus b) l RolledBack)
+      missing =
+          rolled bounds h good b.key (body.CheckTxnStatus b) l RolledBack b.start roll leaves some
+          (λ c e. missing_live (view bounds h) b.key b.start c good.sound.inv within never e)
+          (λ o. ends_abort_missing (view bounds h) b.key b.start good.sound.inv good.ends o some within never)
+
+      -- so it is not committed
+      live : (c : ℕ) → HasEnded (table_of (shadow h)) b.start (fate.Committed c) → ⊥
+      live c ended =
+          missing_live (view bounds h) b.key b.start c good.sound.inv within never
+          (ended_decided (table_of (shadow h)) (view bounds h) b.start (fate.Committed c) good.sound.shows ended)
 
   -- ---- the rows
 
@@ -185,4 +198,5 @@ module _ (bounds : List Key) (h : History) (good : Good bounds h) (b : CheckTxnS
   next_check_status a may (inr (no0, inr (no1, inr (no2, inr (no3, inr (no4, inr (no5, e))))))) =
       silent a TxnNotFound e
       (quiet bounds h good b.key (body.CheckTxnStatus b) l TxnNotFound b.start
-      (λ c. leaves_check_txn_status c b TxnNotFound) (on_key TxnNotFound) refl (λ u n. refl) refl tt)
+      (λ c. leaves_check_txn_status c b TxnNotFound) (on_key TxnNotFound) refl (λ u n. refl) refl
+      (live may no0 no2 no3 no4))

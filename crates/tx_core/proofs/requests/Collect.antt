@@ -8,7 +8,7 @@ use Rattle.tx_plan.specs.declared.answer.Answer.{Answer}
 use Rattle.tx_plan.specs.declared.answer.Answer.TheVariants.{Collected, LocksRemain, BelowSafePoint}
 use Rattle.tx_plan.specs.Cells.{Lock, Region, info_of}
 use Rattle.tx_plan.specs.Answers.{leaves}
-use Rattle.tx_plan.specs.cases.Collect.{AnswersCollect, SomeLockBelow, kept, long_values}
+use Rattle.tx_plan.specs.cases.Collect.{AnswersCollectBy, HasCollected, SomeLockBelow, kept}
 use Rattle.tx_core.specs.declared.event.Event.TheVariants.{Took}
 use Rattle.tx_core.specs.Histories.{History, left}
 use Rattle.tx_core.specs.Worlds.{route}
@@ -91,7 +91,7 @@ module _ (bounds : List Key) (h : History) (good : Good bounds h) (n : ℕ) (l :
       → Next bounds h (took n (body.Collect b) l a)
   silent a x e next = subst (λ y. Next bounds h (took n (body.Collect b) l y)) (sym e) next
 
-  pub next_collect : (a : Answer) → AnswersCollect (left h n).cells (left h n).safe b a
+  pub next_collect : (a : Answer) → AnswersCollectBy HasCollected (left h n).cells (left h n).safe b a
       → Next bounds h (took n (body.Collect b) l a)
   next_collect a (inl x) =
       silent a (BelowSafePoint (left h n).safe) x.1
@@ -121,7 +121,7 @@ module _ (bounds : List Key) (h : History) (good : Good bounds h) (n : ℕ) (l :
         unchecked = λ e. refl;
         floor = λ r. refl;
       }) (λ r. refl) tt)
-  next_collect a (inr (no0, inr (free, (versions, dropped, e)))) =
-      silent a (Collected (length versions) (long_values (left h n).cells versions)) e
-      (collects (length versions) (long_values (left h n).cells versions)
+  next_collect a (inr (no0, inr (free, (records, values, e)))) =
+      silent a (Collected records values) e
+      (collects records values
       (elim (nat_test b.safe (left h n).safe) [ inl x ↦ x.1 | inr x ↦ absurd (no0 x.1) ]) free)

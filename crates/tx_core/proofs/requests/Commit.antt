@@ -1,5 +1,5 @@
 -- A region answers a commit.
-use Rattle.std.proofs.Common.{◌≡◌, ℕ, ◌<◌, ◌≤◌, ◌==◌, ◌&&◌, ◌++◌, inl, inr, true, cond, List, ◌∷◌, refl, sym, ap, subst, ◌∙◌}
+use Rattle.std.proofs.Common.{◌≡◌, ◌≢◌, ℕ, ◌<◌, ◌≤◌, ◌==◌, ◌&&◌, ◌++◌, inl, inr, true, cond, List, ◌∷◌, None, refl, sym, ap, subst, ◌∙◌, arith}
 use Rattle.std.proofs.lemmas.Bool.{cases_Bool, cases_lt, and_parts, eqb-true, eq-eqb}
 use Rattle.tx_types.specs.declared.key.Key.{Key}
 use Rattle.tx_types.specs.declared.mutation.Fate.TheVariants as fate
@@ -8,24 +8,25 @@ use Rattle.tx_machine.specs.Machine.{Open, Done, table_of}
 use Rattle.tx_plan.specs.declared.body.Commit.{Commit}
 use Rattle.tx_plan.specs.declared.body.Body.TheVariants as body
 use Rattle.tx_plan.specs.declared.answer.Answer.{Answer}
-use Rattle.tx_plan.specs.declared.answer.Answer.TheVariants.{Committed, WriteConflict, AlreadyRolledBack, CommitTsExpired, TxnLockNotFound, BelowSafePoint}
-use Rattle.tx_plan.specs.Cells.{Lock}
-use Rattle.tx_plan.specs.Own.{OwnLock, OwnCommit, lock_committed, commit_lock}
+use Rattle.tx_plan.specs.declared.answer.Answer.TheVariants.{Committed, AlreadyRolledBack, CommitTsExpired, TxnLockNotFound, BelowSafePoint}
+use Rattle.tx_plan.specs.Cells.{Lock, CommitRecord}
+use Rattle.tx_plan.specs.Own.{OwnLock, OwnCommit, OthersCommit, lock_committed, commit_lock}
 use Rattle.tx_plan.specs.cases.Commit.{AnswersCommit, leaves_commit}
 use Rattle.tx_core.specs.Histories.{History, declared, is_first, set_of, set_at, left}
 use Rattle.tx_core.specs.Decisions.{Settles, NoEffect, is_own, accepted, first_decided, decided}
 use Rattle.tx_core.specs.Allowed.{AllowsCommit, MayDecide}
 use Rattle.tx_core.specs.Worlds.{route}
 use Rattle.tx_core.specs.Shadow.{deciding, shadow}
-use Rattle.tx_core.proofs.Basics.{nat_test, nat_same, cond_true}
-use Rattle.tx_core.proofs.view.View.{FellBack, IsCommitted, does_within}
+use Rattle.tx_core.specs.Truth.{IsOpen}
+use Rattle.tx_core.proofs.Basics.{nat_test, nat_same, cond_true, some_of}
+use Rattle.tx_core.proofs.view.View.{FellBack, IsCommitted, does_within, lock_ends}
 use Rattle.tx_core.proofs.changes.Keyed.{own_cases}
 use Rattle.tx_core.proofs.changes.Settling.{settling}
 use Rattle.tx_core.proofs.changes.Deciding as decide
 use Rattle.tx_core.proofs.view.Ends.{first_opens}
 use Rattle.tx_core.proofs.changes.CellsEnds.{ends_settle, ends_finish}
 use Rattle.tx_core.proofs.changes.Sounds.{sound_settle, sound_decide}
-use Rattle.tx_core.proofs.view.Tables.{has_ended}
+use Rattle.tx_core.proofs.view.Tables.{has_ended, still_open}
 use Rattle.tx_core.proofs.view.HistoryView.{view, shown_in}
 use Rattle.tx_core.proofs.requests.Good.{Good, Next, OnKey, took, cells_at, assemble, quiet, decided_same, true_end, true_commit, true_rollback, not_own}
 
@@ -150,6 +151,63 @@ module _ (bounds : List Key) (h : History) (good : Good bounds h) (b : Commit) (
             (does_within (declared h) b.start k by.lock.mutation (good.sound.inv.acceptances b.start k by e).does)
             e) first own low)
 
+    -- its transaction is open where it is refused for its timestamp
+    expired : AllowsCommit h b → b.commit < lock.min → IsOpen (table_of (shadow h)) b.start
+    expired may low = elim may.may [ inl end ↦ absurd (settled end) | inr new ↦ opened new ]
+      where
+        settled : IsCommitted (decided h) b.start b.commit → ⊥
+        settled end = omega (
+          arith,
+          low,
+          lock_ends (view bounds h) b.key lock b.commit good.sound.inv own.stands
+              (subst (λ t. IsCommitted (decided h) t b.commit) (sym own.own) end),
+        )
+
+        opened : MayDecide h may.of.changes b → IsOpen (table_of (shadow h)) b.start
+        opened new =
+            let first : is_first (set_at h b.start) b.key ≡ true =
+            ap (λ o. is_first (set_of o) b.key) may.stands ∙ new.primary in
+            let fell : FellBack (accepted h) b.start =
+            record {
+              key = new.two_phase.key;
+              by = new.two_phase.by;
+              stands = new.two_phase.stands;
+              two_phase =
+                  new.two_phase.two_phase;
+            } in
+            still_open (table_of (shadow h)) (view bounds h) b.start may.of good.sound.inv good.sound.shows may.stands
+            (first_opens (view bounds h) b.key b.start lock good.ends fell first own new.accepted)
+
+    -- no other's commit record stands where it commits: it lies above the start
+    unmet : AllowsCommit h b → (rec : CommitRecord)
+        → OthersCommit (cells_at bounds h b.key).write b.start b.commit rec → ⊥
+    unmet may rec met = elim may.may [
+      | inl end ↦ omega (arith, below, (good.sound.inv.commits b.start b.commit end).range.0)
+      | inr new ↦ (let of = some_of (accepted h b.start b.key)
+          (subst (λ t. accepted h t b.key ≢ None) own.own
+          ((good.sound.inv.keys b.key).lock lock own.stands).accepts) in
+          let is = good.sound.inv.acceptances b.start b.key of.0 of.1 in
+          omega (
+            arith,
+            below,
+            is.above,
+            is.bounded,
+            is.upto,
+            new.drawn.after b.key of.0
+                (does_within (declared h) b.start b.key of.0.lock.mutation is.does) of.1,
+          ))
+    ]
+      where
+        below : b.commit ≤ b.start
+        below = omega (
+          arith,
+          own.own,
+          ((good.sound.inv.keys b.key).alone lock own.stands).above rec.start b.commit rec.mutation
+              ((good.sound.inv.keys b.key).records.committed b.commit rec met.stands)
+              ((good.sound.inv.keys b.key).records.does b.commit rec met.stands)
+              (λ same. met.other (same ∙ own.own)),
+        )
+
   -- ---- the rows
 
   -- a commit that is told again
@@ -182,12 +240,9 @@ module _ (bounds : List Key) (h : History) (good : Good bounds h) (b : Commit) (
       silent a (CommitTsExpired lock.min) x.1
       (quiet bounds h good b.key (body.Commit b) l (CommitTsExpired lock.min) b.start
       (λ c. leaves_commit c b (CommitTsExpired lock.min)) (on_key (CommitTsExpired lock.min)) refl (λ u n. refl) refl
-      tt)
+      (expired lock own may x.0))
   next_commit a may (inr (no0, inl (lock, own, inr (no1, inl (rec, x, e))))) =
-      silent a (WriteConflict rec.start b.commit) e
-      (quiet bounds h good b.key (body.Commit b) l (WriteConflict rec.start b.commit) b.start
-      (λ c. leaves_commit c b (WriteConflict rec.start b.commit)) (on_key (WriteConflict rec.start b.commit)) refl
-      (λ u n. refl) refl tt)
+      absurd (unmet lock own may rec x)
   next_commit a may (inr (no0, inl (lock, own, inr (no1, inr (no2, e))))) =
       silent a (Committed b.commit) e (done lock own may no1)
   next_commit a may (inr (no0, inr (no1, inl (c, own, e)))) = silent a (Committed c) e (again c own no1)

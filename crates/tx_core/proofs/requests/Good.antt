@@ -1,16 +1,16 @@
 -- What holds of every history, and how an answer of a region on one key keeps it.
-use Rattle.std.proofs.Common.{◌≡◌, ◌≢◌, ℕ, ◌≤◌, ◌==◌, ◌++◌, inl, inr, true, false, cond, List, [], ◌∷◌, Option, Some, None, bytes_eq, refl, sym, ap, subst, ◌∙◌, arith}
+use Rattle.std.proofs.Common.{◌≡◌, ◌≢◌, ℕ, ◌<◌, ◌≤◌, ◌==◌, ◌++◌, inl, inr, true, false, cond, List, [], ◌∷◌, Option, Some, None, bytes_eq, refl, sym, ap, subst, ◌∙◌, arith}
 use Rattle.std.proofs.lemmas.Bool.{ne_eqb, eq-eqb}
 use Rattle.std.proofs.Math.Nat.{le-max_left}
 use Rattle.tx_types.specs.declared.key.Key.{Key}
 use Rattle.tx_types.specs.declared.mutation.Fate.{Fate}
 use Rattle.tx_types.specs.declared.mutation.Fate.TheVariants.{Committed, Aborted}
 use Rattle.tx_machine.specs.declared.step.Step.{Step}
-use Rattle.tx_machine.specs.Machine.{State, Open, Done, Reading, table_of}
+use Rattle.tx_machine.specs.Machine.{State, Open, Done, Reading, Commits, table_of}
 use Rattle.tx_plan.specs.declared.body.Body.{Body}
 use Rattle.tx_plan.specs.declared.answer.Answer.{Answer}
 use Rattle.tx_plan.specs.declared.answer.Answer.TheVariants.{Found, Nothing, Rows, KeyIsLocked}
-use Rattle.tx_plan.specs.Cells.{Lock, Region, Cells, with_cells, with_max_read}
+use Rattle.tx_plan.specs.Cells.{Lock, CommitRecord, CommitOf, Region, Cells, with_cells, with_max_read}
 use Rattle.tx_plan.specs.Reads.{raised}
 use Rattle.tx_plan.specs.Own.{OwnCommit, OwnRollback}
 use Rattle.tx_plan.specs.Answers.{leaves, start_in}
@@ -20,10 +20,10 @@ use Rattle.tx_core.specs.Histories.{History, last, set_at, left, Among}
 use Rattle.tx_core.specs.Decisions.{Acceptance, Effect, NoEffect, is_own, effect, effect_in, accepted, accepted_by, decision, first_decided, decided, fate_in}
 use Rattle.tx_core.specs.Worlds.{route}
 use Rattle.tx_core.specs.Shadow.{deciding, deciding_in, checking, reading, shadow}
-use Rattle.tx_core.specs.Truth.{HasEnded, IsTrueAnswer}
+use Rattle.tx_core.specs.Truth.{HasEnded, IsOvertaken, IsTrueAnswer}
 use Rattle.tx_core.proofs.Basics.{nat_test, nat_same, key_test, cond_true, cond_false}
 use Rattle.tx_core.proofs.view.View.{View, IsCommitted}
-use Rattle.tx_core.proofs.view.Tables.{Sound, has_ended}
+use Rattle.tx_core.proofs.view.Tables.{Sound, has_ended, is_commits}
 use Rattle.tx_core.proofs.changes.Raising.{raising}
 use Rattle.tx_core.proofs.changes.Sounds.{sound_raise}
 use Rattle.tx_core.proofs.view.Ends.{Ends}
@@ -238,6 +238,20 @@ module _ (bounds : List Key) (h : History) (good : Good bounds h) where
   pub true_rollback : (k : Key) (t : ℕ) → OwnRollback (cells_at bounds h k).write t
       → HasEnded (table_of (shadow h)) t Aborted
   true_rollback k t own = true_end t Aborted ((good.sound.inv.keys k).records.rolled t own)
+
+  -- another's commit record above a start
+  pub overtakes : (k : Key) (t s c : ℕ) (rec : CommitRecord) → (cells_at bounds h k).write c ≡ Some (CommitOf rec)
+      → rec.start ≡ s → s ≢ t → t < c → IsOvertaken (table_of (shadow h)) k t s c
+  overtakes k t s c rec stands is other above =
+      let x = is_commits (table_of (shadow h)) (view bounds h) k rec.start c rec.mutation good.sound.inv
+      good.sound.shows ((good.sound.inv.keys k).records.committed c rec stands)
+      ((good.sound.inv.keys k).records.does c rec stands) in
+      record {
+        does = x.declared;
+        commits = subst (λ u. Commits (table_of (shadow h)).row k u c x.declared) is x.commits;
+        other = other;
+        above = above;
+      }
 
 -- a lock that is not its own
 pub not_own : (o : Option Lock) (t : ℕ) → ((lock : Lock) → o ≡ Some lock → lock.start ≢ t) → is_own o t ≡ false

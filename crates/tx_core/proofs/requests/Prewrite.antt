@@ -14,7 +14,7 @@ use Rattle.tx_machine.specs.declared.step.Step.TheVariants as step
 use Rattle.tx_types.specs.Keys.{IsInsert}
 use Rattle.tx_types.specs.Kinds.{as_locked}
 use Rattle.tx_machine.specs.Keys.{mutation_at}
-use Rattle.tx_machine.specs.Machine.{State, Open, Done, Reading, IsRead, table_of}
+use Rattle.tx_machine.specs.Machine.{State, Open, Done, Reading, IsRead, Sees, table_of}
 use Rattle.tx_plan.specs.declared.body.Prewrite.{Prewrite}
 use Rattle.tx_plan.specs.declared.body.Body.TheVariants as body
 use Rattle.tx_plan.specs.declared.answer.Answer.{Answer}
@@ -25,7 +25,7 @@ use Rattle.tx_plan.specs.Reads.{Reads}
 use Rattle.tx_plan.specs.Answers.{leaves}
 use Rattle.tx_plan.specs.Own.{OwnLock, OwnRollback}
 use Rattle.tx_plan.specs.Tables.{Case}
-use Rattle.tx_plan.specs.cases.Prewrite.{AnswersPrewrite, IsWithin, MayPromise, least_minimum, leaves_prewrite, read_by_prewrite, check_by, lock_of, locked, named_minimum}
+use Rattle.tx_plan.specs.cases.Prewrite.{AnswersPrewrite, HasValue, IsWithin, MayPromise, least_minimum, leaves_prewrite, read_by_prewrite, check_by, lock_of, locked, named_minimum}
 use Rattle.tx_core.specs.declared.event.Declaration.{Declaration}
 use Rattle.tx_core.specs.declared.event.Taken.{Taken}
 use Rattle.tx_core.specs.declared.event.Event.TheVariants.{Took}
@@ -37,7 +37,7 @@ use Rattle.tx_core.specs.Shadow.{deciding, deciding_in, checked, checking, shado
 use Rattle.tx_core.specs.Truth.{IsTrueAnswer}
 use Rattle.tx_core.proofs.Basics.{nat_test, nat_same, key_test, key_same, key_true, cond_true, cond_false, some_same, none_is}
 use Rattle.tx_core.proofs.view.View.{View, Inv, Does, Inserts, declared_does, bound, bound_async}
-use Rattle.tx_core.proofs.view.Tables.{Sound}
+use Rattle.tx_core.proofs.view.Tables.{Sound, sees}
 use Rattle.tx_core.proofs.view.Ends.{Ends}
 use Rattle.tx_core.proofs.changes.Raising.{raising}
 use Rattle.tx_core.proofs.seats.Numbers.{read_upto_start}
@@ -45,7 +45,7 @@ use Rattle.tx_core.proofs.changes.Locking.{accepting, locking, MayLock, may_lock
 use Rattle.tx_core.proofs.changes.LockingEnds.{ends_lock, lock_opens, lock_decides, ends_lock_decide}
 use Rattle.tx_core.proofs.changes.Sounds.{sound_raise, sound_read, sound_lock, sound_decide}
 use Rattle.tx_core.proofs.view.HistoryView.{noted, checks_by, reads_in, shown_put, shown_in, view}
-use Rattle.tx_core.proofs.requests.Good.{Good, Next, took, same_view, part_same, cells_at, cells_keyed, floor_after, decided_same, true_commit, true_rollback}
+use Rattle.tx_core.proofs.requests.Good.{Good, Next, took, same_view, part_same, cells_at, cells_keyed, floor_after, decided_same, true_commit, true_rollback, overtakes}
 
 -- what is read only raises the greatest timestamp read
 upto_more : (o : Option ℕ) (n : ℕ) → n ≤ read_upto o n
@@ -280,6 +280,23 @@ module _ (bounds : List Key) (h : History) (good : Good bounds h) (b : Prewrite)
       ∙ ap (λ o. with_lock (cells_at bounds h b.key) o) (sym own.stands))
       tt
 
+  -- where no lock stands, a value that is found is seen
+  value_seen : HasValue (cells_at bounds h b.key).write b.start
+      → ((lock : Lock) → (cells_at bounds h b.key).lock ≡ Some lock → ⊥)
+      → (b.start < (left h (route bounds b.key)).safe → ⊥)
+      → (v : Value) × Sees (table_of (shadow h)).row b.key b.start (Some v)
+  value_seen found unlocked kept = (
+    found.0,
+    sees (table_of (shadow h)) (view bounds h) (bytes_eq b.key) b.start good.sound.inv good.sound.shows
+        (λ k lock inside stands visible. absurd (unlocked lock
+        (subst (λ q. (cells_at bounds h q).lock ≡ Some lock) (sym (key_true b.key k inside)) stands)))
+        b.key (key_same b.key)
+        (elim (cases_lt b.start (left h (route bounds b.key)).safe) [
+          | inl lt ↦ absurd (kept lt)
+          | inr le ↦ omega (arith, le, good.sound.inv.marks.low b.key)
+        ]) (Some found.0) found.1,
+  )
+
   -- ---- the rows
 
   pub next_prewrite : (a : Answer) (may : AllowsPrewrite h b) → may.of.drawn ≤ last h → l ≤ last h
@@ -301,9 +318,11 @@ module _ (bounds : List Key) (h : History) (good : Good bounds h) (b : Prewrite)
       silent a (KeyIsLocked (info_of b.key lock)) e (still (KeyIsLocked (info_of b.key lock)) refl refl tt)
   next_prewrite a may drew upto
       (inr (no0, inr (no1, inr (no2, inr (no3, inr (no4, inr (no5, inl (some, (start, c, newest, e))))))))) =
-      silent a (WriteConflict start c) e (still (WriteConflict start c) refl refl tt)
+      silent a (WriteConflict start c) e (still (WriteConflict start c) refl refl
+      (overtakes bounds h good b.key b.start start c newest.rec newest.stands newest.of
+      (λ same. no4 c record { rec = newest.rec; stands = newest.stands; own = newest.of ∙ same }) newest.above))
   next_prewrite a may drew upto (inr (no0, inr (no1, inr (no2, inr (no3, inr (no4, inr (no5, inr (no6, inl x)))))))) =
-      silent a AlreadyExists x.1 (still AlreadyExists refl refl tt)
+      silent a AlreadyExists x.1 (still AlreadyExists refl refl (value_seen x.0.1 no5 no0))
   next_prewrite a may drew upto
       (inr (no0, inr (no1, inr (no2, inr (no3, inr (no4, inr (no5, inr (no6, inr (no7, rest))))))))) = last_rows rest
     where

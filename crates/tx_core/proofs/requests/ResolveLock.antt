@@ -1,14 +1,14 @@
 -- A region answers that a lock is to be resolved.
-use Rattle.std.proofs.Common.{◌≡◌, ℕ, ◌==◌, ◌&&◌, ◌++◌, inl, inr, cond, List, refl, sym, ap, subst, ◌∙◌}
+use Rattle.std.proofs.Common.{◌≡◌, ℕ, ◌==◌, ◌&&◌, ◌++◌, inl, inr, cond, List, refl, sym, ap, subst, ◌∙◌, arith}
 use Rattle.std.proofs.lemmas.Bool.{cases_Bool, and_parts, eqb-true, eq-eqb}
 use Rattle.tx_types.specs.declared.key.Key.{Key}
 use Rattle.tx_types.specs.declared.mutation.Fate.{Fate}
 use Rattle.tx_types.specs.declared.mutation.Fate.TheVariants as fate
-use Rattle.tx_machine.specs.Machine.{Open, Done}
+use Rattle.tx_machine.specs.Machine.{Open, Done, table_of}
 use Rattle.tx_plan.specs.declared.body.ResolveLock.{ResolveLock}
 use Rattle.tx_plan.specs.declared.body.Body.TheVariants as body
 use Rattle.tx_plan.specs.declared.answer.Answer.{Answer}
-use Rattle.tx_plan.specs.declared.answer.Answer.TheVariants.{Resolved, CommitTsExpired, WriteConflict, BelowSafePoint}
+use Rattle.tx_plan.specs.declared.answer.Answer.TheVariants.{Resolved, BelowSafePoint}
 use Rattle.tx_plan.specs.Cells.{Lock}
 use Rattle.tx_plan.specs.Own.{OwnLock, on_own_lock, roll_back, lock_committed, commit_lock}
 use Rattle.tx_plan.specs.cases.Commit.{CommitsLock}
@@ -18,14 +18,15 @@ use Rattle.tx_core.specs.Decisions.{Settles, NoEffect, is_own, effect_of_fate, a
 use Rattle.tx_core.specs.Allowed.{AllowsResolveLock}
 use Rattle.tx_core.specs.Worlds.{route}
 use Rattle.tx_core.specs.Shadow.{shadow}
+use Rattle.tx_core.specs.Truth.{HasEnded}
 use Rattle.tx_core.proofs.Basics.{cond_true}
-use Rattle.tx_core.proofs.view.View.{IsCommitted, IsAborted}
+use Rattle.tx_core.proofs.view.View.{IsCommitted, IsAborted, lock_ends}
 use Rattle.tx_core.proofs.changes.Keyed.{own_cases}
 use Rattle.tx_core.proofs.changes.CellsEnds.{ends_settle, ends_resolve_back}
 use Rattle.tx_core.proofs.changes.Sounds.{sound_settle, sound_resolve_back}
 use Rattle.tx_core.proofs.view.HistoryView.{view, shown_in}
 use Rattle.tx_core.proofs.requests.LeavingRollback.{follows}
-use Rattle.tx_core.proofs.requests.Good.{Good, Next, OnKey, took, cells_at, assemble, quiet, decided_same, not_own}
+use Rattle.tx_core.proofs.requests.Good.{Good, Next, OnKey, took, cells_at, assemble, quiet, decided_same, true_end, not_own}
 
 module _ (bounds : List Key) (h : History) (good : Good bounds h) (b : ResolveLock) (l : ℕ) where
   on_key : (a : Answer) → OnKey b.key (body.ResolveLock b) a b.start (λ c. leaves_resolve_lock c b a)
@@ -67,7 +68,7 @@ module _ (bounds : List Key) (h : History) (good : Good bounds h) (b : ResolveLo
           untold = λ u n. refl;
           sound = λ steps w. sound_resolve_back steps w b.key b.start;
           ends = ends_resolve_back (view bounds h) b.key b.start;
-          tells = λ table ended. tt;
+          tells = λ table ended. subst (HasEnded table b.start) (sym p) ended;
         }
 
     -- it is settled
@@ -83,7 +84,7 @@ module _ (bounds : List Key) (h : History) (good : Good bounds h) (b : ResolveLo
         (ap (λ s. s ++ shadow h) (decided_same b.start (decided h b.start)))
         (sound_settle (shadow h) (view bounds h) b.key b.start c good.sound end)
         (ends_settle (view bounds h) b.key b.start c good.sound.inv good.ends end)
-        tt
+        (subst (HasEnded (table_of (shadow h)) b.start) (sym p) (true_end bounds h good b.start (fate.Committed c) end))
       where
         same_fate : (u : ℕ) → first_decided
             (cond ((b.start == u) && is_first (set_at h u) b.key) (Done (fate.Committed c)) Open) (decided h u)
@@ -97,20 +98,28 @@ module _ (bounds : List Key) (h : History) (good : Good bounds h) (b : ResolveLo
               | inr e ↦ rw e refl
             ]
 
-    -- the refusals of a commit
+    -- the refusals of a commit do not come: it lies at or above the lock's minimum, and another's
+    -- commit at or below the start
     by_commit : (c : ℕ) (a : Answer) → b.fate ≡ fate.Committed c → IsCommitted (decided h) b.start c
         → CommitsLock (cells_at bounds h b.key).write b.start c lock Resolved a
         → Next bounds h (took (route bounds b.key) (body.ResolveLock b) l a)
     by_commit c a p end (inl x) =
-        silent a (CommitTsExpired lock.min) x.1
-        (quiet bounds h good b.key (body.ResolveLock b) l (CommitTsExpired lock.min) b.start
-        (λ x. leaves_resolve_lock x b (CommitTsExpired lock.min)) (on_key (CommitTsExpired lock.min)) refl (λ u n. refl)
-        refl tt)
+        absurd (omega (
+          arith,
+          x.0,
+          lock_ends (view bounds h) b.key lock c good.sound.inv own.stands
+              (subst (λ t. IsCommitted (decided h) t c) (sym own.own) end),
+        ))
     by_commit c a p end (inr (no0, inl (rec, x, e))) =
-        silent a (WriteConflict rec.start c) e
-        (quiet bounds h good b.key (body.ResolveLock b) l (WriteConflict rec.start c) b.start
-        (λ x. leaves_resolve_lock x b (WriteConflict rec.start c)) (on_key (WriteConflict rec.start c)) refl
-        (λ u n. refl) refl tt)
+        absurd (omega (
+          arith,
+          own.own,
+          (good.sound.inv.commits b.start c end).range.0,
+          ((good.sound.inv.keys b.key).alone lock own.stands).above rec.start c rec.mutation
+              ((good.sound.inv.keys b.key).records.committed c rec x.stands)
+              ((good.sound.inv.keys b.key).records.does c rec x.stands)
+              (λ same. x.other (same ∙ own.own)),
+        ))
     by_commit c a p end (inr (no0, inr (no1, e))) = silent a Resolved e (settles c p end)
 
     -- by what is decided
@@ -154,4 +163,4 @@ module _ (bounds : List Key) (h : History) (good : Good bounds h) (b : ResolveLo
       (λ lock e mine. no1 lock (record { stands = e; own = mine }))))
       (λ u n. refl)
       (nothing b.fate no1)
-      tt)
+      (true_end bounds h good b.start b.fate may.decision))

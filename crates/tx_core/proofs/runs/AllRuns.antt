@@ -1,12 +1,13 @@
 -- What holds of every history, by induction.
-use Rattle.std.proofs.Common.{◌≡◌, ℕ, ◌≤◌, inl, inr, List, [], ◌∷◌, Option, Some, None, refl, sym, ap, subst, ◌∙◌, arith}
+use Rattle.std.proofs.Common.{◌≡◌, ℕ, ◌≤◌, inl, inr, List, [], ◌∷◌, Option, Some, refl, sym, ap, subst, ◌∙◌, arith}
 use Rattle.std.specs.Prelude.{Contains}
 use Rattle.tx_types.specs.declared.key.Key.{Key}
 use Rattle.tx_types.specs.declared.mutation.Fate.{Fate}
-use Rattle.tx_machine.specs.Machine.{State, Open, Done, Row, Table, table_of, IsRun}
+use Rattle.tx_machine.specs.Machine.{State, Open, Done, Table, table_of, IsRun}
 use Rattle.tx_plan.specs.declared.body.Body.{Body}
 use Rattle.tx_plan.specs.declared.body.Body.TheVariants.{Get, Scan, Prewrite, Commit, BatchRollback, TxnHeartBeat, CheckTxnStatus, CheckSecondaryLocks, ResolveLock, RaiseSafe, LocksBelow, Collect}
 use Rattle.tx_plan.specs.declared.answer.Answer.{Answer}
+use Rattle.tx_plan.specs.declared.answer.Answer.TheVariants.{Resolved, WriteConflict, CommitTsExpired, TxnNotFound, AlreadyExists}
 use Rattle.tx_plan.specs.Answers.{Answers, start_in}
 use Rattle.tx_core.specs.declared.event.Taken.{Taken}
 use Rattle.tx_core.specs.declared.event.Event.{Event}
@@ -16,11 +17,10 @@ use Rattle.tx_core.specs.Decisions.{effect_in, accepted, decision, first_decided
 use Rattle.tx_core.specs.Allowed.{AllowsRead, Allowed}
 use Rattle.tx_core.specs.Worlds.{Holds, MayTake, MayCome, IsWorldRun}
 use Rattle.tx_core.specs.Shadow.{shadow}
-use Rattle.tx_core.specs.Truth.{HasEnded, EndsBy, IsTrueAnswer, IsTrue, AllTrue}
-use Rattle.tx_core.proofs.Basics.{chosen, some_same}
+use Rattle.tx_core.specs.Truth.{HasEnded, EndsBy, IsTrueAnswer}
 use Rattle.tx_core.proofs.view.View.{View}
 use Rattle.tx_core.proofs.changes.Reading.{Passes}
-use Rattle.tx_core.proofs.view.Tables.{Shows, changes_of}
+use Rattle.tx_core.proofs.view.Tables.{Shows, ended_decided}
 use Rattle.tx_core.proofs.view.HistoryView.{shown_in, view}
 use Rattle.tx_core.proofs.seats.Staying.{was_last_upto, declared_drew}
 use Rattle.tx_core.proofs.requests.Good.{true_end, Good, Next, took}
@@ -37,26 +37,13 @@ use Rattle.tx_core.proofs.requests.RaiseSafe.{next_raise_safe}
 use Rattle.tx_core.proofs.requests.LocksBelow.{next_locks_below}
 use Rattle.tx_core.proofs.requests.Collect.{next_collect}
 use Rattle.tx_core.proofs.locks.Shown.{ToldShown, told_first, told_next, shown_above}
-use Rattle.tx_core.proofs.runs.Events.{good_first, good_drawn, good_began, good_declared, good_answered, good_stopped, true_outcome}
+use Rattle.tx_core.proofs.runs.Events.{good_first, good_drawn, good_began, good_declared, good_answered, good_stopped}
 
 -- ---- an answer that tells of an end tells what is decided
 
 module _ (table : Table) (w : View) (t : ℕ) (s : Shows table w) where
-  is_decided : (e : Fate) → HasEnded table t e → w.decided t ≡ Done e
-  is_decided e ended =
-      elim (chosen (w.began t) (Some record { changes = changes_of (w.declared t); state = w.decided t }) None
-      (Some record { changes = ended.0; state = Done e }) (sym (s.row t) ∙ ended.1)) [
-        | inl x ↦ ap (λ (r : Row). r.state)
-            (some_same record { changes = changes_of (w.declared t); state = w.decided t } record {
-              changes =
-                  ended.0;
-              state = Done e;
-            } x.1)
-        | inr x ↦ absurd (cc (x.1))
-      ]
-
   named_end : (named : Option ℕ) (e : Fate) → named ≡ Some t → EndsBy table named (Some e) → w.decided t ≡ Done e
-  named_end named e is ended = is_decided e (subst (λ o. EndsBy table o (Some e)) is ended)
+  named_end named e is ended = ended_decided table w t e s (subst (λ o. EndsBy table o (Some e)) is ended)
 
   told_fate : (body : Body) (a : Answer) (end : Fate) → start_in body ≡ Some t
       → EndsBy table (start_in body) (fate_in a) → fate_in a ≡ Some end → w.decided t ≡ Done end
@@ -68,6 +55,14 @@ module _ (table : Table) (w : View) (t : ℕ) (s : Shows table w) where
       → fate_in a ≡ Some end → w.decided t ≡ Done end
   told_end (Get b) a end is truth tells = absurd (cc (is))
   told_end (Scan b) a end is truth tells = absurd (cc (is))
+  told_end (Prewrite b) (WriteConflict u c) end is truth tells = absurd (cc (tells))
+  told_end (Prewrite b) AlreadyExists end is truth tells = absurd (cc (tells))
+  told_end (Commit b) (WriteConflict u c) end is truth tells = absurd truth
+  told_end (Commit b) (CommitTsExpired m) end is truth tells = absurd (cc (tells))
+  told_end (CheckTxnStatus b) TxnNotFound end is truth tells = absurd (cc (tells))
+  told_end (ResolveLock b) (WriteConflict u c) end is truth tells = absurd truth
+  told_end (ResolveLock b) (CommitTsExpired m) end is truth tells = absurd truth
+  told_end (ResolveLock b) Resolved end is truth tells = absurd (cc (tells))
   told_end body a end is truth tells = told_fate body a end is truth tells
 
 -- what was decided stays so
@@ -136,7 +131,7 @@ module _ (bounds : List Key) (h : History) (run : IsWorldRun bounds h) (good : G
   next_taken n (LocksBelow b) l a upto allowed holds answers = next_locks_below bounds h good n l b a answers
   next_taken n (Collect b) l a upto allowed holds answers = next_collect bounds h good n l b a answers
 
-  next : (x : Taken) → MayTake bounds h x → Next bounds h x
+  pub next : (x : Taken) → MayTake bounds h x → Next bounds h x
   next x may = next_taken x.region x.body x.loaded x.answer (was_last_upto bounds h run x.loaded may.loaded) may.allowed
       may.holds may.answers
 
@@ -165,14 +160,6 @@ module _ (bounds : List Key) (h : History) (run : IsWorldRun bounds h) (good : G
   good_next (Stopped seat) may = good_stopped bounds h good seat
   good_next (Took x) may = good_took x (next x may)
 
-  true_next : (e : Event) → MayCome bounds h e → IsTrue (table_of (shadow (e ∷ h))) e
-  true_next (Took x) may = (next x may).truth
-  true_next (Answered t o) may = true_outcome bounds h good t o may.2
-  true_next (Drawn seat n) may = tt
-  true_next (Began t) may = tt
-  true_next (Declared d) may = tt
-  true_next (Stopped seat) may = tt
-
 -- ---- every history
 
 -- what holds of a history, and of what was shown in it
@@ -184,12 +171,6 @@ run_told bounds (e ∷ h) run =
 
 pub shadow_runs : (bounds : List Key) (h : History) → IsWorldRun bounds h → IsRun (shadow h)
 shadow_runs bounds h run = (run_told bounds h run).0.sound.run
-
-pub all_true : (bounds : List Key) (h : History) → IsWorldRun bounds h → AllTrue h
-all_true bounds [] run = tt
-all_true bounds (e ∷ h) run =
-    let before = run_told bounds h run.0 in
-    (all_true bounds h run.0, true_next bounds h run.0 before.0 before.1 e run.1)
 
 -- what is decided is how the machine's transaction has ended
 pub decisions_true : (bounds : List Key) (h : History) → IsWorldRun bounds h → (t : ℕ) (end : Fate)

@@ -21,7 +21,7 @@ use Rattle.tx_core.proofs.view.HistoryView.{view}
 use Rattle.tx_core.proofs.runs.AllRuns.{run_told}
 
 -- the facts of the view of a world run
-inv_of : (bounds : List Key) (h : History) → IsWorldRun bounds h → Inv (view bounds h)
+pub inv_of : (bounds : List Key) (h : History) → IsWorldRun bounds h → Inv (view bounds h)
 inv_of bounds h run = (run_told bounds h run).0.sound.inv
 
 -- ---- decisions
@@ -75,7 +75,7 @@ pub accepted_two_phase : (bounds : List Key) (h : History) → IsWorldRun bounds
 accepted_two_phase bounds h run t k by e = ((inv_of bounds h run).acceptances t k by e).mode
 
 -- a lock that is put is an acceptance, where none stood before
-put_accepted : (key : Key) (lock : Lock) (n : ℕ) (before : Option Acceptance)
+pub put_accepted : (key : Key) (lock : Lock) (n : ℕ) (before : Option Acceptance)
     → accepted_by (Puts key lock) n lock.start key before ≢ None
 put_accepted key lock n before = rw (nat_same lock.start, key_same key) (some before)
   where

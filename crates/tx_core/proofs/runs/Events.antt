@@ -1,15 +1,15 @@
 -- Events that no region takes keep what holds of a history.
-use Rattle.std.proofs.Common.{◌≡◌, ◌≢◌, ℕ, ◌<◌, ◌++◌, inl, inr, false, List, [], ◌∷◌, None, refl, ap, ◌∙◌}
+use Rattle.std.proofs.Common.{◌≡◌, ◌≢◌, ℕ, ◌<◌, ◌++◌, inl, inr, true, false, List, [], ◌∷◌, Some, None, refl, ap, ◌∙◌}
 use Rattle.tx_types.specs.declared.key.Key.{Key}
 use Rattle.tx_types.specs.declared.mutation.Fate.TheVariants as fate
-use Rattle.tx_machine.specs.Machine.{table_of}
+use Rattle.tx_machine.specs.Machine.{State, Open, Done, table_of}
 use Rattle.tx_core.specs.declared.event.Declaration.{Declaration}
 use Rattle.tx_core.specs.declared.event.Outcome.{Outcome}
 use Rattle.tx_core.specs.declared.event.Outcome.TheVariants as outcome
 use Rattle.tx_core.specs.declared.event.Taken.{Taken}
 use Rattle.tx_core.specs.declared.event.Event.{Event}
 use Rattle.tx_core.specs.declared.event.Event.TheVariants.{Drawn, Began, Declared, Answered, Stopped, Took}
-use Rattle.tx_core.specs.Histories.{History, last, drawer, began, Among}
+use Rattle.tx_core.specs.Histories.{History, last, drawer, began, declared, Among}
 use Rattle.tx_core.specs.Decisions.{decided}
 use Rattle.tx_core.specs.Worlds.{MayAnswer, MayDeclare}
 use Rattle.tx_core.specs.Shadow.{answering, shadow}
@@ -84,11 +84,22 @@ module _ (bounds : List Key) (h : History) (good : Good bounds h) where
       sound (outcome.Unknown cause) may = good.sound
       sound outcome.ReadOnly may = good.sound
 
-  pub true_outcome : (t : ℕ) (o : Outcome) → MayAnswer h t o → IsTrueOutcome (table_of (shadow (Answered t o ∷ h))) t o
-  true_outcome t (outcome.Committed c) may =
+  -- who declared nothing is open
+  no_end : (t : ℕ) → declared h t ≡ None → decided h t ≡ Open
+  no_end t none = go (decided h t) refl
+    where
+      go : (s : State) → decided h t ≡ s → decided h t ≡ Open
+      go Open e = e
+      go (Done x) e = absurd (good.sound.inv.clock.decides t (λ o. cc (o, e)) none)
+
+  pub true_outcome : (t : ℕ) (o : Outcome) → began h t ≡ true → MayAnswer h t o
+      → IsTrueOutcome (table_of (shadow (Answered t o ∷ h))) t o
+  true_outcome t (outcome.Committed c) begun may =
       has_ended (table_of (shadow h)) (view bounds h) t (fate.Committed c) good.sound.inv good.sound.shows
       (known_commit t c may)
-  true_outcome t outcome.Aborted may =
+  true_outcome t outcome.Aborted begun may =
       has_ended (table_of (shadow h)) (view bounds h) t fate.Aborted good.sound.inv good.sound.shows (known_abort t may)
-  true_outcome t (outcome.Unknown cause) may = tt
-  true_outcome t outcome.ReadOnly may = tt
+  true_outcome t (outcome.Unknown cause) begun may = tt
+  true_outcome t outcome.ReadOnly begun none =
+      let undecided : decided h t ≡ Open = no_end t none in
+      good.sound.shows.row t ∙ rw (begun, none, undecided) refl

@@ -110,15 +110,20 @@ greatest_declared l t c is none =
     (let empty : greatest (accepted l t) (set_of None) ≡ Some c =
     ap (λ o. greatest (accepted l t) (set_of o)) (sym none) ∙ is in cc (empty))
 
--- what a session may answer it may answer later
-pub may_answer_on : (bounds : List Key) (l h : History) → IsWorldRun bounds h → Begins l h → (t : ℕ) (o : Outcome)
-    → MayAnswer l t o → MayAnswer h t o
-may_answer_on bounds l h run b t (outcome.Committed c) may =
+-- a commit that a session may answer it may answer later
+pub may_commit_on : (bounds : List Key) (l h : History) → IsWorldRun bounds h → Begins l h → (t c : ℕ)
+    → MayAnswer l t (outcome.Committed c) → MayAnswer h t (outcome.Committed c)
+may_commit_on bounds l h run b t c may =
     elim may [
       | inl told ↦ inl (told_on l h b t (fate.Committed c) told)
       | inr all ↦ inr (ap (greatest (accepted h t)) (set_on bounds l h run b t (greatest_declared l t c all))
           ∙ greatest_stays (accepted l t) (accepted h t) (accepted_on l h b t) (set_at l t) c all)
     ]
-may_answer_on bounds l h run b t outcome.Aborted may = told_on l h b t fate.Aborted may
-may_answer_on bounds l h run b t (outcome.Unknown cause) may = tt
-may_answer_on bounds l h run b t outcome.ReadOnly may = tt
+
+-- so it may every outcome, as long as nothing is declared since
+pub may_answer_on : (bounds : List Key) (l h : History) → IsWorldRun bounds h → Begins l h → (t : ℕ) (o : Outcome)
+    → (declared l t ≡ None → declared h t ≡ None) → MayAnswer l t o → MayAnswer h t o
+may_answer_on bounds l h run b t (outcome.Committed c) still may = may_commit_on bounds l h run b t c may
+may_answer_on bounds l h run b t outcome.Aborted still may = told_on l h b t fate.Aborted may
+may_answer_on bounds l h run b t (outcome.Unknown cause) still may = tt
+may_answer_on bounds l h run b t outcome.ReadOnly still may = still may

@@ -15,7 +15,7 @@ use Rattle.std.proofs.Math.Nat.{le-max_left}
 use Rattle.tx_plan.specs.Cells.{Lock, Cells, Region}
 use Rattle.tx_plan.specs.Answers.{Answers, leaves}
 use Rattle.tx_plan.specs.Reads.{raised}
-use Rattle.tx_plan.specs.cases.Collect.{AnswersCollect, leaves_collect}
+use Rattle.tx_plan.specs.cases.Collect.{AnswersCollectBy, HasCollected, leaves_collect}
 use Rattle.tx_plan.specs.Plans.{read_upto as rise}
 use Rattle.tx_plan.specs.cases.Prewrite.{AnswersPrewrite, MayPromise, read_by_prewrite, check_by}
 use Rattle.tx_plan.specs.cases.RaiseSafe.{AnswersRaiseSafe, leaves_raise_safe}
@@ -106,7 +106,7 @@ raise_upto region loaded top b Raised is upto (inr (no0, inr (no1, rest))) =
 raise_upto region loaded top b _ is upto answers = is
 
 collect_upto : (region : Region) (top : ℕ) (b : Collect) (a : Answer) → IsUpto region top
-    → AnswersCollect region.cells region.safe b a → IsUpto (leaves_collect region b a) top
+    → AnswersCollectBy HasCollected region.cells region.safe b a → IsUpto (leaves_collect region b a) top
 collect_upto region top b (Collected records values) is (inl x) = absurd (cc (x.1))
 collect_upto region top b (Collected records values) is (inr (no0, rest)) =
     elim (nat_test b.safe region.safe) [

@@ -118,13 +118,14 @@ module _ (bounds : List Key) (i : ℕ) (l : History) where
       let still = drawer_on bounds l h run (extends_begins i l h goes) t i by in
       ((is_some (drawer h t) i still, unbegun_on bounds i t l h run goes by new), still)
 
-  -- it declares once, with a number that it drew since
-  pub may_declare : (d : Declaration) → drawer l d.start ≡ Some i → began l d.start ≡ true → declared l d.start ≡ None
-      → d.changes ≢ [] → IsDistinct d.changes → DrewSince l d.start d.drawn → MayRecord bounds i l (Declared d)
-  may_declare d by begun new some distinct drew h run goes =
+  -- it declares once, with a number that it drew since, before it answers
+  pub may_declare : (d : Declaration) → drawer l d.start ≡ Some i → began l d.start ≡ true
+      → answered l d.start ≡ false → declared l d.start ≡ None → d.changes ≢ [] → IsDistinct d.changes → DrewSince l d.start d.drawn → MayRecord bounds i l (Declared d)
+  may_declare d by begun unanswered new some distinct drew h run goes =
       let b = extends_begins i l h goes in (
         record {
           begun = began_on l h b d.start begun;
+          unanswered = unanswered_on bounds i d.start l h run goes by unanswered;
           once = undeclared_on bounds i d.start l h run goes by new;
           some =
               some;
@@ -139,7 +140,11 @@ module _ (bounds : List Key) (i : ℕ) (l : History) where
       → MayAnswer l t o → MayRecord bounds i l (Answered t o)
   may_answer t o by begun new may h run goes =
       let b = extends_begins i l h goes in (
-        (began_on l h b t begun, unanswered_on bounds i t l h run goes by new, may_answer_on bounds l h run b t o may),
+        (
+          began_on l h b t begun,
+          unanswered_on bounds i t l h run goes by new,
+          may_answer_on bounds l h run b t o (undeclared_on bounds i t l h run goes by) may,
+        ),
         drawer_on bounds l h run b t i by,
       )
 

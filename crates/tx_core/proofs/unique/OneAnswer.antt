@@ -12,7 +12,7 @@ use Rattle.tx_plan.specs.Cells.{Cells, Region, no_cells, with_cells}
 use Rattle.tx_plan.specs.Own.{OwnCommit}
 use Rattle.tx_plan.specs.Answers.{AnswersBy, leaves}
 use Rattle.tx_plan.specs.cases.Prewrite.{least_minimum}
-use Rattle.tx_plan.specs.cases.Collect.{keeps, kept}
+use Rattle.tx_plan.specs.cases.Collect.{CountsDropped, keeps, kept}
 use Rattle.tx_core.specs.declared.event.Event.TheVariants.{Drawn, Began, Declared, Answered, Stopped, Took}
 use Rattle.tx_core.specs.Histories.{History, left}
 use Rattle.tx_core.specs.ReadMarks.{max_ts, AnswersNext}
@@ -98,8 +98,8 @@ module _ (bounds : List Key) where
 
   -- whatever the least minimum is
   pub one_answer_by : (least : PrewriteBody → ℕ) (h : History) (n loaded : ℕ) (q : Body) (a b : Answer)
-      → IsWorldRun bounds h → AnswersBy (λ x m. m ≡ least x) (left h n) loaded q a
-      → AnswersBy (λ x m. m ≡ least x) (left h n) loaded q b → a ≡ b
+      → IsWorldRun bounds h → AnswersBy (λ x m. m ≡ least x) CountsDropped (left h n) loaded q a
+      → AnswersBy (λ x m. m ≡ least x) CountsDropped (left h n) loaded q b → a ≡ b
   one_answer_by least h n loaded (Get q) a b run = one_get ((left h n).cells q.key) (left h n).safe loaded q a b
   one_answer_by least h n loaded (Scan q) a b run = one_scan (left h n).cells q (left h n).safe loaded a b
   one_answer_by least h n loaded (Prewrite q) a b run =

@@ -12,16 +12,16 @@ use Rattle.tx_types.specs.Keys.{IsVisible, put_by}
 use Rattle.tx_types.specs.Kinds.{as_locked}
 use Rattle.std.specs.Prelude.{option_map}
 use Rattle.tx_machine.specs.Keys.{mutation_at}
-use Rattle.tx_machine.specs.Machine.{State, Done, IsRead}
-use Rattle.tx_plan.specs.Cells.{CommitRecord, CommitOf}
+use Rattle.tx_machine.specs.Machine.{State, Open, Done, IsRead}
+use Rattle.tx_plan.specs.Cells.{Lock, CommitRecord, CommitOf, info_of}
 use Rattle.tx_core.specs.declared.event.Declaration.{Declaration}
 use Rattle.tx_core.specs.Histories.{set_of}
 use Rattle.tx_core.proofs.Basics.{nat_test, chosen, some_same, some_of}
-use Rattle.tx_core.proofs.view.View.{View, Inv, Does, HasNoValue, IsCommitted, Written, Held, does_within, declared_does, one_does, lock_ends}
+use Rattle.tx_core.proofs.view.View.{View, Inv, Does, HasNoValue, IsCommitted, Written, Held, does_declared, does_within, declared_does, one_does, lock_ends}
 use Rattle.tx_machine.specs.declared.step.Step.{Step}
 use Rattle.tx_machine.specs.Machine.{Row, Table, Commits, Newest, NoneBetween, Sees, MayCommit, table_of, IsRun}
 use Rattle.tx_plan.specs.Reads.{NoneWritten, Finds, Reads}
-use Rattle.tx_core.specs.Truth.{HasEnded}
+use Rattle.tx_core.specs.Truth.{HasEnded, IsOpen, IsToldLock}
 use Rattle.tx_core.proofs.changes.Reading.{Unblocked}
 use Rattle.tx_core.proofs.changes.Deciding.{CanDecide}
 
@@ -158,6 +158,45 @@ has_ended table w t e i s end =
       s.row t ∙ row_declared w t of.0 i of.1
           ∙ ap (λ x. Some record { changes = Some of.0.changes; state = x }) end,
     )
+
+-- and who has ended so in the machine is decided so
+pub ended_decided : (table : Table) (w : View) (t : ℕ) (e : Fate) → Shows table w → HasEnded table t e
+    → w.decided t ≡ Done e
+ended_decided table w t e s ended =
+    elim (chosen (w.began t) (Some record { changes = changes_of (w.declared t); state = w.decided t }) None
+    (Some record { changes = ended.0; state = Done e }) (sym (s.row t) ∙ ended.1)) [
+      | inl x ↦ ap (λ (r : Row). r.state)
+          (some_same record { changes = changes_of (w.declared t); state = w.decided t } record {
+            changes =
+                ended.0;
+            state = Done e;
+          } x.1)
+      | inr x ↦ absurd (cc (x.1))
+    ]
+
+-- who is declared and not decided is open in the machine
+pub still_open : (table : Table) (w : View) (t : ℕ) (d : Declaration) → Inv w → Shows table w → w.declared t ≡ Some d
+    → w.decided t ≡ Open → IsOpen table t
+still_open table w t d i s e undecided = (
+  Some d.changes,
+  s.row t ∙ row_declared w t d i e
+      ∙ ap (λ x. Some record { changes = Some d.changes; state = x }) undecided,
+)
+
+-- what is told of a lock that stands is so in the machine
+pub stands_told : (table : Table) (w : View) (k : Key) (lock : Lock) → Inv w → Shows table w
+    → (w.cells k).lock ≡ Some lock → IsToldLock table (info_of k lock)
+stands_told table w k lock i s stands =
+    let does : Does w.declared lock.start k lock.mutation = ((i.keys k).lock lock stands).does in
+    let of = some_of (w.declared lock.start) (does_declared w.declared lock.start k lock.mutation does) in
+    record {
+      set = of.0.changes;
+      state = w.decided lock.start;
+      row_is = s.row lock.start ∙ row_declared w lock.start of.0 i of.1;
+      within = subst (λ o. mutation_at (set_of o) k ≢ None) of.1
+          (does_within w.declared lock.start k lock.mutation does);
+      above = λ c end. lock_ends w k lock c i stands end;
+    }
 
 -- the machine may commit what the view may decide
 pub may_commit : (table : Table) (w : View) (t c : ℕ) → Inv w → Shows table w → CanDecide w t c → MayCommit table t c

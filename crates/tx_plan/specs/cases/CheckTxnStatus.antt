@@ -22,7 +22,7 @@ with_minimum lock min = record lock { min = min }
 abbrev pub ChecksLock : CheckTxnStatus → Lock → Answer → Type 0
 ChecksLock b lock a =
     Case ((lock.mode ≡ Async) × (b.force_sync_commit ≡ false)) (a ≡ Locked (info_of b.key lock))
-    (Case (IsExpired lock b.current) (a ≡ RolledBack)
+    (Case (lock.start + lock.ttl < b.current) (a ≡ RolledBack)
     (Case (lock.min ≤ b.caller) (a ≡ Locked (info_of b.key (with_minimum lock (b.caller + 1))))
     (a ≡ Locked (info_of b.key lock))))
 

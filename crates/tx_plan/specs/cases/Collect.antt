@@ -18,14 +18,12 @@ use Rattle.tx_plan.specs.cases.LocksBelow.{IsLockBelow}
 abbrev pub is_put : Mutation → Bool
 is_put (Put v) = true
 is_put (Insert v) = true
-is_put Delete = false
-is_put Lock = false
+is_put _ = false
 
 -- whether the commit record that stands of a version, if one does, passes the test
 abbrev pub commit_is : (Mutation → Bool) → Option Write → Bool
-commit_is test None = false
-commit_is test (Some Rollback) = false
 commit_is test (Some (CommitOf rec)) = test rec.mutation
+commit_is test _ = false
 
 -- none of the n timestamps above q holds a put or delete
 abbrev pub none_above : Writes → ℕ → ℕ → Bool
@@ -71,14 +69,26 @@ pub record IsFirstBelow (cells : Key → Cells) (safe : ℕ) (info : LockInfo) :
   pub first : (other : LockInfo) → IsLockBelow cells safe other → IsTrue (key_lt other.key info.key) → ⊥
 
 -- A timestamp that is not the region's safe point is refused, and so is collection while a lock
--- started below it: it names the first by key. Else it counts the records that it drops, and the
--- values of the `default` family that go with them.
-abbrev pub AnswersCollect : (Key → Cells) → ℕ → Collect → Answer → Type 0
-AnswersCollect cells safe b a =
+-- started below it: it names the first by key. Else it has collected, and tells two counts.
+-- `Counts` says which.
+abbrev pub AnswersCollectBy : ((Key → Cells) → ℕ → Answer → Type 0) → (Key → Cells) → ℕ → Collect → Answer → Type 0
+AnswersCollectBy Counts cells safe b a =
     Case (b.safe ≢ safe) (a ≡ BelowSafePoint safe)
-    (Case (SomeLockBelow cells b.safe) ((info : LockInfo) × IsFirstBelow cells b.safe info × (a ≡ LocksRemain info))
-    ((versions : List (Key × ℕ)) × AllDropped cells b.safe versions
-    × (a ≡ Collected (length versions) (long_values cells versions))))
+    (Case ((info : LockInfo) × IsLockBelow cells b.safe info) ((info : LockInfo) × IsFirstBelow cells b.safe info × (a ≡ LocksRemain info))
+    (Counts cells b.safe a))
+
+-- it has collected, whatever it counted
+abbrev pub HasCollected : (Key → Cells) → ℕ → Answer → Type 0
+HasCollected cells safe a = (records values : ℕ) × (a ≡ Collected records values)
+
+-- it counts the records that it drops, and the values of the `default` family that go with them
+abbrev pub CountsDropped : (Key → Cells) → ℕ → Answer → Type 0
+CountsDropped cells safe a = (versions : List (Key × ℕ)) × AllDropped cells safe versions
+    × (a ≡ Collected (length versions) (long_values cells versions))
+
+-- what a region of this store answers: with these counts
+abbrev pub AnswersCollect : (Key → Cells) → ℕ → Collect → Answer → Type 0
+AnswersCollect = AnswersCollectBy CountsDropped
 
 -- Where it has collected, the records that are not kept are gone, on every key, and the region has
 -- collected up to there.

@@ -98,15 +98,12 @@ leaves_prewrite cells b _ = cells
 
 -- the check of an insert is a read at the start of its transaction
 abbrev pub check_by : Mutation → ℕ → Option ℕ
-check_by (mutation.Put v) t = None
 check_by (mutation.Insert v) t = Some t
-check_by mutation.Delete t = None
-check_by mutation.Lock t = None
+check_by _ t = None
 
 -- The timestamp that a prewrite reads at: where its check was made, which is where a value stood in
 -- the way, and where its lock was put. A lock that stood before was checked then.
 abbrev pub read_by_prewrite : Answer → Option Lock → Prewrite → Option ℕ
 read_by_prewrite AlreadyExists lock b = check_by b.mutation b.start
 read_by_prewrite (Prewritten m) None b = check_by b.mutation b.start
-read_by_prewrite (Prewritten m) (Some lock) b = None
 read_by_prewrite _ lock b = None

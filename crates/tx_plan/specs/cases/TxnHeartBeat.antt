@@ -22,5 +22,5 @@ with_ttl lock ttl = record lock { ttl = ttl }
 
 -- The transaction's lock has the time to live of the answer.
 abbrev pub leaves_txn_heart_beat : Cells → TxnHeartBeat → Answer → Cells
-leaves_txn_heart_beat cells b (Ttl ttl) = on_own_lock cells b.start (λ lock. with_lock cells (Some (with_ttl lock ttl)))
+leaves_txn_heart_beat cells b (Ttl ttl) = on_own_lock cells b.start (λ lock. with_lock cells (Some record lock { ttl = ttl }))
 leaves_txn_heart_beat cells b _ = cells

@@ -1,0 +1,52 @@
+-- Each answer of a world run is true of the machine, and so is what is told of locks.
+use Rattle.std.proofs.Common.{◌≡◌, ◌==◌, List, [], ◌∷◌, Some, sym, ap, subst, ◌∙◌}
+use Rattle.tx_types.specs.declared.key.Key.{Key}
+use Rattle.tx_plan.specs.Cells.{Region}
+use Rattle.tx_plan.specs.Answers.{leaves}
+use Rattle.tx_machine.specs.Machine.{table_of}
+use Rattle.tx_core.specs.declared.event.Taken.{Taken}
+use Rattle.tx_core.specs.declared.event.Event.{Event}
+use Rattle.tx_core.specs.declared.event.Event.TheVariants.{Drawn, Began, Declared, Answered, Stopped, Took}
+use Rattle.tx_core.specs.Histories.{History, last, left}
+use Rattle.tx_core.specs.Worlds.{IsWorldRun}
+use Rattle.tx_core.specs.Shadow.{shadow}
+use Rattle.tx_core.specs.Truth.{IsToldLock, TellsLocks, IsTrue, AllTrue}
+use Rattle.tx_core.proofs.Basics.{nat_same, cond_true}
+use Rattle.tx_core.proofs.view.HistoryView.{view}
+use Rattle.tx_core.proofs.view.Tables.{stands_told}
+use Rattle.tx_core.proofs.requests.Good.{cells_at}
+use Rattle.tx_core.proofs.runs.AllRuns.{run_told, next}
+use Rattle.tx_core.proofs.runs.Events.{true_outcome}
+use Rattle.tx_core.proofs.locks.ToldLocks.{tells}
+
+-- a lock that an answer shows stands after it
+tells_locks : (bounds : List Key) (h : History) (x : Taken) → IsWorldRun bounds (Took x ∷ h)
+    → TellsLocks (table_of (shadow (Took x ∷ h))) x.answer
+tells_locks bounds h x run info told =
+    let found = tells (left h x.region) x.loaded (last h) x.body x.answer run.1.answers info told in
+    let after : left (Took x ∷ h) x.region ≡ leaves (left h x.region) x.body x.answer =
+    cond_true (x.region == x.region) (leaves (left h x.region) x.body x.answer) (left h x.region) (nat_same x.region) in
+    let stands : ((left (Took x ∷ h) x.region).cells info.key).lock ≡ Some found.0 =
+    ap (λ (r : Region). (r.cells info.key).lock) after ∙ found.1 in
+    let is = run_told bounds (Took x ∷ h) run in
+    let here : (cells_at bounds (Took x ∷ h) info.key).lock ≡ Some found.0 =
+    subst (λ n. ((left (Took x ∷ h) n).cells info.key).lock ≡ Some found.0)
+    (sym (is.1.routed x.region info.key found.0 stands)) stands in
+    subst (IsToldLock (table_of (shadow (Took x ∷ h)))) (sym found.2)
+    (stands_told (table_of (shadow (Took x ∷ h))) (view bounds (Took x ∷ h)) info.key found.0 is.0.sound.inv
+    is.0.sound.shows here)
+
+true_next : (bounds : List Key) (h : History) (e : Event) → IsWorldRun bounds (e ∷ h)
+    → IsTrue (table_of (shadow (e ∷ h))) e
+true_next bounds h (Took x) run =
+    let before = run_told bounds h run.0 in
+    ((next bounds h run.0 before.0 before.1 x run.1).truth, tells_locks bounds h x run)
+true_next bounds h (Answered t o) run = true_outcome bounds h (run_told bounds h run.0).0 t o run.1.0 run.1.2
+true_next bounds h (Drawn seat n) run = tt
+true_next bounds h (Began t) run = tt
+true_next bounds h (Declared d) run = tt
+true_next bounds h (Stopped seat) run = tt
+
+pub all_true : (bounds : List Key) (h : History) → IsWorldRun bounds h → AllTrue h
+all_true bounds [] run = tt
+all_true bounds (e ∷ h) run = (all_true bounds h run.0, true_next bounds h e run)
