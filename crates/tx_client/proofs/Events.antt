@@ -16,7 +16,7 @@ use Rattle.tx_core.specs.declared.event.Outcome.{Outcome}
 use Rattle.tx_core.specs.declared.event.Outcome.TheVariants as outcome
 use Rattle.tx_core.specs.declared.event.UnknownCause.{UnknownCause}
 use Rattle.tx_core.specs.declared.event.Event.TheVariants.{Drawn, Began, Declared, Answered}
-use Rattle.tx_core.specs.Histories.{History, drawer, began, declared, DrewSince, set_of, Begins}
+use Rattle.tx_core.specs.Histories.{History, drawer, began, declared, answered, DrewSince, set_of, Begins}
 use Rattle.tx_core.specs.Decisions.{accepted, HasTwoPhaseLock}
 use Rattle.tx_core.specs.Allowed.{MayPass}
 use Rattle.tx_core.specs.Worlds.{MayAnswer, IsWorldRun}
@@ -24,7 +24,6 @@ use Rattle.tx_core.specs.Recording.{MayRecord, Extends}
 use Rattle.tx_core.proofs.Basics.{nat_same, key_test, is_some}
 use Rattle.tx_core.proofs.seats.Beginnings.{begins_all, extends_begins}
 use Rattle.tx_core.proofs.seats.Staying.{drawer_on, drawer_new, began_new, began_drawn}
-use Rattle.tx_core.proofs.seats.Answering.{may_answer_on}
 use Rattle.tx_core.proofs.seats.Recording.{unbegun_on, may_declare, may_answer}
 use Rattle.tx_core.proofs.runs.Consequences.{undeclared, unanswered, accepted_upto}
 use Rattle.tx_journal.specs.Known.{HasRecorded, HasDrawn}
@@ -34,7 +33,7 @@ use Rattle.tx_transaction.specs.Buffers.{Entries, fresh, buffered, touched, inse
 use Rattle.tx_transaction.specs.Sessions.{SessionState, begun, is_declared, has_primary, declaration_of, declaration, is_open, can_draw, with_passed, outcome_of, unknown_by, undecided, finish_by, finish_of}
 use Rattle.tx_client.specs.Facts.{standing, Mark, Marks, IsReady, IsSession}
 use Rattle.tx_transaction.proofs.Entries.{distinct_touched}
-use Rattle.tx_client.proofs.Kept.{marks_on, ready_on, read_on, told_of_on, others_act}
+use Rattle.tx_client.proofs.Kept.{marks_on, ready_on, read_on, settled_on, told_of_on, others_act}
 
 -- ---- it begins
 
@@ -181,7 +180,7 @@ drew_number bounds h i s p run is =
       passes = read_on bounds h (Drawn i p ∷ h) run later s.start s.bypass is.passes;
       met = λ info q. told_of_on bounds h (Drawn i p ∷ h) run later info (is.met info q);
       ready = λ c e. ready_on bounds h (Drawn i p ∷ h) run later s.start c (is.ready c e);
-      settled = λ end e. may_answer_on bounds h (Drawn i p ∷ h) run later s.start (outcome_of end) (is.settled end e);
+      settled = λ end e. settled_on bounds h (Drawn i p ∷ h) run later s.start end (is.settled end e);
     }
 
 -- then it drew it since it began
@@ -197,7 +196,7 @@ may_declare_buffer bounds old mid i s p terms d was not_yet drew e =
     let now = placed_ok bounds i s p old mid was drew in
     let is : IsSession mid i s = now.0 in
     let since : DrewSince mid d.start d.drawn = subst (λ t. DrewSince mid t d.drawn) (sym r.0) (subst (DrewSince mid s.start) (sym r.3) now.1) in
-    may_declare bounds i mid d (ap (drawer mid) r.0 ∙ is.drew_start) (ap (began mid) r.0 ∙ is.begun) (ap (declared mid) r.0 ∙ is.stands ∙ ap (standing s.start s.placed s.buffer) (undeclared_yet s.declared not_yet)) r.2 (subst IsDistinct (sym r.1) is.distinct) since
+    may_declare bounds i mid d (ap (drawer mid) r.0 ∙ is.drew_start) (ap (began mid) r.0 ∙ is.begun) (ap (answered mid) r.0 ∙ is.unanswered) (ap (declared mid) r.0 ∙ is.stands ∙ ap (standing s.start s.placed s.buffer) (undeclared_yet s.declared not_yet)) r.2 (subst IsDistinct (sym r.1) is.distinct) since
 
 declared_next : (bounds : List Key) (h : History) (i : ℕ) (s : SessionState) (p : ℕ) (terms : Terms) (d : Declaration) → IsWorldRun bounds (Declared d ∷ h) → IsSession h i s → declaration s.start p s.buffer terms ≡ Some d → IsSession (Declared d ∷ h) i (record s { declared = Some terms; placed = p })
 declared_next bounds h i s p terms d run is e =
@@ -213,7 +212,7 @@ declared_next bounds h i s p terms d run is e =
       passes = read_on bounds h (Declared d ∷ h) run later s.start s.bypass is.passes;
       met = λ info q. told_of_on bounds h (Declared d ∷ h) run later info (is.met info q);
       ready = λ c q. ready_on bounds h (Declared d ∷ h) run later s.start c (is.ready c q);
-      settled = λ end q. may_answer_on bounds h (Declared d ∷ h) run later s.start (outcome_of end) (is.settled end q);
+      settled = λ end q. settled_on bounds h (Declared d ∷ h) run later s.start end (is.settled end q);
     }
 
 -- its seat drew a number, and recorded what it declared with it
@@ -310,7 +309,7 @@ module _ (bounds : List Key) (h : History) (i : ℕ) (s : SessionState) (is : Is
         passes = read_on bounds h (Drawn i c ∷ h) run later s.start s.bypass is.passes;
         met = λ info q. told_of_on bounds h (Drawn i c ∷ h) run later info (is.met info q);
         ready = λ n e. (let same : c ≡ n = cc (e) in subst (IsReady (Drawn i c ∷ h) s.start) same ready_now);
-        settled = λ end e. may_answer_on bounds h (Drawn i c ∷ h) run later s.start (outcome_of end) (is.settled end e);
+        settled = λ end e. settled_on bounds h (Drawn i c ∷ h) run later s.start end (is.settled end e);
       }
 
 -- its seat drew
@@ -321,11 +320,18 @@ drew_ok bounds i s c old new is can d =
 
 -- ---- it ends
 
+-- without a primary nothing stands declared
+none_stands : (start placed : ℕ) (es : Entries) (o : Option Terms) → some_test o && not_empty es ≡ false → standing start placed es o ≡ None
+none_stands start placed es None none = refl
+none_stands start placed [] (Some terms) none = refl
+none_stands start placed (e ∷ es) (Some terms) none = absurd (cc (none))
+
 -- an outcome that it gives it may answer
 module _ (h : History) (i : ℕ) (s : SessionState) (is : IsSession h i s) where
-  unknown : (b : Bool) (o : Outcome) → undecided s b ≡ Some o → MayAnswer h s.start o
-  unknown false o e = (let same : outcome.ReadOnly ≡ o = cc (e) in subst (MayAnswer h s.start) same tt)
-  unknown true o e = by_cause s.cause e
+  unknown : (b : Bool) → has_primary s ≡ b → (o : Outcome) → undecided s b ≡ Some o → MayAnswer h s.start o
+  unknown false none o e = (let same : outcome.ReadOnly ≡ o = cc (e) in
+      subst (MayAnswer h s.start) same (is.stands ∙ none_stands s.start s.placed s.buffer s.declared none))
+  unknown true some o e = by_cause s.cause e
     where
       by_cause : (c : Option UnknownCause) → unknown_by c ≡ Some o → MayAnswer h s.start o
       by_cause None e = absurd (cc (e))
@@ -335,7 +341,7 @@ module _ (h : History) (i : ℕ) (s : SessionState) (is : IsSession h i s) where
   outcome_may o e = go s.decision refl e
     where
       go : (d : Option Fate) → s.decision ≡ d → finish_by s d ≡ Some o → MayAnswer h s.start o
-      go None was e = unknown (has_primary s) o e
+      go None was e = unknown (has_primary s) refl o e
       go (Some end) was e = (let same : outcome_of end ≡ o = cc (e) in subst (MayAnswer h s.start) same (is.settled end was))
 
   pub may_finish : (bounds : List Key) (o : Outcome) → finish_of s ≡ Some o → MayRecord bounds i h (Answered s.start o)

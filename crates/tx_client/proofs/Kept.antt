@@ -2,6 +2,8 @@
 use Rattle.std.proofs.Common.{◌≡◌, ◌≢◌, ℕ, zero, suc, List, [], ◌∷◌, Option, Some, None}
 use Rattle.tx_types.specs.declared.key.Key.{Key}
 use Rattle.tx_types.specs.declared.lock.LockInfo.{LockInfo}
+use Rattle.tx_types.specs.declared.mutation.Fate.{Fate}
+use Rattle.tx_types.specs.declared.mutation.Fate.TheVariants as fate
 use Rattle.tx_plan.specs.declared.body.Body.TheVariants as request
 use Rattle.tx_core.specs.declared.event.Declaration.{Declaration}
 use Rattle.tx_core.specs.declared.event.Event.TheVariants.{Took}
@@ -9,14 +11,14 @@ use Rattle.tx_core.specs.Histories.{History, declared, Begins}
 use Rattle.tx_core.specs.Recording.{Extends}
 use Rattle.tx_core.specs.Decisions.{accepted}
 use Rattle.tx_core.specs.Allowed.{AllowsRead}
-use Rattle.tx_core.specs.Worlds.{IsWorldRun}
+use Rattle.tx_core.specs.Worlds.{IsWorldRun, MayAnswer}
 use Rattle.tx_core.specs.Laws.{WasToldOf}
 use Rattle.tx_core.proofs.Basics.{some_of, is_some}
 use Rattle.tx_core.proofs.seats.Beginnings.{extends_begins}
-use Rattle.tx_core.proofs.seats.Staying.{drawer_on, began_on, declared_on, among_on, accepted_on}
+use Rattle.tx_core.proofs.seats.Staying.{drawer_on, began_on, declared_on, among_on, told_on, accepted_on}
 use Rattle.tx_core.proofs.seats.StaysAllowed.{allowed_on}
 use Rattle.tx_core.proofs.seats.StaysDecided.{two_phase_on, all_accepted_on, drew_on}
-use Rattle.tx_core.proofs.seats.Answering.{may_answer_on}
+use Rattle.tx_core.proofs.seats.Answering.{may_commit_on}
 use Rattle.tx_core.proofs.seats.Recording.{undeclared_on, unanswered_on}
 use Rattle.tx_core.proofs.locks.ToldLocks.{is_lock_on}
 use Rattle.tx_transaction.specs.Buffers.{Entries}
@@ -49,6 +51,10 @@ module _ (bounds : List Key) (l h : History) (run : IsWorldRun bounds h) (b : Be
   pub read_on : (r : ℕ) (bypass : List ℕ) → AllowsRead l r bypass → AllowsRead h r bypass
   read_on r bypass may = allowed_on bounds l h run b (request.Get (record { key = []; at = r; bypass = bypass })) may
 
+  pub settled_on : (t : ℕ) (end : Fate) → MayAnswer l t (outcome_of end) → MayAnswer h t (outcome_of end)
+  settled_on t (fate.Committed c) may = may_commit_on bounds l h run b t c may
+  settled_on t fate.Aborted may = told_on l h b t fate.Aborted may
+
   pub told_of_on : (info : LockInfo) → WasToldOf l info → WasToldOf h info
   told_of_on info was = record { by = was.by; among = among_on l h b (Took was.by) was.among; told = was.told }
 
@@ -65,7 +71,7 @@ others_act bounds l h run i s goes is =
       passes = read_on bounds l h run b s.start s.bypass is.passes;
       met = λ info e. told_of_on bounds l h run b info (is.met info e);
       ready = λ c e. ready_on bounds l h run b s.start c (is.ready c e);
-      settled = λ end e. may_answer_on bounds l h run b s.start (outcome_of end) (is.settled end e);
+      settled = λ end e. settled_on bounds l h run b s.start end (is.settled end e);
     }
   where
     b : Begins l h

@@ -9,7 +9,7 @@ mod resolved;
 mod session;
 
 pub use asking::ask;
-pub use order::commits_above;
+pub use order::{commits_above, starts_above};
 pub use resolved::{Decision, Met, Resolved, Status, WaitCause};
 pub use session::Session;
 pub use tx_transaction::{BufferEntry, Miss, Phase, Progress, Response, Terms};

@@ -109,10 +109,12 @@ fn record_declared<J: JournalId>(
 }
 
 impl<J: JournalId> Session<J> {
-    /// Begins a transaction at a timestamp that its seat draws. It takes no memory. A seat whose
-    /// ticks are spent is handed back.
+    /// Begins a transaction at a timestamp that its seat draws, which lies at or above each commit
+    /// that its seat then knows to be decided. It takes no memory. A seat whose ticks are spent is
+    /// handed back.
     pub fn begin(alloc: Global, mut seat: Seat<J>) -> Result<Session<J>, Seat<J>>
         ensures ok { IfOk result (λ s. (s.state ≡ begun s.state.start) × BeganAt J.bounds seat s.state.start s.seat) }
+        ensures after_known { IfOk result (λ s. IsDrawnAfter seat.events s.seat.events s.state.start) }
         ensures spent { IfErr result (λ s. (s ≡ seat) × (seat.ticks < 1)) }
     {
         let Ok(start) = seat.draw(1) else {
@@ -313,9 +315,9 @@ impl<J: JournalId> Session<J> {
     }
 
     /// Fixes the write set, and, where it is not empty, draws a number for it and records it. It
-    /// commits above each commit whose answer its seat knew of before. `TooManyKeys` where it is to
-    /// commit asynchronously and has more than 256 keys, `OracleSpent` where the ticks of its seat
-    /// are spent: the session is then as it was. It takes no memory.
+    /// commits above each commit that its seat knew to be decided before. `TooManyKeys` where it is
+    /// to commit asynchronously and has more than 256 keys, `OracleSpent` where the ticks of its
+    /// seat are spent: the session is then as it was. It takes no memory.
     pub fn declare(&mut self, terms: Terms) -> Result<(), Fault>
         requires { is_declared self.old.state ≡ false }
         ensures ok { OnOk result ((exceeds self.old.state.buffer terms ≡ false)
@@ -323,7 +325,7 @@ impl<J: JournalId> Session<J> {
             × RecordsDeclared J.bounds self.old.seat
             (declaration self.old.state.start self.new.state.placed self.old.state.buffer terms) self.new.seat) }
         ensures none { OnOk result (not_empty self.old.state.buffer ≡ false → self.new.state.placed ≡ 0) }
-        ensures after_told { OnOk result (not_empty self.old.state.buffer ≡ true
+        ensures after_known { OnOk result (not_empty self.old.state.buffer ≡ true
             → IsDrawnAfter self.old.seat.events self.new.seat.events self.new.state.placed) }
         ensures same { OnErr result (self.new ≡ self.old) }
         ensures err { IfErr result (λ e. ((e ≡ fault.TooManyKeys) × (exceeds self.old.state.buffer terms ≡ true))

@@ -4,11 +4,11 @@ use Rattle.tx_types.specs.declared.key.Key.{Key}
 use Rattle.tx_types.specs.declared.mutation.Mutation.TheVariants.{Delete}
 use Rattle.tx_machine.specs.Keys.{IsDistinct}
 use Rattle.tx_core.specs.declared.event.Event.TheVariants.{Drawn, Began, Declared}
-use Rattle.tx_core.specs.Histories.{History, drawer, began, declared, Begins}
+use Rattle.tx_core.specs.Histories.{History, drawer, began, declared, answered, Begins}
 use Rattle.tx_core.specs.Recording.{MayRecord}
 use Rattle.tx_core.specs.Worlds.{IsWorldRun}
 use Rattle.tx_core.proofs.seats.Beginnings.{begins_all, extends_begins}
-use Rattle.tx_core.proofs.seats.Recording.{undeclared_on, may_declare}
+use Rattle.tx_core.proofs.seats.Recording.{undeclared_on, unanswered_on, may_declare}
 use Rattle.tx_core.proofs.seats.Staying.{began_on, drawer_on}
 use Rattle.tx_journal.specs.Known.{HasRecorded, HasDrawn}
 use Rattle.tx_client.proofs.Events.{began_ok}
@@ -25,6 +25,7 @@ module _ (bounds : List Key) (i t p : ℕ) (first second : Key) where
       let on : Begins new placed.before = extends_begins i new placed.before placed.extends in
       let by : drawer placed.before t ≡ Some i = drawer_on bounds new placed.before run.0 on t i is.drew_start in
       let begun : began placed.before t ≡ true = began_on new placed.before on t is.begun in
+      let fresh : answered placed.before t ≡ false = unanswered_on bounds i t new placed.before run.0 placed.extends is.drew_start is.unanswered in
       let still : declared placed.before t ≡ None = undeclared_on bounds i t new placed.before run.0 placed.extends is.drew_start is.stands in
       subst (λ h. MayRecord bounds i h (Declared (both_of t p first second))) (sym placed.is)
-      (may_declare bounds i (Drawn i p ∷ placed.before) (both_of t p first second) (drawer_on bounds placed.before (Drawn i p ∷ placed.before) run (inr (begins_all placed.before)) t i by) begun still (λ none. cc (none)) (distinct differ) (inl (refl, begun, by)))
+      (may_declare bounds i (Drawn i p ∷ placed.before) (both_of t p first second) (drawer_on bounds placed.before (Drawn i p ∷ placed.before) run (inr (begins_all placed.before)) t i by) begun fresh still (λ none. cc (none)) (distinct differ) (inl (refl, begun, by)))

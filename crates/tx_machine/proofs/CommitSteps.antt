@@ -23,14 +23,14 @@ use Rattle.tx_machine.specs.declared.commit.Block.TheVariants as block
 use Rattle.tx_machine.specs.declared.step.Step.TheVariants.{Commit}
 use Rattle.tx_machine.specs.Keys.{mutation_at, is_insert, inserted, IsDistinct}
 use Rattle.tx_types.specs.Keys.{IsInsert}
-use Rattle.tx_machine.specs.Machine.{State, Open, Done, Rows, Reading, Table, Commits, Sees, Overlap, IsRead, MayCommit, after, with_row, with_read, changes_in}
+use Rattle.tx_machine.specs.Machine.{State, Open, Done, Rows, Table, Commits, Sees, Overlap, MayCommit, after, with_row, with_read, changes_in}
 use Rattle.tx_machine.specs.Versions.{Versions, Fates, Listed}
-use Rattle.tx_machine.specs.Noted.{IsNoted}
+use Rattle.tx_machine.specs.Noted.{Grows}
 use Rattle.tx_machine.specs.Shown.{Index, versions_of, SeenOf}
-use Rattle.tx_machine.specs.Representation.{row_of, version_in, version_of, put_version, puts, ListsCommits, Inserts, KeepsReads, Tells, ListedOn, InsertedOn, IsKept, InOrder, IsFree, Blocks}
+use Rattle.tx_machine.specs.Representation.{row_of, version_in, version_of, put_version, puts, ListsCommits, KeepsReads, Tells, ListedOn, IsKept, InOrder, IsFree, Blocks}
 use Rattle.tx_machine.proofs.Basics.{nat_test, key_test, cond_true, cond_false, some_same, nat_same}
 use Rattle.tx_machine.proofs.Distinct.{contained}
-use Rattle.tx_machine.proofs.Steps.{at, row_done, row_ended, state_in, some_changes, rows, row_here, row_other, one_row}
+use Rattle.tx_machine.proofs.Steps.{keeps_more, at, row_done, row_ended, state_in, some_changes, rows, row_here, row_other, one_row}
 
 -- ---- the versions of a write set
 
@@ -89,7 +89,7 @@ done_same : (c d : ℕ) → Done (Committed c) ≡ Done (Committed d) → c ≡ 
 done_same c d e = cc
 
 module _ (last : ℕ) (stages : ℕ → Option TxnStage) (fates : Fates) (index : Index) (reads : Reads) (table : Table)
-    (tells : Tells last stages (tree.get nat_cmp fates) (version_of index) (IsNoted reads) table) where
+    (tells : Tells last stages (tree.get nat_cmp fates) (version_of index) (IsKept index reads) table) where
   -- ---- what is listed is what is committed
 
   pub commit_listed : (k : Key) (u d : ℕ) (m : Mutation) → Commits table.row k u d m
@@ -164,18 +164,6 @@ module _ (last : ℕ) (stages : ℕ → Option TxnStage) (fates : Fates) (index 
         (of_versions k versions v d n e y) lt;
   }
 
-  -- ---- the reads that are kept
-
-  pub kept_read : (k : Key) (r : ℕ) → IsKept index fates reads k r → IsRead table.reads k r
-  kept_read k r (inl x) = tells.reads.made k r x
-  kept_read k r (inr (c, v, x)) = tells.reads.left k r (c, v, on_commit k r c (Insert v) x)
-
-  pub read_kept : (k : Key) (r : ℕ) → IsRead table.reads k r → (s : ℕ) × (r ≤ s) × IsKept index fates reads k s
-  read_kept k r x = elim (tells.reads.kept k r x) [
-    | inl (c, v, y) ↦ (r, omega arith, inr (c, v, commit_on k r c (Insert v) y))
-    | inr (s, le, y) ↦ (s, le, inl y)
-  ]
-
   -- ---- where a read of a key shows no value, the table sees none, and the other way round
 
   none_by : (k : Key) (r : ℕ) (o : Option Versions) → versions_of index k ≡ o → SeenOf o fates r None
@@ -223,7 +211,7 @@ module _ (last : ℕ) (stages : ℕ → Option TxnStage) (fates : Fates) (index 
       opened = open_row none;
       above = above;
       upto = let e : table.last ≡ last = tells.last_is in omega arith;
-      unread = λ k m r e seen x. let kept = read_kept k r x in
+      unread = λ k m r e seen x. let kept = tells.reads.kept k r x in
           let below : kept.0 < c = (free k m e).unread seen kept.0 kept.2 in let h : r ≤ kept.0 = kept.1 in omega arith;
       fresh = λ k v e. none_by k t (versions_of index k) refl ((free k (Insert v) e).fresh tt);
       apart = λ k m n u d e x o. (free k m e).apart u d n (commit_on k u d n x) o;
@@ -243,7 +231,7 @@ module _ (last : ℕ) (stages : ℕ → Option TxnStage) (fates : Fates) (index 
         x.1 (shown_by change.key t (versions_of index change.key) refl
         (may.fresh change.key inserted.0 (does ∙ ap (λ m. Some m) inserted.1))))
     blocked_by may change (block.Read r) does x =
-        let h : r < c = may.unread change.key change.mutation r does x.0 (kept_read change.key r x.2) in
+        let h : r < c = may.unread change.key change.mutation r does x.0 (tells.reads.made change.key r x.2) in
         let g : c ≤ r = x.1 in
         omega arith
 
@@ -322,7 +310,7 @@ module _ (last : ℕ) (stages : ℕ → Option TxnStage) (fates : Fates) (index 
               tells.commits.apart;
         }
 
-        pub tells_stale : Tells last stages (tree.get nat_cmp fates) new (IsNoted reads) table
+        pub tells_stale : Tells last stages (tree.get nat_cmp fates) new (IsKept index reads) table
         tells_stale = record {
           last_is = tells.last_is;
           drawn = tells.drawn;
@@ -342,17 +330,17 @@ module _ (last : ℕ) (stages : ℕ → Option TxnStage) (fates : Fates) (index 
         stale = lists_stale set distinct_set (λ k m e. e) new put
 
         now : Rows
-        now = rows last stages (tree.get nat_cmp fates) (version_of index) (IsNoted reads) table tells t (Some set)
+        now = rows last stages (tree.get nat_cmp fates) (version_of index) (IsKept index reads) table tells t (Some set)
             (Done (Committed c))
 
         now_here : (q : ℕ) → t ≡ q → now q ≡ Some record { changes = Some set; state = Done (Committed c) }
         unfolding now
-        now_here q e = row_here last stages (tree.get nat_cmp fates) (version_of index) (IsNoted reads) table tells t
+        now_here q e = row_here last stages (tree.get nat_cmp fates) (version_of index) (IsKept index reads) table tells t
             (Some set) (Done (Committed c)) q e
 
         now_other : (q : ℕ) → (t == q) ≡ false → now q ≡ table.row q
         unfolding now
-        now_other q e = row_other last stages (tree.get nat_cmp fates) (version_of index) (IsNoted reads) table tells t
+        now_other q e = row_other last stages (tree.get nat_cmp fates) (version_of index) (IsKept index reads) table tells t
             (Some set) (Done (Committed c)) q e
 
         -- who is committed now: those before, and this one
@@ -426,53 +414,23 @@ module _ (last : ℕ) (stages : ℕ → Option TxnStage) (fates : Fates) (index 
           ]
         ]
 
-        open_not_done : (o : Option (List Change)) (d : ℕ)
-            → table.row t ≡ Some record { changes = o; state = Done (Committed d) } → ⊥
-        open_not_done o d e = cc (ap state_in (sym (open_row none) ∙ e))
-
-        old_now : (k : Key) (u d : ℕ) (m : Mutation) → Commits table.row k u d m → Commits now k u d m
-        old_now k u d m x = elim (nat_test t u) [
-          | inl e ↦ absurd (open_not_done (Some x.set) d (ap table.row e.1 ∙ x.row_is))
-          | inr e ↦ record { set = x.set; row_is = now_other u e.0 ∙ x.row_is; does = x.does }
-        ]
-
-        abbrev reads_now : List Reading
-        reads_now = record { covers = inserted (Some set); at = t } ∷ table.reads
-
-        left_now : (k : Key) (r : ℕ) → Inserts now k r → IsRead reads_now k r
-        left_now k r (d, v, x) = elim (own_or_old k r d (Insert v) x) [
-          | inl own ↦ inl (ap is_insert own.2, own.0)
-          | inr old ↦ inr (tells.reads.left k r (d, v, old.1))
-        ]
-
-        own_insert : (k : Key) (r : ℕ) → is_insert (mutation_at set k) ≡ true → t ≡ r → Inserts now k r
-        own_insert k r e same = let v = inserted_is (mutation_at set k) e in
-            (c, v.0, record { set = set; row_is = now_here r same; does = v.1 })
-
-        kept_now : (k : Key) (r : ℕ) → IsRead reads_now k r
-            → Inserts now k r ⊎ ((s : ℕ) × (r ≤ s) × IsNoted reads k s)
-        kept_now k r (inl own) = inl (own_insert k r own.0 own.1)
-        kept_now k r (inr old) = elim (tells.reads.kept k r old) [
-          | inl (d, v, x) ↦ inl (d, v, old_now k r d (Insert v) x)
-          | inr x ↦ inr x
-        ]
-
-        now_keeps : KeepsReads now reads_now (IsNoted reads)
-        now_keeps = record { made = λ k r x. inr (tells.reads.made k r x); left = left_now; kept = kept_now }
-
         now_lists : ListsCommits now new
         now_lists = record { listed = now_listed; declared = now_declared; above = now_above; apart = now_apart }
 
         module _ (new_fates : ℕ → Option Fate) (was : (q : ℕ)
-            → new_fates q ≡ cond (is_eq (nat_cmp t q)) (Some (Committed c)) (tree.get nat_cmp fates q)) where
+            → new_fates q ≡ cond (is_eq (nat_cmp t q)) (Some (Committed c)) (tree.get nat_cmp fates q))
+            (kept : Key → ℕ → Type 0) (grows : Grows (IsKept index reads) kept (inserted (Some set)) t) where
           now_ended : new_fates t ≡ Some (Committed c)
           now_ended = at new_fates (tree.get nat_cmp fates) t (Committed c) was t ∙ cond_true _ _ _ (nat_same t)
 
-          one : Tells last stages new_fates new (IsNoted reads)
+          now_keeps : KeepsReads (record { covers = inserted (Some set); at = t } ∷ table.reads) kept
+          now_keeps = keeps_more table.reads (IsKept index reads) kept (inserted (Some set)) t tells.reads grows
+
+          one : Tells last stages new_fates new kept
               (with_read (with_row table t (Some set) (Done (Committed c))) (inserted (Some set)) t)
           unfolding now
           one =
-              one_row last stages (tree.get nat_cmp fates) (version_of index) (IsNoted reads) table tells t (Some set)
+              one_row last stages (tree.get nat_cmp fates) (version_of index) (IsKept index reads) table tells t (Some set)
               (Done (Committed c)) stages new_fates new
               (ap (λ (s : Option TxnStage). row_of s (new_fates t)) stage ∙ ap (row_of (Some (Declared set))) now_ended)
               (λ q e. refl)
@@ -480,10 +438,11 @@ module _ (last : ℕ) (stages : ℕ → Option TxnStage) (fates : Fates) (index 
               refl
               (λ xs e. subst (λ (ys : List Change). IsDistinct ys) (some_same _ _ e) distinct_set)
               now_lists
-              reads_now
+              (record { covers = inserted (Some set); at = t } ∷ table.reads)
+              kept
               now_keeps
 
-          pub committed : Tells last stages new_fates new (IsNoted reads) (after table (Commit t c))
+          pub committed : Tells last stages new_fates new kept (after table (Commit t c))
           committed = subst (λ (cs :
-              Option (List Change)). Tells last stages new_fates new (IsNoted reads)
+              Option (List Change)). Tells last stages new_fates new kept
               (with_read (with_row table t cs (Done (Committed c))) (inserted cs) t)) (sym (ap changes_in (open_row none))) one

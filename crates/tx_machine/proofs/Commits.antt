@@ -1,6 +1,5 @@
 -- What a commit lists, and what forbids it.
-use Rattle.std.proofs.Common.{◌≡◌, ℕ, ◌+◌, ◌<◌, ◌==◌, ◌⊎◌, ◌++◌, ◌&&◌, inl, inr, Bool, true, false, not, cond, List, [], ◌∷◌, length, take, get_or, Option, Some, None, bytes_eq, refl, sym, ap, subst, ◌∙◌, ◌≤◌, arith, IfNone}
-use Rattle.std.proofs.lemmas.Bool.{cases_lt}
+use Rattle.std.proofs.Common.{◌≡◌, ℕ, ◌+◌, ◌<◌, ◌==◌, ◌⊎◌, ◌++◌, inl, inr, Bool, true, false, not, cond, List, [], ◌∷◌, length, take, get_or, Option, Some, None, bytes_eq, refl, sym, ap, subst, ◌∙◌}
 use Rattle.std.proofs.Common.{Result, Ok, Err}
 use Rattle.std.specs.Result.{OnErr}
 use Rattle.std.proofs.lemmas.List.{take_more}
@@ -9,22 +8,46 @@ use Rattle.std.specs.Cmp.Lexicographic.{slice_cmp}
 use Rattle.std.specs.Ordering.{nat_cmp, is_eq}
 use Rattle.std.proofs.lemmas.Map.Text.{is_eq-slice_cmp}
 use Rattle.tx_types.specs.declared.key.Key.{Key}
-use Rattle.tx_types.specs.declared.value.Value.{Value}
 use Rattle.tx_types.specs.declared.mutation.Change.{Change}
 use Rattle.tx_types.specs.declared.mutation.Mutation.{Mutation}
 use Rattle.tx_types.specs.declared.mutation.Mutation.TheVariants as mutation
 use Rattle.tx_machine.specs.declared.versions.Version.{Version}
+use Rattle.tx_machine.specs.declared.versions.KeyHistory.{KeyHistory}
 use Rattle.tx_machine.specs.declared.reads.Reads.{Reads}
 use Rattle.tx_types.specs.Keys.{IsVisible, IsInsert}
 use Rattle.tx_machine.specs.Keys.{mutation_at}
 use Rattle.tx_machine.specs.Machine.{Overlap}
-use Rattle.tx_machine.specs.Versions.{Versions, Fates, Listed}
+use Rattle.tx_machine.specs.Versions.{Versions, Fates}
 use Rattle.tx_machine.specs.Noted.{IsNoted}
-use Rattle.tx_machine.specs.Shown.{Index, versions_of, Shows}
-use Rattle.tx_machine.specs.Representation.{version_in, put_version, puts, ListedOn, InsertedOn, InOrder, IsFree}
+use Rattle.tx_machine.specs.Shown.{Index, versions_of, IsInsertRead, Shows}
+use Rattle.tx_machine.specs.Representation.{version_in, put_version, puts, ListedOn, IsFree}
 use Rattle.tx_machine.proofs.Basics.{key_test, cond_true, cond_false, some_same}
 
 -- ---- one version more
+
+-- where a map of histories has another one at a key, what is taken of them
+pub taken_at : {X : Type 0} (take_of : Option KeyHistory → X) (old new : Key → Option KeyHistory) (j : Key)
+    (o : Option KeyHistory)
+    → ((k : Key) → new k ≡ cond (is_eq (slice_cmp nat_cmp j k)) o (old k))
+    → (k : Key) → take_of (new k) ≡ cond (is_eq (slice_cmp nat_cmp j k)) (take_of o) (take_of (old k))
+taken_at take_of old new j o is k = ap take_of (is k) ∙ pushed (is_eq (slice_cmp nat_cmp j k))
+  where
+    pushed : (b : Bool) → take_of (cond b o (old k)) ≡ cond b (take_of o) (take_of (old k))
+    pushed true = refl
+    pushed false = refl
+
+-- and where it is the same of the other one
+pub taken_same : {X : Type 0} (take_of : Option KeyHistory → X) (old new : Key → Option KeyHistory) (j key : Key)
+    (o : Option KeyHistory) → j ≡ key
+    → ((k : Key) → new k ≡ cond (is_eq (slice_cmp nat_cmp j k)) o (old k)) → take_of o ≡ take_of (old key)
+    → (k : Key) → take_of (new k) ≡ take_of (old k)
+taken_same take_of old new j key o same is one k =
+    let new_is : new k ≡ cond (bytes_eq key k) o (old k) =
+    is k ∙ ap (λ (b : Bool). cond b o (old k)) (is_eq-slice_cmp j k ∙ ap (λ (i : Key). bytes_eq i k) same) in
+    elim (key_test key k) [
+      | inl t ↦ ap take_of (new_is ∙ cond_true _ _ _ t.0) ∙ (one ∙ ap (λ (i : Key). take_of (old i)) t.1)
+      | inr t ↦ ap take_of (new_is ∙ cond_false _ _ _ t.0)
+    ]
 
 -- where a map of histories has another one at a key, whose versions have one more
 pub put_at : (old new : Key → Option Versions) (j key : Key) (o : Option Versions) (c : ℕ) (v : Version) → j ≡ key
@@ -80,20 +103,6 @@ puts_more t c set i d f now new h was is k q =
 
 -- ---- what nothing forbids
 
--- an insert that is committed at most at a number started below it
-pub alone_above : (index : Index) (fates : Fates) (k : Key) (from : ℕ) (versions : Versions)
-    → versions_of index k ≡ Some versions → (o : Option ℕ)
-    → IfNone o ((r d : ℕ) (v : Value) → Listed versions fates r d (mutation.Insert v) → from < d → r < from)
-    → IfNone o (InOrder index fates → (r : ℕ) → InsertedOn (versions_of index k) fates r → r < from)
-alone_above index fates k from versions here (Some r) h = tt
-alone_above index fates k from versions here None h = λ order r x.
-    let l : Listed versions fates r x.0 (mutation.Insert x.1) =
-    subst (λ (o : Option Versions). ListedOn o fates r x.0 (mutation.Insert x.1)) here x.2 in
-    elim (cases_lt from x.0) [
-      | inl lt ↦ h r x.0 x.1 l lt
-      | inr ge ↦ let a : r < x.0 = (order k versions here).above r x.0 (mutation.Insert x.1) l in omega arith
-    ]
-
 -- reads see what is inserted
 insert_visible : (m : Mutation) → IsInsert m → IsVisible m
 insert_visible (mutation.Put v) h = tt
@@ -115,7 +124,7 @@ free_hidden index fates reads t c change apart hidden =
 pub free_seen : (index : Index) (fates : Fates) (reads : Reads) (t c : ℕ) (change : Change)
     → ((u d : ℕ) (m : Mutation) → ListedOn (versions_of index change.key) fates u d m → Overlap t c u d → ⊥)
     → ((r : ℕ) → IsNoted reads change.key r → r < c)
-    → ((r : ℕ) → InsertedOn (versions_of index change.key) fates r → r < c)
+    → ((r : ℕ) → IsInsertRead index change.key r → r < c)
     → (IsInsert change.mutation → Shows index fates change.key t None)
     → IsFree index fates reads t c change
 free_seen index fates reads t c change apart unread alone fresh = record {

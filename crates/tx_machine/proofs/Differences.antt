@@ -1,5 +1,5 @@
 -- The walk over the rows of a scan finds the first key that a read sees otherwise.
-use Rattle.std.proofs.Common.{suc, ◌≡◌, ◌≢◌, ℕ, ◌+◌, ◌≤◌, ◌<◌, ◌⊎◌, inl, inr, true, false, List, [], ◌∷◌, length, get_or, drop, Option, Some, None, refl, sym, ap, subst, ◌∙◌, arith, add-one, bytes_eq, IfSome, IfNone}
+use Rattle.std.proofs.Common.{suc, ◌≡◌, ◌≢◌, ℕ, ◌+◌, ◌≤◌, ◌<◌, inl, inr, true, false, List, [], ◌∷◌, length, get_or, drop, Option, Some, None, refl, sym, ap, subst, ◌∙◌, arith, add-one, bytes_eq, IfSome, IfNone}
 use Rattle.std.specs.declared.ops.Bound.{Bound}
 use Rattle.std.specs.declared.ops.Bound.TheVariants.{Included, Excluded}
 use Rattle.std.specs.Ordering.{is_le, is_ge}
@@ -15,7 +15,7 @@ use Rattle.tx_types.specs.Keys.{value_in, reaches}
 use Rattle.tx_machine.specs.declared.step.ScanRead.{ScanRead}
 use Rattle.tx_machine.specs.Versions.{Fates}
 use Rattle.tx_machine.specs.Shown.{Index, Shows, ShowsRows}
-use Rattle.tx_machine.specs.Scans.{IsKeyWithin, IsBare, IsNextRow, DiffersBefore, Differs}
+use Rattle.tx_machine.specs.Scans.{IsKeyWithin, IsBare, DiffersBefore, Differs}
 use Rattle.tx_machine.specs.Why.{AreInPlace, IsMisplaced}
 use Rattle.tx_machine.proofs.Basics.{key_test, cond_true, cond_false}
 use Rattle.tx_machine.proofs.Scans.{cmp, Below, at_most, below_trans, from_above, or_left, or_right, own, skip, none_before, covered_from, Walks, walk_says}

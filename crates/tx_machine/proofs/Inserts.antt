@@ -1,5 +1,5 @@
 -- Between a commit that leaves a value and a later insert of the key lies a delete.
-use Rattle.std.proofs.Common.{◌≡◌, ◌≢◌, ℕ, ◌<◌, ◌≤◌, ◌⊎◌, inl, inr, true, List, [], ◌∷◌, Option, Some, None, refl, sym, ap, subst, ◌∙◌, arith}
+use Rattle.std.proofs.Common.{◌≡◌, ◌≢◌, ℕ, ◌<◌, ◌≤◌, ◌⊎◌, inl, inr, List, [], ◌∷◌, Option, Some, None, refl, sym, ap, subst, ◌∙◌, arith}
 use Rattle.std.proofs.lemmas.Bool.{cases_lt}
 use Rattle.tx_types.specs.declared.key.Key.{Key}
 use Rattle.tx_types.specs.declared.value.Value.{Value}
@@ -11,7 +11,7 @@ use Rattle.tx_machine.specs.declared.step.Step.{Step}
 use Rattle.tx_machine.specs.declared.step.Step.TheVariants as step
 use Rattle.tx_types.specs.Keys.{IsVisible, put_by}
 use Rattle.tx_machine.specs.Keys.{mutation_at, is_insert, inserted}
-use Rattle.tx_machine.specs.Machine.{Open, Done, Row, Rows, Table, Commits, Newest, Sees, IsRead, Overlap, MayCommit, Admits, changes_in, after, table_of, IsRun}
+use Rattle.tx_machine.specs.Machine.{Done, Row, Rows, Table, Commits, Newest, Sees, IsRead, MayCommit, Admits, changes_in, after, table_of, IsRun}
 use Rattle.tx_machine.proofs.Basics.{nat_test, some_same}
 use Rattle.tx_machine.proofs.Snapshots.{AddsNone, above_read, came, here, stands_new, stands_kept, read_next, newest_next, sees_next, put_visible, commits_apart, commits_above}
 
@@ -229,7 +229,8 @@ module _ (steps : List Step) (run : IsRun steps) (k : Key) where
         (low, (let h : u < d = commits_above steps run k u d n y in omega (arith, high))))
   ]
 
-  one_at : (t c s e : ℕ) (m n : Mutation) → Commits (table_of steps).row k t c m → Commits (table_of steps).row k s e n
+  -- two commits of a key at one number do the same
+  pub one_at : (t c s e : ℕ) (m n : Mutation) → Commits (table_of steps).row k t c m → Commits (table_of steps).row k s e n
       → c ≡ e → m ≡ n
   one_at t c s e m n x y same =
       let h : t < c = commits_above steps run k t c m x in

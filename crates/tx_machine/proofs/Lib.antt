@@ -22,10 +22,14 @@ pub mod ReadSteps
 -- Runs of a list of steps, oldest first.
 pub mod Runs
 pub mod Snapshots
+-- The reads that the inserts of a write set leave.
+mod InsertReads
 -- Between a commit that leaves a value and a later insert of the key lies a delete.
 pub mod Inserts
 -- What is seen of a key between the start and the commit of a transaction that changes it.
 pub mod Serial
+-- The transactions of a run, executed one after the other in the order of their commits.
+mod Executions
 -- The walk over the rows of a scan finds the first key that a read sees otherwise.
 pub mod Differences
 -- What is told of a refused step is so in the machine's table, and refuses it.

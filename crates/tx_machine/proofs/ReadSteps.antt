@@ -1,5 +1,5 @@
 -- Reads: what the versions show is what the table sees.
-use Rattle.std.proofs.Common.{zero, suc, length, get_or, ◌&&◌, ◌||◌, nat_lt, ◌≡◌, ℕ, ◌<◌, ◌≤◌, ◌⊎◌, inl, inr, Bool, true, false, List, [], ◌∷◌, Option, Some, None, bytes_eq, refl, sym, ap, subst, ◌∙◌, arith}
+use Rattle.std.proofs.Common.{zero, suc, length, get_or, ◌&&◌, ◌||◌, nat_lt, ◌≡◌, ℕ, ◌<◌, inl, inr, Bool, true, false, List, [], ◌∷◌, Option, Some, None, bytes_eq, refl, sym, ap, subst, ◌∙◌, arith}
 use Rattle.std.specs.Ordering.{nat_cmp}
 use Rattle.std.specs.BTreeMap as tree
 use Rattle.tx_types.specs.declared.key.Key.{Key}
@@ -10,16 +10,17 @@ use Rattle.tx_machine.specs.declared.machine.TxnStage.{TxnStage}
 use Rattle.tx_machine.specs.declared.reads.Reads.{Reads}
 use Rattle.tx_machine.specs.declared.step.ScanRead.{ScanRead}
 use Rattle.tx_types.specs.Keys.{key_lt, key_le, value_in, reaches}
-use Rattle.tx_machine.specs.Machine.{Table, Commits, Newest, Sees, SeesRows, IsRead, with_read}
+use Rattle.tx_machine.specs.Machine.{Table, Commits, Newest, Sees, SeesRows, with_read}
 use Rattle.tx_machine.specs.Versions.{Versions, Fates, Listed, NewestIn, SeenIn}
-use Rattle.tx_machine.specs.Noted.{IsNoted, AddsRead, SameReads, EndsWithin}
+use Rattle.tx_machine.specs.Noted.{Grows, AddsRead, SameReads, EndsWithin}
 use Rattle.tx_machine.specs.Shown.{Index, versions_of, SeenOf, Shows, ShowsRows}
-use Rattle.tx_machine.specs.Representation.{version_of, Inserts, Tells, ListedOn}
+use Rattle.tx_machine.specs.Representation.{version_of, IsKept, Tells, ListedOn}
 use Rattle.tx_machine.proofs.Basics.{cond_true, cond_false, key_test, key_same}
+use Rattle.tx_machine.proofs.Steps.{keeps_more}
 use Rattle.tx_machine.proofs.CommitSteps.{on_commit, commit_on}
 
 module _ (last : ℕ) (stages : ℕ → Option TxnStage) (fates : Fates) (index : Index) (reads : Reads) (table : Table)
-    (tells : Tells last stages (tree.get nat_cmp fates) (version_of index) (IsNoted reads) table) where
+    (tells : Tells last stages (tree.get nat_cmp fates) (version_of index) (IsKept index reads) table) where
   -- ---- what is seen
 
   module _ (k : Key) (versions : Versions) (here : versions_of index k ≡ Some versions) where
@@ -101,26 +102,23 @@ module _ (last : ℕ) (stages : ℕ → Option TxnStage) (fates : Fates) (index 
 
   -- ---- what is noted
 
-  made_more : (covers : Key → Bool) (r : ℕ) (new : Reads) → AddsRead reads new covers r → (k : Key) (s : ℕ)
-      → IsNoted new k s → IsRead (with_read table covers r).reads k s
-  made_more covers r new grows k s x = elim (grows.only k s x) [
-    | inl old ↦ inr (tells.reads.made k s old)
-    | inr own ↦ inl (own.0, sym (own.1))
-  ]
-
-  kept_more : (covers : Key → Bool) (r : ℕ) (new : Reads) → AddsRead reads new covers r → (k : Key) (s : ℕ)
-      → IsRead (with_read table covers r).reads k s → Inserts table.row k s ⊎ ((u : ℕ) × (s ≤ u) × IsNoted new k u)
-  kept_more covers r new grows k s (inl own) = let h = grows.added k own.0 in
-      inr (h.0, (let a : r ≤ h.0 = h.1 in let b : r ≡ s = own.1 in omega arith), h.2)
-  kept_more covers r new grows k s (inr old) = elim (tells.reads.kept k s old) [
-    | inl x ↦ inl x
-    | inr h ↦ let g = grows.kept k h.0 h.2 in
-        inr (g.0, (let a : s ≤ h.0 = h.1 in let b : h.0 ≤ g.0 = g.1 in omega arith), g.2)
-  ]
+  noted_more : (covers : Key → Bool) (r : ℕ) (new : Reads) → AddsRead reads new covers r
+      → Grows (IsKept index reads) (IsKept index new) covers r
+  noted_more covers r new grows = record {
+    kept = λ k s x. elim x [
+      | inl old ↦ let h = grows.kept k s old in (h.0, h.1, inl h.2)
+      | inr old ↦ (s, (omega arith), inr old)
+    ];
+    added = λ k e. let h = grows.added k e in (h.0, h.1, inl h.2);
+    only = λ k s x. elim x [
+      | inl new ↦ elim (grows.only k s new) [ inl old ↦ inl (inl old) | inr own ↦ inr own ]
+      | inr old ↦ inl (inr old)
+    ];
+  }
 
   -- one read more is kept
   pub reads_more : (covers : Key → Bool) (r : ℕ) (new : Reads) → AddsRead reads new covers r
-      → Tells last stages (tree.get nat_cmp fates) (version_of index) (IsNoted new) (with_read table covers r)
+      → Tells last stages (tree.get nat_cmp fates) (version_of index) (IsKept index new) (with_read table covers r)
   reads_more covers r new grows = record {
     last_is = tells.last_is;
     drawn = tells.drawn;
@@ -129,16 +127,14 @@ module _ (last : ℕ) (stages : ℕ → Option TxnStage) (fates : Fates) (index 
     ended = tells.ended;
     distinct = tells.distinct;
     commits = tells.commits;
-    reads = record {
-      made = made_more covers r new grows;
-      left = λ k s x. inr (tells.reads.left k s x);
-      kept = kept_more covers r new grows;
-    };
+    reads =
+        keeps_more table.reads (IsKept index reads) (IsKept index new) covers r tells.reads
+        (noted_more covers r new grows);
   }
 
   -- the same reads are kept
   pub reads_same : (new : Reads) → SameReads reads new
-      → Tells last stages (tree.get nat_cmp fates) (version_of index) (IsNoted new) table
+      → Tells last stages (tree.get nat_cmp fates) (version_of index) (IsKept index new) table
   reads_same new same = record {
     last_is = tells.last_is;
     drawn = tells.drawn;
@@ -148,9 +144,9 @@ module _ (last : ℕ) (stages : ℕ → Option TxnStage) (fates : Fates) (index 
     distinct = tells.distinct;
     commits = tells.commits;
     reads = record {
-      made = λ k r x. tells.reads.made k r (same.only k r x);
-      left = tells.reads.left;
-      kept = λ k r x. elim (tells.reads.kept k r x) [ inl y ↦ inl y | inr h ↦ inr (h.0, h.1, same.kept k h.0 h.2) ];
+      made = λ k r x. tells.reads.made k r (elim x [ inl y ↦ inl (same.only k r y) | inr y ↦ inr y ]);
+      kept = λ k r x. let h = tells.reads.kept k r x in
+          (h.0, h.1, elim h.2 [ inl y ↦ inl (same.kept k h.0 y) | inr y ↦ inr y ]);
     };
   }
 

@@ -1,5 +1,5 @@
 -- What is told of a refused step is so in the machine's table, and refuses it.
-use Rattle.std.proofs.Common.{◌≡◌, ◌≢◌, ℕ, ◌+◌, ◌<◌, ◌≤◌, ◌⊎◌, inl, inr, Bool, true, false, List, [], ◌∷◌, ◌++◌, length, Option, Some, None, refl, sym, ap, subst, ◌∙◌, arith, is_some, IsTrue, IfSome, IfNone, Result, Ok, Err, IfOk}
+use Rattle.std.proofs.Common.{◌≡◌, ◌≢◌, ℕ, ◌+◌, ◌<◌, ◌≤◌, inl, inr, Bool, true, false, List, [], length, Option, Some, None, refl, sym, ap, subst, ◌∙◌, arith, is_some, IfSome, IfNone, Result, Ok, Err, IfOk}
 use Rattle.std.proofs.lemmas.Bool.{cases_order}
 use Rattle.std.specs.List.{Contains}
 use Rattle.std.specs.declared.ops.Bound.TheVariants.{Included}
@@ -27,22 +27,20 @@ use Rattle.tx_machine.specs.declared.versions.Version.{Version}
 use Rattle.tx_machine.specs.declared.versions.Writer.{Writer}
 use Rattle.tx_machine.specs.Keys.{mutation_at}
 use Rattle.tx_machine.specs.Machine.{State, Open, Done, Row, Table, Commits, Sees, Overlap, IsRead, MayCommit}
-use Rattle.tx_machine.specs.Noted.{IsNoted}
 use Rattle.tx_machine.specs.Shown.{Index, versions_of, SeenOf, Shows}
 use Rattle.tx_machine.specs.Versions.{Versions, Fates, Listed, NewestIn, SeenIn}
-use Rattle.tx_machine.specs.Representation.{row_of, version_of, Tells, ListedOn, Blocks}
+use Rattle.tx_machine.specs.Representation.{row_of, version_of, IsKept, Tells, ListedOn, Blocks}
 use Rattle.tx_machine.specs.Why.{SeesOther, IsMisplaced, LeftBy, IsSeen, value_of, Stands, standing_of, Writes, IsRefused, StandsTwice, IsOfSet, IsWhy}
 use Rattle.tx_machine.specs.declared.machine.Machine.{Machine}
 use Rattle.tx_machine.specs.declared.reason.Why.{Why}
 use Rattle.tx_machine.specs.declared.reason.Why.TheVariants as why
 use Rattle.tx_machine.specs.declared.step.ScanRead.{ScanRead}
 use Rattle.tx_machine.specs.declared.step.Step.TheVariants.{Draw, Begin, Declare, Commit, Abort, Read, Scan, Answer}
-use Rattle.tx_machine.specs.Keys.{IsDistinct}
 use Rattle.tx_machine.specs.Scans.{Differs}
 use Rattle.tx_types.specs.Keys.{value_in}
 use Rattle.tx_machine.proofs.Basics.{some_same}
 use Rattle.tx_machine.proofs.Distinct.{contained, twice_not_distinct}
-use Rattle.tx_machine.proofs.CommitSteps.{on_commit, commit_on, kept_read, not_blocked}
+use Rattle.tx_machine.proofs.CommitSteps.{on_commit, commit_on, not_blocked}
 use Rattle.tx_machine.proofs.Differences.{not_misplaced, shown_placed}
 use Rattle.tx_machine.proofs.ReadSteps.{shows_sees, sees_shows, sees_rows_shown}
 
@@ -169,7 +167,7 @@ is_insert mutation.Delete h = absurd h
 is_insert mutation.Lock h = absurd h
 
 module _ (last : ℕ) (stages : ℕ → Option TxnStage) (fates : Fates) (index : Index) (reads : Reads) (table : Table)
-    (tells : Tells last stages (tree.get nat_cmp fates) (version_of index) (IsNoted reads) table) where
+    (tells : Tells last stages (tree.get nat_cmp fates) (version_of index) (IsKept index reads) table) where
   abbrev Here : Key → ℕ → ℕ → Mutation → Type 0
   Here k u c m = ListedOn (versions_of index k) fates u c m
 
@@ -257,7 +255,7 @@ module _ (last : ℕ) (stages : ℕ → Option TxnStage) (fates : Fates) (index 
       change.mutation,
       writes change among,
       x.0,
-      kept_read last stages fates index reads table tells change.key r x.2,
+      tells.reads.made change.key r x.2,
     )
 
     pub inserts : (change : Change) → Contains set change → IsInsert change.mutation
@@ -487,7 +485,7 @@ module _ (machine : Machine) where
       Blocks machine.index machine.fates machine.reads t c change b) (k : Key) (key : k ≡ change.key) where
     never_commits : (table : Table)
         → Tells machine.last (tree.get nat_cmp machine.stages) (tree.get nat_cmp machine.fates)
-        (version_of machine.index) (IsNoted machine.reads) table → MayCommit table t c → ⊥
+        (version_of machine.index) (IsKept machine.index machine.reads) table → MayCommit table t c → ⊥
     never_commits table tells may =
         not_blocked machine.last (tree.get nat_cmp machine.stages) machine.fates machine.index machine.reads table tells
         t c set declared going change b among blocks may

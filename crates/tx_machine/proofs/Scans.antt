@@ -24,8 +24,9 @@ use Rattle.tx_types.specs.declared.mutation.KeyValue.{KeyValue}
 use Rattle.tx_machine.specs.declared.step.ScanRead.{ScanRead}
 use Rattle.tx_types.specs.Keys.{key_lt, key_le, IsRising, value_in, reaches}
 use Rattle.tx_machine.specs.Keys.{covered}
+use Rattle.tx_machine.specs.declared.versions.KeyHistory.{KeyHistory}
 use Rattle.tx_machine.specs.Versions.{Versions, Fates, SeenIn}
-use Rattle.tx_machine.specs.Shown.{Index, SeenOf, Shows, ShowsRows}
+use Rattle.tx_machine.specs.Shown.{Index, versions_in, SeenOf, Shows, ShowsRows}
 use Rattle.tx_machine.specs.Scans.{IsKeyWithin, IsBare, IsNextRow}
 use Rattle.tx_machine.proofs.Basics.{key_test, key_same, cond_true, cond_false, none_is}
 
@@ -165,21 +166,21 @@ all_filtered P p (x ∷ xs) h =
     let parts = filter_step P (p x) x (filter p xs) h in
     All-cons (λ y. p y ≡ true → P y) x xs parts.0 (all_filtered P p xs parts.1)
 
-abbrev pub ShowsNone : Fates → ℕ → Key × Versions → Type 0
-ShowsNone fates r e = SeenIn e.1 fates r None
+abbrev pub ShowsNone : Fates → ℕ → Key × KeyHistory → Type 0
+ShowsNone fates r e = SeenIn e.1.versions fates r None
 
 module _ (index : Index) (fates : Fates) (from : Bound Key) (to : Key) (r : ℕ) where
-  none_at : (k : Key) (o : Option Versions) → tree.get cmp index k ≡ o
-      → ((h : Versions) → o ≡ Some h → ShowsNone fates r (k, h)) → Shows index fates k r None
-  none_at k None e h = subst (λ (o : Option Versions). SeenOf o fates r None) (sym e) refl
-  none_at k (Some x) e h = subst (λ (o : Option Versions). SeenOf o fates r None) (sym e) (h x refl)
+  none_at : (k : Key) (o : Option KeyHistory) → tree.get cmp index k ≡ o
+      → ((h : KeyHistory) → o ≡ Some h → ShowsNone fates r (k, h)) → Shows index fates k r None
+  none_at k None e h = subst (λ (o : Option KeyHistory). SeenOf (versions_in o) fates r None) (sym e) refl
+  none_at k (Some x) e h = subst (λ (o : Option KeyHistory). SeenOf (versions_in o) fates r None) (sym e) (h x refl)
 
   -- where no entry of the range shows a value, none of its keys does
   pub bare_from_entries : tree.IsOrdered cmp index
       → All (ShowsNone fates r) (entries_between cmp from (Excluded to) index.entries) → IsBare index fates from to r
   bare_from_entries ordered all k w =
       none_at k (tree.get cmp index k) refl
-      (λ h e. All-contains (λ (x : Key × Versions). range_contains cmp from (Excluded to) x.0 ≡ true
+      (λ h e. All-contains (λ (x : Key × KeyHistory). range_contains cmp from (Excluded to) x.0 ≡ true
       → ShowsNone fates r x) index.entries (
         k,
         h,
@@ -187,11 +188,11 @@ module _ (index : Index) (fates : Fates) (from : Bound Key) (to : Key) (r : ℕ)
       ((btree_map_get_iff nat_list_cmp_total exact_bytes index ordered k h).0 e)
       (range_contains-from_IsInRange nat_list_cmp_total from (Excluded to) k w))
 
-  pub entries_from_bare : (es : List (Key × Versions)) → All (IsEntryInRange cmp from (Excluded to) index) es
+  pub entries_from_bare : (es : List (Key × KeyHistory)) → All (IsEntryInRange cmp from (Excluded to) index) es
       → IsBare index fates from to r → All (ShowsNone fates r) es
   entries_from_bare es all bare =
       All-weaker (IsEntryInRange cmp from (Excluded to) index) (ShowsNone fates r)
-      (λ e h. subst (λ (o : Option Versions). SeenOf o fates r None) (h.1) (bare e.0 h.0)) es all
+      (λ e h. subst (λ (o : Option KeyHistory). SeenOf (versions_in o) fates r None) (h.1) (bare e.0 h.0)) es all
 
 -- what is left of a range in a loop
 

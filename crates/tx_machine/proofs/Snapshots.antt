@@ -22,7 +22,7 @@ abbrev pub Ended : Rows → ℕ → Fate → Type 0
 Ended rows t end = (changes : Option (List Change)) × (rows t ≡ Some record { changes = changes; state = Done end })
 
 -- a row that is open has not ended
-open_not_ended : (o : Option Row) (a b : Option (List Change)) (end : Fate)
+pub open_not_ended : (o : Option Row) (a b : Option (List Change)) (end : Fate)
     → o ≡ Some record { changes = a; state = Done end } → o ≡ Some record { changes = b; state = Open } → ⊥
 open_not_ended o a b end x y =
     let ended : Row = record { changes = a; state = Done end } in

@@ -1,5 +1,5 @@
 -- What a step makes of the maps is what it makes of the table.
-use Rattle.std.proofs.Common.{◌≡◌, ◌≢◌, ℕ, ◌≤◌, ◌==◌, ◌⊎◌, inl, inr, Bool, false, cond, List, [], Option, Some, None, refl, sym, ap, subst, ◌∙◌, is_some}
+use Rattle.std.proofs.Common.{◌≡◌, ◌≢◌, ℕ, ◌≤◌, ◌==◌, inl, inr, Bool, false, cond, List, [], ◌∷◌, Option, Some, None, refl, sym, ap, subst, ◌∙◌, is_some, arith}
 use Rattle.std.specs.Cmp.{unsigned_ties}
 use Rattle.std.specs.Ordering.{nat_cmp, is_eq}
 use Rattle.tx_types.specs.declared.key.Key.{Key}
@@ -13,7 +13,8 @@ use Rattle.tx_machine.specs.declared.machine.TxnStage.TheVariants.{Drawn, Begun,
 use Rattle.tx_machine.specs.declared.step.Step.TheVariants.{Begin, Declare, Abort}
 use Rattle.tx_machine.specs.Keys.{IsDistinct}
 use Rattle.tx_machine.specs.Machine.{State, Open, Done, Row, Rows, Reading, Table, Commits, IsRead, Admits, after, empty, changes_in, with_row}
-use Rattle.tx_machine.specs.Representation.{row_of, ListsCommits, Inserts, KeepsReads, Tells}
+use Rattle.tx_machine.specs.Representation.{row_of, ListsCommits, KeepsReads, Tells}
+use Rattle.tx_machine.specs.Noted.{Grows}
 use Rattle.tx_machine.proofs.Basics.{nat_test, cond_true, cond_false, some_same, nat_same, none_is}
 
 -- ---- rows
@@ -100,7 +101,7 @@ module _ (last : ℕ) (stages : ℕ → Option TxnStage) (fates : ℕ → Option
         (drawn_here : is_some (new_stages t) ≡ is_some (stages t))
         (distinct_here : (set : List Change) → changes ≡ Some set → IsDistinct set)
         (lists : ListsCommits rows new_versions)
-        (list : List Reading) (keeps : KeepsReads rows list noted) where
+        (list : List Reading) (new_noted : Key → ℕ → Type 0) (keeps : KeepsReads list new_noted) where
       row_drawn : (q : ℕ) → table.drawn q ≡ is_some (new_stages q)
       row_drawn q = elim (nat_test t q) [
         | inl x ↦ tells.drawn q
@@ -131,7 +132,7 @@ module _ (last : ℕ) (stages : ℕ → Option TxnStage) (fates : ℕ → Option
         | inr x ↦ tells.distinct q set s (sym (row_other q x.0) ∙ e)
       ]
 
-      pub one_row : Tells last new_stages new_fates new_versions noted
+      pub one_row : Tells last new_stages new_fates new_versions new_noted
           (record (with_row table t changes state) { reads = list })
       one_row = record {
         last_is = tells.last_is;
@@ -172,29 +173,6 @@ module _ (last : ℕ) (stages : ℕ → Option TxnStage) (fates : ℕ → Option
     lists_still = same_commits table.row (rows t changes state) versions
         (record { back = row_back; declared = row_stays }) tells.commits
 
-    -- nor was committed before
-    module _ (never_was : (c : ℕ) (set : List Change)
-        → table.row t ≡ Some record { changes = Some set; state = Done (Committed c) } → ⊥) where
-      inserts_on : (k : Key) (r : ℕ) → Inserts table.row k r → Inserts (rows t changes state) k r
-      inserts_on k r (c, v, x) = elim (nat_test t r) [
-        | inl e ↦ absurd (never_was c x.set (ap table.row e.1 ∙ x.row_is))
-        | inr e ↦ (c, v, record { set = x.set; row_is = row_other t changes state r e.0 ∙ x.row_is; does = x.does })
-      ]
-
-      inserts_back : (k : Key) (r : ℕ) → Inserts (rows t changes state) k r → Inserts table.row k r
-      inserts_back k r (c, v, x) = (c, v, record { set = x.set; row_is = row_back r c x.set x.row_is; does = x.does })
-
-      kept_still : (k : Key) (r : ℕ) → IsRead table.reads k r
-          → Inserts (rows t changes state) k r ⊎ ((s : ℕ) × (r ≤ s) × noted k s)
-      kept_still k r x = elim (tells.reads.kept k r x) [ inl y ↦ inl (inserts_on k r y) | inr y ↦ inr y ]
-
-      pub reads_still : KeepsReads (rows t changes state) table.reads noted
-      reads_still = record {
-        made = tells.reads.made;
-        left = λ k r x. tells.reads.left k r (inserts_back k r x);
-        kept = kept_still;
-      }
-
   -- ---- begin, declare, abort
 
   module _ (t : ℕ) (stage : stages t ≡ Some Drawn) (new : ℕ → Option TxnStage) (was : (q : ℕ)
@@ -215,9 +193,7 @@ module _ (last : ℕ) (stages : ℕ → Option TxnStage) (fates : ℕ → Option
           (ap (is_some {T = TxnStage}) (now_begun ∙ refl) ∙ sym (ap (is_some {T = TxnStage}) stage))
           (λ set e. absurd (cc e))
           (lists_still t None Open (λ c e. cc e) (λ set s e. absurd (cc (sym no_row ∙ e))))
-          table.reads
-          (reads_still t None Open (λ c e. cc e) (λ set s e. absurd (cc (sym no_row ∙ e)))
-          (λ c set e. cc (sym no_row ∙ e))),
+          table.reads noted tells.reads,
     )
 
   module _ (t : ℕ) (set : List Change) (stage : stages t ≡ Some Begun) (open_ : fates t
@@ -240,9 +216,7 @@ module _ (last : ℕ) (stages : ℕ → Option TxnStage) (fates : ℕ → Option
           (ap (is_some {T = TxnStage}) now_declared ∙ sym (ap (is_some {T = TxnStage}) stage))
           (λ xs e. subst (λ (ys : List Change). IsDistinct ys) (some_same _ _ e) distinct)
           (lists_still t (Some set) Open (λ c e. cc e) (λ xs s e. absurd (cc (ap changes_in (sym begun_row ∙ e)))))
-          table.reads
-          (reads_still t (Some set) Open (λ c e. cc e) (λ xs s e. absurd (cc (ap changes_in (sym begun_row ∙ e))))
-          (λ c xs e. cc (ap changes_in (sym begun_row ∙ e)))),
+          table.reads noted tells.reads,
     )
 
   module _ (t : ℕ) (changes : Option (List Change)) (open_row : table.row t
@@ -264,11 +238,27 @@ module _ (last : ℕ) (stages : ℕ → Option TxnStage) (fates : ℕ → Option
           ∙ ap (λ (cs : Option (List Change)). Some record { changes = cs; state = Open }) e))
           (lists_still t changes (Done Aborted) (λ c e. cc e)
           (λ xs s e. some_same _ _ (ap some_changes (sym open_row ∙ e))))
-          table.reads
-          (reads_still t changes (Done Aborted) (λ c e. cc e)
-          (λ xs s e. some_same _ _ (ap some_changes (sym open_row ∙ e)))
-          (λ c xs e. cc (ap state_in (sym open_row ∙ e)))),
+          table.reads noted tells.reads,
     )
+
+-- ---- one read more
+
+pub keeps_more : (reads : List Reading) (old new : Key → ℕ → Type 0) (covers : Key → Bool) (r : ℕ)
+    → KeepsReads reads old → Grows old new covers r → KeepsReads (record { covers = covers; at = r } ∷ reads) new
+keeps_more reads old new covers r keeps grows = record { made = made; kept = kept }
+  where
+    made : (k : Key) (s : ℕ) → new k s → IsRead (record { covers = covers; at = r } ∷ reads) k s
+    made k s x = elim (grows.only k s x) [
+      | inl old ↦ inr (keeps.made k s old)
+      | inr own ↦ inl (own.0, sym (own.1))
+    ]
+
+    kept : (k : Key) (s : ℕ) → IsRead (record { covers = covers; at = r } ∷ reads) k s → (u : ℕ) × (s ≤ u) × new k u
+    kept k s (inl own) = let h = grows.added k own.0 in (h.0, (omega (arith, h.1, own.1)), h.2)
+    kept k s (inr was) =
+        let h = keeps.kept k s was in
+        let g = grows.kept k h.0 h.2 in
+        (g.0, (omega (arith, h.1, g.1)), g.2)
 
 -- ---- before the first step
 
@@ -292,7 +282,6 @@ tells_empty stages fates versions noted no_stage no_fate no_version no_read = re
   };
   reads = record {
     made = λ k r x. absurd (no_read k r x);
-    left = λ k r x. absurd (cc x.2.row_is);
     kept = λ k r x. absurd x;
   };
 }

@@ -3,6 +3,7 @@ pub mod Machine
 pub mod Noted
 pub mod Representation
 pub mod Scans
+pub mod Serial
 pub mod Shown
 pub mod Versions
 pub mod Why

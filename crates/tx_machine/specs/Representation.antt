@@ -1,12 +1,10 @@
 -- Which table the machine's maps represent.
-use Rattle.std.specs.Prelude.{◌≡◌, ◌≢◌, ◌⊎◌, ℕ, ◌<◌, ◌≤◌, true, cond, ◌==◌, bytes_eq, List, [], ◌∷◌, Option, Some, None, is_some}
+use Rattle.std.specs.Prelude.{◌≡◌, ◌≢◌, ◌⊎◌, ℕ, ◌<◌, ◌≤◌, true, cond, ◌==◌, bytes_eq, List, [], ◌∷◌, Option, Some, None, is_some, Contains}
 use Rattle.std.specs.Ordering.{nat_cmp}
 use Rattle.std.specs.BTreeMap as tree
 use Rattle.tx_types.specs.declared.key.Key.{Key}
-use Rattle.tx_types.specs.declared.value.Value.{Value}
 use Rattle.tx_types.specs.declared.mutation.Change.{Change}
 use Rattle.tx_types.specs.declared.mutation.Mutation.{Mutation}
-use Rattle.tx_types.specs.declared.mutation.Mutation.TheVariants.{Insert}
 use Rattle.tx_types.specs.declared.mutation.Fate.{Fate}
 use Rattle.tx_machine.specs.declared.versions.Version.{Version}
 use Rattle.tx_machine.specs.declared.machine.TxnStage.{TxnStage}
@@ -17,11 +15,11 @@ use Rattle.tx_machine.specs.declared.commit.Block.{Block}
 use Rattle.tx_machine.specs.declared.commit.Block.TheVariants as block
 use Rattle.tx_machine.specs.declared.step.Step.{Step}
 use Rattle.tx_types.specs.Keys.{IsVisible, IsInsert}
-use Rattle.tx_machine.specs.Keys.{mutation_at, IsDistinct}
+use Rattle.tx_machine.specs.Keys.{mutation_at, inserted, IsDistinct}
 use Rattle.tx_machine.specs.Machine.{State, Open, Done, Row, Rows, Reading, Table, Commits, Overlap, IsRead, Admits, after}
 use Rattle.tx_machine.specs.Versions.{Fates, Versions, Listed, IsOrderly}
-use Rattle.tx_machine.specs.Noted.{IsNoted}
-use Rattle.tx_machine.specs.Shown.{Index, versions_of, Shows}
+use Rattle.tx_machine.specs.Noted.{IsNoted, Grows}
+use Rattle.tx_machine.specs.Shown.{Index, versions_of, IsInsertRead, Shows}
 
 -- the state of a transaction that may have ended
 abbrev pub state_of : Option Fate → State
@@ -55,20 +53,14 @@ pub record ListsCommits (rows : Rows) (versions : Key → ℕ → Option Version
   pub apart : (k : Key) (u c v d : ℕ) (m n : Mutation) → Commits rows k u c m → Commits rows k v d n → u ≢ v
       → Overlap u c v d → ⊥
 
--- the transaction that started at r committed an insert of k
-abbrev pub Inserts : Rows → Key → ℕ → Type 0
-Inserts rows k r = (c : ℕ) × (v : Value) × Commits rows k r c (Insert v)
-
--- the reads that are kept are those that were made, and of each key the greatest; those that the
--- commits of inserts left stand in the versions
-pub record KeepsReads (rows : Rows) (reads : List Reading) (noted : Key → ℕ → Type 0) : Type 0 where
-  pub made : (k : Key) (r : ℕ) → noted k r → IsRead reads k r
-  pub left : (k : Key) (r : ℕ) → Inserts rows k r → IsRead reads k r
-  pub kept : (k : Key) (r : ℕ) → IsRead reads k r → Inserts rows k r ⊎ ((s : ℕ) × (r ≤ s) × noted k s)
+-- the reads that are kept are those that were made, and of each key the greatest
+pub record KeepsReads (reads : List Reading) (kept_at : Key → ℕ → Type 0) : Type 0 where
+  pub made : (k : Key) (r : ℕ) → kept_at k r → IsRead reads k r
+  pub kept : (k : Key) (r : ℕ) → IsRead reads k r → (s : ℕ) × (r ≤ s) × kept_at k s
 
 -- what the maps say is what a table says
 pub record Tells (last : ℕ) (stages : ℕ → Option TxnStage) (fates : ℕ → Option Fate) (versions : Key → ℕ
-    → Option Version) (noted : Key → ℕ → Type 0) (table : Table) : Type 0 where
+    → Option Version) (kept_at : Key → ℕ → Type 0) (table : Table) : Type 0 where
   pub last_is : table.last ≡ last
   pub drawn : (t : ℕ) → table.drawn t ≡ is_some (stages t)
   pub range : (t : ℕ) → table.drawn t ≡ true → t ≤ table.last
@@ -77,12 +69,16 @@ pub record Tells (last : ℕ) (stages : ℕ → Option TxnStage) (fates : ℕ �
   pub distinct : (t : ℕ) (set : List Change) (state : State)
       → table.row t ≡ Some record { changes = Some set; state = state } → IsDistinct set
   pub commits : ListsCommits table.row versions
-  pub reads : KeepsReads table.row table.reads noted
+  pub reads : KeepsReads table.reads kept_at
+
+-- a read of k at r is kept: it was noted, or it is the greatest that committed inserts of k left
+abbrev pub IsKept : Index → Reads → Key → ℕ → Type 0
+IsKept index reads k r = IsNoted reads k r ⊎ IsInsertRead index k r
 
 -- the machine represents a table
 abbrev pub Represents : Machine → Table → Type 0
 Represents machine table = Tells machine.last (tree.get nat_cmp machine.stages) (tree.get nat_cmp machine.fates)
-    (version_of machine.index) (IsNoted machine.reads) table
+    (version_of machine.index) (IsKept machine.index machine.reads) table
 
 -- the machine makes the step: its table admits it, and the machine then represents the table after
 abbrev pub Makes : Machine → Machine → Step → Type 0
@@ -107,19 +103,11 @@ abbrev pub ListedOn : Option Versions → Fates → ℕ → ℕ → Mutation →
 ListedOn None fates u c m = ⊥
 ListedOn (Some versions) fates u c m = Listed versions fates u c m
 
--- a commit of an insert whose transaction started at r is listed on a key
-abbrev pub InsertedOn : Option Versions → Fates → ℕ → Type 0
-InsertedOn o fates r = (c : ℕ) × (v : Value) × ListedOn o fates r c (Insert v)
-
--- a read of k at r is kept: it was noted, or a commit of an insert left it
-abbrev pub IsKept : Index → Fates → Reads → Key → ℕ → Type 0
-IsKept index fates reads k r = IsNoted reads k r ⊎ InsertedOn (versions_of index k) fates r
-
 -- nothing forbids that a change is committed: no listed commit would overlap, no read at or above
 -- covers what it puts or deletes, and of what it inserts a read at the start sees no value
 pub record IsFree (index : Index) (fates : Fates) (reads : Reads) (t c : ℕ) (change : Change) : Type 0 where
   pub apart : (u d : ℕ) (m : Mutation) → ListedOn (versions_of index change.key) fates u d m → Overlap t c u d → ⊥
-  pub unread : IsVisible change.mutation → (r : ℕ) → IsKept index fates reads change.key r → r < c
+  pub unread : IsVisible change.mutation → (r : ℕ) → IsKept index reads change.key r → r < c
   pub fresh : IsInsert change.mutation → Shows index fates change.key t None
 
 -- what forbids a change: a listed commit that would overlap, a read at the commit or above that
@@ -128,8 +116,16 @@ abbrev pub Blocks : Index → Fates → Reads → ℕ → ℕ → Change → Blo
 Blocks index fates reads t c change (block.Conflict by) =
     (m : Mutation) × ListedOn (versions_of index change.key) fates by.start by.commit m × Overlap t c by.start by.commit
 Blocks index fates reads t c change (block.Read r) =
-    IsVisible change.mutation × (c ≤ r) × IsKept index fates reads change.key r
+    IsVisible change.mutation × (c ≤ r) × IsKept index reads change.key r
 Blocks index fates reads t c change block.Exists = IsInsert change.mutation × (Shows index fates change.key t None → ⊥)
+
+-- each key of a write set has versions
+abbrev pub HasVersions : Index → List Change → Type 0
+HasVersions index set = (x : Change) → Contains set x → versions_of index x.key ≢ None
+
+-- the inserts of a write set left a read of their keys at r, beside those before
+abbrev pub AddsInserts : Index → Index → List Change → ℕ → Type 0
+AddsInserts old new set r = Grows (IsInsertRead old) (IsInsertRead new) (inserted (Some set)) r
 
 -- the versions of all keys, with one more
 abbrev pub put_version : ℕ → ℕ → Change → (Key → ℕ → Option Version) → Key → ℕ → Option Version

@@ -1,6 +1,6 @@
 -- Why the machine does not make a step: for each step that it refuses, a fact of its table that
 -- refuses it.
-use Rattle.std.specs.Prelude.{◌≡◌, ◌≢◌, ◌⊎◌, ℕ, ◌+◌, ◌<◌, ◌≤◌, Bool, true, false, List, [], ◌∷◌, ◌++◌, length, Option, Some, None, IsTrue}
+use Rattle.std.specs.Prelude.{◌≡◌, ◌≢◌, ◌⊎◌, ℕ, ◌+◌, ◌<◌, ◌≤◌, true, false, List, [], ◌∷◌, ◌++◌, length, Option, Some, None, IsTrue}
 use Rattle.std.specs.declared.ops.Bound.{Bound}
 use Rattle.std.specs.declared.ops.Bound.TheVariants.{Included, Excluded}
 use Rattle.tx_types.specs.declared.key.Key.{Key}
@@ -14,7 +14,6 @@ use Rattle.tx_types.specs.Keys.{IsVisible, put_by, value_in}
 use Rattle.tx_machine.specs.declared.machine.Machine.{Machine}
 use Rattle.tx_machine.specs.declared.machine.TxnStage.{TxnStage}
 use Rattle.tx_machine.specs.declared.machine.TxnStage.TheVariants as stage
-use Rattle.tx_machine.specs.declared.step.ScanRead.{ScanRead}
 use Rattle.tx_machine.specs.declared.step.Step.{Step}
 use Rattle.tx_machine.specs.declared.step.Step.TheVariants.{Draw, Begin, Declare, Commit, Abort, Read, Scan, Answer}
 use Rattle.tx_machine.specs.declared.reason.SeenValue.{SeenValue}

@@ -14,7 +14,7 @@ mod trace;
 mod versions;
 mod why;
 
-pub use laws::{locked_reads_are_serial, runs_are_snapshots};
+pub use laws::{locked_reads_are_serial, locked_runs_are_serial, runs_are_snapshots};
 pub use machine::{Machine, Refused};
 pub use reason::{SeenValue, Standing, Why};
 pub use step::{ScanRead, Step};

@@ -3,8 +3,9 @@
 //! It keeps of each number that was drawn how far its transaction has come, and of each transaction
 //! that ended how. Commits are listed by key and commit timestamp, reads by key and by timestamp,
 //! so that a step costs about the logarithm of what was before. A commit lists its versions first
-//! and ends the transaction last: where memory is refused in between, the versions say nothing,
-//! since their transaction is not committed.
+//! and then ends the transaction: where memory is refused in between, the versions say nothing,
+//! since their transaction is not committed. What follows, the reads that its inserts leave, takes
+//! no memory.
 ghost use Rattle.std.specs.Prelude.{◌≡◌, ◌↔◌, true, false, List, Option, Some, None, IsTrue, IfOk, IfErr, OnOk, OnErr, IsErrOf};
 ghost use Rattle.std.specs.Ordering.{nat_cmp};
 ghost use Rattle.std.specs.BTreeMap as tree;
@@ -14,7 +15,7 @@ ghost use Rattle.tx_types.specs.declared.mutation.Change.{Change};
 ghost use Rattle.tx_types.specs.declared.mutation.Fate.{Fate};
 ghost use Rattle.tx_machine.specs.Representation.{Represents, Makes, Refuses, Keeps, row_of, state_of};
 
-use crate::commit::{first_block, list_all};
+use crate::commit::{first_block, list_all, note_inserts};
 use crate::reads::Reads;
 use crate::scan::{Index, sees_rows};
 use crate::sets::repeated;
@@ -203,6 +204,7 @@ impl Machine {
         }
         list_all(self.alloc, &mut self.index, t, c, set.as_slice())?;
         self.fates.insert(t, Fate::Committed(c))?;
+        note_inserts(&mut self.index, t, set.as_slice());
         Ok(())
     }
 
@@ -262,6 +264,6 @@ fn shows(index: &Index, fates: &Fates, key: &Key, at: Ts, found: &Option<Value>)
 {
     match index.get(key) {
         None => found.is_none(),
-        Some(versions) => seen(versions, fates, at) == found.as_ref(),
+        Some(history) => seen(&history.versions, fates, at) == found.as_ref(),
     }
 }

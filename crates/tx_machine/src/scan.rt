@@ -15,20 +15,20 @@ ghost use Rattle.tx_machine.specs.Why.{AreInPlace, IsMisplaced};
 ghost use Rattle.tx_types.specs.Keys.{value_in};
 
 use crate::step::ScanRead;
-use crate::versions::{Fates, Versions, seen};
+use crate::versions::{Fates, KeyHistory, seen};
 use std::collections::BTreeMap;
 use std::ops::{Bound, RangeBounds};
 use tx_types::{Key, KeyValue, Ts, Value};
 
-/// The versions of each key.
-pub(crate) type Index = BTreeMap<Key, Versions>;
+/// What the commits of each key have left.
+pub(crate) type Index = BTreeMap<Key, KeyHistory>;
 
 /// The value that a read of the key at this timestamp sees.
 pub(crate) fn shown<'a>(index: &'a Index, fates: &Fates, key: &Key, at: Ts) -> Option<&'a Value>
     ensures { Shows index.now fates.now key.now at (option_map (λ v. v.now) result) }
 {
-    let versions = index.get(key)?;
-    seen(versions, fates, at)
+    let history = index.get(key)?;
+    seen(&history.versions, fates, at)
 }
 
 // The first key from the bound up to but not including `to` that shows a value.
@@ -44,8 +44,8 @@ fn first_shown<'a>(
         × (Shows index.now fates.now key.now at None → ⊥)) }
     ensures none { IfNone result (IsBare index.now fates.now (bound_map (λ x. x.now) from.entry) to.now at) }
 {
-    for (key, versions) in index.range((from, Bound::Excluded(to))) {
-        if seen(versions, fates, at).is_some() {
+    for (key, history) in index.range((from, Bound::Excluded(to))) {
+        if seen(&history.versions, fates, at).is_some() {
             return Some(key);
         }
     }

@@ -35,6 +35,15 @@ pub struct Writer {
 /// The versions of a key, by commit timestamp.
 pub(crate) type Versions = BTreeMap<Ts, Version>;
 
+/// What the commits of a key have left.
+#[derive(Drop)]
+pub(crate) struct KeyHistory {
+    pub versions: Versions,
+    /// Where the key was read by a transaction that inserted it and committed: at its start. The
+    /// greatest such timestamp.
+    pub insert_read: Option<Ts>,
+}
+
 /// How transactions ended, by start timestamp.
 pub(crate) type Fates = BTreeMap<Ts, Fate>;
 
@@ -177,28 +186,6 @@ pub(crate) fn overlapping(
                 start: version.start,
                 commit: above,
             });
-        }
-        bound = above.get();
-    }
-}
-
-/// Where a transaction started that committed an insert, at this timestamp or above.
-pub(crate) fn inserted_from(versions: &Versions, fates: &Fates, from: Ts) -> Option<Ts>
-    ensures some { IfSome result (λ r. (from ≤ r) × ((d : ℕ) × (v : Value)
-        × Listed versions.now fates.now r d (Mutation.Insert v))) }
-    ensures none { IfNone result ((r d : ℕ) (v : Value) → Listed versions.now fates.now r d (Mutation.Insert v)
-        → from < d → r < from) }
-{
-    let mut bound = from.get();
-    'versions: loop {
-        let Some((above, version)) = first_above(versions, Ts::new(bound)) else {
-            return None;
-        };
-        if version.start >= from
-            && is_insert(&version.mutation)
-            && is_committed(fates, version.start, above)
-        {
-            return Some(version.start);
         }
         bound = above.get();
     }

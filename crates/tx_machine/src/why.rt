@@ -27,10 +27,10 @@ fn seen_by(index: &Index, fates: &Fates, key: &Key, at: Ts) -> Result<SeenValue,
     ensures ok { IfOk result (λ seen. IsSeen (ListedOn (versions_of index.now key.now) fates.now) at seen) }
     ensures err { IfErr result (λ e. e ≡ Fault.OutOfMemory) }
 {
-    let Some(versions) = index.get(key) else {
+    let Some(history) = index.get(key) else {
         return Ok(SeenValue::Nothing);
     };
-    let Some((commit, version)) = newest(versions, fates, at) else {
+    let Some((commit, version)) = newest(&history.versions, fates, at) else {
         return Ok(SeenValue::Nothing);
     };
     let by = Writer {

@@ -7,7 +7,8 @@ use Rattle.tx_types.specs.declared.key.Key.{Key}
 use Rattle.tx_types.specs.declared.limits.TheConstants.{MAX_LIVE_SESSIONS}
 use Rattle.tx_core.specs.Histories.{History, Begins}
 use Rattle.tx_core.specs.Worlds.{IsWorldRun}
-use Rattle.tx_core.proofs.runs.AllRuns.{shadow_runs, all_true}
+use Rattle.tx_core.proofs.runs.AllRuns.{shadow_runs}
+use Rattle.tx_core.proofs.runs.Truths.{all_true}
 use Rattle.tx_core.proofs.seats.Beginnings.{begins_all}
 use Rattle.tx_reply.specs.declared.reply.ScriptReply.TheVariants.{Regions}
 use Rattle.tx_reply.specs.Replies.{reply_words}

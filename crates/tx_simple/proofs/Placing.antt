@@ -1,4 +1,4 @@
--- A session's commit lies above those that its seat was told of before it declared.
+-- A session's commit lies above those that its seat knew to be decided before it declared.
 use Rattle.std.proofs.Common.{◌≡◌, ◌⊎◌, ◌<◌, inl, inr, ℕ, Bool, true, false, List, [], ◌∷◌, Option, Some, None, is_some, ◌&&◌, refl, sym, ap, subst, ◌∙◌}
 use Rattle.tx_types.specs.declared.key.Key.{Key}
 use Rattle.tx_types.specs.declared.mutation.Fate.{Fate}
@@ -7,12 +7,11 @@ use Rattle.tx_core.specs.declared.event.Declaration.{Declaration}
 use Rattle.tx_core.specs.declared.event.Outcome.{Outcome}
 use Rattle.tx_core.specs.declared.event.UnknownCause.{UnknownCause}
 use Rattle.tx_core.specs.declared.event.Outcome.TheVariants as outcome
-use Rattle.tx_core.specs.declared.event.Event.TheVariants.{Answered}
 use Rattle.tx_core.specs.Histories.{History, declared, Begins}
-use Rattle.tx_core.specs.Laws.{AnsweredBefore}
+use Rattle.tx_core.specs.Laws.{DecidedBefore}
 use Rattle.tx_core.specs.Worlds.{IsWorldRun}
-use Rattle.tx_core.proofs.seats.Staying.{among_on}
-use Rattle.tx_core.proofs.runs.CommitOrder.{answered_before_on}
+use Rattle.tx_core.proofs.seats.StaysDecided.{decided_on}
+use Rattle.tx_core.proofs.runs.CommitOrder.{decided_before_on}
 use Rattle.tx_core.proofs.runs.Consequences.{decided_declared}
 use Rattle.tx_transaction.specs.declared.state.Terms.{Terms}
 use Rattle.tx_transaction.specs.Buffers.{Entries, not_empty}
@@ -21,7 +20,7 @@ use Rattle.tx_client.specs.Calls.{Seated, Records, IsDecidedSo}
 use Rattle.tx_client.specs.Facts.{standing}
 use Rattle.tx_client.specs.Order.{IsDrawnAfter, CommitsAbove}
 use Rattle.tx_journal.specs.Known.{Known}
-use Rattle.tx_simple.specs.Updates.{IsWithoutEffect, CameToNothing, GoesOn, Follows, Writes, Ends, CommitsAboveTold}
+use Rattle.tx_simple.specs.Updates.{IsWithoutEffect, CameToNothing, GoesOn, Follows, Writes, Ends, CommitsAboveKnown}
 use Rattle.tx_simple.proofs.Going.{goes_more, goes_begins}
 
 -- what declares nothing has no primary
@@ -60,18 +59,17 @@ pub writes_placed : (old mid new : Seated) → GoesOn old.seat mid.seat → mid.
 writes_placed old mid new goes start after f = record {
   seat = goes_more old.seat mid.seat new.seat goes f.seat;
   start = f.start ∙ start;
-  placed = inr (λ u c among. subst (λ (p : ℕ). AnsweredBefore new.seat.events p u c) (sym f.placed)
-      (answered_before_on mid.seat.events new.seat.events (goes_begins mid.seat new.seat f.seat) mid.state.placed u c
-      (after u c among)));
+  placed = inr (λ u c is. subst (λ (p : ℕ). DecidedBefore new.seat.events p u c) (sym f.placed)
+      (decided_before_on mid.seat.events new.seat.events (goes_begins mid.seat new.seat f.seat) mid.state.placed u c
+      (after u c is)));
 }
 
--- what was told is told to who goes on
-pub told_on : (a b : History) → Begins a b → (o : Outcome) → CommitsAboveTold b o → CommitsAboveTold a o
-told_on a b more (outcome.Committed c) above =
-    λ u d among. above u d (among_on a b more (Answered u (outcome.Committed d)) among)
-told_on a b more outcome.Aborted above = tt
-told_on a b more (outcome.Unknown why) above = tt
-told_on a b more outcome.ReadOnly above = tt
+-- what was known is known to who goes on
+pub known_on : (a b : History) → Begins a b → (o : Outcome) → CommitsAboveKnown b o → CommitsAboveKnown a o
+known_on a b more (outcome.Committed c) above = λ u d is. above u d (decided_on a b more u (fate.Committed d) is)
+known_on a b more outcome.Aborted above = tt
+known_on a b more (outcome.Unknown why) above = tt
+known_on a b more outcome.ReadOnly above = tt
 
 -- a session that went on before it declared
 pub writes_after : (a b c : Seated) → Follows a b → Writes b c → Writes a c
@@ -80,9 +78,8 @@ writes_after a b c f w = record {
   start = w.start ∙ f.start;
   placed = elim w.placed [
     | inl none ↦ inl none
-    | inr after ↦ inr (λ u d among. after u d
-        (among_on a.seat.events b.seat.events (goes_begins a.seat b.seat f.seat) (Answered u (outcome.Committed d))
-        among))
+    | inr after ↦ inr (λ u d is. after u d
+        (decided_on a.seat.events b.seat.events (goes_begins a.seat b.seat f.seat) u (fate.Committed d) is))
   ];
 }
 
@@ -124,25 +121,25 @@ came_to_nothing session outcome.ReadOnly stands is decided none = inl (stands
     ∙ none_stands session.state.start session.state.placed session.state.buffer session.state.declared
     (read_only_none session.state session.state.decision is))
 
--- what was committed lies above what was told
-pub above_told : (bounds : List Key) (old new : Seated) (end : Outcome) → IsWorldRun bounds new.seat.events
+-- what was committed lies above what was known
+pub above_known : (bounds : List Key) (old new : Seated) (end : Outcome) → IsWorldRun bounds new.seat.events
     → declared new.seat.events new.state.start
     ≡ standing new.state.start new.state.placed new.state.buffer new.state.declared → Writes old new
     → IsDecidedSo new.seat.events new.state.start end → CommitsAbove new.seat.events new.state.placed end
-    → CommitsAboveTold old.seat.events end
-above_told bounds old new (outcome.Committed c) run stands w decided order = by w.placed
+    → CommitsAboveKnown old.seat.events end
+above_known bounds old new (outcome.Committed c) run stands w decided order = by w.placed
   where
     some : has_primary new.state ≡ true
     some = stands_primary new.state.start new.state.placed new.state.buffer new.state.declared
         (λ none. decided_declared bounds new.seat.events run new.state.start (fate.Committed c) decided (stands ∙ none))
 
     by : (has_primary new.state ≡ false) ⊎ IsDrawnAfter old.seat.events new.seat.events new.state.placed
-        → CommitsAboveTold old.seat.events (outcome.Committed c)
+        → CommitsAboveKnown old.seat.events (outcome.Committed c)
     by (inl none) = absurd (cc (some, none))
-    by (inr after) = λ u d among. order u d (after u d among)
-above_told bounds old new outcome.Aborted run stands w decided order = tt
-above_told bounds old new (outcome.Unknown why) run stands w decided order = tt
-above_told bounds old new outcome.ReadOnly run stands w decided order = tt
+    by (inr after) = λ u d is. order u d (after u d is)
+above_known bounds old new outcome.Aborted run stands w decided order = tt
+above_known bounds old new (outcome.Unknown why) run stands w decided order = tt
+above_known bounds old new outcome.ReadOnly run stands w decided order = tt
 
 -- what `finish` answers of a session that went on ends it
 pub ended_so : (bounds : List Key) (begun session : Seated) (end : Outcome) (t : ℕ) (new : Known)
@@ -153,15 +150,18 @@ pub ended_so : (bounds : List Key) (begun session : Seated) (end : Outcome) (t :
     → (finish_of session.state ≡ Some end) × Records bounds session.seat (Answered session.state.start end) new
     × IsDecidedSo session.seat.events session.state.start end
     → CommitsAbove session.seat.events session.state.placed end → (ends : Ends bounds begun.seat t end new) × (ends.session ≡ session)
-ended_so bounds begun session end t new run stands writes is (outcome, recorded, decided) order = (record {
-  session = session;
-  seat = writes.seat;
-  start = sym is;
-  outcome = outcome;
-  recorded = subst (λ (u : ℕ). Records bounds session.seat (Answered u end) new) (sym is) recorded;
-  decided = subst (λ (u : ℕ). IsDecidedSo session.seat.events u end) (sym is) decided;
-  nothing = λ none. subst (CameToNothing session.seat.events) (sym is)
-      (came_to_nothing session end stands outcome decided none);
-  in_order = order;
-  above = above_told bounds begun session end run stands writes decided order;
-}, refl)
+ended_so bounds begun session end t new run stands writes is (outcome, recorded, decided) order = (
+  record {
+    session = session;
+    seat = writes.seat;
+    start = sym is;
+    outcome = outcome;
+    recorded = subst (λ (u : ℕ). Records bounds session.seat (Answered u end) new) (sym is) recorded;
+    decided = subst (λ (u : ℕ). IsDecidedSo session.seat.events u end) (sym is) decided;
+    nothing = λ none. subst (CameToNothing session.seat.events) (sym is)
+        (came_to_nothing session end stands outcome decided none);
+    in_order = order;
+    above = above_known bounds begun session end run stands writes decided order;
+  },
+  refl,
+)

@@ -17,7 +17,7 @@ use Rattle.tx_simple.specs.declared.ending.Unended.TheVariants.{Spent, Open}
 use Rattle.tx_simple.specs.Updates.{IsWithoutEffect, GoesOn, Writes, Works, ComesToNothing, TriesInVain}
 use Rattle.tx_simple.specs.Endings.{EndsFrom, EndsOver, IsOpen, StaysOpen, IsUnended}
 use Rattle.tx_simple.proofs.Going.{goes_itself, goes_more, goes_begins, began_begins, recorded_begins}
-use Rattle.tx_simple.proofs.Placing.{told_on}
+use Rattle.tx_simple.proofs.Placing.{known_on}
 
 -- ---- tries in vain
 
@@ -124,7 +124,7 @@ module _ {J W : Type 0} (does : W → Entries → Result (Unit {0}) Stop → Ent
     start = sym ends.start ∙ (ap (λ (s : Seated). s.state.start) is ∙ writes.start);
     works = subst (λ (s : Seated). Works does bounds terms begun s e.stop v w) (sym is)
         (subst (λ (o : Option Stop). Works does bounds terms begun session o v w) (sym why) works);
-    above = told_on old.begins.events begun.seat.events
+    above = known_on old.begins.events begun.seat.events
         (began_begins bounds old.begins begun.seat begun.state.start began) e.outcome ends.above;
     resolves = subst (λ (k : Known). GoesOn old.resolves k) (sym at) goes;
   }
@@ -143,7 +143,7 @@ module _ {J W : Type 0} (does : W → Entries → Result (Unit {0}) Stop → Ent
       ends = over.ends;
       start = over.start;
       works = over.works;
-      above = told_on old.begins.events mid.begins.events
+      above = known_on old.begins.events mid.begins.events
           (vain_begins does bounds terms n old.begins mid.begins v x vain) e.outcome over.above;
       resolves = goes_more old.resolves mid.resolves e.seats.resolves goes over.resolves;
     },

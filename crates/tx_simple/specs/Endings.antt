@@ -11,7 +11,7 @@ use Rattle.tx_simple.specs.declared.ending.Seats.{Seats}
 use Rattle.tx_simple.specs.declared.ending.Ended.{Ended}
 use Rattle.tx_simple.specs.declared.ending.Unended.{Unended}
 use Rattle.tx_simple.specs.declared.ending.Unended.TheVariants as unended
-use Rattle.tx_simple.specs.Updates.{GoesOn, Ends, TriesInVain, Works, CommitsAboveTold}
+use Rattle.tx_simple.specs.Updates.{GoesOn, Ends, TriesInVain, Works, CommitsAboveKnown}
 
 -- the session over this seat ended so, this stopped it, and the other seat is this one
 abbrev pub EndsFrom : {J : Type 0} → List Key → Known → Seated → Known → Option Stop → Ended J → Type 0
@@ -39,7 +39,7 @@ module _ {J W : Type 0} (does : W → Entries → Result (Unit {0}) Stop → Ent
     Terms) where
   -- How the last try ended, after so many that came to nothing: a transaction began over the seat
   -- that begins and ended so, the work was done in it, and the other seat went on. A commit lies above
-  -- each that the seat had been told of before the first.
+  -- each that the seat knew to be decided before the first.
   pub record EndsOver (old : Seats J) (before : W) (tries : ℕ) (e : Ended J) (new : W) : Type 0 where
     pub last : Known
     pub between : W
@@ -49,7 +49,7 @@ module _ {J W : Type 0} (does : W → Entries → Result (Unit {0}) Stop → Ent
     pub ends : Ends bounds begun.seat e.start e.outcome e.seats.begins
     pub start : e.start ≡ begun.state.start
     pub works : Works does bounds terms begun ends.session e.stop between new
-    pub above : CommitsAboveTold old.begins.events e.outcome
+    pub above : CommitsAboveKnown old.begins.events e.outcome
     pub resolves : GoesOn old.resolves e.seats.resolves
 
   -- nothing ended after so many tries that came to nothing: the seat has no ticks to begin with, or

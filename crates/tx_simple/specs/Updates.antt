@@ -8,7 +8,7 @@ use Rattle.tx_core.specs.declared.event.Outcome.{Outcome}
 use Rattle.tx_core.specs.declared.event.Outcome.TheVariants as outcome
 use Rattle.tx_core.specs.declared.event.Event.{Event}
 use Rattle.tx_core.specs.declared.event.Event.TheVariants.{Drawn, Began, Declared, Answered, Stopped, Took}
-use Rattle.tx_core.specs.Histories.{History, Among, declared}
+use Rattle.tx_core.specs.Histories.{History, declared}
 use Rattle.tx_core.specs.Recording.{owner}
 use Rattle.tx_journal.specs.Known.{Known}
 use Rattle.tx_transaction.specs.Sessions.{has_primary, finish_of, declaration}
@@ -50,18 +50,18 @@ pub record Follows (old new : Seated) : Type 0 where
   pub placed : new.state.placed ≡ old.state.placed
 
 -- a session went on from where nothing was declared, and may have declared: the number of that was
--- drawn after what its seat had been told
+-- drawn after what its seat had known
 pub record Writes (old new : Seated) : Type 0 where
   pub seat : GoesOn old.seat new.seat
   pub start : new.state.start ≡ old.state.start
   pub placed : (has_primary new.state ≡ false) ⊎ IsDrawnAfter old.seat.events new.seat.events new.state.placed
 
--- a commit lies above each whose answer was told
-abbrev pub CommitsAboveTold : History → Outcome → Type 0
-CommitsAboveTold told (outcome.Committed c) = (u d : ℕ) → Among told (Answered u (outcome.Committed d)) → d < c
-CommitsAboveTold told outcome.Aborted = Unit {0}
-CommitsAboveTold told (outcome.Unknown why) = Unit {0}
-CommitsAboveTold told outcome.ReadOnly = Unit {0}
+-- a commit lies above each that is decided in what was known
+abbrev pub CommitsAboveKnown : History → Outcome → Type 0
+CommitsAboveKnown known (outcome.Committed c) = (u d : ℕ) → IsDecidedSo known u (outcome.Committed d) → d < c
+CommitsAboveKnown known outcome.Aborted = Unit {0}
+CommitsAboveKnown known (outcome.Unknown why) = Unit {0}
+CommitsAboveKnown known outcome.ReadOnly = Unit {0}
 
 -- nothing was declared of it, or it is decided that it is aborted
 abbrev pub CameToNothing : History → ℕ → Type 0
@@ -69,7 +69,7 @@ CameToNothing h t = (declared h t ≡ None) ⊎ IsDecidedSo h t outcome.Aborted
 
 -- A session over this seat, which knew `old` when it had begun, has ended: it began at t, has seen
 -- more and has this outcome, which the seat recorded; a fate is decided so, without effect is what
--- came to nothing, and a commit is in order, above each that the seat was told of before.
+-- came to nothing, and a commit is in order, above each that the seat knew to be decided before.
 pub record Ends (bounds : List Key) (old : Known) (t : ℕ) (end : Outcome) (new : Known) : Type 0 where
   pub session : Seated
   pub seat : GoesOn old session.seat
@@ -79,7 +79,7 @@ pub record Ends (bounds : List Key) (old : Known) (t : ℕ) (end : Outcome) (new
   pub decided : IsDecidedSo session.seat.events t end
   pub nothing : IsWithoutEffect end → CameToNothing session.seat.events t
   pub in_order : CommitsAbove session.seat.events session.state.placed end
-  pub above : CommitsAboveTold old.events end
+  pub above : CommitsAboveKnown old.events end
 
 -- what was entered is what was declared under these terms, and the seat went on from there
 pub record Wrote (bounds : List Key) (terms : Terms) (start : ℕ) (entered : Entries) (old new : Known) : Type 0 where

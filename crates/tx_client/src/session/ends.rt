@@ -149,7 +149,7 @@ impl<J: JournalId> Session<J> {
 
     /// Ends the transaction with its outcome: the fate where it is known, read-only where
     /// nothing was declared, unknown where there is a cause. A commit lies above each that was
-    /// answered before the number of its declaration was drawn. Where there is no outcome, the
+    /// decided before the number of its declaration was drawn. Where there is no outcome, the
     /// session comes back.
     #[inline(always)]
     pub fn finish(self) -> Result<(Outcome, Seat<J>), Session<J>>

@@ -1,8 +1,8 @@
-use Rattle.std.proofs.Common.{sym, ap, ◌==◌, ◌∙◌, List, length, eq-eqb, ne_eqb}
+use Rattle.std.proofs.Common.{sym, ap, ◌==◌, ◌∙◌, List, length}
 use Rattle.std.specs.Range.Bound.{bound_map}
 use Rattle.tx_types.specs.declared.mutation.KeyValue.{KeyValue}
 use Rattle.tx_machine.proofs.Scans.{no_rows}
-use Rattle.tx_machine.proofs.Differences.{ahead, none_placed, here_from, here_differs, here_next, behind_differs, behind_none, if_some, if_none}
+use Rattle.tx_machine.proofs.Differences.{none_placed, here_from, here_differs, here_next, behind_differs, behind_none, if_some, if_none}
 use Rattle.tx_machine.proofs.scan.differing.Goals as goal
 
 pub returns-then-ge-clause-none : goal.returns-then-ge-clause-none

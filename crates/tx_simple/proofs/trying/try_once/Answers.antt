@@ -15,7 +15,7 @@ returns-in-Ok-clause-ended g c =
     c.run-session.ensures.session
     (subst
     (λ (o : Option Stop). Works g.W.Work.does g.J.JournalId.bounds c.args.terms.now begun after o
-        c.args.work.now c.run-session.new.work) (sym c.stopped_by.ensures) c.run-session.ensures.works)
+    c.args.work.now c.run-session.new.work) (sym c.stopped_by.ensures) c.run-session.ensures.works)
     c.run-session.ensures.resolver (c.finished.ensures.ended begun c.run-session.ensures.session)
 
 pub returns-in-Ok-clause-unended : goal.returns-in-Ok-clause-unended
@@ -27,7 +27,7 @@ returns-in-Ok-clause-unended g c =
     c.run-session.ensures.session
     (subst
     (λ (o : Option Stop). Works g.W.Work.does g.J.JournalId.bounds c.args.terms.now begun after o
-        c.args.work.now c.run-session.new.work) (sym c.stopped_by.ensures) c.run-session.ensures.works)
+    c.args.work.now c.run-session.new.work) (sym c.stopped_by.ensures) c.run-session.ensures.works)
     c.run-session.ensures.resolver c.finished.ensures.open_yet
 
 pub returns-in-Err-clause-unended : goal.returns-in-Err-clause-unended

@@ -34,7 +34,7 @@ returns-clause-session g c =
     writes_placed old new c.carry.result.0
     (declares_goes g.J.JournalId.bounds old.seat new.seat
     (declaration old.state.start new.state.placed old.state.buffer c.args.terms.now) ok.2)
-    (ap (λ (z : SessionState). z.start) ok.1) (c.in_default.ensures.after_told some) c.carry.ensures.session
+    (ap (λ (z : SessionState). z.start) ok.1) (c.in_default.ensures.after_known some) c.carry.ensures.session
 
 pub returns-then-not-has_primary-clause-wrote : goal.returns-then-not-has_primary-clause-wrote
 returns-then-not-has_primary-clause-wrote g c = record {

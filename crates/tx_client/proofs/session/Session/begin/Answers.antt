@@ -4,7 +4,9 @@ use Rattle.tx_core.specs.Recording.{MayRecord}
 use Rattle.tx_journal.proofs.Calls.{may_begin_there}
 use Rattle.tx_transaction.specs.Sessions.{SessionState}
 use Rattle.tx_client.specs.Facts.{IsSeated}
+use Rattle.tx_client.specs.Order.{IsDrawnAfter}
 use Rattle.tx_client.proofs.Calling.{began_seated}
+use Rattle.tx_client.proofs.Ordered.{began_drawn_after}
 use Rattle.tx_client.proofs.session.Session.begin.Goals as goal
 
 pub record_began-requires : goal.record_began-requires
@@ -15,3 +17,8 @@ record_began-requires g c =
 pub invariant_of-result : goal.invariant_of-result
 invariant_of-result g c =
     subst (λ (z : SessionState). IsSeated g.J.JournalId.bounds c.record_began.new.seat z) (sym c.begin.ensures) (began_seated g.J.JournalId.bounds c.args.seat c.draw.new.self c.record_began.new.seat c.in-Ok.start c.draw.ensures.seat c.in-Ok.ensures.drawn c.record_began.ensures)
+
+pub returns-clause-after_known : goal.returns-clause-after_known
+returns-clause-after_known g c =
+    subst (λ (z : SessionState). IsDrawnAfter c.args.seat.events c.record_began.new.seat.events z.start) (sym c.begin.ensures)
+    (began_drawn_after g.J.JournalId.bounds c.args.seat c.draw.new.self c.record_began.new.seat c.in-Ok.start c.draw.ensures.seat c.in-Ok.ensures.drawn c.record_began.ensures)

@@ -21,8 +21,8 @@ invariant_of-self-2 g c =
     subst (λ (z : SessionState). IsSeated g.J.JournalId.bounds c.record_declared.new.seat z) (sym c.declare.ensures)
     (declared_seated g.J.JournalId.bounds c.self.inside.seat c.record_declared.new.seat s c.in_ok-placed.placed c.args.terms (declaration s.start c.in_ok-placed.placed s.buffer c.args.terms) c.self.invariant not_yet refl c.in_ok-placed.ensures.ok)
 
-pub returns-clause-after_told : goal.returns-clause-after_told
-returns-clause-after_told g c =
+pub returns-clause-after_known : goal.returns-clause-after_known
+returns-clause-after_known g c =
     let s = c.self.inside.transaction in
     let after = λ (some : not_empty s.buffer ≡ true). subst (IsDrawnAfter c.self.inside.seat.events c.record_declared.new.seat.events) (sym (ap (λ (z : SessionState). z.placed) c.declare.ensures)) (declared_after g.J.JournalId.bounds c.self.inside.seat c.record_declared.new.seat s.start c.in_ok-placed.placed s.buffer c.args.terms c.in_ok-placed.ensures.ok some) in
     subst (λ (z : Seated). not_empty z.state.buffer ≡ true → IsDrawnAfter z.seat.events c.record_declared.new.seat.events c.declare.new.self.placed) c.self.view_is after

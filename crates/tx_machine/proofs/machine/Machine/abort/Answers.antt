@@ -4,8 +4,7 @@ use Rattle.std.specs.BTreeMap as tree
 use Rattle.tx_types.specs.declared.mutation.Change.{Change}
 use Rattle.tx_types.specs.declared.mutation.Fate.TheVariants.{Aborted}
 use Rattle.tx_machine.specs.Machine.{Open, Done, with_row, changes_in}
-use Rattle.tx_machine.specs.Noted.{IsNoted}
-use Rattle.tx_machine.specs.Representation.{version_of, row_of, Tells}
+use Rattle.tx_machine.specs.Representation.{version_of, row_of, Tells, IsKept}
 use Rattle.tx_machine.proofs.CommitSteps.{no_fate}
 use Rattle.tx_machine.proofs.Steps.{aborts}
 use Rattle.tx_machine.proofs.machine.Machine.abort.Goals as goal
@@ -19,14 +18,14 @@ returns-clause-ok c table tells =
     tells.row c.args.t ∙ (ap (row_of (tree.get nat_cmp c.args.self.now.stages c.args.t)) none ∙ begun.1 None) in
     let made =
     aborts c.args.self.now.last (tree.get nat_cmp c.args.self.now.stages) (tree.get nat_cmp c.args.self.now.fates)
-    (version_of c.args.self.now.index) (IsNoted c.args.self.now.reads) table tells
+    (version_of c.args.self.now.index) (IsKept c.args.self.now.index c.args.self.now.reads) table tells
     c.args.t begun.0 row (tree.get nat_cmp c.insert.new.self) c.in_ok-insert.ensures.updates.0
     (begun.1 (Some Aborted)) in (
       made.0,
       subst
           (λ (cs : Option (List Change)).
           Tells c.args.self.now.last (tree.get nat_cmp c.args.self.now.stages) (tree.get nat_cmp c.insert.new.self)
-          (version_of c.args.self.now.index) (IsNoted c.args.self.now.reads)
+          (version_of c.args.self.now.index) (IsKept c.args.self.now.index c.args.self.now.reads)
           (with_row table c.args.t cs (Done Aborted)))
           (sym (ap changes_in row)) made.1,
     )

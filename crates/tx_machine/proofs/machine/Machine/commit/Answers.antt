@@ -1,12 +1,12 @@
-use Rattle.std.proofs.Common.{◌≡◌, ◌<◌, ◌≤◌, ◌+◌, sym, ap, subst, ◌∙◌, Some, None, arith, List, refl}
+use Rattle.std.proofs.Common.{◌≡◌, ◌<◌, ◌≤◌, ◌+◌, sym, ap, subst, ◌∙◌, Some, None, arith, List}
 use Rattle.std.specs.List.{Contains}
 use Rattle.std.specs.Ordering.{nat_cmp}
 use Rattle.std.specs.BTreeMap as tree
 use Rattle.tx_types.specs.declared.mutation.Change.{Change}
 use Rattle.tx_machine.specs.declared.machine.TxnStage.{TxnStage}
 use Rattle.tx_machine.specs.declared.machine.TxnStage.TheVariants.{Declared}
-use Rattle.tx_machine.specs.Keys.{mutation_at}
-use Rattle.tx_machine.specs.Representation.{Keeps}
+use Rattle.tx_machine.specs.Keys.{mutation_at, IsDistinct}
+use Rattle.tx_machine.specs.Representation.{Keeps, HasVersions, AddsInserts}
 use Rattle.tx_machine.proofs.Commits.{on_err}
 use Rattle.tx_machine.proofs.CommitSteps.{not_blocked, no_fate}
 use Rattle.tx_machine.proofs.Distinct.{some_of, none_of}
@@ -48,7 +48,7 @@ returns-in_err-list_all-clause-same c =
     c.args.t c.args.c c.in-Some-Declared.set c.as_slice-2.result.now c.as_slice-2.ensures stage none above upto
     (λ order k m e. none_of _ _ c.if-is_some-2.ensures c.first_block.ensures.free order k m
     (ap (λ (ys : List Change). mutation_at ys k) (c.as_slice.ensures ∙ sym c.as_slice-2.ensures) ∙ e))
-    table tells c.list_all.new.index c.in_err-list_all.ensures.some in
+    table tells c.list_all.new.index c.list_all.ensures.reads c.in_err-list_all.ensures.some in
     on_err _ _ kept
 
 pub returns-in_err-insert-clause-same : goal.returns-in_err-insert-clause-same
@@ -74,7 +74,8 @@ returns-in_err-insert-clause-same c =
     c.args.t c.args.c c.in-Some-Declared.set c.as_slice-2.result.now c.as_slice-2.ensures stage none above upto
     (λ order k m e. none_of _ _ c.if-is_some-2.ensures c.first_block.ensures.free order k m
     (ap (λ (ys : List Change). mutation_at ys k) (c.as_slice.ensures ∙ sym c.as_slice-2.ensures) ∙ e))
-    table tells c.list_all.new.index c.in_ok-list_all.ensures.all c.insert.new.self c.in_err-insert.ensures.err in
+    table tells c.list_all.new.index c.list_all.ensures.reads c.in_ok-list_all.ensures.all c.insert.new.self
+    c.in_err-insert.ensures.err in
     on_err _ _ kept
 
 pub returns-clause-ok : goal.returns-clause-ok
@@ -92,5 +93,9 @@ returns-clause-ok c table tells =
     c.args.t c.args.c c.in-Some-Declared.set c.as_slice-2.result.now c.as_slice-2.ensures stage none above upto
     (λ order k m e. none_of _ _ c.if-is_some-2.ensures c.first_block.ensures.free order k m
     (ap (λ (ys : List Change). mutation_at ys k) (c.as_slice.ensures ∙ sym c.as_slice-2.ensures) ∙ e))
-    table tells c.list_all.new.index c.in_ok-list_all.ensures.all (tree.get nat_cmp c.insert.new.self)
-    c.in_ok-insert.ensures.updates.0
+    table tells c.list_all.new.index c.list_all.ensures.reads c.in_ok-list_all.ensures.all c.note_inserts.new.index
+    c.note_inserts.ensures.same
+    (subst (λ (ys : List Change). IsDistinct ys → HasVersions c.list_all.new.index ys
+    → AddsInserts c.list_all.new.index c.note_inserts.new.index ys c.args.t)
+    (c.as_slice-3.ensures ∙ sym c.as_slice-2.ensures) c.note_inserts.ensures.noted)
+    (tree.get nat_cmp c.insert.new.self) c.in_ok-insert.ensures.updates.0

@@ -4,8 +4,7 @@ use Rattle.std.specs.BTreeMap as tree
 use Rattle.tx_types.specs.declared.mutation.Change.{Change}
 use Rattle.tx_machine.specs.declared.machine.TxnStage.{TxnStage}
 use Rattle.tx_machine.specs.declared.machine.TxnStage.TheVariants.{Begun}
-use Rattle.tx_machine.specs.Noted.{IsNoted}
-use Rattle.tx_machine.specs.Representation.{version_of}
+use Rattle.tx_machine.specs.Representation.{version_of, IsKept}
 use Rattle.tx_machine.specs.Keys.{IsDistinct}
 use Rattle.tx_machine.proofs.CommitSteps.{no_fate}
 use Rattle.tx_machine.proofs.Distinct.{some_changes, some_of, none_of, twice_not_distinct}
@@ -20,7 +19,7 @@ returns-clause-ok c table tells =
     no_fate _ _ c.if-is_some.ensures c.get.ensures.value in
     let distinct = none_of _ _ c.if-is_some-2.ensures c.in_ok-repeated.ensures.once in
     declares c.args.self.now.last (tree.get nat_cmp c.args.self.now.stages) (tree.get nat_cmp c.args.self.now.fates)
-    (version_of c.args.self.now.index) (IsNoted c.args.self.now.reads) table tells
+    (version_of c.args.self.now.index) (IsKept c.args.self.now.index c.args.self.now.reads) table tells
     c.args.t c.args.set.now there open_
     (some_changes c.as_slice.result.now c.args.set.now c.as_slice.ensures (sym c.is_empty.ensures
     ∙ c.if-is_empty.false))
