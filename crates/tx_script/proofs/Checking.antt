@@ -21,7 +21,7 @@ use Rattle.tx_engine.specs.Slots.{Held, own, AllSeated, Settled}
 use Rattle.tx_engine.specs.Openings.{IsOpening}
 use Rattle.tx_script.specs.Checked.{IsBegun, step_lines, steps_told, EndsCheckedLines, BreaksCheckedLines}
 use Rattle.tx_script.specs.Loops.{Kept, EndsAt, AreOf, AppendsBegun, BreaksAsked}
-use Rattle.tx_script.proofs.OnePlay.{is_play}
+use Rattle.tx_script.proofs.AllTelling.{is_play}
 use Rattle.tx_script.proofs.Ending.{all_came, breaks_first, if_some}
 
 -- broken off before the first line

@@ -19,7 +19,7 @@ use Rattle.tx_engine.specs.Slots.{Held, own, AllSeated, Settled}
 use Rattle.tx_engine.proofs.Settling.{history_upto}
 use Rattle.tx_script.specs.Play.{EndsLines, BreaksLines, ending, bounds_of}
 use Rattle.tx_script.specs.Loops.{Ahead, first_bounds, EndsAt, BreaksAt}
-use Rattle.tx_script.proofs.OnePlay.{is_play}
+use Rattle.tx_script.proofs.AllTelling.{is_play}
 
 -- all that came was made by the engine
 pub all_came : (bounds : List Key) (e : Held) (seats : ℕ) → length e.slots ≡ MAX_LIVE_SESSIONS → AllSeated bounds 0 e

@@ -1,5 +1,15 @@
 -- Lines of a script have one play where its events are a world run.
 pub mod OnePlay
+-- What sessions have in their buffers was entered under their names.
+pub mod Owning
+-- What walks come to, by what was answered on the way.
+pub mod Coming
+-- What a step's turn replies, by what has then happened.
+pub mod Telling
+-- What a reply tells stays so as the history grows.
+pub mod Staying
+-- Each reply of a play tells of its events.
+pub mod AllTelling
 -- What a line of a script leads to, by what it says.
 pub mod LineTurns
 -- The loop over the lines: under the condition that no more events came than the engine made, what

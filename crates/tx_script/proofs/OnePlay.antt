@@ -4,11 +4,8 @@ use Rattle.std.proofs.Common.{◌≡◌, ◌==◌, ◌&&◌, ℕ, ◌+◌, Bool,
 use Rattle.serde_json.specs.Data.{Data}
 use Rattle.tx_types.specs.declared.fault.Cause.{Cause}
 use Rattle.tx_types.specs.declared.key.Key.{Key}
-use Rattle.tx_types.specs.declared.limits.TheConstants.{MAX_LIVE_SESSIONS}
 use Rattle.tx_core.specs.Histories.{History, Begins}
 use Rattle.tx_core.specs.Worlds.{IsWorldRun}
-use Rattle.tx_core.proofs.runs.AllRuns.{shadow_runs}
-use Rattle.tx_core.proofs.runs.Truths.{all_true}
 use Rattle.tx_core.proofs.seats.Beginnings.{begins_all}
 use Rattle.tx_reply.specs.declared.reply.ScriptReply.TheVariants.{Regions}
 use Rattle.tx_reply.specs.Replies.{reply_words}
@@ -16,10 +13,10 @@ use Rattle.tx_steps.specs.declared.program.Program.TheVariants.{Simulate}
 use Rattle.tx_steps.specs.declared.step.Step.{Step}
 use Rattle.tx_steps.specs.Steps.{Text}
 use Rattle.tx_steps.specs.Lines.{data_said, step_in, bounds_in}
-use Rattle.tx_engine.specs.Semantics.{EngineState, opening, Transition, goes}
+use Rattle.tx_engine.specs.Semantics.{EngineState, Transition, goes}
 use Rattle.tx_engine.proofs.AllGrow.{AllGrow, turn_grows, leads_begin}
 use Rattle.tx_engine.proofs.OnePlay.{one_lead}
-use Rattle.tx_script.specs.Play.{step_turn, said_turn, line_turn, Played, before, faulted, Plays, IsPlay}
+use Rattle.tx_script.specs.Play.{step_turn, said_turn, line_turn, Played, before, faulted, Plays}
 
 module _ (bounds : List Key) where
   module _ (engine : EngineState) (refused : List Bool) where
@@ -57,7 +54,7 @@ module _ (bounds : List Key) where
       (begins_all engine.network.history))
       (line_turn bounds refused (number + 1) line engine) (line_grows engine refused (number + 1) line) plays
 
-  one_play : (lines : List (List ℕ)) (engine : EngineState) (number : ℕ) (refused : List Bool) (p q : Played)
+  pub one_play : (lines : List (List ℕ)) (engine : EngineState) (number : ℕ) (refused : List Bool) (p q : Played)
       → IsWorldRun bounds p.history → Plays bounds engine number refused lines p
       → Plays bounds engine number refused lines q → q ≡ p
   one_play [] engine number refused p q run is also = also ∙ sym is
@@ -75,15 +72,3 @@ module _ (bounds : List Key) where
       + 1) left z.0 w.0 (subst (λ (r : Played). IsWorldRun bounds r.history) z.2 run) z.1 w.1) ∙ sym z.2))
       (λ c is also. also ∙ sym is)
       (line_turn bounds refused (number + 1) line engine) (line_grows engine refused (number + 1) line) x y
-
-  pub is_play : (refused : List Bool) (lines : List (List ℕ)) (p : Played)
-      → Plays bounds (opening MAX_LIVE_SESSIONS) 0 refused lines p → IsWorldRun bounds p.history
-      → IsPlay bounds refused lines p
-  is_play refused lines p plays run = record {
-    plays = plays;
-    only = λ q also. one_play lines (opening MAX_LIVE_SESSIONS) 0 refused p q run plays also;
-    run = run;
-    one_step =
-        shadow_runs bounds p.history run;
-    answers = all_true bounds p.history run;
-  }

@@ -16,6 +16,7 @@ use Rattle.tx_text.specs.declared.end.Broken.{Broken}
 use Rattle.tx_text.specs.declared.end.Broken.TheVariants.{Output}
 use Rattle.tx_text.specs.declared.end.End.{End}
 use Rattle.tx_text.specs.declared.end.End.TheVariants.{Well, Faulted}
+use Rattle.tx_reply.specs.declared.reply.ScriptReply.{ScriptReply}
 use Rattle.tx_reply.specs.declared.reply.ScriptReply.TheVariants.{Regions}
 use Rattle.tx_text.specs.Lines.{lines_of}
 use Rattle.tx_reply.specs.Replies.{reply_words}
@@ -27,6 +28,7 @@ use Rattle.tx_steps.specs.Steps.{Text}
 use Rattle.tx_steps.specs.Lines.{data_said, step_in, bounds_in}
 use Rattle.tx_engine.specs.Semantics.{EngineState, opening, Transition, goes, stops, turn}
 use Rattle.tx_engine.specs.Plays.{Leads}
+use Rattle.tx_script.specs.Tells.{Entered, nothing_entered, entered_by, TellsBy}
 
 -- ---- the regions
 
@@ -94,6 +96,18 @@ faulted engine number cause = record {
 abbrev pub render : List (ℕ × Items) → List ℕ
 render replies = flat_map reply_text replies
 
+-- ---- what replies tell
+
+-- The step that a line says, if it says one.
+abbrev pub step_of : Result Data Cause → Option (Step Text)
+step_of (Ok d) = step_in Simulate d
+step_of (Err c) = None
+
+-- what was entered after it
+abbrev pub entered_after : Option (Step Text) → Entered → Entered
+entered_after None entered = entered
+entered_after (Some what) entered = entered_by what entered
+
 module _ (bounds : List Key) where
   -- Lines are played from an engine state on, the first with the number after this one: each leads
   -- to its reply and to the engine state of the next; a fault ends the script.
@@ -105,16 +119,34 @@ module _ (bounds : List Key) where
       (λ cause. p ≡ faulted engine (number + 1) cause)
       (line_turn bounds refused (number + 1) line engine)
 
+  -- what is written for a line is a fault, or how many regions there are, or the reply of its step,
+  -- which tells of what has happened
+  abbrev pub LineTells : Entered → History → Option (Step Text) → Items → Type 0
+  LineTells entered h said words = ((cause : Cause) × (words ≡ fault_words cause))
+      ⊎ ((words ≡ reply_words (Regions (length bounds + 1)))
+      ⊎ ((what : Step Text) × (reply : ScriptReply) × (said ≡ Some what) × (words ≡ reply_words reply)
+      × TellsBy bounds entered h what reply))
+
+  -- Each reply is that of the line of its number, from the number after this one on, each line has
+  -- one at most, and each tells of what has happened.
+  abbrev pub AllTell : Entered → History → ℕ → List (List ℕ) → List (ℕ × Items) → Type 0
+  AllTell entered h number lines [] = Unit {0}
+  AllTell entered h number [] (reply ∷ replies) = ⊥
+  AllTell entered h number (line ∷ lines) (reply ∷ replies) = (reply.0 ≡ number + 1)
+      × LineTells entered h (step_of (data_said (number + 1) line)) reply.1
+      × AllTell (entered_after (step_of (data_said (number + 1) line)) entered) h (number + 1) lines replies
+
   -- What lines mean over regions with these bounds, where the calls that `refused` names met want
   -- of memory: they mean nothing else, and their events are a run of the protocol. So the steps of
   -- the machine that commits each transaction in one step, read off that run, are a run of that
-  -- machine, and each answer is true of its table where it was given.
+  -- machine, and each answer is true of its table where it was given. Each reply tells of these events.
   pub record IsPlay (refused : List Bool) (lines : List (List ℕ)) (p : Played) : Type 0 where
     pub plays : Plays (opening MAX_LIVE_SESSIONS) 0 refused lines p
     pub only : (q : Played) → Plays (opening MAX_LIVE_SESSIONS) 0 refused lines q → q ≡ p
     pub run : IsWorldRun bounds p.history
     pub one_step : IsRun (shadow p.history)
     pub answers : AllTrue p.history
+    pub tells : AllTell nothing_entered p.history 0 lines p.replies
 
   -- lines that were played to their end: the text of their replies was written, and nothing else
   abbrev pub EndsLines : List (List ℕ) → Option (List ℕ) → Option (List ℕ) → End → Type 0

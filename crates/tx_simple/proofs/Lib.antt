@@ -4,3 +4,5 @@ pub mod Going
 pub mod Placing
 -- How a try ends after tries without effect, so the whole ends.
 pub mod Retrying
+-- What a session's reads find.
+pub mod Reading

@@ -7,6 +7,7 @@ use Rattle.tx_core.specs.declared.event.Declaration.{Declaration}
 use Rattle.tx_core.specs.declared.event.Outcome.{Outcome}
 use Rattle.tx_core.specs.declared.event.UnknownCause.{UnknownCause}
 use Rattle.tx_core.specs.declared.event.Outcome.TheVariants as outcome
+use Rattle.tx_core.specs.declared.event.Event.TheVariants.{Answered}
 use Rattle.tx_core.specs.Histories.{History, declared, Begins}
 use Rattle.tx_core.specs.Laws.{DecidedBefore}
 use Rattle.tx_core.specs.Worlds.{IsWorldRun}

@@ -1,5 +1,5 @@
 -- How a try ends after tries that came to nothing, so the whole ends.
-use Rattle.std.proofs.Common.{◌≡◌, ◌<◌, ℕ, zero, suc, List, Option, Result, Ok, Err, None, IfOk, IfErr, refl, sym, ap, subst, ◌∙◌}
+use Rattle.std.proofs.Common.{◌≡◌, ◌<◌, ◌≤◌, ◌+◌, arith, ℕ, zero, suc, List, Option, Result, Ok, Err, None, IfOk, IfErr, refl, sym, ap, subst, ◌∙◌}
 use Rattle.tx_types.specs.declared.key.Key.{Key}
 use Rattle.tx_core.specs.declared.event.Event.TheVariants.{Answered}
 use Rattle.tx_core.specs.Histories.{Begins}
@@ -48,13 +48,13 @@ module _ {W : Type 0} (does : W → Entries → Result (Unit {0}) Stop → Entri
 
 module _ {J W : Type 0} (does : W → Entries → Result (Unit {0}) Stop → Entries → W → Type 0) (bounds : List Key) (terms :
     Terms) where
-  -- the seats, and the work, after tries in vain
-  abbrev pub InVain : Seats J → W → Seats J → W → Type 0
-  InVain old v new w = (n : ℕ) × TriesInVain does bounds terms n old.begins new.begins v w
+  -- the seats, and the work, after at most so many tries in vain
+  abbrev pub InVain : ℕ → Seats J → W → Seats J → W → Type 0
+  InVain upto old v new w = (n : ℕ) × (n ≤ upto) × TriesInVain does bounds terms n old.begins new.begins v w
       × GoesOn old.resolves new.resolves
 
-  pub vain_itself : (seats : Seats J) (w : W) → InVain seats w seats w
-  vain_itself seats w = (0, (refl, refl), goes_itself seats.resolves)
+  pub vain_itself : (seats : Seats J) (w : W) → InVain 0 seats w seats w
+  vain_itself seats w = (0, omega arith, (refl, refl), goes_itself seats.resolves)
 
   -- a session began over the seats, and has no outcome
   pub unended_in : (old : Seats J) (begun session : Seated) (resolves : Known) (stop : Option Stop) (r :
@@ -80,18 +80,20 @@ module _ {J W : Type 0} (does : W → Entries → Result (Unit {0}) Stop → Ent
     subst (λ (k : Known). GoesOn old.resolves k) (sym is.2) goes,
   )
 
-  pub unended_after : (old mid : Seats J) (u : Unended J) (v x w : W) → InVain old v mid x
-      → IsUnended does bounds terms mid x 0 u w → (n : ℕ) × IsUnended does bounds terms old v n u w
-  unended_after old mid (Spent s) v x w (n, vain, goes) is = (
+  pub unended_after : (upto again : ℕ) → upto ≤ again → (old mid : Seats J) (u : Unended J) (v x w : W)
+      → InVain upto old v mid x → IsUnended does bounds terms mid x 0 u w → (n : ℕ) × (n ≤ again) × IsUnended does bounds terms old v n u w
+  unended_after upto again le old mid (Spent s) v x w (n, few, vain, goes) is = (
     n,
+    omega arith,
     (
       vain_to does bounds terms n old.begins mid.begins s.begins v x w is.0 vain,
       goes_more old.resolves mid.resolves s.resolves goes is.1,
       is.2,
     ),
   )
-  unended_after old mid (Open session resolves stop) v x w (n, vain, goes) (last, between, same, stays, on) = (
+  unended_after upto again le old mid (Open session resolves stop) v x w (n, few, vain, goes) (last, between, same, stays, on) = (
     n,
+    omega arith,
     (
       last,
       between,
@@ -101,11 +103,12 @@ module _ {J W : Type 0} (does : W → Entries → Result (Unit {0}) Stop → Ent
     ),
   )
 
-  pub if_unended_after : (old mid : Seats J) (r : Result (Ended J) (Unended J)) (v x w : W) → InVain old v mid x
+  pub if_unended_after : (upto again : ℕ) → upto ≤ again → (old mid : Seats J) (r : Result (Ended J) (Unended J)) (v x w : W)
+      → InVain upto old v mid x
       → IfErr r (λ (u : Unended J). IsUnended does bounds terms mid x 0 u w)
-      → IfErr r (λ (u : Unended J). (n : ℕ) × IsUnended does bounds terms old v n u w)
-  if_unended_after old mid (Ok e) v x w vain is = tt
-  if_unended_after old mid (Err u) v x w vain is = unended_after old mid u v x w vain is
+      → IfErr r (λ (u : Unended J). (n : ℕ) × (n ≤ again) × IsUnended does bounds terms old v n u w)
+  if_unended_after upto again le old mid (Ok e) v x w vain is = tt
+  if_unended_after upto again le old mid (Err u) v x w vain is = unended_after upto again le old mid u v x w vain is
 
   -- a session began over the seats, and finished
   pub ended_over : (old : Seats J) (begun session : Seated) (resolves : Known) (stop : Option Stop) (r :
@@ -130,10 +133,11 @@ module _ {J W : Type 0} (does : W → Entries → Result (Unit {0}) Stop → Ent
   }
 
   -- tries before it were in vain
-  pub over_after : (old mid : Seats J) (e : Ended J) (v x w : W) → InVain old v mid x
-      → EndsOver does bounds terms mid x 0 e w → (n : ℕ) × EndsOver does bounds terms old v n e w
-  over_after old mid e v x w (n, vain, goes) over = (
+  pub over_after : (upto again : ℕ) → upto ≤ again → (old mid : Seats J) (e : Ended J) (v x w : W)
+      → InVain upto old v mid x → EndsOver does bounds terms mid x 0 e w → (n : ℕ) × (n ≤ again) × EndsOver does bounds terms old v n e w
+  over_after upto again le old mid e v x w (n, few, vain, goes) over = (
     n,
+    omega arith,
     record {
       last = over.last;
       between = over.between;
@@ -149,17 +153,19 @@ module _ {J W : Type 0} (does : W → Entries → Result (Unit {0}) Stop → Ent
     },
   )
 
-  pub if_over_after : (old mid : Seats J) (r : Result (Ended J) (Unended J)) (v x w : W) → InVain old v mid x
+  pub if_over_after : (upto again : ℕ) → upto ≤ again → (old mid : Seats J) (r : Result (Ended J) (Unended J)) (v x w : W)
+      → InVain upto old v mid x
       → IfOk r (λ (e : Ended J). EndsOver does bounds terms mid x 0 e w)
-      → IfOk r (λ (e : Ended J). (n : ℕ) × EndsOver does bounds terms old v n e w)
-  if_over_after old mid (Ok e) v x w vain over = over_after old mid e v x w vain over
-  if_over_after old mid (Err u) v x w vain over = tt
+      → IfOk r (λ (e : Ended J). (n : ℕ) × (n ≤ again) × EndsOver does bounds terms old v n e w)
+  if_over_after upto again le old mid (Ok e) v x w vain over = over_after upto again le old mid e v x w vain over
+  if_over_after upto again le old mid (Err u) v x w vain over = tt
 
   -- one more in vain
-  pub vain_again : (old mid : Seats J) (e : Ended J) (v x w : W) → InVain old v mid x
-      → EndsOver does bounds terms mid x 0 e w → IsWithoutEffect e.outcome → InVain old v e.seats w
-  vain_again old mid e v x w (n, vain, goes) over none = (
+  pub vain_again : (upto : ℕ) (old mid : Seats J) (e : Ended J) (v x w : W) → InVain upto old v mid x
+      → EndsOver does bounds terms mid x 0 e w → IsWithoutEffect e.outcome → InVain (upto + 1) old v e.seats w
+  vain_again upto old mid e v x w (n, few, vain, goes) over none = (
     suc n,
+    omega arith,
     (
       over.last,
       over.between,

@@ -1,3 +1,5 @@
 pub mod Meeting
 pub mod Updates
 pub mod Endings
+pub mod Reads
+pub mod Stops

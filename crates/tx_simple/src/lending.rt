@@ -1,6 +1,12 @@
 //! What an update reads and writes within its transaction.
-ghost use Rattle.std.specs.Prelude.{◌≡◌, false};
+ghost use Rattle.std.specs.Prelude.{◌≡◌, ℕ, false, Option, Ok, IfOk, IfSome};
+ghost use Rattle.tx_types.specs.declared.key.Key.{Key};
+ghost use Rattle.tx_types.specs.declared.mutation.Mutation.{Mutation};
+ghost use Rattle.tx_plan.specs.declared.answer.Answer.TheVariants.{Rows};
+ghost use Rattle.tx_core.specs.Histories.{History};
+ghost use Rattle.tx_transaction.specs.Buffers.{buffered};
 ghost use Rattle.tx_transaction.specs.Sessions.{is_declared};
+ghost use Rattle.tx_simple.specs.Reads.{Finds, FindsRows, AnswersRead, AnswersScan};
 
 use crate::running::{Begun, Running};
 use crate::stopping::{Stop, stop_by};
@@ -15,54 +21,70 @@ use tx_types::{Key, KeyValues, Ts, Value};
 /// enters changes into its buffer, which nobody else sees. A lock in the way of a read is resolved,
 /// and the read is made again.
 pub trait Tx {
-    ghost use Rattle.std.specs.Prelude.{◌≡◌, OnOk, OnErr, Some};
+    ghost use Rattle.std.specs.Prelude.{◌≡◌, ℕ, OnOk, OnErr, IfOk, Some};
     ghost use Rattle.tx_types.specs.declared.mutation.Mutation.TheVariants as mutation;
+    ghost use Rattle.tx_core.specs.Histories.{History};
     ghost use Rattle.tx_transaction.specs.Buffers.{Entries, touched, put_over, inserted, locked, buffered};
+    ghost use Rattle.tx_simple.specs.Reads.{Finds, FindsRows};
 
     /// What is entered so far.
     ghost buffer: { Self → Entries };
+
+    /// Its start timestamp, which stays.
+    ghost begins: { Self → ℕ };
+
+    /// What its seat has seen of the history.
+    ghost seen: { Self → History };
 
     /// Where it takes memory.
     fn alloc(&self) -> Global;
 
     /// Its start timestamp.
-    fn start(&self) -> Ts;
+    fn start(&self) -> Ts
+        ensures { result ≡ begins self.now };
 
-    /// The value of a key at the start, or what was entered of it. `Waits` where a lock stands in
+    /// The value of a key at the start, or what was entered of it: what the one-step machine sees. `Waits` where a lock stands in
     /// the way whose transaction lives or cannot be asked, `BelowSafePoint` where the start lies
     /// below the safe point, `Lost` where no reply came, `Refused` for want of memory.
     fn get(&mut self, key: &Key) -> Result<Option<Value>, Stop>
-        ensures { buffer self.new ≡ buffer self.old };
+        ensures same { (buffer self.new ≡ buffer self.old) × (begins self.new ≡ begins self.old) }
+        ensures finds { IfOk result
+            (λ found. Finds (buffered (buffer self.old) key.now) (seen self.new) (begins self.old) key.now found) };
 
     /// The first `limit` keys with a value at the start, from `from` up to but not including `to`;
     /// what was entered is not looked at. It stops as `get` does.
     fn scan(&mut self, from: &Key, to: &Key, limit: u32) -> Result<KeyValues, Stop>
-        ensures { buffer self.new ≡ buffer self.old };
+        ensures same { (buffer self.new ≡ buffer self.old) × (begins self.new ≡ begins self.old) }
+        ensures finds { IfOk result (λ rows. FindsRows (seen self.new) (begins self.old) from.now to.now limit rows) };
 
     /// Enters a put. `Refused` for more than 1,024 keys, or for want of memory: nothing is entered
     /// then.
     fn put(&mut self, key: Key, value: Value) -> Result<(), Stop>
         ensures ok { OnOk result (buffer self.new
             ≡ touched (buffer self.old) key (put_over (buffered (buffer self.old) key) value)) }
-        ensures same { OnErr result (buffer self.new ≡ buffer self.old) };
+        ensures same { OnErr result (buffer self.new ≡ buffer self.old) }
+        ensures start { begins self.new ≡ begins self.old };
 
     /// Enters an insert: a put of a key that is to have no value. `AlreadyExists` where a put or an
     /// insert of it was entered; where the key has a value at the start, the transaction stops by
     /// that as it commits. `Refused` as for a put.
     fn insert(&mut self, key: Key, value: Value) -> Result<(), Stop>
         ensures ok { OnOk result (inserted (buffer self.old) key value ≡ Some (buffer self.new)) }
-        ensures same { OnErr result (buffer self.new ≡ buffer self.old) };
+        ensures same { OnErr result (buffer self.new ≡ buffer self.old) }
+        ensures start { begins self.new ≡ begins self.old };
 
     /// Enters a delete. `Refused` as for a put.
     fn delete(&mut self, key: Key) -> Result<(), Stop>
         ensures ok { OnOk result (buffer self.new ≡ touched (buffer self.old) key mutation.Delete) }
-        ensures same { OnErr result (buffer self.new ≡ buffer self.old) };
+        ensures same { OnErr result (buffer self.new ≡ buffer self.old) }
+        ensures start { begins self.new ≡ begins self.old };
 
     /// Enters a lock, where the key is not entered: it is not to change before the transaction
     /// commits. `Refused` as for a put.
     fn lock(&mut self, key: Key) -> Result<(), Stop>
         ensures ok { OnOk result (buffer self.new ≡ locked (buffer self.old) key) }
-        ensures same { OnErr result (buffer self.new ≡ buffer self.old) };
+        ensures same { OnErr result (buffer self.new ≡ buffer self.old) }
+        ensures start { begins self.new ≡ begins self.old };
 }
 
 /// A running session that declares nothing yet.
@@ -73,7 +95,10 @@ pub(crate) struct Lent<'a, J: JournalId, S: Sender<Request<J>, Reply<J>>, B: Beg
 }
 
 // The value that a read of a key found.
-fn value_in(answer: Answer) -> Result<Option<Value>, Stop> {
+fn value_in(answer: Answer) -> Result<Option<Value>, Stop>
+    ensures { IfOk result (λ found. (entered : Option Mutation) (h : History) (start : ℕ) (key : Key)
+        → AnswersRead entered h start key answer → Finds entered h start key found) }
+{
     match answer {
         Answer::Found(value) => Ok(Some(value)),
         Answer::Nothing => Ok(None),
@@ -82,7 +107,9 @@ fn value_in(answer: Answer) -> Result<Option<Value>, Stop> {
 }
 
 // The rows that a scan found.
-fn rows_in(answer: Answer) -> Result<KeyValues, Stop> {
+fn rows_in(answer: Answer) -> Result<KeyValues, Stop>
+    ensures { IfOk result (λ rows. answer ≡ Rows rows) }
+{
     match answer {
         Answer::Rows(rows) => Ok(rows),
         refusal => Err(stop_by(refusal)),
@@ -108,7 +135,9 @@ impl<'a, J: JournalId, S: Sender<Request<J>, Reply<J>>, B: Begun> Lent<'a, J, S,
 
     // What a read answered; none where a lock was in its way that it may pass by now.
     fn passed(&mut self, response: Result<Answer, Miss>) -> Result<Option<Answer>, Stop>
-        ensures { self.new.running.state.buffer ≡ self.old.running.state.buffer }
+        ensures same { self.new.running.state.buffer ≡ self.old.running.state.buffer }
+        ensures answers { IfOk result
+            (λ found. IfSome found (λ a. (response ≡ Ok a) × (self.new.running ≡ self.old.running))) }
     {
         match response? {
             Answer::KeyIsLocked(_) => match self.running.clear()? {
@@ -121,7 +150,9 @@ impl<'a, J: JournalId, S: Sender<Request<J>, Reply<J>>, B: Begun> Lent<'a, J, S,
 
     // Reads a key, once.
     fn look(&mut self, key: &Key) -> Result<Option<Answer>, Stop>
-        ensures { self.new.running.state.buffer ≡ self.old.running.state.buffer }
+        ensures same { self.new.running.state.buffer ≡ self.old.running.state.buffer }
+        ensures reads { IfOk result (λ found. IfSome found (AnswersRead (buffered self.old.running.state.buffer key.now)
+            self.new.running.seat.events B.session.state.start key.now)) }
     {
         let response = self.running.get(key);
         self.passed(response)
@@ -129,7 +160,9 @@ impl<'a, J: JournalId, S: Sender<Request<J>, Reply<J>>, B: Begun> Lent<'a, J, S,
 
     // Reads a range, once.
     fn look_over(&mut self, from: &Key, to: &Key, limit: u32) -> Result<Option<Answer>, Stop>
-        ensures { self.new.running.state.buffer ≡ self.old.running.state.buffer }
+        ensures same { self.new.running.state.buffer ≡ self.old.running.state.buffer }
+        ensures reads { IfOk result (λ found. IfSome found
+            (AnswersScan self.new.running.seat.events B.session.state.start from.now to.now limit)) }
     {
         let response = self.running.scan(from, to, limit);
         self.passed(response)
@@ -138,6 +171,10 @@ impl<'a, J: JournalId, S: Sender<Request<J>, Reply<J>>, B: Begun> Lent<'a, J, S,
 
 impl<'a, J: JournalId, S: Sender<Request<J>, Reply<J>>, B: Begun> Tx for Lent<'a, J, S, B> {
     ghost buffer = { λ t. t.running.state.buffer };
+
+    ghost begins = { λ t. B.session.state.start };
+
+    ghost seen = { λ t. t.running.seat.events };
 
     fn alloc(&self) -> Global {
         self.running.alloc()

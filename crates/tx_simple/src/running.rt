@@ -1,9 +1,10 @@
 //! A session under way, with what it sends by and the seat that resolves locks in its way.
-ghost use Rattle.std.specs.Prelude.{◌≡◌, true, false, Some, OnOk, OnErr};
+ghost use Rattle.std.specs.Prelude.{◌≡◌, true, false, Some, OnOk, OnErr, IfOk};
 ghost use Rattle.tx_types.specs.declared.mutation.Mutation.TheVariants as mutation;
 ghost use Rattle.tx_transaction.specs.Buffers.{touched, put_over, inserted, locked, buffered};
 ghost use Rattle.tx_transaction.specs.Sessions.{is_declared, can_commit, can_abort};
 ghost use Rattle.tx_journal.specs.Senders.{IsWay};
+ghost use Rattle.tx_simple.specs.Reads.{AnswersRead, AnswersScan};
 ghost use Rattle.tx_simple.specs.Updates.{Follows, GoesOn};
 
 use crate::meeting::clear_met;
@@ -116,7 +117,9 @@ impl<'a, J: JournalId, S: Sender<Request<J>, Reply<J>>, B: Begun> Running<'a, J,
     }
 
     /// Its start timestamp.
-    pub(crate) fn start(&self) -> Ts {
+    pub(crate) fn start(&self) -> Ts
+        ensures { result ≡ B.session.state.start }
+    {
         self.session.start()
     }
 
@@ -143,16 +146,25 @@ impl<'a, J: JournalId, S: Sender<Request<J>, Reply<J>>, B: Begun> Running<'a, J,
 
     /// Reads a key.
     pub(crate) fn get(&mut self, key: &Key) -> Result<Answer, Miss>
-        ensures { self.new.state.buffer ≡ self.old.state.buffer }
+        ensures same { self.new.state.buffer ≡ self.old.state.buffer }
+        ensures reads { IfOk result (AnswersRead (buffered self.old.state.buffer key.now) self.new.seat.events
+            B.session.state.start key.now) }
     {
         self.session.get(key, self.sender)
     }
 
     /// Reads a range.
     pub(crate) fn scan(&mut self, from: &Key, to: &Key, limit: u32) -> Result<Answer, Miss>
-        ensures { self.new.state.buffer ≡ self.old.state.buffer }
+        ensures same { self.new.state.buffer ≡ self.old.state.buffer }
+        ensures reads { IfOk result
+            (AnswersScan self.new.seat.events B.session.state.start from.now to.now limit) }
     {
-        self.session.scan(self.alloc, from, to, limit, self.sender)
+        // For proofs: the keys between the regions rise.
+        let _bounds = self.sender.bounds();
+        let result = self.session.scan(self.alloc, from, to, limit, self.sender);
+        // For proofs: what its seat has seen is a run.
+        self.session.show();
+        result
     }
 
     /// Resolves the lock that last stood in its way, at the last timestamp that was drawn, and

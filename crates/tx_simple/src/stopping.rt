@@ -1,4 +1,7 @@
 //! Why a transaction went no further.
+ghost use Rattle.std.specs.Prelude.{◌≡◌};
+ghost use Rattle.tx_simple.specs.Stops.{may_pass, stop_of_refusal};
+
 use tx_client::{Miss, WaitCause};
 use tx_core::Answer;
 use tx_types::Fault;
@@ -24,7 +27,9 @@ pub enum Stop {
 
 impl Stop {
     /// Whether it may go well in a transaction that begins later.
-    pub fn may_pass(&self) -> bool {
+    pub fn may_pass(&self) -> bool
+        ensures { result ≡ may_pass self.now }
+    {
         match self {
             Stop::Waits(_) | Stop::Conflict | Stop::BelowSafePoint | Stop::Lost => true,
             Stop::GaveUp | Stop::AlreadyExists | Stop::Refused(_) => false,
@@ -33,6 +38,11 @@ impl Stop {
 }
 
 impl From<Fault> for Stop {
+    ghost use Rattle.std.specs.Prelude.{◌≡◌};
+    ghost use Rattle.tx_simple.specs.Stops.{stop_of_fault};
+
+    ghost from_gives = { λ fault stop. stop ≡ stop_of_fault fault };
+
     fn from(fault: Fault) -> Stop {
         match fault {
             Fault::AlreadyExists => Stop::AlreadyExists,
@@ -42,6 +52,11 @@ impl From<Fault> for Stop {
 }
 
 impl From<Miss> for Stop {
+    ghost use Rattle.std.specs.Prelude.{◌≡◌};
+    ghost use Rattle.tx_simple.specs.Stops.{stop_of_miss};
+
+    ghost from_gives = { λ miss stop. stop ≡ stop_of_miss miss };
+
     fn from(miss: Miss) -> Stop {
         match miss {
             Miss::Lost => Stop::Lost,
@@ -51,7 +66,9 @@ impl From<Miss> for Stop {
 }
 
 /// What a refusal comes to.
-pub(crate) fn stop_by(answer: Answer) -> Stop {
+pub(crate) fn stop_by(answer: Answer) -> Stop
+    ensures { result ≡ stop_of_refusal answer }
+{
     match answer {
         Answer::KeyIsLocked(_) => Stop::Waits(WaitCause::Live),
         Answer::AlreadyExists => Stop::AlreadyExists,

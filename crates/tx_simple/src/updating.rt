@@ -1,5 +1,5 @@
 //! A transaction from its begin to its end, in one call.
-ghost use Rattle.std.specs.Prelude.{ℕ, ◌≡◌, IfOk, IfErr};
+ghost use Rattle.std.specs.Prelude.{ℕ, ◌≡◌, ◌≤◌, IfOk, IfErr};
 ghost use Rattle.tx_journal.specs.Senders.{IsWay};
 ghost use Rattle.tx_simple.specs.Endings.{EndsOver, IsUnended};
 
@@ -49,8 +49,10 @@ pub fn update<J: JournalId, S: Sender<Request<J>, Reply<J>>, W: Work>(
     sender: &mut S,
 ) -> Result<Ended<J>, Unended<J>>
     requires way { IsWay J.bounds S.fits S.sends S.keys_between }
-    ensures ended { IfOk result (λ e. (n : ℕ) × EndsOver W.does J.bounds terms seats work.old n e work.new) }
-    ensures unended { IfErr result (λ u. (n : ℕ) × IsUnended W.does J.bounds terms seats work.old n u work.new) }
+    ensures ended { IfOk result
+        (λ e. (n : ℕ) × (n ≤ again) × EndsOver W.does J.bounds terms seats work.old n e work.new) }
+    ensures unended { IfErr result
+        (λ u. (n : ℕ) × (n ≤ again) × IsUnended W.does J.bounds terms seats work.old n u work.new) }
 {
     for _try in 0..again {
         match try_once(alloc, seats, &terms, work, sender) {

@@ -5,7 +5,6 @@ use Rattle.tx_types.specs.declared.mutation.Change.{Change}
 use Rattle.tx_types.specs.declared.mutation.Mode.{Mode}
 use Rattle.tx_types.specs.declared.mutation.Mode.TheVariants.{TwoPhase, Async}
 use Rattle.tx_types.specs.declared.mutation.Mutation.{Mutation}
-use Rattle.tx_types.specs.declared.mutation.Mutation.TheVariants as mutation
 use Rattle.tx_machine.specs.Keys.{mutation_at, IsDistinct}
 use Rattle.tx_core.specs.Histories.{is_first}
 use Rattle.tx_core.specs.Allowed.{other_keys}

@@ -6,3 +6,5 @@ pub mod Finding
 pub mod Entries
 -- What is known of a fate stays, and which rollbacks are due.
 pub mod Turns
+-- A buffer in two parts: its first few entries, and those behind them.
+pub mod Parts

@@ -1,18 +1,11 @@
 -- The buffer by indexes.
-use Rattle.std.proofs.Common.{◌++◌, ◌||◌, ◌≤◌, max, inl, inr, take, nat_eq, bytes_eq, ◌≡◌, ℕ, ◌+◌, ◌<◌, zero, suc, Bool, true, false, length, List, [], ◌∷◌, Some, None, refl, sym, ap, ◌∙◌, arith}
+use Rattle.std.proofs.Common.{◌++◌, ◌||◌, ◌≤◌, max, take, ◌≡◌, ℕ, ◌+◌, ◌<◌, zero, suc, Bool, true, false, length, List, [], ◌∷◌, Some, None, refl, sym, ap, ◌∙◌, arith}
 use Rattle.std.specs.Prelude.{slice_get}
-use Rattle.std.specs.Map.{values_of, keys_of}
-use Rattle.std.specs.List.{IsDistinct, AllByRecursion}
-use Rattle.std.specs.Cmp.Lexicographic.{pointwise}
-use Rattle.tx_machine.specs.Keys
 use Rattle.tx_types.specs.declared.mutation.Change.{Change}
-use Rattle.tx_core.proofs.Basics.{key_test, key_same}
-use Rattle.indexmap.specs.Layout.{set_value_at}
 use Rattle.tx_types.specs.declared.key.Key.{Key}
 use Rattle.tx_transaction.specs.declared.state.Phase.{Phase}
-use Rattle.tx_transaction.specs.declared.state.Progress.{Progress}
 use Rattle.tx_transaction.specs.declared.state.BufferEntry.{BufferEntry}
-use Rattle.tx_transaction.specs.Buffers.{Entries, changes_of, keys_of as keys_in, key_at, mutation_in, progress_at, with_progress, wants, index_from, is_zero, has_two_phase_lock, async_minimum, promised_from, promised, not_empty}
+use Rattle.tx_transaction.specs.Buffers.{Entries, changes_of, keys_of as keys_in, key_at, mutation_in, progress_at, wants, index_from, is_zero, has_two_phase_lock, async_minimum, promised_from, promised, not_empty}
 use Rattle.tx_transaction.specs.Sessions.{others_at}
 use Rattle.tx_types.specs.declared.mutation.Mode.TheVariants.{Async}
 
@@ -32,31 +25,6 @@ pub pair_at : (es : Entries) (i : ℕ) (p : Key × BufferEntry) → Some p ≡ s
 pair_at [] i p e = absurd (cc (e))
 pair_at (x ∷ es) zero p e = let same : p ≡ x = cc (e) in (ap (λ (q : Key × BufferEntry). q.0) (sym same), ap (λ (q : Key × BufferEntry). q.1.mutation) (sym same), ap (λ (q : Key × BufferEntry). q.1.progress) (sym same))
 pair_at (x ∷ es) (suc i) p e = pair_at es i p e
-
-pub noted : (es : Entries) (i : ℕ) (v : BufferEntry) (p : Progress) → Some v ≡ slice_get (values_of es) i → set_value_at es i (record { mutation = v.mutation; progress = p }) ≡ with_progress es i p
-noted [] i v p e = refl
-noted (x ∷ es) zero v p e = let same : v ≡ x.1 = cc (e) in ap (λ (w : BufferEntry). (x.0, record { mutation = w.mutation; progress = p }) ∷ es) same
-noted (x ∷ es) (suc i) v p e = ap (λ (l : Entries). x ∷ l) (noted es i v p e)
-
--- the progress of an index is that of its value
-pub progress_there : (es : Entries) (i : ℕ) (v : BufferEntry) → Some v ≡ slice_get (values_of es) i → v.progress ≡ progress_at es i
-progress_there [] i v e = absurd (cc (e))
-progress_there (x ∷ es) zero v e = let same : v ≡ x.1 = cc (e) in ap (λ (w : BufferEntry). w.progress) same
-progress_there (x ∷ es) (suc i) v e = progress_there es i v e
-
--- no key of the buffer comes twice
-pub distinct_changes : (es : Entries) → IsDistinct (pointwise nat_eq) (keys_of es) → Keys.IsDistinct (changes_of es)
-unfolding IsDistinct
-distinct_changes [] d = tt
-distinct_changes (e ∷ es) d = (none es d.0, distinct_changes es d.1)
-  where
-    none : (fs : Entries) → AllByRecursion (λ y. pointwise nat_eq e.0 y ≡ false) (keys_of fs) → Keys.mutation_at (changes_of fs) e.0 ≡ None
-    none [] a = refl
-    none (f ∷ fs) a =
-        elim (key_test f.0 e.0) [
-          | inl y ↦ absurd (cc (a.0, key_same e.0, ap (λ k. bytes_eq e.0 k) y.1))
-          | inr y ↦ rw y.0 (none fs a.1)
-        ]
 
 -- the changes of the first n entries
 pub front_more : (n : ℕ) (es : Entries) → n < length es → changes_of (take (suc n) es) ≡ changes_of (take n es) ++ record { key = key_at es n; mutation = mutation_in es n } ∷ []

@@ -1,5 +1,5 @@
 -- What is known of a fate stays, and which rollbacks are due.
-use Rattle.std.proofs.Common.{◌≡◌, ◌⊎◌, ℕ, inl, inr, Bool, true, false, List, [], ◌∷◌, Option, Some, None, refl, sym, ap, ◌∙◌}
+use Rattle.std.proofs.Common.{◌≡◌, ℕ, inl, inr, Bool, true, false, List, [], ◌∷◌, Option, Some, None, refl, sym, ap, ◌∙◌}
 use Rattle.tx_types.specs.declared.mutation.Mode.{Mode}
 use Rattle.tx_types.specs.declared.mutation.Mode.TheVariants.{TwoPhase, Async}
 use Rattle.tx_types.specs.declared.mutation.Fate.{Fate}
@@ -17,7 +17,7 @@ use Rattle.tx_transaction.specs.declared.state.Due.{Due}
 use Rattle.tx_transaction.specs.declared.state.Response.{Response}
 use Rattle.tx_transaction.specs.declared.state.Response.TheVariants as response
 use Rattle.tx_transaction.specs.Buffers.{key_at, not_empty, first_index, promised}
-use Rattle.tx_transaction.specs.Sessions.{SessionState, marked, first_settled, committed_by, after_answer, after_response, after_read, with_passed, finish_by, finish_of, outcome_of, has_primary, prewrite_of, prewrite_at, due_prewrite, commit_of, commit_at, commit_drawn, commit_by, commit_if, due_commit, rollback_of, rollback_at, check_of, check_at, abort_of, abort_open, abort_by, due_abort}
+use Rattle.tx_transaction.specs.Sessions.{SessionState, marked, first_settled, committed_by, after_answer, after_response, after_read, with_passed, finish_by, finish_of, outcome_of, has_primary, prewrite_of, prewrite_at, due_prewrite, commit_of, commit_at, commit_drawn, commit_by, commit_if, due_commit, rollback_of, check_of, check_at, abort_of, abort_open, abort_by, due_abort}
 use Rattle.tx_transaction.specs.Turns.{SessionTurn, Enters, Declares, Draws, Hears, Reads, Passes, after_turn, after_turns, DecidesByPrimary, MayRollBack}
 
 -- ---- what is known stays

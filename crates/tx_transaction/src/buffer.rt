@@ -6,57 +6,41 @@ ghost use Rattle.tx_transaction.specs.Buffers.{key_at, mutation_in, progress_at,
 ghost use Rattle.tx_transaction.specs.Sessions.{others_at, sent_by, marked_by};
 
 use crate::answers::{mark, mark_sent};
-use crate::state::{BufferEntry, Phase, Progress};
-use indexmap::IndexMap;
+use crate::key_entries::KeyEntries;
+use crate::state::{Phase, Progress};
 use std::alloc::Global;
 use tx_core::Answer;
 use tx_types::limits::MAX_KEYS;
 use tx_types::{Change, Changes, Fault, Key, Mutation, Secondaries, Ts, Value};
 
-pub(crate) type Buffer = IndexMap<Key, BufferEntry>;
-
-/// So many keys are compared in less than one is hashed.
-const FEW: usize = 4;
+pub(crate) type Buffer = KeyEntries;
 
 /// Whether the key would be one too many.
 pub(crate) fn is_full(buffer: &Buffer, key: &Key) -> bool
-    ensures { result ≡ is_full buffer.now.entries key.now }
+    ensures { result ≡ is_full buffer.now key.now }
 {
     buffer.len() >= MAX_KEYS && find(buffer, key).is_none()
 }
 
 /// Sets a key's mutation, and forgets what was answered for it.
 pub(crate) fn touch(buffer: &mut Buffer, key: Key, mutation: Mutation) -> Result<(), Fault>
-    ensures ok { OnOk result (buffer.new.entries ≡ touched buffer.old.entries key mutation) }
-    ensures same { OnErr result (buffer.new.entries ≡ buffer.old.entries) }
+    ensures ok { OnOk result (buffer.new ≡ touched buffer.old key mutation) }
+    ensures same { OnErr result (buffer.new ≡ buffer.old) }
     ensures err { IfErr result (λ e. e ≡ Fault.OutOfMemory) }
 {
-    let progress = Progress {
-        sent: false,
-        accepted: None,
-        committed: false,
-        rolled: false,
-    };
-    buffer.insert(key, BufferEntry { mutation, progress })?;
-    Ok(())
+    buffer.touch(key, mutation)
 }
 
 /// What is done to a key, where it is in the buffer.
 pub(crate) fn find<'a>(buffer: &'a Buffer, key: &Key) -> Option<&'a Mutation>
-    ensures { option_map (λ m. m.now) result ≡ buffered buffer.now.entries key.now }
+    ensures { option_map (λ m. m.now) result ≡ buffered buffer.now key.now }
 {
-    if buffer.len() <= FEW {
-        return seek(buffer, key.as_bytes());
-    }
-    match buffer.get(key) {
-        Some(entry) => Some(&entry.mutation),
-        None => None,
-    }
+    buffer.find(key)
 }
 
 /// What a put of a key enters: an insert that is there stays one, with the new value.
 pub(crate) fn put_over(buffer: &Buffer, key: &Key, value: Value) -> Mutation
-    ensures { result ≡ put_over (buffered buffer.now.entries key.now) value }
+    ensures { result ≡ put_over (buffered buffer.now key.now) value }
 {
     match find(buffer, key) {
         Some(Mutation::Insert(_)) => Mutation::Insert(value),
@@ -67,7 +51,7 @@ pub(crate) fn put_over(buffer: &Buffer, key: &Key, value: Value) -> Mutation
 /// What an insert of a key enters: an insert, and over a delete a put; nothing over a put or an
 /// insert.
 pub(crate) fn insert_over(buffer: &Buffer, key: &Key, value: Value) -> Option<Mutation>
-    ensures { result ≡ insert_over (buffered buffer.now.entries key.now) value }
+    ensures { result ≡ insert_over (buffered buffer.now key.now) value }
 {
     match find(buffer, key) {
         None | Some(Mutation::Lock) => Some(Mutation::Insert(value)),
@@ -78,8 +62,8 @@ pub(crate) fn insert_over(buffer: &Buffer, key: &Key, value: Value) -> Option<Mu
 
 // Whether the key at an index has these bytes.
 fn is_at(buffer: &Buffer, i: usize, key: &[u8]) -> bool
-    requires { i < length buffer.now.entries }
-    ensures { result ≡ bytes_eq (key_at buffer.now.entries i) key.now }
+    requires { i < length buffer.now }
+    ensures { result ≡ bytes_eq (key_at buffer.now i) key.now }
 {
     match buffer.get_index(i) {
         Some((k, _)) => k.as_bytes() == key,
@@ -89,8 +73,8 @@ fn is_at(buffer: &Buffer, i: usize, key: &[u8]) -> bool
 
 // What is done to the key at an index.
 fn mutation_at(buffer: &Buffer, i: usize) -> &Mutation
-    requires { i < length buffer.now.entries }
-    ensures { result.now ≡ mutation_in buffer.now.entries i }
+    requires { i < length buffer.now }
+    ensures { result.now ≡ mutation_in buffer.now i }
 {
     match buffer.get_index(i) {
         Some((_, entry)) => &entry.mutation,
@@ -100,7 +84,7 @@ fn mutation_at(buffer: &Buffer, i: usize) -> &Mutation
 
 // What is done to the key of these bytes, where it is in the buffer.
 fn seek<'a>(buffer: &'a Buffer, key: &[u8]) -> Option<&'a Mutation>
-    ensures { option_map (λ m. m.now) result ≡ buffered buffer.now.entries key.now }
+    ensures { option_map (λ m. m.now) result ≡ buffered buffer.now key.now }
 {
     for i in 0..buffer.len() {
         if is_at(buffer, i, key) {
@@ -112,7 +96,7 @@ fn seek<'a>(buffer: &'a Buffer, key: &[u8]) -> Option<&'a Mutation>
 
 /// Whether a read of the key of these bytes is answered from the buffer.
 pub(crate) fn is_known(buffer: &Buffer, key: &[u8]) -> bool
-    ensures { result ≡ is_known (buffered buffer.now.entries key.now) }
+    ensures { result ≡ is_known (buffered buffer.now key.now) }
 {
     match seek(buffer, key) {
         Some(mutation) => mutation.is_visible(),
@@ -122,14 +106,14 @@ pub(crate) fn is_known(buffer: &Buffer, key: &[u8]) -> bool
 
 /// Whether the key of these bytes is there or would not be one too many.
 pub(crate) fn has_room(buffer: &Buffer, key: &[u8]) -> bool
-    ensures { result ≡ not (is_full buffer.now.entries key.now) }
+    ensures { result ≡ not (is_full buffer.now key.now) }
 {
     buffer.len() < MAX_KEYS || seek(buffer, key).is_some()
 }
 
 /// Whether the buffer has no value of the key of these bytes, so that it may be inserted.
 pub(crate) fn can_insert(buffer: &Buffer, key: &[u8]) -> bool
-    ensures { (value : Value) → result ≡ is_some (inserted buffer.now.entries key.now value) }
+    ensures { (value : Value) → result ≡ is_some (inserted buffer.now key.now value) }
 {
     match seek(buffer, key) {
         Some(Mutation::Put(_) | Mutation::Insert(_)) => false,
@@ -149,8 +133,8 @@ fn wants_more(phase: Phase, progress: Progress) -> bool
 
 /// The index of the first key of which the phase has something left to send.
 pub(crate) fn index_of(buffer: &Buffer, phase: Phase) -> Option<usize>
-    ensures index { result ≡ first_index phase buffer.now.entries }
-    ensures within { IfSome result (λ i. i < length buffer.now.entries) }
+    ensures index { result ≡ first_index phase buffer.now }
+    ensures within { IfSome result (λ i. i < length buffer.now) }
 {
     for i in 0..buffer.len() {
         if wants_more(phase, progress_of(buffer, i)) {
@@ -162,8 +146,8 @@ pub(crate) fn index_of(buffer: &Buffer, phase: Phase) -> Option<usize>
 
 /// The key at an index.
 pub(crate) fn key_at(buffer: &Buffer, i: usize) -> &Key
-    requires { i < length buffer.now.entries }
-    ensures { result.now ≡ key_at buffer.now.entries i }
+    requires { i < length buffer.now }
+    ensures { result.now ≡ key_at buffer.now i }
 {
     match buffer.get_index(i) {
         Some((key, _)) => key,
@@ -173,8 +157,8 @@ pub(crate) fn key_at(buffer: &Buffer, i: usize) -> &Key
 
 /// A copy of the key at an index.
 pub(crate) fn key_of(buffer: &Buffer, i: usize) -> Result<Key, Fault>
-    requires { i < length buffer.now.entries }
-    ensures ok { IfOk result (λ k. k ≡ key_at buffer.now.entries i) }
+    requires { i < length buffer.now }
+    ensures ok { IfOk result (λ k. k ≡ key_at buffer.now i) }
     ensures err { IfErr result (λ e. e ≡ Fault.OutOfMemory) }
 {
     match buffer.get_index(i) {
@@ -185,8 +169,8 @@ pub(crate) fn key_of(buffer: &Buffer, i: usize) -> Result<Key, Fault>
 
 /// A copy of the mutation at an index.
 pub(crate) fn mutation_of(buffer: &Buffer, i: usize) -> Result<Mutation, Fault>
-    requires { i < length buffer.now.entries }
-    ensures ok { IfOk result (λ m. m ≡ mutation_in buffer.now.entries i) }
+    requires { i < length buffer.now }
+    ensures ok { IfOk result (λ m. m ≡ mutation_in buffer.now i) }
     ensures err { IfErr result (λ e. e ≡ Fault.OutOfMemory) }
 {
     match buffer.get_index(i) {
@@ -196,8 +180,8 @@ pub(crate) fn mutation_of(buffer: &Buffer, i: usize) -> Result<Mutation, Fault>
 }
 
 pub(crate) fn progress_of(buffer: &Buffer, i: usize) -> Progress
-    requires { i < length buffer.now.entries }
-    ensures { result ≡ progress_at buffer.now.entries i }
+    requires { i < length buffer.now }
+    ensures { result ≡ progress_at buffer.now i }
 {
     match buffer.get_index(i) {
         Some((_, entry)) => entry.progress,
@@ -207,36 +191,36 @@ pub(crate) fn progress_of(buffer: &Buffer, i: usize) -> Progress
 
 /// Notes what was sent and answered for the key at an index.
 pub(crate) fn note(buffer: &mut Buffer, i: usize, phase: Phase, answer: &Answer)
-    requires { i < length buffer.old.entries }
-    ensures { buffer.new.entries ≡ with_progress buffer.old.entries i
-        (marked_by phase answer.now (sent_by phase (progress_at buffer.old.entries i))) }
+    requires { i < length buffer.old }
+    ensures { buffer.new ≡ with_progress buffer.old i
+        (marked_by phase answer.now (sent_by phase (progress_at buffer.old i))) }
 {
-    if let Some(entry) = buffer.get_index_mut(i) {
-        mark(phase, answer, &mut entry.progress);
-    }
+    let mut progress = progress_of(buffer, i);
+    mark(phase, answer, &mut progress);
+    buffer.set_progress(i, progress);
 }
 
 /// Notes that a request was sent for the key at an index.
 pub(crate) fn note_sent(buffer: &mut Buffer, i: usize, phase: Phase)
-    requires { i < length buffer.old.entries }
-    ensures { buffer.new.entries ≡ with_progress buffer.old.entries i
-        (sent_by phase (progress_at buffer.old.entries i)) }
+    requires { i < length buffer.old }
+    ensures { buffer.new ≡ with_progress buffer.old i
+        (sent_by phase (progress_at buffer.old i)) }
 {
-    if let Some(entry) = buffer.get_index_mut(i) {
-        mark_sent(phase, &mut entry.progress);
-    }
+    let mut progress = progress_of(buffer, i);
+    mark_sent(phase, &mut progress);
+    buffer.set_progress(i, progress);
 }
 
 pub(crate) fn has_keys(buffer: &Buffer) -> bool
-    ensures { result ≡ not_empty buffer.now.entries }
+    ensures { result ≡ not_empty buffer.now }
 {
     !buffer.is_empty()
 }
 
 /// The write set.
 pub(crate) fn changes_in(alloc: Global, buffer: &Buffer) -> Result<Changes, Fault>
-    ensures all { IfOk result (λ c. c ≡ changes_of buffer.now.entries) }
-    ensures distinct { OnOk result (IsDistinct (changes_of buffer.now.entries)) }
+    ensures all { IfOk result (λ c. c ≡ changes_of buffer.now) }
+    ensures distinct { OnOk result (IsDistinct (changes_of buffer.now)) }
     ensures err { IfErr result (λ e. e ≡ Fault.OutOfMemory) }
 {
     let mut changes = Changes::new(alloc);
@@ -250,8 +234,8 @@ pub(crate) fn changes_in(alloc: Global, buffer: &Buffer) -> Result<Changes, Faul
 
 /// All keys but the first.
 pub(crate) fn other_keys(alloc: Global, buffer: &Buffer) -> Result<Secondaries, Fault>
-    requires { length buffer.now.entries ≤ 256 }
-    ensures ok { IfOk result (λ keys. keys ≡ others_at Async buffer.now.entries 0) }
+    requires { length buffer.now ≤ 256 }
+    ensures ok { IfOk result (λ keys. keys ≡ others_at Async buffer.now 0) }
     ensures err { IfErr result (λ e. e ≡ Fault.OutOfMemory) }
 {
     let mut keys = Secondaries::new(alloc);
@@ -269,7 +253,7 @@ fn is_two_phase(progress: Progress) -> bool
 
 /// Whether some key has a two-phase lock.
 pub(crate) fn has_two_phase_lock(buffer: &Buffer) -> bool
-    ensures { result ≡ has_two_phase_lock buffer.now.entries }
+    ensures { result ≡ has_two_phase_lock buffer.now }
 {
     for i in 0..buffer.len() {
         if is_two_phase(progress_of(buffer, i)) {
@@ -297,7 +281,7 @@ fn later(a: Ts, b: Ts) -> Ts
 
 /// The greatest minimum, where each key has an async lock.
 pub(crate) fn promised(buffer: &Buffer) -> Option<Ts>
-    ensures { result ≡ promised buffer.now.entries }
+    ensures { result ≡ promised buffer.now }
 {
     if !has_keys(buffer) {
         return None;

@@ -4,6 +4,7 @@
 
 mod answers;
 mod buffer;
+mod key_entries;
 mod laws;
 mod state;
 mod transaction;

@@ -15,7 +15,6 @@ use crate::buffer::{
     put_over, touch,
 };
 use crate::state::{Miss, Terms};
-use indexmap::IndexMap;
 use std::alloc::Global;
 use std::marker::Model;
 use tx_core::{Answer, Declaration, Starts, UnknownCause};
@@ -66,7 +65,7 @@ impl Model for Transaction {
 
     ghost view = { λ t. record {
       start = t.start;
-      buffer = t.buffer.entries;
+      buffer = t.buffer;
       declared = t.declared;
       placed = t.placed;
       bypass = t.bypass;
@@ -76,7 +75,7 @@ impl Model for Transaction {
       cause = t.cause;
     } };
 
-    ghost invariant = { λ t. Few t.declared t.buffer.entries × (t.placed < 18446744073709551615) };
+    ghost invariant = { λ t. Few t.declared t.buffer × (t.placed < 18446744073709551615) };
 }
 
 impl Transaction {
@@ -86,7 +85,7 @@ impl Transaction {
     {
         Transaction {
             start,
-            buffer: IndexMap::new(alloc),
+            buffer: Buffer::new(alloc),
             declared: None,
             placed: Ts::ZERO,
             bypass: Starts::new(alloc),

@@ -16,7 +16,7 @@ use tx_types::{Fate, LockInfo};
 // answer tells, then that each key has an async lock.
 fn decided(known: Option<Fate>, answer: &Answer, buffer: &Buffer) -> Option<Fate>
     ensures { result ≡ first_settled (first_settled known (fate_in answer.now))
-        (committed_by (promised buffer.now.entries)) }
+        (committed_by (promised buffer.now)) }
 {
     if known.is_some() {
         return known;

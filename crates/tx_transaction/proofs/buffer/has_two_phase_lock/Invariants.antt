@@ -3,4 +3,4 @@ use Rattle.tx_transaction.specs.Buffers.{is_zero, progress_at}
 use Rattle.tx_transaction.proofs.buffer.has_two_phase_lock.Given as goal
 
 abbrev pub invariant-loop-i : goal.invariant-loop-i
-invariant-loop-i l = (k : ℕ) → k < l.i → is_zero (progress_at l.buffer.entries k).accepted ≡ false
+invariant-loop-i l = (k : ℕ) → k < l.i → is_zero (progress_at l.buffer k).accepted ≡ false

@@ -5,10 +5,10 @@ use Rattle.tx_transaction.proofs.buffer.index_of.Goals as goal
 
 pub returns-then-wants_more-clause-index : goal.returns-then-wants_more-clause-index
 returns-then-wants_more-clause-index c =
-    let lt : c.loop-i.i < length c.args.buffer.now.entries = omega (arith, c.len-i-end.ensures.len) in
-    let here : wants c.args.phase (progress_at c.args.buffer.now.entries c.loop-i.i) ≡ true = cc in
-    first_found c.args.phase c.args.buffer.now.entries c.loop-i.i lt c.loop-i.invariant here
+    let lt : c.loop-i.i < length c.args.buffer.now = omega (arith, c.len-i-end.ensures.len) in
+    let here : wants c.args.phase (progress_at c.args.buffer.now c.loop-i.i) ≡ true = cc in
+    first_found c.args.phase c.args.buffer.now c.loop-i.i lt c.loop-i.invariant here
 
 pub returns-clause-index : goal.returns-clause-index
 returns-clause-index c =
-    sym (place_none 0 c.args.phase c.args.buffer.now.entries (λ k lt. c.loop-i.invariant k (omega (arith, c.len-i-end.ensures.len))))
+    sym (place_none 0 c.args.phase c.args.buffer.now (λ k lt. c.loop-i.invariant k (omega (arith, c.len-i-end.ensures.len))))

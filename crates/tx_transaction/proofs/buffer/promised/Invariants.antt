@@ -4,4 +4,4 @@ use Rattle.tx_transaction.proofs.Places.{rest}
 use Rattle.tx_transaction.proofs.buffer.promised.Given as goal
 
 abbrev pub invariant-loop-i : goal.invariant-loop-i
-invariant-loop-i l = promised_from 0 l.buffer.entries ≡ promised_from l.greatest (rest l.i l.buffer.entries)
+invariant-loop-i l = promised_from 0 l.buffer ≡ promised_from l.greatest (rest l.i l.buffer)

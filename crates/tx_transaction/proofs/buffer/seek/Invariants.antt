@@ -3,4 +3,4 @@ use Rattle.tx_transaction.specs.Buffers.{key_at}
 use Rattle.tx_transaction.proofs.buffer.seek.Given as goal
 
 abbrev pub invariant-loop-i : goal.invariant-loop-i
-invariant-loop-i l = (k : ℕ) → k < l.i → bytes_eq (key_at l.buffer.entries k) l.key ≡ false
+invariant-loop-i l = (k : ℕ) → k < l.i → bytes_eq (key_at l.buffer k) l.key ≡ false

@@ -1,6 +1,7 @@
 use Rattle.std.proofs.Common.{ap, ◌∙◌}
 use Rattle.tx_client.specs.Calls.{Seated}
 use Rattle.tx_simple.proofs.Going.{follows_get, follows_more}
+use Rattle.tx_simple.proofs.Reading.{if_get_finds}
 use Rattle.tx_simple.proofs.running.Running.get.Goals as goal
 
 pub invariant_of-self : goal.invariant_of-self
@@ -11,8 +12,14 @@ invariant_of-self g c =
     c.get.ensures in
     (c.self.invariant.0, follows_more g.B.Begun.session old new c.self.invariant.1 both.0, c.self.invariant.2)
 
-pub returns : goal.returns
-returns g c =
+pub returns-clause-same : goal.returns-clause-same
+returns-clause-same g c =
     let both = follows_get g.S.Sender.sends g.J.JournalId.bounds c.self.inside.session c.get.new.self _ _ c.args.key.now
     c.get.result c.get.ensures in
     both.1 ∙ ap (λ (s : Seated). s.state.buffer) c.self.view_is
+
+pub returns-clause-reads : goal.returns-clause-reads
+returns-clause-reads g c =
+    if_get_finds g.J.JournalId.bounds g.S.Sender.fits g.S.Sender.sends g.S.Sender.keys_between c.self.invariant.0
+    c.self.inside.session c.args.self.now c.get.new.self g.B.Begun.session.state.start (ap (λ (s : Seated). s) c.self.view_is)
+    c.self.invariant.1.start _ _ c.args.key.now c.get.result c.get.ensures

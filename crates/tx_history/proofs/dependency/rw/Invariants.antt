@@ -1,0 +1,9 @@
+-- None of the reads so far.
+use Rattle.std.proofs.Common.{ℕ, ◌<◌}
+use Rattle.tx_history.specs.Records.{writers_of}
+use Rattle.tx_history.specs.Adding.{IsNextEdge, read_at, before_edge}
+use Rattle.tx_history.proofs.dependency.rw.Given as goal
+
+abbrev pub invariant-loop-i : goal.invariant-loop-i
+invariant-loop-i l = (j : ℕ) → j < l.i
+    → IsNextEdge (writers_of l.recorded (read_at l.recorded j).key) (read_at l.recorded j) (before_edge l.from l.to) → ⊥

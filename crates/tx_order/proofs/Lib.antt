@@ -1,0 +1,10 @@
+pub mod Marks
+pub mod Entering
+pub mod Leaving
+pub mod Passing
+pub mod Closing
+pub mod Finished
+pub mod Ordered
+pub mod Cycles
+pub mod Rounds
+pub mod Permuted

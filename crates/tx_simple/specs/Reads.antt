@@ -1,0 +1,36 @@
+-- What a transaction that is lent finds where it reads.
+use Rattle.std.specs.Prelude.{◌≡◌, ℕ, List, Option, Some, None}
+use Rattle.tx_types.specs.declared.key.Key.{Key}
+use Rattle.tx_types.specs.declared.value.Value.{Value}
+use Rattle.tx_types.specs.declared.mutation.KeyValue.{KeyValue}
+use Rattle.tx_types.specs.declared.mutation.Mutation.{Mutation}
+use Rattle.tx_types.specs.declared.mutation.Mutation.TheVariants as mutation
+use Rattle.tx_plan.specs.declared.answer.Answer.{Answer}
+use Rattle.tx_plan.specs.declared.answer.Answer.TheVariants as answer
+use Rattle.tx_machine.specs.Machine.{Sees, SeesRows, table_of}
+use Rattle.tx_core.specs.Histories.{History}
+use Rattle.tx_core.specs.Shadow.{shadow}
+use Rattle.tx_laws.specs.Scans.{scan_at}
+
+-- What a read of a key finds, by what was entered of it: a value that was put or inserted, none
+-- where it was deleted; else what the one-step machine sees there at the start.
+abbrev pub Finds : Option Mutation → History → ℕ → Key → Option Value → Type 0
+Finds (Some (mutation.Put v)) h start key found = found ≡ Some v
+Finds (Some (mutation.Insert v)) h start key found = found ≡ Some v
+Finds (Some mutation.Delete) h start key found = found ≡ None
+Finds _ h start key found = Sees (table_of (shadow h)).row key start found
+
+-- the rows of a range are those that the one-step machine sees there at the start
+abbrev pub FindsRows : History → ℕ → Key → Key → ℕ → List KeyValue → Type 0
+FindsRows h start from to limit rows = SeesRows (table_of (shadow h)).row (scan_at start from to limit rows)
+
+-- what an answer to a read of a key finds, where it finds anything
+abbrev pub AnswersRead : Option Mutation → History → ℕ → Key → Answer → Type 0
+AnswersRead entered h start key (answer.Found v) = Finds entered h start key (Some v)
+AnswersRead entered h start key answer.Nothing = Finds entered h start key None
+AnswersRead entered h start key _ = Unit {0}
+
+-- what an answer to a scan finds, where it finds anything
+abbrev pub AnswersScan : History → ℕ → Key → Key → ℕ → Answer → Type 0
+AnswersScan h start from to limit (answer.Rows rows) = FindsRows h start from to limit rows
+AnswersScan h start from to limit _ = Unit {0}
