@@ -12,8 +12,7 @@ use tx_order::{Unordered, order, shorten};
 /// Whether a history has timestamps.
 #[derive(Debug, Drop)]
 pub enum Decision {
-    /// These are the starts and the commits of its transactions, each a number of its own below twice
-    /// as many.
+    /// These are the starts and the commits of its transactions, each a number of its own.
     Yes(Vec<usize>, Vec<usize>),
     /// It has none, since these nodes are a cycle of its graph: `2 * t` is the start of `t`,
     /// `2 * t + 1` its commit.
