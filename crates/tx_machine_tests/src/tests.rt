@@ -194,6 +194,14 @@ fn two_inserts(rt: &HostRuntime) -> Result<Vec<Step>, Fault> {
     Ok(steps)
 }
 
+// Whether a reason is a read at this timestamp, which a commit at this one would lie below.
+fn is_unread(why: &Option<Why>, read: u64, below: u64) -> bool {
+    match why {
+        Some(Why::Unread { at, commit, .. }) => at.get() == read && commit.get() == below,
+        _ => false,
+    }
+}
+
 #[test]
 fn a_committed_insert_was_a_read(rt: HostRuntime) -> Result<(), Fail> {
     let steps = two_inserts(&rt)?;
@@ -204,7 +212,8 @@ fn a_committed_insert_was_a_read(rt: HostRuntime) -> Result<(), Fail> {
     let below = Step::Commit(Ts::new(1), Ts::new(2));
     assert!(rt; matches!(machine.step(&below), Err(Refused::Step)));
     let why = machine.why(&below)?;
-    assert!(rt; matches!(why, Some(Why::Unread { at, commit, .. }) if at.get() == 3 && commit.get() == 2));
+    assert!(rt; is_unread(&why, 3, 2));
+    drop(why);
     assert!(rt; machine.step(&Step::Abort(Ts::new(1))).is_ok());
     Ok(())
 }
