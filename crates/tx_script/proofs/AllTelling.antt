@@ -1,15 +1,13 @@
 -- Each reply of a play tells of its events.
-use Rattle.std.proofs.Common.{◌≡◌, ◌==◌, ◌&&◌, ◌⊎◌, inl, inr, ℕ, ◌+◌, Bool, true, false, cond, List, [], ◌∷◌, length, Option, Some, None, is_some, Result, Ok, Err, refl, sym, subst}
+use Rattle.std.proofs.Common.{◌==◌, ◌&&◌, inl, inr, ℕ, ◌+◌, Bool, List, [], ◌∷◌, length, Option, Some, None, is_some, Result, Ok, Err, refl, sym, subst}
 use Rattle.serde_json.specs.Data.{Data, Items}
 use Rattle.tx_types.specs.declared.fault.Cause.{Cause}
 use Rattle.tx_types.specs.declared.key.Key.{Key}
-use Rattle.tx_types.specs.declared.value.Value.{Value}
 use Rattle.tx_types.specs.declared.limits.TheConstants.{MAX_LIVE_SESSIONS}
 use Rattle.tx_core.specs.Histories.{History, Begins}
 use Rattle.tx_core.specs.Worlds.{IsWorldRun}
 use Rattle.tx_core.proofs.runs.AllRuns.{shadow_runs}
 use Rattle.tx_core.proofs.runs.Truths.{all_true}
-use Rattle.tx_text.specs.Faults.{fault_words}
 use Rattle.tx_reply.specs.declared.reply.ScriptReply.{ScriptReply}
 use Rattle.tx_reply.specs.declared.reply.ScriptReply.TheVariants.{Regions}
 use Rattle.tx_reply.specs.Replies.{reply_words}
@@ -18,13 +16,14 @@ use Rattle.tx_steps.specs.declared.step.Step.{Step}
 use Rattle.tx_steps.specs.Steps.{Text}
 use Rattle.tx_steps.specs.Lines.{data_said, step_in, bounds_in}
 use Rattle.tx_engine.specs.Semantics.{EngineState, opening, Transition, goes}
-use Rattle.tx_script.specs.Tells.{Entered, nothing_entered, entered_by, TellsBy}
-use Rattle.tx_script.specs.Play.{step_turn, value_turn, said_turn, line_turn, Played, before, faulted, Plays, step_of, entered_after, LineTells, AllTell, IsPlay}
+use Rattle.tx_script.specs.Tells.{Entered, nothing_entered, entered_by}
+use Rattle.tx_script.specs.Play.{step_turn, said_turn, line_turn, Played, Plays, step_of, entered_after, LineTells, AllTell, IsPlay}
 use Rattle.tx_script.proofs.OnePlay.{plays_begin, one_play}
 use Rattle.tx_script.proofs.Owning.{AllOwn, own_more, own_none}
 use Rattle.tx_script.proofs.Staying.{tells_on}
-use Rattle.tx_script.proofs.Telling as telling
-use Rattle.tx_script.proofs.Telling.{Replies, turn_tells, leads_tell}
+use Rattle.tx_script.proofs.Leading as turns
+use Rattle.tx_script.proofs.Leading.{leads_tell}
+use Rattle.tx_script.proofs.Telling.{Replies, turn_tells}
 
 module _ (bounds : List Key) where
   -- a line's reply tells of what has then happened, and so each session has what was entered
@@ -46,19 +45,19 @@ module _ (bounds : List Key) where
     own_after (Some what) = own_more entered (entered_by what entered) engine.names engine.slots (λ q k o e. inr e) own
 
     -- a step's turn is that of a line
-    lined : (what : Step Text) (t : Transition) → telling.AllTell bounds (Replies bounds entered what) t
-        → telling.AllTell bounds (LineReplies entered (Some what)) t
-    lined what t x = telling.all_tell_more bounds (Replies bounds entered what) (LineReplies entered (Some what))
+    lined : (what : Step Text) (t : Transition) → turns.AllTell bounds (Replies bounds entered what) t
+        → turns.AllTell bounds (LineReplies entered (Some what)) t
+    lined what t x = turns.all_tell_more bounds (Replies bounds entered what) (LineReplies entered (Some what))
         (λ next said r. (inr (inr (what, said, refl, refl, r.0)), r.1)) t x
 
-    step_tells : (o : Option (Step Text)) → telling.AllTell bounds (LineReplies entered o) (step_turn bounds refused o engine)
+    step_tells : (o : Option (Step Text)) → turns.AllTell bounds (LineReplies entered o) (step_turn bounds refused o engine)
     step_tells None = tt
     step_tells (Some what) = lined what _ (turn_tells bounds entered engine own what refused)
 
     said_tells : (number : ℕ) (r : Result Data Cause)
-        → telling.AllTell bounds (LineReplies entered (step_of r)) (said_turn bounds refused number r engine)
+        → turns.AllTell bounds (LineReplies entered (step_of r)) (said_turn bounds refused number r engine)
     said_tells number (Err c) = tt
-    said_tells number (Ok d) = telling.either bounds (LineReplies entered (step_in Simulate d)) ((number == 1)
+    said_tells number (Ok d) = turns.either bounds (LineReplies entered (step_in Simulate d)) ((number == 1)
         && is_some (bounds_in d)) (goes engine (Regions (length bounds + 1)) refused)
         (step_turn bounds refused (step_in Simulate d) engine)
         (inr (inl refl), own_after (step_in Simulate d)) (step_tells (step_in Simulate d))

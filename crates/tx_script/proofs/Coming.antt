@@ -1,7 +1,6 @@
 -- What walks come to, by what was answered on the way.
-use Rattle.std.proofs.Common.{◌≡◌, ◌⊎◌, inl, inr, ℕ, zero, suc, ◌+◌, ◌-◌, ◌&&◌, nat_lt, max, Bool, true, false, cond, List, [], ◌∷◌, ◌++◌, length, Option, Some, None, Result, Ok, Err, refl, sym, ap, subst, ◌∙◌, append_assoc, append-nil}
+use Rattle.std.proofs.Common.{◌≡◌, ◌⊎◌, inl, inr, ℕ, zero, suc, ◌+◌, ◌-◌, ◌&&◌, nat_lt, max, Bool, true, false, cond, List, [], ◌∷◌, ◌++◌, length, Option, Some, None, Result, Ok, Err, refl, sym, ap, ◌∙◌, append_assoc, append-nil}
 use Rattle.tx_types.specs.declared.key.Key.{Key}
-use Rattle.tx_types.specs.declared.value.Value.{Value}
 use Rattle.tx_types.specs.declared.lock.LockInfo.{LockInfo}
 use Rattle.tx_types.specs.declared.fault.Fault.{Fault}
 use Rattle.tx_types.specs.declared.fault.Fault.TheVariants as fault
@@ -14,7 +13,6 @@ use Rattle.tx_types.specs.Keys.{key_lt}
 use Rattle.tx_types.specs.declared.mutation.Mode.{Mode}
 use Rattle.tx_types.specs.declared.mutation.Mode.TheVariants.{TwoPhase, Async}
 use Rattle.tx_plan.specs.declared.body.Body.{Body}
-use Rattle.tx_plan.specs.declared.body.Body.TheVariants as body
 use Rattle.tx_plan.specs.declared.answer.Answer.{Answer}
 use Rattle.tx_plan.specs.declared.answer.Answer.TheVariants as answer
 use Rattle.tx_core.specs.declared.event.Event.TheVariants.{Took}
@@ -32,17 +30,16 @@ use Rattle.tx_transaction.specs.Sessions.{SessionState, read_of, scan_of, heartb
 use Rattle.tx_client.specs.declared.resolved.Status.TheVariants as status
 use Rattle.tx_client.specs.declared.resolved.WaitCause.TheVariants as cause
 use Rattle.tx_client.specs.Facts.{WasAnswered, RespondsSo}
-use Rattle.tx_client.specs.Walks.{Walk, asks, grows, ends, then_walk, due_walk, heartbeat_walk, get_by, get_walk, enough, look_part, part_by, part_walk, scan_after, scan_from, scan_walk, greater, lesser}
+use Rattle.tx_client.specs.Walks.{Walk, asks, grows, ends, then_walk, due_walk, heartbeat_walk, get_by, get_walk, enough, part_by, part_walk, scan_after, scan_from, scan_walk, greater, lesser}
 use Rattle.tx_resolve.specs.declared.collector.Counts.{Counts}
-use Rattle.tx_resolve.specs.Resolving.{caller_of, time_of, is_over, lets_pass, is_async, other_by, further, check_of, settle_of, rests_by, standing_by, primary_by, status_of, settled_by, primary_walk, settle_walk, others_walk, after_forced, forced_walk, after_others, expired_walk, after_primary, resolve_walk}
+use Rattle.tx_resolve.specs.Resolving.{caller_of, is_over, lets_pass, is_async, other_by, further, check_of, settle_of, standing_by, primary_by, status_of, settled_by, settle_walk, others_walk, after_forced, forced_walk, after_others, expired_walk, after_primary, resolve_walk}
 use Rattle.tx_resolve.specs.Reading.{read_walk}
 use Rattle.tx_resolve.specs.Collecting.{on_ok, in_regions, raised_by, listed_by, collected_by, raise_walk, list_walk, locks_walk, clear_walk, collect_walk, gc_walk}
 use Rattle.tx_steps.specs.declared.call.Call.TheVariants as call
-use Rattle.tx_steps.specs.declared.step.Step.{Step}
 use Rattle.tx_steps.specs.declared.step.Step.TheVariants as step
 use Rattle.tx_steps.specs.declared.delivery.Delivery.{Delivery}
 use Rattle.tx_steps.specs.Steps.{Text}
-use Rattle.tx_script.specs.Tells.{Entered, joined, IsOwn, WasRead, AllScanned, WereScanned, WasGiven, WasSettled, WasFound, TellsAnswer}
+use Rattle.tx_script.specs.Tells.{Entered, joined, IsOwn, WasRead, AllScanned, WasGiven, WasFound, TellsAnswer}
 use Rattle.tx_script.proofs.Owning.{AllBy, ByOption, all_with, by_buffered}
 
 -- whatever is answered on its way, this holds of what a walk comes to
@@ -179,74 +176,74 @@ scanned_more l h begins at rows found x one = (
 )
 
 module _ (bounds : List Key) (entered : Entered) (name : Text) (from to : Key) (limit : ℕ) (delivery : Delivery Text)
-    where
-  abbrev pub ScanTold : History → Answer → Type 0
-  ScanTold h a = TellsAnswer bounds entered h (step.Send name (call.Scan from to limit) delivery) a
+  where
+    abbrev pub ScanTold : History → Answer → Type 0
+    ScanTold h a = TellsAnswer bounds entered h (step.Send name (call.Scan from to limit) delivery) a
 
-  abbrev Scans : History → SessionState × Result Answer Miss → Type 0
-  Scans h x = Keeps entered name (Told ScanTold) h x
+    abbrev Scans : History → SessionState × Result Answer Miss → Type 0
+    Scans h x = Keeps entered name (Told ScanTold) h x
 
-  module _ (at : ℕ) where
-    -- what goes on by more rows
-    abbrev GoesOn : History → (SessionState → List KeyValue → Walk (SessionState × Result Answer Miss)) → Type 0
-    GoesOn h on = (s : SessionState) → AllBy (entered name) s.buffer → s.start ≡ at → (rows : List KeyValue)
-        → Scanned h at rows → Comes Scans h (on s rows)
+    module _ (at : ℕ) where
+      -- what goes on by more rows
+      abbrev GoesOn : History → (SessionState → List KeyValue → Walk (SessionState × Result Answer Miss)) → Type 0
+      GoesOn h on = (s : SessionState) → AllBy (entered name) s.buffer → s.start ≡ at → (rows : List KeyValue)
+          → Scanned h at rows → Comes Scans h (on s rows)
 
-    -- whatever goes on by a part's rows, the scan does by that part
-    abbrev PartOf : {A : Type 0} → (A → (SessionState → List KeyValue → Walk (SessionState × Result Answer Miss))
-        → Walk (SessionState × Result Answer Miss)) → History → A → Type 0
-    PartOf after h x = (on : SessionState → List KeyValue → Walk (SessionState × Result Answer Miss)) → GoesOn h on
-        → Comes Scans h (after x on)
+      -- whatever goes on by a part's rows, the scan does by that part
+      abbrev PartOf : {A : Type 0} → (A → (SessionState → List KeyValue → Walk (SessionState × Result Answer Miss))
+          → Walk (SessionState × Result Answer Miss)) → History → A → Type 0
+      PartOf after h x = (on : SessionState → List KeyValue → Walk (SessionState × Result Answer Miss)) → GoesOn h on
+          → Comes Scans h (after x on)
 
-    module _ (h : History) (s : SessionState) (all : AllBy (entered name) s.buffer) (start : s.start ≡ at)
-        (rows : List KeyValue) (before : Scanned h at rows) where
-      enough_rows : (l : History) (all_rows : List KeyValue) → Scanned l at all_rows
-          → (on : SessionState → List KeyValue → Walk (SessionState × Result Answer Miss)) → GoesOn l on
-          → (t : SessionState) → AllBy (entered name) t.buffer → t.start ≡ at
-          → Comes Scans l (scan_after t (enough limit all_rows) on)
-      enough_rows l all_rows x on more t kept from_there = go (nat_lt (length all_rows) limit) refl
-        where
-          go : (b : Bool) → nat_lt (length all_rows) limit ≡ b → Comes Scans l (scan_after t (enough limit all_rows) on)
-          go true is = rw is (more t kept from_there all_rows x)
-          go false is = rw is (kept, (at, x.0, x.1, x.2))
+      module _ (h : History) (s : SessionState) (all : AllBy (entered name) s.buffer) (start : s.start ≡ at)
+          (rows : List KeyValue) (before : Scanned h at rows) where
+        enough_rows : (l : History) (all_rows : List KeyValue) → Scanned l at all_rows
+            → (on : SessionState → List KeyValue → Walk (SessionState × Result Answer Miss)) → GoesOn l on
+            → (t : SessionState) → AllBy (entered name) t.buffer → t.start ≡ at
+            → Comes Scans l (scan_after t (enough limit all_rows) on)
+        enough_rows l all_rows x on more t kept from_there = go (nat_lt (length all_rows) limit) refl
+          where
+            go : (b : Bool) → nat_lt (length all_rows) limit ≡ b → Comes Scans l (scan_after t (enough limit all_rows) on)
+            go true is = rw is (more t kept from_there all_rows x)
+            go false is = rw is (kept, (at, x.0, x.1, x.2))
 
-      looked : (low high : Key) (n : ℕ) (l : History) → Begins h l → (c : Response)
-          → RespondsSo l (scan_of s low high n) c
-          → (on : SessionState → List KeyValue → Walk (SessionState × Result Answer Miss)) → GoesOn l on
-          → Comes Scans l (scan_after (after_read s c) (part_by limit rows (read c)) on)
-      looked low high n l begins response.Lost was on more = (all, tt)
-      looked low high n l begins response.OutOfMemory was on more = (all, tt)
-      looked low high n l begins (response.Answered (answer.Rows found)) was on more =
-          enough_rows l (rows ++ found) (scanned_more h l begins at rows found before
-          ((record { from = low; to = high; at = s.start; limit = n; bypass = s.bypass }, start, was), tt))
-          on more (after_read s (response.Answered (answer.Rows found))) all start
-      looked low high n l begins (response.Answered a) was on more = (all, (scan_of s low high n, was))
+        looked : (low high : Key) (n : ℕ) (l : History) → Begins h l → (c : Response)
+            → RespondsSo l (scan_of s low high n) c
+            → (on : SessionState → List KeyValue → Walk (SessionState × Result Answer Miss)) → GoesOn l on
+            → Comes Scans l (scan_after (after_read s c) (part_by limit rows (read c)) on)
+        looked low high n l begins response.Lost was on more = (all, tt)
+        looked low high n l begins response.OutOfMemory was on more = (all, tt)
+        looked low high n l begins (response.Answered (answer.Rows found)) was on more =
+            enough_rows l (rows ++ found) (scanned_more h l begins at rows found before
+            ((record { from = low; to = high; at = s.start; limit = n; bypass = s.bypass }, start, was), tt))
+            on more (after_read s (response.Answered (answer.Rows found))) all start
+        looked low high n l begins (response.Answered a) was on more = (all, (scan_of s low high n, was))
 
-      part_comes : (low high : Key) → Comes (PartOf (λ x on. scan_after x.0 x.1 on)) h (part_walk s low high limit rows)
-      part_comes low high = (
-        either_comes (PartOf (λ x on. scan_after x.0 x.1 on)) h (key_lt low high) _ _
-            (λ c l begins was. looked low high (limit - length rows) l begins c was)
-            (λ on more. more s all start rows before),
-        (λ on more. (all, tt)),
-      )
+        part_comes : (low high : Key) → Comes (PartOf (λ x on. scan_after x.0 x.1 on)) h (part_walk s low high limit rows)
+        part_comes low high = (
+          either_comes (PartOf (λ x on. scan_after x.0 x.1 on)) h (key_lt low high) _ _
+              (λ c l begins was. looked low high (limit - length rows) l begins c was)
+              (λ on more. more s all start rows before),
+          (λ on more. (all, tt)),
+        )
 
-    from_comes : (low : Key) (between : List Key) (h : History) (s : SessionState) → AllBy (entered name) s.buffer
-        → s.start ≡ at → (rows : List KeyValue) → Scanned h at rows
-        → Comes Scans h (scan_from from to limit low between s rows)
-    from_comes low [] h s all start rows before =
-        comes_then (PartOf (λ x on. scan_after x.0 x.1 on)) Scans (part_walk s (greater from low) to limit rows) _ h
-        (part_comes h s all start rows before (greater from low) to)
-        (λ l x begins p. p _ (λ t kept from_there more found. (kept, (at, found.0, found.1, found.2))))
-    from_comes low (bound ∷ between) h s all start rows before =
-        comes_then (PartOf (λ x on. scan_after x.0 x.1 on)) Scans
-        (part_walk s (greater from low) (lesser to bound) limit rows) _ h
-        (part_comes h s all start rows before (greater from low) (lesser to bound))
-        (λ l x begins p. p (scan_from from to limit bound between)
-        (λ t kept from_there more found. from_comes bound between l t kept from_there more found))
+      from_comes : (low : Key) (between : List Key) (h : History) (s : SessionState) → AllBy (entered name) s.buffer
+          → s.start ≡ at → (rows : List KeyValue) → Scanned h at rows
+          → Comes Scans h (scan_from from to limit low between s rows)
+      from_comes low [] h s all start rows before =
+          comes_then (PartOf (λ x on. scan_after x.0 x.1 on)) Scans (part_walk s (greater from low) to limit rows) _ h
+          (part_comes h s all start rows before (greater from low) to)
+          (λ l x begins p. p _ (λ t kept from_there more found. (kept, (at, found.0, found.1, found.2))))
+      from_comes low (bound ∷ between) h s all start rows before =
+          comes_then (PartOf (λ x on. scan_after x.0 x.1 on)) Scans
+          (part_walk s (greater from low) (lesser to bound) limit rows) _ h
+          (part_comes h s all start rows before (greater from low) (lesser to bound))
+          (λ l x begins p. p (scan_from from to limit bound between)
+          (λ t kept from_there more found. from_comes bound between l t kept from_there more found))
 
-  pub scan_comes : (h : History) (s : SessionState) → AllBy (entered name) s.buffer
-      → Comes (Keeps entered name (Told ScanTold)) h (scan_walk s bounds from to limit)
-  scan_comes h s all = from_comes s.start from bounds h s all refl [] ([], refl, tt)
+    pub scan_comes : (h : History) (s : SessionState) → AllBy (entered name) s.buffer
+        → Comes (Keeps entered name (Told ScanTold)) h (scan_walk s bounds from to limit)
+    scan_comes h s all = from_comes s.start from bounds h s all refl [] ([], refl, tt)
 
 -- ---- resolving
 

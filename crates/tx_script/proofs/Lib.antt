@@ -4,6 +4,8 @@ pub mod OnePlay
 pub mod Owning
 -- What walks come to, by what was answered on the way.
 pub mod Coming
+-- What holds of whatever a turn goes on to, by what regions answer.
+pub mod Leading
 -- What a step's turn replies, by what has then happened.
 pub mod Telling
 -- What a reply tells stays so as the history grows.

@@ -9,9 +9,9 @@ use Rattle.tx_types.specs.declared.mutation.Mutation.TheVariants as mutation
 use Rattle.tx_types.specs.Lengths.{is_key}
 use Rattle.tx_core.proofs.Basics.{key_true, key_same, some_same}
 use Rattle.tx_transaction.specs.declared.state.Progress.{Progress}
-use Rattle.tx_transaction.specs.Buffers.{Entries, fresh, touched, put_over, insert_over, inserted, locked, buffered, with_progress, is_full}
+use Rattle.tx_transaction.specs.Buffers.{Entries, fresh, touched, put_over, insert_over, buffered, with_progress, is_full}
 use Rattle.tx_transaction.specs.Sessions.{SessionState, begun, is_declared}
-use Rattle.tx_edits.specs.Edits.{Edit, is_refused, later_of, is_value, grown, changes, puts, inserts, inserts_by, deletes, locks, stops, says, enters}
+use Rattle.tx_edits.specs.Edits.{Edit, is_refused, is_value, grown, changes, puts, inserts, inserts_by, deletes, locks, stops, says, enters}
 use Rattle.tx_reply.specs.declared.reply.ScriptReply.{ScriptReply}
 use Rattle.tx_reply.specs.declared.reply.ScriptReply.TheVariants as reply
 use Rattle.tx_steps.specs.Steps.{Text}
@@ -221,7 +221,7 @@ module _ (entered : Entered) (names : List ℕ → Option ℕ) (slots : List Slo
     set_own q j u live (inl same) =
         let mine : name ≡ q = x.one name q k here.0 (live.0 ∙ ap (λ i. Some i) same) in
         let is : session t ≡ session u = some_same (session t) (session u)
-            (sym (get_here slots k (session s) (session t) here.1) ∙ ap (slice_get next) (sym same) ∙ live.1) in
+        (sym (get_here slots k (session s) (session t) here.1) ∙ ap (slice_get next) (sym same) ∙ live.1) in
         subst (λ n. AllBy (entered n) u.buffer) mine (subst (λ (v : SessionState). AllBy (entered name) v.buffer)
         (session_same t u is) by)
     set_own q j u live (inr other) = x.own q j u (live.0, sym (get_other slots k j (session t) other) ∙ live.1)
@@ -260,13 +260,13 @@ module _ (entered : Entered) (names : List ℕ → Option ℕ) (slots : List Slo
     begun_one : (p q : Text) (j : ℕ) → fresh_names p ≡ Some j → fresh_names q ≡ Some j → p ≡ q
     begun_one p q j is also = elim (begun_by p j (bytes_eq name p) is) [
       | inl y ↦ elim (begun_by q j (bytes_eq name q) also) [
-          | inl z ↦ sym (key_true name p y.0) ∙ key_true name q z.0
-          | inr z ↦ absurd (z.2 y.1)
-        ]
+        | inl z ↦ sym (key_true name p y.0) ∙ key_true name q z.0
+        | inr z ↦ absurd (z.2 y.1)
+      ]
       | inr y ↦ elim (begun_by q j (bytes_eq name q) also) [
-          | inl z ↦ absurd (y.2 z.1)
-          | inr z ↦ x.one p q j y.1 z.1
-        ]
+        | inl z ↦ absurd (y.2 z.1)
+        | inr z ↦ x.one p q j y.1 z.1
+      ]
     ]
 
     begun_own : (q : Text) (j : ℕ) (u : SessionState) → IsLive fresh_names fresh_slots q j u
@@ -293,8 +293,11 @@ module _ (entered : Entered) (names : List ℕ → Option ℕ) (slots : List Slo
     gone_by : (q : Text) (j : ℕ) (b : Bool) → bytes_eq name q ≡ b → cond b None (names q) ≡ Some j
         → (names q ≡ Some j) × (j ≢ k)
     gone_by q j true test is = absurd (cc (is))
-    gone_by q j false test is = (is, λ same. cc (sym test ∙ ap (λ n. bytes_eq n q)
-        (x.one name q k named (is ∙ ap (λ i. Some i) same)) ∙ key_same q))
+    gone_by q j false test is = (
+      is,
+      λ same. cc (sym test ∙ ap (λ n. bytes_eq n q)
+          (x.one name q k named (is ∙ ap (λ i. Some i) same)) ∙ key_same q),
+    )
 
     abbrev others : (q : Text) (j : ℕ) → less_names q ≡ Some j → (names q ≡ Some j) × (j ≢ k)
     others q j is = gone_by q j (bytes_eq name q) refl is
@@ -311,7 +314,6 @@ module _ (entered : Entered) (names : List ℕ → Option ℕ) (slots : List Slo
       own = λ q j u live. (let y = others q j live.0 in
           x.own q j u (y.0, sym (get_other slots k j free y.1) ∙ live.1));
     }
-
 
 -- nobody lives yet
 pub own_none : (entered : Entered) (slots : List SlotState) → AllOwn entered (λ q. None) slots

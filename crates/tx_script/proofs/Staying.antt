@@ -1,5 +1,5 @@
 -- What a reply tells stays so as the history grows.
-use Rattle.std.proofs.Common.{◌≡◌, ◌⊎◌, inl, inr, ℕ, List}
+use Rattle.std.proofs.Common.{inl, inr, ℕ, List}
 use Rattle.tx_types.specs.declared.key.Key.{Key}
 use Rattle.tx_types.specs.declared.mutation.Fate.{Fate}
 use Rattle.tx_types.specs.declared.mutation.Fate.TheVariants as fate
@@ -49,6 +49,7 @@ module _ (bounds : List Key) (entered : Entered) (l h : History) (begins : Begin
 
   pub tells_on : (what : Step Text) (said : ScriptReply) → TellsBy bounds entered l what said
       → TellsBy bounds entered h what said
+  tells_on what (reply.Regions n) x = absurd x
   tells_on what (reply.Start t) x = (drawn_on t x.0, among_on l h begins (event.Began t) x.1)
   tells_on what (reply.Drawn t) x = drawn_on t x
   tells_on what (reply.Last t) x = drawn_on t x

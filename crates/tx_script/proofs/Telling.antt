@@ -1,7 +1,5 @@
 -- What a step's turn replies, by what has then happened.
-use Rattle.std.proofs.Common.{◌≡◌, ◌⊎◌, inl, inr, ◌+◌, ◌&&◌, ℕ, Bool, true, false, not, cond, List, [], ◌∷◌, length, slice_get, slice_set, Option, Some, None, is_some, nat_eq, nat_le, Result, Ok, Err, refl, sym, ap, subst, ◌∙◌}
-use Rattle.tx_types.specs.declared.fault.Cause.{Cause}
-use Rattle.tx_types.specs.declared.fault.Cause.TheVariants as cause
+use Rattle.std.proofs.Common.{◌≡◌, inl, inr, ◌+◌, ◌&&◌, ℕ, Bool, true, false, not, cond, List, [], length, slice_get, slice_set, Option, Some, None, is_some, nat_eq, nat_le, Result, Ok, Err, refl, sym, subst}
 use Rattle.tx_types.specs.declared.fault.Fault.{Fault}
 use Rattle.tx_types.specs.declared.fault.Fault.TheVariants as fault
 use Rattle.tx_types.specs.declared.key.Key.{Key}
@@ -12,22 +10,18 @@ use Rattle.tx_types.specs.Names.{is_name}
 use Rattle.tx_plan.specs.declared.body.Body.{Body}
 use Rattle.tx_plan.specs.declared.body.Body.TheVariants as request
 use Rattle.tx_plan.specs.declared.answer.Answer.{Answer}
-use Rattle.tx_cells.specs.declared.copies.KeyVersions.{KeyVersions}
 use Rattle.tx_core.specs.declared.event.Outcome.{Outcome}
-use Rattle.tx_core.specs.declared.event.Event.TheVariants.{Answered}
-use Rattle.tx_core.specs.Histories.{History, last, Begins}
-use Rattle.tx_core.proofs.seats.Beginnings.{begins_all, begins_more}
+use Rattle.tx_core.specs.Histories.{History, last}
+use Rattle.tx_core.proofs.seats.Beginnings.{begins_all}
 use Rattle.tx_transaction.specs.declared.state.Miss.{Miss}
 use Rattle.tx_transaction.specs.declared.state.Miss.TheVariants as miss
 use Rattle.tx_transaction.specs.declared.state.Phase.TheVariants as phase
-use Rattle.tx_transaction.specs.declared.state.Response.{Response}
 use Rattle.tx_transaction.specs.declared.state.Response.TheVariants as response
-use Rattle.tx_transaction.specs.declared.state.Terms.{Terms}
 use Rattle.tx_transaction.specs.Sessions.{SessionState, is_declared, has_primary, exceeds, due_prewrite, due_commit, due_abort, can_draw, can_commit, can_abort, finish_of, notes_one, with_passed}
 use Rattle.tx_client.specs.declared.resolved.Status.{Status}
 use Rattle.tx_client.specs.Statuses.{lies_above}
 use Rattle.tx_client.specs.Facts.{RespondsSo}
-use Rattle.tx_client.specs.Walks.{Walk, asks, grows, ends, due_walk, heartbeat_walk, get_walk, scan_walk}
+use Rattle.tx_client.specs.Walks.{Walk, heartbeat_walk, get_walk, scan_walk}
 use Rattle.tx_resolve.specs.declared.collector.Counts.{Counts}
 use Rattle.tx_resolve.specs.Reading.{read_walk}
 use Rattle.tx_resolve.specs.Collecting.{gc_walk}
@@ -42,127 +36,14 @@ use Rattle.tx_steps.specs.declared.op.Op.TheVariants as op
 use Rattle.tx_steps.specs.declared.step.Step.{Step}
 use Rattle.tx_steps.specs.declared.step.Step.TheVariants as step
 use Rattle.tx_steps.specs.Steps.{Text}
-use Rattle.tx_network.specs.Networks.{NetworkState, taken, holding, takes_memory, may_go, region_for, MayShowSo}
+use Rattle.tx_network.specs.Networks.{may_go}
 use Rattle.tx_reply.specs.declared.reply.ScriptReply.{ScriptReply}
 use Rattle.tx_reply.specs.declared.reply.ScriptReply.TheVariants as reply
-use Rattle.tx_engine.specs.Semantics.{SlotState, free, session, EngineState, Transition, goes, inquires, shows, stops, calls, at_network, at_history, with_session, began, drew, ticked, gone, seat_at, placed, read_by, said_by, missed_by, answers, asked, sent, runs, runs_to, first_free, lives, at_slot, live_at, is_too_many, edited, sends_by, sends, delivered_by, delivers, finishes_by, begins_at, in_session, turn, learns, learnt, waits, resolves_by, refused_as, collected_as}
-use Rattle.tx_engine.specs.Plays.{Leads}
+use Rattle.tx_engine.specs.Semantics.{SlotState, free, session, EngineState, Transition, goes, shows, calls, began, seat_at, read_by, said_by, missed_by, asked, runs_to, first_free, lives, at_slot, live_at, is_too_many, edited, sends_by, delivered_by, delivers, finishes_by, begins_at, in_session, turn, learns, learnt, resolves_by, collected_as}
 use Rattle.tx_script.specs.Tells.{Entered, entered_by, WasGiven, WasFound, TellsAnswer, TellsBy}
 use Rattle.tx_script.proofs.Owning.{AllBy, IsLive, AllOwn, IsRefusal, EntersBy, own_more, own_set, own_begun, own_gone, all_more, puts_by, inserts_so, deletes_by, locks_by, first_is_free}
 use Rattle.tx_script.proofs.Coming.{Comes, Keeps, Told, ToldMay, Got, ByFault, due_comes, heartbeat_comes, get_comes, scan_comes, ScanTold, resolve_comes, gc_comes}
-
--- an engine state that follows by requests alone: no session has changed
-pub record Since (old new : EngineState) : Type 0 where
-  pub begins : Begins old.network.history new.network.history
-  pub names : new.names ≡ old.names
-  pub slots : new.slots ≡ old.slots
-
-since_same : (e : EngineState) → Since e e
-since_same e = record { begins = begins_all e.network.history; names = refl; slots = refl }
-
-since_more : (a b c : EngineState) → Since a b → Since b c → Since a c
-since_more a b c x y = record {
-  begins = begins_more a.network.history b.network.history c.network.history x.begins y.begins;
-  names = y.names ∙ x.names;
-  slots = y.slots ∙ x.slots;
-}
-
--- ---- transitions
-
-module _ (bounds : List Key) (P : EngineState → ScriptReply → Type 0) where
-  -- whatever regions answer and show, this holds of what a turn goes on to
-  abbrev pub AllTell : Transition → Type 0
-  AllTell (goes engine said left) = P engine said
-  AllTell (inquires network body more) = (a : Answer) → AllTell (more a)
-  AllTell (shows network key more) = (copy : KeyVersions) → MayShowSo bounds network key copy → AllTell (more copy)
-  AllTell (stops cause) = Unit {0}
-
-  pub either : (b : Bool) (t u : Transition) → AllTell t → AllTell u → AllTell (cond b t u)
-  either true t u x y = x
-  either false t u x y = y
-
-  -- what follows an answer, from whatever engine state comes by requests alone
-  abbrev After : EngineState → Body → (Response → EngineState → List Bool → Transition) → Type 0
-  After engine body on = (c : Response) (next : EngineState) (left : List Bool) → Since engine next
-      → RespondsSo next.network.history body c → AllTell (on c next left)
-
-  answers_tell : (engine : EngineState) (body : Body) (on : Response → EngineState → List Bool → Transition)
-      → After engine body on → (left : List Bool) → AllTell (answers bounds engine body on left)
-  answers_tell engine body on tell left = λ a.
-      tell (response.Answered a) (at_network engine (taken bounds engine.network body a)) left
-      (record { begins = inr (begins_all engine.network.history); names = refl; slots = refl })
-      (record {
-        by = record {
-          region = region_for bounds body;
-          body = body;
-          loaded = last engine.network.history;
-          answer = a;
-        };
-        among = inl refl;
-        asked = refl;
-        told = refl;
-      })
-
-  asked_tells : (refused : List Bool) (engine : EngineState) (body : Body) (on : Response → EngineState → List Bool
-      → Transition) → After engine body on → AllTell (asked bounds refused engine body on)
-  asked_tells refused engine body on tell =
-      either (takes_memory body) _ _
-      (either (is_refused refused) _ _ (tell response.OutOfMemory engine (later_of refused) (since_same engine) tt)
-      (answers_tell engine body on tell (later_of refused)))
-      (answers_tell engine body on tell refused)
-
-  sent_tells : (delivery : Delivery Text) (refused : List Bool) (engine : EngineState) (body : Body) (on : Response
-      → EngineState → List Bool → Transition) → After engine body on
-      → AllTell (sent bounds delivery refused engine body on)
-  sent_tells deliveries.Taken refused engine body on tell = asked_tells refused engine body on tell
-  sent_tells deliveries.Lost refused engine body on tell = tell response.Lost engine refused (since_same engine) tt
-  sent_tells deliveries.Unanswered refused engine body on tell =
-      asked_tells refused engine body (λ c. on response.Lost) (λ c next left since was. tell response.Lost next left since
-      tt)
-  sent_tells deliveries.Repeated refused engine body on tell =
-      either (is_refused refused) _ _ (tell response.OutOfMemory engine (later_of refused) (since_same engine) tt)
-      (asked_tells (later_of refused) engine body (λ c next left. asked bounds left next body on)
-      (λ c next left since was. asked_tells left next body on
-      (λ d then_next then_left later so. tell d then_next then_left (since_more engine next then_next since later) so)))
-  sent_tells (deliveries.Held name) refused engine body on tell =
-      either (is_refused refused) _ _ (tell response.OutOfMemory engine (later_of refused) (since_same engine) tt)
-      (tell response.Lost (at_network engine (holding engine.network name body)) (later_of refused)
-      (record { begins = begins_all engine.network.history; names = refl; slots = refl }) tt)
-
-  runs_tell : {R : Type 0} (Q : History → R → Type 0) (delivery : Delivery Text) (refused : List Bool)
-      (engine : EngineState) (w : Walk R) (on : R → EngineState → List Bool → Transition)
-      → Comes Q engine.network.history w → ((r : R) (next : EngineState) (left : List Bool) → Since engine next
-      → Q next.network.history r → AllTell (on r next left)) → AllTell (runs bounds delivery refused engine w on)
-  runs_tell Q delivery refused engine (ends r) on comes tell = tell r engine refused (since_same engine) comes
-  runs_tell Q delivery refused engine (grows more short) on comes tell =
-      either (is_refused refused) _ _ (runs_tell Q delivery (later_of refused) engine short on comes.1 tell)
-      (runs_tell Q delivery (later_of refused) engine more on comes.0 tell)
-  runs_tell Q delivery refused engine (asks body more) on comes tell =
-      sent_tells delivery refused engine body (λ c next left. runs bounds delivery left next (more c) on)
-      (λ c next left since was. runs_tell Q delivery left next (more c) on
-      (comes c next.network.history since.begins was)
-      (λ r then_next then_left later q. tell r then_next then_left (since_more engine next then_next since later) q))
-
-  -- what comes of a turn is one of them
-  pub leads_tell : {R : Type 0} (Goes : EngineState → ScriptReply → List Bool → Type 0) (Stops : Cause → Type 0)
-      → ((next : EngineState) (said : ScriptReply) (left : List Bool) → P next said → Goes next said left → R)
-      → ((c : Cause) → Stops c → R) → (t : Transition) → AllTell t → Leads bounds Goes Stops t → R
-  leads_tell Goes Stops go stop (goes engine said left) tell leads = go engine said left tell leads
-  leads_tell Goes Stops go stop (inquires network body more) tell (a, answers, leads) =
-      leads_tell Goes Stops go stop (more a) (tell a) leads
-  leads_tell Goes Stops go stop (shows network key more) tell (copy, may, leads) =
-      leads_tell Goes Stops go stop (more copy) (tell copy may) leads
-  leads_tell Goes Stops go stop (stops c) tell leads = stop c leads
-
--- what holds of each thing that a turn goes on to
-pub all_tell_more : (bounds : List Key) (P Q : EngineState → ScriptReply → Type 0) → ((next : EngineState)
-    (said : ScriptReply) → P next said → Q next said) → (t : Transition) → AllTell bounds P t → AllTell bounds Q t
-all_tell_more bounds P Q f (goes engine said left) x = f engine said x
-all_tell_more bounds P Q f (inquires network body more) x = λ a. all_tell_more bounds P Q f (more a) (x a)
-all_tell_more bounds P Q f (shows network key more) x = λ copy may. all_tell_more bounds P Q f (more copy) (x copy may)
-all_tell_more bounds P Q f (stops cause) x = tt
-
--- ---- steps
+use Rattle.tx_script.proofs.Leading.{Since, since_same, AllTell, either, After, asked_tells, runs_tell}
 
 -- a step's reply tells of what has then happened, and each session has what was entered under its
 -- name
@@ -383,10 +264,10 @@ module _ (bounds : List Key) (entered : Entered) (engine : EngineState)
   begin_tells name refused None is = tt
   begin_tells name refused (Some k) is = calls_tell (step.Begin name) refused
       (λ left. goes (began bounds engine name k) (reply.Start (last engine.network.history + 1)) left) (λ left. (
-    ((seat_at bounds k, inr (inl refl)), inl refl),
-    own_begun (later (step.Begin name)) engine.names engine.slots (stay (step.Begin name)) name k
-        (last engine.network.history + 1) (first_is_free engine.slots k is),
-  ))
+        ((seat_at bounds k, inr (inl refl)), inl refl),
+        own_begun (later (step.Begin name)) engine.names engine.slots (stay (step.Begin name)) name k
+            (last engine.network.history + 1) (first_is_free engine.slots k is),
+      ))
 
   -- what comes of a request of no session
   alone_tells : (what : Step Text) (b : Body) → ((h : History) (a : Answer) → RespondsSo h b (response.Answered a)

@@ -120,9 +120,10 @@ module _ (bounds : List Key) (entered : Entered) (h : History) where
       × Copies ((left first (route bounds key)).cells key) copy
   TellsVersions _ copy = ⊥
 
-  -- What a step's reply tells. Of the number of regions, of sums of a collection, and of replies
-  -- that say no more than that a step was done, or why it was not, nothing is said.
+  -- What a step's reply tells; no step is told how many regions there are. Of sums of a collection,
+  -- and of replies that say only that a step was done, or why it was not, nothing is said.
   abbrev pub TellsBy : Step Text → ScriptReply → Type 0
+  TellsBy what (reply.Regions n) = ⊥
   TellsBy what (reply.Start t) = WasDrawn h t × Among h (event.Began t)
   TellsBy what (reply.Drawn t) = WasDrawn h t
   TellsBy what (reply.Last t) = WasDrawn h t
