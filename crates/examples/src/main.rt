@@ -2,8 +2,9 @@
 //! is a script (`NAME.script`, played as `txkv simulate` does), a script for workers (`NAME.run`,
 //! played as `txkv run --workers 2` does) or a trace (`NAME.trace`, checked as `txkv check` does);
 //! what it writes is shown in the file of its name with `.out` added. Scripts and runs are played
-//! over both families. Many small ones stand in `scripts.rows`, `checked.rows` (played as `txkv
-//! simulate --check` does) and `traces.rows`, each with what it writes.
+//! over both families, and the run of a script is shown as `NAME.script.text`. Many small ones
+//! stand in `scripts.rows`, `checked.rows` (played as `txkv simulate --check` does), `traces.rows`
+//! and `histories.rows` (judged as `txkv import` does), each with what it writes.
 #![tactic(auto)]
 
 mod rows;
@@ -15,20 +16,24 @@ use std::fs;
 use std::rt::Files;
 use std::sync::Wait;
 use std::thread::Threads;
+use tx_answers::{ImportEnd, ImportOptions, import};
 use tx_cells::Fresh;
 use tx_check::check;
+use tx_explain::explain;
 use tx_flat::FlatCells;
 use tx_nested::NestedCells;
+use tx_recording::Orders;
 use tx_run::{Plain, Settings, run_script};
 use tx_sched::Open;
 use tx_script::{simulate, simulate_checked};
 use tx_text::End;
 
-const SCRIPTS: [&str; 17] = [
+const SCRIPTS: [&str; 19] = [
     "abandoned_async.script",
     "collection.script",
     "commit_then_read.script",
     "delivered_twice.script",
+    "falls_back.script",
     "late_prewrite_commits.script",
     "late_prewrite_is_refused.script",
     "long_values.script",
@@ -42,6 +47,7 @@ const SCRIPTS: [&str; 17] = [
     "two_inserts.script",
     "two_regions.script",
     "write_conflict.script",
+    "write_skew.script",
 ];
 
 const RUNS: [&str; 1] = ["transfers.run"];
@@ -63,6 +69,8 @@ enum Kind {
     /// The same over nested maps.
     CheckedNested,
     Trace,
+    /// A history of another store.
+    History,
 }
 
 // Plays a script over these families. How it ended, unless it broke off.
@@ -77,6 +85,24 @@ fn checks<F: Fresh>(alloc: Global, text: &[u8], written: &mut Vec<u8>) -> Option
     simulate_checked::<F, _, _, _>(alloc, &Plain, &mut reader, written).ok()
 }
 
+// Judges a history. How it ended, unless it broke off; that the verdict is open, its line says.
+fn judges(alloc: Global, text: &[u8], written: &mut Vec<u8>) -> Option<End> {
+    let options = ImportOptions {
+        orders: Orders {
+            sessions: false,
+            strict: false,
+        },
+        dot: false,
+    };
+    let mut reader = text;
+    let answered = import(alloc, options, &mut reader, written).ok()?;
+    Some(match answered.end {
+        ImportEnd::Yes | ImportEnd::Open => End::Well,
+        ImportEnd::No => End::No,
+        ImportEnd::Faulted => End::Faulted,
+    })
+}
+
 impl Kind {
     // Runs an example. How it ended, unless it broke off.
     fn run(self, rt: &HostRuntime, text: &[u8], written: &mut Vec<u8>) -> Option<End> {
@@ -88,6 +114,7 @@ impl Kind {
             Kind::Checked => checks::<FlatCells>(alloc, text, written),
             Kind::CheckedNested => checks::<NestedCells>(alloc, text, written),
             Kind::Trace => check(alloc, &mut reader, written).ok(),
+            Kind::History => judges(alloc, text, written),
         }
     }
 }
@@ -102,7 +129,9 @@ fn end_of(shown: &[u8]) -> End {
     };
     if last.windows(6).any(|part| part == b"\"E16\",".as_slice()) {
         End::Faulted
-    } else if last.trim_ascii().starts_with(b"[\"check\",\"no\"") {
+    } else if last.trim_ascii().starts_with(b"[\"check\",\"no\"")
+        || last.trim_ascii().starts_with(b"[\"import\",\"no\"")
+    {
         End::No
     } else {
         End::Well
@@ -117,6 +146,17 @@ fn is_shown(rt: &HostRuntime, name: &str, kind: Kind) -> Result<bool> {
     let mut written = Vec::new(rt.alloc());
     let ended = kind.run(rt, text.as_slice(), &mut written);
     Ok(ended == Some(end_of(shown.as_slice())) && written.as_slice() == shown.as_slice())
+}
+
+// Whether the run of a script is shown as the file beside it shows it: `NAME.text`.
+fn is_explained(rt: &HostRuntime, name: &str) -> Result<bool> {
+    let script = fs::read(rt, name)?;
+    let path = format!(in rt.alloc(); "{name}.text")?;
+    let shown = fs::read(rt, path)?;
+    let mut written = Vec::new(rt.alloc());
+    let mut reader = script.as_slice();
+    let ended = explain::<FlatCells, _, _, _>(rt.alloc(), &Plain, &mut reader, &mut written);
+    Ok(ended.is_ok() && written.as_slice() == shown.as_slice())
 }
 
 // Whether a script for workers, of whom there are two, writes over these families what the file
@@ -153,7 +193,7 @@ fn verdict(is_shown: bool) -> &'static str {
     if is_shown {
         "as shown"
     } else {
-        "writes something else than its .out file shows"
+        "writes something else than the file beside it shows"
     }
 }
 
@@ -161,6 +201,10 @@ fn main(rt: HostRuntime) -> Result<()> {
     for name in SCRIPTS {
         let shown = is_shown(&rt, name, Kind::Script)? && is_shown(&rt, name, Kind::Nested)?;
         println!(rt; "{name}: {}", verdict(shown))?;
+    }
+    for name in SCRIPTS {
+        let shown = is_explained(&rt, name)?;
+        println!(rt; "{name}, explained: {}", verdict(shown))?;
     }
     for name in RUNS {
         let shown = run_is_shown::<FlatCells, _>(&rt, name)?
@@ -181,5 +225,7 @@ fn main(rt: HostRuntime) -> Result<()> {
     println!(rt; "checked.rows, over nested maps: {nested} as shown")?;
     let traces = count_shown(&rt, "traces.rows", Kind::Trace)?;
     println!(rt; "traces.rows: {traces} as shown")?;
+    let histories = count_shown(&rt, "histories.rows", Kind::History)?;
+    println!(rt; "histories.rows: {histories} as shown")?;
     Ok(())
 }

@@ -8,7 +8,7 @@ use Rattle.tx_types.specs.declared.mutation.Mode.TheVariants.{TwoPhase, Async}
 use Rattle.tx_machine.specs.Machine.{Done}
 use Rattle.tx_plan.specs.Answers.{start_in}
 use Rattle.tx_core.specs.declared.event.Outcome.TheVariants as outcome
-use Rattle.tx_core.specs.Histories.{History, declared}
+use Rattle.tx_core.specs.Histories.{History, declared, set_of, is_first}
 use Rattle.tx_core.specs.Decisions.{decided}
 use Rattle.tx_core.specs.Allowed.{Allowed}
 use Rattle.tx_core.specs.Worlds.{MayAnswer, IsWorldRun}
@@ -19,7 +19,7 @@ use Rattle.tx_transaction.specs.declared.state.Terms.{Terms}
 use Rattle.tx_transaction.specs.declared.state.Phase.{Phase}
 use Rattle.tx_transaction.specs.declared.state.Phase.TheVariants as phase
 use Rattle.tx_transaction.specs.declared.state.Due.{Due}
-use Rattle.tx_transaction.specs.Buffers.{Entries, not_empty, first_index}
+use Rattle.tx_transaction.specs.Buffers.{Entries, key_at, not_empty, first_index}
 use Rattle.tx_transaction.specs.Sessions.{SessionState, has_primary, declaration_of, prewrite_of, prewrite_at, due_prewrite, commit_of, commit_at, commit_drawn, commit_by, commit_if, due_commit, rollback_of, rollback_at, check_of, check_at, abort_of, abort_open, abort_by, due_abort, heartbeat_of, outcome_of}
 use Rattle.tx_transaction.specs.Next.{due as next_of}
 use Rattle.tx_client.specs.Facts.{standing, IsSession, IsFor}
@@ -104,15 +104,13 @@ module _ (bounds : List Key) (h : History) (run : IsWorldRun bounds h) (i : ℕ)
   -- ---- commits
 
   may_commit_decided : (c n : ℕ) → s.decision ≡ Some (fate.Committed c) → Allowed h (commit_of s c n).body
-  may_commit_decided c n e =
-      let r = decided_some (fate.Committed c) e in
-      record { of = declaration_of s.start s.placed s.buffer r.0; stands = r.2; may = inl (known_decided (fate.Committed c) e) }
+  may_commit_decided c n e = inl (known_decided (fate.Committed c) e)
 
   may_commit_drawn : (c : ℕ) → s.drawn ≡ Some c → Allowed h (commit_of s c 0).body
   may_commit_drawn c e =
       let y = is.ready c e in
       let r = stands_some y.stands in
-      record { of = declaration_of s.start s.placed s.buffer r.0; stands = r.2; may = inr (record { primary = first_there s.buffer r.3; accepted = y.all; two_phase = y.two_phase; drawn = y.drew }) }
+      inr (record { primary = ap (λ o. is_first (set_of o) (key_at s.buffer 0)) r.2 ∙ first_there s.buffer r.3; accepted = y.all; two_phase = y.two_phase; drawn = y.drew })
 
   -- the commit that is due is allowed
   commit_allowed : (due : Due) → due_commit s ≡ Some due → Is phase.Commit due

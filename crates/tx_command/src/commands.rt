@@ -17,11 +17,26 @@ pub enum CommandTask {
     SimulateChecked,
     /// Simulate, and tell the machine's steps alone.
     SimulateSteps,
+    /// Simulate, and show the run.
+    Explain,
     /// By so many workers; what is out of date for so many ticks is collected meanwhile.
     Run(usize, Option<u64>),
     Check,
     /// Check, and after a no tell why.
     CheckWithReason,
+    /// Judge a history of any store.
+    Import(ImportOptions),
+}
+
+/// What is asked of a history, beside whether its reads and writes are snapshot isolation.
+#[derive(Clone, Copy, Debug, PartialEq, Eq)]
+pub struct ImportOptions {
+    /// Whether each process saw what it had done.
+    pub sessions: bool,
+    /// Whether what began after another had ended came after it.
+    pub strict: bool,
+    /// Whether a cycle is written for Graphviz.
+    pub dot: bool,
 }
 
 /// What the command line asks for.
@@ -46,6 +61,12 @@ fn task_of(name: &str, asked: &ArgMatches<'_>) -> CommandTask {
         "simulate" if asked.get_flag("check") => CommandTask::SimulateChecked,
         "simulate" if asked.get_flag("steps") => CommandTask::SimulateSteps,
         "simulate" => CommandTask::Simulate,
+        "import" => CommandTask::Import(ImportOptions {
+            sessions: asked.get_flag("sessions"),
+            strict: asked.get_flag("strict"),
+            dot: asked.get_flag("dot"),
+        }),
+        "explain" => CommandTask::Explain,
         _ if asked.get_flag("why") => CommandTask::CheckWithReason,
         _ => CommandTask::Check,
     }
@@ -114,6 +135,15 @@ fn simulate<'a>(alloc: Global) -> Result<Command<'a>, Error> {
     Ok(command)
 }
 
+fn explain<'a>(alloc: Global) -> Result<Command<'a>, Error> {
+    let command = Command::new(alloc, "explain")
+        .about(help::EXPLAIN_ABOUT)
+        .after_help(help::EXPLAIN_HELP)
+        .arg(cells_option(alloc))?
+        .arg(file(alloc))?;
+    Ok(command)
+}
+
 fn run<'a>(alloc: Global) -> Result<Command<'a>, Error> {
     let workers = Arg::new(alloc, "workers")
         .long("workers")
@@ -143,6 +173,29 @@ fn run<'a>(alloc: Global) -> Result<Command<'a>, Error> {
     Ok(command)
 }
 
+fn import<'a>(alloc: Global) -> Result<Command<'a>, Error> {
+    let sessions = Arg::new(alloc, "sessions")
+        .long("sessions")
+        .action(ArgAction::SetTrue)
+        .help("Asks as well that each process sees what it did before");
+    let strict = Arg::new(alloc, "strict")
+        .long("strict")
+        .action(ArgAction::SetTrue)
+        .help("Asks as well that what began after another had ended comes after it");
+    let dot = Arg::new(alloc, "dot")
+        .long("dot")
+        .action(ArgAction::SetTrue)
+        .help("Writes the cycle of a no for Graphviz, in place of its line");
+    let command = Command::new(alloc, "import")
+        .about(help::IMPORT_ABOUT)
+        .after_help(help::IMPORT_HELP)
+        .arg(sessions)?
+        .arg(strict)?
+        .arg(dot)?
+        .arg(file(alloc))?;
+    Ok(command)
+}
+
 /// The command that the words ask for, the first of which is the program; `Err` also where they ask
 /// for help or the version.
 pub fn parse<'a>(alloc: Global, words: &'a [String]) -> Result<ArgMatches<'a>, Error> {
@@ -152,7 +205,9 @@ pub fn parse<'a>(alloc: Global, words: &'a [String]) -> Result<ArgMatches<'a>, E
         .after_help(help::EXAMPLES)
         .subcommand_required(true)
         .subcommand(simulate(alloc)?)?
+        .subcommand(explain(alloc)?)?
         .subcommand(run(alloc)?)?
-        .subcommand(check(alloc)?)?;
+        .subcommand(check(alloc)?)?
+        .subcommand(import(alloc)?)?;
     command.try_get_matches_from(words)
 }

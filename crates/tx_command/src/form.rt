@@ -146,11 +146,13 @@ fn regions_form(word: &str, number: u64) -> Option<Form> {
 /// The form of the step with this word, in the line of this number of what a task reads.
 pub(crate) fn form_of(task: CommandTask, number: u64, word: &str) -> Option<Form> {
     match task {
-        CommandTask::Simulate | CommandTask::SimulateChecked | CommandTask::SimulateSteps =>
-            regions_form(word, number)
-                .or_else(|| action_form(word))
-                .or_else(|| request_form(word))
-                .or_else(|| world_form(word)),
+        CommandTask::Simulate
+        | CommandTask::SimulateChecked
+        | CommandTask::SimulateSteps
+        | CommandTask::Explain => regions_form(word, number)
+            .or_else(|| action_form(word))
+            .or_else(|| request_form(word))
+            .or_else(|| world_form(word)),
         CommandTask::Run(..) => regions_form(word, number)
             .or_else(|| action_form(word))
             .or_else(|| request_form(word).map(|form| Form {
@@ -159,5 +161,6 @@ pub(crate) fn form_of(task: CommandTask, number: u64, word: &str) -> Option<Form
             }))
             .or_else(|| run_form(word)),
         CommandTask::Check | CommandTask::CheckWithReason => machine_form(word),
+        CommandTask::Import(_) => None,
     }
 }

@@ -4,13 +4,17 @@ pub(crate) static ABOUT: &str = "The transaction layer of a key-value store, in 
 
 pub(crate) static EXAMPLES: &str = "Examples:
   txkv simulate commit_then_read.script     Run a script of sessions
+  txkv explain push.script                  Show the run of a script, a column a session
   txkv run --workers 4 transfers.run        Run the sessions of a script side by side, on threads
   txkv check commit_then_read.trace         Check a trace of machine steps
+  txkv import history.jsonl                 Judge a history of any store
   txkv simulate --help                      Show the steps of a script
   txkv run --help                           Show the steps of a run
   txkv check --help                         Show the steps of a trace
+  txkv import --help                        Show the lines of a history
 
-Status: 0 well, 2 a fault of the input or the command line, 3 the verdict no, 4 a read, a write or a growth failed.";
+Status: 0 well, 2 a fault of the input or the command line, 3 the verdict no, 4 a read, a write or a growth failed,
+5 the verdict open.";
 
 pub(crate) static SIMULATE_ABOUT: &str =
     "Run a script of sessions in one thread, and write one reply line a step";
@@ -47,6 +51,16 @@ Examples:
   txkv simulate --steps a.script | txkv check   Its steps alone, and what the checker says of them
   echo '["begin","A"]' | txkv simulate          [1,"start",1], status 0
   echo '["get","A","a"]' | txkv simulate        [1,"E16","name"], no session is live, status 2"#;
+
+pub(crate) static EXPLAIN_ABOUT: &str =
+    "Run a script as simulate does, and show its run: a column a session, a line a step";
+
+pub(crate) static EXPLAIN_HELP: &str =
+    r#"Beside each step and its reply stands what changed of each key: its lock, and write records that came (+) and went (-).
+A refusal has its reason on a line of its own. docs/EXPLAIN.md has all forms.
+
+Examples:
+  txkv explain push.script     A reader that need not wait, step by step"#;
 
 pub(crate) static RUN_ABOUT: &str = "Run the sessions of a script side by side, on several threads";
 
@@ -90,3 +104,23 @@ Examples:
   txkv check lost_update.trace        ["check","no",10], the first line refused, status 3
   txkv check --why lost_update.trace  The same, and ["why",10,"conflict",{"key":"a","other":2,"start":1,"committed":3}]
   echo '["draw"]' | txkv check        [1,"E16","form"], the first line that is no step, status 2"#;
+
+pub(crate) static IMPORT_ABOUT: &str = "Judge a history of any store: is it snapshot isolation?";
+
+pub(crate) static IMPORT_HELP: &str =
+    r#"A history has one transaction a line, each a JSON object, of one process in the order in which it ran them:
+  {"id":1,"type":"ok","process":3,"start":10,"end":12,"ops":[["append","x",1],["r","x",[1]]]}
+type is "ok" where it committed, "fail" where it did not, "info" where nobody knows. id, process, start and end may be left
+out; start and end are numbers of one clock. Keys and values are strings or whole numbers; each value is given to a key once:
+  ["append",key,value]      It put the value behind those of the key's list
+  ["r",key,[value,..]]      It read the list
+  ["w",key,value]           It wrote the value: lists and such registers do not mix
+  ["r",key,value]           It read the value, or null for none
+
+The answer is one line, yes with status 0, no with 3, open with 5: transactions put values into a key of which nobody read
+the order. A last read of all keys leaves few open. docs/HISTORIES.md has what each answer means, and the names of a no.
+
+Examples:
+  txkv import history.jsonl             ["import","yes",{..}], or ["import","no",name,[[id,edge,key,id],..]]
+  txkv import --strict history.jsonl    The same, by the clock as well: no or open, and not yet yes
+  txkv import --dot history.jsonl       The cycle of a no for Graphviz"#;

@@ -2,6 +2,7 @@
 use crate::CommandTask;
 use crate::faults::NotedFaults;
 use crate::form::{Form, More, form_of};
+use crate::history::wrong_transaction;
 use crate::member::{is_of, rule_of};
 use crate::show::shown;
 use crate::state::{too_many, wrong_name, wrong_state};
@@ -27,8 +28,10 @@ fn command_of(task: CommandTask) -> &'static str {
     match task {
         CommandTask::Simulate | CommandTask::SimulateChecked | CommandTask::SimulateSteps =>
             "simulate",
+        CommandTask::Explain => "explain",
         CommandTask::Run(..) => "run",
         CommandTask::Check | CommandTask::CheckWithReason => "check",
+        CommandTask::Import(_) => "import",
     }
 }
 
@@ -206,7 +209,10 @@ pub fn why(
         _ => {}
     }
     match Value::from_slice(alloc, line) {
-        Ok(value) => wrong_value(alloc, task, fault, &value),
+        Ok(value) => match task {
+            CommandTask::Import(_) => wrong_transaction(alloc, &value),
+            _ => wrong_value(alloc, task, fault, &value),
+        },
         Err(error) if error.is_memory() => Err(AllocError),
         Err(error) => Ok(Some(format!(in alloc; "the line is no JSON value: {error}")?)),
     }

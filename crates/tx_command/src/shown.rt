@@ -25,7 +25,10 @@ pub fn shown_at(job: CommandLine<'_>, terminals: Terminals) -> Display {
         return Display::Prompts;
     }
     match job.task {
-        CommandTask::Run(..) | CommandTask::Check | CommandTask::CheckWithReason
+        CommandTask::Run(..)
+        | CommandTask::Check
+        | CommandTask::CheckWithReason
+        | CommandTask::Import(_)
             if terminals.error => Display::ProgressLine,
         _ => Display::Nothing,
     }

@@ -2,7 +2,9 @@
 use clap::error::ErrorKind;
 use std::alloc::Global;
 use std::test::Fail;
-use tx_command::{CellsKind, CommandLine, CommandTask, job_of, message_of, parse, status_of};
+use tx_command::{
+    CellsKind, CommandEnd, CommandLine, CommandTask, job_of, message_of, parse, status_of,
+};
 use tx_text::{Broken, End};
 
 // The words of a command line, the first of which is the program as a shell names it.
@@ -18,7 +20,7 @@ fn words_of(alloc: Global, line: &str) -> Result<Vec<String>, Fail> {
 }
 
 // Command lines, the tasks that they ask for, and the files that those read.
-static JOBS: [(&str, CommandTask, Option<&str>); 15] = [
+static JOBS: [(&str, CommandTask, Option<&str>); 16] = [
     ("simulate", CommandTask::Simulate, None),
     ("simulate -", CommandTask::Simulate, None),
     ("simulate a.script", CommandTask::Simulate, Some("a.script")),
@@ -34,6 +36,7 @@ static JOBS: [(&str, CommandTask, Option<&str>); 15] = [
         CommandTask::Simulate,
         Some("--check"),
     ),
+    ("explain a.script", CommandTask::Explain, Some("a.script")),
     ("check", CommandTask::Check, None),
     ("check dir/a.trace", CommandTask::Check, Some("dir/a.trace")),
     ("check --why", CommandTask::CheckWithReason, None),
@@ -110,7 +113,7 @@ const TRY_HELP: &str = "\n\nFor more information, try '--help'.\n";
 static FAULTS: [(&str, &str); 17] = [
     (
         "",
-        "error: 'txkv' requires a subcommand but one was not provided\n  [subcommands: simulate, run, check, help]\n\nUsage: txkv <COMMAND>",
+        "error: 'txkv' requires a subcommand but one was not provided\n  [subcommands: simulate, explain, run, check, import, help]\n\nUsage: txkv <COMMAND>",
     ),
     (
         "simulat",
@@ -201,8 +204,10 @@ Usage: txkv <COMMAND>
 
 Commands:
   simulate  Run a script of sessions in one thread, and write one reply line a step
+  explain   Run a script as simulate does, and show its run: a column a session, a line a step
   run       Run the sessions of a script side by side, on several threads
   check     Check a trace: is it a run of the machine that commits each transaction in one step?
+  import    Judge a history of any store: is it snapshot isolation?
   help      Print this message or the help of the given subcommand(s)
 
 Options:
@@ -265,10 +270,10 @@ static HELPS: [(&str, &str, &str); 8] = [
     (
         "--help",
         TOP,
-        "Status: 0 well, 2 a fault of the input or the command line, 3 the verdict no, 4 a read, a write or a growth failed.\n",
+        "Status: 0 well, 2 a fault of the input or the command line, 3 the verdict no, 4 a read, a write or a growth failed,\n5 the verdict open.\n",
     ),
-    ("help", TOP, "failed.\n"),
-    ("-h", TOP, "failed.\n"),
+    ("help", TOP, "open.\n"),
+    ("-h", TOP, "open.\n"),
     (
         "simulate --help",
         SIMULATE,
@@ -322,9 +327,10 @@ fn version_is_told(rt: HostRuntime) -> Result<(), Fail> {
 
 #[test]
 fn ends_have_statuses(rt: HostRuntime) {
-    assert_eq!(rt; status_of(Ok(End::Well)), 0);
-    assert_eq!(rt; status_of(Ok(End::Faulted)), 2);
-    assert_eq!(rt; status_of(Ok(End::No)), 3);
+    assert_eq!(rt; status_of(Ok(CommandEnd::of(End::Well))), 0);
+    assert_eq!(rt; status_of(Ok(CommandEnd::of(End::Faulted))), 2);
+    assert_eq!(rt; status_of(Ok(CommandEnd::of(End::No))), 3);
+    assert_eq!(rt; status_of(Ok(CommandEnd::Open)), 5);
     for (broken, message) in [
         (Broken::Input, "the input failed"),
         (Broken::Output, "the output failed"),

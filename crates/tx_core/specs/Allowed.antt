@@ -11,7 +11,6 @@ use Rattle.tx_plan.specs.declared.body.Commit.{Commit}
 use Rattle.tx_plan.specs.declared.body.BatchRollback.{BatchRollback}
 use Rattle.tx_plan.specs.declared.body.CheckTxnStatus.{CheckTxnStatus}
 use Rattle.tx_plan.specs.declared.body.CheckSecondaryLocks.{CheckSecondaryLocks}
-use Rattle.tx_plan.specs.declared.body.ResolveLock.{ResolveLock}
 use Rattle.tx_machine.specs.Keys.{mutation_at}
 use Rattle.tx_machine.specs.Machine.{Done}
 use Rattle.tx_core.specs.declared.event.Declaration.{Declaration}
@@ -65,17 +64,11 @@ pub record DrewAfterAll (h : History) (t c : ℕ) : Type 0 where
 
 -- The commit that decides a transaction: of its primary, once every key is accepted and some key
 -- two-phase, at a timestamp that its seat drew after that.
-pub record MayDecide (h : History) (set : List Change) (b : Commit) : Type 0 where
-  pub primary : is_first set b.key ≡ true
+pub record MayDecide (h : History) (b : Commit) : Type 0 where
+  pub primary : is_first (set_at h b.start) b.key ≡ true
   pub accepted : AllAccepted h b.start
   pub two_phase : HasTwoPhaseLock h b.start
   pub drawn : DrewAfterAll h b.start b.commit
-
--- A commit is at the timestamp that is decided, or decides.
-pub record AllowsCommit (h : History) (b : Commit) : Type 0 where
-  pub of : Declaration
-  pub stands : declared h b.start ≡ Some of
-  pub may : (decided h b.start ≡ Done (Committed b.commit)) ⊎ MayDecide h of.changes b
 
 -- A rollback is of a transaction that is decided as aborted, or of the primary of one that was
 -- declared two-phase.
@@ -86,9 +79,7 @@ pub record AllowsBatchRollback (h : History) (b : BatchRollback) : Type 0 where
 
 -- A status is asked of a primary; forced only where the transaction has an accepted two-phase lock.
 pub record AllowsCheckTxnStatus (h : History) (b : CheckTxnStatus) : Type 0 where
-  pub of : Declaration
-  pub stands : declared h b.start ≡ Some of
-  pub primary : is_first of.changes b.key ≡ true
+  pub primary : is_first (set_at h b.start) b.key ≡ true
   pub forced : b.force_sync_commit ≡ true → HasTwoPhaseLock h b.start
 
 -- Secondary locks are checked on the keys of a transaction that was declared async.
@@ -98,21 +89,17 @@ pub record AllowsCheckSecondaryLocks (h : History) (b : CheckSecondaryLocks) : T
   pub async : of.mode ≡ Async
   pub within : mutation_at of.changes b.key ≢ None
 
--- A lock is resolved by what is decided of its transaction.
-pub record AllowsResolveLock (h : History) (b : ResolveLock) : Type 0 where
-  pub stands : declared h b.start ≢ None
-  pub decision : decided h b.start ≡ Done b.fate
-
--- The requests that may be made after a history. What is allowed stays so, however
+-- The requests that may be made after a history. A commit is at the timestamp that is decided, or
+-- decides; a lock is resolved by what is decided of its transaction. What is allowed stays so, however
 -- the history grows.
 abbrev pub Allowed : History → Body → Type 0
 Allowed h (body.Get b) = AllowsRead h b.at b.bypass
 Allowed h (body.Scan b) = AllowsRead h b.at b.bypass
 Allowed h (body.Prewrite b) = AllowsPrewrite h b
-Allowed h (body.Commit b) = AllowsCommit h b
+Allowed h (body.Commit b) = (decided h b.start ≡ Done (Committed b.commit)) ⊎ MayDecide h b
 Allowed h (body.BatchRollback b) = AllowsBatchRollback h b
 Allowed h (body.TxnHeartBeat b) = declared h b.start ≢ None
 Allowed h (body.CheckTxnStatus b) = AllowsCheckTxnStatus h b
 Allowed h (body.CheckSecondaryLocks b) = AllowsCheckSecondaryLocks h b
-Allowed h (body.ResolveLock b) = AllowsResolveLock h b
+Allowed h (body.ResolveLock b) = decided h b.start ≡ Done b.fate
 Allowed h _ = Unit {0}

@@ -1,5 +1,5 @@
 -- What a history decides of a transaction, read off what its events do to cells.
-use Rattle.std.specs.Prelude.{◌≡◌, ◌≢◌, ℕ, ◌==◌, ◌&&◌, max, Bool, true, false, cond, List, [], ◌∷◌, Option, Some, None, bytes_eq, Contains}
+use Rattle.std.specs.Prelude.{◌≡◌, ◌≢◌, ℕ, ◌==◌, ◌&&◌, max, true, cond, List, [], ◌∷◌, Option, Some, None, bytes_eq, Contains}
 use Rattle.tx_types.specs.declared.key.Key.{Key}
 use Rattle.tx_types.specs.declared.mutation.Change.{Change}
 use Rattle.tx_types.specs.declared.mutation.Mode.TheVariants.{TwoPhase, Async}
@@ -7,10 +7,11 @@ use Rattle.tx_types.specs.declared.mutation.Fate.{Fate}
 use Rattle.tx_types.specs.declared.mutation.Fate.TheVariants as fate
 use Rattle.tx_types.specs.declared.lock.LockInfo.{LockInfo}
 use Rattle.tx_plan.specs.declared.body.Body.{Body}
-use Rattle.tx_plan.specs.declared.body.Body.TheVariants.{Prewrite, Commit, BatchRollback, CheckTxnStatus, CheckSecondaryLocks, ResolveLock}
+use Rattle.tx_plan.specs.declared.body.Body.TheVariants.{Prewrite, Commit, BatchRollback, CheckTxnStatus, CheckSecondaryLocks}
 use Rattle.tx_plan.specs.declared.answer.Answer.{Answer}
-use Rattle.tx_plan.specs.declared.answer.Answer.TheVariants.{Prewritten, Committed, RolledBack, Missing, Locked, Resolved, Locks, KeyIsLocked, AlreadyRolledBack, AlreadyCommitted, LocksRemain}
+use Rattle.tx_plan.specs.declared.answer.Answer.TheVariants.{Prewritten, Committed, RolledBack, Missing, Locked, Locks, KeyIsLocked, AlreadyRolledBack, AlreadyCommitted, LocksRemain}
 use Rattle.tx_plan.specs.Cells.{Lock, Cells}
+use Rattle.tx_plan.specs.Own.{is_own}
 use Rattle.tx_plan.specs.cases.Prewrite.{lock_of}
 use Rattle.tx_machine.specs.Keys.{mutation_at}
 use Rattle.tx_machine.specs.Machine.{State, Open, Done}
@@ -29,17 +30,8 @@ pub data Effect : Type 0 where
   RollsBack : (t : ℕ) → Effect
   NoEffect : Effect
 
--- whether the lock that stands is that of the transaction that started at t
-abbrev pub is_own : Option Lock → ℕ → Bool
-is_own None t = false
-is_own (Some lock) t = lock.start == t
-
-abbrev pub effect_of_fate : Key → ℕ → Fate → Effect
-effect_of_fate key t (fate.Committed c) = Settles key t c
-effect_of_fate key t fate.Aborted = RollsBack t
-
--- the effect of a request that was answered so, where the cells were these: a
--- repeated answer has none
+-- the effect of a request that was answered so, where the cells were these: a repeated answer has
+-- none, nor has a lock that is resolved, which only follows what was decided
 abbrev pub effect : (Key → Cells) → Body → Answer → Effect
 effect cells (Prewrite b) (Prewritten m) = cond (is_own (cells b.key).lock b.start) NoEffect (Puts b.key (lock_of b m))
 effect cells (Commit b) (Committed c) = cond (is_own (cells b.key).lock b.start) (Settles b.key b.start b.commit)
@@ -47,8 +39,6 @@ effect cells (Commit b) (Committed c) = cond (is_own (cells b.key).lock b.start)
 effect cells (BatchRollback b) RolledBack = RollsBack b.start
 effect cells (CheckTxnStatus b) RolledBack = RollsBack b.start
 effect cells (CheckSecondaryLocks b) Missing = RollsBack b.start
-effect cells (ResolveLock b) Resolved = cond (is_own (cells b.key).lock b.start) (effect_of_fate b.key b.start b.fate)
-    NoEffect
 effect cells _ _ = NoEffect
 
 -- the effect of what a region took after a history

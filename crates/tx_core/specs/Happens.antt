@@ -16,7 +16,7 @@ use Rattle.tx_plan.specs.declared.body.Collect.{Collect}
 use Rattle.tx_plan.specs.declared.body.Body.TheVariants as body
 use Rattle.tx_plan.specs.declared.answer.Answer.TheVariants as reply
 use Rattle.tx_plan.specs.Cells.{Lock, CommitRecord, CommitOf}
-use Rattle.tx_machine.specs.Machine.{Open, Done, Commits, table_of}
+use Rattle.tx_machine.specs.Machine.{Done, Commits, table_of}
 use Rattle.tx_core.specs.declared.event.Declaration.{Declaration}
 use Rattle.tx_core.specs.declared.event.Taken.{Taken}
 use Rattle.tx_core.specs.declared.event.Event.TheVariants.{Took}

@@ -2,9 +2,9 @@ pub mod Histories
 pub mod Decisions
 pub mod Allowed
 pub mod Worlds
-pub mod Shadow
-pub mod EventSteps
 pub mod Truth
+pub mod EventSteps
+pub mod Shadow
 pub mod Recording
 pub mod Laws
 pub mod ReadMarks

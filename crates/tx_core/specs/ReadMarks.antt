@@ -1,5 +1,5 @@
 -- The greatest timestamp that was read in a history.
-use Rattle.std.specs.Prelude.{ℕ, max, List, [], ◌∷◌}
+use Rattle.std.specs.Prelude.{ℕ, max, [], ◌∷◌}
 use Rattle.tx_plan.specs.declared.body.Body.{Body}
 use Rattle.tx_plan.specs.declared.answer.Answer.{Answer}
 use Rattle.tx_plan.specs.Answers.{AnswersFrom, leaves}

@@ -1,25 +1,22 @@
--- The steps of the one-step machine that are read off a history.
+-- The steps of the one-step machine that are read off a history: those that explain a world run.
 use Rattle.std.specs.Prelude.{ℕ, List, [], ◌∷◌, ◌++◌, Option, Some, None}
-use Rattle.tx_types.specs.declared.mutation.KeyValue.{KeyValue}
 use Rattle.tx_types.specs.declared.mutation.Fate.TheVariants.{Committed, Aborted}
-use Rattle.tx_plan.specs.declared.body.Scan.{Scan}
 use Rattle.tx_plan.specs.declared.body.Prewrite.{Prewrite}
 use Rattle.tx_plan.specs.declared.body.Body.{Body}
 use Rattle.tx_plan.specs.declared.body.Body.TheVariants as body
-use Rattle.tx_plan.specs.declared.answer.Answer.{Answer}
-use Rattle.tx_plan.specs.declared.answer.Answer.TheVariants.{Found, Nothing, Rows}
 use Rattle.tx_plan.specs.Answers.{start_in}
 use Rattle.tx_plan.specs.cases.Prewrite.{check_by}
-use Rattle.tx_machine.specs.declared.step.ScanRead.{ScanRead}
 use Rattle.tx_machine.specs.declared.step.Step.{Step}
 use Rattle.tx_machine.specs.declared.step.Step.TheVariants as step
-use Rattle.tx_machine.specs.Machine.{State, Open, Done}
+use Rattle.tx_machine.specs.Machine.{State, Open, Done, table_of}
 use Rattle.tx_core.specs.declared.event.Outcome.{Outcome}
 use Rattle.tx_core.specs.declared.event.Outcome.TheVariants as outcome
 use Rattle.tx_core.specs.declared.event.Taken.{Taken}
 use Rattle.tx_core.specs.declared.event.Event.TheVariants.{Drawn, Began, Declared, Answered, Stopped, Took}
 use Rattle.tx_core.specs.Histories.{History}
 use Rattle.tx_core.specs.Decisions.{Effect, Puts, effect_in, decided}
+use Rattle.tx_core.specs.Truth.{IsTrue}
+use Rattle.tx_core.specs.EventSteps.{reading}
 
 -- the step at which a transaction is decided: what was decided of it before, and what is now
 abbrev pub deciding : ℕ → State → State → List Step
@@ -30,17 +27,6 @@ deciding t _ _ = []
 abbrev pub deciding_in : History → Taken → Option ℕ → List Step
 deciding_in h x None = []
 deciding_in h x (Some t) = deciding t (decided h t) (decided (Took x ∷ h) t)
-
--- a scan and its rows, as the machine reads them
-abbrev pub scan_read : Scan → List KeyValue → ScanRead
-scan_read b rows = record { from = b.from; to = b.to; at = b.at; limit = b.limit; rows = rows }
-
--- the read of an answer that gave a value, none or rows
-abbrev pub reading : Body → Answer → List Step
-reading (body.Get b) (Found v) = step.Read b.key b.at (Some v) ∷ []
-reading (body.Get b) Nothing = step.Read b.key b.at None ∷ []
-reading (body.Scan b) (Rows rows) = step.Scan (scan_read b rows) ∷ []
-reading _ _ = []
 
 -- the read that the check of an insert makes: where its lock was put, there was no value at its
 -- start
@@ -70,3 +56,8 @@ shadow (Answered t o ∷ h) = answering t o ++ shadow h
 shadow (Stopped seat ∷ h) = shadow h
 shadow (Took x ∷ h) = deciding_in h x (start_in x.body)
     ++ (checking x.body (effect_in h x) ++ (reading x.body x.answer ++ shadow h))
+
+-- each answer is true where it stands: of the table after the steps that are read off its own event
+abbrev pub AllTrue : History → Type 0
+AllTrue [] = Unit {0}
+AllTrue (e ∷ h) = AllTrue h × IsTrue (table_of (shadow (e ∷ h))) e

@@ -1,26 +1,31 @@
 -- What the answers of a history say of the one-step machine.
-use Rattle.std.specs.Prelude.{◌≡◌, ◌≢◌, ℕ, ◌<◌, ◌≤◌, List, [], ◌∷◌, Option, Some, None, Contains}
+use Rattle.std.specs.Prelude.{◌≡◌, ◌≢◌, ℕ, ◌<◌, ◌≤◌, List, Option, Some, None, Contains}
 use Rattle.tx_types.specs.declared.key.Key.{Key}
 use Rattle.tx_types.specs.declared.value.Value.{Value}
 use Rattle.tx_types.specs.declared.lock.LockInfo.{LockInfo}
 use Rattle.tx_types.specs.declared.mutation.Change.{Change}
 use Rattle.tx_types.specs.declared.mutation.Mutation.{Mutation}
+use Rattle.tx_types.specs.declared.mutation.KeyValue.{KeyValue}
 use Rattle.tx_types.specs.declared.mutation.Fate.{Fate}
 use Rattle.tx_types.specs.declared.mutation.Fate.TheVariants as fate
+use Rattle.tx_plan.specs.declared.body.Scan.{Scan}
 use Rattle.tx_plan.specs.declared.body.Body.{Body}
 use Rattle.tx_plan.specs.declared.body.Body.TheVariants as body
 use Rattle.tx_plan.specs.declared.answer.Answer.{Answer}
 use Rattle.tx_plan.specs.declared.answer.Answer.TheVariants.{Found, Nothing, Rows, Resolved, WriteConflict, CommitTsExpired, TxnNotFound, AlreadyExists}
 use Rattle.tx_plan.specs.Answers.{start_in}
 use Rattle.tx_machine.specs.Keys.{mutation_at}
-use Rattle.tx_machine.specs.Machine.{State, Open, Done, Table, Commits, Sees, SeesRows, table_of}
+use Rattle.tx_machine.specs.declared.step.ScanRead.{ScanRead}
+use Rattle.tx_machine.specs.Machine.{State, Open, Done, Table, Commits, Sees, SeesRows}
 use Rattle.tx_core.specs.declared.event.Outcome.{Outcome}
 use Rattle.tx_core.specs.declared.event.Outcome.TheVariants as outcome
 use Rattle.tx_core.specs.declared.event.Event.{Event}
 use Rattle.tx_core.specs.declared.event.Event.TheVariants.{Answered, Took}
-use Rattle.tx_core.specs.Histories.{History}
 use Rattle.tx_core.specs.Decisions.{fate_in, infos_in}
-use Rattle.tx_core.specs.Shadow.{shadow, scan_read}
+
+-- a scan and its rows, as the machine reads them
+abbrev pub scan_read : Scan → List KeyValue → ScanRead
+scan_read b rows = record { from = b.from; to = b.to; at = b.at; limit = b.limit; rows = rows }
 
 -- the transaction that started at t has ended so in the machine
 abbrev pub HasEnded : Table → ℕ → Fate → Type 0
@@ -68,7 +73,7 @@ IsTrueAnswer table (body.ResolveLock b) Resolved = HasEnded table b.start b.fate
 -- together do (`decided_async`). That no lock and no record stands on a key (E6) is so before an
 -- end and after it. A time to live, a safe point that is raised or met (E7) and a collection are
 -- not of the machine, and a number above the last one that a seat had loaded (E8) may be drawn by
--- now. What is told of locks is `TellsLocks`.
+-- now. What is told of locks is `IsToldLock`.
 IsTrueAnswer table b a = EndsBy table (start_in b) (fate_in a)
 
 -- A lock that an answer shows (E1, E9 and those that are told where they stand) is of a transaction
@@ -80,10 +85,6 @@ pub record IsToldLock (table : Table) (info : LockInfo) : Type 0 where
   pub within : mutation_at set info.key ≢ None
   pub above : (c : ℕ) → state ≡ Done (fate.Committed c) → info.min ≤ c
 
--- each lock that it shows is such a one
-abbrev pub TellsLocks : Table → Answer → Type 0
-TellsLocks table a = (info : LockInfo) → Contains (infos_in a) info → IsToldLock table info
-
 -- a session's outcome: committed and aborted mean that the machine's transaction has ended so, and
 -- read-only that it has declared nothing; unknown says nothing of it
 abbrev pub IsTrueOutcome : Table → ℕ → Outcome → Type 0
@@ -92,13 +93,9 @@ IsTrueOutcome table t outcome.Aborted = HasEnded table t fate.Aborted
 IsTrueOutcome table t outcome.ReadOnly = table.row t ≡ Some record { changes = None; state = Open }
 IsTrueOutcome table t (outcome.Unknown cause) = Unit {0}
 
--- an event's answer is true of a table
+-- an event's answer is true of a table, and so is each lock that it shows
 abbrev pub IsTrue : Table → Event → Type 0
-IsTrue table (Took x) = IsTrueAnswer table x.body x.answer × TellsLocks table x.answer
+IsTrue table (Took x) = IsTrueAnswer table x.body x.answer
+    × ((info : LockInfo) → Contains (infos_in x.answer) info → IsToldLock table info)
 IsTrue table (Answered t o) = IsTrueOutcome table t o
 IsTrue table _ = Unit {0}
-
--- each answer is true where it stands: of the machine's table after the steps of its own event
-abbrev pub AllTrue : History → Type 0
-AllTrue [] = Unit {0}
-AllTrue (e ∷ h) = AllTrue h × IsTrue (table_of (shadow (e ∷ h))) e

@@ -18,7 +18,7 @@ use Rattle.tx_core.specs.declared.event.Outcome.TheVariants as outcome
 use Rattle.tx_core.specs.declared.event.Taken.{Taken}
 use Rattle.tx_core.specs.declared.event.Event.{Event}
 use Rattle.tx_core.specs.declared.event.Event.TheVariants.{Drawn, Began, Declared, Answered, Stopped, Took}
-use Rattle.tx_core.specs.Histories.{History, last, drawer, began, declared, answered, DrewSince, set_at, left, Among, WasLast}
+use Rattle.tx_core.specs.Histories.{History, last, drawer, began, declared, answered, DrewSince, set_at, left, Among}
 use Rattle.tx_core.specs.Decisions.{accepted, greatest, fate_in}
 use Rattle.tx_core.specs.Allowed.{Allowed}
 
@@ -69,13 +69,13 @@ pub record MayDeclare (h : History) (d : Declaration) : Type 0 where
   pub distinct : IsDistinct d.changes
   pub drew : DrewSince h d.start d.drawn
 
--- A region takes a request that is allowed and that it holds, having loaded the last number of some
--- beginning, and answers by the case tables from what its own events left.
+-- A region takes a request that is allowed and that it holds, having loaded a number at or below the
+-- last one, and answers by the case tables from what its own events left.
 pub record MayTake (bounds : List Key) (h : History) (x : Taken) : Type 0 where
   pub region : x.region ≤ length bounds
   pub allowed : Allowed h x.body
   pub holds : Holds bounds x.region x.body
-  pub loaded : WasLast h x.loaded
+  pub loaded : x.loaded ≤ last h
   pub answers : Answers (left h x.region) x.loaded (last h) x.body x.answer
 
 -- What may come after a history, over regions with these bounds. A draw gives a number above

@@ -2,23 +2,32 @@
 //! one-step machine says. And that it is not about nothing: runs that exist.
 ghost use Rattle.std.specs.Prelude.{◌≡◌, ℕ, List};
 ghost use Rattle.tx_core.specs.Decisions.{decided};
-ghost use Rattle.tx_core.specs.EventSteps.{AreStepsOf};
+ghost use Rattle.tx_core.specs.EventSteps.{Explains};
 ghost use Rattle.tx_core.specs.Happens.{Happens, CommitsInTwoPhases, CommitsByLatePrewrite, CommitsAfterFallBack, PushesMinimum, AbortsByStatus, AbortsBySecondary, OverlapsRollback, FindsCommit, FindsByStatus, DropsRecord, ReadsBesideCollection, CommitsInsert, RefusesInsert, InsertsOverDelete, ScanMeetsLock};
 ghost use Rattle.tx_core.specs.Histories.{History};
-ghost use Rattle.tx_core.specs.Shadow.{shadow};
-ghost use Rattle.tx_core.specs.Truth.{AllTrue, HasEnded};
+ghost use Rattle.tx_core.specs.Shadow.{shadow, AllTrue};
+ghost use Rattle.tx_core.specs.Truth.{HasEnded};
 ghost use Rattle.tx_core.specs.Worlds.{IsWorldRun};
+ghost use Rattle.tx_machine.specs.declared.step.Step.{Step};
 ghost use Rattle.tx_machine.specs.Machine.{IsRun, Done, table_of};
 ghost use Rattle.tx_types.specs.declared.key.Key.{Key};
 ghost use Rattle.tx_types.specs.declared.mutation.Fate.{Fate};
 
-/// Of every world run, whatever the bounds between the regions: the steps of the machine that are
-/// read off it are those of its events, of each event all and no others, in the order of the
-/// events; they are a run of the machine; each answer is true of the machine's table where it
-/// stands; and what is decided of a transaction, which is what a session or a resolver may say of
-/// it, is how it has ended there.
+/// Of every world run, whatever the bounds between the regions, there are steps of the one-step
+/// machine that explain it: of each event all its own and no others, in the order of the events, and
+/// each answer is true of the machine's table where it stands. They are a run of the machine; and
+/// what is decided of a transaction, which is what a session or a resolver may say of it, is how it
+/// has ended there.
 pub fn every_run()
-    ensures steps { (bounds : List Key) (events : History) → IsWorldRun bounds events → AreStepsOf events (shadow events) }
+    ensures { (bounds : List Key) (events : History) → IsWorldRun bounds events → (steps : List Step)
+        × Explains steps events × IsRun steps
+        × ((t : ℕ) (end : Fate) → decided events t ≡ Done end → HasEnded (table_of steps) t end) }
+{}
+
+/// These steps can be read off the events one by one: those that `shadow` gives are such ones. So
+/// what holds of them holds of the run.
+pub fn shadow_is_the_run()
+    ensures steps { (bounds : List Key) (events : History) → IsWorldRun bounds events → Explains (shadow events) events }
     ensures run { (bounds : List Key) (events : History) → IsWorldRun bounds events → IsRun (shadow events) }
     ensures answers { (bounds : List Key) (events : History) → IsWorldRun bounds events → AllTrue events }
     ensures decisions { (bounds : List Key) (events : History) → IsWorldRun bounds events

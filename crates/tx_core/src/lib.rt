@@ -12,7 +12,7 @@ mod laws;
 pub use answers::one_answer;
 pub use event::{Declaration, Event, Outcome, Taken, UnknownCause};
 pub use fate::fate_in;
-pub use headline::{every_run, runs_exist};
+pub use headline::{every_run, runs_exist, shadow_is_the_run};
 pub use laws::{
     allowed_stays, decided_async, decisions_come_first, parts_make_the_whole, prewritten_lock,
     read_only_stays, told_lock,

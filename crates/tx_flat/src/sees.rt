@@ -98,15 +98,14 @@ impl Sees for FlatCells {
         })
     }
 
-    fn number(&self, alloc: Global, key: &SpeltKey<'_>) -> Result<u64, Fault> {
-        let _ = alloc;
+    fn number(&self, key: &SpeltKey<'_>) -> u64 {
         let slot = slot(key);
         if self.numbers.len() <= slot {
-            return Ok(0);
+            return 0;
         }
         match self.numbers[slot].get(key.bytes()) {
-            Some(number) => Ok(*number),
-            None => Ok(0),
+            Some(number) => *number,
+            None => 0,
         }
     }
 }

@@ -16,7 +16,7 @@
 //! ```
 //!
 //! Who opens a journal passes the `Opened` on, with `Brand`, to a function that is generic in
-//! `J: Naming`, and that one names it: the proof of this one call picks the table, the bounds and
+//! `J: JournalId`, and that one names it: the proof of this one call picks the table, the bounds and
 //! the number of seats that J stands for (as each test here does).
 //!
 //! No value of the journal holds a reference: the seats own the table together, and a
@@ -38,5 +38,5 @@ pub use reply::Reply;
 pub use request::Request;
 pub use seat::Seat;
 pub use sender::{Lost, Sender};
-pub use told::{Told, Unnamed};
+pub use told::{Told, Unnamed, one_history};
 pub use view::{JournalId, StepEvent};

@@ -16,8 +16,8 @@ ghost use Rattle.tx_journal.specs.Rules.{Belongs, Owns, Adds, IsSeatsToken};
 
 use crate::told::Told;
 use crate::view::{
-    APART, Add, Advance, COUNTS, Hear, Home, JournalId, Learn, Look, LookRead, MAX_TS, StepEvent,
-    Tell, Token, WORDS, Words,
+    APART, Add, Advance, COUNTS, Hear, Home, JournalId, LAST, Learn, Look, LookRead, MAX_TS,
+    StepEvent, Tell, Token, WORDS, Words,
 };
 use std::marker::{Brand, Model, PhantomData};
 use std::sync::Arc;
@@ -154,7 +154,7 @@ impl<J: JournalId> Seat<J> {
         let found = self
             .words
             .shared
-            .fetch_add::<Advance>(&mut self.token, 0, ticks);
+            .fetch_add::<Advance>(&mut self.token, LAST, ticks);
         self.left -= ticks;
         Ok(Ts::new(found + ticks))
     }
@@ -165,7 +165,7 @@ impl<J: JournalId> Seat<J> {
         ensures seen { HasSeen J.bounds self.old.seat self.old.events self.new.events }
         ensures last { (result ≡ last self.new.events) × (result ≤ greatest_ts) }
     {
-        Ts::new(self.words.shared.load::<Look>(&mut self.token, 0))
+        Ts::new(self.words.shared.load::<Look>(&mut self.token, LAST))
     }
 
     /// The greatest timestamp that was read, by one load: this seat then knows the whole history.

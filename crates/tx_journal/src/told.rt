@@ -1,8 +1,10 @@
 //! What was seen of a journal's history, to be handed from seat to seat.
-ghost use Rattle.std.specs.Prelude.{◌≡◌, []};
+ghost use Rattle.std.specs.Prelude.{◌≡◌, ◌⊎◌, []};
 ghost use Rattle.std.specs.Arc.{arc_value};
+ghost use Rattle.tx_core.specs.Histories.{Begins};
 ghost use Rattle.tx_core.specs.Recording.{AllOfSeats};
 ghost use Rattle.tx_core.specs.Worlds.{IsWorldRun};
+ghost use Rattle.tx_journal.specs.Known.{HasSeen};
 ghost use Rattle.tx_journal.specs.Rules.{IsToldsToken};
 
 use crate::seat::Seat;
@@ -75,6 +77,20 @@ impl<J: JournalId> Told<J> {
         let Told { token, of: _ } = self;
         Unnamed { words, token }
     }
+}
+
+/// The law of one history: of two things that were told in one journal, one begins with the other,
+/// whoever told them. A seat that learns both tells so; it makes no event.
+pub fn one_history<J: JournalId>(by: &mut Seat<J>, one: &mut Told<J>, other: &mut Told<J>)
+    ensures same { (by.new.seat ≡ by.old.seat) × (by.new.ticks ≡ by.old.ticks) }
+    ensures seen { HasSeen J.bounds by.old.seat by.old.events by.new.events }
+    ensures told { (one.new ≡ one.old) × (other.new ≡ other.old) }
+    ensures either { Begins one.old other.old ⊎ Begins other.old one.old }
+{
+    let first = by.copy(one);
+    let second = by.copy(other);
+    by.learn(first);
+    by.learn(second);
 }
 
 /// What a `Told` stands for, of a journal that has no name here. Who names a journal gives out

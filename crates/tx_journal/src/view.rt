@@ -1,7 +1,8 @@
 //! The journal's table: what a token of it knows, the rule that every step keeps, and what each
-//! step tells. The table's first word is the last number drawn, its last one the greatest timestamp
-//! read. The seats are spread over the words between them, each of which counts events of its
-//! seats; which events these were, proofs alone know.
+//! step tells. One word is the last number drawn, one the greatest timestamp read. The seats are
+//! spread over the words before these two, each of which counts events of its seats; which events
+//! these were, proofs alone know. The first word is never written: a step that changes what tokens
+//! know, and nothing else, loads it, so that it finds the line where it left it.
 use atomic_table::{Join, Play, Seat as TableSeat, Shared, Split, Table, TableRule};
 use std::alloc::Global;
 use std::collections::LinkedList;
@@ -19,8 +20,11 @@ pub const COUNTS: usize = 64;
 /// The word that is the greatest timestamp read.
 pub const MAX_TS: usize = 1_040;
 
+/// The word that is the last number drawn.
+pub const LAST: usize = 1_056;
+
 /// How many words the table has, of which those are used whose numbers are multiples of `APART`.
-pub const WORDS: usize = 1_056;
+pub const WORDS: usize = 1_072;
 
 /// What is fixed when a journal is opened: the keys between its regions, and how many seats it has.
 #[derive(Drop)]
@@ -78,7 +82,7 @@ impl JournalId for Brand {
 }
 
 /// The rule of the table: there is one world run, each seat has seen a beginning of it that has all
-/// of the seat's own events, the first word is its last number, and the word `MAX_TS` the greatest
+/// of the seat's own events, the word `LAST` is its last number, and the word `MAX_TS` the greatest
 /// timestamp that was read in it.
 pub struct Law;
 
@@ -113,7 +117,7 @@ impl<E: StepEvent> Play<u8, View> for Add<E> {
     ghost then = { Adds E.event };
 }
 
-/// An add on the first word: a number is drawn.
+/// An add on the word `LAST`: a number is drawn.
 pub struct Advance;
 
 impl Play<u8, View> for Advance {
@@ -122,7 +126,7 @@ impl Play<u8, View> for Advance {
     ghost then = { Advances };
 }
 
-/// A load of the first word: the whole history is seen.
+/// A load of the word `LAST`: the whole history is seen.
 pub struct Look;
 
 impl Play<u8, View> for Look {
@@ -140,7 +144,7 @@ impl Play<u8, View> for LookRead {
     ghost then = { LooksRead };
 }
 
-/// A load of the first word: of what was seen and heard the longer is seen.
+/// A load of the first word, which nobody writes: of what was seen and heard the longer is seen.
 pub struct Learn;
 
 impl Play<u8, View> for Learn {

@@ -6,7 +6,7 @@ use Rattle.std.proofs.lemmas.Bool.{cases_Bool, cases_lt, lt-ltb, le-ltb, and_par
 use Rattle.tx_types.specs.declared.mutation.Mutation.{Mutation}
 use Rattle.tx_plan.specs.declared.key_change.KeyChange.TheVariants as change
 use Rattle.tx_plan.specs.Cells.{Lock, CommitRecord, Write, CommitOf, Rollback, Writes, Cells, with_lock, with_write}
-use Rattle.tx_plan.specs.Own.{OwnLock, OwnCommit, OthersCommit, OwnRollback, marked, rolled, leave_rollback, without_own, roll_back, is_rollback, commit_of, lock_committed}
+use Rattle.tx_plan.specs.Own.{OwnLock, OwnCommit, OthersCommit, OwnRollback, marked, rolled, leave_rollback, is_own, roll_back, is_rollback, commit_of, lock_committed}
 use Rattle.tx_plan.specs.Changes.{HasCommitAt}
 use Rattle.tx_plan.specs.Sound.{IsSound}
 use Rattle.tx_types.specs.Keys.{is_visible}
@@ -274,11 +274,11 @@ roll_fine s cells t lock is fresh was same_lock =
       };
     }
 
-other_stays : (o : Option Lock) (t : ℕ) → ((l : Lock) → o ≡ Some l → l.start ≢ t) → without_own o t ≡ o
+other_stays : (o : Option Lock) (t : ℕ) → ((l : Lock) → o ≡ Some l → l.start ≢ t) → cond (is_own o t) None o ≡ o
 other_stays None t others = refl
 other_stays (Some l) t others = elim (nat_test l.start t) [ inl e ↦ absurd (others l refl e.1) | inr e ↦ rw e.0 refl ]
 
-other_was : (o : Option Lock) (t : ℕ) (l : Lock) → without_own o t ≡ Some l → (o ≡ Some l) × (l.start ≢ t)
+other_was : (o : Option Lock) (t : ℕ) (l : Lock) → cond (is_own o t) None o ≡ Some l → (o ≡ Some l) × (l.start ≢ t)
 other_was None t l e = absurd (cc e)
 other_was (Some x) t l e =
     elim (nat_test x.start t) [
@@ -290,7 +290,7 @@ other_was (Some x) t l e =
 -- it is rolled back
 pub roll_back_fine : (s : ℕ) (cells : Cells) (t : ℕ) → IsRegular s cells → s ≤ t → IsFine s cells (roll_back cells t)
 roll_back_fine s cells t is fresh =
-    roll_fine s cells t (without_own cells.lock t) is fresh (other_was cells.lock t) (λ stood.
+    roll_fine s cells t (cond (is_own cells.lock t) None cells.lock) is fresh (other_was cells.lock t) (λ stood.
     let others : (l : Lock) → cells.lock ≡ Some l → l.start ≢ t =
     λ l e own. is.unrolled l e (subst (OwnRollback cells.write) (sym own) stood) in
     subst (λ o. LockLater cells.lock o) (sym (other_stays cells.lock t others)) (lock_same cells.lock))

@@ -12,8 +12,8 @@ use Rattle.tx_plan.specs.declared.answer.Answer.TheVariants.{Raised, Collected}
 use Rattle.tx_plan.specs.Cells.{Region, Cells, with_cells, new_region}
 use Rattle.tx_plan.specs.Answers.{Answers, leaves}
 use Rattle.tx_plan.specs.Plans.{with_read}
-use Rattle.tx_plan.specs.cases.Collect.{AnswersCollectBy, HasCollected, leaves_collect, kept}
-use Rattle.tx_plan.specs.cases.RaiseSafe.{AnswersRaiseSafe, leaves_raise_safe}
+use Rattle.tx_plan.specs.cases.Collect.{AnswersCollectBy, HasCollected, kept}
+use Rattle.tx_plan.specs.cases.RaiseSafe.{AnswersRaiseSafe}
 use Rattle.tx_plan.proofs.Sound.{sound_none}
 use Rattle.tx_later.specs.Later.{IsRegular, AreRegular, IsLater, GoesOn}
 use Rattle.tx_later.proofs.Order.{later_same, later_more}
@@ -95,7 +95,7 @@ module _ (before : Region) (is : AreRegular before) where
       }
 
   raises : (loaded : ℕ) (b : RaiseSafe) (a : Answer) → AnswersRaiseSafe before.safe loaded b a
-      → Steps before (leaves_raise_safe before b a)
+      → Steps before (leaves before (body.RaiseSafe b) a)
   raises loaded b Raised (inl x) = absurd (cc (x.1))
   raises loaded b Raised (inr (no0, inl x)) = absurd (cc (x.1))
   raises loaded b Raised (inr (no0, inr (no1, rest))) =
@@ -108,7 +108,7 @@ module _ (before : Region) (is : AreRegular before) where
   raises loaded b _ answers = still
 
   collects : (b : Collect) (a : Answer) → AnswersCollectBy HasCollected before.cells before.safe b a
-      → Steps before (leaves_collect before b a)
+      → Steps before (leaves before (body.Collect b) a)
   collects b (Collected records values) (inl x) = absurd (cc (x.1))
   collects b (Collected records values) (inr (no0, rest)) =
       let same : b.safe ≡ before.safe =

@@ -15,15 +15,17 @@ use Rattle.tx_plan.specs.declared.answer.Answer.{Answer}
 use Rattle.tx_plan.specs.declared.answer.Answer.TheVariants.{Committed, Prewritten, RolledBack, Missing, Locked, Ttl, Resolved, KeyIsLocked, WriteConflict, AlreadyRolledBack, AlreadyCommitted, CommitTsExpired, TxnLockNotFound, BelowSafePoint, FutureTimestamp, TxnNotFound, AlreadyExists}
 use Rattle.tx_plan.specs.Cells.{Lock, CommitRecord, Cells, info_of, with_lock}
 use Rattle.tx_plan.specs.Own.{OwnLock, OwnCommit, OthersCommit, OwnRollback, on_own_lock, leave_rollback, roll_back, lock_committed, commit_lock}
-use Rattle.tx_plan.specs.cases.Prewrite.{AnswersPrewrite, leaves_prewrite, lock_of, named_minimum}
-use Rattle.tx_plan.specs.cases.Commit.{AnswersCommit, CommitsLock, leaves_commit}
-use Rattle.tx_plan.specs.cases.BatchRollback.{AnswersBatchRollback, leaves_batch_rollback}
-use Rattle.tx_plan.specs.cases.TxnHeartBeat.{AnswersTxnHeartBeat, leaves_txn_heart_beat, with_ttl}
-use Rattle.tx_plan.specs.cases.CheckTxnStatus.{AnswersCheckTxnStatus, ChecksLock, leaves_check_txn_status, with_minimum}
-use Rattle.tx_plan.specs.cases.CheckSecondaryLocks.{AnswersCheckSecondaryLocks, leaves_check_secondary_locks}
-use Rattle.tx_plan.specs.cases.ResolveLock.{AnswersResolveLock, ResolvesLock, leaves_resolve_lock, resolve}
+use Rattle.tx_plan.specs.cases.Prewrite.{AnswersPrewrite, lock_of, named_minimum}
+use Rattle.tx_plan.specs.cases.Commit.{AnswersCommit, CommitsLock}
+use Rattle.tx_plan.specs.cases.BatchRollback.{AnswersBatchRollback}
+use Rattle.tx_plan.specs.cases.TxnHeartBeat.{AnswersTxnHeartBeat, with_ttl}
+use Rattle.tx_plan.specs.cases.CheckTxnStatus.{AnswersCheckTxnStatus, ChecksLock, with_minimum}
+use Rattle.tx_plan.specs.cases.CheckSecondaryLocks.{AnswersCheckSecondaryLocks}
+use Rattle.tx_plan.specs.cases.ResolveLock.{AnswersResolveLock, ResolvesLock, resolve}
 use Rattle.tx_later.specs.Later.{IsLengthened, IsRegular}
 use Rattle.tx_later.proofs.Keys.{IsFine, fine_same, put_fine, lengthen_fine, commit_fine, roll_back_fine, leave_fine}
+use Rattle.tx_plan.specs.Answers.{leaves_on}
+use Rattle.tx_plan.specs.declared.body.Body.TheVariants as asked
 
 none_is : (o : Option Lock) → ((x : Lock) → o ≡ Some x → ⊥) → o ≡ None
 none_is None never = refl
@@ -70,10 +72,10 @@ module _ (s : ℕ) (cells : Cells) (is : IsRegular s cells) where
       (λ rec other. free rec record { stands = other.stands; other = λ same. other.other (same ∙ sym own.own) }))
 
   module _ (b : Commit) where
-    to_commit : (a x : Answer) → a ≡ x → Fine (leaves_commit cells b x) → Fine (leaves_commit cells b a)
-    to_commit a x e f = subst (λ y. Fine (leaves_commit cells b y)) (sym e) f
+    to_commit : (a x : Answer) → a ≡ x → Fine (leaves_on cells (asked.Commit b) x) → Fine (leaves_on cells (asked.Commit b) a)
+    to_commit a x e f = subst (λ y. Fine (leaves_on cells (asked.Commit b) y)) (sym e) f
 
-    pub fine_commit : (a : Answer) → AnswersCommit cells s b a → Fine (leaves_commit cells b a)
+    pub fine_commit : (a : Answer) → AnswersCommit cells s b a → Fine (leaves_on cells (asked.Commit b) a)
     fine_commit a (inl x) = to_commit a (BelowSafePoint s) x.1 stays
     fine_commit a (inr (no0, inl (lock, own, inl x))) = to_commit a (CommitTsExpired lock.min) x.1 stays
     fine_commit a (inr (no0, inl (lock, own, inr (no1, inl (rec, x, e))))) =
@@ -90,10 +92,10 @@ module _ (s : ℕ) (cells : Cells) (is : IsRegular s cells) where
   -- ---- BatchRollback
 
   module _ (b : BatchRollback) where
-    to_batch : (a x : Answer) → a ≡ x → Fine (leaves_batch_rollback cells b x) → Fine (leaves_batch_rollback cells b a)
-    to_batch a x e f = subst (λ y. Fine (leaves_batch_rollback cells b y)) (sym e) f
+    to_batch : (a x : Answer) → a ≡ x → Fine (leaves_on cells (asked.BatchRollback b) x) → Fine (leaves_on cells (asked.BatchRollback b) a)
+    to_batch a x e f = subst (λ y. Fine (leaves_on cells (asked.BatchRollback b) y)) (sym e) f
 
-    pub fine_batch_rollback : (a : Answer) → AnswersBatchRollback cells s b a → Fine (leaves_batch_rollback cells b a)
+    pub fine_batch_rollback : (a : Answer) → AnswersBatchRollback cells s b a → Fine (leaves_on cells (asked.BatchRollback b) a)
     fine_batch_rollback a (inl x) = to_batch a (BelowSafePoint s) x.1 stays
     fine_batch_rollback a (inr (no0, inl (lock, own, e))) =
         to_batch a RolledBack e (roll_back_fine s cells b.start is (at_least b.start s no0))
@@ -104,10 +106,10 @@ module _ (s : ℕ) (cells : Cells) (is : IsRegular s cells) where
   -- ---- TxnHeartBeat
 
   module _ (b : TxnHeartBeat) where
-    to_beat : (a x : Answer) → a ≡ x → Fine (leaves_txn_heart_beat cells b x) → Fine (leaves_txn_heart_beat cells b a)
-    to_beat a x e f = subst (λ y. Fine (leaves_txn_heart_beat cells b y)) (sym e) f
+    to_beat : (a x : Answer) → a ≡ x → Fine (leaves_on cells (asked.TxnHeartBeat b) x) → Fine (leaves_on cells (asked.TxnHeartBeat b) a)
+    to_beat a x e f = subst (λ y. Fine (leaves_on cells (asked.TxnHeartBeat b) y)) (sym e) f
 
-    pub fine_txn_heart_beat : (a : Answer) → AnswersTxnHeartBeat cells s b a → Fine (leaves_txn_heart_beat cells b a)
+    pub fine_txn_heart_beat : (a : Answer) → AnswersTxnHeartBeat cells s b a → Fine (leaves_on cells (asked.TxnHeartBeat b) a)
     fine_txn_heart_beat a (inl x) = to_beat a (BelowSafePoint s) x.1 stays
     fine_txn_heart_beat a (inr (no0, inl (lock, own, e))) =
         let new = with_ttl lock (max lock.ttl b.ttl) in
@@ -129,13 +131,13 @@ module _ (s : ℕ) (cells : Cells) (is : IsRegular s cells) where
   -- ---- CheckTxnStatus
 
   module _ (b : CheckTxnStatus) where
-    to_check : (a x : Answer) → a ≡ x → Fine (leaves_check_txn_status cells b x)
-        → Fine (leaves_check_txn_status cells b a)
-    to_check a x e f = subst (λ y. Fine (leaves_check_txn_status cells b y)) (sym e) f
+    to_check : (a x : Answer) → a ≡ x → Fine (leaves_on cells (asked.CheckTxnStatus b) x)
+        → Fine (leaves_on cells (asked.CheckTxnStatus b) a)
+    to_check a x e f = subst (λ y. Fine (leaves_on cells (asked.CheckTxnStatus b) y)) (sym e) f
 
     -- it is told, with a minimum that is no smaller
     tells : (lock : Lock) (m : ℕ) → OwnLock cells.lock b.start lock → lock.min ≤ m
-        → Fine (leaves_check_txn_status cells b (Locked (info_of b.key (with_minimum lock m))))
+        → Fine (leaves_on cells (asked.CheckTxnStatus b) (Locked (info_of b.key (with_minimum lock m))))
     tells lock m own more =
         by (with_lock cells (Some (with_minimum lock m))) _
         (own_is cells b.start (λ l. with_lock cells (Some (with_minimum l m))) lock own)
@@ -151,7 +153,7 @@ module _ (s : ℕ) (cells : Cells) (is : IsRegular s cells) where
         })
 
     checks : (lock : Lock) → OwnLock cells.lock b.start lock → (b.start < s → ⊥) → (a : Answer) → ChecksLock b lock a
-        → Fine (leaves_check_txn_status cells b a)
+        → Fine (leaves_on cells (asked.CheckTxnStatus b) a)
     checks lock own fresh a (inl x) =
         to_check a (Locked (info_of b.key lock)) x.1 (tells lock lock.min own (omega arith))
     checks lock own fresh a (inr (no0, inl x)) =
@@ -163,7 +165,7 @@ module _ (s : ℕ) (cells : Cells) (is : IsRegular s cells) where
         to_check a (Locked (info_of b.key lock)) e (tells lock lock.min own (omega arith))
 
     pub fine_check_txn_status : (loaded : ℕ) (a : Answer) → AnswersCheckTxnStatus cells s loaded b a
-        → Fine (leaves_check_txn_status cells b a)
+        → Fine (leaves_on cells (asked.CheckTxnStatus b) a)
     fine_check_txn_status l a (inl x) = to_check a (BelowSafePoint s) x.1 stays
     fine_check_txn_status l a (inr (no0, inl x)) = to_check a (FutureTimestamp l) x.1 stays
     fine_check_txn_status l a (inr (no0, inr (no1, inl (lock, own, x)))) = checks lock own no0 a x
@@ -178,12 +180,12 @@ module _ (s : ℕ) (cells : Cells) (is : IsRegular s cells) where
   -- ---- CheckSecondaryLocks
 
   module _ (b : CheckSecondaryLocks) where
-    to_secondary : (a x : Answer) → a ≡ x → Fine (leaves_check_secondary_locks cells b x)
-        → Fine (leaves_check_secondary_locks cells b a)
-    to_secondary a x e f = subst (λ y. Fine (leaves_check_secondary_locks cells b y)) (sym e) f
+    to_secondary : (a x : Answer) → a ≡ x → Fine (leaves_on cells (asked.CheckSecondaryLocks b) x)
+        → Fine (leaves_on cells (asked.CheckSecondaryLocks b) a)
+    to_secondary a x e f = subst (λ y. Fine (leaves_on cells (asked.CheckSecondaryLocks b) y)) (sym e) f
 
     pub fine_check_secondary_locks : (a : Answer) → AnswersCheckSecondaryLocks cells s b a
-        → Fine (leaves_check_secondary_locks cells b a)
+        → Fine (leaves_on cells (asked.CheckSecondaryLocks b) a)
     fine_check_secondary_locks a (inl x) = to_secondary a (BelowSafePoint s) x.1 stays
     fine_check_secondary_locks a (inr (no0, inl (lock, own, e))) = to_secondary a (Locked (info_of b.key lock)) e stays
     fine_check_secondary_locks a (inr (no0, inr (no1, inl (c, own, e)))) = to_secondary a (Committed c) e stays
@@ -193,14 +195,14 @@ module _ (s : ℕ) (cells : Cells) (is : IsRegular s cells) where
   -- ---- ResolveLock
 
   module _ (b : ResolveLock) where
-    to_resolve : (a x : Answer) → a ≡ x → Fine (leaves_resolve_lock cells b x) → Fine (leaves_resolve_lock cells b a)
-    to_resolve a x e f = subst (λ y. Fine (leaves_resolve_lock cells b y)) (sym e) f
+    to_resolve : (a x : Answer) → a ≡ x → Fine (leaves_on cells (asked.ResolveLock b) x) → Fine (leaves_on cells (asked.ResolveLock b) a)
+    to_resolve a x e f = subst (λ y. Fine (leaves_on cells (asked.ResolveLock b) y)) (sym e) f
 
     resolved : Answer → Type 0
-    resolved a = Fine (leaves_resolve_lock cells b a)
+    resolved a = Fine (leaves_on cells (asked.ResolveLock b) a)
 
     resolves : (lock : Lock) → OwnLock cells.lock b.start lock → (b.start < s → ⊥) → (f : _) → b.fate ≡ f → (a : Answer)
-        → ResolvesLock cells.write b.start lock f a → Fine (leaves_resolve_lock cells b a)
+        → ResolvesLock cells.write b.start lock f a → Fine (leaves_on cells (asked.ResolveLock b) a)
     resolves lock own fresh fate.Aborted is_fate a e =
         to_resolve a Resolved e
         (by (roll_back cells b.start) _ (ap (resolve cells b.start) is_fate
@@ -219,7 +221,7 @@ module _ (s : ℕ) (cells : Cells) (is : IsRegular s cells) where
     nothing unlocked fate.Aborted e = own_none cells b.start (λ l. roll_back cells b.start) unlocked
     nothing unlocked (fate.Committed c) e = own_none cells b.start (λ l. lock_committed cells c l) unlocked
 
-    pub fine_resolve_lock : (a : Answer) → AnswersResolveLock cells s b a → Fine (leaves_resolve_lock cells b a)
+    pub fine_resolve_lock : (a : Answer) → AnswersResolveLock cells s b a → Fine (leaves_on cells (asked.ResolveLock b) a)
     fine_resolve_lock a (inl x) = to_resolve a (BelowSafePoint s) x.1 stays
     fine_resolve_lock a (inr (no0, inl (lock, own, x))) = resolves lock own no0 b.fate refl a x
     fine_resolve_lock a (inr (no0, inr (no1, e))) =
@@ -228,8 +230,8 @@ module _ (s : ℕ) (cells : Cells) (is : IsRegular s cells) where
   -- ---- Prewrite
 
   module _ (b : Prewrite) where
-    to_prewrite : (a x : Answer) → a ≡ x → Fine (leaves_prewrite cells b x) → Fine (leaves_prewrite cells b a)
-    to_prewrite a x e f = subst (λ y. Fine (leaves_prewrite cells b y)) (sym e) f
+    to_prewrite : (a x : Answer) → a ≡ x → Fine (leaves_on cells (asked.Prewrite b) x) → Fine (leaves_on cells (asked.Prewrite b) a)
+    to_prewrite a x e f = subst (λ y. Fine (leaves_on cells (asked.Prewrite b) y)) (sym e) f
 
     above_start : (m : ℕ) → (m ≡ 0) ⊎ (b.start < m) → b.start < (lock_of b m).min
     above_start m x =
@@ -240,14 +242,14 @@ module _ (s : ℕ) (cells : Cells) (is : IsRegular s cells) where
 
     locks : (m : ℕ) → ((lock : Lock) → cells.lock ≡ Some lock → ⊥) → ((c : ℕ) → OwnCommit cells.write b.start c → ⊥)
         → (OwnRollback cells.write b.start → ⊥) → (m ≡ 0) ⊎ (b.start < m)
-        → Fine (leaves_prewrite cells b (Prewritten m))
+        → Fine (leaves_on cells (asked.Prewrite b) (Prewritten m))
     locks m unlocked uncommitted unrolled above =
         let free : cells.lock ≡ None = none_is cells.lock unlocked in
         by (with_lock cells (Some (lock_of b m))) _ (rw free refl)
         (put_fine s cells (lock_of b m) is free uncommitted unrolled (above_start m above))
 
     pub fine_prewrite : (safe loaded : ℕ) (Promise : ℕ → Type 0) → ((m : ℕ) → Promise m → b.start < m) → (a : Answer)
-        → AnswersPrewrite cells safe loaded Promise b a → Fine (leaves_prewrite cells b a)
+        → AnswersPrewrite cells safe loaded Promise b a → Fine (leaves_on cells (asked.Prewrite b) a)
     fine_prewrite safe l P low a (inl x) = to_prewrite a (BelowSafePoint safe) x.1 stays
     fine_prewrite safe l P low a (inr (no0, inl x)) = to_prewrite a (FutureTimestamp l) x.1 stays
     fine_prewrite safe l P low a (inr (no0, inr (no1, inl (lock, own, e)))) =

@@ -19,7 +19,9 @@ use Rattle.tx_core.specs.declared.event.Event.{Event}
 use Rattle.tx_core.specs.declared.event.Event.TheVariants.{Drawn, Began, Declared, Answered, Stopped, Took}
 use Rattle.tx_core.specs.Histories.{History, Among}
 use Rattle.tx_core.specs.Decisions.{effect_in}
-use Rattle.tx_core.specs.Shadow.{deciding_in, checking, reading, answering, scan_read, shadow}
+use Rattle.tx_core.specs.Shadow.{deciding_in, checking, answering, shadow}
+use Rattle.tx_core.specs.EventSteps.{reading}
+use Rattle.tx_core.specs.Truth.{scan_read}
 use Rattle.tx_core.specs.Worlds.{IsWorldRun}
 use Rattle.tx_core.proofs.runs.AllRuns.{shadow_runs}
 use Rattle.tx_laws.specs.Told.{Says}

@@ -15,7 +15,7 @@ use Rattle.tx_core.specs.declared.event.Outcome.TheVariants as outcome
 use Rattle.tx_core.specs.declared.event.Event.TheVariants.{Answered}
 use Rattle.tx_core.specs.Histories.{History, Among}
 use Rattle.tx_core.specs.Decisions.{decided}
-use Rattle.tx_core.specs.Shadow.{scan_read}
+use Rattle.tx_core.specs.Truth.{scan_read}
 use Rattle.tx_core.specs.Worlds.{WasTold}
 
 -- It was told that t is committed at c: by an answer of a region, by the outcome that its session

@@ -77,11 +77,10 @@ impl Sees for NestedCells {
         }
     }
 
-    fn number(&self, alloc: Global, key: &SpeltKey<'_>) -> Result<u64, Fault> {
-        let _ = alloc;
+    fn number(&self, key: &SpeltKey<'_>) -> u64 {
         match self.keys.get(key.bytes()) {
-            Some(on_key) => Ok(on_key.number),
-            None => Ok(0),
+            Some(on_key) => on_key.number,
+            None => 0,
         }
     }
 }

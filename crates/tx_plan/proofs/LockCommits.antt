@@ -12,17 +12,19 @@ use Rattle.tx_plan.specs.Own.{is_rollback}
 use Rattle.tx_plan.specs.Views.{HasOwnHead}
 use Rattle.tx_plan.specs.Committing.{MayCommitAt, IsRefusal}
 use Rattle.tx_plan.specs.Changes.{HasCommitAt}
-use Rattle.tx_plan.specs.cases.Commit.{CommitsLock, leaves_commit}
-use Rattle.tx_plan.specs.cases.ResolveLock.{ResolvesLock, leaves_resolve_lock}
+use Rattle.tx_plan.specs.cases.Commit.{CommitsLock}
+use Rattle.tx_plan.specs.cases.ResolveLock.{ResolvesLock}
+use Rattle.tx_plan.specs.Answers.{leaves_on}
+use Rattle.tx_plan.specs.declared.body.Body.TheVariants as asked
 
 -- a refusal changes nothing
-pub refused_commit : (cells : Cells) (b : Commit) (a : Answer) → IsRefusal a → cells ≡ leaves_commit cells b a
+pub refused_commit : (cells : Cells) (b : Commit) (a : Answer) → IsRefusal a → cells ≡ leaves_on cells (asked.Commit b) a
 refused_commit cells b (WriteConflict start commit) is = refl
 refused_commit cells b (CommitTsExpired min) is = refl
 refused_commit cells b _ is = absurd is
 
 pub refused_resolve : (cells : Cells) (b : ResolveLock) (a : Answer) → IsRefusal a
-    → cells ≡ leaves_resolve_lock cells b a
+    → cells ≡ leaves_on cells (asked.ResolveLock b) a
 refused_resolve cells b (WriteConflict start commit) is = refl
 refused_resolve cells b (CommitTsExpired min) is = refl
 refused_resolve cells b _ is = absurd is

@@ -6,21 +6,23 @@ use Rattle.tx_plan.specs.declared.body.Body.TheVariants.{Get, Scan, Prewrite, Co
 use Rattle.tx_plan.specs.declared.body.Prewrite.{Prewrite as PrewriteBody}
 use Rattle.tx_plan.specs.declared.answer.Answer.{Answer}
 use Rattle.tx_types.specs.declared.key.Key.{Key}
-use Rattle.tx_plan.specs.Cells.{Cells, Region, with_cells, with_max_read}
+use Rattle.tx_plan.specs.declared.answer.Answer.TheVariants.{Prewritten, Committed, RolledBack, Ttl, Missing, Locked, Resolved, Raised, Collected}
+use Rattle.tx_plan.specs.Cells.{Cells, Region, with_lock, with_cells, with_max_read}
+use Rattle.tx_plan.specs.Own.{on_own_lock, leave_rollback, roll_back, commit_lock}
 use Rattle.tx_plan.specs.Reads.{raised}
 use Rattle.tx_plan.specs.Plans.{with_read}
 use Rattle.tx_plan.specs.cases.Get.{AnswersGet}
 use Rattle.tx_plan.specs.cases.Scan.{AnswersScan}
-use Rattle.tx_plan.specs.cases.Prewrite.{AnswersPrewrite, leaves_prewrite, read_by_prewrite, MayPromise, least_minimum}
-use Rattle.tx_plan.specs.cases.Commit.{AnswersCommit, leaves_commit}
-use Rattle.tx_plan.specs.cases.BatchRollback.{AnswersBatchRollback, leaves_batch_rollback}
-use Rattle.tx_plan.specs.cases.TxnHeartBeat.{AnswersTxnHeartBeat, leaves_txn_heart_beat}
-use Rattle.tx_plan.specs.cases.CheckTxnStatus.{AnswersCheckTxnStatus, leaves_check_txn_status}
-use Rattle.tx_plan.specs.cases.CheckSecondaryLocks.{AnswersCheckSecondaryLocks, leaves_check_secondary_locks}
-use Rattle.tx_plan.specs.cases.ResolveLock.{AnswersResolveLock, leaves_resolve_lock}
-use Rattle.tx_plan.specs.cases.RaiseSafe.{AnswersRaiseSafe, leaves_raise_safe}
+use Rattle.tx_plan.specs.cases.Prewrite.{AnswersPrewrite, locked, read_by_prewrite, MayPromise, least_minimum}
+use Rattle.tx_plan.specs.cases.Commit.{AnswersCommit}
+use Rattle.tx_plan.specs.cases.BatchRollback.{AnswersBatchRollback}
+use Rattle.tx_plan.specs.cases.TxnHeartBeat.{AnswersTxnHeartBeat}
+use Rattle.tx_plan.specs.cases.CheckTxnStatus.{AnswersCheckTxnStatus}
+use Rattle.tx_plan.specs.cases.CheckSecondaryLocks.{AnswersCheckSecondaryLocks}
+use Rattle.tx_plan.specs.cases.ResolveLock.{AnswersResolveLock, resolve}
+use Rattle.tx_plan.specs.cases.RaiseSafe.{AnswersRaiseSafe}
 use Rattle.tx_plan.specs.cases.LocksBelow.{AnswersLocksBelow}
-use Rattle.tx_plan.specs.cases.Collect.{AnswersCollectBy, HasCollected, CountsDropped, leaves_collect}
+use Rattle.tx_plan.specs.cases.Collect.{AnswersCollectBy, HasCollected, CountsDropped, kept}
 
 -- the transaction that a request names
 abbrev pub start_in : Body → Option ℕ
@@ -65,19 +67,44 @@ Answers region loaded top = AnswersBy (MayPromise region.max_read top) HasCollec
 abbrev pub AnswersFrom : ℕ → Region → ℕ → Body → Answer → Type 0
 AnswersFrom mark region loaded = AnswersBy (λ b m. m ≡ least_minimum mark b) CountsDropped region loaded
 
--- What an answer leaves of the region: the answer tells the change. A read raises the greatest
--- timestamp read, also where a lock stopped it.
+-- ---- what an answer leaves
+
+-- What an answer leaves on the key of its request: the answer tells the change. An accepted prewrite
+-- leaves its lock, where none stands yet. Where a transaction is committed, its lock, if it stands,
+-- becomes its commit record; where it is rolled back, its lock is gone and its rollback stands; where
+-- it is missing, its rollback stands. A lock that is told of has the time to live, or the minimum, of
+-- the answer. One that is resolved is committed or rolled back. All else stays.
+abbrev pub leaves_on : Cells → Body → Answer → Cells
+leaves_on cells (Prewrite b) (Prewritten m) = with_lock cells (Some (locked cells.lock b m))
+leaves_on cells (Commit b) (Committed c) = commit_lock cells b.start b.commit
+leaves_on cells (BatchRollback b) RolledBack = roll_back cells b.start
+leaves_on cells (TxnHeartBeat b) (Ttl ttl) = on_own_lock cells b.start
+    (λ lock. with_lock cells (Some record lock { ttl = ttl }))
+leaves_on cells (CheckTxnStatus b) RolledBack = roll_back cells b.start
+leaves_on cells (CheckTxnStatus b) (Locked info) = on_own_lock cells b.start
+    (λ lock. with_lock cells (Some record lock { min = info.min }))
+leaves_on cells (CheckSecondaryLocks b) Missing = leave_rollback cells b.start
+leaves_on cells (ResolveLock b) Resolved = resolve cells b.start b.fate
+leaves_on cells _ _ = cells
+
+-- What it leaves of the region. A read raises the greatest timestamp read, also where a lock stopped
+-- it, and so does the check of an insert. A safe point that is raised is the one that was asked for.
+-- Where a region has collected, the records that are not kept are gone, on every key, and it has
+-- collected up to there.
 abbrev pub leaves : Region → Body → Answer → Region
 leaves r (Get b) a = with_max_read r (raised a b.at r.max_read)
 leaves r (Scan b) a = with_max_read r (raised a b.at r.max_read)
-leaves r (Prewrite b) a = with_read (with_cells r b.key (leaves_prewrite (r.cells b.key) b a))
+leaves r (Prewrite b) a = with_read (with_cells r b.key (leaves_on (r.cells b.key) (Prewrite b) a))
     (read_by_prewrite a (r.cells b.key).lock b)
-leaves r (Commit b) a = with_cells r b.key (leaves_commit (r.cells b.key) b a)
-leaves r (BatchRollback b) a = with_cells r b.key (leaves_batch_rollback (r.cells b.key) b a)
-leaves r (TxnHeartBeat b) a = with_cells r b.key (leaves_txn_heart_beat (r.cells b.key) b a)
-leaves r (CheckTxnStatus b) a = with_cells r b.key (leaves_check_txn_status (r.cells b.key) b a)
-leaves r (CheckSecondaryLocks b) a = with_cells r b.key (leaves_check_secondary_locks (r.cells b.key) b a)
-leaves r (ResolveLock b) a = with_cells r b.key (leaves_resolve_lock (r.cells b.key) b a)
-leaves r (RaiseSafe b) a = leaves_raise_safe r b a
-leaves r (LocksBelow b) a = r
-leaves r (Collect b) a = leaves_collect r b a
+leaves r (Commit b) a = with_cells r b.key (leaves_on (r.cells b.key) (Commit b) a)
+leaves r (BatchRollback b) a = with_cells r b.key (leaves_on (r.cells b.key) (BatchRollback b) a)
+leaves r (TxnHeartBeat b) a = with_cells r b.key (leaves_on (r.cells b.key) (TxnHeartBeat b) a)
+leaves r (CheckTxnStatus b) a = with_cells r b.key (leaves_on (r.cells b.key) (CheckTxnStatus b) a)
+leaves r (CheckSecondaryLocks b) a = with_cells r b.key (leaves_on (r.cells b.key) (CheckSecondaryLocks b) a)
+leaves r (ResolveLock b) a = with_cells r b.key (leaves_on (r.cells b.key) (ResolveLock b) a)
+leaves r (RaiseSafe b) Raised = record r { safe = b.safe }
+leaves r (Collect b) (Collected records values) = record r {
+  cells = λ k. kept (r.cells k) b.safe;
+  collected = b.safe;
+}
+leaves r _ _ = r

@@ -24,6 +24,11 @@ abbrev pub OwnRollback : Writes → ℕ → Type 0
 OwnRollback write t = (write t ≡ Some Rollback) ⊎ ((rec : CommitRecord) × OthersCommit write t t rec
     × (rec.overlapped_rollback ≡ true))
 
+-- whether a lock is its own
+abbrev pub is_own : Option Lock → ℕ → Bool
+is_own None t = false
+is_own (Some lock) t = lock.start == t
+
 -- what f makes of the cells where its lock stands; else they stay
 abbrev pub on_own_lock : Cells → ℕ → (Lock → Cells) → Cells
 on_own_lock cells t f = elim cells.lock [ None ↦ cells | Some lock ↦ cond (lock.start == t) (f lock) cells ]
@@ -42,14 +47,9 @@ rolled t _ = Rollback
 abbrev pub leave_rollback : Cells → ℕ → Cells
 leave_rollback cells t = record cells { write = with_write cells.write t (rolled t (cells.write t)) }
 
--- a lock, but none where it is its own
-abbrev pub without_own : Option Lock → ℕ → Option Lock
-without_own None t = None
-without_own (Some lock) t = cond (lock.start == t) None (Some lock)
-
 -- roll back: its lock is removed where it stands, and a rollback is left
 abbrev pub roll_back : Cells → ℕ → Cells
-roll_back cells t = with_lock (leave_rollback cells t) (without_own cells.lock t)
+roll_back cells t = with_lock (leave_rollback cells t) (cond (is_own cells.lock t) None cells.lock)
 
 -- whether a rollback stands of a version
 abbrev pub is_rollback : Option Write → Bool

@@ -6,8 +6,10 @@ use Rattle.tx_plan.specs.declared.body.Collect.{Collect}
 use Rattle.tx_plan.specs.declared.answer.Answer.{Answer}
 use Rattle.tx_plan.specs.declared.answer.Answer.TheVariants.{BelowSafePoint, FutureTimestamp}
 use Rattle.tx_plan.specs.Cells.{Cells, Region}
-use Rattle.tx_plan.specs.cases.Scan.{AnswersScan, leaves_scan}
-use Rattle.tx_plan.specs.cases.Collect.{AnswersCollect, leaves_collect}
+use Rattle.tx_plan.specs.cases.Scan.{AnswersScan}
+use Rattle.tx_plan.specs.cases.Collect.{AnswersCollect}
+use Rattle.tx_plan.specs.Answers.{leaves}
+use Rattle.tx_plan.specs.declared.body.Body.TheVariants as asked
 
 -- a read lies at the safe point or above, and not above the last number loaded
 pub record MayRead (safe loaded at : ℕ) : Type 0 where
@@ -22,8 +24,8 @@ RefusesRead safe loaded at a = ((at < safe) × (a ≡ BelowSafePoint safe))
 -- a refusal of a scan, or of a collection, is the table's answer, and changes nothing
 pub record RefusesScan (safe loaded : ℕ) (b : Scan) (a : Answer) : Type 0 where
   pub answers : (cells : Key → Cells) → AnswersScan cells safe loaded b a
-  pub stays : (region : Region) → leaves_scan region b a ≡ region
+  pub stays : (region : Region) → leaves region (asked.Scan b) a ≡ region
 
 pub record RefusesCollect (safe : ℕ) (b : Collect) (a : Answer) : Type 0 where
   pub answers : (cells : Key → Cells) → AnswersCollect cells safe b a
-  pub stays : (region : Region) → leaves_collect region b a ≡ region
+  pub stays : (region : Region) → leaves region (asked.Collect b) a ≡ region

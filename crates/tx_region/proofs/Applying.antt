@@ -25,7 +25,7 @@ use Rattle.tx_journal.specs.Replies.{Asked, Given}
 use Rattle.tx_journal.proofs.Calls.{seen_more}
 use Rattle.tx_region.specs.Calls.{CarriesOut}
 use Rattle.tx_region.specs.Copies.{key_in, SameKey, made, IsPlan, IsAbove}
-use Rattle.tx_region.specs.Planning.{PlanOf, AreOf, IsPlanFor, StayedKey, Carried, CarriesPlan, AppliedTo, ComesOf}
+use Rattle.tx_region.specs.Planning.{PlanOf, AreOf, IsPlanFor, StayedKey, IsRight, Carried, CarriesPlan, AppliedTo, ComesOf}
 use Rattle.tx_region.specs.Taking.{Keeps, NeedsMark, Knows}
 use Rattle.tx_region.specs.declared.applied.Applied.{Applied}
 use Rattle.tx_region.specs.declared.applied.Applied.TheVariants.{Done, Stale}
@@ -173,9 +173,9 @@ module _ (bounds : List Key) (old mid : Known) (number : mid.seat ≡ old.seat) 
     seen_all : (now : History) → HasSeen bounds mid.seat mid.events now → HasSeen bounds old.seat old.events now
     seen_all now seen = seen_more bounds old.seat old.events mid.events now learns (subst (λ m. HasSeen bounds m mid.events now) number seen)
 
-    none_seen : (o : Option Answer) (now : History) → IfNone o (HasSeen bounds mid.seat mid.events now) → IfNone o (HasSeen bounds old.seat old.events now)
-    none_seen None now x = seen_all now x
-    none_seen (Some a) now x = tt
+    none_seen : (o : Option Answer) (h : History) → IfNone o (IsAbove plan.planned.change h × HasSeen bounds mid.seat mid.events h) → IfNone o (IsRight old.seat old.events h q plan × HasSeen bounds old.seat old.events h)
+    none_seen None h x = (record { same = same_before same; above = x.0 }, seen_all h x.1)
+    none_seen (Some a) h x = tt
 
     pub comes_of : {J : Type 0} (r : Applied J) (now : History) → CarriesPlan bounds mid.seat mid.events now q plan.loaded.last plan.planned r → ComesOf bounds old.seat old.events now q plan r
     comes_of (Done g) now x = (x.0, x.1, some_applied g.answer g x.0 x.2, none_seen g.answer now x.3)

@@ -18,12 +18,12 @@ use Rattle.tx_plan.specs.declared.body.ResolveLock.{ResolveLock}
 use Rattle.tx_plan.specs.declared.view.ReadView.{ReadView}
 use Rattle.tx_plan.specs.declared.view.TxnView.{TxnView}
 use Rattle.tx_plan.specs.Making.{Makes}
-use Rattle.tx_plan.specs.cases.Get.{AnswersGet, leaves_get}
-use Rattle.tx_plan.specs.cases.Commit.{AnswersCommit, leaves_commit}
-use Rattle.tx_plan.specs.cases.BatchRollback.{AnswersBatchRollback, leaves_batch_rollback}
-use Rattle.tx_plan.specs.cases.CheckTxnStatus.{AnswersCheckTxnStatus, leaves_check_txn_status}
-use Rattle.tx_plan.specs.cases.CheckSecondaryLocks.{AnswersCheckSecondaryLocks, leaves_check_secondary_locks}
-use Rattle.tx_plan.specs.cases.ResolveLock.{AnswersResolveLock, leaves_resolve_lock}
+use Rattle.tx_plan.specs.cases.Get.{AnswersGet}
+use Rattle.tx_plan.specs.cases.Commit.{AnswersCommit}
+use Rattle.tx_plan.specs.cases.BatchRollback.{AnswersBatchRollback}
+use Rattle.tx_plan.specs.cases.CheckTxnStatus.{AnswersCheckTxnStatus}
+use Rattle.tx_plan.specs.cases.CheckSecondaryLocks.{AnswersCheckSecondaryLocks}
+use Rattle.tx_plan.specs.cases.ResolveLock.{AnswersResolveLock}
 use Rattle.tx_region.specs.declared.copy.KeyView.TheVariants as view
 use Rattle.tx_plan.specs.declared.answer.Answer.{Answer}
 use Rattle.tx_plan.specs.declared.answer.Answer.TheVariants.{Prewritten}
@@ -31,12 +31,12 @@ use Rattle.tx_plan.specs.declared.key_change.KeyChange.{KeyChange}
 use Rattle.tx_plan.specs.declared.key_change.KeyChange.TheVariants as change
 use Rattle.tx_plan.specs.declared.planned.Plan.{Plan}
 use Rattle.tx_plan.specs.Cells.{Lock, Cells, Region, with_cells}
-use Rattle.tx_plan.specs.Answers.{AnswersFrom, leaves}
+use Rattle.tx_plan.specs.Answers.{AnswersFrom, leaves, leaves_on}
 use Rattle.tx_plan.specs.Changes.{changed, Applies, new_lock, after_put, put, CanPut}
 use Rattle.tx_plan.specs.Committing.{commit_in}
 use Rattle.tx_plan.specs.Plans.{answer_with, with_read, read_upto}
 use Rattle.tx_plan.specs.Views.{Shows, ShowsRead, info_on}
-use Rattle.tx_plan.specs.cases.Prewrite.{AnswersPrewrite, leaves_prewrite, read_by_prewrite, HasValue, least_minimum, IsWithin, lock_of, locked}
+use Rattle.tx_plan.specs.cases.Prewrite.{AnswersPrewrite, read_by_prewrite, HasValue, least_minimum, IsWithin, lock_of, locked}
 use Rattle.tx_cells.specs.Contents.{Content}
 use Rattle.tx_region.specs.Calls.{Executes, CarriesOut}
 use Rattle.tx_region.specs.Copies.{key_in, SameKey, SeesRead, SeesTxn, SeesPrewrite, Sees, LooksLike, made, IsPlan, promised}
@@ -86,7 +86,7 @@ module _ (mark loaded : ℕ) (region : Region) (numbers : RegionNumbers) (p : Pl
 
   pub get_plan : (b : Get) (v : ReadView) → LooksLike region (body.Get b) (view.Read v) numbers
       → ((cells : Cells) → ShowsRead cells b.at v → AnswersGet cells numbers.safe loaded b (answer_with (info_on cells b.key) p.answer))
-      → ((cells : Cells) → ShowsRead cells b.at v → (r : Region) → leaves_get r b (answer_with (info_on cells b.key) p.answer) ≡ with_read r p.read)
+      → ((cells : Cells) → ShowsRead cells b.at v → (r : Region) → leaves r (body.Get b) (answer_with (info_on cells b.key) p.answer) ≡ with_read r p.read)
       → p.change ≡ change.Nothing → IsPlan mark region loaded (body.Get b) p
   get_plan b v looks answers gives none = record {
     answers = subst (λ s. AnswersGet (region.cells b.key) s loaded b (on b.key)) looks.safe (answers (region.cells b.key) looks.sees);
@@ -96,7 +96,7 @@ module _ (mark loaded : ℕ) (region : Region) (numbers : RegionNumbers) (p : Pl
 
   pub prewrite_plan : (b : Prewrite) (v : TxnView) (has : Bool) → LooksLike region (body.Prewrite b) (view.Prewrite v has) numbers
       → ((cells : Cells) (commit : ℕ) → Shows cells b.start commit v → (IsInsert b.mutation → IsTrue has ↔ HasValue cells.write b.start) → AnswersPrewrite cells numbers.safe loaded (λ m. m ≡ least_minimum mark b) b (answer_with (info_on cells b.key) p.answer))
-      → ((cells : Cells) (commit : ℕ) → Shows cells b.start commit v → after_put cells b (new_lock p.change) ≡ leaves_prewrite cells b (answer_with (info_on cells b.key) p.answer))
+      → ((cells : Cells) (commit : ℕ) → Shows cells b.start commit v → after_put cells b (new_lock p.change) ≡ leaves_on cells (body.Prewrite b) (answer_with (info_on cells b.key) p.answer))
       → ((cells : Cells) (commit : ℕ) → Shows cells b.start commit v → IfSome (new_lock p.change) (λ new. CanPut cells b new))
       → ((cells : Cells) (commit : ℕ) → Shows cells b.start commit v → p.read ≡ read_by_prewrite (answer_with (info_on cells b.key) p.answer) cells.lock b)
       → IsPlan mark region loaded (body.Prewrite b) p
@@ -114,61 +114,61 @@ module _ (mark loaded : ℕ) (region : Region) (numbers : RegionNumbers) (p : Pl
 
   pub commit_plan : (b : Commit) (v : TxnView) → LooksLike region (body.Commit b) (view.Txn v) numbers
       → ((cells : Cells) → Shows cells b.start b.commit v → AnswersCommit cells numbers.collected b (answer_with (info_on cells b.key) p.answer))
-      → ((cells : Cells) → Shows cells b.start b.commit v → changed cells p.change ≡ leaves_commit cells b (answer_with (info_on cells b.key) p.answer))
+      → ((cells : Cells) → Shows cells b.start b.commit v → changed cells p.change ≡ leaves_on cells (body.Commit b) (answer_with (info_on cells b.key) p.answer))
       → ((cells : Cells) → Shows cells b.start b.commit v → Applies cells p.change) → ((cells : Cells) → Shows cells b.start b.commit v → Makes cells p.change) → p.read ≡ None → IsPlan mark region loaded (body.Commit b) p
   commit_plan b v looks answers gives applies makes unread =
       let cells = region.cells b.key in
       record {
         answers = subst (λ s. AnswersCommit cells s b (on b.key)) looks.collected (answers cells looks.sees);
-        leaves = on_key (body.Commit b) b.key (leaves_commit cells b (on b.key)) unread (gives cells looks.sees);
+        leaves = on_key (body.Commit b) b.key (leaves_on cells (body.Commit b) (on b.key)) unread (gives cells looks.sees);
         may = (applies cells looks.sees, makes cells looks.sees);
       }
 
   pub batch_rollback_plan : (b : BatchRollback) (v : TxnView) → LooksLike region (body.BatchRollback b) (view.Txn v) numbers
       → ((cells : Cells) (commit : ℕ) → Shows cells b.start commit v → AnswersBatchRollback cells numbers.collected b (answer_with (info_on cells b.key) p.answer))
-      → ((cells : Cells) (commit : ℕ) → Shows cells b.start commit v → changed cells p.change ≡ leaves_batch_rollback cells b (answer_with (info_on cells b.key) p.answer))
+      → ((cells : Cells) (commit : ℕ) → Shows cells b.start commit v → changed cells p.change ≡ leaves_on cells (body.BatchRollback b) (answer_with (info_on cells b.key) p.answer))
       → ((cells : Cells) (commit : ℕ) → Shows cells b.start commit v → Applies cells p.change) → ((cells : Cells) (commit : ℕ) → Shows cells b.start commit v → Makes cells p.change) → p.read ≡ None → IsPlan mark region loaded (body.BatchRollback b) p
   batch_rollback_plan b v looks answers gives applies makes unread =
       let cells = region.cells b.key in
       record {
         answers = subst (λ s. AnswersBatchRollback cells s b (on b.key)) looks.collected (answers cells b.start looks.sees);
-        leaves = on_key (body.BatchRollback b) b.key (leaves_batch_rollback cells b (on b.key)) unread (gives cells b.start looks.sees);
+        leaves = on_key (body.BatchRollback b) b.key (leaves_on cells (body.BatchRollback b) (on b.key)) unread (gives cells b.start looks.sees);
         may = (applies cells b.start looks.sees, makes cells b.start looks.sees);
       }
 
   pub check_txn_status_plan : (b : CheckTxnStatus) (v : TxnView) → LooksLike region (body.CheckTxnStatus b) (view.Txn v) numbers
       → ((cells : Cells) (commit : ℕ) → Shows cells b.start commit v → AnswersCheckTxnStatus cells numbers.collected loaded b (answer_with (info_on cells b.key) p.answer))
-      → ((cells : Cells) (commit : ℕ) → Shows cells b.start commit v → changed cells p.change ≡ leaves_check_txn_status cells b (answer_with (info_on cells b.key) p.answer))
+      → ((cells : Cells) (commit : ℕ) → Shows cells b.start commit v → changed cells p.change ≡ leaves_on cells (body.CheckTxnStatus b) (answer_with (info_on cells b.key) p.answer))
       → ((cells : Cells) (commit : ℕ) → Shows cells b.start commit v → Applies cells p.change) → ((cells : Cells) (commit : ℕ) → Shows cells b.start commit v → Makes cells p.change) → p.read ≡ None → IsPlan mark region loaded (body.CheckTxnStatus b) p
   check_txn_status_plan b v looks answers gives applies makes unread =
       let cells = region.cells b.key in
       record {
         answers = subst (λ s. AnswersCheckTxnStatus cells s loaded b (on b.key)) looks.collected (answers cells b.start looks.sees);
-        leaves = on_key (body.CheckTxnStatus b) b.key (leaves_check_txn_status cells b (on b.key)) unread (gives cells b.start looks.sees);
+        leaves = on_key (body.CheckTxnStatus b) b.key (leaves_on cells (body.CheckTxnStatus b) (on b.key)) unread (gives cells b.start looks.sees);
         may = (applies cells b.start looks.sees, makes cells b.start looks.sees);
       }
 
   pub check_secondary_locks_plan : (b : CheckSecondaryLocks) (v : TxnView) → LooksLike region (body.CheckSecondaryLocks b) (view.Txn v) numbers
       → ((cells : Cells) (commit : ℕ) → Shows cells b.start commit v → AnswersCheckSecondaryLocks cells numbers.collected b (answer_with (info_on cells b.key) p.answer))
-      → ((cells : Cells) (commit : ℕ) → Shows cells b.start commit v → changed cells p.change ≡ leaves_check_secondary_locks cells b (answer_with (info_on cells b.key) p.answer))
+      → ((cells : Cells) (commit : ℕ) → Shows cells b.start commit v → changed cells p.change ≡ leaves_on cells (body.CheckSecondaryLocks b) (answer_with (info_on cells b.key) p.answer))
       → ((cells : Cells) (commit : ℕ) → Shows cells b.start commit v → Applies cells p.change) → ((cells : Cells) (commit : ℕ) → Shows cells b.start commit v → Makes cells p.change) → p.read ≡ None → IsPlan mark region loaded (body.CheckSecondaryLocks b) p
   check_secondary_locks_plan b v looks answers gives applies makes unread =
       let cells = region.cells b.key in
       record {
         answers = subst (λ s. AnswersCheckSecondaryLocks cells s b (on b.key)) looks.collected (answers cells b.start looks.sees);
-        leaves = on_key (body.CheckSecondaryLocks b) b.key (leaves_check_secondary_locks cells b (on b.key)) unread (gives cells b.start looks.sees);
+        leaves = on_key (body.CheckSecondaryLocks b) b.key (leaves_on cells (body.CheckSecondaryLocks b) (on b.key)) unread (gives cells b.start looks.sees);
         may = (applies cells b.start looks.sees, makes cells b.start looks.sees);
       }
 
   pub resolve_lock_plan : (b : ResolveLock) (v : TxnView) → LooksLike region (body.ResolveLock b) (view.Txn v) numbers
       → ((cells : Cells) → Shows cells b.start (commit_in b.fate) v → AnswersResolveLock cells numbers.collected b (answer_with (info_on cells b.key) p.answer))
-      → ((cells : Cells) → Shows cells b.start (commit_in b.fate) v → changed cells p.change ≡ leaves_resolve_lock cells b (answer_with (info_on cells b.key) p.answer))
+      → ((cells : Cells) → Shows cells b.start (commit_in b.fate) v → changed cells p.change ≡ leaves_on cells (body.ResolveLock b) (answer_with (info_on cells b.key) p.answer))
       → ((cells : Cells) → Shows cells b.start (commit_in b.fate) v → Applies cells p.change) → ((cells : Cells) → Shows cells b.start (commit_in b.fate) v → Makes cells p.change) → p.read ≡ None → IsPlan mark region loaded (body.ResolveLock b) p
   resolve_lock_plan b v looks answers gives applies makes unread =
       let cells = region.cells b.key in
       record {
         answers = subst (λ s. AnswersResolveLock cells s b (on b.key)) looks.collected (answers cells looks.sees);
-        leaves = on_key (body.ResolveLock b) b.key (leaves_resolve_lock cells b (on b.key)) unread (gives cells looks.sees);
+        leaves = on_key (body.ResolveLock b) b.key (leaves_on cells (body.ResolveLock b) (on b.key)) unread (gives cells looks.sees);
         may = (applies cells looks.sees, makes cells looks.sees);
       }
 
@@ -222,7 +222,7 @@ nonzero : (m : ℕ) → 0 < m → (m == 0) ≡ false
 nonzero m some = elim (cases_Bool (m == 0)) [ inl e ↦ absurd (let zero = eqb-true m 0 e in omega (arith, zero, some)) | inr e ↦ e ]
 
 -- the lock that is put has the minimum that the answer promises
-puts_promised : (cells : Cells) (b : Prewrite) (c : KeyChange) (m high : ℕ) → cells.lock ≡ None → 0 < m → after_put cells b (new_lock c) ≡ leaves_prewrite cells b (Prewritten m) → IfSome (promised c) (λ n. high < n) → high < m
+puts_promised : (cells : Cells) (b : Prewrite) (c : KeyChange) (m high : ℕ) → cells.lock ≡ None → 0 < m → after_put cells b (new_lock c) ≡ leaves_on cells (body.Prewrite b) (Prewritten m) → IfSome (promised c) (λ n. high < n) → high < m
 puts_promised cells b (change.Lock new) m high free some puts above =
     let locks : Some (put b new) ≡ Some (locked cells.lock b m) = ap (λ (x : Cells). x.lock) puts in
     let is : Some (put b new) ≡ Some (lock_of b m) = locks ∙ ap (λ o. Some (locked o b m)) free in
@@ -238,7 +238,7 @@ puts_promised cells b (change.Minimum t) m high free some puts above = absurd (l
 puts_promised cells b (change.Commit t o) m high free some puts above = absurd (let locks = ap (λ (x : Cells). x.lock) puts in cc (locks, free))
 puts_promised cells b (change.RollBack t r l) m high free some puts above = absurd (let locks = ap (λ (x : Cells). x.lock) puts in cc (locks, free))
 
-module _ (cells : Cells) (safe l : ℕ) (b : Prewrite) (a : Answer) (c : KeyChange) (mark high : ℕ) (more : b.mode ≡ Async → mark ≤ high) (above : IfSome (promised c) (λ m. high < m)) (puts : after_put cells b (new_lock c) ≡ leaves_prewrite cells b a) where
+module _ (cells : Cells) (safe l : ℕ) (b : Prewrite) (a : Answer) (c : KeyChange) (mark high : ℕ) (more : b.mode ≡ Async → mark ≤ high) (above : IfSome (promised c) (λ m. high < m)) (puts : after_put cells b (new_lock c) ≡ leaves_on cells (body.Prewrite b) a) where
   abbrev pub At : ℕ → Type 0
   At n = AnswersPrewrite cells safe l (λ m. m ≡ least_minimum n b) b a
 
@@ -253,7 +253,7 @@ module _ (cells : Cells) (safe l : ℕ) (b : Prewrite) (a : Answer) (c : KeyChan
   still (inr (no0, inr (no1, inr (no2, inr (no3, inr (no4, inr (no5, inr (no6, inl x)))))))) = inr (no0, inr (no1, inr (no2, inr (no3, inr (no4, inr (no5, inr (no6, inl x)))))))
   still (inr (no0, inr (no1, inr (no2, inr (no3, inr (no4, inr (no5, inr (no6, inr (no7, inl (mode, (m, e, inl x))))))))))) =
       let some : 0 < m = (let least = least_above mark b in omega (arith, e, least)) in
-      let lt : high < m = puts_promised cells b c m high (none_is cells.lock no5) some (puts ∙ ap (leaves_prewrite cells b) x.1) above in
+      let lt : high < m = puts_promised cells b c m high (none_is cells.lock no5) some (puts ∙ ap (leaves_on cells (body.Prewrite b)) x.1) above in
       inr (no0, inr (no1, inr (no2, inr (no3, inr (no4, inr (no5, inr (no6, inr (no7, inl (mode, (m, least_still mark high m b (more mode) lt e, inl x))))))))))
   still (inr (no0, inr (no1, inr (no2, inr (no3, inr (no4, inr (no5, inr (no6, inr (no7, inl (mode, (m, e, inr x))))))))))) =
       let le : m ≤ least_minimum high b = (let more_now = least_more mark high b (more mode) in omega (arith, e, more_now)) in
@@ -270,7 +270,7 @@ plan_still b region loaded mark high p more above is = record { answers = at b m
     cells_here : (q : Prewrite) (cells : Cells) → (with_cells region q.key cells).cells q.key ≡ cells
     cells_here q cells = elim (key_test q.key q.key) [ inl t ↦ cond_true _ _ _ t.0 | inr t ↦ absurd (t.1 refl) ]
 
-    puts_here : (q : Prewrite) → IsPlan mark region loaded (body.Prewrite q) p → after_put (region.cells q.key) q (new_lock p.change) ≡ leaves_prewrite (region.cells q.key) q (answer_with (info_on (region.cells q.key) q.key) p.answer)
+    puts_here : (q : Prewrite) → IsPlan mark region loaded (body.Prewrite q) p → after_put (region.cells q.key) q (new_lock p.change) ≡ leaves_on (region.cells q.key) (body.Prewrite q) (answer_with (info_on (region.cells q.key) q.key) p.answer)
     puts_here q plan = sym (cells_here q _) ∙ (ap (λ (r : Region). r.cells q.key) plan.leaves ∙ cells_here q _)
 
     at : (q : Body) → (NeedsMark q → mark ≤ high) → IsPlan mark region loaded q p → AnswersFrom high region loaded q (answer_with (info_on (region.cells (key_in q)) (key_in q)) p.answer)

@@ -100,7 +100,8 @@ pub record Carried (bounds : List Key) (n : ℕ) (had : History) (loaded : ℕ) 
 -- what comes of a plan where its key is as it was copied
 abbrev pub CarriesPlan : {J : Type 0} → List Key → ℕ → History → History → Asked → ℕ → Plan → Applied J → Type 0
 CarriesPlan bounds n had now q loaded planned (Done g) = (g.request ≡ q) × (now ≡ g.events)
-    × IfSome g.answer (Carried bounds n had loaded planned g) × IfNone g.answer (HasSeen bounds n had now)
+    × IfSome g.answer (Carried bounds n had loaded planned g)
+    × IfNone g.answer (IsAbove planned.change now × HasSeen bounds n had now)
 CarriesPlan bounds n had now q loaded planned (Stale again) = (again ≡ q) × (IsAbove planned.change now → ⊥)
     × HasSeen bounds n had now
 
@@ -118,13 +119,21 @@ pub record AppliedTo (bounds : List Key) (n : ℕ) (had : History) (plan : PlanO
   pub above : IsAbove plan.planned.change marked
   pub least : AnswersFrom (max_ts marked) (left had n) plan.loaded.last g.request.body a
 
+-- The region n had seen `had` and knows `now`, and a plan for a request is still right there: the
+-- key is as it was copied, and the minimum that the plan promises lies above each read.
+pub record IsRight (n : ℕ) (had now : History) (q : Asked) (plan : PlanOf) : Type 0 where
+  pub same : SameKey (key_in q.body) (left plan.events n) (left had n)
+  pub above : IsAbove plan.planned.change now
+
 -- The region n had seen `had` and knows `now` after it was to apply a plan to a request. Done: its
--- reply is to the request and tells what the region knows; an answer is the planned one. Stale: it
--- is the request again, its key is no longer as it was copied or a read has passed the minimum that
--- the plan promises, and the region took nothing.
+-- reply is to the request and tells what the region knows; an answer is the planned one; with none,
+-- as memory was refused, the plan is still right, and the region took nothing. Stale: it is the
+-- request again, its key is no longer as it was copied or a read has passed the minimum that the
+-- plan promises, and the region took nothing.
 abbrev pub ComesOf : {J : Type 0} → List Key → ℕ → History → History → Asked → PlanOf → Applied J → Type 0
 ComesOf bounds n had now q plan (Done g) = (g.request ≡ q) × (now ≡ g.events)
-    × IfSome g.answer (AppliedTo bounds n had plan g) × IfNone g.answer (HasSeen bounds n had now)
+    × IfSome g.answer (AppliedTo bounds n had plan g)
+    × IfNone g.answer (IsRight n had now q plan × HasSeen bounds n had now)
 ComesOf bounds n had now q plan (Stale again) = (again ≡ q)
     × ((SameKey (key_in q.body) (left plan.events n) (left had n) → ⊥) ⊎ (IsAbove plan.planned.change now → ⊥))
     × HasSeen bounds n had now

@@ -210,29 +210,23 @@ impl<F: Families> Records<F> {
 
     // Whether a key, the safe point and the last collection stayed since these numbers were
     // copied, when so many requests were counted.
-    fn has_stayed(
-        &self,
-        key: &SpeltKey<'_>,
-        copied: &RegionNumbers,
-        taken: u64,
-    ) -> Result<bool, Fault>
+    fn has_stayed(&self, key: &SpeltKey<'_>, copied: &RegionNumbers, taken: u64) -> bool
         requires { F.numbers self.now.families key.now ≤ self.now.taken }
-        ensures stayed { IfOk result (λ stayed. IsTrue stayed
-            ↔ StayedKey (region_of F.content self.now 0) (F.numbers self.now.families key.now) copied.now taken) }
-        ensures err { IfErr result (λ e. e ≡ Fault.OutOfMemory) }
+        ensures { IsTrue result ↔ StayedKey (region_of F.content self.now 0)
+            (F.numbers self.now.families key.now) copied.now taken }
     {
         if copied.safe != self.safe || copied.collected != self.collected {
-            return Ok(false);
+            return false;
         }
         if self.taken <= taken {
-            return Ok(true);
+            return true;
         }
-        let number = self.families.number(self.alloc, key)?;
-        Ok(number <= taken)
+        self.families.number(key) <= taken
     }
 
     /// The bytes of a request's key, back where the key, the safe point and the last collection
-    /// stayed since these numbers were copied, when so many requests were counted.
+    /// stayed since these numbers were copied, when so many requests were counted. It takes no
+    /// memory.
     #[inline(always)]
     pub(crate) fn bytes_if_stayed(
         &self,
@@ -240,20 +234,19 @@ impl<F: Families> Records<F> {
         body: &Body,
         copied: &RegionNumbers,
         taken: u64,
-    ) -> Result<Option<KeyBytes>, Fault>
+    ) -> Option<KeyBytes>
         requires of_key { IsOfKey body.now }
         requires of { bytes ≡ key_in body.now }
         requires counted { F.numbers self.now.families (key_in body.now) ≤ self.now.taken }
-        ensures stayed { IfOk result (λ found. IsSome found ↔ StayedKey (region_of F.content self.now 0)
-            (F.numbers self.now.families (key_in body.now)) copied.now taken) }
-        ensures bytes { IfOk result (λ found. IfSome found (λ bytes. bytes ≡ key_in body.now)) }
-        ensures err { IfErr result (λ e. e ≡ Fault.OutOfMemory) }
+        ensures stayed { IsSome result ↔ StayedKey (region_of F.content self.now 0)
+            (F.numbers self.now.families (key_in body.now)) copied.now taken }
+        ensures bytes { IfSome result (λ bytes. bytes ≡ key_in body.now) }
     {
         let key = SpeltKey::with_bytes(key_of(body), bytes);
-        if self.has_stayed(&key, copied, taken)? {
-            return Ok(Some(key.into_bytes()));
+        if self.has_stayed(&key, copied, taken) {
+            return Some(key.into_bytes());
         }
-        Ok(None)
+        None
     }
 
     // The answer of a plan for this key, with what is told of the lock on it where the answer

@@ -469,7 +469,8 @@ impl<J: JournalId, F: Families> Region<J, F> {
 
     /// Answers a request with what was planned for it, and records that it did, where its key is as
     /// it was copied and no read has passed the minimum that the plan promises. Else it records
-    /// nothing, and gives the request back.
+    /// nothing, and gives the request back. Whether the plan is still right is seen first, without
+    /// memory: only where it is may memory be refused.
     pub fn apply(&mut self, request: Request<J>, plan: Planned<J>) -> Applied<J>
         requires holds { Holds J.bounds self.old.seat request.body }
         requires of { IsPlanFor request plan × (plan.region ≡ self.old.seat) }
@@ -490,12 +491,8 @@ impl<J: JournalId, F: Families> Region<J, F> {
             .records
             .bytes_if_stayed(bytes, request.body(), &numbers, taken)
         {
-            Err(_) => {
-                let told = self.seat.tell();
-                Applied::Done(Reply::new(request, None, told))
-            }
-            Ok(None) => Applied::Stale(request),
-            Ok(Some(bytes)) => self.carry_plan(request, bytes, planned, &loaded),
+            None => Applied::Stale(request),
+            Some(bytes) => self.carry_plan(request, bytes, planned, &loaded),
         }
     }
 
@@ -601,15 +598,8 @@ impl<J: JournalId, F: Families> Region<J, F> {
             .records
             .bytes_if_stayed(bytes, request.body(), &attempt.numbers, attempt.taken)
         {
-            Err(_) => {
-                let told = self.seat.tell();
-                attempt.answer = None;
-                Some(told)
-            }
-            Ok(None) => None,
-            Ok(Some(bytes)) => {
-                self.carry_into(request, bytes, planned, &loaded, &mut attempt.answer)
-            }
+            None => None,
+            Some(bytes) => self.carry_into(request, bytes, planned, &loaded, &mut attempt.answer),
         }
     }
 }

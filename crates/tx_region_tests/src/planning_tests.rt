@@ -6,7 +6,7 @@ mod scenarios;
 use crate::planning_tests::acting::{Step, played};
 use crate::planning_tests::failing::Failing;
 use crate::planning_tests::scenarios::{
-    LOCKS, ONE_PUT, REFUSED_CHANGE, REFUSED_COPY, REFUSED_INFO, REFUSED_NUMBER, SCENARIOS,
+    LOCKS, ONE_PUT, REFUSED_BESIDE, REFUSED_CHANGE, REFUSED_COPY, REFUSED_INFO, SCENARIOS,
     Scenario, TWO_KEYS, TWO_PUTS,
 };
 use crate::table_tests::shown::{NOTHING, Short, is};
@@ -90,7 +90,7 @@ fn fails_well<F: Fresh>(
 fn nested_refusals_leave_all(alloc: Global) -> bool {
     fails_well::<Failing<NestedCells, 1>>(alloc, ONE_PUT, REFUSED_COPY, NOTHING, 1)
         && fails_well::<Failing<NestedCells, 2>>(alloc, ONE_PUT, REFUSED_CHANGE, NOTHING, 0)
-        && fails_well::<Failing<NestedCells, 4>>(alloc, TWO_KEYS, REFUSED_NUMBER, LOCKS, 0)
+        && fails_well::<Failing<NestedCells, 4>>(alloc, TWO_KEYS, REFUSED_BESIDE, LOCKS, 0)
         && fails_well::<Failing<NestedCells, 4>>(alloc, TWO_PUTS, REFUSED_INFO, NOTHING, 0)
 }
 
@@ -98,7 +98,7 @@ fn nested_refusals_leave_all(alloc: Global) -> bool {
 fn flat_refusals_leave_all(alloc: Global) -> bool {
     fails_well::<Failing<FlatCells, 1>>(alloc, ONE_PUT, REFUSED_COPY, NOTHING, 1)
         && fails_well::<Failing<FlatCells, 2>>(alloc, ONE_PUT, REFUSED_CHANGE, NOTHING, 0)
-        && fails_well::<Failing<FlatCells, 4>>(alloc, TWO_KEYS, REFUSED_NUMBER, LOCKS, 0)
+        && fails_well::<Failing<FlatCells, 4>>(alloc, TWO_KEYS, REFUSED_BESIDE, LOCKS, 0)
         && fails_well::<Failing<FlatCells, 4>>(alloc, TWO_PUTS, REFUSED_INFO, NOTHING, 0)
 }
 

@@ -13,7 +13,6 @@ use Rattle.tx_core.specs.Decisions.{decided, HasTwoPhaseLock}
 use Rattle.tx_core.specs.Allowed.{other_keys, Allowed}
 use Rattle.tx_core.specs.Laws.{IsLockOf}
 use Rattle.tx_core.proofs.Basics.{key_test}
-use Rattle.tx_core.proofs.runs.Consequences.{decided_declared}
 use Rattle.tx_core.proofs.locks.ToldLocks.{told_lock}
 use Rattle.tx_resolve.specs.declared.found.For.{For}
 use Rattle.tx_resolve.specs.Resolving.{check_of, other_of, settle_of}
@@ -27,13 +26,12 @@ pub check_allowed : (bounds : List Key) (h : History) (met : LockInfo) (who : Fo
     → (forced ≡ true → HasTwoPhaseLock h met.start) → Allowed h (check_of met who forced)
 check_allowed bounds h met who forced knows two_phase =
     let is = lock_known bounds h met knows in
-    record { of = is.of; stands = is.declares; primary = is.primary; forced = two_phase }
+    record { primary = ap (λ o. is_first (set_of o) met.primary) is.declares ∙ is.primary; forced = two_phase }
 
 -- a fate that is decided
 pub settle_allowed : (bounds : List Key) (h : History) (met : LockInfo) (end : Fate) → Knows bounds h met
     → decided h met.start ≡ Done end → Allowed h (settle_of met end)
-settle_allowed bounds h met end knows e =
-    record { stands = decided_declared bounds h knows.run met.start end e; decision = e }
+settle_allowed bounds h met end knows e = e
 
 -- ---- the other keys
 

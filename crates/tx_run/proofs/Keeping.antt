@@ -1,19 +1,27 @@
 -- What a reader of a script keeps, line after line.
 use Rattle.std.proofs.Common.{◌≡◌, ℕ, zero, suc, ◌+◌, ◌-◌, ◌<◌, ◌≤◌, List, [], ◌∷◌, ◌++◌, map, take, set, get_or, length, length-append, Bool, true, false, if◌then◌else◌, Option, Some, None, refl, sym, ap, subst, ◌∙◌, append-nil, arith}
-use Rattle.std.specs.Prelude.{slice_get, bytes_eq, option_map, option_and_then, is_some, not, IfSome}
+use Rattle.std.specs.Prelude.{◌&&◌, slice_get, bytes_eq, nat_eq, option_map, option_and_then, is_some, not, IfSome, Result, Ok, Err}
 use Rattle.std.specs.List.{list_any}
 use Rattle.std.specs.Option.{option_map_or}
+use Rattle.std.proofs.lemmas.Bool.{eqb-true}
 use Rattle.std.proofs.lemmas.Cmp.{nat_list_eq_equiv}
 use Rattle.std.proofs.lemmas.List.{map-append, map-set, get_or-map, length-map, length-take, take_more, take_all}
 use Rattle.std.proofs.lemmas.List.Folds.{list_any-append}
 use Rattle.std.proofs.lemmas.Map.Keys.{any_passes_from_place}
 use Rattle.std.proofs.lemmas.Option.{same_Some, slice_get_within, slice_get-map, get_or_from_slice_get}
 use Rattle.std.proofs.lemmas.Slice.Eq.{bytes_eq-Decides}
+use Rattle.tx_steps.specs.declared.program.Program.TheVariants.{Run}
 use Rattle.tx_steps.specs.declared.step.Step.{Step}
 use Rattle.tx_steps.specs.Steps.{Text}
-use Rattle.tx_run.specs.Reading.{KeepsText, is_named, is_seed, lines_of_session, name_in, seeds_of, session_names, session_of, sessions_of, step_of, with_name}
+use Rattle.tx_run.specs.Reading.{KeepsText, firsts_of, is_named, is_seed, lines_of_session, name_in, opening_of, seeds_of, session_names, session_of, sessions_of, step_for, step_of, with_name}
 use Rattle.tx_text.specs.Lines.{lines_of}
 use Rattle.tx_transfer.specs.Sources.{HasLine}
+use Rattle.tx_types.specs.declared.key.Key.{Key}
+use Rattle.serde_json.specs.Data.{Data}
+use Rattle.tx_types.specs.declared.fault.Cause.{Cause}
+use Rattle.tx_steps.specs.Lines.{data_said, step_in, bounds_in}
+use Rattle.tx_evidence.specs.Lines.{bounds_by, bounds_at, bounds_of}
+use Rattle.tx_run.specs.Faults.{opens}
 use Rattle.tx_run.specs.Readers.{HasSession, Sorts, SortsBefore}
 use Rattle.tx_core.specs.Histories.{History}
 use Rattle.tx_run.specs.declared.reply.LineReply.{LineReply}
@@ -33,16 +41,63 @@ kept_of [] name k q e = absurd (cc (e))
 kept_of (n ∷ names) name zero q e = e
 kept_of (n ∷ names) name (suc k) q e = kept_of names name k q e
 
-pub sorts_first : (index : Text → Option ℕ) → ((name : Text) → index name ≡ None) → Sorts [] index [] []
+pub sorts_first : (index : Text → Option ℕ) → ((name : Text) → index name ≡ None) → Sorts [] index [] [] []
 sorts_first index none = record {
   found = λ name i is. absurd (cc (none name, is));
   missed = λ name is. refl;
   sessions = refl;
   seeds = refl;
+  bounds = refl;
 }
 
+-- a line that says a step says no keys between the regions
+no_bounds : (said : Result Data Cause) (step : Step Text) → step_for 1 said ≡ Some step → bounds_at said ≡ []
+no_bounds (Err cause) step is = absurd (cc (is))
+no_bounds (Ok d) step is = by (bounds_in d) refl
+  where
+    opened : (b : Bool) → b ≡ true → (if b then None else step_in Run d) ≡ Some step → ⊥
+    opened true e said = cc (said)
+    opened false e said = cc (e)
+
+    by : (o : Option (List Key)) → bounds_in d ≡ o → bounds_by o ≡ []
+    by None e = refl
+    by (Some keys) e = absurd (opened (opens 1 d) (ap is_some e) is)
+
+-- what the first line says of the regions, as the text has one more line
+pub bounds_step : (lines : List (List ℕ)) (line : List ℕ) (number : ℕ) (step : Step Text) → number ≡ length lines + 1
+    → step_of number line ≡ Some step → bounds_of (lines ++ line ∷ []) ≡ bounds_of lines
+bounds_step [] line number step at said =
+    no_bounds (data_said 1 line) step (subst (λ (n : ℕ). step_of n line ≡ Some step) at said)
+bounds_step (first ∷ lines) line number step at said = refl
+
+pub bounds_open : (lines : List (List ℕ)) (line : List ℕ) (number : ℕ) (d : Data) → number ≡ length lines + 1
+    → data_said number line ≡ Ok d → opens number d ≡ true → bounds_by (bounds_in d) ≡ bounds_of (lines ++ line ∷ [])
+bounds_open [] line number d at said opened =
+    ap bounds_at (sym (subst (λ (n : ℕ). data_said n line ≡ Ok d) at said))
+bounds_open (first ∷ lines) line number d at said opened = absurd (late (nat_eq number 1) refl opened)
+  where
+    late : (b : Bool) → nat_eq number 1 ≡ b → (b && is_some (bounds_in d)) ≡ true → ⊥
+    late true e is = let same : number ≡ 1 = eqb-true number 1 e in omega (arith, at, same)
+    late false e is = cc (is)
+
+step_named : (number : ℕ) (line : List ℕ) (name : Text) → session_of number line ≡ Some name
+    → (step : Step Text) × (step_of number line ≡ Some step)
+step_named number line name is = by (step_of number line) refl is
+  where
+    by : (o : Option (Step Text)) → step_of number line ≡ o → option_and_then name_in o ≡ Some name
+        → (step : Step Text) × (step_of number line ≡ Some step)
+    by None e said = absurd (cc (said))
+    by (Some step) e said = (step, e)
+
 module _ (lines : List (List ℕ)) (line : List ℕ) (number : ℕ) (at : number ≡ length lines + 1)
-    (index : Text → Option ℕ) (kept : List (List ℕ)) (others : List ℕ) (sorts : Sorts lines index kept others) where
+    (index : Text → Option ℕ) (kept : List (List ℕ)) (others : List ℕ) (between : List Key)
+    (sorts : Sorts lines index kept others between) where
+  -- the regions stay, where the line says a step
+  bounds_named : (name : Text) → session_of number line ≡ Some name → between ≡ bounds_of (lines ++ line ∷ [])
+  bounds_named name is =
+      let said = step_named number line name is in
+      sorts.bounds ∙ sym (bounds_step lines line number said.0 at said.1)
+
   -- the lines of all names, where the new line is of this session, or of none
   all_lines : (names : List Text) (s : Option Text) → session_of number line ≡ s
       → map (λ name. lines_of_session name (lines ++ line ∷ [])) names
@@ -63,10 +118,10 @@ module _ (lines : List (List ℕ)) (line : List ℕ) (number : ℕ) (at : number
       ∙ sym (seeds_more lines line number at)
 
   -- a line that is no session's
-  pub sorts_none : (more : List ℕ) → session_of number line ≡ None
-      → more ≡ others ++ (if is_seed number line then number ∷ [] else [])
-      → Sorts (lines ++ line ∷ []) index kept more
-  sorts_none more none is =
+  pub sorts_none : (more : List ℕ) (later : List Key) → session_of number line ≡ None
+      → more ≡ others ++ (if is_seed number line then number ∷ [] else []) → later ≡ bounds_of (lines ++ line ∷ [])
+      → Sorts (lines ++ line ∷ []) index kept more later
+  sorts_none more later none is said =
       let names : session_names lines ≡ session_names (lines ++ line ∷ []) = sym (names_then None none) in
       record {
         found = λ name i here. subst (λ (ns : List Text). slice_get ns i ≡ Some name) names (sorts.found name i here);
@@ -77,6 +132,7 @@ module _ (lines : List (List ℕ)) (line : List ℕ) (number : ℕ) (at : number
             ∙ sym (all_lines (session_names lines) None none)
             ∙ ap (map (λ name. lines_of_session name (lines ++ line ∷ []))) names;
         seeds = is ∙ seeds_then (is_seed number line) refl;
+        bounds = said;
       }
 
   no_seed : (name : Text) → session_of number line ≡ Some name → is_seed number line ≡ false
@@ -96,7 +152,7 @@ module _ (lines : List (List ℕ)) (line : List ℕ) (number : ℕ) (at : number
 
   -- a line of a session that has some
   pub sorts_known : (name : Text) (i : ℕ) → session_of number line ≡ Some name → index name ≡ Some i
-      → Sorts (lines ++ line ∷ []) index (set kept i (get_or kept i [] ++ number ∷ [])) others
+      → Sorts (lines ++ line ∷ []) index (set kept i (get_or kept i [] ++ number ∷ [])) others between
   sorts_known name i is here =
       let there : slice_get (session_names lines) i ≡ Some name = sorts.found name i here in
       let among : list_any (bytes_eq name) (session_names lines) ≡ true =
@@ -118,6 +174,7 @@ module _ (lines : List (List ℕ)) (line : List ℕ) (number : ℕ) (at : number
             ∙ sym (all_lines (session_names lines) (Some name) is)
             ∙ ap (map (λ n. lines_of_session n (lines ++ line ∷ []))) names;
         seeds = session_seeds name is;
+        bounds = bounds_named name is;
       }
 
   pub known_within : (name : Text) (i : ℕ) → index name ≡ Some i → i < length kept
@@ -132,7 +189,7 @@ module _ (lines : List (List ℕ)) (line : List ℕ) (number : ℕ) (at : number
   -- the first line of a session
   pub sorts_new : (name : Text) (next : Text → Option ℕ) → session_of number line ≡ Some name → index name ≡ None
       → ((q : Text) → next q ≡ (if bytes_eq name q then Some (length kept) else index q))
-      → Sorts (lines ++ line ∷ []) next (kept ++ (number ∷ []) ∷ []) others
+      → Sorts (lines ++ line ∷ []) next (kept ++ (number ∷ []) ∷ []) others between
   sorts_new name next is here updates =
       let none : list_any (bytes_eq name) (session_names lines) ≡ false = sorts.missed name here in
       let same : with_name (session_names lines) (Some name) ≡ session_names lines ++ name ∷ [] =
@@ -156,6 +213,7 @@ module _ (lines : List (List ℕ)) (line : List ℕ) (number : ℕ) (at : number
             ∙ sym (all_lines (session_names lines ++ name ∷ []) (Some name) is)
             ∙ ap (map (λ n. lines_of_session n (lines ++ line ∷ []))) names;
         seeds = session_seeds name is;
+        bounds = bounds_named name is;
       }
     where
       first : list_any (bytes_eq name) (session_names lines) ≡ false
@@ -207,71 +265,97 @@ module _ (text : List ℕ) (number : ℕ) (line : List ℕ) (some : 0 < number)
       omega (arith, some, within, length-take (number - 1) (lines_of text))
 
 pub before_first : (source : Option (List ℕ)) (index : Text → Option ℕ) → ((name : Text) → index name ≡ None)
-    → SortsBefore source 1 index [] []
+    → SortsBefore source 1 index [] [] []
 before_first None index none = tt
 before_first (Some text) index none = sorts_first index none
 
 module _ (source : Option (List ℕ)) (number : ℕ) (some : 0 < number) (index : Text → Option ℕ)
-    (kept : List (List ℕ)) (others : List ℕ) where
+    (kept : List (List ℕ)) (others : List ℕ) (between : List Key) where
   -- a line of no session
-  pub before_none : (line : List ℕ) (more : List ℕ) → HasLine source number line → session_of number line ≡ None
-      → more ≡ others ++ (if is_seed number line then number ∷ [] else [])
-      → SortsBefore source number index kept others → SortsBefore source (number + 1) index kept more
-  before_none line more has none is sorts = by source has sorts
+  pub before_none : (line : List ℕ) (more : List ℕ) (later : List Key) → HasLine source number line
+      → session_of number line ≡ None → more ≡ others ++ (if is_seed number line then number ∷ [] else [])
+      → ((lines : List (List ℕ)) → number ≡ length lines + 1 → between ≡ bounds_of lines
+      → later ≡ bounds_of (lines ++ line ∷ []))
+      → SortsBefore source number index kept others between → SortsBefore source (number + 1) index kept more later
+  before_none line more later has none is said sorts = by source has sorts
     where
-      by : (o : Option (List ℕ)) → HasLine o number line → SortsBefore o number index kept others
-          → SortsBefore o (number + 1) index kept more
+      by : (o : Option (List ℕ)) → HasLine o number line → SortsBefore o number index kept others between
+          → SortsBefore o (number + 1) index kept more later
       by None has sorts = tt
-      by (Some text) has sorts = subst (λ (ls : List (List ℕ)). Sorts ls index kept more)
-          (next_lines text number line some has)
-          (sorts_none (take (number - 1) (lines_of text)) line number (place text number line some has) index kept
-          others sorts more none is)
+      by (Some text) has sorts =
+          let at = place text number line some has in
+          subst (λ (ls : List (List ℕ)). Sorts ls index kept more later) (next_lines text number line some has)
+          (sorts_none (take (number - 1) (lines_of text)) line number at index kept others between sorts more later none
+          is (said (take (number - 1) (lines_of text)) at sorts.bounds))
 
   -- a line of a session that has some
   pub before_known : (name : Text) (i : ℕ) (new : List (List ℕ)) → HasSession source number name
       → index name ≡ Some i → (i < length kept → new ≡ set kept i (get_or kept i [] ++ number ∷ []))
-      → SortsBefore source number index kept others → SortsBefore source (number + 1) index new others
+      → SortsBefore source number index kept others between
+      → SortsBefore source (number + 1) index new others between
   before_known name i new named here set_is sorts = by source named sorts
     where
-      by : (o : Option (List ℕ)) → HasSession o number name → SortsBefore o number index kept others
-          → SortsBefore o (number + 1) index new others
+      by : (o : Option (List ℕ)) → HasSession o number name → SortsBefore o number index kept others between
+          → SortsBefore o (number + 1) index new others between
       by None named sorts = tt
       by (Some text) named sorts =
           let l = found_line number (slice_get (lines_of text) (number - 1)) name named in
           let lines = take (number - 1) (lines_of text) in
           let at = place text number l.0 some l.1 in
-          let within = known_within lines l.0 number at index kept others sorts name i here in
-          subst (λ (k : List (List ℕ)). Sorts (take (number + 1 - 1) (lines_of text)) index k others)
+          let within = known_within lines l.0 number at index kept others between sorts name i here in
+          subst (λ (k : List (List ℕ)). Sorts (take (number + 1 - 1) (lines_of text)) index k others between)
           (sym (set_is within))
-          (subst (λ (ls : List (List ℕ)). Sorts ls index (set kept i (get_or kept i [] ++ number ∷ [])) others)
+          (subst (λ (ls : List (List ℕ)). Sorts ls index (set kept i (get_or kept i [] ++ number ∷ [])) others between)
           (next_lines text number l.0 some l.1)
-          (sorts_known lines l.0 number at index kept others sorts name i l.2 here))
+          (sorts_known lines l.0 number at index kept others between sorts name i l.2 here))
 
   -- the first line of a session
   pub before_new : (name : Text) (next : Text → Option ℕ) (new : List (List ℕ)) → HasSession source number name
       → index name ≡ None → new ≡ kept ++ (number ∷ []) ∷ []
       → ((q : Text) → next q ≡ (if bytes_eq name q then Some (length kept) else index q))
-      → SortsBefore source number index kept others → SortsBefore source (number + 1) next new others
+      → SortsBefore source number index kept others between → SortsBefore source (number + 1) next new others between
   before_new name next new named here is updates sorts = by source named sorts
     where
-      by : (o : Option (List ℕ)) → HasSession o number name → SortsBefore o number index kept others
-          → SortsBefore o (number + 1) next new others
+      by : (o : Option (List ℕ)) → HasSession o number name → SortsBefore o number index kept others between
+          → SortsBefore o (number + 1) next new others between
       by None named sorts = tt
       by (Some text) named sorts =
           let l = found_line number (slice_get (lines_of text) (number - 1)) name named in
           let lines = take (number - 1) (lines_of text) in
           let at = place text number l.0 some l.1 in
-          subst (λ (k : List (List ℕ)). Sorts (take (number + 1 - 1) (lines_of text)) next k others) (sym is)
-          (subst (λ (ls : List (List ℕ)). Sorts ls next (kept ++ (number ∷ []) ∷ []) others)
+          subst (λ (k : List (List ℕ)). Sorts (take (number + 1 - 1) (lines_of text)) next k others between) (sym is)
+          (subst (λ (ls : List (List ℕ)). Sorts ls next (kept ++ (number ∷ []) ∷ []) others between)
           (next_lines text number l.0 some l.1)
-          (sorts_new lines l.0 number at index kept others sorts name next l.2 here updates))
+          (sorts_new lines l.0 number at index kept others between sorts name next l.2 here updates))
+
+-- line 1 says the keys between the regions: it is no session's, and no seed
+opened_none : (number : ℕ) (line : List ℕ) (d : Data) → data_said number line ≡ Ok d → opens number d ≡ true
+    → (session_of number line ≡ None) × (is_seed number line ≡ false)
+opened_none number line d said opened =
+    let none : step_of number line ≡ None =
+    ap (step_for number) said ∙ ap (λ (b : Bool). if b then None else step_in Run d) opened in (
+      ap (option_and_then name_in) none,
+      ap (λ (s : Option (Step Text)). option_map_or (λ step. not (is_some (name_in step))) s false) none,
+    )
+
+pub before_open : (source : Option (List ℕ)) (number : ℕ) → 0 < number → (index : Text → Option ℕ)
+    (kept : List (List ℕ)) (others : List ℕ) (between later : List Key) (line : List ℕ) (d : Data)
+    → HasLine source number line → data_said number line ≡ Ok d → opens number d ≡ true
+    → later ≡ bounds_by (bounds_in d) → SortsBefore source number index kept others between
+    → SortsBefore source (number + 1) index kept others later
+before_open source number some index kept others between later line d has said opened is sorts =
+    let none = opened_none number line d said opened in
+    let same : others ≡ others ++ (if is_seed number line then number ∷ [] else []) =
+    sym (ap (λ (b : Bool). others ++ (if b then number ∷ [] else [])) none.1 ∙ append-nil others) in
+    before_none source number some index kept others between line others later has none.0 same
+    (λ lines at was. is ∙ bounds_open lines line number d at said opened) sorts
 
 -- the text ends here
 pub before_whole : (source left : Option (List ℕ)) (number : ℕ) (index : Text → Option ℕ) (kept : List (List ℕ))
-    (others : List ℕ) → Stands source left number → IfSome left (λ bytes. bytes ≡ [])
-    → SortsBefore source number index kept others → KeepsText source kept others
-before_whole None left number index kept others stands ends sorts = tt
-before_whole (Some text) left number index kept others stands ends sorts =
+    (others : List ℕ) (between : List Key) → Stands source left number → IfSome left (λ bytes. bytes ≡ [])
+    → SortsBefore source number index kept others between → KeepsText source kept others between
+before_whole None left number index kept others between stands ends sorts = tt
+before_whole (Some text) left number index kept others between stands ends sorts =
     let rest : stands.rest ≡ [] = subst (λ (o : Option (List ℕ)). IfSome o (λ bytes. bytes ≡ [])) stands.is ends in
     let all : lines_of text ≡ stands.before ++ [] =
     stands.split ∙ ap (λ (l : List ℕ). stands.before ++ lines_of l) rest in
@@ -281,6 +365,7 @@ before_whole (Some text) left number index kept others stands ends sorts =
     record {
       sessions = sorts.sessions ∙ ap sessions_of same;
       seeds = sorts.seeds ∙ ap seeds_of same;
+      bounds = sorts.bounds ∙ ap bounds_of same;
     }
 
 -- ---- what the code keeps
@@ -316,8 +401,13 @@ seed_by number line step said none = (
 
 -- ---- what comes of it
 
-pub comes_of_text : (source : Option (List ℕ)) (lines : List (List ℕ)) (others : List ℕ) (h : History) (replies :
-    List LineReply) → KeepsText source lines others → ComesOf lines h replies → ComesOfText source h replies
-comes_of_text None lines others h replies keeps comes = (lines, comes)
-comes_of_text (Some text) lines others h replies keeps comes =
-    subst (λ (l : List (List ℕ)). ComesOf l h replies) keeps.sessions comes
+pub comes_of_text : (source : Option (List ℕ)) (lines : List (List ℕ)) (others : List ℕ) (between : List Key)
+    (h : History) (replies : List LineReply) → KeepsText source lines others between
+    → ComesOf (opening_of between ++ others) lines h replies → ComesOfText source h replies
+comes_of_text None lines others between h replies keeps comes = (opening_of between ++ others, lines, comes)
+comes_of_text (Some text) lines others between h replies keeps comes =
+    let firsts : opening_of between ++ others ≡ firsts_of (lines_of text) =
+    ap (λ (b : List Key). opening_of b ++ others) keeps.bounds
+    ∙ ap (λ (o : List ℕ). opening_of (bounds_of (lines_of text)) ++ o) keeps.seeds in
+    subst (λ (f : List ℕ). ComesOf f (sessions_of (lines_of text)) h replies) firsts
+    (subst (λ (l : List (List ℕ)). ComesOf (opening_of between ++ others) l h replies) keeps.sessions comes)

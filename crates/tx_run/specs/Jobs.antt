@@ -11,7 +11,7 @@ use Rattle.tx_run.specs.declared.reply.LineAnswer.TheVariants.{Plain, Ended}
 use Rattle.tx_run.specs.declared.reply.LineReply.{LineReply}
 use Rattle.tx_run.specs.Logs.{Logged, TellsBy}
 use Rattle.tx_run.specs.Answers.{Answers, EndsSo, IsReply, numbers_of}
-use Rattle.tx_run.specs.Reading.{sessions_of}
+use Rattle.tx_run.specs.Reading.{firsts_of, sessions_of}
 
 -- a job at work: its number, its log, the number of the line of a transfer on its way, those of the
 -- lines that are left in the order of the script, and whether a fault of the script ended it
@@ -102,10 +102,10 @@ pub record AreJoined (before : List LineReply) (h : History) (replies : List Lin
   pub learnt : All (IsLearnt h) jobs
   pub all : replies ≡ before ++ flat_map (λ output. output.log.replies) jobs
 
--- the answers of these jobs stand behind those that were there before any session, none of which is
--- a fault or tells an outcome
-abbrev pub AreGathered : History → List LineReply → List Output → Type 0
-AreGathered h replies jobs = (before : List LineReply)
+-- the answers of these jobs stand behind those that were there before any session, which are of the
+-- lines of these numbers, in this order; none of those is a fault or tells an outcome
+abbrev pub AreGathered : List ℕ → History → List LineReply → List Output → Type 0
+AreGathered firsts h replies jobs = (before : List LineReply) × (numbers_of before ≡ firsts)
     × All (λ s. IsReply s.answer) before × AreJoined before h replies jobs
 
 -- the k-th session's lines were answered up to a fault, which is its last answer, unless one of its
@@ -115,14 +115,17 @@ AreAnswered lines outputs = (length outputs ≡ length lines) × ((k : ℕ) (num
     → slice_get lines k ≡ Some numbers → slice_get outputs k ≡ Some output
     → output.log.lost ≡ false → Answers numbers output.faulted output.log.replies)
 
--- What a run came to whose sessions have lines of these numbers: the answers before any session,
--- and those of its sessions. Each had seen a beginning of what is seen in the end, and none lost an
--- answer: each line of a session is answered, in order and once, but those behind a fault.
-abbrev pub ComesOf : List (List ℕ) → History → List LineReply → Type 0
-ComesOf lines h replies = (sessions : List Output) × AreGathered h replies sessions × AreAnswered lines sessions
+-- What a run came to that has lines of these numbers before any session, and whose sessions have
+-- these: the answers of those, and of its sessions, and no other. Each session had seen a beginning
+-- of what is seen in the end, and none lost an answer: each line of a session is answered, in order
+-- and once, but those behind a fault.
+abbrev pub ComesOf : List ℕ → List (List ℕ) → History → List LineReply → Type 0
+ComesOf firsts lines h replies =
+    (sessions : List Output) × AreGathered firsts h replies sessions × AreAnswered lines sessions
 
--- this, of the sessions of a text, each with the lines that the text says are its own; of some
--- sessions, where the text is not known
+-- this, of the lines of a text: each session has those that the text says are its own, and before
+-- any come line 1, where it says the keys between the regions, and the seeds; of some lines, where
+-- the text is not known
 abbrev pub ComesOfText : Option (List ℕ) → History → List LineReply → Type 0
-ComesOfText None h replies = (lines : List (List ℕ)) × ComesOf lines h replies
-ComesOfText (Some text) h replies = ComesOf (sessions_of (lines_of text)) h replies
+ComesOfText None h replies = (firsts : List ℕ) × (lines : List (List ℕ)) × ComesOf firsts lines h replies
+ComesOfText (Some text) h replies = ComesOf (firsts_of (lines_of text)) (sessions_of (lines_of text)) h replies

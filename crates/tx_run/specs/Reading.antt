@@ -5,12 +5,14 @@ use Rattle.std.specs.List.{list_any, enumerate_from}
 use Rattle.std.specs.Option.{option_map_or}
 use Rattle.serde_json.specs.Data.{Data}
 use Rattle.tx_types.specs.declared.fault.Cause.{Cause}
+use Rattle.tx_types.specs.declared.key.Key.{Key}
 use Rattle.tx_text.specs.Lines.{lines_of}
 use Rattle.tx_steps.specs.declared.program.Program.TheVariants.{Run}
 use Rattle.tx_steps.specs.declared.step.Step.{Step}
 use Rattle.tx_steps.specs.declared.step.Step.TheVariants.{Begin, Act, Send, Transfer}
 use Rattle.tx_steps.specs.Steps.{Text}
 use Rattle.tx_steps.specs.Lines.{data_said, step_in}
+use Rattle.tx_evidence.specs.Lines.{bounds_of}
 use Rattle.tx_run.specs.Faults.{opens}
 
 -- ---- whose a line is
@@ -72,14 +74,26 @@ sessions_of lines = map (λ name. lines_of_session name lines) (session_names li
 abbrev pub seeds_of : List (List ℕ) → List ℕ
 seeds_of lines = map (λ l. l.0) (filter (λ l. is_seed l.0 l.1) (numbered lines))
 
+-- the number of line 1, where it says the keys between the regions
+abbrev pub opening_of : List Key → List ℕ
+opening_of [] = []
+opening_of (k ∷ ks) = 1 ∷ []
+
+-- the numbers of the lines that are answered before any session: of line 1, where it says the keys
+-- between the regions, and of the seeds
+abbrev pub firsts_of : List (List ℕ) → List ℕ
+firsts_of lines = opening_of (bounds_of lines) ++ seeds_of lines
+
 -- ---- what is kept of a text
 
 -- The sessions have just the lines of their names, and each name that a line says is a session's;
--- the seeds are just the lines that are no session's and say a step.
-pub record KeepsLines (text : List ℕ) (kept : List (List ℕ)) (others : List ℕ) : Type 0 where
+-- the seeds are just the lines that are no session's and say a step; the keys between the regions
+-- are those that line 1 says.
+pub record KeepsLines (text : List ℕ) (kept : List (List ℕ)) (others : List ℕ) (between : List Key) : Type 0 where
   pub sessions : kept ≡ sessions_of (lines_of text)
   pub seeds : others ≡ seeds_of (lines_of text)
+  pub bounds : between ≡ bounds_of (lines_of text)
 
 -- this, where the text is known
-abbrev pub KeepsText : Option (List ℕ) → List (List ℕ) → List ℕ → Type 0
-KeepsText source kept others = IfSome source (λ text. KeepsLines text kept others)
+abbrev pub KeepsText : Option (List ℕ) → List (List ℕ) → List ℕ → List Key → Type 0
+KeepsText source kept others between = IfSome source (λ text. KeepsLines text kept others between)

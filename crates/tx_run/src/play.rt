@@ -1,11 +1,12 @@
 //! Playing a script: its seeds, and then its sessions side by side, by workers.
-ghost use Rattle.std.specs.Prelude.{◌≡◌, ◌<◌, ◌+◌, ◌*◌, ◌≤◌, All, IfOk, IfSome, OnOk, length, map, vec_len};
+ghost use Rattle.std.specs.Prelude.{◌≡◌, ◌<◌, ◌+◌, ◌*◌, ◌≤◌, ◌++◌, [], All, IfOk, IfSome, OnOk, length, map, vec_len};
 ghost use Rattle.std.specs.List.{list_any};
-ghost use Rattle.tx_run.specs.Answers.{IsReply, has_fault};
+ghost use Rattle.tx_run.specs.Answers.{IsReply, has_fault, numbers_of};
 ghost use Rattle.tx_run.specs.Outcomes.{TellsOutcomes};
 ghost use Rattle.tx_run.specs.Jobs.{IsAbove, AreAnswered, AreFalling, AreFrom, AreGathered, HaveOwnSeats, Joins};
 ghost use Rattle.tx_run.specs.Jobs.{ComesOf, job_lines};
 ghost use Rattle.tx_run.specs.LineNumbers.{numbers_in};
+ghost use Rattle.tx_run.specs.Reading.{opening_of};
 ghost use Rattle.tx_run.specs.Scripts.{IsWithin};
 ghost use Rattle.tx_run.specs.Pairs.{TellsPair};
 
@@ -126,7 +127,7 @@ fn gather<J: JournalId, L: Source>(
     requires none { All (λ s. IsReply s.answer) replies.old }
     ensures told { OnOk result (TellsOutcomes seat.new.events replies.new) }
     ensures pairs { OnOk result (All (TellsPair L.text) replies.new) }
-    ensures comes { OnOk result (AreGathered seat.new.events replies.new outputs.items) }
+    ensures comes { OnOk result (AreGathered (numbers_of replies.old) seat.new.events replies.new outputs.items) }
     ensures faulted { IfOk result (λ faulted. faulted ≡ list_any (λ o. o.faulted) outputs.items) }
 {
     let mut faulted = false;
@@ -215,9 +216,11 @@ where
 }
 
 // Adds the first line's reply, where it says the keys between regions.
-fn write_regions(replies: &mut Vec<LineReply>, regions: usize) -> Result<(), Broken>
-    requires { All (λ s. IsReply s.answer) replies.old.items }
-    ensures { OnOk result (All (λ s. IsReply s.answer) replies.new.items) }
+fn write_regions<J: JournalId>(replies: &mut Vec<LineReply>, regions: usize) -> Result<(), Broken>
+    requires count { regions ≡ length J.bounds + 1 }
+    requires none { replies.old.items ≡ [] }
+    ensures quiet { OnOk result (All (λ s. IsReply s.answer) replies.new.items) }
+    ensures each { OnOk result (numbers_of replies.new.items ≡ opening_of J.bounds) }
 {
     if regions > 1 {
         replies.push(LineReply {
@@ -268,8 +271,9 @@ where
     requires few { vec_len script.sessions ≤ 256 }
     ensures told { IfOk result (λ played. TellsOutcomes played.seen.events played.replies) }
     ensures pairs { IfOk result (λ played. All (TellsPair L.text) played.replies) }
-    ensures comes { IfOk result
-        (λ played. ComesOf (numbers_in script.sessions.items) played.seen.events played.replies) }
+    ensures comes { IfOk result (λ played.
+        ComesOf (opening_of J.bounds ++ map (λ seed. seed.number) script.seeds.items)
+        (numbers_in script.sessions.items) played.seen.events played.replies) }
     ensures faulted { IfOk result (λ played. played.faulted ≡ has_fault played.replies) }
 {
     let Lines {
@@ -283,7 +287,7 @@ where
         return Err(Broken::Memory);
     };
     let mut first = Vec::with_capacity(alloc, seeds.len().saturating_add(1))?;
-    write_regions(&mut first, regions)?;
+    write_regions::<J>(&mut first, regions)?;
     let mut seat = play_seeds(seat, &mut context, seeds.as_slice(), &mut first)?;
     let mut replies = Replies::new(alloc);
     replies.add(first)?;
@@ -327,8 +331,9 @@ where
     requires { IsWithin script.bounds.items (vec_len script.sessions) }
     ensures told { IfOk result (λ played. TellsOutcomes played.seen.events played.replies) }
     ensures pairs { IfOk result (λ played. All (TellsPair L.text) played.replies) }
-    ensures comes { IfOk result
-        (λ played. ComesOf (numbers_in script.sessions.items) played.seen.events played.replies) }
+    ensures comes { IfOk result (λ played.
+        ComesOf (opening_of script.bounds.items ++ map (λ seed. seed.number) script.seeds.items)
+        (numbers_in script.sessions.items) played.seen.events played.replies) }
     ensures faulted { IfOk result (λ played. played.faulted ≡ has_fault played.replies) }
 {
     let Script {

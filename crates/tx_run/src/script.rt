@@ -2,8 +2,9 @@
 ghost use Rattle.std.specs.Prelude.{◌≡◌, ℕ, ◌+◌, ◌<◌, ◌≤◌, List, [], ◌∷◌, ◌++◌, map, set, get_or, bytes_eq};
 ghost use Rattle.std.specs.Prelude.{Some, option_map, if◌then◌else◌, IfErr, IfOk, OnOk, vec_len};
 ghost use Rattle.std.specs.BTreeMap.{get_by_text};
+ghost use Rattle.tx_evidence.specs.Lines.{bounds_by};
 ghost use Rattle.tx_run.specs.Scripts.{IsWithin};
-ghost use Rattle.tx_steps.specs.Lines.{data_of};
+ghost use Rattle.tx_steps.specs.Lines.{bounds_in, data_of};
 ghost use Rattle.tx_steps.specs.Steps.{asked, IsApart};
 ghost use Rattle.tx_run.specs.Faults.{IsFaultless, IsTooMany, Takes, TellsFault, opens};
 ghost use Rattle.tx_run.specs.LineNumbers.{number_of, numbers_in};
@@ -172,6 +173,8 @@ impl<L: Source> ScriptReader<L> {
         ensures seeds { OnOk result (self.new.script.seeds ≡ self.old.script.seeds) }
         ensures indexes { OnOk result (self.new.indexes ≡ self.old.indexes) }
         ensures said { IfOk result (λ said. said ≡ opens number (data_of line.now)) }
+        ensures bounds { IfOk result (λ said. self.new.script.bounds.items
+            ≡ (if said then bounds_by (bounds_in (data_of line.now)) else self.old.script.bounds.items)) }
     {
         if number != 1 {
             return Ok(false);
@@ -255,7 +258,7 @@ pub(crate) fn read_script<L: Source, B: BufRead>(
     ensures within { IfOk result (λ read. IfOk read (λ s. IsWithin s.bounds.items (vec_len s.sessions))) }
     ensures whole { IfOk result (λ read. IfOk read (λ script. IsFaultless L.text)) }
     ensures kept { IfOk result (λ read. IfOk read (λ script. KeepsText L.text (numbers_in script.sessions.items)
-        (map (λ seed. seed.number) script.seeds.items))) }
+        (map (λ seed. seed.number) script.seeds.items) script.bounds.items)) }
     ensures fault { IfOk result (λ read. IfErr read (λ e. TellsFault L.text e.0 e.1)) }
 {
     let mut reading = ScriptReader::<L>::new(alloc);

@@ -1,6 +1,6 @@
 //! The seeds of a run, in the order of their lines.
-ghost use Rattle.std.specs.Prelude.{All, OnOk};
-ghost use Rattle.tx_run.specs.Answers.{IsReply};
+ghost use Rattle.std.specs.Prelude.{◌≡◌, ◌++◌, map, All, OnOk};
+ghost use Rattle.tx_run.specs.Answers.{IsReply, numbers_of};
 
 use crate::reply::{LineAnswer, LineReply};
 use crate::session_line::ScriptLine;
@@ -41,7 +41,9 @@ pub(crate) fn play_seeds<J: JournalId, L: Source, F: Families + Drop, R: Wait + 
     replies: &mut Vec<LineReply>,
 ) -> Result<Seat<J>, Broken>
     requires { All (λ s. IsReply s.answer) replies.old.items }
-    ensures { OnOk result (All (λ s. IsReply s.answer) replies.new.items) }
+    ensures quiet { OnOk result (All (λ s. IsReply s.answer) replies.new.items) }
+    ensures each { OnOk result
+        (numbers_of replies.new.items ≡ numbers_of replies.old.items ++ map (λ line. line.number) seeds.now) }
 {
     for line in seeds {
         let (next, plain) = play(seat, context, line);

@@ -38,6 +38,14 @@ enum Message<J: Job, N: Opening<J>> {
     Stop,
 }
 
+/// A shard behind its lock. Two locks lie in different lines of memory, so that workers at two
+/// shards do not write the same line.
+#[derive(Drop)]
+struct LockedShard<J: Job, N: Opening<J>> {
+    shard: Mutex<Shard<J, N>>,
+    apart: [u64; 16],
+}
+
 /// What the workers of a run share.
 #[derive(Drop)]
 struct Pool<J: Job, N: Opening<J>>
@@ -49,7 +57,7 @@ where
     ready: Receiver<Message<J, N>>,
     /// The latches, those of a slot on the shard of its number modulo their count. A step asks them
     /// in rising order.
-    shards: Vec<Mutex<Shard<J, N>>>,
+    shards: Vec<LockedShard<J, N>>,
     alloc: Global,
     results: Mutex<Results<J, N>>,
     /// Rung when the results are over.
@@ -74,7 +82,10 @@ where
         let (queue, ready) = bounded(alloc, count.saturating_add(1))?;
         let mut shards = Vec::with_capacity(alloc, usize::from(SHARDS))?;
         for _ in 0..SHARDS {
-            shards.push(Mutex::new(Shard::new(alloc, count)?))?;
+            shards.push(LockedShard {
+                shard: Mutex::new(Shard::new(alloc, count)?),
+                apart: [0; 16],
+            })?;
         }
         let results = Results::new(alloc, count)?;
         let mut indexes = HashMap::new(alloc);
@@ -162,9 +173,9 @@ where
             let Some(shard) = self.shards.get(usize::from(shard_of(*slot))) else {
                 continue;
             };
-            let freed = shard.lock(rt).release(cid);
+            let freed = shard.shard.lock(rt).release(cid);
             for cid in freed {
-                self.wake(rt, shard, cid);
+                self.wake(rt, &shard.shard, cid);
             }
         }
     }

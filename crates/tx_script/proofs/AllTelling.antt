@@ -1,10 +1,9 @@
 -- Each reply of a play tells of its events.
 use Rattle.std.proofs.Common.{◌==◌, ◌&&◌, inl, inr, ℕ, ◌+◌, Bool, List, [], ◌∷◌, length, Option, Some, None, is_some, Result, Ok, Err, refl, sym, subst}
-use Rattle.serde_json.specs.Data.{Data, Items}
+use Rattle.serde_json.specs.Data.{Data}
 use Rattle.tx_types.specs.declared.fault.Cause.{Cause}
 use Rattle.tx_types.specs.declared.key.Key.{Key}
 use Rattle.tx_types.specs.declared.limits.TheConstants.{MAX_LIVE_SESSIONS}
-use Rattle.tx_core.specs.Histories.{History, Begins}
 use Rattle.tx_core.specs.Worlds.{IsWorldRun}
 use Rattle.tx_core.proofs.runs.AllRuns.{shadow_runs}
 use Rattle.tx_core.proofs.runs.Truths.{all_true}
@@ -16,11 +15,11 @@ use Rattle.tx_steps.specs.declared.step.Step.{Step}
 use Rattle.tx_steps.specs.Steps.{Text}
 use Rattle.tx_steps.specs.Lines.{data_said, step_in, bounds_in}
 use Rattle.tx_engine.specs.Semantics.{EngineState, opening, Transition, goes}
-use Rattle.tx_script.specs.Tells.{Entered, nothing_entered, entered_by}
-use Rattle.tx_script.specs.Play.{step_turn, said_turn, line_turn, Played, Plays, step_of, entered_after, LineTells, AllTell, IsPlay}
+use Rattle.tx_evidence.specs.Tells.{Entered, nothing_entered, entered_by, LineTells}
+use Rattle.tx_script.specs.Play.{step_turn, said_turn, line_turn, Played, Plays, step_of, entered_after, AllTell, IsPlay}
 use Rattle.tx_script.proofs.OnePlay.{plays_begin, one_play}
 use Rattle.tx_script.proofs.Owning.{AllOwn, own_more, own_none}
-use Rattle.tx_script.proofs.Staying.{tells_on}
+use Rattle.tx_evidence.proofs.Staying.{line_on}
 use Rattle.tx_script.proofs.Leading as turns
 use Rattle.tx_script.proofs.Leading.{leads_tell}
 use Rattle.tx_script.proofs.Telling.{Replies, turn_tells}
@@ -30,13 +29,6 @@ module _ (bounds : List Key) where
   abbrev LineReplies : Entered → Option (Step Text) → EngineState → ScriptReply → Type 0
   LineReplies entered said next reply = LineTells bounds entered next.network.history said (reply_words reply)
       × AllOwn (entered_after said entered) next.names next.slots
-
-  line_on : (entered : Entered) (l h : History) → Begins l h → (said : Option (Step Text)) (words : Items)
-      → LineTells bounds entered l said words → LineTells bounds entered h said words
-  line_on entered l h begins said words (inl x) = inl x
-  line_on entered l h begins said words (inr (inl x)) = inr (inl x)
-  line_on entered l h begins said words (inr (inr x)) =
-      inr (inr (x.0, x.1, x.2, x.3, tells_on bounds entered l h begins x.0 x.1 x.4))
 
   module _ (entered : Entered) (engine : EngineState) (own : AllOwn entered engine.names engine.slots)
       (refused : List Bool) where
@@ -72,7 +64,7 @@ module _ (bounds : List Key) where
       (λ next said left r x. subst (λ (q : Played). AllTell bounds entered q.history number (line ∷ lines) q.replies)
       (sym x.2) (
         refl,
-        line_on entered next.network.history x.0.history (plays_begin bounds lines next (number + 1) left x.0 x.1)
+        line_on bounds entered next.network.history x.0.history (plays_begin bounds lines next (number + 1) left x.0 x.1)
             (step_of (data_said (number + 1) line)) (reply_words said) r.0,
         plays_tell lines (entered_after (step_of (data_said (number + 1) line)) entered) next r.1 (number
             + 1) left x.0 x.1,

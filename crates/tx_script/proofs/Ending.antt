@@ -17,7 +17,8 @@ use Rattle.tx_text.specs.Lines.{max_line}
 use Rattle.tx_engine.specs.Semantics.{opening}
 use Rattle.tx_engine.specs.Slots.{Held, own, AllSeated, Settled}
 use Rattle.tx_engine.proofs.Settling.{history_upto}
-use Rattle.tx_script.specs.Play.{EndsLines, BreaksLines, ending, bounds_of}
+use Rattle.tx_evidence.specs.Lines.{bounds_of}
+use Rattle.tx_script.specs.Play.{EndsLines, BreaksLines, ending}
 use Rattle.tx_script.specs.Loops.{Ahead, first_bounds, EndsAt, BreaksAt}
 use Rattle.tx_script.proofs.AllTelling.{is_play}
 

@@ -19,7 +19,7 @@ use Rattle.tx_network.specs.Networks.{taken, holding, takes_memory, region_for, 
 use Rattle.tx_reply.specs.declared.reply.ScriptReply.{ScriptReply}
 use Rattle.tx_engine.specs.Semantics.{EngineState, Transition, goes, inquires, shows, stops, at_network, answers, asked, sent, runs}
 use Rattle.tx_engine.specs.Plays.{Leads}
-use Rattle.tx_script.proofs.Coming.{Comes}
+use Rattle.tx_evidence.proofs.Coming.{Comes}
 
 -- an engine state that follows by requests alone: no session has changed
 pub record Since (old new : EngineState) : Type 0 where

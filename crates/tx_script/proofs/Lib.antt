@@ -2,14 +2,10 @@
 pub mod OnePlay
 -- What sessions have in their buffers was entered under their names.
 pub mod Owning
--- What walks come to, by what was answered on the way.
-pub mod Coming
 -- What holds of whatever a turn goes on to, by what regions answer.
 pub mod Leading
 -- What a step's turn replies, by what has then happened.
 pub mod Telling
--- What a reply tells stays so as the history grows.
-pub mod Staying
 -- Each reply of a play tells of its events.
 pub mod AllTelling
 -- What a line of a script leads to, by what it says.

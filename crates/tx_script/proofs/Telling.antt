@@ -40,9 +40,11 @@ use Rattle.tx_network.specs.Networks.{may_go}
 use Rattle.tx_reply.specs.declared.reply.ScriptReply.{ScriptReply}
 use Rattle.tx_reply.specs.declared.reply.ScriptReply.TheVariants as reply
 use Rattle.tx_engine.specs.Semantics.{SlotState, free, session, EngineState, Transition, goes, shows, calls, began, seat_at, read_by, said_by, missed_by, asked, runs_to, first_free, lives, at_slot, live_at, is_too_many, edited, sends_by, delivered_by, delivers, finishes_by, begins_at, in_session, turn, learns, learnt, resolves_by, collected_as}
-use Rattle.tx_script.specs.Tells.{Entered, entered_by, WasGiven, WasFound, TellsAnswer, TellsBy}
-use Rattle.tx_script.proofs.Owning.{AllBy, IsLive, AllOwn, IsRefusal, EntersBy, own_more, own_set, own_begun, own_gone, all_more, puts_by, inserts_so, deletes_by, locks_by, first_is_free}
-use Rattle.tx_script.proofs.Coming.{Comes, Keeps, Told, ToldMay, Got, ByFault, due_comes, heartbeat_comes, get_comes, scan_comes, ScanTold, resolve_comes, gc_comes}
+use Rattle.tx_evidence.specs.Tells.{Entered, entered_by, WasGiven, WasFound, TellsAnswer, TellsBy}
+use Rattle.tx_evidence.specs.Buffers.{AllBy}
+use Rattle.tx_evidence.proofs.Buffers.{IsRefusal, EntersBy, all_more, puts_by, inserts_so, deletes_by, locks_by}
+use Rattle.tx_script.proofs.Owning.{IsLive, AllOwn, own_more, own_set, own_begun, own_gone, first_is_free}
+use Rattle.tx_evidence.proofs.Coming.{Comes, Keeps, Told, ToldMay, Got, ByFault, due_comes, heartbeat_comes, get_comes, scan_comes, ScanTold, resolve_comes, gc_comes}
 use Rattle.tx_script.proofs.Leading.{Since, since_same, AllTell, either, After, asked_tells, runs_tell}
 
 -- a step's reply tells of what has then happened, and each session has what was entered under its

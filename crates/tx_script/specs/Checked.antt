@@ -16,7 +16,8 @@ use Rattle.tx_check.specs.Steps.{step_text}
 use Rattle.tx_text.specs.Texts.{line_text}
 use Rattle.tx_check.specs.declared.words.Verdict.TheVariants.{Yes}
 use Rattle.tx_check.specs.Words.{words}
-use Rattle.tx_script.specs.Play.{Played, render, IsPlay, BreaksLines, bounds_of}
+use Rattle.tx_evidence.specs.Lines.{bounds_of}
+use Rattle.tx_script.specs.Play.{Played, render, IsPlay, BreaksLines}
 
 -- the lines that follow the replies of a run: the machine's steps that are read off it, oldest
 -- first, and that they are a run

@@ -1,4 +1,3 @@
-pub mod Tells
 pub mod Play
 pub mod Checked
 pub mod Loops

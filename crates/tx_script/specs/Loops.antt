@@ -19,7 +19,8 @@ use Rattle.tx_engine.specs.Semantics.{opening}
 use Rattle.tx_engine.specs.Slots.{Held, engine_state, own, AllSeated, TurnedBy}
 use Rattle.tx_script.specs.declared.line.Turned.{Turned}
 use Rattle.tx_script.specs.declared.line.Turned.TheVariants as turned
-use Rattle.tx_script.specs.Play.{line_turn, Played, Plays, render, bounds_at, EndsLines, BreaksLines}
+use Rattle.tx_evidence.specs.Lines.{bounds_at}
+use Rattle.tx_script.specs.Play.{line_turn, Played, Plays, render, EndsLines, BreaksLines}
 use Rattle.tx_script.specs.Checked.{IsBegun, EndsCheckedLines, BreaksCheckedLines}
 use Rattle.tx_steps.specs.Lines.{data_said}
 

@@ -9,14 +9,12 @@ use Rattle.tx_types.specs.declared.key.Key.{Key}
 use Rattle.tx_types.specs.declared.limits.TheConstants.{MAX_LIVE_SESSIONS}
 use Rattle.tx_machine.specs.Machine.{IsRun}
 use Rattle.tx_core.specs.Histories.{History}
-use Rattle.tx_core.specs.Shadow.{shadow}
-use Rattle.tx_core.specs.Truth.{AllTrue}
+use Rattle.tx_core.specs.Shadow.{shadow, AllTrue}
 use Rattle.tx_core.specs.Worlds.{IsWorldRun}
 use Rattle.tx_text.specs.declared.end.Broken.{Broken}
 use Rattle.tx_text.specs.declared.end.Broken.TheVariants.{Output}
 use Rattle.tx_text.specs.declared.end.End.{End}
 use Rattle.tx_text.specs.declared.end.End.TheVariants.{Well, Faulted}
-use Rattle.tx_reply.specs.declared.reply.ScriptReply.{ScriptReply}
 use Rattle.tx_reply.specs.declared.reply.ScriptReply.TheVariants.{Regions}
 use Rattle.tx_text.specs.Lines.{lines_of}
 use Rattle.tx_reply.specs.Replies.{reply_words}
@@ -28,23 +26,8 @@ use Rattle.tx_steps.specs.Steps.{Text}
 use Rattle.tx_steps.specs.Lines.{data_said, step_in, bounds_in}
 use Rattle.tx_engine.specs.Semantics.{EngineState, opening, Transition, goes, stops, turn}
 use Rattle.tx_engine.specs.Plays.{Leads}
-use Rattle.tx_script.specs.Tells.{Entered, nothing_entered, entered_by, TellsBy}
-
--- ---- the regions
-
--- the keys between the regions, where a value says some
-abbrev pub bounds_by : Option (List Key) → List Key
-bounds_by None = []
-bounds_by (Some ks) = ks
-
-abbrev pub bounds_at : Result Data Cause → List Key
-bounds_at (Ok d) = bounds_by (bounds_in d)
-bounds_at (Err c) = []
-
--- the keys between the regions of a script: line 1 says them, or there is one region
-abbrev pub bounds_of : List (List ℕ) → List Key
-bounds_of [] = []
-bounds_of (line ∷ lines) = bounds_at (data_said 1 line)
+use Rattle.tx_evidence.specs.Lines.{bounds_of, step_by}
+use Rattle.tx_evidence.specs.Tells.{Entered, nothing_entered, entered_by, LineTells}
 
 -- ---- lines
 
@@ -100,8 +83,7 @@ render replies = flat_map reply_text replies
 
 -- The step that a line says, if it says one.
 abbrev pub step_of : Result Data Cause → Option (Step Text)
-step_of (Ok d) = step_in Simulate d
-step_of (Err c) = None
+step_of said = step_by Simulate said
 
 -- what was entered after it
 abbrev pub entered_after : Option (Step Text) → Entered → Entered
@@ -119,21 +101,13 @@ module _ (bounds : List Key) where
       (λ cause. p ≡ faulted engine (number + 1) cause)
       (line_turn bounds refused (number + 1) line engine)
 
-  -- what is written for a line is a fault, or how many regions there are, or the reply of its step,
-  -- which tells of what has happened
-  abbrev pub LineTells : Entered → History → Option (Step Text) → Items → Type 0
-  LineTells entered h said words = ((cause : Cause) × (words ≡ fault_words cause))
-      ⊎ ((words ≡ reply_words (Regions (length bounds + 1)))
-      ⊎ ((what : Step Text) × (reply : ScriptReply) × (said ≡ Some what) × (words ≡ reply_words reply)
-      × TellsBy bounds entered h what reply))
-
   -- Each reply is that of the line of its number, from the number after this one on, each line has
   -- one at most, and each tells of what has happened.
   abbrev pub AllTell : Entered → History → ℕ → List (List ℕ) → List (ℕ × Items) → Type 0
   AllTell entered h number lines [] = Unit {0}
   AllTell entered h number [] (reply ∷ replies) = ⊥
   AllTell entered h number (line ∷ lines) (reply ∷ replies) = (reply.0 ≡ number + 1)
-      × LineTells entered h (step_of (data_said (number + 1) line)) reply.1
+      × LineTells bounds entered h (step_of (data_said (number + 1) line)) reply.1
       × AllTell (entered_after (step_of (data_said (number + 1) line)) entered) h (number + 1) lines replies
 
   -- What lines mean over regions with these bounds, where the calls that `refused` names met want

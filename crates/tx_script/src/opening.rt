@@ -4,7 +4,8 @@ ghost use Rattle.tx_types.specs.declared.limits.TheConstants as limits;
 ghost use Rattle.tx_cells.specs.Contents.{nothing_held};
 ghost use Rattle.tx_types.specs.Keys.{AreRising};
 ghost use Rattle.tx_text.specs.Lines.{lines_of};
-ghost use Rattle.tx_script.specs.Play.{bounds_of, EndsScript, BreaksScript};
+ghost use Rattle.tx_evidence.specs.Lines.{bounds_of};
+ghost use Rattle.tx_script.specs.Play.{EndsScript, BreaksScript};
 ghost use Rattle.tx_script.specs.Checked.{EndsChecked, BreaksChecked};
 ghost use Rattle.tx_script.specs.Loops.{Ahead, first_bounds, EndsAsked, BreaksAsked};
 

@@ -5,8 +5,10 @@ use std::cell::RefCell;
 use std::io::{BufWriter, Read, Write};
 use std::sync::Wait;
 use std::thread::Threads;
-use tx_command::{Asking, Counted, Erasing, NotedFaults, Noting, Recent, Shared, reason};
-use tx_text::{Broken, End};
+use tx_command::{
+    Asking, CommandEnd, Counted, Erasing, NotedFaults, Noting, Recent, Shared, reason,
+};
+use tx_text::Broken;
 
 // Says on standard error why lines are faults. What cannot be said there is left out: the line of
 // each fault is written all the same.
@@ -28,7 +30,7 @@ pub(crate) fn answer<R, I, O>(
     asked: &Invocation<'_>,
     input: I,
     output: O,
-) -> Result<End, Broken>
+) -> Result<CommandEnd, Broken>
 where
     R: AllocGlobal + Threads + Wait + Sync + Send + Clone + Drop,
     I: Read + Drop,

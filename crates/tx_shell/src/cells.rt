@@ -4,6 +4,7 @@ use std::io::{BufRead, Write};
 use std::sync::Wait;
 use std::thread::Threads;
 use tx_command::CellsKind;
+use tx_explain::explain;
 use tx_flat::FlatCells;
 use tx_nested::NestedCells;
 use tx_run::{Plain, RunResult, Settings, run_script};
@@ -35,6 +36,19 @@ pub(crate) fn simulate_checked_over<B: BufRead, W: Write>(
         CellsKind::Nested => simulate_checked::<NestedCells, _, _, _>(
             alloc, &Plain, reader, writer,
         ),
+    }
+}
+
+/// `txkv explain`.
+pub(crate) fn explain_over<B: BufRead, W: Write>(
+    alloc: Global,
+    cells: CellsKind,
+    reader: &mut B,
+    writer: &mut W,
+) -> Result<End, Broken> {
+    match cells {
+        CellsKind::Flat => explain::<FlatCells, _, _, _>(alloc, &Plain, reader, writer),
+        CellsKind::Nested => explain::<NestedCells, _, _, _>(alloc, &Plain, reader, writer),
     }
 }
 

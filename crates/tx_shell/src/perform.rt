@@ -1,14 +1,16 @@
 //! What each command does with its input.
 use crate::asked::Invocation;
-use crate::cells::{run_over, simulate_checked_over, simulate_over};
+use crate::cells::{explain_over, run_over, simulate_checked_over, simulate_over};
 use crate::stats::stats_of;
 use crate::watching::Watching;
 use std::io::{BufRead, Write};
 use std::sync::Wait;
 use std::thread::Threads;
 use std::time::{Duration, Instant};
+use tx_answers::{Answered, ImportEnd, ImportOptions, import};
 use tx_check::{check, check_with_reason};
-use tx_command::{CommandTask, Steps};
+use tx_command::{CommandEnd, CommandTask, Steps};
+use tx_recording::Orders;
 use tx_run::{RunResult, Settings};
 use tx_text::{Broken, End};
 
@@ -48,8 +50,29 @@ where
     Ok(end)
 }
 
-/// Does what is asked over these streams.
-pub(crate) fn perform<R, I, O>(
+// Judges a history, and says on standard error why. What cannot be said there is left out.
+fn judge<I: BufRead, O: Write>(
+    asked: &Invocation<'_>,
+    options: ImportOptions,
+    reader: &mut I,
+    writer: &mut O,
+) -> Result<CommandEnd, Broken> {
+    let host = asked.host;
+    let Answered { end, why } = import(host.alloc(), options, reader, writer)?;
+    asked.progress.erase();
+    if let Ok(why) = str::from_utf8(why.as_slice()) {
+        let _ = eprint!(host; "{why}");
+    }
+    Ok(match end {
+        ImportEnd::Yes => CommandEnd::Well,
+        ImportEnd::No => CommandEnd::No,
+        ImportEnd::Open => CommandEnd::Open,
+        ImportEnd::Faulted => CommandEnd::Faulted,
+    })
+}
+
+// Plays or checks what is asked over these streams, but for histories.
+fn play<R, I, O>(
     rt: &R,
     asked: &Invocation<'_>,
     reader: &mut I,
@@ -68,11 +91,40 @@ where
         CommandTask::SimulateSteps => {
             simulate_checked_over(alloc, cells, reader, &mut Steps::new(writer))
         }
-        CommandTask::Check => check(alloc, reader, writer),
+        CommandTask::Explain => explain_over(alloc, cells, reader, writer),
+        CommandTask::Check | CommandTask::Import(_) => check(alloc, reader, writer),
         CommandTask::CheckWithReason => check_with_reason(alloc, reader, writer),
         CommandTask::Run(workers, life_time) => {
             let settings = Settings { workers, life_time };
             run(rt, asked, settings, reader, writer)
         }
+    }
+}
+
+/// Does what is asked over these streams.
+pub(crate) fn perform<R, I, O>(
+    rt: &R,
+    asked: &Invocation<'_>,
+    reader: &mut I,
+    writer: &mut O,
+) -> Result<CommandEnd, Broken>
+where
+    R: AllocGlobal + Threads + Wait + Sync + Send + Clone + Drop,
+    I: BufRead,
+    O: Write,
+{
+    match asked.job.task {
+        CommandTask::Import(told) => {
+            let orders = Orders {
+                sessions: told.sessions,
+                strict: told.strict,
+            };
+            let options = ImportOptions {
+                orders,
+                dot: told.dot,
+            };
+            judge(asked, options, reader, writer)
+        }
+        _ => Ok(CommandEnd::of(play(rt, asked, reader, writer)?)),
     }
 }

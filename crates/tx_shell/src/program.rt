@@ -12,12 +12,13 @@ use std::sync::Wait;
 use std::thread::Threads;
 use std::{env, fs, io};
 use tx_command::{
-    CommandLine, Display, ProgressLine, Terminals, job_of, message_of, parse, shown_at, status_of,
+    CommandEnd, CommandLine, Display, ProgressLine, Terminals, job_of, message_of, parse, shown_at,
+    status_of,
 };
-use tx_text::{Broken, End};
+use tx_text::Broken;
 
 // Does what is asked over the input that is named.
-fn run<R>(rt: &R, asked: &Invocation<'_>) -> Result<End, Broken>
+fn run<R>(rt: &R, asked: &Invocation<'_>) -> Result<CommandEnd, Broken>
 where
     R: Input + Files + Print + Eprint + AllocGlobal + Threads + Wait + Sync + Send + Clone + Drop,
 {
@@ -44,32 +45,32 @@ fn words<R: Env + AllocGlobal>(rt: &R) -> io::Result<Vec<String>> {
 
 // A request for help or the version ends well, on standard output; a fault of the command line is
 // told on standard error.
-fn report<R: Print + Eprint>(rt: &R, error: &clap::Error) -> Result<End, Broken> {
+fn report<R: Print + Eprint>(rt: &R, error: &clap::Error) -> Result<CommandEnd, Broken> {
     if error.kind() == ErrorKind::OutOfMemory {
         Err(Broken::Memory)
     } else if error.print(rt).is_err() {
         Err(Broken::Output)
     } else if error.use_stderr() {
-        Ok(End::Faulted)
+        Ok(CommandEnd::Faulted)
     } else {
-        Ok(End::Well)
+        Ok(CommandEnd::Well)
     }
 }
 
 // The words of the command line could not be read: there was no room for them, or one of them is
 // not UTF-8.
-fn unread<R: Eprint>(rt: &R, error: &io::Error) -> Result<End, Broken> {
+fn unread<R: Eprint>(rt: &R, error: &io::Error) -> Result<CommandEnd, Broken> {
     if error.kind() == io::ErrorKind::OutOfMemory {
         return Err(Broken::Memory);
     }
     match eprintln!(rt; "error: a word of the command line is not UTF-8") {
-        Ok(()) => Ok(End::Faulted),
+        Ok(()) => Ok(CommandEnd::Faulted),
         Err(_) => Err(Broken::Output),
     }
 }
 
 // Does a job, and shows on standard error what is to be seen of it meanwhile.
-fn start<R>(rt: &R, host: HostRuntime, job: CommandLine<'_>) -> Result<End, Broken>
+fn start<R>(rt: &R, host: HostRuntime, job: CommandLine<'_>) -> Result<CommandEnd, Broken>
 where
     R: Input + Files + Print + Eprint + AllocGlobal + Threads + Wait + Sync + Send + Clone + Drop,
 {

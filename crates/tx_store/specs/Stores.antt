@@ -1,11 +1,24 @@
 -- What a store, and the way to it, make of a request, and which seats it leaves for sessions.
-use Rattle.std.specs.Prelude.{◌≡◌, ℕ, ◌+◌, ◌<◌, List, [], length, slice_get, Some, Ok, Err}
+use Rattle.std.specs.Prelude.{◌≡◌, ℕ, ◌+◌, ◌<◌, List, [], ◌∷◌, length, slice_get, Some, Ok, Err}
 use Rattle.tx_types.specs.declared.key.Key.{Key}
+use Rattle.tx_plan.specs.declared.answer.Answer.{Answer}
+use Rattle.tx_core.specs.declared.event.Event.TheVariants.{Took}
+use Rattle.tx_core.specs.Histories.{History, Begins}
+use Rattle.tx_core.specs.Worlds.{Holds}
 use Rattle.tx_journal.specs.Known.{Known, known}
 use Rattle.tx_journal.specs.Replies.{Asked}
-use Rattle.tx_region.specs.declared.applied.Applied.{Applied}
-use Rattle.tx_region.specs.declared.applied.Applied.TheVariants.{Done, Stale}
 use Rattle.tx_journal.specs.Senders.{Reached, IsHeld}
+
+-- A history ends with the event that answers a request so: a region that holds what the request
+-- speaks of took it. All that the sender had seen lies before that event, so the answer is none
+-- that the sender may have been given before.
+pub record IsAnswered (bounds : List Key) (q : Asked) (h : History) (a : Answer) : Type 0 where
+  pub region : ℕ
+  pub holds : Holds bounds region q.body
+  pub loaded : ℕ
+  pub before : History
+  pub ends : h ≡ Took record { region = region; body = q.body; loaded = loaded; answer = a } ∷ before
+  pub after : Begins q.by before
 
 -- it takes what one of the regions holds
 abbrev pub TakesHeld : {S : Type 0} → List Key → S → Asked → Type 0
@@ -15,11 +28,6 @@ TakesHeld bounds a q = IsHeld bounds q.body
 abbrev pub Replies : {S : Type 0} → S → Asked → Reached → S → Type 0
 Replies a q (Ok g) b = g.request ≡ q
 Replies a q (Err l) b = ⊥
-
--- what comes of a plan is a reply to the request, or the request again
-abbrev pub GivesBack : {J : Type 0} → Asked → Applied J → Type 0
-GivesBack q (Done g) = g.request ≡ q
-GivesBack q (Stale again) = again ≡ q
 
 -- the seats that are left for sessions: numbered from this one on, each with 2^32 ticks and no
 -- event

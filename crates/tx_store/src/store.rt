@@ -11,7 +11,7 @@ ghost use Rattle.tx_region.specs.Copies.{IsOfKey};
 ghost use Rattle.tx_region.specs.Planning.{IsCopyFor, IsPlanFor};
 ghost use Rattle.tx_journal.specs.Replies.{IsGiven};
 ghost use Rattle.tx_journal.specs.Senders.{IsHeld};
-ghost use Rattle.tx_store.specs.Stores.{AreForSessions};
+ghost use Rattle.tx_store.specs.Stores.{AreForSessions, IsAnswered};
 
 use crate::seats::split_seats;
 use std::alloc::Global;
@@ -264,9 +264,8 @@ impl<J: JournalId, F: Families + Drop> Store<J, F> {
         self.take_at(rt, index, request)
     }
 
-    /// Hands a request to the region that holds what it speaks of, once no other call has that
-    /// region. The reply tells who answered, and after what.
-    pub fn run<R: Wait>(&self, rt: &R, request: Request<J>) -> Reply<J>
+    // Answers a request in the region that holds it.
+    fn hand<R: Wait>(&self, rt: &R, request: Request<J>) -> Reply<J>
         requires { IsHeld J.bounds request.body }
         ensures { result.request ≡ request }
     {
@@ -276,5 +275,20 @@ impl<J: JournalId, F: Families + Drop> Store<J, F> {
         } else {
             self.take_at(rt, index, request)
         }
+    }
+
+    /// Hands a request to the region that holds what it speaks of, once no other call has that
+    /// region. The reply tells who answered, and after what. An answer is that of this request, by
+    /// an event that comes after all that the sender had seen: no old one is handed out again.
+    pub fn run<R: Wait>(&self, rt: &R, request: Request<J>) -> Reply<J>
+        requires { IsHeld J.bounds request.body }
+        ensures request { result.request ≡ request }
+        ensures given { IsGiven J.bounds result }
+        ensures answered { IfSome result.answer (IsAnswered J.bounds request result.events) }
+    {
+        let reply = self.hand(rt, request);
+        // For proofs: what a reply tells.
+        let _ = reply.answer();
+        reply
     }
 }

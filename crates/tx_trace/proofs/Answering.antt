@@ -12,7 +12,8 @@ use Rattle.tx_core.specs.declared.event.Event.TheVariants.{Took}
 use Rattle.tx_core.specs.Histories.{History, last, declared, set_at, left}
 use Rattle.tx_core.specs.Decisions.{NoEffect, effect_in, accepted_by, accepted, decision, first_decided, decided, fate_in}
 use Rattle.tx_core.specs.Worlds.{IsWorldRun}
-use Rattle.tx_core.specs.Shadow.{deciding, deciding_in, checking, reading, shadow}
+use Rattle.tx_core.specs.Shadow.{deciding, deciding_in, checking, shadow}
+use Rattle.tx_core.specs.EventSteps.{reading}
 use Rattle.tx_core.proofs.Basics.{nat_test, nat_same, some_same, cond_true, cond_false}
 use Rattle.tx_core.proofs.runs.Consequences.{told_fate}
 use Rattle.tx_core.proofs.seats.Beginnings.{begins_all}

@@ -13,7 +13,8 @@ use Rattle.tx_plan.specs.Cells.{Cells}
 use Rattle.tx_plan.specs.cases.Prewrite.{lock_of}
 use Rattle.tx_plan.specs.Answers.{start_in}
 use Rattle.tx_machine.specs.Machine.{Open}
-use Rattle.tx_core.specs.Decisions.{Effect, Puts, Settles, RollsBack, NoEffect, is_own, effect_of_fate, effect, Acceptance, first_accepted, accepted_by, decision}
+use Rattle.tx_core.specs.Decisions.{Effect, Puts, Settles, RollsBack, NoEffect, effect, Acceptance, first_accepted, accepted_by, decision}
+use Rattle.tx_plan.specs.Own.{is_own}
 use Rattle.tx_core.proofs.Basics.{nat_test}
 
 -- the effect is on this transaction
@@ -31,10 +32,6 @@ other_on : (own : Bool) (t : ℕ) (e : Effect) → On (Some t) e → On (Some t)
 other_on true t e on = on
 other_on false t e on = tt
 
-fate_on : (key : Key) (t : ℕ) (end : Fate) → On (Some t) (effect_of_fate key t end)
-fate_on key t (fate.Committed c) = refl
-fate_on key t fate.Aborted = refl
-
 pub effect_on : (cells : Key → Cells) (body : Body) (a : Answer) → On (start_in body) (effect cells body a)
 effect_on cells (Prewrite b) (Prewritten m) =
     either_on (is_own (cells b.key).lock b.start) b.start (Puts b.key (lock_of b m)) refl
@@ -43,9 +40,6 @@ effect_on cells (Commit b) (Committed c) =
 effect_on cells (BatchRollback b) RolledBack = refl
 effect_on cells (CheckTxnStatus b) RolledBack = refl
 effect_on cells (CheckSecondaryLocks b) Missing = refl
-effect_on cells (ResolveLock b) Resolved =
-    other_on (is_own (cells b.key).lock b.start) b.start (effect_of_fate b.key b.start b.fate)
-    (fate_on b.key b.start b.fate)
 effect_on cells _ _ = tt
 
 -- ---- of another transaction it accepts and decides nothing
@@ -89,12 +83,6 @@ either_same : (own : Bool) (key : Key) (u c n t : ℕ) (k : Key) (before : Optio
 either_same true key u c n t k before = refl
 either_same false key u c n t k before = refl
 
-fate_same : (own : Bool) (key : Key) (u : ℕ) (end : Fate) (n t : ℕ) (k : Key) (before : Option Acceptance)
-    → accepted_by (cond own (effect_of_fate key u end) NoEffect) n t k before ≡ before
-fate_same true key u (fate.Committed c) n t k before = refl
-fate_same true key u fate.Aborted n t k before = refl
-fate_same false key u end n t k before = refl
-
 module _ (n t : ℕ) (k : Key) (before : Option Acceptance) where
   pub none_put : (cells : Key → Cells) (body : Body) (a : Answer)
       → ((b : PrewriteBody) (m : ℕ) → body ≡ Prewrite b → a ≡ Prewritten m → ⊥)
@@ -105,6 +93,4 @@ module _ (n t : ℕ) (k : Key) (before : Option Acceptance) where
   none_put cells (BatchRollback b) RolledBack other = refl
   none_put cells (CheckTxnStatus b) RolledBack other = refl
   none_put cells (CheckSecondaryLocks b) Missing other = refl
-  none_put cells (ResolveLock b) Resolved other =
-      fate_same (is_own (cells b.key).lock b.start) b.key b.start b.fate n t k before
   none_put cells _ _ other = refl

@@ -16,7 +16,8 @@ use Rattle.tx_core.specs.declared.event.Declaration.{Declaration}
 use Rattle.tx_core.specs.declared.event.Taken.{Taken}
 use Rattle.tx_core.specs.declared.event.Event.TheVariants.{Took}
 use Rattle.tx_core.specs.Histories.{History, last, declared, left}
-use Rattle.tx_core.specs.Decisions.{Effect, Puts, Settles, RollsBack, NoEffect, is_own, effect_in, accepted_by, accepted}
+use Rattle.tx_core.specs.Decisions.{Effect, Puts, Settles, RollsBack, NoEffect, effect_in, accepted_by, accepted}
+use Rattle.tx_plan.specs.Own.{is_own}
 use Rattle.tx_core.specs.Worlds.{route, IsWorldRun}
 use Rattle.tx_core.specs.Shadow.{checked, checking}
 use Rattle.tx_core.proofs.Basics.{key_true, some_same, cond_true, cond_false}

@@ -14,7 +14,8 @@ use Rattle.tx_core.specs.declared.event.Declaration.{Declaration}
 use Rattle.tx_core.specs.declared.event.Taken.{Taken}
 use Rattle.tx_core.specs.declared.event.Event.TheVariants.{Took}
 use Rattle.tx_core.specs.Histories.{History, last, declared, set_of, set_at, left}
-use Rattle.tx_core.specs.Decisions.{Puts, NoEffect, is_own, effect_in, Acceptance, accepted_by, accepted, greatest, committed_at, decision, first_decided, decided}
+use Rattle.tx_core.specs.Decisions.{Puts, NoEffect, effect_in, Acceptance, accepted_by, accepted, greatest, committed_at, decision, first_decided, decided}
+use Rattle.tx_plan.specs.Own.{is_own}
 use Rattle.tx_core.specs.Worlds.{IsWorldRun}
 use Rattle.tx_machine.specs.declared.step.Step.{Step}
 use Rattle.tx_core.specs.Shadow.{deciding, checking}

@@ -23,10 +23,15 @@ use Rattle.tx_core.specs.declared.event.Taken.{Taken}
 use Rattle.tx_core.specs.declared.event.Event.TheVariants.{Took}
 use Rattle.tx_core.specs.Histories.{History, last, declared, is_first, left}
 use Rattle.tx_types.specs.declared.mutation.Fate.{Fate}
+use Rattle.tx_types.specs.declared.mutation.Fate.TheVariants as fate
 use Rattle.tx_core.specs.Decisions.{Effect, NoEffect, effect, effect_in, accepted, decided, fate_in}
+use Rattle.tx_core.specs.Allowed.{Allowed}
 use Rattle.tx_core.specs.Worlds.{IsWorldRun}
-use Rattle.tx_core.specs.Shadow.{checking, reading}
+use Rattle.tx_core.specs.Shadow.{checking}
+use Rattle.tx_core.specs.EventSteps.{reading}
 use Rattle.tx_core.proofs.Basics.{some_of}
+use Rattle.tx_core.proofs.view.View.{first_declared}
+use Rattle.tx_core.proofs.runs.Consequences.{decided_declared}
 use Rattle.tx_core.proofs.requests.Good.{took}
 use Rattle.tx_trace.specs.declared.log.TraceLog.{TraceLog}
 use Rattle.tx_trace.specs.Logs.{steps_of, checked_in, Keeps, Tracks, GoesOn, Writes, Tells, Prewrites}
@@ -112,22 +117,25 @@ module _ (old new : TraceLog) where
   no_missing cells b Missing e = absurd (cc e)
   no_missing cells b _ e = refl
 
-  no_resolve : (h : History) (cells : Key → Cells) (b : ResolveLock) (a : Answer) → decided h b.start ≡ Done b.fate
-      → decided h b.start ≡ Open → effect cells (body.ResolveLock b) a ≡ NoEffect
-  no_resolve h cells b a done still = absurd (cc (done, still))
-
   no_prewrite : (cells : Key → Cells) (b : Prewrite) (a : Answer) → ((m : ℕ) → a ≢ Prewritten m)
       → effect cells (body.Prewrite b) a ≡ NoEffect
   no_prewrite cells b (Prewritten m) other = absurd (other m refl)
   no_prewrite cells b _ other = refl
 
+  -- who may commit has declared
+  commit_declared : (bounds : List Key) (h : History) (b : Commit) → IsWorldRun bounds h → Allowed h (body.Commit b)
+      → declared h b.start ≢ None
+  commit_declared bounds h b run (inl done) = decided_declared bounds h run b.start (fate.Committed b.commit) done
+  commit_declared bounds h b run (inr may) =
+      λ none. (cc (none, (first_declared (declared h b.start) b.key may.primary).1))
+
   pub commit_adds : (b : Commit) (a : Answer) → Tells b.start (fate_in a) old new → Follow old (body.Commit b) a new
   commit_adds b a w = of_taken (body.Commit b) a
-      (λ bounds h n l run t. (
-        tells bounds h (took n (body.Commit b) l a) run old new t.0 b.start refl refl refl run.1.allowed.of
-            run.1.allowed.stands (λ e still. no_commit (left h n).cells b a e) w,
+      (λ bounds h n l run t. (let of = some_of (declared h b.start) (commit_declared bounds h b run.0 run.1.allowed) in (
+        tells bounds h (took n (body.Commit b) l a) run old new t.0 b.start refl refl refl of.0 of.1
+            (λ e still. no_commit (left h n).cells b a e) w,
         apart_tracks h (took n (body.Commit b) l a) (λ c m e f. cc e) (told_still b.start (fate_in a) w) t.1,
-      ))
+      )))
 
   pub rollback_adds : (b : BatchRollback) (a : Answer) → Tells b.start (fate_in a) old new
       → Follow old (body.BatchRollback b) a new
@@ -142,11 +150,11 @@ module _ (old new : TraceLog) where
   pub check_adds : (b : CheckTxnStatus) (a : Answer) → Tells b.start (fate_in a) old new
       → Follow old (body.CheckTxnStatus b) a new
   check_adds b a w = of_taken (body.CheckTxnStatus b) a
-      (λ bounds h n l run t. (
-        tells bounds h (took n (body.CheckTxnStatus b) l a) run old new t.0 b.start refl refl refl run.1.allowed.of
-            run.1.allowed.stands (λ e still. no_check (left h n).cells b a e) w,
+      (λ bounds h n l run t. (let of = first_declared (declared h b.start) b.key run.1.allowed.primary in (
+        tells bounds h (took n (body.CheckTxnStatus b) l a) run old new t.0 b.start refl refl refl of.0 of.1
+            (λ e still. no_check (left h n).cells b a e) w,
         apart_tracks h (took n (body.CheckTxnStatus b) l a) (λ c m e f. cc e) (told_still b.start (fate_in a) w) t.1,
-      ))
+      )))
 
   pub secondary_adds : (b : CheckSecondaryLocks) (a : Answer) → Tells b.start (fate_in a) old new
       → Follow old (body.CheckSecondaryLocks b) a new
@@ -172,9 +180,10 @@ module _ (old new : TraceLog) where
   pub resolve_adds : (b : ResolveLock) (a : Answer) → Tells b.start (fate_in a) old new
       → Follow old (body.ResolveLock b) a new
   resolve_adds b a w = of_taken (body.ResolveLock b) a
-      (λ bounds h n l run t. (let of = some_of (declared h b.start) run.1.allowed.stands in (
+      (λ bounds h n l run t. (let of = some_of (declared h b.start)
+      (decided_declared bounds h run.0 b.start b.fate run.1.allowed) in (
         tells bounds h (took n (body.ResolveLock b) l a) run old new t.0 b.start refl refl refl of.0 of.1
-            (λ e still. no_resolve h (left h n).cells b a run.1.allowed.decision still) w,
+            (λ e still. refl) w,
         apart_tracks h (took n (body.ResolveLock b) l a) (λ c m e f. cc e) (told_still b.start (fate_in a) w) t.1,
       )))
 

@@ -7,7 +7,7 @@ ghost use Rattle.tx_core.specs.declared.event.Event.TheVariants as event;
 ghost use Rattle.tx_core.specs.declared.event.Taken.{Taken};
 ghost use Rattle.tx_plan.specs.cases.Prewrite.{check_by};
 ghost use Rattle.tx_core.specs.Decisions.{fate_in};
-ghost use Rattle.tx_core.specs.Shadow.{reading};
+ghost use Rattle.tx_core.specs.EventSteps.{reading};
 ghost use Rattle.tx_trace.specs.Logs.{Keeps, GoesOn, Stays, steps_of, kept_in, checked_in, Writes, Ends, Tells, Locked, Checks, Prewrites, Enters, ended};
 
 use crate::pending::{Pending, accept_in};

@@ -1,12 +1,12 @@
 -- The ends of transactions after a lock was settled or rolled back, or a rollback was left: of one
 -- that was decided before, or is by it.
-use Rattle.std.proofs.Common.{◌≡◌, ◌≢◌, ℕ, ◌==◌, ◌⊎◌, inl, inr, Option, Some, None, refl, sym, ap, subst, ◌∙◌}
+use Rattle.std.proofs.Common.{◌≡◌, ◌≢◌, ℕ, ◌==◌, ◌⊎◌, inl, inr, cond, Option, Some, None, refl, sym, ap, subst, ◌∙◌}
 use Rattle.tx_types.specs.declared.key.Key.{Key}
 use Rattle.tx_types.specs.declared.mutation.Fate.TheVariants.{Committed, Aborted}
 use Rattle.tx_machine.specs.Keys.{mutation_at}
 use Rattle.tx_machine.specs.Machine.{Open, Done}
 use Rattle.tx_plan.specs.Cells.{Lock, Cells, with_lock}
-use Rattle.tx_plan.specs.Own.{OwnLock, OwnRollback, on_own_lock, leave_rollback, without_own, roll_back, lock_committed, commit_lock}
+use Rattle.tx_plan.specs.Own.{OwnLock, OwnRollback, on_own_lock, leave_rollback, is_own, roll_back, lock_committed, commit_lock}
 use Rattle.tx_core.specs.Histories.{set_of}
 use Rattle.tx_core.proofs.Basics.{nat_same, cond_true, some_same}
 use Rattle.tx_core.proofs.view.View.{View, Inv, IsPrimary, IsCommitted, IsAborted, FellBack, one_first, does_declared}
@@ -51,7 +51,7 @@ ends_settle w k t c i ends end =
 pub ends_roll_back : (w : View) (k : Key) (t : ℕ) → Ends w → Ends (rolling_back w k t)
 ends_roll_back w k t ends =
     ends_keyed w k (roll_back (w.cells k) t) ends (λ lock e. (lock, (was_locked (w.cells k).lock t lock e).0, refl))
-    (λ u end own. kept_rolled (w.cells k) t u (without_own (w.cells k).lock t) own)
+    (λ u end own. kept_rolled (w.cells k) t u (cond (is_own (w.cells k).lock t) None (w.cells k).lock) own)
 
 -- or without
 pub ends_leave_rollback : (w : View) (k : Key) (t : ℕ) → Ends w → Ends (leaving_rollback w k t)
@@ -175,7 +175,7 @@ ends_abort_first w k t lock i ends o fell first own =
     ends_aborted w k t (roll_back (w.cells k) t) i ends o
     (does_declared w.declared t fell.key fell.by.lock.mutation (i.acceptances t fell.key fell.by fell.stands).does)
     (λ old e. (was_locked (w.cells k).lock t old e).0)
-    (λ u back. kept_rolled (w.cells k) t u (without_own (w.cells k).lock t) back) (inr (record {
+    (λ u back. kept_rolled (w.cells k) t u (cond (is_own (w.cells k).lock t) None (w.cells k).lock) back) (inr (record {
       fell = fell;
       key = k;
       primary = first;
@@ -201,8 +201,8 @@ pub ends_abort_missing : (w : View) (k : Key) (t : ℕ) → Inv w → Ends w →
     → mutation_at (set_of (w.declared t)) k ≢ None → w.accepted t k ≡ None → Ends (rolling_back (aborting w t) k t)
 ends_abort_missing w k t i ends o some within never =
     ends_aborted w k t (roll_back (w.cells k) t) i ends o some (λ old e. (was_locked (w.cells k).lock t old e).0)
-    (λ u back. kept_rolled (w.cells k) t u (without_own (w.cells k).lock t) back)
-    (inl (refused_by w k t (without_own (w.cells k).lock t) within never))
+    (λ u back. kept_rolled (w.cells k) t u (cond (is_own (w.cells k).lock t) None (w.cells k).lock) back)
+    (inl (refused_by w k t (cond (is_own (w.cells k).lock t) None (w.cells k).lock) within never))
 
 pub ends_abort_leaving : (w : View) (k : Key) (t : ℕ) → Inv w → Ends w → w.decided t ≡ Open → w.declared t ≢ None
     → mutation_at (set_of (w.declared t)) k ≢ None → w.accepted t k ≡ None → Ends (leaving_rollback (aborting w t) k t)

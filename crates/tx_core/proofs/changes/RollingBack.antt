@@ -1,10 +1,10 @@
 -- A rollback of an aborted transaction is left on a key, and its lock is removed or stays.
-use Rattle.std.proofs.Common.{◌≡◌, ◌≢◌, ℕ, ◌==◌, inl, inr, false, Option, Some, None, refl, sym, ap, subst, ◌∙◌}
+use Rattle.std.proofs.Common.{◌≡◌, ◌≢◌, ℕ, ◌==◌, inl, inr, false, cond, Option, Some, None, refl, sym, ap, subst, ◌∙◌}
 use Rattle.std.proofs.lemmas.Bool.{eqb-true, eq-eqb, ne_eqb}
 use Rattle.tx_types.specs.declared.key.Key.{Key}
 use Rattle.tx_types.specs.Keys.{IsVisible}
 use Rattle.tx_plan.specs.Cells.{Lock, CommitRecord, Write, CommitOf, Rollback, Cells, with_lock}
-use Rattle.tx_plan.specs.Own.{OwnRollback, on_own_lock, marked, rolled, leave_rollback, without_own, roll_back}
+use Rattle.tx_plan.specs.Own.{OwnRollback, on_own_lock, marked, rolled, leave_rollback, is_own, roll_back}
 use Rattle.tx_core.proofs.Basics.{nat_test, nat_same, chosen, cond_true, cond_false, some_same}
 use Rattle.tx_core.proofs.view.View.{View, OnCells, Inv, Does, IsCommitted, IsAborted, Written, Held}
 use Rattle.tx_core.proofs.changes.Keyed.{keyed, keyed_same, keyed_to, own_cases, inv_written}
@@ -197,7 +197,7 @@ abbrev pub rolling_back : View → Key → ℕ → View
 rolling_back w k t = keyed w k (roll_back (w.cells k) t)
 
 -- a lock that stands after it stood before, and is another's; others stay
-pub was_locked : (o : Option Lock) (t : ℕ) (lock : Lock) → without_own o t ≡ Some lock
+pub was_locked : (o : Option Lock) (t : ℕ) (lock : Lock) → cond (is_own o t) None o ≡ Some lock
     → (o ≡ Some lock) × (lock.start ≢ t)
 was_locked None t lock e = absurd (cc (e))
 was_locked (Some old) t lock e =
@@ -207,14 +207,14 @@ was_locked (Some old) t lock e =
     ]
 
 pub stays_locked : (o : Option Lock) (t : ℕ) (lock : Lock) → o ≡ Some lock → lock.start ≢ t
-    → without_own o t ≡ Some lock
+    → cond (is_own o t) None o ≡ Some lock
 stays_locked o t lock e other =
-    ap (λ x. without_own x t) e ∙ cond_false (lock.start == t) None (Some lock) (ne_eqb lock.start t other)
+    ap (λ x. cond (is_own x t) None x) e ∙ cond_false (lock.start == t) None (Some lock) (ne_eqb lock.start t other)
 
 -- it is aborted
 pub inv_roll_back : (w : View) (k : Key) (t : ℕ) → Inv w → IsAborted w.decided t → Inv (rolling_back w k t)
 inv_roll_back w k t i gone =
-    inv_rolled w k t (without_own (w.cells k).lock t) i gone (λ old e. (was_locked (w.cells k).lock t old e).0)
+    inv_rolled w k t (cond (is_own (w.cells k).lock t) None (w.cells k).lock) i gone (λ old e. (was_locked (w.cells k).lock t old e).0)
     (λ old e other. stays_locked (w.cells k).lock t old e other)
 
 -- ---- leaving a rollback, without touching locks

@@ -21,7 +21,7 @@ use Rattle.tx_core.specs.Histories.{History, left}
 use Rattle.tx_core.specs.Worlds.{IsWorldRun, MayTake}
 use Rattle.tx_core.specs.Shadow.{shadow}
 use Rattle.tx_core.proofs.Basics.{key_test, nat_test}
-use Rattle.tx_core.proofs.seats.Staying.{last_was}
+use Rattle.tx_core.proofs.seats.Staying.{upto_last}
 use Rattle.tx_core.proofs.examples.Words.{a, x, unrolled, decides}
 use Rattle.tx_core.specs.Happens.{Happens, DropsRecord}
 
@@ -139,7 +139,7 @@ locks = record {
     others = refl;
   };
   holds = refl;
-  loaded = last_was first;
+  loaded = upto_last first;
   answers = inr (
     λ h. omega arith,
     inr (
@@ -161,14 +161,9 @@ locks = record {
 commits : MayTake [] drawn commit
 commits = record {
   region = omega arith;
-  allowed = record {
-    of = deletes;
-    stands = refl;
-    may =
-        inr (decides drawn Delete 3 _ refl refl refl refl refl (omega arith));
-  };
+  allowed = inr (decides drawn Delete 3 _ refl refl refl refl refl (omega arith));
   holds = refl;
-  loaded = last_was drawn;
+  loaded = upto_last drawn;
   answers = inr (
     λ h. omega arith,
     inl (_, record { stands = refl; own = refl }, inr (λ h. omega arith, inr (λ rec h. (cc (h.stands)), refl))),
@@ -192,7 +187,7 @@ rolls = record {
   region = omega arith;
   allowed = record { of = puts; stands = refl; may = inr (refl, refl) };
   holds = refl;
-  loaded = last_was second;
+  loaded = upto_last second;
   answers = inr (λ h. omega arith, inr (λ lock own. (cc (own.stands)), inr (λ c own. never c own, refl)));
 }
   where
@@ -210,7 +205,7 @@ raises = record {
   allowed = tt;
   holds = refl;
   loaded =
-      last_was (Drawn 1 6 ∷ Took roll ∷ second);
+      upto_last (Drawn 1 6 ∷ Took roll ∷ second);
   answers =
       inr (λ h. omega (arith, h), inr (λ h. omega (arith, h), refl));
 }
@@ -268,7 +263,7 @@ collects = record {
   region = omega arith;
   allowed = tt;
   holds = refl;
-  loaded = last_was full;
+  loaded = upto_last full;
   answers = inr (λ other. other refl, inr (λ some. unlocked some.0 some.1, (2, 0, refl)));
 }
   where
@@ -298,7 +293,7 @@ late = record {
     others = refl;
   };
   holds = refl;
-  loaded = last_was collected;
+  loaded = upto_last collected;
   answers = inl (omega arith, refl);
 }
 

@@ -7,15 +7,14 @@ use Rattle.tx_core.specs.declared.event.Taken.{Taken}
 use Rattle.tx_core.specs.declared.event.Event.TheVariants.{Took}
 use Rattle.tx_core.specs.Histories.{History}
 use Rattle.tx_core.specs.Worlds.{IsWorldRun, MayTake}
-use Rattle.tx_core.proofs.seats.Staying.{last_was}
+use Rattle.tx_core.proofs.seats.Staying.{upto_last}
 use Rattle.tx_core.proofs.examples.Words.{a, x, none}
-use Rattle.tx_types.specs.declared.key.Key.{Key}
 use Rattle.tx_types.specs.declared.lock.LockInfo.{LockInfo}
 use Rattle.tx_plan.specs.Cells.{CommitRecord, CommitOf}
 use Rattle.tx_types.specs.Keys.{IsVisible}
 use Rattle.tx_plan.specs.cases.LocksBelow.{IsLockBelow}
 use Rattle.tx_core.specs.Histories.{left}
-use Rattle.tx_core.proofs.Basics.{key_test, nat_test}
+use Rattle.tx_core.proofs.Basics.{key_test}
 use Rattle.tx_core.proofs.examples.MarkedRollback.{commit_first, roll_second, both_declared, both_ok, rolls_second, commits_first}
 use Rattle.tx_core.specs.Happens.{Happens, ReadsBesideCollection}
 
@@ -45,7 +44,7 @@ raises = record {
   region = omega arith;
   allowed = tt;
   holds = refl;
-  loaded = last_was committed_run;
+  loaded = upto_last committed_run;
   answers =
       inr (λ h. omega (arith, h), inr (λ h. omega (arith, h), refl));
 }
@@ -58,7 +57,7 @@ collects = record {
   region = omega arith;
   allowed = tt;
   holds = refl;
-  loaded = last_was raised_run;
+  loaded = upto_last raised_run;
   answers = inr (
     λ other. other refl,
     inr (
@@ -84,7 +83,7 @@ reads_low = record {
   allowed = λ t within. absurd (none t within);
   holds = refl;
   loaded =
-      last_was collected_run;
+      upto_last collected_run;
   answers = inl (omega arith, refl);
 }
 
@@ -93,7 +92,7 @@ reads_high = record {
   region = omega arith;
   allowed = λ t within. absurd (none t within);
   holds = refl;
-  loaded = last_was (Took get_low ∷ collected_run);
+  loaded = upto_last (Took get_low ∷ collected_run);
   answers = inr (
     λ h. omega (arith, h),
     inr (

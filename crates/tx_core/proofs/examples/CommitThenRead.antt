@@ -13,7 +13,7 @@ use Rattle.tx_core.specs.declared.event.Event.TheVariants.{Drawn, Began, Declare
 use Rattle.tx_core.specs.Histories.{History}
 use Rattle.tx_core.specs.Worlds.{IsWorldRun, MayTake}
 use Rattle.tx_core.specs.Shadow.{shadow}
-use Rattle.tx_core.proofs.seats.Staying.{last_was}
+use Rattle.tx_core.proofs.seats.Staying.{upto_last}
 use Rattle.tx_core.proofs.examples.Words.{a, x, none, unrolled, decides}
 use Rattle.std.proofs.lemmas.Bool.{eqb-true}
 use Rattle.tx_plan.specs.Cells.{CommitRecord, CommitOf}
@@ -94,7 +94,7 @@ put_prewrites = record {
     others = refl;
   };
   holds = refl;
-  loaded = last_was puts;
+  loaded = upto_last puts;
   answers = inr (
     λ h. omega arith,
     inr (
@@ -116,14 +116,9 @@ put_prewrites = record {
 put_commits : MayTake [] drawn commit_put
 put_commits = record {
   region = omega arith;
-  allowed = record {
-    of = put;
-    stands = refl;
-    may =
-        inr (decides drawn (Put x) 3 _ refl refl refl refl refl (omega arith));
-  };
+  allowed = inr (decides drawn (Put x) 3 _ refl refl refl refl refl (omega arith));
   holds = refl;
-  loaded = last_was drawn;
+  loaded = upto_last drawn;
   answers = inr (
     λ h. omega arith,
     inl (_, record { stands = refl; own = refl }, inr (λ h. omega arith, inr (λ rec h. (cc (h.stands)), refl))),
@@ -135,7 +130,7 @@ put_gets = record {
   region = omega arith;
   allowed = λ t within. absurd (none t within);
   holds = refl;
-  loaded = last_was committed;
+  loaded = upto_last committed;
   answers = inr (
     λ h. omega arith,
     inr (

@@ -14,7 +14,7 @@ use Rattle.tx_core.specs.declared.event.Event.TheVariants.{Drawn, Began, Declare
 use Rattle.tx_core.specs.Histories.{History}
 use Rattle.tx_core.specs.Decisions.{decided}
 use Rattle.tx_core.specs.Worlds.{IsWorldRun, MayTake}
-use Rattle.tx_core.proofs.seats.Staying.{last_was}
+use Rattle.tx_core.proofs.seats.Staying.{upto_last}
 use Rattle.tx_core.proofs.examples.Words.{a, x, none, unrolled, decides}
 use Rattle.tx_core.specs.Happens.{Happens, CommitsAfterFallBack}
 
@@ -84,7 +84,7 @@ reads_none = record {
   region = omega arith;
   allowed = λ t within. absurd (none t within);
   holds = refl;
-  loaded = last_was begun;
+  loaded = upto_last begun;
   answers = inr (
     λ h. omega arith,
     inr (λ h. omega arith, inr (λ lock b. (cc (b.stands)), (None, refl, λ v f. (cc (f.stands))))),
@@ -110,7 +110,7 @@ promises_nothing = record {
     others = refl;
   };
   holds = refl;
-  loaded = last_was bounded_run;
+  loaded = upto_last bounded_run;
   answers = inr (
     λ h. omega arith,
     inr (
@@ -141,14 +141,9 @@ fallen = Drawn 1 4 ∷ Took prewrite ∷ bounded_run
 commits : MayTake [] fallen commit
 commits = record {
   region = omega arith;
-  allowed = record {
-    of = bounded;
-    stands = refl;
-    may =
-        inr (decides fallen (Put x) 4 _ refl refl refl refl refl (omega arith));
-  };
+  allowed = inr (decides fallen (Put x) 4 _ refl refl refl refl refl (omega arith));
   holds = refl;
-  loaded = last_was fallen;
+  loaded = upto_last fallen;
   answers = inr (
     λ h. omega arith,
     inl (_, record { stands = refl; own = refl }, inr (λ h. omega arith, inr (λ rec h. (cc (h.stands)), refl))),

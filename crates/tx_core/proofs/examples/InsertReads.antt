@@ -17,7 +17,7 @@ use Rattle.tx_core.specs.Decisions.{decided}
 use Rattle.tx_core.specs.Worlds.{IsWorldRun, MayTake}
 use Rattle.tx_core.specs.Shadow.{shadow}
 use Rattle.tx_core.proofs.Basics.{chosen}
-use Rattle.tx_core.proofs.seats.Staying.{last_was}
+use Rattle.tx_core.proofs.seats.Staying.{upto_last}
 use Rattle.tx_core.proofs.examples.Words.{a, x, unrolled}
 
 abbrev puts : Declaration
@@ -122,7 +122,7 @@ inserted = record {
     others = refl;
   };
   holds = refl;
-  loaded = last_was declares;
+  loaded = upto_last declares;
   answers = inr (
     λ h. omega arith,
     inr (
@@ -149,7 +149,7 @@ rolled = record {
   region = omega arith;
   allowed = record { of = inserts; stands = refl; may = inr (refl, refl) };
   holds = refl;
-  loaded = last_was (Took insert ∷ declares);
+  loaded = upto_last (Took insert ∷ declares);
   answers = inr (λ h. omega arith, inl (_, record { stands = refl; own = refl }, refl));
 }
 
@@ -175,7 +175,7 @@ prewrites = record {
     others = refl;
   };
   holds = refl;
-  loaded = last_was (Took roll ∷ Took insert ∷ declares);
+  loaded = upto_last (Took roll ∷ Took insert ∷ declares);
   answers = inr (
     λ h. omega arith,
     inr (

@@ -1,22 +1,19 @@
 -- A key is inserted; a second insert of it is refused; and after it was deleted it is inserted again.
 -- The first commit's answer was lost: it is answered again, and a status check tells of it.
-use Rattle.std.proofs.Common.{◌≡◌, ◌≢◌, ℕ, ◌<◌, ◌≤◌, ◌==◌, inl, inr, true, false, cond, [], ◌∷◌, Option, Some, None, refl, sym, ap, subst, ◌∙◌, arith}
-use Rattle.tx_types.specs.declared.mutation.Mutation.TheVariants.{Put, Insert, Delete}
-use Rattle.tx_types.specs.declared.mutation.Fate.TheVariants as fate
+use Rattle.std.proofs.Common.{◌≡◌, ℕ, ◌<◌, inl, inr, true, false, [], ◌∷◌, Option, Some, None, refl, sym, ap, subst, arith}
+use Rattle.tx_types.specs.declared.mutation.Mutation.TheVariants.{Insert, Delete}
 use Rattle.tx_plan.specs.declared.body.Body.TheVariants.{CheckTxnStatus}
 use Rattle.tx_plan.specs.declared.answer.Answer.TheVariants.{Prewritten, Committed, AlreadyExists}
-use Rattle.tx_plan.specs.Cells.{CommitRecord, CommitOf, Write}
+use Rattle.tx_plan.specs.Cells.{CommitOf, Write}
 use Rattle.tx_plan.specs.cases.Prewrite.{HasValue}
-use Rattle.tx_machine.specs.Machine.{Done, Commits, table_of}
 use Rattle.tx_core.specs.declared.event.Taken.{Taken}
 use Rattle.tx_core.specs.declared.event.Event.TheVariants.{Drawn, Took}
 use Rattle.tx_core.specs.Histories.{History, left}
-use Rattle.tx_core.specs.Shadow.{shadow}
 use Rattle.tx_core.specs.Worlds.{IsWorldRun, MayTake}
 use Rattle.tx_core.proofs.Basics.{nat_test}
-use Rattle.tx_core.proofs.seats.Staying.{last_was}
-use Rattle.tx_core.proofs.examples.Words.{a, x, unrolled}
-use Rattle.tx_core.proofs.examples.OneKey.{one_key, begins, lock_key, commit_key, begins_run, AllBelow, locks, refuses, commits}
+use Rattle.tx_core.proofs.seats.Staying.{upto_last}
+use Rattle.tx_core.proofs.examples.Words.{a, x}
+use Rattle.tx_core.proofs.examples.OneKey.{begins, lock_key, commit_key, begins_run, AllBelow, locks, refuses, commits}
 use Rattle.tx_core.specs.Happens.{Happens, CommitsInsert, RefusesInsert, InsertsOverDelete, FindsCommit, FindsByStatus}
 
 -- ---- a key is inserted
@@ -66,9 +63,9 @@ status = record {
 commits_again : MayTake [] inserted (commit_key 1 3)
 commits_again = record {
   region = omega arith;
-  allowed = record { of = one_key 1 (Insert x); stands = refl; may = inl refl };
+  allowed = inl refl;
   holds = refl;
-  loaded = last_was inserted;
+  loaded = upto_last inserted;
   answers = inr (
     λ h. omega (arith, h),
     inr (λ lock own. (cc (own.stands)), inl (3, record { rec = _; stands = refl; own = refl }, refl)),
@@ -81,9 +78,9 @@ again_run = (inserted_run, commits_again)
 tells_status : MayTake [] inserted status
 tells_status = record {
   region = omega arith;
-  allowed = record { of = one_key 1 (Insert x); stands = refl; primary = refl; forced = λ e. (cc (e)) };
+  allowed = record { primary = refl; forced = λ e. (cc (e)) };
   holds = refl;
-  loaded = last_was inserted;
+  loaded = upto_last inserted;
   answers = inr (
     λ h. omega (arith, h),
     inr (

@@ -22,9 +22,10 @@ use Rattle.tx_core.specs.declared.event.Event.TheVariants.{Drawn, Began, Declare
 use Rattle.tx_core.specs.Histories.{History, set_at, left}
 use Rattle.tx_core.specs.Decisions.{Acceptance, accepted}
 use Rattle.tx_core.specs.Worlds.{IsWorldRun, MayTake}
-use Rattle.tx_core.specs.Shadow.{shadow, scan_read}
+use Rattle.tx_core.specs.Shadow.{shadow}
+use Rattle.tx_core.specs.Truth.{scan_read}
 use Rattle.tx_core.proofs.Basics.{key_test, key_true, chosen}
-use Rattle.tx_core.proofs.seats.Staying.{last_was}
+use Rattle.tx_core.proofs.seats.Staying.{upto_last}
 use Rattle.tx_core.proofs.examples.Words.{a, b, x, none, unrolled}
 
 abbrev two_keys : Declaration
@@ -117,7 +118,7 @@ locks_a = record {
     others = refl;
   };
   holds = refl;
-  loaded = last_was begins;
+  loaded = upto_last begins;
   answers = inr (
     λ h. omega arith,
     inr (
@@ -152,7 +153,7 @@ locks_b = record {
     others = refl;
   };
   holds = refl;
-  loaded = last_was (Took (prewrite a) ∷ begins);
+  loaded = upto_last (Took (prewrite a) ∷ begins);
   answers = inr (
     λ h. omega arith,
     inr (
@@ -185,21 +186,16 @@ at_of (Some by) = by.at
 commits_a : MayTake [] locked commit_a
 commits_a = record {
   region = omega arith;
-  allowed = record {
-    of = two_keys;
-    stands = refl;
-    may =
-        inr record {
-          primary = refl;
-          accepted = all;
-          two_phase =
-              record { key = a; by = _; stands = refl; two_phase = refl };
-          drawn =
-              record { seat = 1; of_start = refl; of_commit = refl; after = after };
-        };
+  allowed = inr record {
+    primary = refl;
+    accepted = all;
+    two_phase =
+        record { key = a; by = _; stands = refl; two_phase = refl };
+    drawn =
+        record { seat = 1; of_start = refl; of_commit = refl; after = after };
   };
   holds = refl;
-  loaded = last_was locked;
+  loaded = upto_last locked;
   answers = inr (
     λ h. omega arith,
     inl (_, record { stands = refl; own = refl }, inr (λ h. omega arith, inr (λ rec h. (cc (h.stands)), refl))),
@@ -241,7 +237,7 @@ scans = record {
   region = omega arith;
   allowed = λ t within. absurd (none t within);
   holds = λ k inside. refl;
-  loaded = last_was committed;
+  loaded = upto_last committed;
   answers = inr (
     λ h. omega arith,
     inr (

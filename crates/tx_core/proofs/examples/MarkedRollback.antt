@@ -12,7 +12,7 @@ use Rattle.tx_core.specs.declared.event.Event.TheVariants.{Drawn, Began, Declare
 use Rattle.tx_core.specs.Histories.{History}
 use Rattle.tx_core.specs.Worlds.{IsWorldRun, MayTake}
 use Rattle.tx_core.specs.Shadow.{shadow}
-use Rattle.tx_core.proofs.seats.Staying.{last_was}
+use Rattle.tx_core.proofs.seats.Staying.{upto_last}
 use Rattle.tx_core.proofs.examples.Words.{a, x, unrolled, start_of}
 use Rattle.tx_core.specs.Happens.{Happens, OverlapsRollback}
 
@@ -121,7 +121,7 @@ locks_first = record {
     others = refl;
   };
   holds = refl;
-  loaded = last_was first_declared;
+  loaded = upto_last first_declared;
   answers = inr (
     λ h. omega arith,
     inr (
@@ -157,7 +157,7 @@ rolls_second = record {
   region = omega arith;
   allowed = record { of = second_set; stands = refl; may = inr (refl, refl) };
   holds = refl;
-  loaded = last_was both_declared;
+  loaded = upto_last both_declared;
   answers = inr (
     λ h. omega arith,
     inr (λ lock own. omega (arith, ap start_of own.stands, own.own), inr (λ c own. (cc (own.stands)), refl)),
@@ -167,9 +167,9 @@ rolls_second = record {
 pub commits_first : MayTake [] (Took roll_second ∷ both_declared) commit_first
 commits_first = record {
   region = omega arith;
-  allowed = record { of = first_set; stands = refl; may = inl refl };
+  allowed = inl refl;
   holds = refl;
-  loaded = last_was (Took roll_second ∷ both_declared);
+  loaded = upto_last (Took roll_second ∷ both_declared);
   answers = inr (
     λ h. omega arith,
     inl (
@@ -196,7 +196,7 @@ late_second = record {
     others = refl;
   };
   holds = refl;
-  loaded = last_was (Took commit_first ∷ Took roll_second ∷ both_declared);
+  loaded = upto_last (Took commit_first ∷ Took roll_second ∷ both_declared);
   answers = inr (
     λ h. omega arith,
     inr (

@@ -1,25 +1,20 @@
 -- Steps of transactions that change the key a alone, in two phases, in one region.
-use Rattle.std.proofs.Common.{◌≡◌, ◌≢◌, ℕ, suc, ◌<◌, ◌≤◌, ◌==◌, inl, inr, true, false, cond, [], ◌∷◌, Option, Some, None, refl, sym, ap, subst, ◌∙◌, arith}
+use Rattle.std.proofs.Common.{◌≡◌, ℕ, suc, ◌<◌, ◌≤◌, inl, inr, true, false, [], ◌∷◌, Some, None, refl, ap, arith}
 use Rattle.tx_types.specs.declared.mutation.Mutation.{Mutation}
 use Rattle.tx_types.specs.declared.mutation.Mode.TheVariants as mode
-use Rattle.tx_types.specs.declared.mutation.Fate.TheVariants as fate
 use Rattle.tx_types.specs.Keys.{IsInsert}
 use Rattle.tx_plan.specs.declared.body.Body.TheVariants.{Prewrite, Commit}
 use Rattle.tx_plan.specs.declared.answer.Answer.{Answer}
 use Rattle.tx_plan.specs.declared.answer.Answer.TheVariants.{Prewritten, Committed, AlreadyExists}
-use Rattle.tx_plan.specs.Cells.{Lock, CommitRecord, CommitOf, Rollback, Writes}
-use Rattle.tx_plan.specs.Own.{OthersCommit}
+use Rattle.tx_plan.specs.Cells.{Lock, CommitRecord, CommitOf, Writes}
 use Rattle.tx_plan.specs.cases.Prewrite.{HasValue}
-use Rattle.tx_machine.specs.Machine.{Done}
 use Rattle.tx_core.specs.declared.event.Declaration.{Declaration}
 use Rattle.tx_core.specs.declared.event.Taken.{Taken}
-use Rattle.tx_core.specs.declared.event.Event.TheVariants.{Drawn, Began, Declared, Took}
+use Rattle.tx_core.specs.declared.event.Event.TheVariants.{Drawn, Began, Declared}
 use Rattle.tx_core.specs.Histories.{History, last, drawer, began, declared, answered, set_of, left}
-use Rattle.tx_core.specs.Decisions.{Acceptance, accepted, decided}
-use Rattle.tx_core.specs.Allowed.{MayDecide}
+use Rattle.tx_core.specs.Decisions.{Acceptance, accepted}
 use Rattle.tx_core.specs.Worlds.{IsWorldRun, MayTake}
 use Rattle.tx_core.proofs.Basics.{nat_same}
-use Rattle.tx_core.proofs.seats.Beginnings.{begins_all}
 use Rattle.tx_core.proofs.examples.Words.{a, decides_at}
 
 -- it starts at t, does m to a, and drew the next number
@@ -107,7 +102,7 @@ module _ (h : History) (t : ℕ) (m : Mutation) (is : declared h t ≡ Some (one
       others = refl;
     };
     holds = refl;
-    loaded = (h, begins_all h, next);
+    loaded = omega (arith, next);
     answers = inr (
       λ low. omega (arith, low, safe),
       inr (
@@ -148,7 +143,7 @@ module _ (h : History) (t : ℕ) (m : Mutation) (is : declared h t ≡ Some (one
       others = refl;
     };
     holds = refl;
-    loaded = (h, begins_all h, next);
+    loaded = omega (arith, next);
     answers = inr (
       λ low. omega (arith, low, safe),
       inr (
@@ -181,13 +176,9 @@ pub commits : (h : History) (t c : ℕ) (m : Mutation) (by : Acceptance) (lock :
     → MayTake [] h (commit_key t c)
 commits h t c m by lock is put two began drew later stands own low unwritten uncollected next = record {
   region = omega arith;
-  allowed = record {
-    of = one_key t m;
-    stands = is;
-    may = inr (decides_at t h m c by (ap set_of is) put two began drew later);
-  };
+  allowed = inr (decides_at t h m c by (ap set_of is) put two began drew later);
   holds = refl;
-  loaded = (h, begins_all h, sym next);
+  loaded = omega (arith, next);
   answers = inr (
     λ h. omega (arith, h, uncollected),
     inl (

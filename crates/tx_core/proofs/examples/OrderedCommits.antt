@@ -16,7 +16,7 @@ use Rattle.tx_core.specs.Histories.{History}
 use Rattle.tx_core.specs.Decisions.{decided}
 use Rattle.tx_core.specs.Laws.{DecidedBefore}
 use Rattle.tx_core.specs.Worlds.{IsWorldRun, MayTake}
-use Rattle.tx_core.proofs.seats.Staying.{last_was}
+use Rattle.tx_core.proofs.seats.Staying.{upto_last}
 use Rattle.tx_core.proofs.examples.Words.{a, b, x, unrolled}
 
 abbrev first_set : Declaration
@@ -109,7 +109,7 @@ locks_first = record {
     others = refl;
   };
   holds = refl;
-  loaded = last_was begins;
+  loaded = upto_last begins;
   answers = inr (
     λ h. omega arith,
     inr (
@@ -156,7 +156,7 @@ locks_second = record {
     others = refl;
   };
   holds = refl;
-  loaded = last_was answers_first;
+  loaded = upto_last answers_first;
   answers = inr (
     λ h. omega arith,
     inr (

@@ -12,7 +12,7 @@ use Rattle.tx_core.specs.declared.event.Event.TheVariants.{Drawn, Began, Declare
 use Rattle.tx_core.specs.Histories.{History}
 use Rattle.tx_core.specs.Worlds.{IsWorldRun, MayTake}
 use Rattle.tx_core.specs.Shadow.{shadow}
-use Rattle.tx_core.proofs.seats.Staying.{last_was}
+use Rattle.tx_core.proofs.seats.Staying.{upto_last}
 use Rattle.tx_core.proofs.examples.Words.{a, x, none, unrolled, start_of, decides}
 use Rattle.std.specs.List.{slice_index_or}
 use Rattle.tx_plan.specs.Cells.{Lock, info_of}
@@ -147,7 +147,7 @@ put_prewrites = record {
     others = refl;
   };
   holds = refl;
-  loaded = last_was puts;
+  loaded = upto_last puts;
   answers = inr (
     λ h. omega arith,
     inr (
@@ -174,7 +174,7 @@ blocked = record {
   region = omega arith;
   allowed = λ t within. absurd (none t within);
   holds = refl;
-  loaded = last_was reader;
+  loaded = upto_last reader;
   answers = inr (
     λ h. omega arith,
     inr (
@@ -187,9 +187,9 @@ blocked = record {
 pushing : MayTake [] (Took get_blocked ∷ reader) pushes
 pushing = record {
   region = omega arith;
-  allowed = record { of = put; stands = refl; primary = refl; forced = λ e. (cc (e)) };
+  allowed = record { primary = refl; forced = λ e. (cc (e)) };
   holds = refl;
-  loaded = last_was (Took get_blocked ∷ reader);
+  loaded = upto_last (Took get_blocked ∷ reader);
   answers = inr (
     λ h. omega arith,
     inr (
@@ -231,7 +231,7 @@ passes = record {
   region = omega arith;
   allowed = λ t within. subst (MayPass pushed 4) (one_only t within) was_shown;
   holds = refl;
-  loaded = last_was pushed;
+  loaded = upto_last pushed;
   answers = inr (
     λ h. omega arith,
     inr (
@@ -247,28 +247,18 @@ passes = record {
 expires : MayTake [] passed commit_low
 expires = record {
   region = omega arith;
-  allowed = record {
-    of = put;
-    stands = refl;
-    may =
-        inr (decides passed (Put x) 3 _ refl refl refl refl refl (omega arith));
-  };
+  allowed = inr (decides passed (Put x) 3 _ refl refl refl refl refl (omega arith));
   holds = refl;
-  loaded = last_was passed;
+  loaded = upto_last passed;
   answers = inr (λ h. omega arith, inl (locked_at 5, record { stands = refl; own = refl }, inl (omega arith, refl)));
 }
 
 commits_high : MayTake [] again commit_high
 commits_high = record {
   region = omega arith;
-  allowed = record {
-    of = put;
-    stands = refl;
-    may =
-        inr (decides again (Put x) 5 _ refl refl refl refl refl (omega arith));
-  };
+  allowed = inr (decides again (Put x) 5 _ refl refl refl refl refl (omega arith));
   holds = refl;
-  loaded = last_was again;
+  loaded = upto_last again;
   answers = inr (
     λ h. omega arith,
     inl (

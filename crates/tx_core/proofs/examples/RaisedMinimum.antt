@@ -16,7 +16,7 @@ use Rattle.tx_core.specs.Histories.{History}
 use Rattle.tx_core.specs.Decisions.{decided}
 use Rattle.tx_core.specs.Worlds.{IsWorldRun, MayTake}
 use Rattle.tx_core.specs.Shadow.{shadow}
-use Rattle.tx_core.proofs.seats.Staying.{last_was}
+use Rattle.tx_core.proofs.seats.Staying.{upto_last}
 use Rattle.tx_core.proofs.examples.Words.{a, x, none, unrolled}
 
 abbrev raised : Declaration
@@ -85,7 +85,7 @@ reads = record {
   region = omega arith;
   allowed = λ t within. absurd (none t within);
   holds = refl;
-  loaded = last_was (Began 3 ∷ starts);
+  loaded = upto_last (Began 3 ∷ starts);
   answers = inr (
     λ h. omega arith,
     inr (λ h. omega arith, inr (λ lock b. (cc (b.stands)), (None, refl, λ v f. (cc (f.stands))))),
@@ -111,7 +111,7 @@ prewrites = record {
     others = refl;
   };
   holds = refl;
-  loaded = last_was declares;
+  loaded = upto_last declares;
   answers = inr (
     λ h. omega arith,
     inr (
@@ -139,9 +139,9 @@ prewrites = record {
 commits : MayTake [] (Took prewrite_async ∷ declares) commit_async
 commits = record {
   region = omega arith;
-  allowed = record { of = raised; stands = refl; may = inl refl };
+  allowed = inl refl;
   holds = refl;
-  loaded = last_was (Took prewrite_async ∷ declares);
+  loaded = upto_last (Took prewrite_async ∷ declares);
   answers = inr (
     λ h. omega arith,
     inl (_, record { stands = refl; own = refl }, inr (λ h. omega arith, inr (λ rec h. (cc (h.stands)), refl))),

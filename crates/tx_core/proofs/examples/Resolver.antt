@@ -16,7 +16,7 @@ use Rattle.tx_core.specs.Histories.{History}
 use Rattle.tx_core.specs.Decisions.{decided}
 use Rattle.tx_core.specs.Worlds.{IsWorldRun, MayTake}
 use Rattle.tx_core.specs.Shadow.{shadow}
-use Rattle.tx_core.proofs.seats.Staying.{last_was}
+use Rattle.tx_core.proofs.seats.Staying.{upto_last}
 use Rattle.tx_core.proofs.examples.Words.{a, b, x, none, unrolled}
 use Rattle.tx_plan.specs.Cells.{Lock, CommitRecord, CommitOf, info_of}
 use Rattle.tx_types.specs.declared.key.Key.{Key}
@@ -177,7 +177,7 @@ takes_prewrite_a = record {
     others = refl;
   };
   holds = refl;
-  loaded = last_was begun;
+  loaded = upto_last begun;
   answers = inr (
     λ h. omega arith,
     inr (
@@ -210,7 +210,7 @@ takes_get_b = record {
   region = omega arith;
   allowed = λ t within. absurd (none t within);
   holds = refl;
-  loaded = last_was locked_a;
+  loaded = upto_last locked_a;
   answers = inr (
     λ h. omega arith,
     inr (λ h. omega arith, inr (λ lock y. (cc (y.stands)), (None, refl, λ v f. (cc (f.stands))))),
@@ -234,7 +234,7 @@ takes_prewrite_b = record {
     others = refl;
   };
   holds = refl;
-  loaded = (Took prewrite_a ∷ begun, inr (inr (inr (inl refl))), refl);
+  loaded = omega arith;
   answers = inr (
     λ h. omega arith,
     inr (
@@ -273,7 +273,7 @@ takes_get_a = record {
   region = omega arith;
   allowed = λ t within. absurd (none t within);
   holds = refl;
-  loaded = last_was locked_both;
+  loaded = upto_last locked_both;
   answers = inr (
     λ h. omega arith,
     inr (
@@ -286,9 +286,9 @@ takes_get_a = record {
 takes_check_a : MayTake cut (Took get_a ∷ locked_both) check_a
 takes_check_a = record {
   region = omega arith;
-  allowed = record { of = two_keys; stands = refl; primary = refl; forced = λ e. (cc (e)) };
+  allowed = record { primary = refl; forced = λ e. (cc (e)) };
   holds = refl;
-  loaded = last_was (Took get_a ∷ locked_both);
+  loaded = upto_last (Took get_a ∷ locked_both);
   answers = inr (
     λ h. omega arith,
     inr (λ h. omega arith, inl (lock_a, record { stands = refl; own = refl }, inl ((refl, refl), refl))),
@@ -300,7 +300,7 @@ takes_check_b = record {
   region = omega arith;
   allowed = record { of = two_keys; stands = refl; async = refl; within = λ e. (cc (e)) };
   holds = refl;
-  loaded = last_was (Took check_a ∷ Took get_a ∷ locked_both);
+  loaded = upto_last (Took check_a ∷ Took get_a ∷ locked_both);
   answers = inr (λ h. omega arith, inl (lock_b, record { stands = refl; own = refl }, refl));
 }
 
@@ -310,9 +310,9 @@ asked_run = (((locked_both_run, takes_get_a), takes_check_a), takes_check_b)
 takes_resolve_a : MayTake cut asked resolve_a
 takes_resolve_a = record {
   region = omega arith;
-  allowed = record { stands = λ e. (cc (e)); decision = refl };
+  allowed = refl;
   holds = refl;
-  loaded = last_was asked;
+  loaded = upto_last asked;
   answers = inr (
     λ h. omega arith,
     inl (
@@ -328,7 +328,7 @@ takes_get_again = record {
   region = omega arith;
   allowed = λ t within. absurd (none t within);
   holds = refl;
-  loaded = last_was (Took resolve_a ∷ asked);
+  loaded = upto_last (Took resolve_a ∷ asked);
   answers = inr (
     λ h. omega arith,
     inr (λ h. omega arith, inr (λ lock y. (cc (y.stands)), (None, refl, λ v f. above f.at f.rec f.stands f.upto))),
@@ -387,7 +387,7 @@ takes_check_missing = record {
   region = omega arith;
   allowed = record { of = two_keys; stands = refl; async = refl; within = λ e. (cc (e)) };
   holds = refl;
-  loaded = last_was locked_a;
+  loaded = upto_last locked_a;
   answers = inr (λ h. omega arith, inr (λ lock own. (cc (own.stands)), inr (λ c own. (cc (own.stands)), refl)));
 }
 

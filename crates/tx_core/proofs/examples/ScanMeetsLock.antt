@@ -1,5 +1,5 @@
 -- A scan meets a lock that is below its timestamp.
-use Rattle.std.proofs.Common.{◌≡◌, ℕ, ◌<◌, ◌&&◌, inl, inr, Bool, true, false, List, [], ◌∷◌, Some, None, IsTrue, refl, sym, ap, subst, arith}
+use Rattle.std.proofs.Common.{◌&&◌, inl, inr, [], ◌∷◌, IsTrue, refl, arith}
 use Rattle.std.proofs.lemmas.Bool.{and_parts}
 use Rattle.tx_types.specs.declared.key.Key.{Key}
 use Rattle.tx_types.specs.declared.mutation.Mutation.TheVariants.{Put}
@@ -14,7 +14,7 @@ use Rattle.tx_core.specs.declared.event.Taken.{Taken}
 use Rattle.tx_core.specs.declared.event.Event.TheVariants.{Drawn, Took}
 use Rattle.tx_core.specs.Histories.{History}
 use Rattle.tx_core.specs.Worlds.{IsWorldRun, MayTake}
-use Rattle.tx_core.proofs.seats.Staying.{last_was}
+use Rattle.tx_core.proofs.seats.Staying.{upto_last}
 use Rattle.tx_core.proofs.examples.Words.{a, b, x, none}
 use Rattle.tx_core.proofs.examples.OneKey.{begins, lock_key, begins_run, locks}
 use Rattle.tx_core.specs.Happens.{Happens, ScanMeetsLock}
@@ -51,7 +51,7 @@ meets = record {
   region = omega arith;
   allowed = λ t within. absurd (none t within);
   holds = λ k within. refl;
-  loaded = last_was locked;
+  loaded = upto_last locked;
   answers = inr (
     λ h. omega (arith, h),
     inr (

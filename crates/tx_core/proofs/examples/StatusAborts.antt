@@ -16,7 +16,7 @@ use Rattle.tx_core.specs.Histories.{History}
 use Rattle.tx_core.specs.Decisions.{decided}
 use Rattle.tx_core.specs.Worlds.{IsWorldRun, MayTake}
 use Rattle.tx_core.specs.Shadow.{shadow}
-use Rattle.tx_core.proofs.seats.Staying.{last_was}
+use Rattle.tx_core.proofs.seats.Staying.{upto_last}
 use Rattle.tx_core.proofs.examples.Words.{a, x, unrolled}
 use Rattle.tx_core.specs.Happens.{Happens, AbortsByStatus}
 
@@ -86,9 +86,9 @@ puts_run = (
 checks : MayTake [] puts check
 checks = record {
   region = omega arith;
-  allowed = record { of = put; stands = refl; primary = refl; forced = λ e. (cc (e)) };
+  allowed = record { primary = refl; forced = λ e. (cc (e)) };
   holds = refl;
-  loaded = last_was puts;
+  loaded = upto_last puts;
   answers = inr (
     λ h. omega arith,
     inr (
@@ -114,7 +114,7 @@ refused = record {
     others = refl;
   };
   holds = refl;
-  loaded = last_was (Took check ∷ puts);
+  loaded = upto_last (Took check ∷ puts);
   answers = inr (λ h. omega arith, inr (λ h. omega arith, inr (λ lock own. (cc (own.stands)), inl (inl refl, refl))));
 }
 

@@ -1,5 +1,5 @@
 -- The words of the example runs: two keys, a value, and small facts.
-use Rattle.std.proofs.Common.{◌≡◌, ◌≢◌, ℕ, ◌<◌, inl, inr, [], ◌∷◌, Option, Some, None, bytes_eq, Contains, refl, sym, ap, subst, ◌∙◌, arith}
+use Rattle.std.proofs.Common.{◌≡◌, ◌≢◌, ℕ, ◌<◌, inl, inr, [], ◌∷◌, Option, Some, None, bytes_eq, Contains, sym, ap, subst, ◌∙◌, arith}
 use Rattle.tx_types.specs.declared.key.Key.{Key}
 use Rattle.tx_types.specs.declared.value.Value.{Value}
 use Rattle.tx_types.specs.declared.mutation.Mutation.{Mutation}
@@ -7,7 +7,7 @@ use Rattle.tx_types.specs.declared.mutation.Mode.TheVariants as mode
 use Rattle.tx_plan.specs.Cells.{Lock}
 use Rattle.tx_plan.specs.Own.{OwnRollback}
 use Rattle.tx_machine.specs.Keys.{mutation_at}
-use Rattle.tx_core.specs.Histories.{History, drawer, set_at}
+use Rattle.tx_core.specs.Histories.{History, drawer, set_at, is_first}
 use Rattle.tx_core.specs.Decisions.{Acceptance, accepted}
 use Rattle.tx_core.specs.Allowed.{MayDecide}
 use Rattle.tx_core.proofs.Basics.{key_test, cond_false, some_same, is_some}
@@ -39,10 +39,10 @@ start_of (Some lock) = lock.start
 pub decides_at : (t : ℕ) (h : History) (m : Mutation) (c : ℕ) (by : Acceptance)
     → set_at h t ≡ record { key = a; mutation = m } ∷ [] → accepted h t a ≡ Some by → by.lock.mode ≡ mode.TwoPhase
     → drawer h t ≡ Some 1 → drawer h c ≡ Some 1 → by.at < c
-    → MayDecide h (record { key = a; mutation = m } ∷ []) record { key = a; start = t; commit = c }
+    → MayDecide h record { key = a; start = t; commit = c }
 decides_at t h m c by set is two began drew later =
     record {
-      primary = refl;
+      primary = ap (λ s. is_first s a) set;
       accepted = λ k within. subst (λ q. accepted h t q ≢ None) (is_a k within) (is_some (accepted h t a) by is);
       two_phase = record { key = a; by = by; stands = is; two_phase = two };
       drawn = record {
@@ -63,5 +63,5 @@ decides_at t h m c by set is two began drew later =
 pub decides : (h : History) (m : Mutation) (c : ℕ) (by : Acceptance)
     → set_at h 1 ≡ record { key = a; mutation = m } ∷ [] → accepted h 1 a ≡ Some by → by.lock.mode ≡ mode.TwoPhase
     → drawer h 1 ≡ Some 1 → drawer h c ≡ Some 1 → by.at < c
-    → MayDecide h (record { key = a; mutation = m } ∷ []) record { key = a; start = 1; commit = c }
+    → MayDecide h record { key = a; start = 1; commit = c }
 decides = decides_at 1

@@ -10,8 +10,8 @@ use Rattle.tx_plan.specs.declared.body.Prewrite.{Prewrite}
 use Rattle.tx_plan.specs.declared.answer.Answer.{Answer}
 use Rattle.tx_plan.specs.declared.answer.Answer.TheVariants.{Prewritten}
 use Rattle.tx_plan.specs.Cells.{Lock, Cells, Region, info_of}
-use Rattle.tx_plan.specs.Answers.{Answers, leaves}
-use Rattle.tx_plan.specs.cases.Prewrite.{lock_of, locked, leaves_prewrite, named_minimum}
+use Rattle.tx_plan.specs.Answers.{Answers, leaves, leaves_on}
+use Rattle.tx_plan.specs.cases.Prewrite.{lock_of, locked, named_minimum}
 use Rattle.tx_machine.specs.Keys.{mutation_at}
 use Rattle.tx_machine.specs.Machine.{Done}
 use Rattle.tx_core.specs.declared.event.Taken.{Taken}
@@ -35,7 +35,7 @@ Answered r b m = (lock : Lock) × ((r.cells b.key).lock ≡ Some lock) × (lock.
 module _ (r : Region) (b : Prewrite) where
   after : (o : Option Lock) (m : ℕ) → (r.cells b.key).lock ≡ o
       → ((leaves r (body.Prewrite b) (Prewritten m)).cells b.key).lock ≡ Some (locked o b m)
-  after o m e = ap (λ (c : Cells). c.lock) (here r b.key (leaves_prewrite (r.cells b.key) b (Prewritten m)))
+  after o m e = ap (λ (c : Cells). c.lock) (here r b.key (leaves_on (r.cells b.key) (body.Prewrite b) (Prewritten m)))
       ∙ ap (λ x. Some (locked x b m)) e
 
   named : (m : ℕ) → named_minimum (lock_of b m) ≡ m

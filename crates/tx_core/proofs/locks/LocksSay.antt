@@ -1,5 +1,5 @@
 -- Each lock says what its transaction declared.
-use Rattle.std.proofs.Common.{◌≡◌, ℕ, ◌==◌, inl, inr, true, List, [], ◌∷◌, Option, Some, None, bytes_eq, refl, sym, ap, subst, ◌∙◌}
+use Rattle.std.proofs.Common.{◌≡◌, ℕ, ◌==◌, inl, inr, true, cond, List, [], ◌∷◌, Option, Some, None, bytes_eq, refl, sym, ap, subst, ◌∙◌}
 use Rattle.tx_types.specs.declared.key.Key.{Key}
 use Rattle.tx_types.specs.declared.mutation.Mode.TheVariants.{TwoPhase, Async}
 use Rattle.tx_types.specs.declared.mutation.Fate.{Fate}
@@ -10,15 +10,12 @@ use Rattle.tx_plan.specs.declared.body.Prewrite.{Prewrite}
 use Rattle.tx_plan.specs.declared.answer.Answer.{Answer}
 use Rattle.tx_plan.specs.declared.answer.Answer.TheVariants.{Prewritten, Committed, RolledBack, Missing, Locked, Resolved, Ttl, Raised, Collected}
 use Rattle.tx_plan.specs.Cells.{Lock, Cells, Region, with_cells, with_lock}
-use Rattle.tx_plan.specs.Own.{on_own_lock, without_own, roll_back, commit_lock, lock_committed}
-use Rattle.tx_plan.specs.Answers.{leaves}
-use Rattle.tx_plan.specs.cases.Prewrite.{lock_of, leaves_prewrite}
-use Rattle.tx_plan.specs.cases.Commit.{leaves_commit}
-use Rattle.tx_plan.specs.cases.BatchRollback.{leaves_batch_rollback}
-use Rattle.tx_plan.specs.cases.TxnHeartBeat.{with_ttl, leaves_txn_heart_beat}
-use Rattle.tx_plan.specs.cases.CheckTxnStatus.{with_minimum, leaves_check_txn_status}
-use Rattle.tx_plan.specs.cases.CheckSecondaryLocks.{leaves_check_secondary_locks}
-use Rattle.tx_plan.specs.cases.ResolveLock.{resolve, leaves_resolve_lock}
+use Rattle.tx_plan.specs.Own.{on_own_lock, is_own, roll_back, commit_lock, lock_committed}
+use Rattle.tx_plan.specs.Answers.{leaves, leaves_on}
+use Rattle.tx_plan.specs.cases.Prewrite.{lock_of}
+use Rattle.tx_plan.specs.cases.TxnHeartBeat.{with_ttl}
+use Rattle.tx_plan.specs.cases.CheckTxnStatus.{with_minimum}
+use Rattle.tx_plan.specs.cases.ResolveLock.{resolve}
 use Rattle.tx_core.specs.declared.event.Declaration.{Declaration}
 use Rattle.tx_core.specs.declared.event.Event.{Event}
 use Rattle.tx_core.specs.declared.event.Event.TheVariants.{Drawn, Began, Declared, Answered, Stopped, Took}
@@ -49,7 +46,7 @@ stood o lock e = (lock, e, same_lock lock)
 
 -- ---- on one key
 
-own_left : (o : Option Lock) (t : ℕ) (lock : Lock) → without_own o t ≡ Some lock → Stood o lock
+own_left : (o : Option Lock) (t : ℕ) (lock : Lock) → cond (is_own o t) None o ≡ Some lock → Stood o lock
 own_left None t lock e = absurd (cc (e))
 own_left (Some old) t lock e =
     elim (chosen (old.start == t) None (Some old) (Some lock) e) [
@@ -107,45 +104,45 @@ left_lock : (r : Region) (x : Body) (a : Answer) (k : Key) (lock : Lock) → ((l
 left_lock r (body.Get b) a k lock e = was (stood (r.cells k).lock lock e)
 left_lock r (body.Scan b) a k lock e = was (stood (r.cells k).lock lock e)
 left_lock r (body.Prewrite b) a k lock e =
-    left_keyed r (body.Prewrite b) b.key (leaves_prewrite (r.cells b.key) b a) (does a) k lock e
+    left_keyed r (body.Prewrite b) b.key (leaves_on (r.cells b.key) (body.Prewrite b) a) (does a) k lock e
   where
     locks : (m : ℕ) (o : Option Lock) → (r.cells b.key).lock ≡ o → (new : Lock)
-        → (leaves_prewrite (record { lock = o; write = (r.cells b.key).write }) b (Prewritten m)).lock ≡ Some new
+        → (leaves_on (record { lock = o; write = (r.cells b.key).write }) (body.Prewrite b) (Prewritten m)).lock ≡ Some new
         → Left r (body.Prewrite b) b.key new
     locks m None is new y = put b m refl refl (some_same new (lock_of b m) (sym y))
     locks m (Some old) is new y = was (stood (r.cells b.key).lock new (is ∙ y))
 
-    does : (a : Answer) (new : Lock) → (leaves_prewrite (r.cells b.key) b a).lock ≡ Some new
+    does : (a : Answer) (new : Lock) → (leaves_on (r.cells b.key) (body.Prewrite b) a).lock ≡ Some new
         → Left r (body.Prewrite b) b.key new
     does (Prewritten m) new y = locks m (r.cells b.key).lock refl new y
     does _ new y = was (stood (r.cells b.key).lock new y)
 left_lock r (body.Commit b) a k lock e =
-    left_keyed r (body.Commit b) b.key (leaves_commit (r.cells b.key) b a) (does a) k lock e
+    left_keyed r (body.Commit b) b.key (leaves_on (r.cells b.key) (body.Commit b) a) (does a) k lock e
   where
-    does : (a : Answer) (new : Lock) → (leaves_commit (r.cells b.key) b a).lock ≡ Some new
+    does : (a : Answer) (new : Lock) → (leaves_on (r.cells b.key) (body.Commit b) a).lock ≡ Some new
         → Left r (body.Commit b) b.key new
     does (Committed c) new y = was (settle_left (r.cells b.key) b.start b.commit new y)
     does _ new y = was (stood (r.cells b.key).lock new y)
 left_lock r (body.BatchRollback b) a k lock e =
-    left_keyed r (body.BatchRollback b) b.key (leaves_batch_rollback (r.cells b.key) b a) (does a) k lock e
+    left_keyed r (body.BatchRollback b) b.key (leaves_on (r.cells b.key) (body.BatchRollback b) a) (does a) k lock e
   where
-    does : (a : Answer) (new : Lock) → (leaves_batch_rollback (r.cells b.key) b a).lock ≡ Some new
+    does : (a : Answer) (new : Lock) → (leaves_on (r.cells b.key) (body.BatchRollback b) a).lock ≡ Some new
         → Left r (body.BatchRollback b) b.key new
     does RolledBack new y = was (own_left (r.cells b.key).lock b.start new y)
     does _ new y = was (stood (r.cells b.key).lock new y)
 left_lock r (body.TxnHeartBeat b) a k lock e =
-    left_keyed r (body.TxnHeartBeat b) b.key (leaves_txn_heart_beat (r.cells b.key) b a) (does a) k lock e
+    left_keyed r (body.TxnHeartBeat b) b.key (leaves_on (r.cells b.key) (body.TxnHeartBeat b) a) (does a) k lock e
   where
-    does : (a : Answer) (new : Lock) → (leaves_txn_heart_beat (r.cells b.key) b a).lock ≡ Some new
+    does : (a : Answer) (new : Lock) → (leaves_on (r.cells b.key) (body.TxnHeartBeat b) a).lock ≡ Some new
         → Left r (body.TxnHeartBeat b) b.key new
     does (Ttl ttl) new y =
         was (put_back (r.cells b.key) b.start (λ old. with_ttl old ttl)
         (λ old. record { start = refl; mode = refl; primary = refl; secondaries = refl }) new y)
     does _ new y = was (stood (r.cells b.key).lock new y)
 left_lock r (body.CheckTxnStatus b) a k lock e =
-    left_keyed r (body.CheckTxnStatus b) b.key (leaves_check_txn_status (r.cells b.key) b a) (does a) k lock e
+    left_keyed r (body.CheckTxnStatus b) b.key (leaves_on (r.cells b.key) (body.CheckTxnStatus b) a) (does a) k lock e
   where
-    does : (a : Answer) (new : Lock) → (leaves_check_txn_status (r.cells b.key) b a).lock ≡ Some new
+    does : (a : Answer) (new : Lock) → (leaves_on (r.cells b.key) (body.CheckTxnStatus b) a).lock ≡ Some new
         → Left r (body.CheckTxnStatus b) b.key new
     does RolledBack new y = was (own_left (r.cells b.key).lock b.start new y)
     does (Locked info) new y =
@@ -153,16 +150,16 @@ left_lock r (body.CheckTxnStatus b) a k lock e =
         (λ old. record { start = refl; mode = refl; primary = refl; secondaries = refl }) new y)
     does _ new y = was (stood (r.cells b.key).lock new y)
 left_lock r (body.CheckSecondaryLocks b) a k lock e =
-    left_keyed r (body.CheckSecondaryLocks b) b.key (leaves_check_secondary_locks (r.cells b.key) b a) (does a) k lock e
+    left_keyed r (body.CheckSecondaryLocks b) b.key (leaves_on (r.cells b.key) (body.CheckSecondaryLocks b) a) (does a) k lock e
   where
-    does : (a : Answer) (new : Lock) → (leaves_check_secondary_locks (r.cells b.key) b a).lock ≡ Some new
+    does : (a : Answer) (new : Lock) → (leaves_on (r.cells b.key) (body.CheckSecondaryLocks b) a).lock ≡ Some new
         → Left r (body.CheckSecondaryLocks b) b.key new
     does Missing new y = was (stood (r.cells b.key).lock new y)
     does _ new y = was (stood (r.cells b.key).lock new y)
 left_lock r (body.ResolveLock b) a k lock e =
-    left_keyed r (body.ResolveLock b) b.key (leaves_resolve_lock (r.cells b.key) b a) (does a) k lock e
+    left_keyed r (body.ResolveLock b) b.key (leaves_on (r.cells b.key) (body.ResolveLock b) a) (does a) k lock e
   where
-    does : (a : Answer) (new : Lock) → (leaves_resolve_lock (r.cells b.key) b a).lock ≡ Some new
+    does : (a : Answer) (new : Lock) → (leaves_on (r.cells b.key) (body.ResolveLock b) a).lock ≡ Some new
         → Left r (body.ResolveLock b) b.key new
     does Resolved new y = was (resolve_left (r.cells b.key) b.start b.fate new y)
     does _ new y = was (stood (r.cells b.key).lock new y)

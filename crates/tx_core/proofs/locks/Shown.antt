@@ -13,7 +13,7 @@ use Rattle.tx_plan.specs.declared.body.CheckTxnStatus.{CheckTxnStatus}
 use Rattle.tx_plan.specs.declared.answer.Answer.{Answer}
 use Rattle.tx_plan.specs.declared.answer.Answer.TheVariants.{Prewritten, Committed, RolledBack, Locked}
 use Rattle.tx_plan.specs.Cells.{Lock, info_of}
-use Rattle.tx_plan.specs.Own.{OwnLock}
+use Rattle.tx_plan.specs.Own.{OwnLock, is_own}
 use Rattle.tx_plan.specs.Answers.{Answers}
 use Rattle.tx_plan.specs.Tables.{Case}
 use Rattle.tx_plan.specs.cases.Prewrite.{AnswersPrewrite, IsWithin, MayPromise, lock_of, named_minimum}
@@ -22,12 +22,12 @@ use Rattle.tx_core.specs.declared.event.Declaration.{Declaration}
 use Rattle.tx_core.specs.declared.event.Taken.{Taken}
 use Rattle.tx_core.specs.declared.event.Event.{Event}
 use Rattle.tx_core.specs.declared.event.Event.TheVariants.{Drawn, Began, Declared, Answered, Stopped, Took}
-use Rattle.tx_core.specs.Histories.{History, last, declared, set_of, set_at, is_first, left}
-use Rattle.tx_core.specs.Decisions.{Puts, NoEffect, is_own, effect, effect_in, infos_in, accepted, Shows as HasShown}
+use Rattle.tx_core.specs.Histories.{History, last, declared, set_at, is_first, left}
+use Rattle.tx_core.specs.Decisions.{Puts, NoEffect, effect, effect_in, infos_in, accepted, Shows as HasShown}
 use Rattle.tx_core.specs.Allowed.{Allowed, AllowsCheckTxnStatus}
 use Rattle.tx_core.specs.Worlds.{route, Holds, MayTake, MayCome}
 use Rattle.tx_core.proofs.Basics.{nat_test, cond_true}
-use Rattle.tx_core.proofs.view.View.{never_accepted}
+use Rattle.tx_core.proofs.view.View.{never_accepted, first_declared}
 use Rattle.tx_core.proofs.view.HistoryView.{shown_put, shown_told, shown_in, view}
 use Rattle.tx_core.proofs.requests.Good.{Good, took, cells_at}
 pub use Rattle.tx_core.proofs.locks.Told.{ToldShown, told_first}
@@ -182,12 +182,11 @@ module _ (bounds : List Key) (h : History) (good : Good bounds h) (before : Told
         })
       where
         some : declared h told.start ≢ None
-        some none = cc (may.stands, subst (λ u. declared h u ≡ None) (start ∙ own.own) none)
+        some none = cc ((first_declared (declared h b.start) b.key may.primary).1, subst (λ u. declared h u ≡ None) (start ∙ own.own) none)
 
         was : (t : ℕ) → b.start ≡ t → shown_in h t ≡ lock.min
         was t same = (let primary : is_first (set_at h lock.start) b.key ≡ true =
-            ap (λ u. is_first (set_at h u) b.key) own.own ∙ ap (λ o. is_first (set_of o) b.key) may.stands
-            ∙ may.primary in
+            ap (λ u. is_first (set_at h u) b.key) own.own ∙ may.primary in
             ap (shown_in h) (sym (own.own ∙ same))
             ∙ sym (((good.sound.inv.keys b.key).lock lock own.stands).shows primary))
 

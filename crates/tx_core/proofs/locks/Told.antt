@@ -22,7 +22,7 @@ use Rattle.tx_plan.specs.declared.body.Prewrite.{Prewrite}
 use Rattle.tx_plan.specs.declared.body.Commit.{Commit}
 use Rattle.tx_plan.specs.declared.body.ResolveLock.{ResolveLock}
 use Rattle.tx_plan.specs.declared.answer.Answer.{Answer}
-use Rattle.tx_plan.specs.declared.answer.Answer.TheVariants.{Committed, RolledBack, Missing, Resolved, Raised, Collected}
+use Rattle.tx_plan.specs.declared.answer.Answer.TheVariants.{Committed, RolledBack, Missing, Raised, Collected}
 use Rattle.tx_plan.specs.Cells.{Lock, Cells, Region, info_of, with_cells}
 use Rattle.tx_plan.specs.Answers.{Answers, leaves}
 use Rattle.tx_plan.specs.Reads.{read_answer}
@@ -30,7 +30,8 @@ use Rattle.tx_plan.specs.cases.ResolveLock.{ResolvesLock}
 use Rattle.tx_core.specs.declared.event.Taken.{Taken}
 use Rattle.tx_core.specs.declared.event.Event.TheVariants.{Took}
 use Rattle.tx_core.specs.Histories.{History, last, declared, set_at, is_first, left, Among}
-use Rattle.tx_core.specs.Decisions.{Effect, Puts, Settles, RollsBack, NoEffect, is_own, effect_of_fate, effect, infos_in}
+use Rattle.tx_core.specs.Decisions.{Effect, Puts, Settles, RollsBack, NoEffect, effect, infos_in}
+use Rattle.tx_plan.specs.Own.{is_own}
 use Rattle.tx_core.specs.Worlds.{route, Holds}
 use Rattle.tx_core.proofs.Basics.{nat_test, key_test, cond_true, cond_false}
 use Rattle.tx_core.proofs.view.View.{does_declared}
@@ -82,10 +83,6 @@ no_put_either : (b : Bool) (e f : Effect) → IsNoPut e → IsNoPut f → IsNoPu
 no_put_either true e f x y = x
 no_put_either false e f x y = y
 
-no_put_fate : (key : Key) (t : ℕ) (e : Fate) → IsNoPut (effect_of_fate key t e)
-no_put_fate key t (fate.Committed c) = tt
-no_put_fate key t fate.Aborted = tt
-
 -- only a prewrite puts one
 abbrev pub IsPrewrite : Body → Type 0
 IsPrewrite (body.Prewrite b) = Unit {0}
@@ -105,10 +102,7 @@ no_put cells (body.CheckTxnStatus b) RolledBack other = tt
 no_put cells (body.CheckTxnStatus b) _ other = tt
 no_put cells (body.CheckSecondaryLocks b) Missing other = tt
 no_put cells (body.CheckSecondaryLocks b) _ other = tt
-no_put cells (body.ResolveLock b) Resolved other =
-    no_put_either (is_own (cells b.key).lock b.start) (effect_of_fate b.key b.start b.fate) NoEffect
-    (no_put_fate b.key b.start b.fate) tt
-no_put cells (body.ResolveLock b) _ other = tt
+no_put cells (body.ResolveLock b) a other = tt
 no_put cells (body.RaiseSafe b) a other = tt
 no_put cells (body.LocksBelow b) a other = tt
 no_put cells (body.Collect b) a other = tt

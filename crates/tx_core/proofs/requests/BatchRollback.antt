@@ -9,7 +9,7 @@ use Rattle.tx_plan.specs.declared.answer.Answer.{Answer}
 use Rattle.tx_plan.specs.declared.answer.Answer.TheVariants.{RolledBack, AlreadyCommitted, BelowSafePoint}
 use Rattle.tx_plan.specs.Cells.{Lock, Cells}
 use Rattle.tx_plan.specs.Own.{OwnLock, OwnCommit, roll_back}
-use Rattle.tx_plan.specs.cases.BatchRollback.{AnswersBatchRollback, leaves_batch_rollback}
+use Rattle.tx_plan.specs.cases.BatchRollback.{AnswersBatchRollback}
 use Rattle.tx_core.specs.Histories.{History, declared, is_first, set_of, left}
 use Rattle.tx_core.specs.Decisions.{accepted, decided}
 use Rattle.tx_core.specs.Allowed.{AllowsBatchRollback}
@@ -21,9 +21,10 @@ use Rattle.tx_core.proofs.changes.Sounds.{sound_roll_back}
 use Rattle.tx_core.proofs.view.HistoryView.{view}
 use Rattle.tx_core.proofs.requests.LeavingRollback.{LeavesRollback, follows, rolled}
 use Rattle.tx_core.proofs.requests.Good.{Good, Next, OnKey, took, cells_at, quiet, true_commit}
+use Rattle.tx_plan.specs.Answers.{leaves_on}
 
 module _ (bounds : List Key) (h : History) (good : Good bounds h) (b : BatchRollback) (l : ℕ) where
-  on_key : (a : Answer) → OnKey b.key (body.BatchRollback b) a b.start (λ c. leaves_batch_rollback c b a)
+  on_key : (a : Answer) → OnKey b.key (body.BatchRollback b) a b.start (λ c. leaves_on c (body.BatchRollback b) a)
   on_key a = record {
     named = refl;
     does = λ r. refl;
@@ -44,7 +45,7 @@ module _ (bounds : List Key) (h : History) (good : Good bounds h) (b : BatchRoll
 
   leaves : LeavesRollback bounds h b.key (body.BatchRollback b) l RolledBack b.start roll
   leaves = record {
-    does = λ c. leaves_batch_rollback c b RolledBack;
+    does = λ c. leaves_on c (body.BatchRollback b) RolledBack;
     on = on_key RolledBack;
     same = refl;
     leaves = refl;
@@ -114,12 +115,12 @@ module _ (bounds : List Key) (h : History) (good : Good bounds h) (b : BatchRoll
   next_rollback a may (inl x) =
       silent a (BelowSafePoint (left h (route bounds b.key)).collected) x.1
       (quiet bounds h good b.key (body.BatchRollback b) l (BelowSafePoint (left h (route bounds b.key)).collected)
-      b.start (λ c. leaves_batch_rollback c b (BelowSafePoint (left h (route bounds b.key)).collected))
+      b.start (λ c. leaves_on c (body.BatchRollback b) (BelowSafePoint (left h (route bounds b.key)).collected))
       (on_key (BelowSafePoint (left h (route bounds b.key)).collected)) refl (λ u n. refl) refl tt)
   next_rollback a may (inr (no0, inl (lock, own, e))) = silent a RolledBack e (locked may lock own)
   next_rollback a may (inr (no0, inr (no1, inl (c, own, e)))) =
       silent a (AlreadyCommitted c) e
       (quiet bounds h good b.key (body.BatchRollback b) l (AlreadyCommitted c) b.start
-      (λ x. leaves_batch_rollback x b (AlreadyCommitted c)) (on_key (AlreadyCommitted c)) refl (λ u n. refl) refl
+      (λ x. leaves_on x (body.BatchRollback b) (AlreadyCommitted c)) (on_key (AlreadyCommitted c)) refl (λ u n. refl) refl
       (true_commit bounds h good b.key b.start c own))
   next_rollback a may (inr (no0, inr (no1, inr (no2, e)))) = silent a RolledBack e (missing may no0 no1 no2)

@@ -9,7 +9,7 @@ use Rattle.tx_plan.specs.declared.answer.Answer.{Answer}
 use Rattle.tx_plan.specs.declared.answer.Answer.TheVariants.{Missing, Committed, Locked, BelowSafePoint}
 use Rattle.tx_plan.specs.Cells.{Lock, info_of, Cells}
 use Rattle.tx_plan.specs.Own.{OwnLock, OwnCommit, leave_rollback}
-use Rattle.tx_plan.specs.cases.CheckSecondaryLocks.{AnswersCheckSecondaryLocks, leaves_check_secondary_locks}
+use Rattle.tx_plan.specs.cases.CheckSecondaryLocks.{AnswersCheckSecondaryLocks}
 use Rattle.tx_core.specs.Histories.{History, declared, set_of, set_at, left}
 use Rattle.tx_core.specs.Decisions.{accepted, decided}
 use Rattle.tx_core.specs.Allowed.{AllowsCheckSecondaryLocks}
@@ -21,9 +21,10 @@ use Rattle.tx_core.proofs.changes.Sounds.{sound_leave_rollback}
 use Rattle.tx_core.proofs.view.HistoryView.{view}
 use Rattle.tx_core.proofs.requests.LeavingRollback.{LeavesRollback, rolled}
 use Rattle.tx_core.proofs.requests.Good.{Good, Next, OnKey, took, cells_at, quiet, true_commit}
+use Rattle.tx_plan.specs.Answers.{leaves_on}
 
 module _ (bounds : List Key) (h : History) (good : Good bounds h) (b : CheckSecondaryLocks) (l : ℕ) where
-  on_key : (a : Answer) → OnKey b.key (body.CheckSecondaryLocks b) a b.start (λ c. leaves_check_secondary_locks c b a)
+  on_key : (a : Answer) → OnKey b.key (body.CheckSecondaryLocks b) a b.start (λ c. leaves_on c (body.CheckSecondaryLocks b) a)
   on_key a = record {
     named = refl;
     does = λ r. refl;
@@ -45,7 +46,7 @@ module _ (bounds : List Key) (h : History) (good : Good bounds h) (b : CheckSeco
 
   leaves : LeavesRollback bounds h b.key (body.CheckSecondaryLocks b) l Missing b.start roll
   leaves = record {
-    does = λ c. leaves_check_secondary_locks c b Missing;
+    does = λ c. leaves_on c (body.CheckSecondaryLocks b) Missing;
     on = on_key Missing;
     same = refl;
     leaves = refl;
@@ -88,16 +89,16 @@ module _ (bounds : List Key) (h : History) (good : Good bounds h) (b : CheckSeco
   next_check_secondary a may (inl x) =
       silent a (BelowSafePoint (left h (route bounds b.key)).collected) x.1
       (quiet bounds h good b.key (body.CheckSecondaryLocks b) l (BelowSafePoint (left h (route bounds b.key)).collected)
-      b.start (λ c. leaves_check_secondary_locks c b (BelowSafePoint (left h (route bounds b.key)).collected))
+      b.start (λ c. leaves_on c (body.CheckSecondaryLocks b) (BelowSafePoint (left h (route bounds b.key)).collected))
       (on_key (BelowSafePoint (left h (route bounds b.key)).collected)) refl (λ u n. refl) refl tt)
   next_check_secondary a may (inr (no0, inl (lock, own, e))) =
       silent a (Locked (info_of b.key lock)) e
       (quiet bounds h good b.key (body.CheckSecondaryLocks b) l (Locked (info_of b.key lock)) b.start
-      (λ c. leaves_check_secondary_locks c b (Locked (info_of b.key lock))) (on_key (Locked (info_of b.key lock))) refl
+      (λ c. leaves_on c (body.CheckSecondaryLocks b) (Locked (info_of b.key lock))) (on_key (Locked (info_of b.key lock))) refl
       (λ u n. refl) refl tt)
   next_check_secondary a may (inr (no0, inr (no1, inl (c, own, e)))) =
       silent a (Committed c) e
       (quiet bounds h good b.key (body.CheckSecondaryLocks b) l (Committed c) b.start
-      (λ x. leaves_check_secondary_locks x b (Committed c)) (on_key (Committed c)) refl (λ u n. refl) refl
+      (λ x. leaves_on x (body.CheckSecondaryLocks b) (Committed c)) (on_key (Committed c)) refl (λ u n. refl) refl
       (true_commit bounds h good b.key b.start c own))
   next_check_secondary a may (inr (no0, inr (no1, inr (no2, e)))) = silent a Missing e (missing may no0 no1 no2)

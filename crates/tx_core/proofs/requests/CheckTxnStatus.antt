@@ -1,5 +1,5 @@
 -- A region answers what has become of a transaction, on its primary.
-use Rattle.std.proofs.Common.{◌≡◌, ◌≢◌, ℕ, ◌+◌, ◌<◌, ◌≤◌, ◌++◌, inl, inr, false, List, None, refl, sym, ap, subst, ◌∙◌, arith}
+use Rattle.std.proofs.Common.{◌≡◌, ◌≢◌, ℕ, ◌+◌, ◌<◌, ◌≤◌, ◌++◌, inl, inr, false, List, None, refl, sym, ap, subst, arith}
 use Rattle.std.proofs.lemmas.Bool.{cases_Bool, cases_lt}
 use Rattle.tx_types.specs.declared.key.Key.{Key}
 use Rattle.tx_types.specs.declared.mutation.Mode.{Mode}
@@ -13,14 +13,14 @@ use Rattle.tx_plan.specs.declared.answer.Answer.{Answer}
 use Rattle.tx_plan.specs.declared.answer.Answer.TheVariants.{Committed, RolledBack, Locked, BelowSafePoint, FutureTimestamp, TxnNotFound}
 use Rattle.tx_plan.specs.Cells.{Lock, info_of, Cells}
 use Rattle.tx_plan.specs.Own.{OwnLock, OwnCommit, OwnRollback, roll_back}
-use Rattle.tx_plan.specs.cases.CheckTxnStatus.{AnswersCheckTxnStatus, ChecksLock, with_minimum, leaves_check_txn_status}
-use Rattle.tx_core.specs.Histories.{History, declared, is_first, set_of, left}
+use Rattle.tx_plan.specs.cases.CheckTxnStatus.{AnswersCheckTxnStatus, ChecksLock, with_minimum}
+use Rattle.tx_core.specs.Histories.{History, declared, set_of, left}
 use Rattle.tx_core.specs.Decisions.{NoEffect, accepted, decided}
 use Rattle.tx_core.specs.Allowed.{AllowsCheckTxnStatus}
 use Rattle.tx_core.specs.Worlds.{route}
 use Rattle.tx_core.specs.Shadow.{shadow}
 use Rattle.tx_core.specs.Truth.{HasEnded}
-use Rattle.tx_core.proofs.view.View.{FellBack, IsPrimary, first_within, does_within, never_accepted}
+use Rattle.tx_core.proofs.view.View.{FellBack, IsPrimary, first_within, does_within, never_accepted, first_declared}
 use Rattle.tx_core.proofs.changes.Pushing.{pushed, pushing, push_same, ends_push}
 use Rattle.tx_core.proofs.view.Ends.{Ends, fell_of_lock, missing_live}
 use Rattle.tx_core.proofs.changes.CellsEnds.{ends_roll_back, ends_abort_first, ends_abort_missing}
@@ -29,9 +29,10 @@ use Rattle.tx_core.proofs.view.Tables.{Sound, ended_decided}
 use Rattle.tx_core.proofs.view.HistoryView.{view}
 use Rattle.tx_core.proofs.requests.LeavingRollback.{LeavesRollback, follows, rolled}
 use Rattle.tx_core.proofs.requests.Good.{Good, Next, OnKey, took, cells_at, assemble, quiet, decided_same, true_commit}
+use Rattle.tx_plan.specs.Answers.{leaves_on}
 
 module _ (bounds : List Key) (h : History) (good : Good bounds h) (b : CheckTxnStatus) (l : ℕ) where
-  on_key : (a : Answer) → OnKey b.key (body.CheckTxnStatus b) a b.start (λ c. leaves_check_txn_status c b a)
+  on_key : (a : Answer) → OnKey b.key (body.CheckTxnStatus b) a b.start (λ c. leaves_on c (body.CheckTxnStatus b) a)
   on_key a = record {
     named = refl;
     does = λ r. refl;
@@ -52,7 +53,7 @@ module _ (bounds : List Key) (h : History) (good : Good bounds h) (b : CheckTxnS
 
   leaves : LeavesRollback bounds h b.key (body.CheckTxnStatus b) l RolledBack b.start roll
   leaves = record {
-    does = λ c. leaves_check_txn_status c b RolledBack;
+    does = λ c. leaves_on c (body.CheckTxnStatus b) RolledBack;
     on = on_key RolledBack;
     same = refl;
     leaves = refl;
@@ -71,7 +72,7 @@ module _ (bounds : List Key) (h : History) (good : Good bounds h) (b : CheckTxnS
   tells lock told own sound ends =
       let v = pushing (view bounds h) b.key b.start told.min in
       assemble bounds h b.key (body.CheckTxnStatus b) l (Locked (info_of b.key told)) b.start
-      (λ c. leaves_check_txn_status c b (Locked (info_of b.key told))) (on_key (Locked (info_of b.key told)))
+      (λ c. leaves_on c (body.CheckTxnStatus b) (Locked (info_of b.key told))) (on_key (Locked (info_of b.key told)))
       NoEffect refl (decided h) (accepted h) v.shown (pushed (cells_at bounds h b.key) b.start told.min) (shadow h)
       (λ u. refl)
       (λ u q. refl)
@@ -86,10 +87,10 @@ module _ (bounds : List Key) (h : History) (good : Good bounds h) (b : CheckTxnS
 
   module _ (may : AllowsCheckTxnStatus h b) where
     some : declared h b.start ≢ None
-    some none = cc (none, may.stands)
+    some none = cc (none, (first_declared (declared h b.start) b.key may.primary).1)
 
     first : IsPrimary (declared h) b.start b.key
-    first = ap (λ o. is_first (set_of o) b.key) may.stands ∙ may.primary
+    first = may.primary
 
     -- its lock stands there
     module _ (lock : Lock) (own : OwnLock (cells_at bounds h b.key).lock b.start lock) where
@@ -177,17 +178,17 @@ module _ (bounds : List Key) (h : History) (good : Good bounds h) (b : CheckTxnS
   next_check_status a may (inl x) =
       silent a (BelowSafePoint (left h (route bounds b.key)).collected) x.1
       (quiet bounds h good b.key (body.CheckTxnStatus b) l (BelowSafePoint (left h (route bounds b.key)).collected)
-      b.start (λ c. leaves_check_txn_status c b (BelowSafePoint (left h (route bounds b.key)).collected))
+      b.start (λ c. leaves_on c (body.CheckTxnStatus b) (BelowSafePoint (left h (route bounds b.key)).collected))
       (on_key (BelowSafePoint (left h (route bounds b.key)).collected)) refl (λ u n. refl) refl tt)
   next_check_status a may (inr (no0, inl x)) =
       silent a (FutureTimestamp l) x.1
       (quiet bounds h good b.key (body.CheckTxnStatus b) l (FutureTimestamp l) b.start
-      (λ c. leaves_check_txn_status c b (FutureTimestamp l)) (on_key (FutureTimestamp l)) refl (λ u n. refl) refl tt)
+      (λ c. leaves_on c (body.CheckTxnStatus b) (FutureTimestamp l)) (on_key (FutureTimestamp l)) refl (λ u n. refl) refl tt)
   next_check_status a may (inr (no0, inr (no1, inl (lock, own, x)))) = checks may lock own a x
   next_check_status a may (inr (no0, inr (no1, inr (no2, inl (c, own, e))))) =
       silent a (Committed c) e
       (quiet bounds h good b.key (body.CheckTxnStatus b) l (Committed c) b.start
-      (λ x. leaves_check_txn_status x b (Committed c)) (on_key (Committed c)) refl (λ u n. refl) refl
+      (λ x. leaves_on x (body.CheckTxnStatus b) (Committed c)) (on_key (Committed c)) refl (λ u n. refl) refl
       (true_commit bounds h good b.key b.start c own))
   next_check_status a may (inr (no0, inr (no1, inr (no2, inr (no3, inl x))))) =
       silent a RolledBack x.1
@@ -198,5 +199,5 @@ module _ (bounds : List Key) (h : History) (good : Good bounds h) (b : CheckTxnS
   next_check_status a may (inr (no0, inr (no1, inr (no2, inr (no3, inr (no4, inr (no5, e))))))) =
       silent a TxnNotFound e
       (quiet bounds h good b.key (body.CheckTxnStatus b) l TxnNotFound b.start
-      (λ c. leaves_check_txn_status c b TxnNotFound) (on_key TxnNotFound) refl (λ u n. refl) refl
+      (λ c. leaves_on c (body.CheckTxnStatus b) TxnNotFound) (on_key TxnNotFound) refl (λ u n. refl) refl
       (live may no0 no2 no3 no4))

@@ -1,5 +1,5 @@
 -- A region answers a commit.
-use Rattle.std.proofs.Common.{◌≡◌, ◌≢◌, ℕ, ◌<◌, ◌≤◌, ◌==◌, ◌&&◌, ◌++◌, inl, inr, true, cond, List, ◌∷◌, None, refl, sym, ap, subst, ◌∙◌, arith}
+use Rattle.std.proofs.Common.{◌≡◌, ◌≢◌, ℕ, ◌<◌, ◌≤◌, ◌==◌, ◌&&◌, ◌++◌, ◌⊎◌, inl, inr, true, cond, List, ◌∷◌, None, refl, sym, ap, subst, ◌∙◌, arith}
 use Rattle.std.proofs.lemmas.Bool.{cases_Bool, cases_lt, and_parts, eqb-true, eq-eqb}
 use Rattle.tx_types.specs.declared.key.Key.{Key}
 use Rattle.tx_types.specs.declared.mutation.Fate.TheVariants as fate
@@ -10,16 +10,16 @@ use Rattle.tx_plan.specs.declared.body.Body.TheVariants as body
 use Rattle.tx_plan.specs.declared.answer.Answer.{Answer}
 use Rattle.tx_plan.specs.declared.answer.Answer.TheVariants.{Committed, AlreadyRolledBack, CommitTsExpired, TxnLockNotFound, BelowSafePoint}
 use Rattle.tx_plan.specs.Cells.{Lock, CommitRecord}
-use Rattle.tx_plan.specs.Own.{OwnLock, OwnCommit, OthersCommit, lock_committed, commit_lock}
-use Rattle.tx_plan.specs.cases.Commit.{AnswersCommit, leaves_commit}
-use Rattle.tx_core.specs.Histories.{History, declared, is_first, set_of, set_at, left}
-use Rattle.tx_core.specs.Decisions.{Settles, NoEffect, is_own, accepted, first_decided, decided}
-use Rattle.tx_core.specs.Allowed.{AllowsCommit, MayDecide}
+use Rattle.tx_plan.specs.Own.{OwnLock, OwnCommit, OthersCommit, lock_committed, commit_lock, is_own}
+use Rattle.tx_plan.specs.cases.Commit.{AnswersCommit}
+use Rattle.tx_core.specs.Histories.{History, declared, is_first, set_at, left}
+use Rattle.tx_core.specs.Decisions.{Settles, NoEffect, accepted, first_decided, decided}
+use Rattle.tx_core.specs.Allowed.{MayDecide}
 use Rattle.tx_core.specs.Worlds.{route}
 use Rattle.tx_core.specs.Shadow.{deciding, shadow}
 use Rattle.tx_core.specs.Truth.{IsOpen}
 use Rattle.tx_core.proofs.Basics.{nat_test, nat_same, cond_true, some_of}
-use Rattle.tx_core.proofs.view.View.{FellBack, IsCommitted, does_within, lock_ends}
+use Rattle.tx_core.proofs.view.View.{FellBack, IsCommitted, first_declared, does_within, lock_ends}
 use Rattle.tx_core.proofs.changes.Keyed.{own_cases}
 use Rattle.tx_core.proofs.changes.Settling.{settling}
 use Rattle.tx_core.proofs.changes.Deciding as decide
@@ -29,9 +29,10 @@ use Rattle.tx_core.proofs.changes.Sounds.{sound_settle, sound_decide}
 use Rattle.tx_core.proofs.view.Tables.{has_ended, still_open}
 use Rattle.tx_core.proofs.view.HistoryView.{view, shown_in}
 use Rattle.tx_core.proofs.requests.Good.{Good, Next, OnKey, took, cells_at, assemble, quiet, decided_same, true_end, true_commit, true_rollback, not_own}
+use Rattle.tx_plan.specs.Answers.{leaves_on}
 
 module _ (bounds : List Key) (h : History) (good : Good bounds h) (b : Commit) (l : ℕ) where
-  on_key : (a : Answer) → OnKey b.key (body.Commit b) a b.start (λ c. leaves_commit c b a)
+  on_key : (a : Answer) → OnKey b.key (body.Commit b) a b.start (λ c. leaves_on c (body.Commit b) a)
   on_key a = record {
     named = refl;
     does = λ r. refl;
@@ -41,6 +42,10 @@ module _ (bounds : List Key) (h : History) (good : Good bounds h) (b : Commit) (
         λ e before. refl;
     unchecked = λ e. refl;
   }
+
+  -- it is decided so, or this decides
+  abbrev May : Type 0
+  May = (decided h b.start ≡ Done (fate.Committed b.commit)) ⊎ MayDecide h b
 
   silent : (a x : Answer) → a ≡ x → Next bounds h (took (route bounds b.key) (body.Commit b) l x)
       → Next bounds h (took (route bounds b.key) (body.Commit b) l a)
@@ -60,7 +65,7 @@ module _ (bounds : List Key) (h : History) (good : Good bounds h) (b : Commit) (
         → Next bounds h (took (route bounds b.key) (body.Commit b) l (Committed b.commit))
     follows end =
         assemble bounds h b.key (body.Commit b) l (Committed b.commit) b.start
-        (λ c. leaves_commit c b (Committed b.commit)) (on_key (Committed b.commit)) (Settles b.key b.start b.commit)
+        (λ c. leaves_on c (body.Commit b) (Committed b.commit)) (on_key (Committed b.commit)) (Settles b.key b.start b.commit)
         settles (decided h) (accepted h) (shown_in h) (commit_lock (cells_at bounds h b.key) b.start b.commit)
         (shadow h) same_fate
         (λ u q. refl)
@@ -93,7 +98,7 @@ module _ (bounds : List Key) (h : History) (good : Good bounds h) (b : Commit) (
         ∷ shadow h) w b.key b.start b.commit
         (sound_decide (shadow h) (view bounds h) b.start b.commit good.sound may) now in
         assemble bounds h b.key (body.Commit b) l (Committed b.commit) b.start
-        (λ c. leaves_commit c b (Committed b.commit)) (on_key (Committed b.commit)) (Settles b.key b.start b.commit)
+        (λ c. leaves_on c (body.Commit b) (Committed b.commit)) (on_key (Committed b.commit)) (Settles b.key b.start b.commit)
         settles w.decided (accepted h) (shown_in h) (commit_lock (cells_at bounds h b.key) b.start b.commit)
         (step.Commit b.start b.commit ∷ shadow h) new_fate
         (λ u q. refl)
@@ -124,15 +129,14 @@ module _ (bounds : List Key) (h : History) (good : Good bounds h) (b : Commit) (
             ]
 
     -- the lock is settled by a commit that is allowed and not below its minimum
-    done : AllowsCommit h b → (b.commit < lock.min → ⊥)
+    done : May → (b.commit < lock.min → ⊥)
         → Next bounds h (took (route bounds b.key) (body.Commit b) l (Committed b.commit))
-    done may high = elim may.may [ inl end ↦ follows end | inr new ↦ first_time new ]
+    done may high = elim may [ inl end ↦ follows end | inr new ↦ first_time new ]
       where
-        first_time : MayDecide h may.of.changes b
+        first_time : MayDecide h b
             → Next bounds h (took (route bounds b.key) (body.Commit b) l (Committed b.commit))
         first_time new =
-            let first : is_first (set_at h b.start) b.key ≡ true =
-            ap (λ o. is_first (set_of o) b.key) may.stands ∙ new.primary in
+            let first : is_first (set_at h b.start) b.key ≡ true = new.primary in
             let fell : FellBack (accepted h) b.start =
             record {
               key = new.two_phase.key;
@@ -152,8 +156,8 @@ module _ (bounds : List Key) (h : History) (good : Good bounds h) (b : Commit) (
             e) first own low)
 
     -- its transaction is open where it is refused for its timestamp
-    expired : AllowsCommit h b → b.commit < lock.min → IsOpen (table_of (shadow h)) b.start
-    expired may low = elim may.may [ inl end ↦ absurd (settled end) | inr new ↦ opened new ]
+    expired : May → b.commit < lock.min → IsOpen (table_of (shadow h)) b.start
+    expired may low = elim may [ inl end ↦ absurd (settled end) | inr new ↦ opened new ]
       where
         settled : IsCommitted (decided h) b.start b.commit → ⊥
         settled end = omega (
@@ -163,10 +167,9 @@ module _ (bounds : List Key) (h : History) (good : Good bounds h) (b : Commit) (
               (subst (λ t. IsCommitted (decided h) t b.commit) (sym own.own) end),
         )
 
-        opened : MayDecide h may.of.changes b → IsOpen (table_of (shadow h)) b.start
+        opened : MayDecide h b → IsOpen (table_of (shadow h)) b.start
         opened new =
-            let first : is_first (set_at h b.start) b.key ≡ true =
-            ap (λ o. is_first (set_of o) b.key) may.stands ∙ new.primary in
+            let first : is_first (set_at h b.start) b.key ≡ true = new.primary in
             let fell : FellBack (accepted h) b.start =
             record {
               key = new.two_phase.key;
@@ -175,13 +178,14 @@ module _ (bounds : List Key) (h : History) (good : Good bounds h) (b : Commit) (
               two_phase =
                   new.two_phase.two_phase;
             } in
-            still_open (table_of (shadow h)) (view bounds h) b.start may.of good.sound.inv good.sound.shows may.stands
+            let of = first_declared (declared h b.start) b.key first in
+            still_open (table_of (shadow h)) (view bounds h) b.start of.0 good.sound.inv good.sound.shows of.1
             (first_opens (view bounds h) b.key b.start lock good.ends fell first own new.accepted)
 
     -- no other's commit record stands where it commits: it lies above the start
-    unmet : AllowsCommit h b → (rec : CommitRecord)
+    unmet : May → (rec : CommitRecord)
         → OthersCommit (cells_at bounds h b.key).write b.start b.commit rec → ⊥
-    unmet may rec met = elim may.may [
+    unmet may rec met = elim may [
       | inl end ↦ omega (arith, below, (good.sound.inv.commits b.start b.commit end).range.0)
       | inr new ↦ (let of = some_of (accepted h b.start b.key)
           (subst (λ t. accepted h t b.key ≢ None) own.own
@@ -215,7 +219,7 @@ module _ (bounds : List Key) (h : History) (good : Good bounds h) (b : Commit) (
       → ((lock : Lock) → OwnLock (cells_at bounds h b.key).lock b.start lock → ⊥)
       → Next bounds h (took (route bounds b.key) (body.Commit b) l (Committed c))
   again c own unlocked =
-      quiet bounds h good b.key (body.Commit b) l (Committed c) b.start (λ x. leaves_commit x b (Committed c))
+      quiet bounds h good b.key (body.Commit b) l (Committed c) b.start (λ x. leaves_on x (body.Commit b) (Committed c))
       (on_key (Committed c))
       (ap (λ y. cond y (Settles b.key b.start b.commit) NoEffect)
       (not_own (cells_at bounds h b.key).lock b.start
@@ -228,18 +232,18 @@ module _ (bounds : List Key) (h : History) (good : Good bounds h) (b : Commit) (
       ])
       (true_commit bounds h good b.key b.start c own)
 
-  pub next_commit : (a : Answer) → AllowsCommit h b
+  pub next_commit : (a : Answer) → May
       → AnswersCommit (cells_at bounds h b.key) (left h (route bounds b.key)).collected b a
       → Next bounds h (took (route bounds b.key) (body.Commit b) l a)
   next_commit a may (inl x) =
       silent a (BelowSafePoint (left h (route bounds b.key)).collected) x.1
       (quiet bounds h good b.key (body.Commit b) l (BelowSafePoint (left h (route bounds b.key)).collected) b.start
-      (λ c. leaves_commit c b (BelowSafePoint (left h (route bounds b.key)).collected))
+      (λ c. leaves_on c (body.Commit b) (BelowSafePoint (left h (route bounds b.key)).collected))
       (on_key (BelowSafePoint (left h (route bounds b.key)).collected)) refl (λ u n. refl) refl tt)
   next_commit a may (inr (no0, inl (lock, own, inl x))) =
       silent a (CommitTsExpired lock.min) x.1
       (quiet bounds h good b.key (body.Commit b) l (CommitTsExpired lock.min) b.start
-      (λ c. leaves_commit c b (CommitTsExpired lock.min)) (on_key (CommitTsExpired lock.min)) refl (λ u n. refl) refl
+      (λ c. leaves_on c (body.Commit b) (CommitTsExpired lock.min)) (on_key (CommitTsExpired lock.min)) refl (λ u n. refl) refl
       (expired lock own may x.0))
   next_commit a may (inr (no0, inl (lock, own, inr (no1, inl (rec, x, e))))) =
       absurd (unmet lock own may rec x)
@@ -248,9 +252,9 @@ module _ (bounds : List Key) (h : History) (good : Good bounds h) (b : Commit) (
   next_commit a may (inr (no0, inr (no1, inl (c, own, e)))) = silent a (Committed c) e (again c own no1)
   next_commit a may (inr (no0, inr (no1, inr (no2, inl x)))) =
       silent a AlreadyRolledBack x.1
-      (quiet bounds h good b.key (body.Commit b) l AlreadyRolledBack b.start (λ c. leaves_commit c b AlreadyRolledBack)
+      (quiet bounds h good b.key (body.Commit b) l AlreadyRolledBack b.start (λ c. leaves_on c (body.Commit b) AlreadyRolledBack)
       (on_key AlreadyRolledBack) refl (λ u n. refl) refl (true_rollback bounds h good b.key b.start x.0))
   next_commit a may (inr (no0, inr (no1, inr (no2, inr (no3, e))))) =
       silent a TxnLockNotFound e
-      (quiet bounds h good b.key (body.Commit b) l TxnLockNotFound b.start (λ c. leaves_commit c b TxnLockNotFound)
+      (quiet bounds h good b.key (body.Commit b) l TxnLockNotFound b.start (λ c. leaves_on c (body.Commit b) TxnLockNotFound)
       (on_key TxnLockNotFound) refl (λ u n. refl) refl tt)

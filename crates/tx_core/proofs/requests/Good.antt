@@ -12,14 +12,15 @@ use Rattle.tx_plan.specs.declared.answer.Answer.{Answer}
 use Rattle.tx_plan.specs.declared.answer.Answer.TheVariants.{Found, Nothing, Rows, KeyIsLocked}
 use Rattle.tx_plan.specs.Cells.{Lock, CommitRecord, CommitOf, Region, Cells, with_cells, with_max_read}
 use Rattle.tx_plan.specs.Reads.{raised}
-use Rattle.tx_plan.specs.Own.{OwnCommit, OwnRollback}
+use Rattle.tx_plan.specs.Own.{OwnCommit, OwnRollback, is_own}
 use Rattle.tx_plan.specs.Answers.{leaves, start_in}
 use Rattle.tx_core.specs.declared.event.Taken.{Taken}
 use Rattle.tx_core.specs.declared.event.Event.TheVariants.{Took}
 use Rattle.tx_core.specs.Histories.{History, last, set_at, left, Among}
-use Rattle.tx_core.specs.Decisions.{Acceptance, Effect, NoEffect, is_own, effect, effect_in, accepted, accepted_by, decision, first_decided, decided, fate_in}
+use Rattle.tx_core.specs.Decisions.{Acceptance, Effect, NoEffect, effect, effect_in, accepted, accepted_by, decision, first_decided, decided, fate_in}
 use Rattle.tx_core.specs.Worlds.{route}
-use Rattle.tx_core.specs.Shadow.{deciding, deciding_in, checking, reading, shadow}
+use Rattle.tx_core.specs.Shadow.{deciding, deciding_in, checking, shadow}
+use Rattle.tx_core.specs.EventSteps.{reading}
 use Rattle.tx_core.specs.Truth.{HasEnded, IsOvertaken, IsTrueAnswer}
 use Rattle.tx_core.proofs.Basics.{nat_test, nat_same, key_test, cond_true, cond_false}
 use Rattle.tx_core.proofs.view.View.{View, IsCommitted}

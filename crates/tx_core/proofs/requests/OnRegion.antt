@@ -10,7 +10,8 @@ use Rattle.tx_core.specs.declared.event.Event.TheVariants.{Took}
 use Rattle.tx_core.specs.Histories.{History, last, set_at, left}
 use Rattle.tx_core.specs.Decisions.{Effect, NoEffect, effect, effect_in, accepted, accepted_by, decision, first_decided, decided}
 use Rattle.tx_core.specs.Worlds.{route}
-use Rattle.tx_core.specs.Shadow.{deciding_in, checking, reading, shadow}
+use Rattle.tx_core.specs.Shadow.{deciding_in, checking, shadow}
+use Rattle.tx_core.specs.EventSteps.{reading}
 use Rattle.tx_core.specs.Truth.{IsTrueAnswer}
 use Rattle.tx_core.proofs.view.View.{View}
 use Rattle.tx_core.proofs.view.Tables.{Sound}

@@ -22,15 +22,15 @@ use Rattle.tx_plan.specs.declared.answer.Answer.TheVariants.{Prewritten, KeyIsLo
 use Rattle.tx_plan.specs.Cells.{Lock, CommitRecord, CommitOf, Cells, Region, with_lock, info_of}
 use Rattle.tx_plan.specs.Plans.{read_upto}
 use Rattle.tx_plan.specs.Reads.{Reads}
-use Rattle.tx_plan.specs.Answers.{leaves}
-use Rattle.tx_plan.specs.Own.{OwnLock, OwnRollback}
+use Rattle.tx_plan.specs.Answers.{leaves, leaves_on}
+use Rattle.tx_plan.specs.Own.{OwnLock, OwnRollback, is_own}
 use Rattle.tx_plan.specs.Tables.{Case}
-use Rattle.tx_plan.specs.cases.Prewrite.{AnswersPrewrite, HasValue, IsWithin, MayPromise, least_minimum, leaves_prewrite, read_by_prewrite, check_by, lock_of, locked, named_minimum}
+use Rattle.tx_plan.specs.cases.Prewrite.{AnswersPrewrite, HasValue, IsWithin, MayPromise, least_minimum, read_by_prewrite, check_by, lock_of, locked, named_minimum}
 use Rattle.tx_core.specs.declared.event.Declaration.{Declaration}
 use Rattle.tx_core.specs.declared.event.Taken.{Taken}
 use Rattle.tx_core.specs.declared.event.Event.TheVariants.{Took}
 use Rattle.tx_core.specs.Histories.{History, last, declared, set_of, set_at, left}
-use Rattle.tx_core.specs.Decisions.{Acceptance, Effect, Puts, NoEffect, is_own, effect_in, accepted, accepted_by, decision, first_decided, greatest, committed_at, decided}
+use Rattle.tx_core.specs.Decisions.{Acceptance, Effect, Puts, NoEffect, effect_in, accepted, accepted_by, decision, first_decided, greatest, committed_at, decided}
 use Rattle.tx_core.specs.Allowed.{floor_of, AllowsPrewrite}
 use Rattle.tx_core.specs.Worlds.{route}
 use Rattle.tx_core.specs.Shadow.{deciding, deciding_in, checked, checking, shadow}
@@ -127,7 +127,7 @@ module _ (bounds : List Key) (h : History) (good : Good bounds h) (b : Prewrite)
       → ((u : ℕ) → first_decided (decision (set_at h u) (λ q. accepted_by e (last h) u q (accepted h u q)) e u)
       (decided h u) ≡ d u) → ((u : ℕ) (q : Key) → accepted_by e (last h) u q (accepted h u q) ≡ acc u q)
       → ((u : ℕ) → shown_put (set_at h u) e u (shown_in h u) ≡ shown u)
-      → checks_by (body.Prewrite b) e (reads_in h) ≡ reads → leaves_prewrite (cells_at bounds h b.key) b a ≡ new
+      → checks_by (body.Prewrite b) e (reads_in h) ≡ reads → leaves_on (cells_at bounds h b.key) (body.Prewrite b) a ≡ new
       → checking (body.Prewrite b) e ≡ rs → deciding b.start (decided h b.start) (d b.start) ++ (rs ++ shadow h) ≡ steps
       → Sound steps (after a d acc shown reads new) → Ends (after a d acc shown reads new)
       → IsTrueAnswer (table_of steps) (body.Prewrite b) a → Next bounds h (taken a)
@@ -149,7 +149,7 @@ module _ (bounds : List Key) (h : History) (good : Good bounds h) (b : Prewrite)
         floor = λ q. refl;
         safe = λ q. part_same h here (route bounds q) (body.Prewrite b) l a (λ r. r.safe) (λ r. refl);
         collected = λ q. part_same h here (route bounds q) (body.Prewrite b) l a (λ r. r.collected) (λ r. refl);
-        cells = λ q. cells_keyed bounds h b.key (body.Prewrite b) l a (λ c. leaves_prewrite c b a) (λ r j. refl) q
+        cells = λ q. cells_keyed bounds h b.key (body.Prewrite b) l a (λ c. leaves_on c (body.Prewrite b) a) (λ r j. refl) q
             ∙ ap (λ c. cond (bytes_eq b.key q) c (cells_at bounds h q)) cells;
       } in
       let made : shadow (Took x ∷ h) ≡ steps =
@@ -164,7 +164,7 @@ module _ (bounds : List Key) (h : History) (good : Good bounds h) (b : Prewrite)
 
   -- an answer of no effect that leaves the cells as they were
   still : (a : Answer) → effect_in h (taken a) ≡ NoEffect
-      → leaves_prewrite (cells_at bounds h b.key) b a ≡ cells_at bounds h b.key
+      → leaves_on (cells_at bounds h b.key) (body.Prewrite b) a ≡ cells_at bounds h b.key
       → IsTrueAnswer (table_of (shadow h)) (body.Prewrite b) a → Next bounds h (taken a)
   still a is cells truth =
       let kept : (q : Key) → cond (bytes_eq b.key q) (cells_at bounds h b.key) (cells_at bounds h q)
@@ -202,7 +202,7 @@ module _ (bounds : List Key) (h : History) (good : Good bounds h) (b : Prewrite)
         ≡ Puts b.key (lock_of b m)
     puts = ap (λ o. cond (is_own o b.start) NoEffect (Puts b.key (lock_of b m))) may.free
 
-    stands : leaves_prewrite (cells_at bounds h b.key) b (Prewritten m)
+    stands : leaves_on (cells_at bounds h b.key) (body.Prewrite b) (Prewritten m)
         ≡ with_lock (cells_at bounds h b.key) (Some (lock_of b m))
     stands = ap (λ o. with_lock (cells_at bounds h b.key) (Some (locked o b m))) may.free
 

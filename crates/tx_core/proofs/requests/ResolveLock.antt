@@ -1,10 +1,9 @@
 -- A region answers that a lock is to be resolved.
-use Rattle.std.proofs.Common.{◌≡◌, ℕ, ◌==◌, ◌&&◌, ◌++◌, inl, inr, cond, List, refl, sym, ap, subst, ◌∙◌, arith}
-use Rattle.std.proofs.lemmas.Bool.{cases_Bool, and_parts, eqb-true, eq-eqb}
+use Rattle.std.proofs.Common.{◌≡◌, ℕ, ◌++◌, inl, inr, List, refl, sym, ap, subst, ◌∙◌, arith}
 use Rattle.tx_types.specs.declared.key.Key.{Key}
 use Rattle.tx_types.specs.declared.mutation.Fate.{Fate}
 use Rattle.tx_types.specs.declared.mutation.Fate.TheVariants as fate
-use Rattle.tx_machine.specs.Machine.{Open, Done, table_of}
+use Rattle.tx_machine.specs.Machine.{Done, table_of}
 use Rattle.tx_plan.specs.declared.body.ResolveLock.{ResolveLock}
 use Rattle.tx_plan.specs.declared.body.Body.TheVariants as body
 use Rattle.tx_plan.specs.declared.answer.Answer.{Answer}
@@ -12,24 +11,22 @@ use Rattle.tx_plan.specs.declared.answer.Answer.TheVariants.{Resolved, BelowSafe
 use Rattle.tx_plan.specs.Cells.{Lock}
 use Rattle.tx_plan.specs.Own.{OwnLock, on_own_lock, roll_back, lock_committed, commit_lock}
 use Rattle.tx_plan.specs.cases.Commit.{CommitsLock}
-use Rattle.tx_plan.specs.cases.ResolveLock.{ResolvesLock, AnswersResolveLock, resolve, leaves_resolve_lock}
-use Rattle.tx_core.specs.Histories.{History, is_first, set_at, left}
-use Rattle.tx_core.specs.Decisions.{Settles, NoEffect, is_own, effect_of_fate, accepted, first_decided, decided}
-use Rattle.tx_core.specs.Allowed.{AllowsResolveLock}
+use Rattle.tx_plan.specs.cases.ResolveLock.{ResolvesLock, AnswersResolveLock, resolve}
+use Rattle.tx_core.specs.Histories.{History, left}
+use Rattle.tx_core.specs.Decisions.{NoEffect, accepted, decided}
 use Rattle.tx_core.specs.Worlds.{route}
 use Rattle.tx_core.specs.Shadow.{shadow}
 use Rattle.tx_core.specs.Truth.{HasEnded}
-use Rattle.tx_core.proofs.Basics.{cond_true}
 use Rattle.tx_core.proofs.view.View.{IsCommitted, IsAborted, lock_ends}
 use Rattle.tx_core.proofs.changes.Keyed.{own_cases}
 use Rattle.tx_core.proofs.changes.CellsEnds.{ends_settle, ends_resolve_back}
 use Rattle.tx_core.proofs.changes.Sounds.{sound_settle, sound_resolve_back}
 use Rattle.tx_core.proofs.view.HistoryView.{view, shown_in}
-use Rattle.tx_core.proofs.requests.LeavingRollback.{follows}
-use Rattle.tx_core.proofs.requests.Good.{Good, Next, OnKey, took, cells_at, assemble, quiet, decided_same, true_end, not_own}
+use Rattle.tx_core.proofs.requests.Good.{Good, Next, OnKey, took, cells_at, assemble, quiet, decided_same, true_end}
+use Rattle.tx_plan.specs.Answers.{leaves_on}
 
 module _ (bounds : List Key) (h : History) (good : Good bounds h) (b : ResolveLock) (l : ℕ) where
-  on_key : (a : Answer) → OnKey b.key (body.ResolveLock b) a b.start (λ c. leaves_resolve_lock c b a)
+  on_key : (a : Answer) → OnKey b.key (body.ResolveLock b) a b.start (λ c. leaves_on c (body.ResolveLock b) a)
   on_key a = record {
     named = refl;
     does = λ r. refl;
@@ -47,37 +44,30 @@ module _ (bounds : List Key) (h : History) (good : Good bounds h) (b : ResolveLo
   -- ---- its lock stands
 
   module _ (lock : Lock) (own : OwnLock (cells_at bounds h b.key).lock b.start lock) where
-    has_effect : (e : Fate) → b.fate ≡ e
-        → cond (is_own (cells_at bounds h b.key).lock b.start) (effect_of_fate b.key b.start b.fate) NoEffect
-        ≡ effect_of_fate b.key b.start e
-    has_effect e p =
-        ap (λ o. cond (is_own o b.start) (effect_of_fate b.key b.start b.fate) NoEffect) own.stands
-        ∙ cond_true (lock.start == b.start) (effect_of_fate b.key b.start b.fate) NoEffect
-        (eq-eqb lock.start b.start own.own) ∙ ap (effect_of_fate b.key b.start) p
-
     -- it is rolled back
     rolls : b.fate ≡ fate.Aborted → IsAborted (decided h) b.start
         → Next bounds h (took (route bounds b.key) (body.ResolveLock b) l Resolved)
-    rolls p =
-        follows bounds h good b.key (body.ResolveLock b) l Resolved b.start
-        (λ c. on_own_lock c b.start (λ x. roll_back c b.start)) record {
-          does = λ c. leaves_resolve_lock c b Resolved;
-          on = on_key Resolved;
-          same = ap (resolve (cells_at bounds h b.key) b.start) p;
-          leaves = has_effect fate.Aborted p;
-          untold = λ u n. refl;
-          sound = λ steps w. sound_resolve_back steps w b.key b.start;
-          ends = ends_resolve_back (view bounds h) b.key b.start;
-          tells = λ table ended. subst (HasEnded table b.start) (sym p) ended;
-        }
+    rolls p gone =
+        assemble bounds h b.key (body.ResolveLock b) l Resolved b.start (λ x. leaves_on x (body.ResolveLock b) Resolved)
+        (on_key Resolved) NoEffect refl (decided h) (accepted h) (shown_in h)
+        (on_own_lock (cells_at bounds h b.key) b.start (λ x. roll_back (cells_at bounds h b.key) b.start)) (shadow h)
+        (λ u. refl)
+        (λ u q. refl)
+        (λ u. refl)
+        (ap (resolve (cells_at bounds h b.key) b.start) p)
+        (ap (λ s. s ++ shadow h) (decided_same b.start (decided h b.start)))
+        (sound_resolve_back (shadow h) (view bounds h) b.key b.start good.sound gone)
+        (ends_resolve_back (view bounds h) b.key b.start good.ends)
+        (subst (HasEnded (table_of (shadow h)) b.start) (sym p) (true_end bounds h good b.start fate.Aborted gone))
 
     -- it is settled
     settles : (c : ℕ) → b.fate ≡ fate.Committed c → IsCommitted (decided h) b.start c
         → Next bounds h (took (route bounds b.key) (body.ResolveLock b) l Resolved)
     settles c p end =
-        assemble bounds h b.key (body.ResolveLock b) l Resolved b.start (λ x. leaves_resolve_lock x b Resolved)
-        (on_key Resolved) (Settles b.key b.start c) (has_effect (fate.Committed c) p) (decided h) (accepted h)
-        (shown_in h) (commit_lock (cells_at bounds h b.key) b.start c) (shadow h) same_fate
+        assemble bounds h b.key (body.ResolveLock b) l Resolved b.start (λ x. leaves_on x (body.ResolveLock b) Resolved)
+        (on_key Resolved) NoEffect refl (decided h) (accepted h)
+        (shown_in h) (commit_lock (cells_at bounds h b.key) b.start c) (shadow h)
+        (λ u. refl)
         (λ u q. refl)
         (λ u. refl)
         (ap (resolve (cells_at bounds h b.key) b.start) p)
@@ -85,18 +75,6 @@ module _ (bounds : List Key) (h : History) (good : Good bounds h) (b : ResolveLo
         (sound_settle (shadow h) (view bounds h) b.key b.start c good.sound end)
         (ends_settle (view bounds h) b.key b.start c good.sound.inv good.ends end)
         (subst (HasEnded (table_of (shadow h)) b.start) (sym p) (true_end bounds h good b.start (fate.Committed c) end))
-      where
-        same_fate : (u : ℕ) → first_decided
-            (cond ((b.start == u) && is_first (set_at h u) b.key) (Done (fate.Committed c)) Open) (decided h u)
-            ≡ decided h u
-        same_fate u =
-            elim (cases_Bool ((b.start == u) && is_first (set_at h u) b.key)) [
-              | inl e ↦ (let was : decided h u ≡ Done (fate.Committed c) =
-                  subst (λ n. IsCommitted (decided h) n c)
-                  (eqb-true b.start u (and_parts (b.start == u) (is_first (set_at h u) b.key) e).0) end in
-                  rw (e, was) refl)
-              | inr e ↦ rw e refl
-            ]
 
     -- the refusals of a commit do not come: it lies at or above the lock's minimum, and another's
     -- commit at or below the start
@@ -146,21 +124,19 @@ module _ (bounds : List Key) (h : History) (good : Good bounds h) (b : ResolveLo
 
   -- ---- the rows
 
-  pub next_resolve : (a : Answer) → AllowsResolveLock h b
+  pub next_resolve : (a : Answer) → decided h b.start ≡ Done b.fate
       → AnswersResolveLock (cells_at bounds h b.key) (left h (route bounds b.key)).collected b a
       → Next bounds h (took (route bounds b.key) (body.ResolveLock b) l a)
   next_resolve a may (inl x) =
       silent a (BelowSafePoint (left h (route bounds b.key)).collected) x.1
       (quiet bounds h good b.key (body.ResolveLock b) l (BelowSafePoint (left h (route bounds b.key)).collected) b.start
-      (λ c. leaves_resolve_lock c b (BelowSafePoint (left h (route bounds b.key)).collected))
+      (λ c. leaves_on c (body.ResolveLock b) (BelowSafePoint (left h (route bounds b.key)).collected))
       (on_key (BelowSafePoint (left h (route bounds b.key)).collected)) refl (λ u n. refl) refl tt)
-  next_resolve a may (inr (no0, inl (lock, own, answers))) = by_fate lock own b.fate a refl may.decision answers
+  next_resolve a may (inr (no0, inl (lock, own, answers))) = by_fate lock own b.fate a refl may answers
   next_resolve a may (inr (no0, inr (no1, e))) =
       silent a Resolved e (quiet bounds h good b.key (body.ResolveLock b) l Resolved b.start
-      (λ x. leaves_resolve_lock x b Resolved) (on_key Resolved)
-      (ap (λ y. cond y (effect_of_fate b.key b.start b.fate) NoEffect)
-      (not_own (cells_at bounds h b.key).lock b.start
-      (λ lock e mine. no1 lock (record { stands = e; own = mine }))))
+      (λ x. leaves_on x (body.ResolveLock b) Resolved) (on_key Resolved)
+      refl
       (λ u n. refl)
       (nothing b.fate no1)
-      (true_end bounds h good b.start b.fate may.decision))
+      (true_end bounds h good b.start b.fate may))

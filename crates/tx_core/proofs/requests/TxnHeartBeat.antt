@@ -4,7 +4,7 @@ use Rattle.tx_plan.specs.declared.body.TxnHeartBeat.{TxnHeartBeat}
 use Rattle.tx_plan.specs.declared.body.Body.TheVariants as body
 use Rattle.tx_plan.specs.declared.answer.Answer.{Answer}
 use Rattle.tx_plan.specs.declared.answer.Answer.TheVariants.{Ttl, TxnLockNotFound, BelowSafePoint}
-use Rattle.tx_plan.specs.cases.TxnHeartBeat.{AnswersTxnHeartBeat, leaves_txn_heart_beat}
+use Rattle.tx_plan.specs.cases.TxnHeartBeat.{AnswersTxnHeartBeat}
 use Rattle.tx_types.specs.declared.key.Key.{Key}
 use Rattle.tx_core.specs.Histories.{History, declared, left}
 use Rattle.tx_core.specs.Decisions.{NoEffect, accepted, decided}
@@ -15,9 +15,10 @@ use Rattle.tx_core.proofs.changes.CellsEnds.{ends_lengthen}
 use Rattle.tx_core.proofs.changes.Sounds.{sound_lengthen}
 use Rattle.tx_core.proofs.view.HistoryView.{view, shown_in}
 use Rattle.tx_core.proofs.requests.Good.{Good, Next, OnKey, took, cells_at, assemble, quiet, decided_same}
+use Rattle.tx_plan.specs.Answers.{leaves_on}
 
 module _ (bounds : List Key) (h : History) (good : Good bounds h) (b : TxnHeartBeat) (l : ℕ) where
-  on_key : (a : Answer) → OnKey b.key (body.TxnHeartBeat b) a b.start (λ c. leaves_txn_heart_beat c b a)
+  on_key : (a : Answer) → OnKey b.key (body.TxnHeartBeat b) a b.start (λ c. leaves_on c (body.TxnHeartBeat b) a)
   on_key a = record {
     named = refl;
     does = λ r. refl;
@@ -35,7 +36,7 @@ module _ (bounds : List Key) (h : History) (good : Good bounds h) (b : TxnHeartB
   -- the lock has this time to live now
   lives : (ttl : ℕ) → Next bounds h (took (route bounds b.key) (body.TxnHeartBeat b) l (Ttl ttl))
   lives ttl =
-      assemble bounds h b.key (body.TxnHeartBeat b) l (Ttl ttl) b.start (λ c. leaves_txn_heart_beat c b (Ttl ttl))
+      assemble bounds h b.key (body.TxnHeartBeat b) l (Ttl ttl) b.start (λ c. leaves_on c (body.TxnHeartBeat b) (Ttl ttl))
       (on_key (Ttl ttl)) NoEffect refl (decided h) (accepted h) (shown_in h)
       (lengthened (cells_at bounds h b.key) b.start ttl) (shadow h)
       (λ u. refl)
@@ -53,11 +54,11 @@ module _ (bounds : List Key) (h : History) (good : Good bounds h) (b : TxnHeartB
   next_heart_beat a may (inl x) =
       silent a (BelowSafePoint (left h (route bounds b.key)).collected) x.1
       (quiet bounds h good b.key (body.TxnHeartBeat b) l (BelowSafePoint (left h (route bounds b.key)).collected)
-      b.start (λ c. leaves_txn_heart_beat c b (BelowSafePoint (left h (route bounds b.key)).collected))
+      b.start (λ c. leaves_on c (body.TxnHeartBeat b) (BelowSafePoint (left h (route bounds b.key)).collected))
       (on_key (BelowSafePoint (left h (route bounds b.key)).collected)) refl (λ u n. refl) refl tt)
   next_heart_beat a may (inr (no0, inl (lock, own, e))) =
       silent a (Ttl (max lock.ttl b.ttl)) e (lives (max lock.ttl b.ttl))
   next_heart_beat a may (inr (no0, inr (no1, e))) =
       silent a TxnLockNotFound e
       (quiet bounds h good b.key (body.TxnHeartBeat b) l TxnLockNotFound b.start
-      (λ c. leaves_txn_heart_beat c b TxnLockNotFound) (on_key TxnLockNotFound) refl (λ u n. refl) refl tt)
+      (λ c. leaves_on c (body.TxnHeartBeat b) TxnLockNotFound) (on_key TxnLockNotFound) refl (λ u n. refl) refl tt)

@@ -22,7 +22,7 @@ use Rattle.tx_core.proofs.view.View.{View}
 use Rattle.tx_core.proofs.changes.Reading.{Passes}
 use Rattle.tx_core.proofs.view.Tables.{Shows, ended_decided}
 use Rattle.tx_core.proofs.view.HistoryView.{shown_in, view}
-use Rattle.tx_core.proofs.seats.Staying.{was_last_upto, declared_drew}
+use Rattle.tx_core.proofs.seats.Staying.{declared_drew}
 use Rattle.tx_core.proofs.requests.Good.{true_end, Good, Next, took}
 use Rattle.tx_core.proofs.requests.Get.{next_get}
 use Rattle.tx_core.proofs.requests.Scan.{next_scan}
@@ -132,7 +132,7 @@ module _ (bounds : List Key) (h : History) (run : IsWorldRun bounds h) (good : G
   next_taken n (Collect b) l a upto allowed holds answers = next_collect bounds h good n l b a answers
 
   pub next : (x : Taken) → MayTake bounds h x → Next bounds h x
-  next x may = next_taken x.region x.body x.loaded x.answer (was_last_upto bounds h run x.loaded may.loaded) may.allowed
+  next x may = next_taken x.region x.body x.loaded x.answer may.loaded may.allowed
       may.holds may.answers
 
   good_took : (x : Taken) → Next bounds h x → Good bounds (Took x ∷ h)

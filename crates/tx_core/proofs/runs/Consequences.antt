@@ -13,7 +13,8 @@ use Rattle.tx_core.specs.declared.event.Declaration.{Declaration}
 use Rattle.tx_core.specs.declared.event.Taken.{Taken}
 use Rattle.tx_core.specs.declared.event.Event.TheVariants.{Drawn, Began, Declared, Answered, Stopped, Took}
 use Rattle.tx_core.specs.Histories.{History, last, began, declared, answered, left}
-use Rattle.tx_core.specs.Decisions.{Effect, Puts, NoEffect, is_own, effect, effect_in, Acceptance, first_accepted, accepted_by, accepted, decided}
+use Rattle.tx_core.specs.Decisions.{Effect, Puts, NoEffect, effect, effect_in, Acceptance, first_accepted, accepted_by, accepted, decided}
+use Rattle.tx_plan.specs.Own.{is_own}
 use Rattle.tx_core.specs.Worlds.{route, WasTold, IsWorldRun}
 use Rattle.tx_core.proofs.Basics.{nat_test, nat_same, key_same, none_is, is_some}
 use Rattle.tx_core.proofs.view.View.{Inv}

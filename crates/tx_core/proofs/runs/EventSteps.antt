@@ -1,26 +1,23 @@
--- What the machine's steps that are read off a history are, event by event.
-use Rattle.std.proofs.Common.{◌≡◌, ◌≢◌, ◌⊎◌, ℕ, ◌<◌, ◌≤◌, ◌==◌, ◌++◌, inl, inr, Bool, true, false, cond, List, [], ◌∷◌, Option, Some, None, bytes_eq, Contains, refl, sym, ap, subst, ◌∙◌, arith}
+-- The machine's steps that are read off a history explain it, event by event.
+use Rattle.std.proofs.Common.{◌≡◌, ◌≢◌, ◌⊎◌, ℕ, ◌<◌, ◌++◌, inl, inr, Bool, true, false, cond, List, [], ◌∷◌, Option, Some, None, bytes_eq, Contains, refl, sym, ap, subst, ◌∙◌, arith}
 use Rattle.std.specs.Prelude.{◌↔◌}
 use Rattle.std.proofs.lemmas.Bool.{cases_Bool, cases_lt, eq-eqb}
 use Rattle.std.proofs.lemmas.List.{append_assoc}
 use Rattle.std.proofs.lemmas.List.Elements.{Contains-append_left, Contains-append_right, Contains-append_cases}
 use Rattle.tx_types.specs.declared.key.Key.{Key}
-use Rattle.tx_types.specs.declared.value.Value.{Value}
 use Rattle.tx_types.specs.declared.mutation.Mutation.{Mutation}
 use Rattle.tx_types.specs.declared.mutation.Mutation.TheVariants as mutation
 use Rattle.tx_types.specs.declared.mutation.Fate.{Fate}
 use Rattle.tx_types.specs.declared.mutation.Fate.TheVariants as fate
 use Rattle.tx_plan.specs.declared.body.Body.{Body}
-use Rattle.tx_plan.specs.declared.body.Body.TheVariants.{Get, Scan, Prewrite, Commit, BatchRollback, CheckTxnStatus, CheckSecondaryLocks, ResolveLock}
+use Rattle.tx_plan.specs.declared.body.Body.TheVariants.{Get, Scan, Prewrite, Commit, BatchRollback, CheckTxnStatus, CheckSecondaryLocks}
 use Rattle.tx_plan.specs.declared.body.Prewrite.{Prewrite as PrewriteBody}
 use Rattle.tx_plan.specs.declared.answer.Answer.{Answer}
-use Rattle.tx_plan.specs.declared.answer.Answer.TheVariants.{Found, Nothing, Rows, Prewritten, Committed, RolledBack, Missing, Resolved}
+use Rattle.tx_plan.specs.declared.answer.Answer.TheVariants.{Found, Nothing, Rows, Prewritten, Committed, RolledBack, Missing}
 use Rattle.tx_plan.specs.Answers.{start_in}
 use Rattle.tx_plan.specs.Cells.{Lock, Cells}
-use Rattle.tx_plan.specs.Reads.{read_answer}
-use Rattle.tx_plan.specs.Own.{OwnLock, OwnCommit, OwnRollback}
+use Rattle.tx_plan.specs.Own.{OwnLock, OwnCommit, OwnRollback, is_own}
 use Rattle.tx_plan.specs.cases.Prewrite.{AnswersPrewrite, MayPromise, check_by, lock_of}
-use Rattle.tx_machine.specs.declared.step.ScanRead.{ScanRead}
 use Rattle.tx_machine.specs.declared.step.Step.{Step}
 use Rattle.tx_machine.specs.declared.step.Step.TheVariants as step
 use Rattle.tx_machine.specs.Keys.{mutation_at}
@@ -29,17 +26,18 @@ use Rattle.tx_core.specs.declared.event.Outcome.TheVariants as outcome
 use Rattle.tx_core.specs.declared.event.Taken.{Taken}
 use Rattle.tx_core.specs.declared.event.Event.{Event}
 use Rattle.tx_core.specs.declared.event.Event.TheVariants.{Drawn, Began, Declared, Answered, Stopped, Took}
-use Rattle.tx_core.specs.Histories.{History, last, set_of, set_at, is_first, left}
-use Rattle.tx_core.specs.Decisions.{Acceptance, Effect, Puts, Settles, RollsBack, NoEffect, is_own, effect_of_fate, effect, effect_in, accepted_by, accepted, decision, first_decided, decided}
-use Rattle.tx_core.specs.Allowed.{AllowsPrewrite}
+use Rattle.tx_core.specs.Histories.{History, last, set_of, set_at, left}
+use Rattle.tx_core.specs.Decisions.{Acceptance, Effect, Puts, Settles, RollsBack, NoEffect, effect, effect_in, accepted_by, accepted, decision, first_decided, decided}
 use Rattle.tx_core.specs.Worlds.{route, MayTake, MayCome, IsWorldRun}
-use Rattle.tx_core.specs.Shadow.{deciding, deciding_in, checked, checking, reading, shadow, scan_read}
-use Rattle.tx_core.specs.EventSteps.{Decides, LocksInsert, IsGetOf, IsScanOf, IsStepOf, AreStepsOf}
-use Rattle.tx_core.proofs.Basics.{chosen, nat_test, key_true, some_same}
+use Rattle.tx_core.specs.Shadow.{deciding, deciding_in, checked, checking, shadow}
+use Rattle.tx_core.specs.Truth.{scan_read}
+use Rattle.tx_core.specs.EventSteps.{Decides, LocksInsert, reading, IsStepOf, Explains}
+use Rattle.tx_core.proofs.Basics.{nat_test, key_true, some_same}
 use Rattle.tx_core.proofs.view.View.{Inv, never_accepted}
 use Rattle.tx_core.proofs.view.HistoryView.{view}
 use Rattle.tx_core.proofs.requests.Good.{took}
 use Rattle.tx_core.proofs.runs.Consequences.{inv_of, put_accepted}
+use Rattle.tx_core.proofs.runs.Truths.{true_next}
 use Rattle.tx_core.proofs.unique.KeyLists.{contains_none, contains_first, contains_cases}
 
 -- ---- lists of one
@@ -95,10 +93,6 @@ is_of_chosen : (test : Bool) (e f : Effect) (t : ℕ) → IsOf (cond test e f) t
 is_of_chosen true e f t is = inl is
 is_of_chosen false e f t is = inr is
 
-is_of_fate : (k : Key) (u : ℕ) (end : Fate) (t : ℕ) → IsOf (effect_of_fate k u end) t → u ≡ t
-is_of_fate k u (fate.Committed c) t is = is
-is_of_fate k u fate.Aborted t is = is
-
 -- and that is the one that the request names
 named_by : (cells : Key → Cells) (body : Body) (a : Answer) (t : ℕ) → IsOf (effect cells body a) t
     → start_in body ≡ Some t
@@ -115,11 +109,6 @@ named_by cells (Commit b) (Committed c) t is =
 named_by cells (BatchRollback b) RolledBack t is = ap Some is
 named_by cells (CheckTxnStatus b) RolledBack t is = ap Some is
 named_by cells (CheckSecondaryLocks b) Missing t is = ap Some is
-named_by cells (ResolveLock b) Resolved t is =
-    elim (is_of_chosen (is_own (cells b.key).lock b.start) (effect_of_fate b.key b.start b.fate) NoEffect t is) [
-      | inl y ↦ ap Some (is_of_fate b.key b.start b.fate t y)
-      | inr y ↦ absurd y
-    ]
 named_by cells body a t is = absurd is
 
 first_is : (new before : State) (end : Fate) → before ≡ Open → first_decided new before ≡ Done end → new ≡ Done end
@@ -143,31 +132,14 @@ module _ (h : History) (n l : ℕ) where
       → IsStepOf h (Took (took n body l a)) s
   read_step (Get b) (Found v) s has =
       subst (IsStepOf h (Took (took n (Get b) l (Found v)))) (sym (is_only (step.Read b.key b.at (Some v)) s has))
-      (inl record { get = b; asked = refl; of = (refl, refl); answer = refl })
+      (inl (contains_first (step.Read b.key b.at (Some v)) []))
   read_step (Get b) Nothing s has =
       subst (IsStepOf h (Took (took n (Get b) l Nothing))) (sym (is_only (step.Read b.key b.at None) s has))
-      (inl record { get = b; asked = refl; of = (refl, refl); answer = refl })
+      (inl (contains_first (step.Read b.key b.at None) []))
   read_step (Scan b) (Rows rows) s has =
       subst (IsStepOf h (Took (took n (Scan b) l (Rows rows)))) (sym (is_only (step.Scan (scan_read b rows)) s has))
-      record { scan = b; asked = refl; is = refl; answer = refl }
+      (contains_first (step.Scan (scan_read b rows)) [])
   read_step body a s has = absurd (contains_none s has)
-
-got_step : (x : Taken) (k : Key) (r : ℕ) (found : Option Value) → IsGetOf x k r found
-    → Contains (reading x.body x.answer) (step.Read k r found)
-got_step x k r found g =
-    subst (λ y. Contains (reading y x.answer) (step.Read k r found)) (sym g.asked)
-    (subst (λ y. Contains (reading (Get g.get) y) (step.Read k r found)) (sym g.answer) (by_found found))
-  where
-    by_found : (found : Option Value) → Contains (reading (Get g.get) (read_answer found)) (step.Read k r found)
-    by_found (Some v) = has_only (step.Read g.get.key g.get.at (Some v)) (step.Read k r (Some v))
-        (cc (g.of.0, g.of.1))
-    by_found None = has_only (step.Read g.get.key g.get.at None) (step.Read k r None) (cc (g.of.0, g.of.1))
-
-scanned_step : (x : Taken) (read : ScanRead) → IsScanOf x read → Contains (reading x.body x.answer) (step.Scan read)
-scanned_step x read g =
-    subst (λ y. Contains (reading y x.answer) (step.Scan read)) (sym g.asked)
-    (subst (λ y. Contains (reading (Scan g.scan) y) (step.Scan read)) (sym g.answer)
-    (has_only (step.Scan (scan_read g.scan read.rows)) (step.Scan read) (ap step.Scan g.is)))
 
 -- ---- the step of an insert's check
 
@@ -225,15 +197,6 @@ is_prewritten cells (Commit b) (Committed c) t k is =
       | inl y ↦ absurd y
       | inr y ↦ absurd y
     ]
-is_prewritten cells (ResolveLock b) Resolved t k is =
-    elim (puts_chosen (is_own (cells b.key).lock b.start) (effect_of_fate b.key b.start b.fate) NoEffect t k is) [
-      | inl y ↦ absurd (no_fate b.fate y)
-      | inr y ↦ absurd y
-    ]
-  where
-    no_fate : (end : Fate) → PutsOf (effect_of_fate b.key b.start end) t k → ⊥
-    no_fate (fate.Committed c) y = y
-    no_fate fate.Aborted y = y
 is_prewritten cells body a t k is = absurd is
 
 module _ (bounds : List Key) (h : History) (run : IsWorldRun bounds h) where
@@ -353,13 +316,13 @@ module _ (bounds : List Key) (h : History) (run : IsWorldRun bounds h) where
         (subst (λ e. Contains e s) (sym (decided_step h x t end d)) has)
 
     has_step : (s : Step) → IsStepOf h (Took x) s → Contains (ends ++ (checks ++ reads)) s
-    has_step (step.Read k r found) (inl g) = among_reads (step.Read k r found) (got_step x k r found g)
+    has_step (step.Read k r found) (inl has) = among_reads (step.Read k r found) has
     has_step (step.Read k r found) (inr (locks, none)) =
         subst (λ o. Contains (ends ++ (checks ++ reads)) (step.Read k r o)) (sym none)
         (Contains-append_right ends (checks ++ reads) (step.Read k r None)
         (Contains-append_left checks reads (step.Read k r None)
         (insert_step x.region x.body x.loaded x.answer may r k locks)))
-    has_step (step.Scan read) is = among_reads (step.Scan read) (scanned_step x read is)
+    has_step (step.Scan read) has = among_reads (step.Scan read) has
     has_step (step.Commit t c) is = among_ends t (fate.Committed c) (step.Commit t c) is
         (has_only (step.Commit t c) (step.Commit t c) refl)
     has_step (step.Abort t) is =
@@ -399,8 +362,8 @@ module _ (bounds : List Key) (h : History) (run : IsWorldRun bounds h) where
 
 -- ---- every history
 
-pub are_steps : (bounds : List Key) (h : History) → IsWorldRun bounds h → AreStepsOf h (shadow h)
-are_steps bounds [] run = refl
-are_steps bounds (e ∷ h) run =
+pub explained : (bounds : List Key) (h : History) → IsWorldRun bounds h → Explains (shadow h) h
+explained bounds [] run = refl
+explained bounds (e ∷ h) run =
     let own = own_steps bounds h run.0 e run.1 in
-    (own.0, shadow h, own.1, are_steps bounds h run.0, own.2)
+    (own.0, shadow h, own.1, explained bounds h run.0, own.2, true_next bounds h e run)

@@ -1,6 +1,9 @@
 -- Each answer of a world run is true of the machine, and so is what is told of locks.
 use Rattle.std.proofs.Common.{◌≡◌, ◌==◌, List, [], ◌∷◌, Some, sym, ap, subst, ◌∙◌}
+use Rattle.std.specs.Prelude.{Contains}
 use Rattle.tx_types.specs.declared.key.Key.{Key}
+use Rattle.tx_types.specs.declared.lock.LockInfo.{LockInfo}
+use Rattle.tx_core.specs.Decisions.{infos_in}
 use Rattle.tx_plan.specs.Cells.{Region}
 use Rattle.tx_plan.specs.Answers.{leaves}
 use Rattle.tx_machine.specs.Machine.{table_of}
@@ -9,8 +12,8 @@ use Rattle.tx_core.specs.declared.event.Event.{Event}
 use Rattle.tx_core.specs.declared.event.Event.TheVariants.{Drawn, Began, Declared, Answered, Stopped, Took}
 use Rattle.tx_core.specs.Histories.{History, last, left}
 use Rattle.tx_core.specs.Worlds.{IsWorldRun}
-use Rattle.tx_core.specs.Shadow.{shadow}
-use Rattle.tx_core.specs.Truth.{IsToldLock, TellsLocks, IsTrue, AllTrue}
+use Rattle.tx_core.specs.Shadow.{shadow, AllTrue}
+use Rattle.tx_core.specs.Truth.{IsToldLock, IsTrue}
 use Rattle.tx_core.proofs.Basics.{nat_same, cond_true}
 use Rattle.tx_core.proofs.view.HistoryView.{view}
 use Rattle.tx_core.proofs.view.Tables.{stands_told}
@@ -21,7 +24,7 @@ use Rattle.tx_core.proofs.locks.ToldLocks.{tells}
 
 -- a lock that an answer shows stands after it
 tells_locks : (bounds : List Key) (h : History) (x : Taken) → IsWorldRun bounds (Took x ∷ h)
-    → TellsLocks (table_of (shadow (Took x ∷ h))) x.answer
+    → (info : LockInfo) → Contains (infos_in x.answer) info → IsToldLock (table_of (shadow (Took x ∷ h))) info
 tells_locks bounds h x run info told =
     let found = tells (left h x.region) x.loaded (last h) x.body x.answer run.1.answers info told in
     let after : left (Took x ∷ h) x.region ≡ leaves (left h x.region) x.body x.answer =
@@ -36,7 +39,7 @@ tells_locks bounds h x run info told =
     (stands_told (table_of (shadow (Took x ∷ h))) (view bounds (Took x ∷ h)) info.key found.0 is.0.sound.inv
     is.0.sound.shows here)
 
-true_next : (bounds : List Key) (h : History) (e : Event) → IsWorldRun bounds (e ∷ h)
+pub true_next : (bounds : List Key) (h : History) (e : Event) → IsWorldRun bounds (e ∷ h)
     → IsTrue (table_of (shadow (e ∷ h))) e
 true_next bounds h (Took x) run =
     let before = run_told bounds h run.0 in

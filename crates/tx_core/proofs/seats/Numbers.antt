@@ -15,15 +15,14 @@ use Rattle.std.proofs.Math.Nat.{le-max_left}
 use Rattle.tx_plan.specs.Cells.{Lock, Cells, Region}
 use Rattle.tx_plan.specs.Answers.{Answers, leaves}
 use Rattle.tx_plan.specs.Reads.{raised}
-use Rattle.tx_plan.specs.cases.Collect.{AnswersCollectBy, HasCollected, leaves_collect}
+use Rattle.tx_plan.specs.cases.Collect.{AnswersCollectBy, HasCollected}
 use Rattle.tx_plan.specs.Plans.{read_upto as rise}
 use Rattle.tx_plan.specs.cases.Prewrite.{AnswersPrewrite, MayPromise, read_by_prewrite, check_by}
-use Rattle.tx_plan.specs.cases.RaiseSafe.{AnswersRaiseSafe, leaves_raise_safe}
+use Rattle.tx_plan.specs.cases.RaiseSafe.{AnswersRaiseSafe}
 use Rattle.tx_core.specs.declared.event.Event.TheVariants.{Drawn, Began, Declared, Answered, Stopped, Took}
 use Rattle.tx_core.specs.Histories.{History, last, left}
 use Rattle.tx_core.specs.Worlds.{IsWorldRun}
 use Rattle.tx_core.proofs.Basics.{nat_test}
-use Rattle.tx_core.proofs.seats.Staying.{was_last_upto}
 
 -- what was read in a region and its safe point lie at most at top, and what it collected at most
 -- at its safe point
@@ -96,7 +95,7 @@ prewrite_upto Promise cells safe loaded n top b a low upto (inr (no0, inr (no1, 
     ]
 
 raise_upto : (region : Region) (loaded top : ℕ) (b : RaiseSafe) (a : Answer) → IsUpto region top → loaded ≤ top
-    → AnswersRaiseSafe region.safe loaded b a → IsUpto (leaves_raise_safe region b a) top
+    → AnswersRaiseSafe region.safe loaded b a → IsUpto (leaves region (body.RaiseSafe b) a) top
 raise_upto region loaded top b Raised is upto (inl x) = absurd (cc (x.1))
 raise_upto region loaded top b Raised is upto (inr (no0, inl x)) = absurd (cc (x.1))
 raise_upto region loaded top b Raised is upto (inr (no0, inr (no1, rest))) =
@@ -106,7 +105,7 @@ raise_upto region loaded top b Raised is upto (inr (no0, inr (no1, rest))) =
 raise_upto region loaded top b _ is upto answers = is
 
 collect_upto : (region : Region) (top : ℕ) (b : Collect) (a : Answer) → IsUpto region top
-    → AnswersCollectBy HasCollected region.cells region.safe b a → IsUpto (leaves_collect region b a) top
+    → AnswersCollectBy HasCollected region.cells region.safe b a → IsUpto (leaves region (body.Collect b) a) top
 collect_upto region top b (Collected records values) is (inl x) = absurd (cc (x.1))
 collect_upto region top b (Collected records values) is (inr (no0, rest)) =
     elim (nat_test b.safe region.safe) [
@@ -180,4 +179,4 @@ left_upto bounds (Took x ∷ h) run n =
   where
     taken : IsUpto (left h x.region) (last h) → IsUpto (leaves (left h x.region) x.body x.answer) (last h)
     taken is = answer_upto (left h x.region) x.loaded (last h) x.body x.answer is
-        (was_last_upto bounds h run.0 x.loaded run.1.loaded) run.1.answers
+        run.1.loaded run.1.answers

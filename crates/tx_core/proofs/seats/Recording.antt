@@ -95,7 +95,7 @@ module _ (bounds : List Key) (i : ℕ) (l : History) where
           region = subst (λ n. n ≤ length bounds) (sym own) inside;
           allowed = allowed_on bounds l h run b x.body allowed;
           holds = holds;
-          loaded = was_last_on l h b x.loaded was;
+          loaded = was_last_upto bounds h run x.loaded (was_last_on l h b x.loaded was);
           answers = answers_later (left h x.region) x.loaded (last l) (last h) (last_on bounds l h run b) x.body
               x.answer (subst (λ region. Answers region x.loaded (last l) x.body x.answer) (sym same) answers);
         },

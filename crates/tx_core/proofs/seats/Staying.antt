@@ -32,6 +32,10 @@ last_on bounds l h run b =
 pub last_was : (h : History) → WasLast h (last h)
 last_was h = (h, begins_all h, refl)
 
+-- and it is no more than itself
+pub upto_last : (h : History) → last h ≤ last h
+upto_last h = omega arith
+
 pub was_last_on : (l h : History) → Begins l h → (n : ℕ) → WasLast l n → WasLast h n
 was_last_on l h b n was = (was.0, begins_more was.0 l h was.1 b, was.2)
 

@@ -1,15 +1,15 @@
 -- What is allowed stays allowed.
-use Rattle.std.proofs.Common.{◌≢◌, ℕ, ◌++◌, inl, inr, List, None}
+use Rattle.std.proofs.Common.{◌≡◌, ◌≢◌, ℕ, ◌++◌, inl, inr, true, List, None, sym, ap, ◌∙◌}
 use Rattle.tx_types.specs.declared.key.Key.{Key}
 use Rattle.tx_types.specs.declared.mutation.Fate.TheVariants.{Committed, Aborted}
 use Rattle.tx_plan.specs.declared.body.Body.{Body}
 use Rattle.tx_plan.specs.declared.body.Body.TheVariants as body
 use Rattle.tx_plan.specs.declared.body.Commit.{Commit}
-use Rattle.tx_core.specs.declared.event.Declaration.{Declaration}
-use Rattle.tx_core.specs.Histories.{History, declared, Begins}
+use Rattle.tx_core.specs.Histories.{History, declared, set_of, set_at, is_first, Begins}
 use Rattle.tx_core.specs.Allowed.{Allowed, MayPass, MayDecide}
 use Rattle.tx_core.specs.Worlds.{IsWorldRun}
 use Rattle.tx_core.proofs.Basics.{some_of, is_some}
+use Rattle.tx_core.proofs.view.View.{first_declared}
 use Rattle.tx_core.proofs.seats.Beginnings.{begins_append}
 use Rattle.tx_core.proofs.seats.Staying.{declared_on}
 use Rattle.tx_core.proofs.seats.StaysDecided.{decided_on, two_phase_on, shown_on, all_accepted_on, drew_on}
@@ -30,11 +30,18 @@ module _ (bounds : List Key) (l h : History) (run : IsWorldRun bounds h) (b : Be
         ]
       ]
 
-  decide_on : (c : Commit) (d : Declaration) → declared l c.start ≢ None → MayDecide l d.changes c
-      → MayDecide h d.changes c
-  decide_on c d some may =
+  -- the primary is still the primary
+  first_on : (t : ℕ) (k : Key) → is_first (set_at l t) k ≡ true → is_first (set_at h t) k ≡ true
+  first_on t k first =
+      let of = first_declared (declared l t) k first in
+      ap (λ o. is_first (set_of o) k) (declared_on bounds l h run b t of.0 of.1 ∙ sym of.1) ∙ first
+
+  decide_on : (c : Commit) → MayDecide l c → MayDecide h c
+  decide_on c may =
+      let of = first_declared (declared l c.start) c.key may.primary in
+      let some = is_some (declared l c.start) of.0 of.1 in
       record {
-        primary = may.primary;
+        primary = first_on c.start c.key may.primary;
         accepted = all_accepted_on bounds l h run b c.start some may.accepted;
         two_phase = two_phase_on l h b c.start may.two_phase;
         drawn = drew_on bounds l h run b c.start some may.accepted c.commit may.drawn;
@@ -57,14 +64,10 @@ module _ (bounds : List Key) (l h : History) (run : IsWorldRun bounds h) (b : Be
         others = a.others;
       }
   allowed_on (body.Commit x) a =
-      record {
-        of = a.of;
-        stands = declared_on bounds l h run b x.start a.of a.stands;
-        may = elim a.may [
-          | inl done ↦ inl (decided_on l h b x.start (Committed x.commit) done)
-          | inr may ↦ inr (decide_on x a.of (is_some (declared l x.start) a.of a.stands) may)
-        ];
-      }
+      elim a [
+        | inl done ↦ inl (decided_on l h b x.start (Committed x.commit) done)
+        | inr may ↦ inr (decide_on x may)
+      ]
   allowed_on (body.BatchRollback x) a =
       record {
         of = a.of;
@@ -74,9 +77,7 @@ module _ (bounds : List Key) (l h : History) (run : IsWorldRun bounds h) (b : Be
   allowed_on (body.TxnHeartBeat x) a = still_declared x.start a
   allowed_on (body.CheckTxnStatus x) a =
       record {
-        of = a.of;
-        stands = declared_on bounds l h run b x.start a.of a.stands;
-        primary = a.primary;
+        primary = first_on x.start x.key a.primary;
         forced =
             λ f. two_phase_on l h b x.start (a.forced f);
       }
@@ -88,8 +89,7 @@ module _ (bounds : List Key) (l h : History) (run : IsWorldRun bounds h) (b : Be
         within =
             a.within;
       }
-  allowed_on (body.ResolveLock x) a =
-      record { stands = still_declared x.start a.stands; decision = decided_on l h b x.start x.fate a.decision }
+  allowed_on (body.ResolveLock x) a = decided_on l h b x.start x.fate a
   allowed_on (body.RaiseSafe x) a = tt
   allowed_on (body.LocksBelow x) a = tt
   allowed_on (body.Collect x) a = tt

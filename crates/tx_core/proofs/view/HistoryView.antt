@@ -16,7 +16,7 @@ use Rattle.tx_core.specs.Histories.{History, last, drawer, began, declared, set_
 use Rattle.tx_core.specs.Decisions.{Effect, Settles, RollsBack, NoEffect, effect_in, accepted, decided}
 use Rattle.tx_core.specs.Worlds.{route}
 use Rattle.tx_plan.specs.cases.Prewrite.{check_by}
-use Rattle.tx_core.specs.Shadow.{scan_read}
+use Rattle.tx_core.specs.Truth.{scan_read}
 use Rattle.tx_machine.specs.Keys.{covered}
 use Rattle.tx_core.proofs.changes.Drawing.{drawing}
 use Rattle.tx_core.proofs.changes.Beginning.{beginning}

@@ -17,7 +17,7 @@ use Rattle.tx_machine.specs.Keys.{covered}
 use Rattle.tx_machine.specs.Machine.{SeesRows, table_of}
 use Rattle.tx_plan.specs.Reads as reads
 use Rattle.tx_plan.specs.Reads.{Blocks, Walked, in_range}
-use Rattle.tx_core.specs.Shadow.{scan_read}
+use Rattle.tx_core.specs.Truth.{scan_read}
 use Rattle.tx_core.proofs.changes.Reading.{reading, Passes, Unblocked}
 use Rattle.tx_core.proofs.view.Tables.{Sound}
 use Rattle.tx_core.proofs.changes.Sounds.{sees_rows, sound_scan}

@@ -248,6 +248,12 @@ first_within declared t k = go (set_of (declared t))
     go [] e = absurd (cc (e))
     go (c ∷ cs) e = (as_locked c.mutation, rw e refl)
 
+-- whose primary a key is has declared
+pub first_declared : (o : Option Declaration) (k : Key) → is_first (set_of o) k ≡ true
+    → (d : Declaration) × (o ≡ Some d)
+first_declared None k e = absurd (cc (e))
+first_declared (Some d) k e = (d, refl)
+
 -- who does something is declared
 pub does_declared : (declared : ℕ → Option Declaration) (t : ℕ) (k : Key) (m : Mutation) → Does declared t k m
     → declared t ≢ None

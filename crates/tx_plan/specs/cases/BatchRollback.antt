@@ -5,7 +5,7 @@ use Rattle.tx_plan.specs.declared.answer.Answer.{Answer}
 use Rattle.tx_plan.specs.declared.answer.Answer.TheVariants.{RolledBack, AlreadyCommitted, BelowSafePoint}
 use Rattle.tx_plan.specs.Tables.{Case, CaseOf}
 use Rattle.tx_plan.specs.Cells.{Cells}
-use Rattle.tx_plan.specs.Own.{OwnLock, OwnCommit, roll_back}
+use Rattle.tx_plan.specs.Own.{OwnLock, OwnCommit}
 
 -- A start below the last collection is refused. The transaction's lock is rolled back; where it is
 -- committed, that is told; else its rollback stands already, or is left. Another's lock stays.
@@ -15,9 +15,3 @@ AnswersBatchRollback cells collected b a =
     (CaseOf (λ lock. OwnLock cells.lock b.start lock) (λ lock. a ≡ RolledBack)
     (CaseOf (λ c. OwnCommit cells.write b.start c) (λ c. a ≡ AlreadyCommitted c)
     (a ≡ RolledBack)))
-
--- Where it answers that the transaction is rolled back, the lock is gone and the rollback stands.
--- One that stood already stays.
-abbrev pub leaves_batch_rollback : Cells → BatchRollback → Answer → Cells
-leaves_batch_rollback cells b RolledBack = roll_back cells b.start
-leaves_batch_rollback cells b _ = cells

@@ -6,7 +6,7 @@ use Rattle.tx_plan.specs.declared.answer.Answer.{Answer}
 use Rattle.tx_plan.specs.declared.answer.Answer.TheVariants.{Committed, Missing, Locked, BelowSafePoint}
 use Rattle.tx_plan.specs.Tables.{Case, CaseOf}
 use Rattle.tx_plan.specs.Cells.{Cells, info_of}
-use Rattle.tx_plan.specs.Own.{OwnLock, OwnCommit, leave_rollback}
+use Rattle.tx_plan.specs.Own.{OwnLock, OwnCommit}
 
 -- A start below the last collection is refused. The transaction's lock or commit is told; else its
 -- rollback stands already, or is left.
@@ -16,9 +16,3 @@ AnswersCheckSecondaryLocks cells collected b a =
     (CaseOf (λ lock. OwnLock cells.lock b.start lock) (λ lock. a ≡ Locked (info_of b.key lock))
     (CaseOf (λ c. OwnCommit cells.write b.start c) (λ c. a ≡ Committed c)
     (a ≡ Missing)))
-
--- Where it answers that the transaction is missing, its rollback stands. One that
--- stood already stays.
-abbrev pub leaves_check_secondary_locks : Cells → CheckSecondaryLocks → Answer → Cells
-leaves_check_secondary_locks cells b Missing = leave_rollback cells b.start
-leaves_check_secondary_locks cells b _ = cells

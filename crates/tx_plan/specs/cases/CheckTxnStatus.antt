@@ -1,12 +1,12 @@
 -- CheckTxnStatus: a reader that met a lock asks the transaction's primary what has become of it.
-use Rattle.std.specs.Prelude.{◌≡◌, ℕ, ◌+◌, ◌<◌, ◌≤◌, true, false, Some}
+use Rattle.std.specs.Prelude.{◌≡◌, ℕ, ◌+◌, ◌<◌, ◌≤◌, true, false}
 use Rattle.tx_types.specs.declared.mutation.Mode.TheVariants.{Async}
 use Rattle.tx_plan.specs.declared.body.CheckTxnStatus.{CheckTxnStatus}
 use Rattle.tx_plan.specs.declared.answer.Answer.{Answer}
 use Rattle.tx_plan.specs.declared.answer.Answer.TheVariants.{Committed, RolledBack, Locked, BelowSafePoint, FutureTimestamp, TxnNotFound}
 use Rattle.tx_plan.specs.Tables.{Case, CaseOf}
-use Rattle.tx_plan.specs.Cells.{Lock, Cells, info_of, with_lock}
-use Rattle.tx_plan.specs.Own.{OwnLock, OwnCommit, OwnRollback, on_own_lock, roll_back}
+use Rattle.tx_plan.specs.Cells.{Lock, Cells, info_of}
+use Rattle.tx_plan.specs.Own.{OwnLock, OwnCommit, OwnRollback}
 
 -- a lock is expired where its time to live is over
 abbrev pub IsExpired : Lock → ℕ → Type 0
@@ -23,7 +23,7 @@ abbrev pub ChecksLock : CheckTxnStatus → Lock → Answer → Type 0
 ChecksLock b lock a =
     Case ((lock.mode ≡ Async) × (b.force_sync_commit ≡ false)) (a ≡ Locked (info_of b.key lock))
     (Case (lock.start + lock.ttl < b.current) (a ≡ RolledBack)
-    (Case (lock.min ≤ b.caller) (a ≡ Locked (info_of b.key (with_minimum lock (b.caller + 1))))
+    (Case (lock.min ≤ b.caller) (a ≡ Locked (info_of b.key record lock { min = b.caller + 1 }))
     (a ≡ Locked (info_of b.key lock))))
 
 -- A start below the last collection and a caller above the last number loaded are refused. Where
@@ -38,11 +38,3 @@ AnswersCheckTxnStatus cells collected loaded b a =
     (Case (OwnRollback cells.write b.start) (a ≡ RolledBack)
     (Case (b.rollback_if_not_exist ≡ true) (a ≡ RolledBack)
     (a ≡ TxnNotFound))))))
-
--- Where it answers that the transaction is rolled back, the lock is gone and the rollback stands; a
--- lock that it tells of has the minimum of the answer, and is otherwise as it was.
-abbrev pub leaves_check_txn_status : Cells → CheckTxnStatus → Answer → Cells
-leaves_check_txn_status cells b RolledBack = roll_back cells b.start
-leaves_check_txn_status cells b (Locked info) = on_own_lock cells b.start
-    (λ lock. with_lock cells (Some (with_minimum lock info.min)))
-leaves_check_txn_status cells b _ = cells

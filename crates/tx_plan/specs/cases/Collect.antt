@@ -3,13 +3,13 @@ use Rattle.std.specs.Prelude.{◌≡◌, ◌≢◌, ◌↔◌, ℕ, zero, suc, �
 use Rattle.tx_types.specs.declared.key.Key.{Key}
 use Rattle.tx_types.specs.declared.lock.LockInfo.{LockInfo}
 use Rattle.tx_types.specs.declared.mutation.Mutation.{Mutation}
-use Rattle.tx_types.specs.declared.mutation.Mutation.TheVariants.{Put, Insert, Delete, Lock}
+use Rattle.tx_types.specs.declared.mutation.Mutation.TheVariants.{Put, Insert}
 use Rattle.tx_plan.specs.declared.body.Collect.{Collect}
 use Rattle.tx_plan.specs.declared.answer.Answer.{Answer}
 use Rattle.tx_plan.specs.declared.answer.Answer.TheVariants.{Collected, BelowSafePoint, LocksRemain}
 use Rattle.tx_plan.specs.Tables.{Case}
 use Rattle.tx_types.specs.Keys.{key_lt, is_visible}
-use Rattle.tx_plan.specs.Cells.{Write, CommitOf, Rollback, Writes, Cells, Region, is_long}
+use Rattle.tx_plan.specs.Cells.{Write, CommitOf, Writes, Cells, is_long}
 use Rattle.tx_plan.specs.cases.LocksBelow.{IsLockBelow}
 
 -- ---- which records stay
@@ -89,12 +89,3 @@ CountsDropped cells safe a = (versions : List (Key × ℕ)) × AllDropped cells 
 -- what a region of this store answers: with these counts
 abbrev pub AnswersCollect : (Key → Cells) → ℕ → Collect → Answer → Type 0
 AnswersCollect = AnswersCollectBy CountsDropped
-
--- Where it has collected, the records that are not kept are gone, on every key, and the region has
--- collected up to there.
-abbrev pub leaves_collect : Region → Collect → Answer → Region
-leaves_collect region b (Collected records values) = record region {
-  cells = λ k. kept (region.cells k) b.safe;
-  collected = b.safe;
-}
-leaves_collect region b _ = region

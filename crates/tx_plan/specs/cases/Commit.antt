@@ -5,7 +5,7 @@ use Rattle.tx_plan.specs.declared.answer.Answer.{Answer}
 use Rattle.tx_plan.specs.declared.answer.Answer.TheVariants.{Committed, WriteConflict, AlreadyRolledBack, CommitTsExpired, TxnLockNotFound, BelowSafePoint}
 use Rattle.tx_plan.specs.Tables.{Case, CaseOf}
 use Rattle.tx_plan.specs.Cells.{Lock, Writes, Cells}
-use Rattle.tx_plan.specs.Own.{OwnLock, OwnCommit, OthersCommit, OwnRollback, commit_lock}
+use Rattle.tx_plan.specs.Own.{OwnLock, OwnCommit, OthersCommit, OwnRollback}
 
 -- The cases where the transaction's lock stands: a commit below the lock's minimum, or at a
 -- timestamp where another's commit record stands, is refused; else it is done.
@@ -25,9 +25,3 @@ AnswersCommit cells collected b a =
     (CaseOf (λ c. OwnCommit cells.write b.start c) (λ c. a ≡ Committed c)
     (Case (OwnRollback cells.write b.start) (a ≡ AlreadyRolledBack)
     (a ≡ TxnLockNotFound))))
-
--- Where it answers that the transaction is committed and its lock stands, the lock becomes
--- its commit record.
-abbrev pub leaves_commit : Cells → Commit → Answer → Cells
-leaves_commit cells b (Committed c) = commit_lock cells b.start b.commit
-leaves_commit cells b _ = cells

@@ -5,8 +5,8 @@ use Rattle.tx_plan.specs.declared.body.Get.{Get}
 use Rattle.tx_plan.specs.declared.answer.Answer.{Answer}
 use Rattle.tx_plan.specs.declared.answer.Answer.TheVariants.{KeyIsLocked, BelowSafePoint, FutureTimestamp}
 use Rattle.tx_plan.specs.Tables.{Case, CaseOf}
-use Rattle.tx_plan.specs.Cells.{Cells, Region, info_of, with_max_read}
-use Rattle.tx_plan.specs.Reads.{Blocks, Reads, read_answer, raised}
+use Rattle.tx_plan.specs.Cells.{Cells, info_of}
+use Rattle.tx_plan.specs.Reads.{Blocks, Reads, read_answer}
 
 -- A read below the safe point or above the last number loaded is refused; a lock that blocks it
 -- stops it; else it gives the value that stands at its timestamp, or none.
@@ -16,7 +16,3 @@ AnswersGet cells safe loaded b a =
     (Case (loaded < b.at) (a ≡ FutureTimestamp loaded)
     (CaseOf (λ lock. Blocks cells.lock b.at b.bypass lock) (λ lock. a ≡ KeyIsLocked (info_of b.key lock))
     ((found : Option Value) × (a ≡ read_answer found) × Reads cells.write b.at found)))
-
--- It raises the greatest timestamp read, also where a lock stopped it.
-abbrev pub leaves_get : Region → Get → Answer → Region
-leaves_get region b a = with_max_read region (raised a b.at region.max_read)

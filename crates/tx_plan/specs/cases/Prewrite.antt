@@ -11,7 +11,7 @@ use Rattle.tx_plan.specs.declared.body.Prewrite.{Prewrite}
 use Rattle.tx_plan.specs.declared.answer.Answer.{Answer}
 use Rattle.tx_plan.specs.declared.answer.Answer.TheVariants.{Prewritten, KeyIsLocked, WriteConflict, AlreadyRolledBack, AlreadyCommitted, BelowSafePoint, FutureTimestamp, AlreadyExists}
 use Rattle.tx_plan.specs.Tables.{Case, CaseOf}
-use Rattle.tx_plan.specs.Cells.{Lock, CommitRecord, CommitOf, Writes, Cells, info_of, with_lock}
+use Rattle.tx_plan.specs.Cells.{Lock, CommitRecord, CommitOf, Writes, Cells, info_of}
 use Rattle.tx_plan.specs.Own.{OwnLock, OwnCommit, OwnRollback}
 use Rattle.tx_plan.specs.Reads.{Finds}
 
@@ -63,7 +63,7 @@ abbrev pub AnswersPrewrite : Cells → ℕ → ℕ → (ℕ → Type 0) → Prew
 AnswersPrewrite cells safe loaded Promise b a =
     Case (b.start < safe) (a ≡ BelowSafePoint safe)
     (Case (loaded < b.start) (a ≡ FutureTimestamp loaded)
-    (CaseOf (λ lock. OwnLock cells.lock b.start lock) (λ lock. a ≡ Prewritten (named_minimum lock))
+    (CaseOf (λ lock. OwnLock cells.lock b.start lock) (λ lock. a ≡ Prewritten (async_min lock.mode lock.min))
     (Case (OwnRollback cells.write b.start) (a ≡ AlreadyRolledBack)
     (CaseOf (λ c. OwnCommit cells.write b.start c) (λ c. a ≡ AlreadyCommitted c)
     (CaseOf (λ lock. cells.lock ≡ Some lock) (λ lock. a ≡ KeyIsLocked (info_of b.key lock))
@@ -90,11 +90,6 @@ lock_of b m = record {
 abbrev pub locked : Option Lock → Prewrite → ℕ → Lock
 locked None b m = lock_of b m
 locked (Some lock) b m = lock
-
--- An accepted prewrite leaves its lock, where none stands yet.
-abbrev pub leaves_prewrite : Cells → Prewrite → Answer → Cells
-leaves_prewrite cells b (Prewritten m) = with_lock cells (Some (locked cells.lock b m))
-leaves_prewrite cells b _ = cells
 
 -- the check of an insert is a read at the start of its transaction
 abbrev pub check_by : Mutation → ℕ → Option ℕ

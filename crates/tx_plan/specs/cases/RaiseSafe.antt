@@ -4,7 +4,6 @@ use Rattle.tx_plan.specs.declared.body.RaiseSafe.{RaiseSafe}
 use Rattle.tx_plan.specs.declared.answer.Answer.{Answer}
 use Rattle.tx_plan.specs.declared.answer.Answer.TheVariants.{Raised, BelowSafePoint, FutureTimestamp}
 use Rattle.tx_plan.specs.Tables.{Case}
-use Rattle.tx_plan.specs.Cells.{Region}
 
 -- A safe point above the last number loaded, or below the region's, is refused.
 abbrev pub AnswersRaiseSafe : ℕ → ℕ → RaiseSafe → Answer → Type 0
@@ -12,8 +11,3 @@ AnswersRaiseSafe safe loaded b a =
     Case (loaded < b.safe) (a ≡ FutureTimestamp loaded)
     (Case (b.safe < safe) (a ≡ BelowSafePoint safe)
     (a ≡ Raised))
-
--- Where it is raised, it is the one that was asked for.
-abbrev pub leaves_raise_safe : Region → RaiseSafe → Answer → Region
-leaves_raise_safe region b Raised = record region { safe = b.safe }
-leaves_raise_safe region b _ = region

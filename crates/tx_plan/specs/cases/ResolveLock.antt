@@ -28,8 +28,3 @@ AnswersResolveLock cells collected b a =
 abbrev pub resolve : Cells → ℕ → Fate → Cells
 resolve cells start fate.Aborted = on_own_lock cells start (λ lock. roll_back cells start)
 resolve cells start (fate.Committed c) = commit_lock cells start c
-
--- Where it is resolved and the transaction's lock stands, the lock is rolled back, or committed.
-abbrev pub leaves_resolve_lock : Cells → ResolveLock → Answer → Cells
-leaves_resolve_lock cells b Resolved = resolve cells b.start b.fate
-leaves_resolve_lock cells b _ = cells

@@ -1,21 +1,21 @@
 -- Scan: the first keys of a range that have a value at a timestamp.
-use Rattle.std.specs.Prelude.{◌≡◌, ◌⊎◌, ℕ, ◌<◌, ◌≤◌, ◌&&◌, List, length, IsTrue}
+use Rattle.std.specs.Prelude.{◌≡◌, ◌⊎◌, ℕ, ◌<◌, ◌≤◌, List, length, IsTrue}
 use Rattle.tx_types.specs.declared.key.Key.{Key}
 use Rattle.tx_types.specs.declared.mutation.KeyValue.{KeyValue}
 use Rattle.tx_plan.specs.declared.body.Scan.{Scan}
 use Rattle.tx_plan.specs.declared.answer.Answer.{Answer}
 use Rattle.tx_plan.specs.declared.answer.Answer.TheVariants.{Rows, KeyIsLocked, BelowSafePoint, FutureTimestamp}
 use Rattle.tx_plan.specs.Tables.{Case}
-use Rattle.tx_types.specs.Keys.{key_lt, key_le}
-use Rattle.tx_plan.specs.Cells.{Lock, Cells, Region, info_of, with_max_read}
-use Rattle.tx_plan.specs.Reads.{Blocks, in_range, covered, Walked, raised}
+use Rattle.tx_types.specs.Keys.{is_between, is_scanned}
+use Rattle.tx_plan.specs.Cells.{Lock, Cells, info_of}
+use Rattle.tx_plan.specs.Reads.{Blocks, Walked}
 
 -- The walk ends well: at the end of the range, or with `limit` rows.
 pub record GivesRows (cells : Key → Cells) (b : Scan) (a : Answer) : Type 0 where
   pub rows : List KeyValue
   pub answer : a ≡ Rows rows
   pub upto : length rows ≤ b.limit
-  pub walked : Walked cells b.at b.bypass (covered b rows) rows
+  pub walked : Walked cells b.at b.bypass (is_scanned b.from b.to b.limit rows) rows
 
 -- The walk ends at a key whose lock blocks it: the keys before it are free and give fewer
 -- than `limit` rows.
@@ -24,9 +24,9 @@ pub record MeetsLock (cells : Key → Cells) (b : Scan) (a : Answer) : Type 0 wh
   pub lock : Lock
   pub rows : List KeyValue
   pub answer : a ≡ KeyIsLocked (info_of key lock)
-  pub inside : IsTrue (in_range b key)
+  pub inside : IsTrue (is_between b.from b.to key)
   pub blocks : Blocks (cells key).lock b.at b.bypass lock
-  pub before : Walked cells b.at b.bypass (λ k. key_le b.from k && key_lt k key) rows
+  pub before : Walked cells b.at b.bypass (is_between b.from key) rows
   pub below : length rows < b.limit
 
 -- A scan below the safe point or above the last number loaded is refused; else the keys of its
@@ -37,7 +37,3 @@ AnswersScan cells safe loaded b a =
     Case (b.at < safe) (a ≡ BelowSafePoint safe)
     (Case (loaded < b.at) (a ≡ FutureTimestamp loaded)
     (MeetsLock cells b a ⊎ GivesRows cells b a))
-
--- It raises the greatest timestamp read, also where a lock stopped it.
-abbrev pub leaves_scan : Region → Scan → Answer → Region
-leaves_scan region b a = with_max_read region (raised a b.at region.max_read)

@@ -1,11 +1,11 @@
 -- TxnHeartBeat: a transaction's lock lives longer.
-use Rattle.std.specs.Prelude.{◌≡◌, ℕ, ◌<◌, max, Some}
+use Rattle.std.specs.Prelude.{◌≡◌, ℕ, ◌<◌, max}
 use Rattle.tx_plan.specs.declared.body.TxnHeartBeat.{TxnHeartBeat}
 use Rattle.tx_plan.specs.declared.answer.Answer.{Answer}
 use Rattle.tx_plan.specs.declared.answer.Answer.TheVariants.{Ttl, TxnLockNotFound, BelowSafePoint}
 use Rattle.tx_plan.specs.Tables.{Case, CaseOf}
-use Rattle.tx_plan.specs.Cells.{Lock, Cells, with_lock}
-use Rattle.tx_plan.specs.Own.{OwnLock, on_own_lock}
+use Rattle.tx_plan.specs.Cells.{Lock, Cells}
+use Rattle.tx_plan.specs.Own.{OwnLock}
 
 -- A start below the last collection is refused. The time to live of the transaction's lock becomes
 -- the greater of its own and the one that is asked for; where no lock of the transaction stands,
@@ -19,8 +19,3 @@ AnswersTxnHeartBeat cells collected b a =
 -- a lock with another time to live
 abbrev pub with_ttl : Lock → ℕ → Lock
 with_ttl lock ttl = record lock { ttl = ttl }
-
--- The transaction's lock has the time to live of the answer.
-abbrev pub leaves_txn_heart_beat : Cells → TxnHeartBeat → Answer → Cells
-leaves_txn_heart_beat cells b (Ttl ttl) = on_own_lock cells b.start (λ lock. with_lock cells (Some record lock { ttl = ttl }))
-leaves_txn_heart_beat cells b _ = cells

@@ -5,7 +5,9 @@ ghost use Rattle.tx_plan.specs.Changes.{changed, Applies};
 ghost use Rattle.tx_plan.specs.Making.{Makes};
 ghost use Rattle.tx_plan.specs.Plans.{answer_with};
 ghost use Rattle.tx_plan.specs.Views.{Shows, info_on};
-ghost use Rattle.tx_plan.specs.cases.BatchRollback.{AnswersBatchRollback, leaves_batch_rollback};
+ghost use Rattle.tx_plan.specs.cases.BatchRollback.{AnswersBatchRollback};
+ghost use Rattle.tx_plan.specs.Answers.{leaves_on};
+ghost use Rattle.tx_plan.specs.declared.body.Body.TheVariants as asked;
 
 use crate::answer::Answer;
 use crate::body::BatchRollback;
@@ -22,7 +24,7 @@ pub fn plan_batch_rollback(view: &TxnView, collected: Ts, body: &BatchRollback) 
     ensures answers { (cells : Cells) (commit : ℕ) → Shows cells body.now.start commit view.now
         → AnswersBatchRollback cells collected body.now (answer_with (info_on cells body.now.key) result.answer) }
     ensures leaves { (cells : Cells) (commit : ℕ) → Shows cells body.now.start commit view.now
-        → changed cells result.change ≡ leaves_batch_rollback cells body.now
+        → changed cells result.change ≡ leaves_on cells (asked.BatchRollback body.now)
         (answer_with (info_on cells body.now.key) result.answer) }
     ensures applies { (cells : Cells) (commit : ℕ) → Shows cells body.now.start commit view.now
         → Applies cells result.change }

@@ -6,7 +6,9 @@ ghost use Rattle.tx_plan.specs.Changes.{changed, Applies};
 ghost use Rattle.tx_plan.specs.Making.{Makes};
 ghost use Rattle.tx_plan.specs.Plans.{answer_with};
 ghost use Rattle.tx_plan.specs.Views.{Shows, info_on};
-ghost use Rattle.tx_plan.specs.cases.CheckSecondaryLocks.{AnswersCheckSecondaryLocks, leaves_check_secondary_locks};
+ghost use Rattle.tx_plan.specs.cases.CheckSecondaryLocks.{AnswersCheckSecondaryLocks};
+ghost use Rattle.tx_plan.specs.Answers.{leaves_on};
+ghost use Rattle.tx_plan.specs.declared.body.Body.TheVariants as asked;
 
 use crate::answer::Answer;
 use crate::body::CheckSecondaryLocks;
@@ -23,7 +25,7 @@ pub fn plan_check_secondary_locks(view: &TxnView, collected: Ts, body: &CheckSec
     ensures answers { (cells : Cells) (commit : ℕ) → Shows cells body.now.start commit view.now
         → AnswersCheckSecondaryLocks cells collected body.now (answer_with (info_on cells body.now.key) result.answer) }
     ensures leaves { (cells : Cells) (commit : ℕ) → Shows cells body.now.start commit view.now
-        → changed cells result.change ≡ leaves_check_secondary_locks cells body.now
+        → changed cells result.change ≡ leaves_on cells (asked.CheckSecondaryLocks body.now)
         (answer_with (info_on cells body.now.key) result.answer) }
     ensures applies { (cells : Cells) (commit : ℕ) → Shows cells body.now.start commit view.now
         → Applies cells result.change }

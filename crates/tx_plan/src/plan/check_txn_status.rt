@@ -5,7 +5,9 @@ ghost use Rattle.tx_plan.specs.Changes.{changed, Applies};
 ghost use Rattle.tx_plan.specs.Making.{Makes};
 ghost use Rattle.tx_plan.specs.Plans.{answer_with};
 ghost use Rattle.tx_plan.specs.Views.{Shows, HasOwnHead, info_on};
-ghost use Rattle.tx_plan.specs.cases.CheckTxnStatus.{ChecksLock, AnswersCheckTxnStatus, leaves_check_txn_status};
+ghost use Rattle.tx_plan.specs.cases.CheckTxnStatus.{ChecksLock, AnswersCheckTxnStatus};
+ghost use Rattle.tx_plan.specs.Answers.{leaves_on};
+ghost use Rattle.tx_plan.specs.declared.body.Body.TheVariants as asked;
 
 use crate::answer::Answer;
 use crate::body::CheckTxnStatus;
@@ -33,7 +35,7 @@ pub fn plan_check_txn_status(
         → AnswersCheckTxnStatus cells collected loaded body.now
         (answer_with (info_on cells body.now.key) result.answer) }
     ensures leaves { (cells : Cells) (commit : ℕ) → Shows cells body.now.start commit view.now
-        → changed cells result.change ≡ leaves_check_txn_status cells body.now
+        → changed cells result.change ≡ leaves_on cells (asked.CheckTxnStatus body.now)
         (answer_with (info_on cells body.now.key) result.answer) }
     ensures applies { (cells : Cells) (commit : ℕ) → Shows cells body.now.start commit view.now
         → Applies cells result.change }
@@ -67,7 +69,7 @@ fn check_lock(view: &TxnView, lock: &LockHead, body: &CheckTxnStatus) -> Plan
         → ChecksLock body.now own.lock (answer_with (info_on cells body.now.key) result.answer) }
     ensures leaves { (cells : Cells) (commit : ℕ) → Shows cells body.now.start commit view.now
         → HasOwnHead cells.lock body.now.start lock.now
-        → changed cells result.change ≡ leaves_check_txn_status cells body.now
+        → changed cells result.change ≡ leaves_on cells (asked.CheckTxnStatus body.now)
         (answer_with (info_on cells body.now.key) result.answer) }
     ensures applies { (cells : Cells) (commit : ℕ) → Shows cells body.now.start commit view.now
         → HasOwnHead cells.lock body.now.start lock.now → Applies cells result.change }

@@ -5,7 +5,9 @@ ghost use Rattle.tx_plan.specs.Changes.{changed, Applies};
 ghost use Rattle.tx_plan.specs.Making.{Makes};
 ghost use Rattle.tx_plan.specs.Plans.{answer_with};
 ghost use Rattle.tx_plan.specs.Views.{Shows, info_on};
-ghost use Rattle.tx_plan.specs.cases.Commit.{AnswersCommit, leaves_commit};
+ghost use Rattle.tx_plan.specs.cases.Commit.{AnswersCommit};
+ghost use Rattle.tx_plan.specs.Answers.{leaves_on};
+ghost use Rattle.tx_plan.specs.declared.body.Body.TheVariants as asked;
 
 use crate::answer::Answer;
 use crate::body::Commit;
@@ -24,7 +26,7 @@ pub fn plan_commit(view: &TxnView, collected: Ts, body: &Commit) -> Plan
     ensures answers { (cells : Cells) → Shows cells body.now.start body.now.commit view.now
         → AnswersCommit cells collected body.now (answer_with (info_on cells body.now.key) result.answer) }
     ensures leaves { (cells : Cells) → Shows cells body.now.start body.now.commit view.now
-        → changed cells result.change ≡ leaves_commit cells body.now
+        → changed cells result.change ≡ leaves_on cells (asked.Commit body.now)
         (answer_with (info_on cells body.now.key) result.answer) }
     ensures applies { (cells : Cells) → Shows cells body.now.start body.now.commit view.now
         → Applies cells result.change }

@@ -3,7 +3,9 @@ ghost use Rattle.std.specs.Prelude.{◌≡◌};
 ghost use Rattle.tx_plan.specs.Cells.{Cells, Region};
 ghost use Rattle.tx_plan.specs.Plans.{answer_with, with_read};
 ghost use Rattle.tx_plan.specs.Views.{ShowsRead, info_on};
-ghost use Rattle.tx_plan.specs.cases.Get.{AnswersGet, leaves_get};
+ghost use Rattle.tx_plan.specs.cases.Get.{AnswersGet};
+ghost use Rattle.tx_plan.specs.Answers.{leaves};
+ghost use Rattle.tx_plan.specs.declared.body.Body.TheVariants as asked;
 
 use crate::answer::Answer;
 use crate::body::Get;
@@ -21,7 +23,7 @@ pub fn plan_get(view: ReadView, safe: Ts, loaded: Ts, body: &Get) -> Plan
     ensures answers { (cells : Cells) → ShowsRead cells body.now.at view
         → AnswersGet cells safe loaded body.now (answer_with (info_on cells body.now.key) result.answer) }
     ensures leaves { (cells : Cells) → ShowsRead cells body.now.at view → (region : Region)
-        → leaves_get region body.now (answer_with (info_on cells body.now.key) result.answer)
+        → leaves region (asked.Get body.now) (answer_with (info_on cells body.now.key) result.answer)
         ≡ with_read region result.read }
     ensures same { result.change ≡ KeyChange.Nothing }
 {

@@ -7,7 +7,9 @@ ghost use Rattle.tx_plan.specs.Changes.{new_lock, after_put, CanPut};
 ghost use Rattle.tx_plan.specs.Locking.{AnswersLock};
 ghost use Rattle.tx_plan.specs.Plans.{answer_with};
 ghost use Rattle.tx_plan.specs.Views.{Shows, info_on};
-ghost use Rattle.tx_plan.specs.cases.Prewrite.{AnswersPrewrite, leaves_prewrite, read_by_prewrite, check_by, HasValue, least_minimum, IsWithin};
+ghost use Rattle.tx_plan.specs.cases.Prewrite.{AnswersPrewrite, read_by_prewrite, check_by, HasValue, least_minimum, IsWithin};
+ghost use Rattle.tx_plan.specs.Answers.{leaves_on};
+ghost use Rattle.tx_plan.specs.declared.body.Body.TheVariants as asked;
 
 use crate::answer::Answer;
 use crate::body::Prewrite;
@@ -43,7 +45,7 @@ pub fn plan_prewrite(
         ≡ least_minimum mark body.now) body.now (answer_with (info_on cells body.now.key) result.answer) }
     ensures leaves { (cells : Cells) (commit : ℕ) → Shows cells body.now.start commit view.now
         → after_put cells body.now (new_lock result.change)
-        ≡ leaves_prewrite cells body.now (answer_with (info_on cells body.now.key) result.answer) }
+        ≡ leaves_on cells (asked.Prewrite body.now) (answer_with (info_on cells body.now.key) result.answer) }
     ensures applies { (cells : Cells) (commit : ℕ) → Shows cells body.now.start commit view.now
         → IfSome (new_lock result.change) (λ new. CanPut cells body.now new) }
     ensures read { (cells : Cells) (commit : ℕ) → Shows cells body.now.start commit view.now
@@ -111,7 +113,7 @@ fn lock_key(mark: Ts, body: &Prewrite) -> Plan
         ≡ least_minimum mark body.now) body.now (answer_with info result.answer) }
     ensures leaves { (cells : Cells) → cells.lock ≡ None
         → after_put cells body.now (new_lock result.change)
-        ≡ leaves_prewrite cells body.now (answer_with (info_on cells body.now.key) result.answer) }
+        ≡ leaves_on cells (asked.Prewrite body.now) (answer_with (info_on cells body.now.key) result.answer) }
     ensures minimum { IfSome (new_lock result.change) (λ new. body.now.start < new.min) }
     ensures read { (cells : Cells) → cells.lock ≡ None
         → result.read ≡ read_by_prewrite (answer_with (info_on cells body.now.key) result.answer) cells.lock body.now }

@@ -1,7 +1,9 @@
 //! RaiseSafe: a region's safe point rises, never above the last number loaded and never down.
 ghost use Rattle.std.specs.Prelude.{◌≡◌};
 ghost use Rattle.tx_plan.specs.Cells.{Region};
-ghost use Rattle.tx_plan.specs.cases.RaiseSafe.{AnswersRaiseSafe, leaves_raise_safe};
+ghost use Rattle.tx_plan.specs.cases.RaiseSafe.{AnswersRaiseSafe};
+ghost use Rattle.tx_plan.specs.Answers.{leaves};
+ghost use Rattle.tx_plan.specs.declared.body.Body.TheVariants as asked;
 
 use crate::answer::Answer;
 use crate::body::RaiseSafe;
@@ -21,7 +23,7 @@ pub struct SafePlan {
 pub fn plan_raise_safe(safe: Ts, loaded: Ts, body: &RaiseSafe) -> SafePlan
     ensures answer { AnswersRaiseSafe safe loaded body.now result.answer }
     ensures leaves { (region : Region) → region.safe ≡ safe
-        → leaves_raise_safe region body.now result.answer ≡ record region { safe = result.safe } }
+        → leaves region (asked.RaiseSafe body.now) result.answer ≡ record region { safe = result.safe } }
 {
     if body.safe > loaded {
         return SafePlan {

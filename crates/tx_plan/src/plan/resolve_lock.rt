@@ -6,7 +6,9 @@ ghost use Rattle.tx_plan.specs.Committing.{commit_in};
 ghost use Rattle.tx_plan.specs.Making.{Makes};
 ghost use Rattle.tx_plan.specs.Plans.{answer_with};
 ghost use Rattle.tx_plan.specs.Views.{Shows, info_on};
-ghost use Rattle.tx_plan.specs.cases.ResolveLock.{AnswersResolveLock, leaves_resolve_lock};
+ghost use Rattle.tx_plan.specs.cases.ResolveLock.{AnswersResolveLock};
+ghost use Rattle.tx_plan.specs.Answers.{leaves_on};
+ghost use Rattle.tx_plan.specs.declared.body.Body.TheVariants as asked;
 
 use crate::answer::Answer;
 use crate::body::ResolveLock;
@@ -26,7 +28,7 @@ pub fn plan_resolve_lock(view: &TxnView, collected: Ts, body: &ResolveLock) -> P
     ensures answers { (cells : Cells) → Shows cells body.now.start (commit_in body.now.fate) view.now
         → AnswersResolveLock cells collected body.now (answer_with (info_on cells body.now.key) result.answer) }
     ensures leaves { (cells : Cells) → Shows cells body.now.start (commit_in body.now.fate) view.now
-        → changed cells result.change ≡ leaves_resolve_lock cells body.now
+        → changed cells result.change ≡ leaves_on cells (asked.ResolveLock body.now)
         (answer_with (info_on cells body.now.key) result.answer) }
     ensures applies { (cells : Cells) → Shows cells body.now.start (commit_in body.now.fate) view.now
         → Applies cells result.change }

@@ -7,7 +7,9 @@ ghost use Rattle.tx_plan.specs.Cells.{Cells, Region};
 ghost use Rattle.tx_plan.specs.Plans.{answer_with, with_read};
 ghost use Rattle.tx_plan.specs.Refusals.{MayRead, RefusesScan};
 ghost use Rattle.tx_plan.specs.Walks.{IsWalk};
-ghost use Rattle.tx_plan.specs.cases.Scan.{AnswersScan, MeetsLock, GivesRows, leaves_scan};
+ghost use Rattle.tx_plan.specs.cases.Scan.{AnswersScan, MeetsLock, GivesRows};
+ghost use Rattle.tx_plan.specs.Answers.{leaves};
+ghost use Rattle.tx_plan.specs.declared.body.Body.TheVariants as asked;
 
 use crate::answer::Answer;
 use crate::body::Scan;
@@ -68,7 +70,7 @@ pub fn plan_scan(answer: Answer, body: &Scan) -> Plan
         → MeetsLock cells body.now answer ⊎ GivesRows cells body.now answer
         → AnswersScan cells safe loaded body.now (answer_with None result.answer) }
     ensures leaves { (cells : Key → Cells) → MeetsLock cells body.now answer ⊎ GivesRows cells body.now answer
-        → (region : Region) → leaves_scan region body.now (answer_with None result.answer)
+        → (region : Region) → leaves region (asked.Scan body.now) (answer_with None result.answer)
         ≡ with_read region result.read }
     ensures same { result.change ≡ KeyChange.Nothing }
 {

@@ -81,9 +81,8 @@ impl<F: Fresh, const N: u64> Sees for Failing<F, N> {
         self.cells.cells(alloc, key)
     }
 
-    fn number(&self, alloc: Global, key: &SpeltKey<'_>) -> Result<u64, Fault> {
-        self.count()?;
-        self.cells.number(alloc, key)
+    fn number(&self, key: &SpeltKey<'_>) -> u64 {
+        self.cells.number(key)
     }
 }
 

@@ -343,8 +343,9 @@ pub const REFUSED_CHANGE: &[Step] = &[
     (A, Plans, Prewrite, (Word::Prewritten, 4, 0)),
 ];
 
-/// Another key was locked since the copy, and the look at the number of the key is refused memory.
-pub const REFUSED_NUMBER: &[Step] = &[
+/// Another key was locked since the copy, so the plan is still right, and its change is refused
+/// memory.
+pub const REFUSED_BESIDE: &[Step] = &[
     (A, Holds, Prewrite, SILENT),
     (B, Plans, Prewrite, (Word::Refused, 0, 0)),
     (B, Plans, Prewrite, LOCKS),

@@ -140,7 +140,7 @@ where
     {
         task.ask_from(shard.saturating_add(1));
         match self.shards.get(usize::from(shard)) {
-            Some(shard) => shard.lock(rt).ask(task.cid(), slots, task),
+            Some(shard) => shard.shard.lock(rt).ask(task.cid(), slots, task),
             None => Ok(Some(task)),
         }
     }

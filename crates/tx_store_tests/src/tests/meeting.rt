@@ -146,8 +146,8 @@ impl Sees for Meeting {
         self.cells.cells(alloc, key)
     }
 
-    fn number(&self, alloc: Global, key: &SpeltKey<'_>) -> Result<u64, Fault> {
-        self.cells.number(alloc, key)
+    fn number(&self, key: &SpeltKey<'_>) -> u64 {
+        self.cells.number(key)
     }
 }
 

@@ -1,4 +1,3 @@
-use Rattle.std.proofs.Common.{inl, inr, [], ◌∷◌, Some, None, refl, arith}
 use Rattle.tx_core.proofs.examples.CommitThenRead as two_phase
 use Rattle.tx_core.proofs.examples.Resolver as resolver
 use Rattle.tx_core.proofs.examples.FallingBack as fall_back

@@ -56,6 +56,7 @@ returns-clause-comes g c =
     c.loop-output.output-iterator.rest.len c.loop-output.invariant.split c.loop-output.output-iterator.rest.ok.0
     c.in-None.ensures.steps.0 in (
       c.args.replies.now,
+      refl,
       c.requires.none,
       subst (AreJoined c.args.replies.now c.loop-output.seat.events c.loop-output.replies) went
           c.loop-output.invariant.joined,

@@ -1,19 +1,31 @@
-use Rattle.std.proofs.Common.{List, sym, subst, ◌∙◌}
+use Rattle.std.proofs.Common.{◌≡◌, ◌++◌, ℕ, List, map, sym, ap, subst, ◌∙◌}
 use Rattle.tx_core.specs.Histories.{History}
-use Rattle.tx_run.specs.Jobs.{ComesOf}
+use Rattle.tx_run.specs.declared.reply.LineReply.{LineReply}
+use Rattle.tx_run.specs.Answers.{numbers_of}
+use Rattle.tx_run.specs.Jobs.{AreGathered, ComesOf}
+use Rattle.tx_run.specs.Reading.{opening_of}
 use Rattle.tx_run.specs.LineNumbers.{numbers_in}
 use Rattle.tx_run.proofs.Gathering.{faults}
 use Rattle.tx_run.proofs.play.play.Goals as goal
 
 pub returns-clause-comes : goal.returns-clause-comes
 returns-clause-comes g c =
-    subst (λ (h : History). ComesOf (numbers_in c.args.script.sessions.items) h c.gather.new.replies)
-    (sym (c.unnamed.ensures.1 ∙ c.tell-told.ensures.told))
-    (c.in-Ok-work.outputs.items, c.in_ok-faulted.ensures.comes, c.in-Ok-work.ensures.answered)
+    let firsts = opening_of g.J.JournalId.bounds ++ map (λ s. s.number) c.args.script.seeds.items in
+    let numbers : numbers_of c.add.new.self ≡ firsts =
+    ap numbers_of c.in_ok-add.ensures ∙ ap (λ (l : List LineReply). numbers_of (l ++ c.play_seeds.new.replies.items))
+    c.new-replies.ensures ∙ (rw c.as_slice.ensures.value at c.in_ok-seat.ensures.each)
+    ∙ ap (λ (l : List ℕ). l ++ map (λ s. s.number) c.args.script.seeds.items) c.in_ok-write_regions.ensures.each in
+    subst (λ (h : History). ComesOf firsts (numbers_in c.args.script.sessions.items) h c.gather.new.replies)
+    (sym (c.unnamed.ensures.1 ∙ c.tell-told.ensures.told)) (
+      c.in-Ok-work.outputs.items,
+      subst (λ (f : List ℕ). AreGathered f c.gather.new.seat.events c.gather.new.replies c.in-Ok-work.outputs.items)
+          numbers c.in_ok-faulted.ensures.comes,
+      c.in-Ok-work.ensures.answered,
+    )
 
 pub returns-clause-faulted : goal.returns-clause-faulted
 returns-clause-faulted g c =
     let comes = c.in_ok-faulted.ensures.comes in
     c.in_ok-faulted.ensures.faulted
     ∙ sym (faults comes.0 c.gather.new.seat.events c.gather.new.replies c.in-Ok-work.outputs.items
-    (numbers_in c.args.script.sessions.items) comes.1 comes.2 c.in-Ok-work.ensures.answered)
+    (numbers_in c.args.script.sessions.items) comes.2 comes.3 c.in-Ok-work.ensures.answered)

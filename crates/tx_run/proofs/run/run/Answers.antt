@@ -9,4 +9,4 @@ returns-clause-comes g c =
     let played = c.in_ok-played.played in
     let kept = rw c.in-Ok.is at c.in_ok-script.ensures.kept in
     comes_of_text g.L.Source.text (numbers_in script.sessions.items) (map (λ seed. seed.number) script.seeds.items)
-    played.seen.events played.replies kept c.in_ok-played.ensures.comes
+    script.bounds.items played.seen.events played.replies kept c.in_ok-played.ensures.comes

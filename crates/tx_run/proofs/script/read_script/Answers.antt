@@ -63,11 +63,12 @@ returns-in-End-clause-kept g c =
     let source = g.L.Source.text in
     let reading = c.loop-number.reading in
     let ends = rw c.in-End.is at c.in_ok-read_line.ensures.reads in
-    subst (λ s. KeepsText source (numbers_in s.sessions.items) (map (λ seed. seed.number) s.seeds.items))
+    subst (λ s. KeepsText source (numbers_in s.sessions.items) (map (λ seed. seed.number) s.seeds.items)
+    s.bounds.items)
     (sym c.into_script.ensures)
     (before_whole source (g.B.Read.remaining c.loop-number.reader) c.loop-number.number (get_by_text reading.indexes)
     (numbers_in reading.script.sessions.items) (map (λ seed. seed.number) reading.script.seeds.items)
-    c.loop-number.invariant.stands ends c.loop-number.invariant.sorted)
+    reading.script.bounds.items c.loop-number.invariant.stands ends c.loop-number.invariant.sorted)
 
 pub returns-in-Long-clause-fault : goal.returns-in-Long-clause-fault
 returns-in-Long-clause-fault g c =

@@ -1,6 +1,10 @@
-use Rattle.std.proofs.Common.{All}
-use Rattle.tx_run.specs.Answers.{IsReply}
+use Rattle.std.proofs.Common.{◌≡◌, ◌++◌, All, map, take}
+use Rattle.tx_run.specs.Answers.{IsReply, numbers_of}
 use Rattle.tx_run.proofs.seeds.play_seeds.Given as goal
 
 abbrev pub invariant-loop-line : goal.invariant-loop-line
-invariant-loop-line g l = All (λ s. IsReply s.answer) l.replies.items
+invariant-loop-line g l = record {
+  quiet : All (λ s. IsReply s.answer) l.replies.items;
+  each : numbers_of l.replies.items
+      ≡ numbers_of l.fn.replies.items ++ map (λ line. line.number) (take l.line-index l.seeds);
+}

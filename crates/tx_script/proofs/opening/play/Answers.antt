@@ -2,7 +2,7 @@ use Rattle.std.proofs.Common.{◌≡◌, List, refl, ap, subst, ◌∙◌}
 use Rattle.std.proofs.KnownBytes.{Keeps-refl}
 use Rattle.tx_types.specs.declared.key.Key.{Key}
 use Rattle.tx_text.specs.Lines.{lines_of}
-use Rattle.tx_script.specs.Play.{bounds_of}
+use Rattle.tx_evidence.specs.Lines.{bounds_of}
 use Rattle.tx_script.specs.Loops.{first_bounds, EndsAsked, BreaksAsked}
 use Rattle.tx_script.proofs.Scripts.{if_any_err}
 use Rattle.tx_script.proofs.Lines.{reads_ahead}

@@ -143,8 +143,8 @@ impl<F: Fresh> Sees for Chased<F> {
         self.cells.cells(alloc, key)
     }
 
-    fn number(&self, alloc: Global, key: &SpeltKey<'_>) -> Result<u64, Fault> {
-        self.cells.number(alloc, key)
+    fn number(&self, key: &SpeltKey<'_>) -> u64 {
+        self.cells.number(key)
     }
 }
 

@@ -1,9 +1,11 @@
 use Rattle.std.proofs.Common.{rules, ◌≡◌, ◌≢◌, inl, inr, length, refl, sym, ap, ◌∙◌, arith}
 use Rattle.tx_plan.specs.declared.answer.Answer.TheVariants.{Collected}
-use Rattle.tx_plan.specs.cases.Collect.{SomeLockBelow, long_values, leaves_collect}
+use Rattle.tx_plan.specs.cases.Collect.{SomeLockBelow, long_values}
 use Rattle.tx_plan.specs.Plans.{read_upto}
 use Rattle.tx_region.specs.Regions.{region_of}
 use Rattle.tx_region.proofs.records.Records.collect.Goals as goal
+use Rattle.tx_plan.specs.Answers.{leaves}
+use Rattle.tx_plan.specs.declared.body.Body.TheVariants as asked
 
 pub drop_below-requires : goal.drop_below-requires
 drop_below-requires g c = (let counts = c.in_ok-records.ensures.counts in (counts.0, counts.1, counts.2))
@@ -24,7 +26,7 @@ returns-clause-ok g c =
       answers = λ n. inr (at_safe, inr (unlocked, (counts.0, counts.1, a_is)));
       leaves = λ n.
           ap (λ r. region_of content record { alloc = dropped.alloc; families = dropped.families; safe = dropped.safe; collected = b.safe; taken = dropped.taken } (read_upto r n)) c.unread-2.ensures.1
-          ∙ ((λ i. record { cells = λ k. c.drop_below.ensures.cells k i; max_read = n; safe = c.drop_below.ensures.same.1 i; collected = b.safe }) ∙ ap (λ a. leaves_collect (before n) b a) (sym a_is));
+          ∙ ((λ i. record { cells = λ k. c.drop_below.ensures.cells k i; max_read = n; safe = c.drop_below.ensures.same.1 i; collected = b.safe }) ∙ ap (λ a. leaves (before n) (asked.Collect b) a) (sym a_is));
     }
 
 pub returns-clause-counts : goal.returns-clause-counts

@@ -21,8 +21,8 @@ bytes_if_stayed-requires g c =
       counted = number_low g.J.JournalId.bounds s.seat (g.F.Holds.content s.records.families) s.records.safe s.records.collected s.records.taken (g.F.Holds.numbers s.records.families) c.self.invariant (key_in c.body.result.now);
     }
 
-pub returns-in-Ok-None-clause-comes : goal.returns-in-Ok-None-clause-comes
-returns-in-Ok-None-clause-comes g c =
+pub returns-in-None-clause-comes : goal.returns-in-None-clause-comes
+returns-in-None-clause-comes g c =
     let bounds = g.J.JournalId.bounds in
     let content = g.F.Holds.content in
     let numbers = g.F.Holds.numbers in
@@ -41,8 +41,8 @@ returns-in-Ok-None-clause-comes g c =
     let is_key : key ≡ key_in q.body = ap key_in c.body.ensures.body in
     let changed : SameKey key (left plan.events s.seat.seat) (left s.seat.events s.seat.seat) → ⊥ = λ same.
     let stayed = key_stayed bounds s.seat (content s.records.families) s.records.safe s.records.collected s.records.taken (numbers s.records.families) c.self.invariant plan.events here inside.numbers inside.taken inside.loaded are key same in
-    let there : IsSome c.in-Ok-None.field-0 = c.in-Ok-None.ensures.stayed.1 stayed in
-    cc (rw c.in-Ok-None.field-0-is at there) in
+    let there : IsSome c.bytes_if_stayed.result = c.bytes_if_stayed.ensures.stayed.1 stayed in
+    cc (rw c.in-None.is at there) in
     let not_same : SameKey (key_in q.body) (left plan.events mid.seat) (left mid.events mid.seat) → ⊥ = subst (λ (x : Key × Known). SameKey x.0 (left plan.events x.1.seat) (left x.1.events x.1.seat) → ⊥) (λ i. (is_key i, c.self.view_is i)) changed in
     (refl, inl (not_before bounds old mid c.learn.ensures.same.0 c.learn.ensures.seen plan told q c.requires.of.0 not_same), c.learn.ensures.seen)
 
@@ -64,13 +64,13 @@ carry_plan-requires g c =
     let are : AreOf plan.events s.seat.seat inside.numbers inside.taken inside.loaded = subst (λ (x : PlanOf × ℕ). AreOf x.0.events x.1 inside.numbers inside.taken inside.loaded) (λ i. (view i, (ap (λ (p : PlanOf). p.region) view ∙ (c.requires.of.1 ∙ sym number)) i)) c.plan.invariant.0 in
     let key = key_in c.body.result.now in
     let is_key : key ≡ key_in q.body = ap key_in c.body.ensures.body in
-    let stayed : StayedKey (region_of content s.records 0) (numbers s.records.families key) inside.numbers inside.taken = c.in-Ok-Some.ensures.stayed.0 (rw c.in-Ok-Some.field-0-is refl) in
+    let stayed : StayedKey (region_of content s.records 0) (numbers s.records.families key) inside.numbers inside.taken = c.bytes_if_stayed.ensures.stayed.0 (rw c.in-Some.is refl) in
     let same_key = key_same bounds s.seat (content s.records.families) s.records.safe s.records.collected s.records.taken (numbers s.records.families) c.self.invariant plan.events here inside.numbers inside.taken inside.loaded are key stayed in
     let same : SameKey (key_in q.body) (left plan.events mid.seat) (left mid.events mid.seat) = subst (λ (x : Key × Known). SameKey x.0 (left plan.events x.1.seat) (left x.1.events x.1.seat)) (λ i. (is_key i, c.self.view_is i)) same_key in
     let of = c.requires.of.0 in
     let same_seat = c.learn.ensures.same.0 in
     record {
-      bytes = subst (λ (o : Option (List ℕ)). IfSome o (λ bytes. bytes ≡ key)) c.in-Ok-Some.field-0-is c.in-Ok-Some.ensures.bytes ∙ is_key;
+      bytes = subst (λ (o : Option (List ℕ)). IfSome o (λ bytes. bytes ≡ key)) c.in-Some.is c.bytes_if_stayed.ensures.bytes ∙ is_key;
       holds = subst (λ n. Holds bounds n q.body) (sym same_seat) c.requires.holds;
       of_key = of.of_key;
       knows = subst (λ (p : PlanOf). Knows q.by mid.events p.loaded.last) (sym view) (knows_mid bounds old mid same_seat c.learn.ensures.seen plan told q of);
@@ -78,8 +78,8 @@ carry_plan-requires g c =
       plan = subst (λ (p : PlanOf). IsPlan p.loaded.mark (left mid.events mid.seat) p.loaded.last q.body p.planned) (sym view) (plan_mid bounds old mid same_seat c.learn.ensures.seen plan told q of c.requires.of.1 same);
     }
 
-pub returns-in-Ok-Some-clause-comes : goal.returns-in-Ok-Some-clause-comes
-returns-in-Ok-Some-clause-comes g c =
+pub returns-in-Some-clause-comes : goal.returns-in-Some-clause-comes
+returns-in-Some-clause-comes g c =
     let bounds = g.J.JournalId.bounds in
     let content = g.F.Holds.content in
     let numbers = g.F.Holds.numbers in
@@ -96,7 +96,7 @@ returns-in-Ok-Some-clause-comes g c =
     let are : AreOf plan.events s.seat.seat inside.numbers inside.taken inside.loaded = subst (λ (x : PlanOf × ℕ). AreOf x.0.events x.1 inside.numbers inside.taken inside.loaded) (λ i. (view i, (ap (λ (p : PlanOf). p.region) view ∙ (c.requires.of.1 ∙ sym number)) i)) c.plan.invariant.0 in
     let key = key_in c.body.result.now in
     let is_key : key ≡ key_in q.body = ap key_in c.body.ensures.body in
-    let stayed : StayedKey (region_of content s.records 0) (numbers s.records.families key) inside.numbers inside.taken = c.in-Ok-Some.ensures.stayed.0 (rw c.in-Ok-Some.field-0-is refl) in
+    let stayed : StayedKey (region_of content s.records 0) (numbers s.records.families key) inside.numbers inside.taken = c.bytes_if_stayed.ensures.stayed.0 (rw c.in-Some.is refl) in
     let same_key = key_same bounds s.seat (content s.records.families) s.records.safe s.records.collected s.records.taken (numbers s.records.families) c.self.invariant plan.events here inside.numbers inside.taken inside.loaded are key stayed in
     let same : SameKey (key_in q.body) (left plan.events mid.seat) (left mid.events mid.seat) = subst (λ (x : Key × Known). SameKey x.0 (left plan.events x.1.seat) (left x.1.events x.1.seat)) (λ i. (is_key i, c.self.view_is i)) same_key in
     let comes = subst (λ (p : PlanOf). CarriesPlan bounds mid.seat mid.events c.carry_plan.new.self.events q p.loaded.last p.planned c.carry_plan.result) view c.carry_plan.ensures.comes in

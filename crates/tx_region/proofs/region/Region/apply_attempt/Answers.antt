@@ -39,8 +39,8 @@ carry_into-requires-clause-mark g c =
     let told : Begins plan.events mid.events = c.learn.ensures.told in
     mark_mid bounds old mid c.learn.ensures.same.0 c.learn.ensures.seen plan told q of.0
 
-pub returns-in-Ok-None-clause-comes : goal.returns-in-Ok-None-clause-comes
-returns-in-Ok-None-clause-comes g c =
+pub returns-in-None-clause-comes : goal.returns-in-None-clause-comes
+returns-in-None-clause-comes g c =
     let bounds = g.J.JournalId.bounds in
     let old = c.args.self.now in
     let mid = c.learn.new.self in
@@ -61,15 +61,15 @@ returns-in-Ok-None-clause-comes g c =
     let is_key : key ≡ key_in q.body = ap key_in c.body.ensures.body in
     let changed : SameKey key (left plan.events s.seat.seat) (left s.seat.events s.seat.seat) → ⊥ = λ same.
     let stayed = key_stayed bounds s.seat (content s.records.families) s.records.safe s.records.collected s.records.taken (numbers s.records.families) c.self.invariant plan.events here a.numbers a.taken a.loaded are key same in
-    let there : IsSome c.in-Ok-None.field-0 = c.in-Ok-None.ensures.stayed.1 stayed in
-    cc (rw c.in-Ok-None.field-0-is at there) in
+    let there : IsSome c.bytes_if_stayed.result = c.bytes_if_stayed.ensures.stayed.1 stayed in
+    cc (rw c.in-None.is at there) in
     let not_same : SameKey (key_in q.body) (left plan.events mid.seat) (left mid.events mid.seat) → ⊥ = subst (λ (x : Key × Known). SameKey x.0 (left plan.events x.1.seat) (left x.1.events x.1.seat) → ⊥) (λ i. (is_key i, c.self.view_is i)) changed in
     let comes : ComesIn bounds old.seat old.events mid.events q plan a.answer None = (refl, inl (not_before bounds old mid c.learn.ensures.same.0 c.learn.ensures.seen plan told q of.0 not_same), c.learn.ensures.seen) in
     let P : PlanOf → Type 0 = λ p. ComesIn bounds old.seat old.events mid.events q p a.answer None in
     subst (λ (t : Tried). IfSome t.plan P) c.attempt.view_is (if_plan (λ x. x.told) (λ x. x.bytes) a.region a.view a.numbers a.taken a.loaded P a.seen a.planned seen planned (sym c.in-Some.ensures.value) c.in-Some-planned.is comes)
 
-pub returns-clause-comes : goal.returns-clause-comes
-returns-clause-comes g c =
+pub returns-in-Some-bytes_if_stayed-clause-comes : goal.returns-in-Some-bytes_if_stayed-clause-comes
+returns-in-Some-bytes_if_stayed-clause-comes g c =
     let bounds = g.J.JournalId.bounds in
     let old = c.args.self.now in
     let mid = c.learn.new.self in
@@ -88,7 +88,7 @@ returns-clause-comes g c =
     let are : AreOf plan.events s.seat.seat a.numbers a.taken a.loaded = subst (λ n. AreOf plan.events n a.numbers a.taken a.loaded) (of.1 ∙ sym number) (are_there (λ x. x.told) (λ x. x.bytes) a.region a.view a.numbers a.taken a.loaded a.seen seen (sym c.in-Some.ensures.value) c.attempt.invariant) in
     let key = key_in c.body.result.now in
     let is_key : key ≡ key_in q.body = ap key_in c.body.ensures.body in
-    let stayed : StayedKey (region_of content s.records 0) (numbers s.records.families key) a.numbers a.taken = c.in-Ok-Some.ensures.stayed.0 (rw c.in-Ok-Some.field-0-is refl) in
+    let stayed : StayedKey (region_of content s.records 0) (numbers s.records.families key) a.numbers a.taken = c.bytes_if_stayed.ensures.stayed.0 (rw c.in-Some-bytes_if_stayed.is refl) in
     let same_key = key_same bounds s.seat (content s.records.families) s.records.safe s.records.collected s.records.taken (numbers s.records.families) c.self.invariant plan.events here a.numbers a.taken a.loaded are key stayed in
     let same : SameKey (key_in q.body) (left plan.events mid.seat) (left mid.events mid.seat) = subst (λ (x : Key × Known). SameKey x.0 (left plan.events x.1.seat) (left x.1.events x.1.seat)) (λ i. (is_key i, c.self.view_is i)) same_key in
     let now = c.carry_into.new.self.events in

@@ -2,7 +2,7 @@ use Rattle.std.proofs.Common.{inl, inr, refl, subst, ◌∙◌}
 use Rattle.std.specs.Prelude.{OnOk}
 use Rattle.tx_plan.specs.declared.body.Body.TheVariants as body
 use Rattle.tx_core.specs.Decisions.{fate_in}
-use Rattle.tx_core.specs.Shadow.{reading}
+use Rattle.tx_core.specs.EventSteps.{reading}
 use Rattle.tx_trace.specs.Logs.{Writes, Tells, Prewrites}
 use Rattle.tx_trace.proofs.Requests.{on_ok, Follow, get_adds, scan_adds, prewrite_adds, commit_adds, rollback_adds, beat_adds, check_adds, secondary_adds, resolve_adds, region_adds}
 use Rattle.tx_trace.proofs.log.TraceLog.took.Goals as goal

@@ -1,0 +1,163 @@
+//! Judging a history: its lines are read, and one line is written with the verdict.
+ghost use Rattle.std.specs.Prelude.{◌≡◌, ℕ, List, false, OnOk, OnErr, IfOk, IfErr, IfSome};
+ghost use Rattle.std.specs.Io.KnownBytes.{Appends};
+ghost use Rattle.tx_text.specs.Faults.{fault_words};
+ghost use Rattle.tx_text.specs.Lines.{lines_of};
+ghost use Rattle.tx_text.specs.Members.{reply_text};
+ghost use Rattle.tx_text.specs.Output.{AppendsPart};
+ghost use Rattle.tx_recording.specs.Recordings.{IsRecording};
+ghost use Rattle.tx_import.specs.Histories.{IsHistoryOf};
+ghost use Rattle.tx_answers.specs.Words.{verdict_text};
+ghost use Rattle.tx_answers.specs.Answers.{end_of, IsJudged, IsAnswer, Ends, Breaks};
+
+use crate::drawing::drawing;
+use crate::line::verdict_line;
+use crate::sentences::sentences;
+use std::alloc::Global;
+use std::io::{BufRead, Write};
+use tx_import::{History, LineFault, read_history};
+use tx_judge::judge;
+use tx_recording::Orders;
+use tx_text::{Broken, finish, put_fault, send};
+use tx_verdict::Verdict;
+
+/// What is asked of a history.
+#[derive(Clone, Copy, Debug, PartialEq, Eq)]
+pub struct ImportOptions {
+    pub orders: Orders,
+    /// Whether a cycle is drawn for Graphviz, in place of its line.
+    pub dot: bool,
+}
+
+/// How a verdict ends.
+#[derive(Clone, Copy, Debug, PartialEq, Eq)]
+pub enum ImportEnd {
+    Yes,
+    No,
+    /// Neither was found.
+    Open,
+    /// A line says no transaction, or gives a value to a key that was given it before.
+    Faulted,
+}
+
+/// What was answered.
+#[derive(Debug, Drop)]
+pub struct Answered {
+    pub end: ImportEnd,
+    /// Sentences that say why, each a line.
+    pub why: Vec<u8>,
+}
+
+// What is to be written, and how it ends.
+#[derive(Drop)]
+struct Answer {
+    text: Vec<u8>,
+    end: ImportEnd,
+    why: Vec<u8>,
+}
+
+fn end_of(verdict: &Verdict) -> ImportEnd
+    ensures { result ≡ end_of verdict.now }
+{
+    match verdict {
+        Verdict::Yes(_) => ImportEnd::Yes,
+        Verdict::No(_) | Verdict::Fact(_) => ImportEnd::No,
+        Verdict::Open(_) => ImportEnd::Open,
+        Verdict::Twice(..) => ImportEnd::Faulted,
+    }
+}
+
+// What is written of a verdict.
+fn answer_text(
+    alloc: Global,
+    history: &History,
+    verdict: &Verdict,
+    dot: bool,
+) -> Result<Vec<u8>, Broken>
+    ensures { IfOk result (λ text. dot ≡ false → text.items ≡ verdict_text history.now verdict.now) }
+{
+    match verdict {
+        Verdict::No(cycle) if dot => Ok(drawing(alloc, history, cycle)?),
+        _ => Ok(verdict_line(alloc, history, verdict)?),
+    }
+}
+
+// What is said of a history that was read.
+fn judged(alloc: Global, options: ImportOptions, history: &History) -> Result<Answer, Broken>
+    requires { IsRecording history.now.recording }
+    ensures { IfOk result (λ answer. options.dot ≡ false → (lines : List (List ℕ)) → IsHistoryOf lines history.now
+        → IsJudged options.orders lines answer.text.items answer.end) }
+{
+    let verdict = judge(alloc, &history.recording, options.orders)?;
+    let text = answer_text(alloc, history, &verdict, options.dot)?;
+    let why = sentences(alloc, history, &verdict)?;
+    let end = end_of(&verdict);
+    Ok(Answer { text, end, why })
+}
+
+// What is said of a fault.
+fn faulted(alloc: Global, fault: LineFault) -> Result<Answer, Broken>
+    ensures text { IfOk result (λ answer. answer.text.items ≡ reply_text (fault.number, fault_words fault.cause)) }
+    ensures end { IfOk result (λ answer. answer.end ≡ ImportEnd.Faulted) }
+{
+    let mut text = Vec::new(alloc);
+    put_fault(&mut text, fault.number, fault.cause)?;
+    Ok(Answer {
+        text,
+        end: ImportEnd::Faulted,
+        why: Vec::new(alloc),
+    })
+}
+
+// What is said of the lines.
+fn answer_of<R: BufRead>(
+    alloc: Global,
+    options: ImportOptions,
+    reader: &mut R,
+) -> Result<Answer, Broken>
+    ensures { IfOk result (λ answer. options.dot ≡ false → IfSome (R.remaining reader.old)
+        (λ input. IsAnswer options.orders (lines_of input) answer.text.items answer.end)) }
+{
+    match read_history(alloc, reader)? {
+        Ok(history) => judged(alloc, options, &history),
+        Err(fault) => faulted(alloc, fault),
+    }
+}
+
+// Writes a text and hands it on, or writes the first of it before a failure, which is `Output`.
+fn write_out<W: Write>(writer: &mut W, text: &[u8]) -> Result<(), Broken>
+    ensures all { OnOk result (Appends (W.contents writer.old) (W.contents writer.new) text.now) }
+    ensures part { OnErr result (AppendsPart (W.contents writer.old) (W.contents writer.new) text.now) }
+    ensures err { IfErr result (λ e. e ≡ Broken.Output) }
+{
+    send(writer, text)?;
+    finish(writer)
+}
+
+/// Judges a history, and writes one line: `["import","yes",{..}]`, `["import","no",..]`,
+/// `["import","open",keys]`, or `[n,"E16",cause]` with the first line that says no transaction.
+/// Nothing is written before all of it is known.
+///
+/// `Input` where a read failed, `Output` where a write or the flush failed, `Memory` where a
+/// growth was refused.
+pub fn import<R: BufRead, W: Write>(
+    alloc: Global,
+    options: ImportOptions,
+    reader: &mut R,
+    writer: &mut W,
+) -> Result<Answered, Broken>
+    // Not broken off, and with no drawing, it has written the line of a verdict on the recording of the
+    // lines, or of the first line that says no transaction, and nothing else.
+    ensures ends { IfOk result (λ answered. options.dot ≡ false → IfSome (R.remaining reader.old)
+        (λ input. Ends options.orders input (W.contents writer.old) (W.contents writer.new) answered.end)) }
+    // Broken off, it has written nothing, or where a write failed a beginning of that line.
+    ensures breaks { IfErr result (λ broken. options.dot ≡ false → IfSome (R.remaining reader.old)
+        (λ input. Breaks options.orders input (W.contents writer.old) (W.contents writer.new) broken)) }
+{
+    let answer = answer_of(alloc, options, reader)?;
+    write_out(writer, answer.text.as_slice())?;
+    Ok(Answered {
+        end: answer.end,
+        why: answer.why,
+    })
+}

@@ -1,0 +1,93 @@
+//! The words of an answer: names as they were read, and what the judge calls by words.
+ghost use Rattle.std.specs.Prelude.{◌≡◌, ◌++◌, OnOk};
+ghost use Rattle.serde_json.specs.Written.{compact_text};
+ghost use Rattle.tx_answers.specs.Words.{name_data, key_data, value_data, id_data, edge_word as word_of_edge, anomaly_word, rule_word as word_of_rule};
+
+use std::alloc::AllocError;
+use tx_history::Anomaly;
+use tx_import::{History, Name};
+use tx_text::{put_digits, put_string};
+use tx_verdict::{Edge, Rule};
+
+// Appends a name, as it was read.
+fn put_name(out: &mut Vec<u8>, name: &Name) -> Result<(), AllocError>
+    ensures { OnOk result (out.new.items ≡ out.old.items ++ compact_text (name_data name.now)) }
+{
+    match name {
+        Name::Text(key) => put_string(out, key.as_bytes()),
+        Name::Number(n) => put_digits(out, *n),
+    }
+}
+
+/// Appends the name of a key.
+pub(crate) fn put_key(out: &mut Vec<u8>, history: &History, key: u32) -> Result<(), AllocError>
+    ensures { OnOk result (out.new.items ≡ out.old.items ++ compact_text (key_data history.now key)) }
+{
+    match history.tables.keys.get(key as usize) {
+        Some(name) => put_name(out, name),
+        None => out.extend_from_slice(b"null"),
+    }
+}
+
+/// Appends the name of a value.
+pub(crate) fn put_value(out: &mut Vec<u8>, history: &History, value: u32) -> Result<(), AllocError>
+    ensures { OnOk result (out.new.items ≡ out.old.items ++ compact_text (value_data history.now value)) }
+{
+    match history.tables.values.get(value as usize) {
+        Some(value) => put_name(out, &value.name),
+        None => out.extend_from_slice(b"null"),
+    }
+}
+
+/// Appends the id of a transaction.
+pub(crate) fn put_id(out: &mut Vec<u8>, history: &History, txn: u32) -> Result<(), AllocError>
+    ensures { OnOk result (out.new.items ≡ out.old.items ++ compact_text (id_data history.now txn)) }
+{
+    match history.recording.transactions.get(txn as usize) {
+        Some(transaction) => put_digits(out, transaction.id),
+        None => out.extend_from_slice(b"null"),
+    }
+}
+
+/// The word of an edge.
+pub(crate) fn edge_word(edge: Edge) -> &'static str
+    ensures { result.now ≡ word_of_edge edge }
+{
+    match edge {
+        Edge::Ww => "ww",
+        Edge::Wr => "wr",
+        Edge::Rw => "rw",
+        Edge::So => "so",
+        Edge::Rt => "rt",
+    }
+}
+
+/// The name of the anomaly of a cycle.
+pub(crate) fn cycle_word(anomaly: Anomaly) -> &'static str
+    ensures { result.now ≡ anomaly_word anomaly }
+{
+    match anomaly {
+        Anomaly::G0 => "G0",
+        Anomaly::G1c => "G1c",
+        Anomaly::LostUpdate => "lost-update",
+        Anomaly::GSingle => "G-single",
+        Anomaly::LongFork => "long-fork",
+        Anomaly::GNonadjacent => "G-nonadjacent",
+    }
+}
+
+/// The name of what one transaction read that cannot be.
+pub(crate) fn rule_word(rule: Rule) -> &'static str
+    ensures { result.now ≡ word_of_rule rule }
+{
+    match rule {
+        Rule::Internal => "internal",
+        Rule::G1a => "G1a",
+        Rule::G1b => "G1b",
+        Rule::Unwritten => "unwritten",
+        Rule::Unrepeatable => "unrepeatable",
+        Rule::IncompatibleOrder => "incompatible-order",
+        Rule::Duplicate => "duplicate",
+        Rule::LostUpdate => "lost-update",
+    }
+}

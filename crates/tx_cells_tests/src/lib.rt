@@ -1,5 +1,0 @@
-//! The same scenarios on every representation of the families.
-#![tactic(auto)]
-
-#[cfg(test)]
-mod tests;

@@ -1,0 +1,87 @@
+//! Why a line of a history says no transaction.
+use crate::show::shown;
+use serde_json::Value;
+use std::alloc::{AllocError, Global};
+
+// Whether a value is a name: a string, or a whole number.
+fn is_name(value: &Value) -> bool {
+    match value.as_str() {
+        Some(text) => matches!(text.len(), 1..=512),
+        None => value.as_u64().is_some(),
+    }
+}
+
+// Whether a value is what a read may find.
+fn is_read(value: &Value) -> bool {
+    match value.as_array() {
+        Some(values) => values.iter().all(|value| is_name(value)),
+        None => value.is_null() || is_name(value),
+    }
+}
+
+// Whether a value is an operation.
+fn is_op(value: &Value) -> bool {
+    let Some(members) = value.as_array() else {
+        return false;
+    };
+    match members.as_slice() {
+        [word, key, found] => match word.as_str() {
+            Some("append" | "w") => is_name(key) && is_name(found),
+            Some("r") => is_name(key) && is_read(found),
+            _ => false,
+        },
+        _ => false,
+    }
+}
+
+// Why a transaction's operations are none.
+fn wrong_ops(alloc: Global, value: &Value) -> Result<Option<String>, AllocError> {
+    let Some(ops) = value.get("ops").and_then(Value::as_array) else {
+        return Ok(Some("the transaction has no list \"ops\"".to_string(alloc)?));
+    };
+    match ops.iter().find(|op| !is_op(op)) {
+        None => Ok(None),
+        Some(op) => {
+            let op = shown(alloc, op)?;
+            Ok(Some(format!(in alloc;
+                "{op} is no operation ([\"append\",key,value], [\"w\",key,value], [\"r\",key,values])"
+            )?))
+        }
+    }
+}
+
+// Whether a member is a whole number, null, or not there.
+fn is_number_or_none(value: &Value, name: &str) -> bool {
+    match value.get(name) {
+        None => true,
+        Some(found) => found.is_null() || found.as_u64().is_some(),
+    }
+}
+
+// The name of a member that is no number.
+fn wrong_number(value: &Value) -> Option<&'static str> {
+    'names: for name in ["id", "start", "end"] {
+        if !is_number_or_none(value, name) {
+            return Some(name);
+        }
+    }
+    None
+}
+
+/// Why a value says no transaction, where that can be said of the value alone.
+pub(crate) fn wrong_transaction(
+    alloc: Global,
+    value: &Value,
+) -> Result<Option<String>, AllocError> {
+    if !value.is_object() {
+        return Ok(Some("the line is no object".to_string(alloc)?));
+    }
+    let word = value.get("type").and_then(Value::as_str);
+    if !matches!(word, Some("ok" | "fail" | "info")) {
+        return Ok(Some("\"type\" is \"ok\", \"fail\" or \"info\"".to_string(alloc)?));
+    }
+    if let Some(name) = wrong_number(value) {
+        return Ok(Some(format!(in alloc; "\"{name}\" is no whole number below 2^64")?));
+    }
+    wrong_ops(alloc, value)
+}

@@ -1,0 +1,125 @@
+//! A script from its first byte to the picture of its run.
+ghost use Rattle.std.specs.Prelude.{◌≡◌, ◌≢◌, ℕ, List, Bool, map, IfOk, IfErr, IfSome};
+ghost use Rattle.std.specs.Io.KnownBytes.{Appends, Keeps};
+ghost use Rattle.tx_text.specs.Lines.{lines_of as lines_in};
+ghost use Rattle.tx_text.specs.Faults.{fault_words};
+ghost use Rattle.tx_text.specs.Members.{reply_text};
+ghost use Rattle.tx_evidence.specs.Lines.{bounds_of};
+ghost use Rattle.tx_script.specs.Play.{Played, IsPlay, render};
+ghost use Rattle.tx_played.specs.Played.{counts_of};
+ghost use Rattle.tx_explain.specs.Explained.{Explains};
+
+use std::alloc::Global;
+use std::io::{BufRead, ErrorKind, Write};
+use tx_cells::{Families, Makes};
+use tx_picture::text_of;
+use tx_played::{Watched, keys_of, lines_of, put_in, turns_of};
+use tx_script::{Broken, End, simulate};
+use tx_sheet::sheet_of;
+use tx_text::{finish, put_fault, send};
+use tx_types::{Cause, Key};
+
+// Reads all that is left.
+fn read_all<R: BufRead>(alloc: Global, reader: &mut R) -> Result<Vec<u8>, Broken>
+    ensures { IfOk result (λ text. IfSome (R.remaining reader.old) (λ input. text.items ≡ input)) }
+{
+    let mut text = Vec::new(alloc);
+    match reader.read_to_end(&mut text) {
+        Ok(_) => Ok(text),
+        Err(e) => if e.kind() == ErrorKind::OutOfMemory {
+            Err(Broken::Memory)
+        } else {
+            Err(Broken::Input)
+        },
+    }
+}
+
+// Plays a script: how it ended, and the text of its replies.
+fn play<F: Families + Drop, M: Makes<F>>(
+    alloc: Global,
+    make: &M,
+    script: &[u8],
+) -> Result<(End, Vec<u8>), Broken>
+    ensures { IfOk result (λ played. (refused : List Bool) × (p : Played)
+        × IsPlay (bounds_of (lines_in script.now)) refused (lines_in script.now) p
+        × (played.1.items ≡ render p.replies) × (played.0 ≡ p.ended)) }
+{
+    let mut written = Vec::new(alloc);
+    let mut reader = script;
+    let end = simulate::<F, M, _, _>(alloc, make, &mut reader, &mut written)?;
+    Ok((end, written))
+}
+
+// The picture of a script that was played, by the text of its replies.
+fn picture(
+    alloc: Global,
+    keys: &[Key],
+    lines: &[&[u8]],
+    watched: &Watched,
+    written: &[u8],
+) -> Result<String, Broken>
+    requires { watched.now.counts.items ≡ counts_of keys.now (map (λ line. line.now) lines.now) }
+{
+    let replies = lines_of(alloc, written)?;
+    let turns = turns_of(alloc, lines, watched.counts.as_slice(), replies.as_slice())?;
+    let sheet = sheet_of(alloc, keys, turns.as_slice())?;
+    Ok(text_of(alloc, &sheet)?)
+}
+
+// Writes a text, and hands on what the writer still holds back.
+fn write_all<W: Write>(writer: &mut W, text: &[u8]) -> Result<(), Broken>
+    ensures all { IfOk result (λ _. Appends (W.contents writer.old) (W.contents writer.new) text.now) }
+    ensures err { IfErr result (λ why. why ≡ Broken.Output) }
+{
+    send(writer, text)?;
+    finish(writer)
+}
+
+// Writes that a script has too many lines, with those that are put in.
+fn refuse<W: Write>(alloc: Global, writer: &mut W, number: u64) -> Result<End, Broken>
+    ensures all { IfOk result (λ end. (end ≡ End.Faulted)
+        × Appends (W.contents writer.old) (W.contents writer.new) (reply_text (number, fault_words Cause.Lines))) }
+    ensures kept { IfErr result (λ why. why ≢ Broken.Output → Keeps (W.contents writer.old) (W.contents writer.new)) }
+{
+    let mut text = Vec::new(alloc);
+    put_fault(&mut text, number, Cause::Lines)?;
+    write_all(writer, text.as_slice())?;
+    Ok(End::Faulted)
+}
+
+/// Plays a script as `simulate` does, with lines put in that show each key, and writes the picture
+/// of its run. Where these are more lines than a script may have, it is not played: the one line
+/// that is written is that fault.
+///
+/// `Input` where a read failed, `Output` where a write or the flush failed, `Memory` where a growth
+/// was refused outside of a step's own calls.
+pub fn explain<F: Families + Drop, M: Makes<F>, R: BufRead, W: Write>(
+    alloc: Global,
+    make: &M,
+    reader: &mut R,
+    writer: &mut W,
+) -> Result<End, Broken>
+    // Not broken off, it has written a text of the play, or that the script is too long.
+    ensures ends { IfOk result (λ end. IfSome (R.remaining reader.old)
+        (λ input. Explains (lines_in input) (W.contents writer.old) (W.contents writer.new) end)) }
+    // Broken off by anything but a write, it has written nothing.
+    ensures breaks { IfErr result (λ why. why ≢ Broken.Output → Keeps (W.contents writer.old) (W.contents writer.new)) }
+{
+    let text = read_all(alloc, reader)?;
+    let lines = lines_of(alloc, text.as_slice())?;
+    let keys = keys_of(alloc, lines.as_slice())?;
+    let watched = match put_in(alloc, keys.as_slice(), lines.as_slice())? {
+        Ok(watched) => watched,
+        Err(number) => return refuse(alloc, writer, number),
+    };
+    let (end, written) = play::<F, M>(alloc, make, watched.text.as_slice())?;
+    let shown = picture(
+        alloc,
+        keys.as_slice(),
+        lines.as_slice(),
+        &watched,
+        written.as_slice(),
+    )?;
+    write_all(writer, shown.as_bytes())?;
+    Ok(end)
+}

@@ -1,0 +1,5 @@
+pub mod Said
+pub mod Numbers
+pub mod Drafts
+pub mod Histories
+pub mod Turns

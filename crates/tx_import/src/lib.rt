@@ -1,0 +1,16 @@
+//! Histories of any store, as lines of JSON: what they say, and whether it is snapshot isolation.
+#![tactic(auto)]
+
+mod draft;
+mod line;
+mod members;
+mod name;
+mod names;
+mod reader;
+mod said;
+
+pub use draft::Tables;
+pub use name::Name;
+pub use names::{KeyedValue, Names, Values};
+pub use reader::{History, LineFault, read_history};
+pub use said::{SaidAct, SaidOp, SaidTransaction};

@@ -1,0 +1,52 @@
+//! What a line of a history says, by the names that it gives to keys and values.
+ghost use Rattle.std.specs.Prelude.{◌≡◌};
+ghost use Rattle.tx_import.specs.Drafts.{width};
+
+use crate::name::Name;
+use tx_recording::Outcome;
+use tx_types::Items;
+
+/// What an operation did with its key.
+#[derive(Debug, Drop)]
+pub enum SaidAct {
+    /// It put this value behind those that were there.
+    Append(Name),
+    /// It put this value in place of those that were there.
+    Write(Name),
+    /// It read these values.
+    Read(Items<Name>),
+}
+
+impl SaidAct {
+    /// How many values it read.
+    pub(crate) fn width(&self) -> usize
+        ensures { result ≡ width self.now }
+    {
+        match self {
+            SaidAct::Append(_) | SaidAct::Write(_) => 0,
+            SaidAct::Read(names) => names.as_slice().len(),
+        }
+    }
+}
+
+/// An operation.
+#[derive(Debug, Drop)]
+pub struct SaidOp {
+    pub key: Name,
+    pub act: SaidAct,
+}
+
+/// A transaction.
+#[derive(Debug, Drop)]
+pub struct SaidTransaction {
+    /// The number of its line, where the line gives it none.
+    pub id: u64,
+    pub outcome: Outcome,
+    /// Who ran it.
+    pub process: Option<Name>,
+    /// When it began by the recorder's clock.
+    pub began: Option<u64>,
+    /// When it ended by the recorder's clock.
+    pub ended: Option<u64>,
+    pub ops: Items<SaidOp>,
+}

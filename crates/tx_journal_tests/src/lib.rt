@@ -1,5 +1,0 @@
-//! Journals that threads share.
-#![tactic(auto)]
-
-#[cfg(test)]
-mod tests;

@@ -1,0 +1,206 @@
+//! The chains of all keys, in an order of what nobody saw.
+
+use crate::plan::{Chains, Follows, Plan, end_chain, take_from, take_list, take_put};
+use crate::puts::{Put, Puts, list_at, number, put_at};
+use std::alloc::{AllocError, Global};
+use tx_recording::Recording;
+use tx_verdict::Base;
+use tx_views::View;
+
+/// What chains are made of.
+#[derive(Drop)]
+pub(crate) struct Parts {
+    pub(crate) puts: Puts,
+    pub(crate) follows: Follows,
+    /// By key: the view with most values.
+    pub(crate) longest: Vec<Option<u32>>,
+}
+
+/// The puts of which nobody knows what they follow, by key.
+#[derive(Drop)]
+pub(crate) struct Extras {
+    first: Vec<Option<u32>>,
+    next: Vec<Option<u32>>,
+    /// By key: whether there are two or more.
+    pub(crate) many: Vec<bool>,
+}
+
+// Takes what is known of the order of a key.
+fn take_key(
+    chains: &mut Chains,
+    recording: &Recording,
+    views: &[View],
+    parts: &Parts,
+    key: u32,
+) -> Result<(), AllocError> {
+    let before = chains.plan.members.len();
+    if let Some(Some(view)) = parts.longest.get(key as usize) {
+        if (*view as usize) < views.len() {
+            let list = list_at(recording, views[*view as usize].span);
+            let by_value = parts.puts.by_value.as_slice();
+            take_list(chains, parts.puts.all.as_slice(), by_value, list, *view)?;
+        }
+    }
+    let start = chains.start(parts, before, key);
+    take_from(chains, parts.puts.all.as_slice(), &parts.follows, start)
+}
+
+// Notes a put that nothing is known of.
+fn note_extra(extras: &mut Extras, puts: &[Put], used: &[bool], place: u32) {
+    let Some(put) = puts.get(place as usize) else {
+        return;
+    };
+    if put.view.is_some() || used.get(place as usize) != Some(&false) {
+        return;
+    }
+    let Some(first) = extras.first.get(put.key as usize) else {
+        return;
+    };
+    let first = *first;
+    if first.is_some() {
+        put_at(extras.many.as_mut_slice(), put.key as usize, true);
+    }
+    put_at(extras.next.as_mut_slice(), place as usize, first);
+    put_at(extras.first.as_mut_slice(), put.key as usize, Some(place));
+}
+
+// The puts that nothing is known of, in an order.
+fn extras_of(
+    alloc: Global,
+    recording: &Recording,
+    puts: &[Put],
+    used: &[bool],
+    order: &[u32],
+) -> Result<Extras, AllocError> {
+    let mut extras = Extras {
+        first: vec![in alloc; None; recording.keys as usize]?,
+        next: vec![in alloc; None; puts.len()]?,
+        many: vec![in alloc; false; recording.keys as usize]?,
+    };
+    for i in 0..order.len() {
+        note_extra(&mut extras, puts, used, order[order.len() - 1 - i]);
+    }
+    Ok(extras)
+}
+
+// Takes the extras of a key into one chain, or each into its own.
+fn take_extras(
+    chains: &mut Chains,
+    parts: &Parts,
+    extras: &Extras,
+    key: u32,
+    apart: bool,
+) -> Result<(), AllocError> {
+    let Some(first) = extras.first.get(key as usize) else {
+        return Ok(());
+    };
+    let mut at = *first;
+    for _ in 0..parts.puts.all.len() {
+        let Some(place) = at else {
+            return Ok(());
+        };
+        take_from(
+            chains,
+            parts.puts.all.as_slice(),
+            &parts.follows,
+            Some(place),
+        )?;
+        if apart {
+            end_chain(&mut chains.plan, key)?;
+        }
+        at = extras.after(place);
+    }
+    Ok(())
+}
+
+impl Extras {
+    // The extra after one.
+    fn after(&self, place: u32) -> Option<u32> {
+        let next = self.next.get(place as usize)?;
+        *next
+    }
+
+    // Whether a key has two or more.
+    pub(crate) fn is_open(&self, key: u32) -> bool {
+        self.many.get(key as usize) == Some(&true)
+    }
+}
+
+// Takes the chain of each key: with its extras, where there is one, or where all are asked for.
+fn take_keys(
+    chains: &mut Chains,
+    recording: &Recording,
+    views: &[View],
+    parts: &Parts,
+    extras: &Extras,
+    all: bool,
+) -> Result<(), AllocError> {
+    for key in 0..recording.keys {
+        take_key(chains, recording, views, parts, key)?;
+        if all || !extras.is_open(key) {
+            take_extras(chains, parts, extras, key, false)?;
+        }
+        end_chain(&mut chains.plan, key)?;
+    }
+    Ok(())
+}
+
+// Takes the extras of open keys, each into a chain of its own.
+fn take_open(
+    chains: &mut Chains,
+    recording: &Recording,
+    parts: &Parts,
+    extras: &Extras,
+) -> Result<(), AllocError> {
+    for key in 0..recording.keys {
+        if extras.is_open(key) {
+            take_extras(chains, parts, extras, key, true)?;
+        }
+    }
+    Ok(())
+}
+
+// Takes what is left, each into a chain of its own.
+fn take_rest(chains: &mut Chains, puts: &[Put]) -> Result<(), AllocError> {
+    for place in 0..puts.len() {
+        if take_put(chains, puts, number(place), Base::Blind)? {
+            end_chain(&mut chains.plan, puts[place].key)?;
+        }
+    }
+    Ok(())
+}
+
+// Takes what is known of the order of each key. What was taken.
+fn known_puts(
+    alloc: Global,
+    recording: &Recording,
+    views: &[View],
+    parts: &Parts,
+) -> Result<Chains, AllocError> {
+    let mut chains = Chains::new(alloc, parts.puts.all.len())?;
+    for key in 0..recording.keys {
+        take_key(&mut chains, recording, views, parts, key)?;
+    }
+    Ok(chains)
+}
+
+/// The chains, with what nobody knows of in this order; and what nobody knows of.
+///
+/// Where not all is asked for, the chain of a key lacks what may come in two orders.
+pub(crate) fn plan_of(
+    alloc: Global,
+    recording: &Recording,
+    views: &[View],
+    parts: &Parts,
+    order: &[u32],
+    all: bool,
+) -> Result<(Plan, Extras), AllocError> {
+    let known = known_puts(alloc, recording, views, parts)?;
+    let puts = parts.puts.all.as_slice();
+    let extras = extras_of(alloc, recording, puts, known.used.as_slice(), order)?;
+    let mut chains = Chains::new(alloc, puts.len())?;
+    take_keys(&mut chains, recording, views, parts, &extras, all)?;
+    take_open(&mut chains, recording, parts, &extras)?;
+    take_rest(&mut chains, puts)?;
+    Ok((chains.plan, extras))
+}

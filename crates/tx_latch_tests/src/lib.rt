@@ -1,5 +1,0 @@
-//! Latches that are asked for, granted and released.
-#![tactic(auto)]
-
-#[cfg(test)]
-mod tests;

@@ -1,0 +1,9 @@
+//! Spellings of keys and records, timelines, and the same scenarios on both families.
+#![tactic(auto)]
+
+#[cfg(test)]
+mod cells;
+#[cfg(test)]
+mod codec;
+#[cfg(test)]
+mod timeline;

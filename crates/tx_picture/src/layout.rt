@@ -1,0 +1,209 @@
+//! A sheet as text.
+use crate::change::words_of;
+use std::alloc::{AllocError, Global};
+use tx_sheet::{KeyColumn, Row, Sending, Session, Sheet, places, put_number, shown};
+
+/// The widest that a column is, but for the two places between columns.
+const MAX_WIDTH: usize = 34;
+
+// A column of a sheet: what stands at its head, where it begins, and how wide it is.
+#[derive(Drop)]
+struct Column {
+    head: String,
+    begins: usize,
+    width: usize,
+}
+
+// Appends so many spaces.
+fn put_spaces(out: &mut String, count: usize) -> Result<(), AllocError> {
+    for _ in 0..count {
+        out.push(' ')?;
+    }
+    Ok(())
+}
+
+// Appends how a request was sent.
+fn put_sending(out: &mut String, row: &Row) -> Result<(), AllocError> {
+    match row.sending {
+        Sending::Plain | Sending::Delivered => Ok(()),
+        Sending::Lost => out.push_str(" [lost]"),
+        Sending::ReplyLost => out.push_str(" [reply lost]"),
+        Sending::Twice => out.push_str(" [twice]"),
+        Sending::Held => {
+            out.push_str(" [held as ")?;
+            out.push_str(row.held.as_str())?;
+            out.push(']')
+        }
+    }
+}
+
+// The entry of a row: its step, its delivery and what was replied.
+fn entry_of(alloc: Global, row: &Row) -> Result<String, AllocError> {
+    let mut entry = String::from_str(alloc, row.step.as_str())?;
+    put_sending(&mut entry, row)?;
+    if !row.answer.is_empty() {
+        entry.push_str(" -> ")?;
+        entry.push_str(row.answer.as_str())?;
+    }
+    Ok(entry)
+}
+
+// The entries of all rows.
+fn entries_of(alloc: Global, rows: &[Row]) -> Result<Vec<String>, AllocError> {
+    let mut entries = Vec::new(alloc);
+    'rows: for row in rows {
+        entries.push(entry_of(alloc, row)?)?;
+    }
+    Ok(entries)
+}
+
+// The width of the widest entry of a column.
+fn widest(rows: &[Row], entries: &[String], column: usize) -> usize {
+    let mut width = 0;
+    'rows: for (row, entry) in rows.iter().zip(entries) {
+        if row.column == Some(column) {
+            width = places(entry.as_str()).max(width);
+        }
+    }
+    width
+}
+
+fn column_of(
+    alloc: Global,
+    session: &Session,
+    begins: usize,
+    widest: usize,
+) -> Result<Column, AllocError> {
+    let head = shown(alloc, session.name.as_str())?;
+    let width = places(head.as_str()).max(widest).min(MAX_WIDTH) + 2;
+    Ok(Column {
+        head,
+        begins,
+        width,
+    })
+}
+
+// The columns of sessions, and where what changed begins.
+fn columns_of(
+    alloc: Global,
+    sheet: &Sheet,
+    entries: &[String],
+) -> Result<(Vec<Column>, usize), AllocError> {
+    let mut columns = Vec::new(alloc);
+    let mut begins = 0usize;
+    'sessions: for (place, session) in sheet.sessions.iter().enumerate() {
+        let width = widest(sheet.rows.as_slice(), entries, place);
+        let column = column_of(alloc, session, begins, width)?;
+        begins = begins.saturating_add(column.width);
+        columns.push(column)?;
+    }
+    Ok((columns, begins))
+}
+
+fn put_head(out: &mut String, columns: &[Column]) -> Result<(), AllocError> {
+    out.push_str("line  ")?;
+    'columns: for column in columns {
+        out.push_str(column.head.as_str())?;
+        put_spaces(
+            out,
+            column.width.saturating_sub(places(column.head.as_str())),
+        )?;
+    }
+    out.push_str("what changed\n")
+}
+
+// Appends the number of a line, in four places.
+fn put_line_number(out: &mut String, number: u64) -> Result<(), AllocError> {
+    let before = if number < 10 {
+        3
+    } else if number < 100 {
+        2
+    } else if number < 1000 {
+        1
+    } else {
+        0
+    };
+    put_spaces(out, before)?;
+    put_number(out, number)?;
+    out.push_str("  ")
+}
+
+// Where a row begins.
+fn begins(columns: &[Column], column: Option<usize>) -> Option<usize> {
+    Some(columns.get(column?)?.begins)
+}
+
+// Appends what changed, behind all columns or behind an entry that runs into them.
+fn put_changes(
+    out: &mut String,
+    end: usize,
+    total: usize,
+    changes: &str,
+) -> Result<(), AllocError> {
+    if changes.is_empty() {
+        return Ok(());
+    }
+    let between = if end < total { total - end } else { 2 };
+    put_spaces(out, between)?;
+    out.push_str(changes)
+}
+
+// Appends the reason of a refusal, under the entry.
+fn put_reason(out: &mut String, indent: usize, reason: &str) -> Result<(), AllocError> {
+    if reason.is_empty() {
+        return Ok(());
+    }
+    put_spaces(out, indent.saturating_add(6))?;
+    out.push_str("^ ")?;
+    out.push_str(reason)?;
+    out.push('\n')
+}
+
+// What stands around the rows.
+#[derive(Clone, Copy)]
+struct Frame<'a> {
+    keys: &'a [KeyColumn],
+    columns: &'a [Column],
+    total: usize,
+}
+
+impl Frame<'_> {
+    // Appends a row.
+    fn put_row(
+        &self,
+        alloc: Global,
+        out: &mut String,
+        number: u64,
+        row: &Row,
+        entry: &str,
+    ) -> Result<(), AllocError> {
+        let indent = begins(self.columns, row.column).unwrap_or(0);
+        put_line_number(out, number)?;
+        put_spaces(out, indent)?;
+        out.push_str(entry)?;
+        let end = indent.saturating_add(places(entry));
+        let changes = words_of(alloc, self.keys, row.changes.as_slice())?;
+        put_changes(out, end, self.total, changes.as_str())?;
+        out.push('\n')?;
+        put_reason(out, indent, row.reason.as_str())
+    }
+}
+
+/// The text of a sheet: a column a session, a line a step, and beside it what changed of keys.
+pub fn text_of(alloc: Global, sheet: &Sheet) -> Result<String, AllocError> {
+    let mut out = String::new(alloc);
+    let entries = entries_of(alloc, sheet.rows.as_slice())?;
+    let (columns, total) = columns_of(alloc, sheet, entries.as_slice())?;
+    let frame = Frame {
+        keys: sheet.keys.as_slice(),
+        columns: columns.as_slice(),
+        total,
+    };
+    put_head(&mut out, columns.as_slice())?;
+    let mut number = 0u64;
+    'rows: for (row, entry) in sheet.rows.iter().zip(entries.as_slice()) {
+        number = number.saturating_add(1);
+        frame.put_row(alloc, &mut out, number, row, entry.as_str())?;
+    }
+    Ok(out)
+}

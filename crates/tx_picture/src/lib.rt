@@ -1,0 +1,8 @@
+//! A played script as text: a column a session, a line a step, and beside it what changed of each
+//! key.
+#![tactic(auto)]
+
+mod change;
+mod layout;
+
+pub use layout::text_of;

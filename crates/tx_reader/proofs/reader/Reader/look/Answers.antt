@@ -1,0 +1,34 @@
+use Rattle.std.proofs.Common.{sym, subst}
+use Rattle.tx_core.specs.Allowed.{AllowsRead}
+use Rattle.tx_core.specs.Worlds.{IsWorldRun}
+use Rattle.tx_reader.specs.Readers.{Reading, OnlySees}
+use Rattle.tx_reader.proofs.Seeing.{sees_itself, learns_sees, keeps_learnt}
+use Rattle.tx_reader.proofs.reader.Reader.look.Goals as goal
+
+pub returns-in_default-clause-seat : goal.returns-in_default-clause-seat
+returns-in_default-clause-seat g c = sees_itself c.args.self.now.seat
+
+pub ask-requires-clause-allowed : goal.ask-requires-clause-allowed
+ask-requires-clause-allowed g c =
+    subst (λ (r : Reading). AllowsRead r.seat.events c.in-Ok.read.at c.in-Ok.read.bypass) (sym c.self.view_is)
+    c.in-Ok.ensures.2
+
+pub invariant_of-self : goal.invariant_of-self
+invariant_of-self g c =
+    keeps_learnt g.J.JournalId.bounds c.self.inside.seat c.ask.new.seat c.self.inside.at c.self.inside.passed
+    c.self.invariant c.ask.ensures.asked.reached c.ask.ensures.asked.learns
+
+pub returns-clause-seat : goal.returns-clause-seat
+returns-clause-seat g c =
+    subst (λ (r : Reading). OnlySees r.seat c.ask.new.seat) c.self.view_is
+    (learns_sees g.J.JournalId.bounds c.self.inside.seat c.ask.new.seat c.ask.ensures.asked.reached
+    c.ask.ensures.asked.learns)
+
+pub returns-in_default-clause-run : goal.returns-in_default-clause-run
+returns-in_default-clause-run g c =
+    subst (λ (r : Reading). IsWorldRun g.J.JournalId.bounds r.seat.events) c.self.view_is c.self.invariant.0
+
+pub returns-clause-run : goal.returns-clause-run
+returns-clause-run g c =
+    (keeps_learnt g.J.JournalId.bounds c.self.inside.seat c.ask.new.seat c.self.inside.at c.self.inside.passed
+    c.self.invariant c.ask.ensures.asked.reached c.ask.ensures.asked.learns).0

@@ -1,0 +1,165 @@
+//! Who reads at a timestamp.
+ghost use Rattle.std.specs.Prelude.{◌≡◌, IfOk};
+ghost use Rattle.tx_plan.specs.declared.body.Get.{Get as Asked};
+ghost use Rattle.tx_plan.specs.declared.body.Body.TheVariants as body;
+ghost use Rattle.tx_core.specs.Allowed.{AllowsRead};
+ghost use Rattle.tx_core.specs.Histories.{Begins};
+ghost use Rattle.tx_core.specs.Laws.{WasToldOf};
+ghost use Rattle.tx_core.specs.Worlds.{IsWorldRun};
+ghost use Rattle.tx_journal.specs.Senders.{IsWay};
+ghost use Rattle.tx_client.specs.Facts.{WasAnswered};
+ghost use Rattle.tx_reader.specs.Readers.{OnlySees, ReadsAt};
+
+use std::alloc::Global;
+use std::marker::Model;
+use tx_client::{Miss, Resolved, Response, Status, ask};
+use tx_core::{Answer, Body, Get, Starts};
+use tx_journal::{JournalId, Reply, Request, Seat, Sender};
+use tx_resolve::resolve;
+use tx_types::{Fault, Key, LockInfo, Ts};
+
+/// How many locks a read resolves at most.
+const LOCKS: u32 = 1_024;
+
+/// Who reads at a timestamp, which need not be fresh. It is no transaction: its seat records
+/// nothing. Contracts see what the seat knows, and the timestamp.
+#[derive(Drop)]
+pub struct Reader<J: JournalId> {
+    seat: Seat<J>,
+    at: Ts,
+    /// The transactions whose locks its reads pass by.
+    passed: Starts,
+}
+
+impl<J: JournalId> Model for Reader<J> {
+    ghost use Rattle.tx_core.specs.Allowed.{AllowsRead};
+    ghost use Rattle.tx_core.specs.Worlds.{IsWorldRun};
+    ghost use Rattle.tx_reader.specs.Readers.{Reading};
+
+    ghost Value = { Reading };
+
+    ghost view = { λ r. record { seat = r.seat; at = r.at } };
+
+    ghost invariant = { λ r. IsWorldRun J.bounds r.seat.events × AllowsRead r.seat.events r.at r.passed };
+}
+
+impl<J: JournalId> Reader<J> {
+    /// Who reads at this timestamp, by this seat.
+    pub fn new(alloc: Global, seat: Seat<J>, at: Ts) -> Reader<J>
+        ensures { result ≡ record { seat = seat; at = at } }
+    {
+        // For proofs: what the seat has seen is a world run.
+        let _number = seat.number();
+        Reader {
+            seat,
+            at,
+            passed: Starts::new(alloc),
+        }
+    }
+
+    /// Its seat.
+    pub fn into_seat(self) -> Seat<J>
+        ensures { result ≡ self.seat }
+    {
+        let Reader {
+            seat,
+            at: _,
+            passed: _,
+        } = self;
+        seat
+    }
+
+    // The read of a key.
+    fn read_of(&self, key: &Key) -> Result<Get, Fault>
+        ensures { IfOk result (λ b. (b.key ≡ key.now) × (b.at ≡ self.now.at) × AllowsRead self.now.seat.events b.at b.bypass) }
+    {
+        Ok(Get {
+            key: key.clone()?,
+            at: self.at,
+            bypass: self.passed.clone()?,
+        })
+    }
+
+    // Sends the read of a key, once.
+    fn look<S: Sender<Request<J>, Reply<J>>>(
+        &mut self,
+        key: &Key,
+        sender: &mut S,
+    ) -> Result<Answer, Miss>
+        requires way { IsWay J.bounds S.fits S.sends S.keys_between }
+        ensures at { self.new.at ≡ self.old.at }
+        ensures seat { OnlySees self.old.seat self.new.seat }
+        ensures run { IsWorldRun J.bounds self.new.seat.events }
+        ensures told { IfOk result (λ a. (b : Asked) × (b.key ≡ key.now) × (b.at ≡ self.old.at)
+            × WasAnswered self.new.seat.events (body.Get b) a) }
+    {
+        let Ok(read) = self.read_of(key) else {
+            return Err(Miss::Fault);
+        };
+        match ask(&mut self.seat, Body::Get(read), sender) {
+            Response::Lost => Err(Miss::Lost),
+            Response::OutOfMemory => Err(Miss::Fault),
+            Response::Answered(answer) => Ok(answer),
+        }
+    }
+
+    // Its reads pass by a transaction that leaves them alone, as a resolver found.
+    fn note(&mut self, found: Resolved<J>) -> Result<(), Miss>
+        requires told { Begins found.events self.old.seat.events }
+        ensures same { self.new ≡ self.old }
+    {
+        let (start, status, told) = found.into_parts();
+        drop(told);
+        if !status.lies_above(self.at) {
+            return Ok(());
+        }
+        match self.passed.push(start) {
+            Ok(()) => Ok(()),
+            Err(_) => Err(Miss::Fault),
+        }
+    }
+
+    // Has a lock resolved, as at this time: whether it is gone, or may be passed by.
+    fn pass<S: Sender<Request<J>, Reply<J>>>(
+        &mut self,
+        info: &LockInfo,
+        now: Ts,
+        sender: &mut S,
+    ) -> Result<bool, Miss>
+        requires way { IsWay J.bounds S.fits S.sends S.keys_between }
+        requires told { WasToldOf self.old.seat.events info.now }
+        ensures at { self.new.at ≡ self.old.at }
+        ensures seat { OnlySees self.old.seat self.new.seat }
+    {
+        let found = resolve(&mut self.seat, info, self.at, now, sender);
+        let waits = matches!(found.status(), Status::Waiting(_));
+        self.note(found)?;
+        Ok(!waits)
+    }
+
+    /// Reads a key. A lock in the way is resolved, as at the last timestamp that was drawn;
+    /// `KeyIsLocked` where it still stands there. It finds what the one-step machine sees.
+    pub fn get<S: Sender<Request<J>, Reply<J>>>(
+        &mut self,
+        key: &Key,
+        sender: &mut S,
+    ) -> Result<Answer, Miss>
+        requires way { IsWay J.bounds S.fits S.sends S.keys_between }
+        ensures at { self.new.at ≡ self.old.at }
+        ensures seat { OnlySees self.old.seat self.new.seat }
+        ensures finds { IfOk result (ReadsAt self.new.seat.events self.old.at key.now) }
+    {
+        let now = self.seat.last();
+        for _ in 0..LOCKS {
+            match self.look(key, sender)? {
+                Answer::KeyIsLocked(info) => {
+                    if !self.pass(&info, now, sender)? {
+                        return Ok(Answer::KeyIsLocked(info));
+                    }
+                }
+                answer => return Ok(answer),
+            }
+        }
+        self.look(key, sender)
+    }
+}

@@ -1,5 +1,0 @@
-//! Jobs side by side.
-#![tactic(auto)]
-
-#[cfg(test)]
-mod tests;

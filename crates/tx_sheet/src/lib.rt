@@ -1,0 +1,20 @@
+//! A played script as rows: each line's step and reply in words, the reason of a refusal, to which
+//! keys its request went, and what changed of each key. Rows are made of the script's lines and of
+//! the replies to them, and of nothing else.
+#![tactic(auto)]
+
+mod change;
+mod reason;
+mod reply;
+mod row;
+mod seen;
+mod sheet;
+mod step;
+mod walk;
+mod words;
+
+pub use change::is_same_lock;
+pub use row::{Change, KeyColumn, Row, RowKind, Sending, Session, Sheet};
+pub use seen::{Kind, SeenLock, SeenRecord};
+pub use sheet::sheet_of;
+pub use words::{places, put_number, put_stamp, shown};

@@ -1,0 +1,99 @@
+//! A script that was played, row by row: what a picture is made of.
+use crate::seen::{SeenLock, SeenRecord};
+
+/// What a line of the script is.
+#[derive(Clone, Copy, Debug, PartialEq, Eq)]
+pub enum RowKind {
+    /// A step.
+    Step,
+    /// The line that says the regions.
+    Regions,
+    /// No step.
+    Other,
+}
+
+/// How a request was sent.
+#[derive(Clone, Copy, Debug, PartialEq, Eq)]
+pub enum Sending {
+    /// It was taken, or nothing was sent.
+    Plain,
+    Lost,
+    ReplyLost,
+    Twice,
+    /// It is held under a name.
+    Held,
+    /// It was held under a name, and a copy of it is taken.
+    Delivered,
+}
+
+/// What changed of a key.
+#[derive(Drop)]
+pub struct Change {
+    /// Its place among the keys.
+    pub key: usize,
+    pub old_lock: Option<SeenLock>,
+    pub lock: Option<SeenLock>,
+    /// Write records that came, from the newest on.
+    pub came: Vec<SeenRecord>,
+    /// Write records that went, from the newest on.
+    pub went: Vec<SeenRecord>,
+}
+
+/// A line of the script that was played, and what came of it.
+#[derive(Drop)]
+pub struct Row {
+    pub kind: RowKind,
+    /// The column of its session; None where it is a step of no session.
+    pub column: Option<usize>,
+    /// The step, without its session and its delivery.
+    pub step: String,
+    pub sending: Sending,
+    /// The name under which its request is held, or was.
+    pub held: String,
+    /// What was replied; empty where that is only that it was done, or that its request was lost.
+    pub answer: String,
+    /// Why it was refused; empty where it was not.
+    pub reason: String,
+    /// The places of the keys to which its request went.
+    pub targets: Vec<usize>,
+    /// Whether it met a lock.
+    pub meets_lock: bool,
+    /// Whether it read a key.
+    pub reads: bool,
+    pub changes: Vec<Change>,
+}
+
+impl Row {
+    /// Whether it was refused.
+    pub fn is_refused(&self) -> bool {
+        !self.reason.is_empty()
+    }
+}
+
+/// A session of a script.
+#[derive(Drop)]
+pub struct Session {
+    pub name: String,
+    /// Where its transaction started.
+    pub start: Option<u64>,
+    /// The places of the keys that it has in its buffer.
+    pub buffer: Vec<usize>,
+}
+
+/// A key that a script names.
+#[derive(Drop)]
+pub struct KeyColumn {
+    /// Its name as it is shown.
+    pub name: String,
+    /// The place of its region.
+    pub region: usize,
+}
+
+/// A script that was played: its sessions in the order in which lines first name them, its keys in
+/// order, and a row a line.
+#[derive(Drop)]
+pub struct Sheet {
+    pub sessions: Vec<Session>,
+    pub keys: Vec<KeyColumn>,
+    pub rows: Vec<Row>,
+}

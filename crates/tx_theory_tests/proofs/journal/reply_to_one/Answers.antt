@@ -1,0 +1,16 @@
+use Rattle.std.proofs.Common.{◌≡◌, List, [], ◌∷◌, ap, ◌∙◌, arith}
+use Rattle.std.specs.Prelude.{slice_get, slice_index_or, Some}
+use Rattle.tx_theory_tests.proofs.journal.reply_to_one.Goals as goal
+
+-- the first of a list
+first_is : {X : Type 0} (xs : List X) (d x : X) → slice_get xs 0 ≡ Some x → slice_index_or xs 0 d ≡ x
+first_is [] d x e = absurd (cc (e))
+first_is (y ∷ ys) d x e = cc (e)
+
+-- the first seat is that of the first region
+pub ask-heard-requires : goal.ask-heard-requires
+ask-heard-requires g c =
+    let three = c.requires.three in
+    let first = c.in-Ok.ensures.seats 0 (omega arith) in
+    let same = c.swap_remove-region.ensures.value ∙ first_is c.in-Ok.seats.items c.swap_remove-region.result _ first in
+    (ap (λ k. k.seat) same, ap (λ k. k.events) same)

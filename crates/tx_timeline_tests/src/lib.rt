@@ -1,5 +1,0 @@
-//! What a timeline holds after each of its calls.
-#![tactic(auto)]
-
-#[cfg(test)]
-mod tests;

@@ -1,0 +1,11 @@
+pub mod Fitting
+pub mod Forcing
+pub mod Linking
+pub mod Texts
+pub mod Seeing
+pub mod Refuting
+pub mod Together
+pub mod Distinct
+pub mod Blocks
+pub mod Chaining
+pub mod Small

@@ -1,0 +1,21 @@
+-- By the view.
+use Rattle.std.proofs.Common.{◌≡◌, ℕ, ◌-◌, length, arith, ap, sym, subst, slice_index, ◌∙◌}
+use Rattle.std.proofs.lemmas.List.{get_or_read}
+use Rattle.std.proofs.lemmas.Grind.{common_steps}
+use Rattle.tx_verdict.specs.Forced.{key_of}
+use Rattle.tx_verdict.proofs.Chaining.{read_none, read_some}
+use Rattle.tx_verdict.proofs.forced.is_read.Goals as goal
+
+pub returns-then-version-eq0 : goal.returns-then-version-eq0
+returns-then-version-eq0 c is =
+    read_none c.args.recording.now c.args.versions.now c.args.read _
+    (get_or_read c.args.versions.now.names.items c.args.read.key c.index-key.result.now
+    (grind (arith, common_steps, c.if-read-len.false)) c.index-key.ensures 0)
+    c.if-version-eq0.true (c.sees_nothing.ensures is)
+
+pub returns : goal.returns
+returns c is =
+    read_some c.args.recording.now c.args.versions.now c.args.read _
+    (get_or_read c.args.versions.now.names.items c.args.read.key c.index-key.result.now
+    (grind (arith, common_steps, c.if-read-len.false)) c.index-key.ensures 0)
+    c.writers_of-writers.result.now c.writers_of-writers.ensures c.if-version-eq0.false (c.sees_writer.ensures is)

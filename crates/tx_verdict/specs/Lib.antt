@@ -1,0 +1,4 @@
+pub mod Fits
+pub mod Forced
+pub mod Versions
+pub mod Verdicts

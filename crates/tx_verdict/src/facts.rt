@@ -1,0 +1,286 @@
+//! What one transaction saw that nothing explains.
+ghost use Rattle.std.specs.Prelude.{◌≡◌, ℕ, ◌+◌, ◌<◌, ◌≤◌, length, Contains, IfOk, IfSome, IsTrue, slice_index};
+ghost use Rattle.tx_recording.specs.declared.recording.Outcome.TheVariants.{Fail as Failed};
+ghost use Rattle.tx_recording.specs.Recordings.{IsRecording, transaction_at, ops_of, list_of};
+ghost use Rattle.tx_recording.specs.Explanations.{PutsIn};
+ghost use Rattle.tx_views.specs.declared.view.View.{View};
+ghost use Rattle.tx_views.specs.Views.{IsViewOf};
+ghost use Rattle.tx_views.specs.Owners.{AreOwners};
+ghost use Rattle.tx_verdict.specs.Verdicts.{IsNever};
+
+use crate::fit::puts;
+use crate::forced::owner_of;
+use crate::verdict::{Fact, Rule};
+use crate::versions::Lost;
+use std::alloc::{AllocError, Global};
+use tx_recording::{Outcome, Recording};
+use tx_views::{Owner, View, effect_of, is_end};
+
+// A fact about a value of a view.
+fn fact_of(rule: Rule, view: View, value: u32, by: Option<u32>) -> Fact {
+    Fact {
+        rule,
+        txn: view.txn,
+        key: view.key,
+        value: Some(value),
+        by,
+    }
+}
+
+// Whether a transaction failed.
+fn is_failed(recording: &Recording, txn: u32) -> bool
+    ensures { IsTrue result → (transaction_at recording.now txn).outcome ≡ Failed }
+{
+    if txn as usize >= recording.transactions.len() {
+        return false;
+    }
+    match recording.transactions[txn as usize].outcome {
+        Outcome::Fail => true,
+        Outcome::Ok | Outcome::Info => false,
+    }
+}
+
+// What is wrong with a value that was seen, by who put it.
+fn wrong_value(
+    recording: &Recording,
+    owners: &[Option<Owner>],
+    view: View,
+    list: &[u32],
+    i: usize,
+) -> Option<Fact>
+    requires owners { AreOwners recording.now owners.now }
+    requires view { IsViewOf recording.now view }
+    requires list { list.now ≡ list_of recording.now view.span }
+    requires within { i < length list.now }
+    ensures { IfSome result (λ fact. IsNever recording.now) }
+{
+    let value = list[i];
+    let Some(owner) = owner_of(owners, value) else {
+        return Some(fact_of(Rule::Unwritten, view, value, None));
+    };
+    if is_failed(recording, owner.txn) {
+        return Some(fact_of(Rule::G1a, view, value, Some(owner.txn)));
+    }
+    if owner.txn == view.txn {
+        return Some(fact_of(Rule::Internal, view, value, None));
+    }
+    None
+}
+
+// What is wrong with the last value that was seen, since its transaction put another one behind it.
+fn wrong_last(
+    alloc: Global,
+    recording: &Recording,
+    owners: &[Option<Owner>],
+    view: View,
+    list: &[u32],
+) -> Result<Option<Fact>, AllocError>
+    requires recording { IsRecording recording.now }
+    requires owners { AreOwners recording.now owners.now }
+    requires view { IsViewOf recording.now view }
+    requires list { list.now ≡ list_of recording.now view.span }
+    ensures { IfOk result (λ found. IfSome found (λ fact. IsNever recording.now)) }
+{
+    let count = list.len();
+    if count == 0 {
+        return Ok(None);
+    }
+    let value = list[count - 1];
+    let Some(owner) = owner_of(owners, value) else {
+        return Ok(None);
+    };
+    if owner.txn as usize >= recording.transactions.len() {
+        return Ok(None);
+    }
+    let effect = effect_of(alloc, recording.ops_of(owner.txn as usize), view.key)?;
+    let own = effect.values.as_slice();
+    let puts = own.len();
+    if puts == 0 {
+        return Ok(None);
+    }
+    if own[puts - 1] == value {
+        return Ok(None);
+    }
+    Ok(Some(fact_of(Rule::G1b, view, value, Some(owner.txn))))
+}
+
+// What is wrong with what was seen.
+fn wrong_view(
+    alloc: Global,
+    recording: &Recording,
+    owners: &[Option<Owner>],
+    view: View,
+) -> Result<Option<Fact>, AllocError>
+    requires recording { IsRecording recording.now }
+    requires owners { AreOwners recording.now owners.now }
+    requires view { IsViewOf recording.now view }
+    ensures { IfOk result (λ found. IfSome found (λ fact. IsNever recording.now)) }
+{
+    let list = recording.list_of(view.span);
+    for i in 0..list.len() {
+        let found = wrong_value(recording, owners, view, list, i);
+        if found.is_some() {
+            return Ok(found);
+        }
+    }
+    wrong_last(alloc, recording, owners, view, list)
+}
+
+// What is wrong with a view beside another one of the same transaction.
+fn wrong_again(recording: &Recording, before: View, view: View) -> Option<Fact>
+    requires before { IsViewOf recording.now before }
+    requires view { IsViewOf recording.now view }
+    ensures { IfSome result (λ fact. IsNever recording.now) }
+{
+    if before.txn != view.txn {
+        return None;
+    }
+    if before.key != view.key {
+        return None;
+    }
+    if is_end(
+        recording.list_of(view.span),
+        recording.list_of(before.span),
+        0,
+    ) {
+        return None;
+    }
+    Some(Fact {
+        rule: Rule::Unrepeatable,
+        txn: view.txn,
+        key: view.key,
+        value: None,
+        by: None,
+    })
+}
+
+// The view that a table has of a key.
+fn view_before(views: &[View], table: &[Option<u32>], key: u32) -> Option<usize>
+    ensures { IfSome result (λ i. i < length views.now) }
+{
+    let Some(Some(place)) = table.get(key as usize) else {
+        return None;
+    };
+    let place = *place as usize;
+    if place < views.len() {
+        Some(place)
+    } else {
+        None
+    }
+}
+
+// Notes the view of a key in a table.
+fn note(table: &mut [Option<u32>], key: u32, view: usize) {
+    if (key as usize) < table.len() && view <= 0xffff_ffff {
+        table[key as usize] = Some(view as u32);
+    }
+}
+
+/// What is wrong with something that was seen, by itself or beside what its transaction saw before.
+pub fn wrong_views(
+    alloc: Global,
+    recording: &Recording,
+    owners: &[Option<Owner>],
+    views: &[View],
+) -> Result<Option<Fact>, AllocError>
+    requires recording { IsRecording recording.now }
+    requires owners { AreOwners recording.now owners.now }
+    requires views { (v : View) → Contains views.now v → IsViewOf recording.now v }
+    ensures { IfOk result (λ found. IfSome found (λ fact. IsNever recording.now)) }
+{
+    let mut table = vec![in alloc; None; recording.keys as usize]?;
+    for i in 0..views.len() {
+        let view = views[i];
+        let found = wrong_view(alloc, recording, owners, view)?;
+        if found.is_some() {
+            return Ok(found);
+        }
+        let found = match view_before(views, table.as_slice(), view.key) {
+            Some(before) => wrong_again(recording, views[before], view),
+            None => None,
+        };
+        if found.is_some() {
+            return Ok(found);
+        }
+        note(table.as_mut_slice(), view.key, i);
+    }
+    Ok(None)
+}
+
+// Whether two views are of the same value, or of none.
+fn is_same(recording: &Recording, one: View, other: View) -> bool
+    requires one { IsViewOf recording.now one }
+    requires other { IsViewOf recording.now other }
+    ensures { IsTrue result → list_of recording.now one.span ≡ list_of recording.now other.span }
+{
+    is_end(
+        recording.list_of(one.span),
+        recording.list_of(other.span),
+        0,
+    )
+}
+
+/// Two transactions that saw the same in a key, and both put something there.
+pub fn wrong_update(
+    recording: &Recording,
+    owners: &[Option<Owner>],
+    views: &[View],
+    lost: Lost,
+) -> Option<Fact>
+    requires recording { IsRecording recording.now }
+    requires owners { AreOwners recording.now owners.now }
+    requires views { (v : View) → Contains views.now v → IsViewOf recording.now v }
+    ensures { IfSome result (λ fact. IsNever recording.now) }
+{
+    let first = lost.first as usize;
+    if first >= views.len() {
+        return None;
+    }
+    let second = lost.second as usize;
+    if second >= views.len() {
+        return None;
+    }
+    let one = views[first];
+    let other = views[second];
+    let count = recording.transactions.len();
+    if one.txn as usize >= count {
+        return None;
+    }
+    if other.txn as usize >= count {
+        return None;
+    }
+    if one.txn == other.txn {
+        return None;
+    }
+    if one.key != other.key {
+        return None;
+    }
+    if !is_same(recording, one, other) {
+        return None;
+    }
+    let first_puts = is_update(recording, one);
+    if !first_puts {
+        return None;
+    }
+    let second_puts = is_update(recording, other);
+    if !second_puts {
+        return None;
+    }
+    Some(Fact {
+        rule: Rule::LostUpdate,
+        txn: other.txn,
+        key: other.key,
+        value: None,
+        by: Some(one.txn),
+    })
+}
+
+// Whether the transaction of a view puts into its key, and is known to have committed.
+fn is_update(recording: &Recording, view: View) -> bool
+    requires recording { IsRecording recording.now }
+    requires view { IsViewOf recording.now view }
+    requires within { view.txn < length recording.now.transactions.items }
+    ensures { IsTrue result → (v : ℕ) × PutsIn (ops_of recording.now view.txn) view.key v }
+{
+    puts(recording.ops_of(view.txn as usize), view.key)
+}
