@@ -1,5 +1,5 @@
 use Rattle.std.proofs.Common.{◌≡◌, ℕ, Some, slice_get, vec_len}
-use Rattle.tx_sched_tests.specs.declared.tests.Count.{Count}
+use Rattle.tx_lines_tests.specs.declared.sched.Count.{Count}
 use Rattle.tx_lines_tests.proofs.sched.jobs_of.Given as goal
 
 abbrev pub invariant-loop-slot : goal.invariant-loop-slot
