@@ -1,3 +1,4 @@
 -- What the proofs of this crate share.
 pub mod ByteOrder
 pub mod Parts
+pub mod Fronts

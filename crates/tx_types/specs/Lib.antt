@@ -1,3 +1,4 @@
+pub mod Fronts
 pub mod Keys
 pub mod Kinds
 pub mod Lengths

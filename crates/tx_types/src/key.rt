@@ -6,6 +6,7 @@ ghost use Rattle.std.specs.Cmp.Lexicographic.{pointwise, slice_cmp, nat_list_eq_
 ghost use Rattle.std.specs.Cmp.{partial_equiv_from_equiv};
 ghost use Rattle.std.specs.Cmp.Rules.{hashing};
 ghost use Rattle.std.proofs.Common.{rules};
+ghost use Rattle.tx_types.specs.Fronts.{AreBytes, front};
 ghost use Rattle.tx_types.specs.Lengths.{IsKey, is_key as key_test};
 
 use crate::fault::Fault;
@@ -24,6 +25,13 @@ pub fn is_key(bytes: &[u8]) -> bool
     ensures { result ≡ key_test bytes.now }
 {
     bytes.len() >= MIN_KEY_BYTES && bytes.len() <= MAX_KEY_BYTES
+}
+
+// For proofs: each number of a slice of bytes is a byte.
+fn know_bytes(bytes: &[u8])
+    ensures { AreBytes bytes.now }
+{
+    let _ = bytes;
 }
 
 /// A key of 1 to 512 bytes, ordered as its bytes are. A copy of a long one shares them.
@@ -76,6 +84,15 @@ impl Key {
         self.text.first_eight()
     }
 
+    /// The number that its first eight bytes spell, where zeros stand behind them.
+    pub fn front(&self) -> u64
+        ensures value { result ≡ front self.now }
+        ensures bytes { AreBytes self.now }
+    {
+        know_bytes(self.as_bytes());
+        u64::from_be_bytes(self.first_eight())
+    }
+
     /// A copy, which shares its bytes where they are many.
     pub fn clone(&self) -> Result<Key, Fault>
         ensures ok { IfOk result (λ copy. copy ≡ self.now) }
@@ -124,7 +141,16 @@ impl Ord for Key {
 
     ghost matches_eq = { texts_ties };
 
+    // Mostly the first eight bytes decide.
     fn cmp(&self, other: &Key) -> Ordering {
+        let front = self.front();
+        let others = other.front();
+        if front > others {
+            return Ordering::Greater;
+        }
+        if front < others {
+            return Ordering::Less;
+        }
         order(self.as_bytes(), other.as_bytes())
     }
 }

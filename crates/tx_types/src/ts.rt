@@ -86,8 +86,15 @@ impl Ord for Ts {
 
     ghost matches_eq = { unsigned_ties };
 
+    // The greater comes first: a search that goes on while it is greater is then one test a key.
     fn cmp(&self, other: &Ts) -> Ordering {
-        self.ticks.cmp(&other.ticks)
+        if self.ticks > other.ticks {
+            Ordering::Greater
+        } else if self.ticks == other.ticks {
+            Ordering::Equal
+        } else {
+            Ordering::Less
+        }
     }
 }
 
