@@ -1,6 +1,6 @@
 -- The words of what is said of a history. Transactions are told by their ids, keys and values by their
 -- names.
-use Rattle.std.specs.Prelude.{ℕ, ◌+◌, List, codes, map, length, Option, Some, None, slice_get, option_map}
+use Rattle.std.specs.Prelude.{ℕ, ◌+◌, ◌++◌, List, codes, map, length, Option, Some, None, slice_get, option_map}
 use Rattle.serde_json.specs.Data.{Data, Items, no_items, item, Members, no_members, member, number, unsigned, string, null, array, object}
 use Rattle.serde_json.specs.View.{items_of}
 use Rattle.tx_types.specs.declared.fault.Cause.TheVariants.{Form}
@@ -11,6 +11,8 @@ use Rattle.tx_history.specs.declared.anomaly.Anomaly.{Anomaly}
 use Rattle.tx_history.specs.declared.anomaly.Anomaly.TheVariants.{G0, G1c, LostUpdate, GSingle, LongFork, GNonadjacent}
 use Rattle.tx_verdict.specs.declared.verdict.Edge.{Edge}
 use Rattle.tx_verdict.specs.declared.verdict.Edge.TheVariants.{Ww, Wr, Rw, So, Rt}
+use Rattle.tx_verdict.specs.declared.verdict.Beside.{Beside}
+use Rattle.tx_verdict.specs.declared.verdict.Beside.TheVariants.{Nothing, Processes, Clock}
 use Rattle.tx_verdict.specs.declared.verdict.CycleStep.{CycleStep}
 use Rattle.tx_verdict.specs.declared.verdict.Cycle.{Cycle}
 use Rattle.tx_verdict.specs.declared.verdict.Rule.{Rule}
@@ -72,6 +74,15 @@ anomaly_word GSingle = codes "G-single"
 anomaly_word LongFork = codes "long-fork"
 anomaly_word GNonadjacent = codes "G-nonadjacent"
 
+-- which order a cycle needs beside those of reads and writes
+abbrev pub beside_word : Beside → List ℕ
+beside_word Nothing = codes ""
+beside_word Processes = codes "-process"
+beside_word Clock = codes "-realtime"
+
+abbrev pub cycle_word : Cycle → List ℕ
+cycle_word c = anomaly_word c.anomaly ++ beside_word c.beside
+
 -- the name of what one transaction read that cannot be
 abbrev pub rule_word : Rule → List ℕ
 rule_word rule.Internal = codes "internal"
@@ -104,7 +115,7 @@ yes_members h = member (codes "transactions") (number (unsigned (length h.record
 -- the line of a verdict: of a value that is given twice, the fault of the line that does so the second time
 abbrev pub verdict_text : History → Verdict → List ℕ
 verdict_text h (verdict.Yes t) = line_text (answer_words (codes "yes") (item (object (yes_members h)) no_items))
-verdict_text h (verdict.No c) = line_text (answer_words (codes "no") (item (string (anomaly_word c.anomaly))
+verdict_text h (verdict.No c) = line_text (answer_words (codes "no") (item (string (cycle_word c))
     (item (array (items_of (map (step_data h) c.steps.items))) no_items)))
 verdict_text h (verdict.Fact f) = line_text (answer_words (codes "no") (item (string (rule_word f.rule))
     (item (object (fact_members h f)) no_items)))

@@ -52,7 +52,7 @@ pub(crate) fn drawing(
 ) -> Result<Vec<u8>, AllocError> {
     let mut out = Vec::new(alloc);
     out.extend_from_slice(b"digraph \"")?;
-    out.extend_from_slice(cycle_word(cycle.anomaly).as_bytes())?;
+    out.extend_from_slice(cycle_word(cycle).as_bytes())?;
     out.extend_from_slice(b"\" {\n")?;
     for step in cycle.steps.as_slice() {
         put_edge(alloc, &mut out, history, *step)?;

@@ -4,11 +4,10 @@ ghost use Rattle.serde_json.specs.Data.{array, object, string, item, no_items};
 ghost use Rattle.serde_json.specs.View.{items_of};
 ghost use Rattle.serde_json.specs.Written.{compact_text};
 ghost use Rattle.tx_text.specs.Texts.{line_text, members_text};
-ghost use Rattle.tx_answers.specs.Words.{step_data, key_data, known_key, known_value, known_id, fact_members, yes_members, answer_words, anomaly_word, edge_word as word_of_edge, rule_word as word_of_rule, verdict_text};
+ghost use Rattle.tx_answers.specs.Words.{step_data, key_data, known_key, known_value, known_id, fact_members, yes_members, answer_words, cycle_word as word_of_cycle, edge_word as word_of_edge, rule_word as word_of_rule, verdict_text};
 
 use crate::words::{cycle_word, edge_word, put_id, put_key, put_value, rule_word};
 use std::alloc::{AllocError, Global};
-use tx_history::Anomaly;
 use tx_import::History;
 use tx_text::{put_digits, put_fault, put_string};
 use tx_types::Cause;
@@ -32,10 +31,10 @@ fn put_edge(out: &mut Vec<u8>, edge: Edge) -> Result<(), AllocError>
 }
 
 // Appends the name of the anomaly of a cycle.
-fn put_anomaly(out: &mut Vec<u8>, anomaly: Anomaly) -> Result<(), AllocError>
-    ensures { OnOk result (out.new.items ≡ out.old.items ++ compact_text (string (anomaly_word anomaly))) }
+fn put_anomaly(out: &mut Vec<u8>, cycle: &Cycle) -> Result<(), AllocError>
+    ensures { OnOk result (out.new.items ≡ out.old.items ++ compact_text (string (word_of_cycle cycle.now))) }
 {
-    put_string(out, cycle_word(anomaly).as_bytes())
+    put_string(out, cycle_word(cycle).as_bytes())
 }
 
 // Appends the name of what one transaction read that cannot be.
@@ -171,11 +170,11 @@ fn put_yes(out: &mut Vec<u8>, history: &History) -> Result<(), AllocError>
 #[tactic(auto, unfolding(json::specs::Print::escape_byte))]
 fn put_cycle(out: &mut Vec<u8>, history: &History, cycle: &Cycle) -> Result<(), AllocError>
     ensures { OnOk result (out.new.items ≡ out.old.items ++ line_text (answer_words (codes "no")
-        (item (string (anomaly_word cycle.now.anomaly))
+        (item (string (word_of_cycle cycle.now))
         (item (array (items_of (map (step_data history.now) cycle.now.steps.items))) no_items)))) }
 {
     out.extend_from_slice(b"[\"import\",\"no\",")?;
-    put_anomaly(out, cycle.anomaly)?;
+    put_anomaly(out, cycle)?;
     out.extend_from_slice(b",")?;
     put_steps(out, history, cycle.steps.as_slice())?;
     out.extend_from_slice(b"]\n")

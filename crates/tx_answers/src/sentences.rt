@@ -89,7 +89,7 @@ impl<'a> Sentence<'a> {
         self.key_in(" in ", fact.key, "")?;
         match fact.rule {
             Rule::G1a => self.other(", which was put by ", fact.by, " that failed\n"),
-            Rule::G1b => self.other(", behind which one more was put by ", fact.by, "\n"),
+            Rule::G1b => self.other(", and not all as it was left there by ", fact.by, "\n"),
             Rule::Duplicate => self.say(" twice\n"),
             _ => self.say(", which nobody put there\n"),
         }

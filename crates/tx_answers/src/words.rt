@@ -1,13 +1,13 @@
 //! The words of an answer: names as they were read, and what the judge calls by words.
 ghost use Rattle.std.specs.Prelude.{◌≡◌, ◌++◌, OnOk};
 ghost use Rattle.serde_json.specs.Written.{compact_text};
-ghost use Rattle.tx_answers.specs.Words.{name_data, key_data, value_data, id_data, edge_word as word_of_edge, anomaly_word, rule_word as word_of_rule};
+ghost use Rattle.tx_answers.specs.Words.{name_data, key_data, value_data, id_data, edge_word as word_of_edge, anomaly_word, beside_word, cycle_word as word_of_cycle, rule_word as word_of_rule};
 
 use std::alloc::AllocError;
 use tx_history::Anomaly;
 use tx_import::{History, Name};
 use tx_text::{put_digits, put_string};
-use tx_verdict::{Edge, Rule};
+use tx_verdict::{Beside, Cycle, Edge, Rule};
 
 // Appends a name, as it was read.
 fn put_name(out: &mut Vec<u8>, name: &Name) -> Result<(), AllocError>
@@ -62,9 +62,9 @@ pub(crate) fn edge_word(edge: Edge) -> &'static str
     }
 }
 
-/// The name of the anomaly of a cycle.
-pub(crate) fn cycle_word(anomaly: Anomaly) -> &'static str
-    ensures { result.now ≡ anomaly_word anomaly }
+// The name of an anomaly by reads and writes alone.
+fn anomaly_name(anomaly: Anomaly) -> &'static str
+    ensures { result.now ≡ anomaly_word anomaly ++ beside_word Beside.Nothing }
 {
     match anomaly {
         Anomaly::G0 => "G0",
@@ -73,6 +73,45 @@ pub(crate) fn cycle_word(anomaly: Anomaly) -> &'static str
         Anomaly::GSingle => "G-single",
         Anomaly::LongFork => "long-fork",
         Anomaly::GNonadjacent => "G-nonadjacent",
+    }
+}
+
+// The name of an anomaly that needs the order of a process.
+fn process_name(anomaly: Anomaly) -> &'static str
+    ensures { result.now ≡ anomaly_word anomaly ++ beside_word Beside.Processes }
+{
+    match anomaly {
+        Anomaly::G0 => "G0-process",
+        Anomaly::G1c => "G1c-process",
+        Anomaly::LostUpdate => "lost-update-process",
+        Anomaly::GSingle => "G-single-process",
+        Anomaly::LongFork => "long-fork-process",
+        Anomaly::GNonadjacent => "G-nonadjacent-process",
+    }
+}
+
+// The name of an anomaly that needs the order of the clock.
+fn clock_name(anomaly: Anomaly) -> &'static str
+    ensures { result.now ≡ anomaly_word anomaly ++ beside_word Beside.Clock }
+{
+    match anomaly {
+        Anomaly::G0 => "G0-realtime",
+        Anomaly::G1c => "G1c-realtime",
+        Anomaly::LostUpdate => "lost-update-realtime",
+        Anomaly::GSingle => "G-single-realtime",
+        Anomaly::LongFork => "long-fork-realtime",
+        Anomaly::GNonadjacent => "G-nonadjacent-realtime",
+    }
+}
+
+/// The name of the anomaly of a cycle, with the order that it needs beside those of reads and writes.
+pub(crate) fn cycle_word(cycle: &Cycle) -> &'static str
+    ensures { result.now ≡ word_of_cycle cycle.now }
+{
+    match cycle.beside {
+        Beside::Nothing => anomaly_name(cycle.anomaly),
+        Beside::Processes => process_name(cycle.anomaly),
+        Beside::Clock => clock_name(cycle.anomaly),
     }
 }
 

@@ -159,6 +159,7 @@ fn no_versions(
         bases: Vec::new(alloc),
         shown: lives.shown.clone()?,
         live: lives.live.clone()?,
+        times: Vec::new(alloc),
     })
 }
 

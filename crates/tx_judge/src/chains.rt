@@ -23,6 +23,8 @@ pub(crate) struct Extras {
     next: Vec<Option<u32>>,
     /// By key: whether there are two or more.
     pub(crate) many: Vec<bool>,
+    /// By key: one that follows what another one follows in the order that is known.
+    left: Vec<Option<u32>>,
 }
 
 // Takes what is known of the order of a key.
@@ -76,6 +78,7 @@ fn extras_of(
         first: vec![in alloc; None; recording.keys as usize]?,
         next: vec![in alloc; None; puts.len()]?,
         many: vec![in alloc; false; recording.keys as usize]?,
+        left: vec![in alloc; None; recording.keys as usize]?,
     };
     for i in 0..order.len() {
         note_extra(&mut extras, puts, used, order[order.len() - 1 - i]);
@@ -113,7 +116,26 @@ fn take_extras(
     Ok(())
 }
 
+// Notes of each key a put that is not used yet.
+fn note_left(extras: &mut Extras, puts: &[Put], used: &[bool]) {
+    for place in 0..puts.len() {
+        if used.get(place) == Some(&false) {
+            put_at(
+                extras.left.as_mut_slice(),
+                puts[place].key as usize,
+                Some(number(place)),
+            );
+        }
+    }
+}
+
 impl Extras {
+    // The put of a key that is left.
+    fn left_of(&self, key: u32) -> Option<u32> {
+        let left = self.left.get(key as usize)?;
+        *left
+    }
+
     // The extra after one.
     fn after(&self, place: u32) -> Option<u32> {
         let next = self.next.get(place as usize)?;
@@ -124,9 +146,20 @@ impl Extras {
     pub(crate) fn is_open(&self, key: u32) -> bool {
         self.many.get(key as usize) == Some(&true)
     }
+
+    // The transactions of the first two of a key, where it has two.
+    pub(crate) fn pair_of(&self, puts: &[Put], key: u32) -> Option<(u32, u32)> {
+        let first = self.first.get(key as usize)?;
+        let one = (*first)?;
+        let other = self.after(one)?;
+        let one = puts.get(one as usize)?;
+        let other = puts.get(other as usize)?;
+        Some((one.txn, other.txn))
+    }
 }
 
-// Takes the chain of each key: with its extras, where there is one, or where all are asked for.
+// Takes the chain of each key: with the put that is left, else with its extras, where there is one, or
+// where all are asked for.
 fn take_keys(
     chains: &mut Chains,
     recording: &Recording,
@@ -137,7 +170,9 @@ fn take_keys(
 ) -> Result<(), AllocError> {
     for key in 0..recording.keys {
         take_key(chains, recording, views, parts, key)?;
-        if all || !extras.is_open(key) {
+        if let Some(left) = extras.left_of(key) {
+            take_put(chains, parts.puts.all.as_slice(), left, Base::Blind)?;
+        } else if all || !extras.is_open(key) {
             take_extras(chains, parts, extras, key, false)?;
         }
         end_chain(&mut chains.plan, key)?;
@@ -153,7 +188,7 @@ fn take_open(
     extras: &Extras,
 ) -> Result<(), AllocError> {
     for key in 0..recording.keys {
-        if extras.is_open(key) {
+        if extras.is_open(key) || extras.left_of(key).is_some() {
             take_extras(chains, parts, extras, key, true)?;
         }
     }
@@ -195,9 +230,13 @@ pub(crate) fn plan_of(
     order: &[u32],
     all: bool,
 ) -> Result<(Plan, Extras), AllocError> {
-    let known = known_puts(alloc, recording, views, parts)?;
+    let mut known = known_puts(alloc, recording, views, parts)?;
     let puts = parts.puts.all.as_slice();
-    let extras = extras_of(alloc, recording, puts, known.used.as_slice(), order)?;
+    let mut extras = extras_of(alloc, recording, puts, known.used.as_slice(), order)?;
+    for key in 0..recording.keys {
+        take_extras(&mut known, parts, &extras, key, false)?;
+    }
+    note_left(&mut extras, puts, known.used.as_slice());
     let mut chains = Chains::new(alloc, puts.len())?;
     take_keys(&mut chains, recording, views, parts, &extras, all)?;
     take_open(&mut chains, recording, parts, &extras)?;

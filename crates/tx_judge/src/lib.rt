@@ -4,6 +4,7 @@
 
 mod assemble;
 mod chains;
+mod orders;
 mod plan;
 mod puts;
 mod search;

@@ -1,22 +1,26 @@
 //! The search for a verdict.
-ghost use Rattle.std.specs.Prelude.{◌≡◌, ℕ, IfOk, IfSome, slice_index};
+ghost use Rattle.std.specs.Prelude.{◌≡◌, ℕ, OnOk, IfOk, IfSome, IsTrue, slice_index};
 ghost use Rattle.tx_recording.specs.Recordings.{IsRecording};
 ghost use Rattle.tx_views.specs.Views.{AreViews, IsViewed};
 ghost use Rattle.tx_views.specs.Owners.{AreOwners, IsOwned};
 ghost use Rattle.tx_history.specs.Records.{IsRecorded, history_of};
 ghost use Rattle.tx_history.specs.Histories.{IsAssignment};
-ghost use Rattle.tx_verdict.specs.Verdicts.{IsVerdict};
+ghost use Rattle.tx_verdict.specs.Facts.{AreLists};
+ghost use Rattle.tx_verdict.specs.Undecided.{AreUndecided, IsUndecided};
+ghost use Rattle.tx_verdict.specs.Verdicts.{IsVerdict, IsWrong};
 ghost use Rattle.tx_judge.specs.Attempts.{IsAttempt};
 
 use crate::assemble::assemble;
 use crate::chains::{Extras, Parts, plan_of};
+use crate::orders::add_orders;
 use crate::plan::follows_of;
 use crate::puts::{Put, lives_of, number, put_at, puts_of};
 use std::alloc::{AllocError, Global};
 use tx_history::{Decision, decide};
-use tx_recording::{Act, Orders, Recording};
+use tx_recording::{Orders, Recording};
 use tx_verdict::{
-    Fact, Lives, Rule, Verdict, Versions, cycle_of, timestamps, wrong_update, wrong_views,
+    Fact, Lives, Verdict, Versions, are_lists, cycle_of, internal, is_undecided, timestamps,
+    wrong_lists, wrong_update, wrong_views,
 };
 use tx_views::{Owned, Owner, View, Viewed, owners, views};
 
@@ -24,8 +28,8 @@ use tx_views::{Owned, Owner, View, Viewed, owners, views};
 #[derive(Drop)]
 pub(crate) enum Attempt {
     Verdict(Verdict),
-    /// These are commits of the versions, though not of the recording.
-    Commits(Vec<usize>),
+    /// These are starts and commits of the versions, though not of the recording.
+    Numbers(Vec<usize>, Vec<usize>),
     Nothing,
 }
 
@@ -45,10 +49,11 @@ fn attempt_yes(
     requires assigned { IsAssignment (history_of versions.recorded) (slice_index starts.items) (slice_index commits.items) }
     ensures { IfOk result (IsAttempt recording.now orders) }
 {
-    let copy = commits.clone()?;
+    let first = starts.clone()?;
+    let second = commits.clone()?;
     match timestamps(alloc, recording, views, orders, versions, starts, commits)? {
         Some(found) => Ok(Attempt::Verdict(Verdict::Yes(found))),
-        None => Ok(Attempt::Commits(copy)),
+        None => Ok(Attempt::Numbers(first, second)),
     }
 }
 
@@ -75,7 +80,7 @@ fn try_versions(
         }
         Decision::No(nodes) => {
             let nodes = nodes.as_slice();
-            match cycle_of(alloc, recording, owners, views, &versions, nodes)? {
+            match cycle_of(alloc, recording, owners, views, orders, &versions, nodes)? {
                 Some(cycle) => Ok(Attempt::Verdict(Verdict::No(cycle))),
                 None => Ok(Attempt::Nothing),
             }
@@ -83,17 +88,43 @@ fn try_versions(
     }
 }
 
-// The keys of which two or more puts may come in two orders.
+// Whether two puts into a key may come in two orders.
+fn is_open(recording: &Recording, puts: &[Put], extras: &Extras, key: u32) -> bool
+    requires { IsRecording recording.now }
+    ensures { IsTrue result → IsUndecided recording.now key }
+{
+    match extras.pair_of(puts, key) {
+        Some((first, second)) => is_undecided(recording, key, first, second),
+        None => false,
+    }
+}
+
+// Adds such a key.
+fn push_key(keys: &mut Vec<u32>, recording: &Recording, key: u32) -> Result<(), AllocError>
+    requires keys { AreUndecided recording.now keys.old.items }
+    requires key { IsUndecided recording.now key }
+    ensures { OnOk result (AreUndecided recording.now keys.new.items) }
+{
+    keys.push(key)?;
+    Ok(())
+}
+
+// The keys of which two puts may come in two orders.
 fn open_keys(
     alloc: Global,
     recording: &Recording,
+    puts: &[Put],
     extras: &Extras,
-) -> Result<Vec<u32>, AllocError> {
+) -> Result<Vec<u32>, AllocError>
+    requires { IsRecording recording.now }
+    ensures { IfOk result (λ keys. AreUndecided recording.now keys.items) }
+{
     let mut keys = Vec::new(alloc);
     for key in 0..recording.keys {
-        if extras.is_open(key) {
-            keys.push(key)?;
+        if !is_open(recording, puts, extras, key) {
+            continue;
         }
+        push_key(&mut keys, recording, key)?;
     }
     Ok(keys)
 }
@@ -107,13 +138,13 @@ fn in_turn(alloc: Global, count: usize) -> Result<Vec<u32>, AllocError> {
     Ok(order)
 }
 
-// When a put commits.
-fn commit_of(puts: &[Put], commits: &[usize], place: u32) -> usize {
+// The number of the transaction of a put.
+fn number_of(puts: &[Put], numbers: &[usize], place: u32) -> usize {
     let Some(put) = puts.get(place as usize) else {
         return 0;
     };
-    match commits.get(put.txn as usize) {
-        Some(commit) => *commit,
+    match numbers.get(put.txn as usize) {
+        Some(number) => *number,
         None => 0,
     }
 }
@@ -137,11 +168,95 @@ fn attempt_plan(
 {
     let (plan, extras) = plan_of(alloc, recording, views, parts, order, all)?;
     let puts = parts.puts.all.as_slice();
-    let versions = assemble(alloc, recording, views, puts, lives, &plan)?;
+    let mut versions = assemble(alloc, recording, views, puts, lives, &plan)?;
+    add_orders(alloc, &mut versions, recording, orders)?;
     Ok((
         try_versions(alloc, recording, owners, views, orders, versions)?,
         extras,
     ))
+}
+
+// What the recording is, with the puts of which nobody knows the order in one order.
+fn verdict_in(
+    alloc: Global,
+    recording: &Recording,
+    owners: &[Option<Owner>],
+    views: &[View],
+    orders: Orders,
+    lives: &Lives,
+    parts: &Parts,
+    order: &[u32],
+) -> Result<Option<Verdict>, AllocError>
+    requires recording { IsRecording recording.now }
+    requires owners { AreOwners recording.now owners.now }
+    requires views { AreViews recording.now views.now }
+    ensures { IfOk result (λ found. IfSome found (IsVerdict recording.now orders)) }
+{
+    let (attempt, _) = attempt_plan(
+        alloc, recording, owners, views, orders, lives, parts, order, true,
+    )?;
+    match attempt {
+        Attempt::Verdict(verdict) => Ok(Some(verdict)),
+        Attempt::Numbers(..) | Attempt::Nothing => Ok(None),
+    }
+}
+
+// What the recording is, with those puts in the order of some numbers of their transactions.
+fn verdict_by(
+    alloc: Global,
+    recording: &Recording,
+    owners: &[Option<Owner>],
+    views: &[View],
+    orders: Orders,
+    lives: &Lives,
+    parts: &Parts,
+    numbers: &[usize],
+) -> Result<Option<Verdict>, AllocError>
+    requires recording { IsRecording recording.now }
+    requires owners { AreOwners recording.now owners.now }
+    requires views { AreViews recording.now views.now }
+    ensures { IfOk result (λ found. IfSome found (IsVerdict recording.now orders)) }
+{
+    let puts = parts.puts.all.as_slice();
+    let mut order = in_turn(alloc, puts.len())?;
+    order.sort_by_key(|place| number_of(puts, numbers, *place))?;
+    let order = order.as_slice();
+    verdict_in(alloc, recording, owners, views, orders, lives, parts, order)
+}
+
+// What the recording is, with those puts in the order of some commits, of some starts, or in which they
+// are recorded.
+fn verdict_found(
+    alloc: Global,
+    recording: &Recording,
+    owners: &[Option<Owner>],
+    views: &[View],
+    orders: Orders,
+    lives: &Lives,
+    parts: &Parts,
+    starts: &[usize],
+    commits: &[usize],
+) -> Result<Option<Verdict>, AllocError>
+    requires recording { IsRecording recording.now }
+    requires owners { AreOwners recording.now owners.now }
+    requires views { AreViews recording.now views.now }
+    ensures { IfOk result (λ found. IfSome found (IsVerdict recording.now orders)) }
+{
+    let found = verdict_by(
+        alloc, recording, owners, views, orders, lives, parts, commits,
+    )?;
+    if found.is_some() {
+        return Ok(found);
+    }
+    let found = verdict_by(
+        alloc, recording, owners, views, orders, lives, parts, starts,
+    )?;
+    if found.is_some() {
+        return Ok(found);
+    }
+    let turn = in_turn(alloc, parts.puts.all.len())?;
+    let order = turn.as_slice();
+    verdict_in(alloc, recording, owners, views, orders, lives, parts, order)
 }
 
 // What the recording is, if the order of its puts is known, or one is found.
@@ -159,37 +274,28 @@ fn judge_parts(
     requires views { AreViews recording.now views.now }
     ensures { IfOk result (IsVerdict recording.now orders) }
 {
-    let mut order = in_turn(alloc, parts.puts.all.len())?;
+    let puts = parts.puts.all.as_slice();
+    let order = in_turn(alloc, puts.len())?;
     let turn = order.as_slice();
     let (first, extras) = attempt_plan(
         alloc, recording, owners, views, orders, lives, parts, turn, false,
     )?;
-    let commits = match first {
+    let (starts, commits) = match first {
         Attempt::Verdict(verdict) => return Ok(verdict),
-        Attempt::Commits(commits) => commits,
-        Attempt::Nothing => return Ok(Verdict::Open(open_keys(alloc, recording, &extras)?)),
-    };
-    let puts = parts.puts.all.as_slice();
-    order.sort_by_key(|place| commit_of(puts, commits.as_slice(), *place))?;
-    let turn = order.as_slice();
-    let (second, _) = attempt_plan(
-        alloc, recording, owners, views, orders, lives, parts, turn, true,
-    )?;
-    match second {
-        Attempt::Verdict(verdict) => Ok(verdict),
-        _ => Ok(Verdict::Open(open_keys(alloc, recording, &extras)?)),
-    }
-}
-
-// Whether something is written in place of what was there: then keys are registers.
-fn are_registers(recording: &Recording) -> bool {
-    for i in 0..recording.ops.len() {
-        match recording.ops[i].act {
-            Act::Write(_) => return true,
-            Act::Append(_) | Act::Read(_) => {}
+        Attempt::Numbers(starts, commits) => (starts, commits),
+        Attempt::Nothing => {
+            return Ok(Verdict::Open(open_keys(alloc, recording, puts, &extras)?));
         }
+    };
+    let starts = starts.as_slice();
+    let commits = commits.as_slice();
+    let found = verdict_found(
+        alloc, recording, owners, views, orders, lives, parts, starts, commits,
+    )?;
+    match found {
+        Some(verdict) => Ok(verdict),
+        None => Ok(Verdict::Open(open_keys(alloc, recording, puts, &extras)?)),
     }
-    false
 }
 
 // By key, the view with most values, where keys hold lists.
@@ -197,9 +303,10 @@ fn longest_of(
     alloc: Global,
     recording: &Recording,
     views: &[View],
+    lists: bool,
 ) -> Result<Vec<Option<u32>>, AllocError> {
     let mut longest = vec![in alloc; None; recording.keys as usize]?;
-    if are_registers(recording) {
+    if !lists {
         return Ok(longest);
     }
     for place in 0..views.len() {
@@ -222,6 +329,27 @@ fn count_at(longest: &[Option<u32>], views: &[View], key: usize) -> u32 {
     }
 }
 
+// What is wrong with the lists that were seen, where keys hold lists.
+fn wrong_lists_if(
+    alloc: Global,
+    recording: &Recording,
+    owners: &[Option<Owner>],
+    views: &[View],
+    longest: &[Option<u32>],
+    lists: bool,
+) -> Result<Option<Fact>, AllocError>
+    requires recording { IsRecording recording.now }
+    requires owners { AreOwners recording.now owners.now }
+    requires views { AreViews recording.now views.now }
+    requires lists { IsTrue lists → AreLists recording.now }
+    ensures { IfOk result (λ found. IfSome found (IsWrong recording.now)) }
+{
+    if !lists {
+        return Ok(None);
+    }
+    wrong_lists(alloc, recording, owners, views, longest)
+}
+
 // What the recording is, by what was seen.
 fn judge_views(
     alloc: Global,
@@ -238,6 +366,12 @@ fn judge_views(
     if let Some(fact) = wrong_views(alloc, recording, owners, views)? {
         return Ok(Verdict::Fact(fact));
     }
+    let lists = are_lists(recording);
+    let longest = longest_of(alloc, recording, views, lists)?;
+    let table = longest.as_slice();
+    if let Some(fact) = wrong_lists_if(alloc, recording, owners, views, table, lists)? {
+        return Ok(Verdict::Fact(fact));
+    }
     let lives = lives_of(alloc, recording, owners, views)?;
     let puts = puts_of(alloc, recording, views, lives.live.as_slice())?;
     let follows = follows_of(alloc, recording, views, puts.all.as_slice())?;
@@ -246,7 +380,6 @@ fn judge_views(
             return Ok(Verdict::Fact(fact));
         }
     }
-    let longest = longest_of(alloc, recording, views)?;
     let parts = Parts {
         puts,
         follows,
@@ -306,23 +439,4 @@ pub fn judge(alloc: Global, recording: &Recording, orders: Orders) -> Result<Ver
 {
     let owned = owners(alloc, recording)?;
     judge_owned(alloc, recording, owned, orders)
-}
-
-// The fact of a read that lacks its transaction's own values.
-fn internal(recording: &Recording, txn: u32, place: u32) -> Fact
-    requires recording { IsRecording recording.now }
-{
-    let mut key = 0;
-    if (txn as usize) < recording.transactions.len() {
-        if let Some(op) = recording.ops_of(txn as usize).get(place as usize) {
-            key = op.key;
-        }
-    }
-    Fact {
-        rule: Rule::Internal,
-        txn,
-        key,
-        value: None,
-        by: None,
-    }
 }

@@ -17,10 +17,10 @@ use Rattle.tx_views.proofs.Viewing.{appended}
 use Rattle.tx_verdict.proofs.Distinct.{IsDistinct, IsOnce, seen_distinct}
 
 -- operations leave these values in place of what there was, or behind it; and they put them
-record Splits (os : List Op) (k : ℕ) : Type 0 where
-  values : List ℕ
-  put : (v : ℕ) → Contains values v → PutsIn os k v
-  left : ((xs : List ℕ) → after os k xs ≡ values) ⊎ ((xs : List ℕ) → after os k xs ≡ xs ++ values)
+pub record Splits (os : List Op) (k : ℕ) : Type 0 where
+  pub values : List ℕ
+  pub put : (v : ℕ) → Contains values v → PutsIn os k v
+  pub left : ((xs : List ℕ) → after os k xs ≡ values) ⊎ ((xs : List ℕ) → after os k xs ≡ xs ++ values)
 
 none_in : (v : ℕ) → Contains [] v → ⊥
 none_in v (i, lt, is) = omega (arith, lt)
@@ -71,7 +71,7 @@ head_splits o os k (Write w) is at rest = elim rest.left [
   }
 ]
 
-splits : (os : List Op) (k : ℕ) → Splits os k
+pub splits : (os : List Op) (k : ℕ) → Splits os k
 splits [] k = record { values = []; put = λ v c. absurd (none_in v c); left = inr (λ xs. sym (append-nil xs)) }
 splits (o ∷ os) k = elim (cases_eq o.key k) [
   | inl same ↦ head_splits o os k o.act refl same (splits os k)

@@ -143,23 +143,29 @@ based_next r k ws (suc i) some all orders x e =
     subst P at (all orders x e)
 
 -- a read of no version, and of one
-pub read_none : (r : Recording) (v : Versions) (p : Read) (k : ℕ) → k ≡ key_of v p.key → p.version ≡ 0
+pub read_none : (r : Recording) (v : Versions) (p : Read) (k : ℕ) → p.txn < txns_of r → k ≡ key_of v p.key → p.version ≡ 0
     → ((orders : Orders) (x : Explanation) → Explains r orders x → (w : ℕ) → IsWriter r x w k → x.start p.txn < x.commit w)
     → IsReadForced r v p
-read_none r v p k is none all orders x e = (
-  λ has. absurd (let low = has.0 in omega (arith, low, none)),
-  λ _ w writer. (let P : ℕ → Type 0 = λ q. IsWriter r x w q in all orders x e w (subst P (sym is) writer)),
+read_none r v p k lt is none all = (
+  lt,
+  λ orders x e. (
+    λ has. absurd (let low = has.0 in omega (arith, low, none)),
+    λ _ w writer. (let P : ℕ → Type 0 = λ q. IsWriter r x w q in all orders x e w (subst P (sym is) writer)),
+  ),
 )
 
-pub read_some : (r : Recording) (v : Versions) (p : Read) (k : ℕ) → k ≡ key_of v p.key → (ws : List ℕ)
+pub read_some : (r : Recording) (v : Versions) (p : Read) (k : ℕ) → p.txn < txns_of r → k ≡ key_of v p.key → (ws : List ℕ)
     → ws ≡ writers_of v.recorded p.key → (p.version ≡ 0 → ⊥)
     → ((orders : Orders) (x : Explanation) → Explains r orders x → IsNewest r x k (x.start p.txn) (slice_index ws (p.version - 1)))
     → IsReadForced r v p
-read_some r v p k is ws same some all orders x e = (
-  λ has. (let P : ℕ → Type 0 = λ q. IsNewest r x q (x.start p.txn) (slice_index ws (p.version - 1)) in
-      let Q : List ℕ → Type 0 = λ q. IsNewest r x (key_of v p.key) (x.start p.txn) (slice_index q (p.version - 1)) in
-      subst Q same (subst P is (all orders x e))),
-  λ none. absurd (some none),
+read_some r v p k lt is ws same some all = (
+  lt,
+  λ orders x e. (
+    λ has. (let P : ℕ → Type 0 = λ q. IsNewest r x q (x.start p.txn) (slice_index ws (p.version - 1)) in
+        let Q : List ℕ → Type 0 = λ q. IsNewest r x (key_of v p.key) (x.start p.txn) (slice_index q (p.version - 1)) in
+        subst Q same (subst P is (all orders x e))),
+    λ none. absurd (some none),
+  ),
 )
 
 -- one version more, by the writers as they are at hand

@@ -13,10 +13,7 @@ use Rattle.tx_recording.specs.Explanations.{act_on, after, Puts, PutsIn, IsPut, 
 use Rattle.tx_recording.proofs.Puts.{after_same, after_other, puts_more, puts_head}
 use Rattle.tx_recording.proofs.Seen.{seen_put}
 use Rattle.tx_views.proofs.Owning.{puts_one}
-
--- each value stands at one place
-abbrev pub IsDistinct : List ℕ → Type 0
-IsDistinct xs = (i j : ℕ) → i < length xs → j < length xs → get_or xs i 0 ≡ get_or xs j 0 → i ≡ j
+pub use Rattle.tx_verdict.specs.Facts.{IsDistinct}
 
 -- operations that put each value once
 abbrev pub IsOnce : List Op → Type 0

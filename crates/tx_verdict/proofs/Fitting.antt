@@ -35,7 +35,7 @@ same_act : (s : Span) → Append 0 ≡ Read s → ⊥
 same_act s e = (cc)
 
 -- a read is one of the operations
-within : (r : Recording) (t p : ℕ) (s : Span) → (op_at r t p).act ≡ Read s → p < length (ops_of r t)
+pub within : (r : Recording) (t p : ℕ) (s : Span) → (op_at r t p).act ≡ Read s → p < length (ops_of r t)
 within r t p s is = elim (cases_lt p (length (ops_of r t))) [
   | inl lt ↦ lt
   | inr past ↦ absurd (same_act s (sym (ap (λ (o : Op). o.act) (get_or_past (ops_of r t) p no_op past)) ∙ is))

@@ -9,3 +9,10 @@ pub mod Distinct
 pub mod Blocks
 pub mod Chaining
 pub mod Small
+pub mod Whole
+pub mod Prefixes
+pub mod Torn
+pub mod Moments
+pub mod Stepping
+pub mod Ticking
+pub mod Running

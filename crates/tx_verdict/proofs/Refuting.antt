@@ -7,19 +7,20 @@ use Rattle.tx_recording.specs.declared.recording.Outcome.TheVariants.{Fail as Fa
 use Rattle.tx_recording.specs.declared.recording.Orders.{Orders}
 use Rattle.tx_recording.specs.declared.recording.Recording.{Recording}
 use Rattle.tx_recording.specs.Recordings.{list_of, transaction_at, ops_of}
-use Rattle.tx_recording.specs.Explanations.{after, IsPut, ArePutOnce, PutsIn, Explanation, IsWriter, IsNewest, Sees, Explains}
+use Rattle.tx_recording.specs.Explanations.{op_at, after, IsPut, ArePutOnce, PutsIn, Explanation, IsWriter, IsNewest, Sees, Explains}
 use Rattle.tx_recording.proofs.Puts.{IsLast, last_unique, none_last}
 use Rattle.tx_recording.proofs.Seen.{seen_put, seen_last, sees_unique, writer_last}
 use Rattle.tx_views.specs.declared.owner.Owner.{Owner}
 use Rattle.tx_views.specs.declared.view.View.{View}
-use Rattle.tx_views.specs.declared.effect.Effect.{Effect}
 use Rattle.tx_views.specs.Owners.{AreOwners, owner_at}
-use Rattle.tx_views.specs.Views.{IsViewOf, IsEffect, left_by}
+use Rattle.tx_views.specs.Views.{Saw, IsViewOf, IsInternal}
 use Rattle.tx_views.proofs.Owning.{put_by_owner}
-use Rattle.tx_views.proofs.Viewing.{appended, cleared}
-use Rattle.tx_verdict.specs.Verdicts.{IsNever}
+use Rattle.tx_verdict.specs.declared.verdict.Fact.{Fact}
+use Rattle.tx_verdict.specs.declared.verdict.Rule.TheVariants.{G1a, Internal, Unrepeatable, Unwritten, LostUpdate}
+use Rattle.tx_verdict.specs.Facts.{IsPutBy}
+use Rattle.tx_verdict.specs.Verdicts.{IsNever, IsWrong}
 use Rattle.tx_verdict.proofs.Fitting.{is_one}
-use Rattle.tx_verdict.proofs.Seeing.{view_sees, owner_is, last_at}
+use Rattle.tx_verdict.proofs.Seeing.{view_sees, owner_is, saw_value, owner_puts, nobody_puts}
 
 module _ (r : Recording) (table : List (Option Owner)) (owners : AreOwners r table) (v : View) (view : IsViewOf r v) (list : List ℕ)
     (is : list ≡ list_of r v.span) where
@@ -51,37 +52,9 @@ module _ (r : Recording) (table : List (Option Owner)) (owners : AreOwners r tab
       let s = ap x.start (sym own ∙ same) in
       omega (arith, before, up, s)
 
-  last_left : (e : Effect) (xs : List ℕ) → (length e.values.items ≡ 0 → ⊥)
-      → IsLast (left_by e xs) (get_or e.values.items (length e.values.items - 1) 0)
-  last_left e xs some =
-      let own = e.values.items in
-      let n : length own ≡ length own - 1 + 1 = omega (arith, some) in
-      let (front, whole) = last_at own (length own - 1) n in
-      let w = get_or own (length own - 1) 0 in
-      elim (cases_Bool e.clears) [
-        | inl clears ↦ (front, cleared e xs clears ∙ whole)
-        | inr keeps ↦ (xs ++ front, appended e xs keeps ∙ ap (λ q. xs ++ q) whole ∙ sym (append_assoc xs front (w ∷ [])))
-      ]
-
-  pub intermediate : (o : Owner) (f : Effect) → (length list ≡ 0 → ⊥) → owner_at table (get_or list (length list - 1) 0) ≡ Some o
-      → IsEffect (ops_of r o.txn) v.key f → (length f.values.items ≡ 0 → ⊥)
-      → (get_or f.values.items (length f.values.items - 1) 0 ≡ get_or list (length list - 1) 0 → ⊥) → IsNever r
-  intermediate o f some at effect puts_some ne orders x e =
-      let value = get_or list (length list - 1) 0 in
-      let n : length list ≡ length list - 1 + 1 = omega (arith, some) in
-      let last = last_at list (length list - 1) n in
-      let (u, newest, put, end) = seen_last r orders x e v.key (x.start v.txn) (list_of r v.span) value (view_sees r orders x e v view)
-      (subst (λ q. IsLast q value) is last) in
-      let same : o.txn ≡ u = owner_is r table u v.key value o owners put at in
-      let (base, sees, left) = e.leaves v.key u newest.0 in
-      let of_u : after (ops_of r u) v.key base ≡ left_by f base =
-      ap (λ q. after (ops_of r q) v.key base) (sym same) ∙ effect base in
-      ne (last_unique (x.left u v.key) (get_or f.values.items (length f.values.items - 1) 0) value
-      (subst (λ q. IsLast q (get_or f.values.items (length f.values.items - 1) 0)) (sym (left ∙ of_u)) (last_left f base puts_some)) end)
-
 -- who has a view has committed
 pub ok_committed : (r : Recording) (orders : Orders) (x : Explanation) → Explains r orders x → (v : View) → IsViewOf r v → IsTrue (x.committed v.txn)
-ok_committed r orders x e v (within, (p, span, (ok, act), of_key, only)) = e.ok v.txn (is_one r v.txn ok) ok
+ok_committed r orders x e v (within, (p, span, (ok, act), of_key, iff)) = e.ok v.txn (is_one r v.txn ok) ok
 
 -- two views of one transaction and key differ
 pub unrepeatable : (r : Recording) (v w : View) → IsViewOf r v → IsViewOf r w → v.txn ≡ w.txn → v.key ≡ w.key
@@ -128,11 +101,58 @@ lost_update r v w once a b ne same_key same puts_v puts_w orders x e =
       | inr le ↦ late r orders x e once w.key w.txn v.txn (list_of r w.span) (list_of r v.span) writer_w sees_w sees_v (sym same) le
     ]
 
-pub intermediate_at : (r : Recording) (table : List (Option Owner)) → AreOwners r table → (v : View) → IsViewOf r v → (list : List ℕ)
-    → list ≡ list_of r v.span → (o : Owner) (f : Effect) (own : List ℕ) → (length list ≡ 0 → ⊥)
-    → owner_at table (get_or list (length list - 1) 0) ≡ Some o → IsEffect (ops_of r o.txn) v.key f → own ≡ f.values.items
-    → (length own ≡ 0 → ⊥) → (get_or own (length own - 1) 0 ≡ get_or list (length list - 1) 0 → ⊥) → IsNever r
-intermediate_at r table owners v view list is o f own some at effect same puts ne =
-    let P : List ℕ → Type 0 = λ q. length q ≡ 0 → ⊥ in
-    let Q : List ℕ → Type 0 = λ q. get_or q (length q - 1) 0 ≡ get_or list (length list - 1) 0 → ⊥ in
-    intermediate r table owners v view list is o f some at effect (subst P same puts) (subst Q same ne)
+internal_so : (r : Recording) (t p : ℕ) → IsInternal r t p → IsNever r
+internal_so r t p (span, (ok, act), none) orders x e = (let (xs, sees, is) = e.reads t p span ok act in none xs is)
+
+-- the facts of a value that was seen
+module _ (r : Recording) (table : List (Option Owner)) (owners : AreOwners r table) (v : View) (view : IsViewOf r v) (list : List ℕ)
+    (is : list ≡ list_of r v.span) (i : ℕ) (lt : i < length list) (fact : Fact) where
+  pub fact_unwritten : fact ≡ record { rule = Unwritten; txn = v.txn; key = v.key; value = Some (get_or list i 0); by = None }
+      → ((o : Owner) → owner_at table (get_or list i 0) ≡ Some o → ⊥) → IsWrong r fact
+  fact_unwritten at none = subst (λ (f : Fact). IsWrong r f) (sym at) (
+    (saw_value r v view list is i lt, nobody_puts r table owners (get_or list i 0) none),
+    unwritten r table owners v view list is i lt none,
+  )
+
+  pub fact_aborted : (o : Owner)
+      → fact ≡ record { rule = G1a; txn = v.txn; key = v.key; value = Some (get_or list i 0); by = Some o.txn }
+      → owner_at table (get_or list i 0) ≡ Some o → (transaction_at r o.txn).outcome ≡ Failed → IsWrong r fact
+  fact_aborted o at by failed = subst (λ (f : Fact). IsWrong r f) (sym at) (
+    (saw_value r v view list is i lt, owner_puts r table owners (get_or list i 0) o by, failed),
+    aborted r table owners v view list is i o lt by failed,
+  )
+
+  pub fact_itself : (o : Owner)
+      → fact ≡ record { rule = Internal; txn = v.txn; key = v.key; value = Some (get_or list i 0); by = None }
+      → owner_at table (get_or list i 0) ≡ Some o → o.txn ≡ v.txn → IsWrong r fact
+  fact_itself o at by same = subst (λ (f : Fact). IsWrong r f) (sym at) (
+    (saw_value r v view list is i lt, subst (λ q. IsPutBy r q (get_or list i 0)) same (owner_puts r table owners (get_or list i 0) o by)),
+    itself r table owners v view list is i o lt by same,
+  )
+
+pub fact_unrepeatable : (r : Recording) (v w : View) → IsViewOf r v → IsViewOf r w → v.txn ≡ w.txn → v.key ≡ w.key
+    → (list_of r w.span ≡ list_of r v.span → ⊥)
+    → IsWrong r record { rule = Unrepeatable; txn = w.txn; key = w.key; value = None; by = None }
+fact_unrepeatable r v w a b same_txn same_key ne =
+    let P : ℕ → Type 0 = λ t. Saw r t w.key (list_of r v.span) in
+    let Q : ℕ → Type 0 = λ k. Saw r v.txn k (list_of r v.span) in (
+      (list_of r w.span, list_of r v.span, b.1, subst P same_txn (subst Q same_key a.1), ne),
+      unrepeatable r v w a b same_txn same_key ne,
+    )
+
+pub fact_lost_update : (r : Recording) (v w : View) → ArePutOnce r → IsViewOf r v → IsViewOf r w → (v.txn ≡ w.txn → ⊥) → v.key ≡ w.key
+    → list_of r v.span ≡ list_of r w.span → ((a : ℕ) × PutsIn (ops_of r v.txn) v.key a)
+    → ((a : ℕ) × PutsIn (ops_of r w.txn) w.key a)
+    → IsWrong r record { rule = LostUpdate; txn = w.txn; key = w.key; value = None; by = Some v.txn }
+fact_lost_update r v w once a b ne same_key same puts_v puts_w =
+    let P : List ℕ → Type 0 = λ q. Saw r v.txn w.key q in
+    let Q : ℕ → Type 0 = λ k. Saw r v.txn k (list_of r v.span) in
+    let R : ℕ → Type 0 = λ k. (q : ℕ) × PutsIn (ops_of r v.txn) k q in (
+      (list_of r w.span, b.1, subst P same (subst Q same_key a.1), λ q. ne (sym q), puts_w, subst R same_key puts_v),
+      lost_update r v w once a b ne same_key same puts_v puts_w,
+    )
+
+-- a read that no state explains
+pub fact_internal : (r : Recording) (t p : ℕ) → IsInternal r t p
+    → IsWrong r record { rule = Internal; txn = t; key = (op_at r t p).key; value = None; by = None }
+fact_internal r t p is = ((p, is, refl), λ orders x e. internal_so r t p is orders x e)

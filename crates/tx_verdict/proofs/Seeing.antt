@@ -4,8 +4,8 @@ use Rattle.std.proofs.lemmas.List.{take_more, take_all}
 use Rattle.std.proofs.lemmas.List.Elements.{Contains-get_or}
 use Rattle.tx_recording.specs.declared.recording.Orders.{Orders}
 use Rattle.tx_recording.specs.declared.recording.Recording.{Recording}
-use Rattle.tx_recording.specs.Recordings.{list_of, transaction_at, ops_of}
-use Rattle.tx_recording.specs.Explanations.{after, IsPut, Explanation, IsWriter, IsNewest, Sees, Explains}
+use Rattle.tx_recording.specs.Recordings.{list_of, transaction_at, txns_of, ops_of, no_op}
+use Rattle.tx_recording.specs.Explanations.{after, op_at, IsPut, Explanation, IsWriter, IsNewest, Sees, Explains}
 use Rattle.tx_recording.proofs.Puts.{IsLast}
 use Rattle.tx_recording.proofs.Seen.{seen_last, seen_none, seen_put}
 use Rattle.tx_views.specs.declared.owner.Owner.{Owner}
@@ -13,15 +13,17 @@ use Rattle.tx_views.specs.declared.view.View.{View}
 use Rattle.tx_views.specs.Owners.{AreOwners, owner_at}
 use Rattle.tx_views.specs.Views.{IsViewOf}
 use Rattle.tx_views.proofs.Owning.{put_by_owner}
+use Rattle.tx_verdict.specs.Facts.{SawValue, IsPutBy}
+use Rattle.tx_verdict.proofs.Fitting.{is_one}
 
 -- what a view says its transaction saw, it saw
 pub view_sees : (r : Recording) (orders : Orders) (x : Explanation) → Explains r orders x → (v : View) → IsViewOf r v
     → Sees r x v.key (x.start v.txn) (list_of r v.span)
-view_sees r orders x e v (within, (p, span, (ok, act), of_key, only)) =
+view_sees r orders x e v (within, (p, span, (ok, act), of_key, iff)) =
     let (xs, sees, is) = e.reads v.txn p span ok act in
     let P : ℕ → Type 0 = λ k. (ys : List ℕ) × Sees r x k (x.start v.txn) ys × (list_of r span ≡ after (take p (ops_of r v.txn)) k ys) in
     let (ys, at, same) = subst P of_key (xs, sees, is) in
-    subst (λ q. Sees r x v.key (x.start v.txn) q) (only ys same) at
+    subst (λ q. Sees r x v.key (x.start v.txn) q) ((iff ys).0 same) at
 
 -- who put a value, by the table
 pub owner_is : (r : Recording) (table : List (Option Owner)) (t k v : ℕ) (o : Owner) → AreOwners r table → IsPut r t k v
@@ -86,3 +88,27 @@ nothing_at r v txn k view of_txn of_key none orders x e w writer =
     let lt = nothing_by r v view none orders x e w (subst P (sym of_key) writer) in
     let s = ap x.start of_txn in
     omega (arith, lt, s)
+
+-- a value of a view was seen
+pub saw_value : (r : Recording) (v : View) → IsViewOf r v → (list : List ℕ) → list ≡ list_of r v.span → (i : ℕ) → i < length list
+    → SawValue r v.txn v.key (get_or list i 0)
+saw_value r v view list is i lt =
+    (list_of r v.span, view.1, subst (λ q. Contains q (get_or list i 0)) is (Contains-get_or list i 0 lt))
+
+-- whom the table has for a value puts it
+pub owner_puts : (r : Recording) (table : List (Option Owner)) → AreOwners r table → (v : ℕ) (o : Owner) → owner_at table v ≡ Some o
+    → IsPutBy r o.txn v
+owner_puts r table owners v o at =
+    let (lt, puts) = owners.only v o at in
+    ((op_at r o.txn o.place).key, (op_at r o.txn o.place, Contains-get_or (ops_of r o.txn) o.place no_op lt, refl, puts))
+
+-- whom the table has for nobody nobody puts
+pub nobody_puts : (r : Recording) (table : List (Option Owner)) → AreOwners r table → (v : ℕ)
+    → ((o : Owner) → owner_at table v ≡ Some o → ⊥) → (u : ℕ) → IsPutBy r u v → ⊥
+nobody_puts r table owners v none u (l, put) =
+    let (p, at) = put_by_owner r table u l v owners put in
+    none record { txn = u; place = p } at
+
+-- a view is of one of the transactions
+pub view_within : (r : Recording) (v : View) → IsViewOf r v → v.txn < txns_of r
+view_within r v (within, (p, span, (ok, act), of_key, iff)) = is_one r v.txn ok

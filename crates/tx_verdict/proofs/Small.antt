@@ -1,21 +1,22 @@
 -- Small steps of the functions.
 use Rattle.std.proofs.Common.{◌≡◌, ◌⊎◌, ◌≢◌, ℕ, ◌+◌, ◌-◌, ◌<◌, ◌≤◌, Bool, true, false, List, [], ◌∷◌, ◌++◌, length, take, drop, get_or, Contains, arith, inl, inr, refl, sym, ap, ◌∙◌, subst, IsTrue, Option, Some, None, slice_index, Result, Ok, Err, IfOk}
-use Rattle.std.proofs.lemmas.Bool.{cases_Bool, cases_eq, cases_lt, false≢true}
-use Rattle.std.proofs.lemmas.List.{get_or_read, get_or_default}
+use Rattle.std.proofs.lemmas.Bool.{cases_Bool, cases_eq, cases_lt}
+use Rattle.std.proofs.lemmas.List.{get_or_read, get_or_default, get_or_past, length-take, length-drop, get_or-take, get_or-drop}
 use Rattle.std.proofs.lemmas.List.Elements.{Contains-get_or}
+use Rattle.tx_recording.specs.declared.recording.Act.TheVariants.{Append, Write}
 use Rattle.tx_recording.specs.declared.recording.Outcome.{Outcome}
 use Rattle.tx_recording.specs.declared.recording.Span.{Span}
 use Rattle.tx_recording.specs.declared.recording.Op.{Op}
-use Rattle.tx_recording.specs.declared.recording.Orders.{Orders}
 use Rattle.tx_recording.specs.declared.recording.Transaction.{Transaction}
 use Rattle.tx_recording.specs.declared.recording.Recording.{Recording}
 use Rattle.tx_recording.specs.Recordings.{txns_of, transaction_at, no_transaction, no_op, ops_of}
-use Rattle.tx_recording.specs.Explanations.{Puts, PutsIn, Precedes}
+use Rattle.tx_recording.specs.Explanations.{Puts, PutsIn}
 use Rattle.tx_views.specs.declared.effect.Effect.{Effect}
 use Rattle.tx_views.specs.declared.view.View.{View}
 use Rattle.tx_views.specs.Views.{left_by}
 use Rattle.tx_verdict.specs.declared.versions.Versions.{Versions}
 use Rattle.tx_verdict.specs.Versions.{text_in, live_of, IsPlaced}
+use Rattle.tx_verdict.specs.Facts.{AreLists}
 use Rattle.tx_verdict.proofs.Texts.{left_cleared, left_first}
 
 pub puts_at : (ops : List Op) (i k v : ℕ) → i < length ops → (get_or ops i no_op).key ≡ k → Puts (get_or ops i no_op).act v
@@ -39,11 +40,6 @@ left_anew texts text before span e own is (inr none) ends same = elim (cases_Boo
   | inr keeps ↦ left_first texts text before span e is keeps none (ends ∙ same)
 ]
 
-pub not_asked : (orders : Orders) → orders.sessions ≡ false → orders.strict ≡ false → (r : Recording) (t u : ℕ)
-    → Precedes r orders t u → ⊥
-not_asked orders sessions strict r t u (inl is) = false≢true (sym sessions ∙ is.0)
-not_asked orders sessions strict r t u (inr is) = false≢true (sym strict ∙ is.0)
-
 -- what each operation puts is part of a version
 pub placed_all : (v : Versions) (t : ℕ) (ops : List Op)
     → ((i w : ℕ) → i < length ops → Puts (get_or ops i no_op).act w → IsPlaced v t (get_or ops i no_op).key)
@@ -63,3 +59,23 @@ by_place P xs d all x (i, lt, is) = subst P (get_or_default xs i d x lt ∙ is) 
 pub if_fits : {E : Type 0} (P Q : Type 0) (q : Result Bool E) → (P → Q) → IfOk q (λ b. IsTrue b → P) → IfOk q (λ b. IsTrue b → Q)
 if_fits P Q (Ok b) f h = λ is. f (h is)
 if_fits P Q (Err e) f h = h
+
+same_act : (v : ℕ) → Append 0 ≡ Write v → ⊥
+same_act v e = (cc)
+
+-- where no operation of the recording writes, none of a transaction does
+pub lists_of : (r : Recording) → ((i v : ℕ) → i < length r.ops.items → (get_or r.ops.items i no_op).act ≡ Write v → ⊥) → AreLists r
+lists_of r none t p v is = elim (cases_lt p (length (ops_of r t))) [
+  | inr past ↦ same_act v (sym (ap (λ (o : Op). o.act) (get_or_past (ops_of r t) p no_op past)) ∙ is)
+  | inl lt ↦ (
+      let first = (transaction_at r t).first in
+      let upto = (transaction_at r t).upto in
+      let n = length-take (upto - first) (drop first r.ops.items) in
+      let m = length-drop first r.ops.items in
+      let a : p < upto - first = omega (arith, lt, n) in
+      let b : first + p < length r.ops.items = omega (arith, lt, n, m) in
+      let at : get_or (ops_of r t) p no_op ≡ get_or r.ops.items (first + p) no_op =
+      get_or-take (upto - first) (drop first r.ops.items) p no_op a ∙ get_or-drop first r.ops.items p no_op in
+      none (first + p) v b (sym (ap (λ (o : Op). o.act) at) ∙ is)
+      )
+]

@@ -1,5 +1,5 @@
 -- All that was looked at together.
-use Rattle.std.proofs.Common.{◌≡◌, ◌⊎◌, ℕ, ◌+◌, ◌-◌, ◌<◌, ◌≤◌, Bool, true, false, List, length, Contains, arith, inl, inr, refl, sym, ap, ◌∙◌, subst, IsTrue, slice_index, slice_index_or}
+use Rattle.std.proofs.Common.{◌≡◌, ◌⊎◌, ℕ, ◌+◌, ◌-◌, ◌*◌, ◌<◌, ◌≤◌, Bool, true, false, List, length, Contains, arith, inl, inr, refl, sym, ap, ◌∙◌, subst, IsTrue, slice_index, slice_index_or}
 use Rattle.std.proofs.lemmas.Bool.{cases_lt, false≢true}
 use Rattle.std.proofs.lemmas.List.{get_or_past}
 use Rattle.tx_recording.specs.declared.recording.Outcome.TheVariants.{Ok as Committed, Fail as Failed}
@@ -18,10 +18,13 @@ use Rattle.tx_verdict.specs.declared.versions.Versions.{Versions}
 use Rattle.tx_verdict.specs.declared.verdict.Timestamps.{Timestamps}
 use Rattle.tx_verdict.specs.Versions.{text_of, live_of, IsKeyFit, IsPlaced, IsViewFit}
 use Rattle.tx_verdict.specs.Fits.{IsFit, last_by}
-use Rattle.tx_verdict.specs.Forced.{IsForced, AreForced, AreKnown, IsChain, IsReadForced, key_of, end_of}
+use Rattle.tx_verdict.specs.Forced.{AreForced, AreKnown, IsChain, IsReadForced, key_of}
 use Rattle.tx_verdict.specs.Verdicts.{AreTimestampsOf, IsRefused}
 use Rattle.tx_verdict.proofs.Fitting.{explains_so}
-use Rattle.tx_verdict.proofs.Forcing.{assigned}
+use Rattle.tx_verdict.specs.Keeping.{KeepsPairs}
+use Rattle.tx_verdict.specs.Pairs.{IsPair}
+use Rattle.tx_verdict.proofs.Forcing.{start_in, commit_in, assigned}
+use Rattle.tx_verdict.proofs.Moments.{tick_of, pair_after}
 
 pub fit_of : (r : Recording) (views : List View) (v : Versions) → txns_of r ≤ v.recorded.txns
     → ((t : ℕ) → t < txns_of r → (transaction_at r t).outcome ≡ Committed → IsTrue (live_of v t))
@@ -52,11 +55,10 @@ fit_of r views v enough ok fail placed seen keys = record {
   reads = seen;
 }
 
-pub forced_of : (r : Recording) (orders : Orders) (v : Versions) → AreKnown r v → ((q : ℕ) → IsChain r v q)
+pub forced_of : (r : Recording) (orders : Orders) (v : Versions) → ((q : ℕ) → IsChain r v q)
     → ((p : Read) → Contains v.recorded.reads.items p → IsReadForced r v p)
-    → ((p : After) → Contains v.recorded.after.items p → ⊥)
     → AreForced r orders (history_of v.recorded) (key_of v)
-forced_of r orders v known chains reads pairs x e = record {
+forced_of r orders v chains reads x e = record {
   writers = λ k i has. (let low = has.0 in
       let high = has.1 in
       (chains k).0 orders x e (i - 1) (omega (arith, low, high)));
@@ -66,26 +68,30 @@ forced_of r orders v known chains reads pairs x e = record {
       let next : i - 1 + 1 ≡ i + 1 - 1 = omega (arith, low) in
       let P : ℕ → Type 0 = λ q. x.commit (slice_index (writers_of v.recorded k) (i - 1)) ≤ x.start (slice_index (writers_of v.recorded k) q) in
       subst P next link);
-  seen = λ p is has. (reads p is orders x e).0 has;
-  none = λ p is none. (reads p is orders x e).1 none;
-  after = λ p is. absurd (pairs p is);
+  seen = λ p is has. ((reads p is).1 orders x e).0 has;
+  none = λ p is none. ((reads p is).1 orders x e).1 none;
+  readers = λ p is. (reads p is).0;
 }
 
 -- a history that has no timestamps, and holds under each explanation, refuses each
 pub refused_of : (r : Recording) (orders : Orders) (v : Versions) → AreForced r orders (history_of v.recorded) (key_of v)
+    → AreKnown r v → ((p : After) → Contains v.recorded.after.items p → IsPair r orders v p)
     → ((start commit : ℕ → ℕ) → IsAssignment (history_of v.recorded) start commit → ⊥) → IsRefused r orders
-refused_of r orders v forced none x e =
-    none x.start (end_of x) (assigned r orders x e (history_of v.recorded) (key_of v) (forced x e))
+refused_of r orders v forced known pairs none x e =
+    let room = 2 * length v.times.items + 3 in
+    none (start_in r x room (tick_of r x v)) (commit_in r x room (tick_of r x v))
+    (assigned r orders x e (history_of v.recorded) (key_of v) (forced x e) room (omega arith) (tick_of r x v)
+    (λ p is. pair_after r orders x e v known room (omega arith) p (pairs p is)))
 
 pub timestamps_of : (r : Recording) (orders : Orders) (views : List View) (v : Versions) (starts commits : List ℕ) (t : Timestamps)
     → t.committed.items ≡ v.live.items → t.starts.items ≡ starts → t.commits.items ≡ commits → AreViews r views
     → IsFit r views (history_of v.recorded) (live_of v) (text_of v)
     → IsAssignment (history_of v.recorded) (slice_index starts) (slice_index commits)
-    → ((q : Recording) (a b : ℕ) → Precedes q orders a b → ⊥) → AreTimestampsOf r orders t
-timestamps_of r orders views v starts commits t live_is starts_is commits_is seen fit a free =
+    → KeepsPairs (Precedes r orders) v.live.items starts commits → AreTimestampsOf r orders t
+timestamps_of r orders views v starts commits t live_is starts_is commits_is seen fit a keeps =
     let left : ℕ → ℕ → List ℕ = λ u k. text_of v k (last_by ((history_of v.recorded).writer k) ((history_of v.recorded).count k) u) in
     let so = explains_so r orders views (history_of v.recorded) (live_of v) (text_of v) (slice_index starts) (slice_index commits) seen fit a
-    (λ p q before _ _. absurd (free r p q before)) in
+    keeps in
     let P : List Bool → Type 0 = λ z. Explains r orders record {
       committed = λ i. slice_index_or z i false;
       start = slice_index starts;

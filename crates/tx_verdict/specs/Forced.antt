@@ -7,7 +7,7 @@ use Rattle.tx_views.specs.Views.{IsEffect}
 use Rattle.tx_recording.specs.declared.recording.Recording.{Recording}
 use Rattle.tx_recording.specs.Explanations.{Explanation, IsWriter, IsNewest, Explains}
 use Rattle.tx_history.specs.declared.recorded.Read.{Read}
-use Rattle.tx_history.specs.declared.recorded.After.{After}
+use Rattle.tx_recording.specs.Recordings.{txns_of}
 use Rattle.tx_history.specs.Histories.{History, HasVersion}
 use Rattle.tx_history.specs.Records.{history_of, writers_of}
 use Rattle.tx_verdict.specs.declared.versions.Versions.{Versions}
@@ -22,8 +22,7 @@ pub record IsForced (r : Recording) (x : Explanation) (h : History) (key : ℕ �
       → IsNewest r x (key p.key) (x.start p.txn) (h.writer p.key p.version)
   pub none : (p : Read) → Contains h.reads p → p.version ≡ 0 → (w : ℕ) → IsWriter r x w (key p.key)
       → x.start p.txn < x.commit w
-  pub after : (p : After) → Contains h.after p
-      → IsTrue (x.committed p.earlier) × IsTrue (x.committed p.later) × (x.commit p.earlier ≤ x.start p.later)
+  pub readers : (p : Read) → Contains h.reads p → p.txn < txns_of r
 
 -- it is so under all explanations
 abbrev pub AreForced : Recording → Orders → History → (ℕ → ℕ) → Type 0
@@ -56,10 +55,10 @@ AreWriters r k ws = (orders : Orders) (x : Explanation) → Explains r orders x 
 
 -- a read saw the version that it names
 abbrev pub IsReadForced : Recording → Versions → Read → Type 0
-IsReadForced r v p = (orders : Orders) (x : Explanation) → Explains r orders x
+IsReadForced r v p = (p.txn < txns_of r) × ((orders : Orders) (x : Explanation) → Explains r orders x
     → (HasVersion (history_of v.recorded) p.key p.version
     → IsNewest r x (key_of v p.key) (x.start p.txn) ((history_of v.recorded).writer p.key p.version))
-    × (p.version ≡ 0 → (w : ℕ) → IsWriter r x w (key_of v p.key) → x.start p.txn < x.commit w)
+    × (p.version ≡ 0 → (w : ℕ) → IsWriter r x w (key_of v p.key) → x.start p.txn < x.commit w))
 
 -- the versions of a chain are of its key, and committed one after the other
 abbrev pub IsChain : Recording → Versions → ℕ → Type 0

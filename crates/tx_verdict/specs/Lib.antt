@@ -1,4 +1,9 @@
+pub mod Facts
 pub mod Fits
 pub mod Forced
+pub mod Keeping
+pub mod Pairs
+pub mod Steps
+pub mod Undecided
 pub mod Versions
 pub mod Verdicts

@@ -25,8 +25,12 @@ text_in texts span = slice_range texts span.first (span.first + span.count)
 abbrev pub text_of : Versions → ℕ → ℕ → List ℕ
 text_of v k i = text_in v.texts.items (span_of v k i)
 
+-- whether it is live, by a table
+abbrev pub live_in : List Bool → ℕ → Bool
+live_in live t = slice_index_or live t false
+
 abbrev pub live_of : Versions → ℕ → Bool
-live_of v t = slice_index_or v.live.items t false
+live_of v t = live_in v.live.items t
 
 -- version i of k, which t wrote, is what t makes of the version before it
 abbrev pub IsVersionFit : Recording → Versions → ℕ → ℕ → ℕ → Type 0

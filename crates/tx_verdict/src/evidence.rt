@@ -1,30 +1,82 @@
 //! Timestamps and cycles of versions, as evidence of a recording.
 ghost use Rattle.std.specs.Prelude.{◌≡◌, ℕ, IfOk, IfSome, IsTrue, false, slice_index};
+ghost use Rattle.tx_recording.specs.Explanations.{IsSession, IsEarlier, Precedes};
 ghost use Rattle.tx_recording.specs.Recordings.{IsRecording};
 ghost use Rattle.tx_views.specs.Views.{AreViews};
 ghost use Rattle.tx_views.specs.Owners.{AreOwners};
 ghost use Rattle.tx_history.specs.Records.{IsRecorded, history_of};
 ghost use Rattle.tx_history.specs.Histories.{IsAssignment};
 ghost use Rattle.tx_history.specs.Graph.{IsCycleOf};
-ghost use Rattle.tx_verdict.specs.Verdicts.{IsNever, AreTimestampsOf};
+ghost use Rattle.tx_verdict.specs.Keeping.{KeepsPairs};
+ghost use Rattle.tx_verdict.specs.Steps.{IsCycleFor};
+ghost use Rattle.tx_verdict.specs.Verdicts.{IsRefused, AreTimestampsOf};
 
+use crate::clock::keeps_clock;
 use crate::fit::is_fit;
 use crate::forced::is_forced;
-use crate::verdict::{Cycle, CycleStep, Edge, Timestamps};
+use crate::sessions::keeps_sessions;
+use crate::steps::{beside_of, is_round, steps_of};
+use crate::verdict::{Cycle, Timestamps};
 use crate::versions::Versions;
 use std::alloc::{AllocError, Global};
-use tx_history::{Dependency, Kind, anomaly_of, dependencies};
+use tx_history::{anomaly_of, dependencies};
 use tx_recording::{Orders, Recording};
 use tx_views::{Owner, View};
 
-// Whether neither order is asked for.
-fn is_neither(sessions: bool, strict: bool) -> bool
-    ensures { IsTrue result → (sessions ≡ false) × (strict ≡ false) }
+// Whether timestamps keep the order of processes, if that is asked for.
+fn keeps_sessions_if(
+    alloc: Global,
+    recording: &Recording,
+    asked: bool,
+    live: &[bool],
+    starts: &[usize],
+    commits: &[usize],
+) -> Result<bool, AllocError>
+    ensures { IfOk result (λ keeps. IsTrue keeps → IsTrue asked
+        → KeepsPairs (IsSession recording.now) live.now starts.now commits.now) }
 {
-    if sessions {
-        return false;
+    if !asked {
+        return Ok(true);
     }
-    !strict
+    keeps_sessions(alloc, recording, live, starts, commits)
+}
+
+// Whether timestamps keep the order of the clock, if that is asked for.
+fn keeps_clock_if(
+    alloc: Global,
+    recording: &Recording,
+    asked: bool,
+    live: &[bool],
+    starts: &[usize],
+    commits: &[usize],
+) -> Result<bool, AllocError>
+    requires { IsRecording recording.now }
+    ensures { IfOk result (λ keeps. IsTrue keeps → IsTrue asked
+        → KeepsPairs (IsEarlier recording.now) live.now starts.now commits.now) }
+{
+    if !asked {
+        return Ok(true);
+    }
+    keeps_clock(alloc, recording, live, starts, commits)
+}
+
+// Whether timestamps keep the orders that are asked for.
+fn keeps_orders(
+    alloc: Global,
+    recording: &Recording,
+    orders: Orders,
+    live: &[bool],
+    starts: &[usize],
+    commits: &[usize],
+) -> Result<bool, AllocError>
+    requires { IsRecording recording.now }
+    ensures { IfOk result (λ keeps. IsTrue keeps
+        → KeepsPairs (Precedes recording.now orders) live.now starts.now commits.now) }
+{
+    if !keeps_sessions_if(alloc, recording, orders.sessions, live, starts, commits)? {
+        return Ok(false);
+    }
+    keeps_clock_if(alloc, recording, orders.strict, live, starts, commits)
 }
 
 /// What the timestamps of versions are for the recording, if they are.
@@ -43,10 +95,18 @@ pub fn timestamps(
     requires assigned { IsAssignment (history_of versions.recorded) (slice_index starts.items) (slice_index commits.items) }
     ensures { IfOk result (λ found. IfSome found (AreTimestampsOf recording.now orders)) }
 {
-    if !is_neither(orders.sessions, orders.strict) {
+    if !is_fit(alloc, recording, views, &versions)? {
         return Ok(None);
     }
-    if !is_fit(alloc, recording, views, &versions)? {
+    let live = versions.live.as_slice();
+    if !keeps_orders(
+        alloc,
+        recording,
+        orders,
+        live,
+        starts.as_slice(),
+        commits.as_slice(),
+    )? {
         return Ok(None);
     }
     Ok(Some(Timestamps {
@@ -56,58 +116,13 @@ pub fn timestamps(
     }))
 }
 
-// The edge of a dependency, none for that of a transaction's own start and commit.
-fn edge_of(kind: Kind) -> Option<Edge> {
-    match kind {
-        Kind::Own => None,
-        Kind::Ww => Some(Edge::Ww),
-        Kind::Wr => Some(Edge::Wr),
-        Kind::Rw => Some(Edge::Rw),
-        Kind::After => Some(Edge::So),
-    }
-}
-
-// Adds the step of a dependency, unless it is of one transaction alone.
-fn add_step(
-    steps: &mut Vec<CycleStep>,
-    versions: &Versions,
-    dependency: Dependency,
-) -> Result<(), AllocError> {
-    let Some(edge) = edge_of(dependency.kind) else {
-        return Ok(());
-    };
-    let key = match edge {
-        Edge::So | Edge::Rt => None,
-        Edge::Ww | Edge::Wr | Edge::Rw => versions.names.get(dependency.key).copied(),
-    };
-    steps.push(CycleStep {
-        from: dependency.from,
-        edge,
-        key,
-        to: dependency.to,
-    })?;
-    Ok(())
-}
-
-// The steps of a cycle.
-fn steps_of(
-    alloc: Global,
-    versions: &Versions,
-    found: &[Dependency],
-) -> Result<Vec<CycleStep>, AllocError> {
-    let mut steps = Vec::new(alloc);
-    for i in 0..found.len() {
-        add_step(&mut steps, versions, found[i])?;
-    }
-    Ok(steps)
-}
-
 /// The cycle of these nodes, if the versions hold under each explanation.
 pub fn cycle_of(
     alloc: Global,
     recording: &Recording,
     owners: &[Option<Owner>],
     views: &[View],
+    orders: Orders,
     versions: &Versions,
     nodes: &[u32],
 ) -> Result<Option<Cycle>, AllocError>
@@ -117,15 +132,21 @@ pub fn cycle_of(
     requires history { IsRecorded versions.now.recorded }
     requires cycle { IsCycleOf (history_of versions.now.recorded) nodes.now }
     requires refused { (start commit : ℕ → ℕ) → IsAssignment (history_of versions.now.recorded) start commit → ⊥ }
-    ensures { IfOk result (λ found. IfSome found (λ cycle. IsNever recording.now)) }
+    ensures refused { IfOk result (λ found. IfSome found (λ cycle. IsRefused recording.now orders)) }
+    ensures cycle { IfOk result (λ found. IfSome found (IsCycleFor recording.now orders)) }
 {
-    if !is_forced(alloc, recording, owners, views, versions)? {
+    if !is_forced(alloc, recording, owners, views, orders, versions)? {
         return Ok(None);
     }
     let found = dependencies(alloc, &versions.recorded, nodes)?;
-    let steps = steps_of(alloc, versions, found.as_slice())?;
+    let steps = steps_of(alloc, recording, versions, orders, found.as_slice())?;
+    if !is_round(steps.as_slice()) {
+        return Ok(None);
+    }
+    let beside = beside_of(steps.as_slice());
     Ok(Some(Cycle {
         anomaly: anomaly_of(found.as_slice()),
+        beside,
         steps,
     }))
 }

@@ -1,23 +1,26 @@
 //! What one transaction saw that nothing explains.
-ghost use Rattle.std.specs.Prelude.{◌≡◌, ℕ, ◌+◌, ◌<◌, ◌≤◌, length, Contains, IfOk, IfSome, IsTrue, slice_index};
+ghost use Rattle.std.specs.Prelude.{◌≡◌, ℕ, ◌+◌, ◌<◌, ◌≤◌, length, Contains, Some, IfOk, IfSome, IsTrue, slice_index};
 ghost use Rattle.tx_recording.specs.declared.recording.Outcome.TheVariants.{Fail as Failed};
 ghost use Rattle.tx_recording.specs.Recordings.{IsRecording, transaction_at, ops_of, list_of};
 ghost use Rattle.tx_recording.specs.Explanations.{PutsIn};
 ghost use Rattle.tx_views.specs.declared.view.View.{View};
-ghost use Rattle.tx_views.specs.Views.{IsViewOf};
+ghost use Rattle.tx_views.specs.Views.{IsInternal, IsViewOf};
 ghost use Rattle.tx_views.specs.Owners.{AreOwners};
-ghost use Rattle.tx_verdict.specs.Verdicts.{IsNever};
+ghost use Rattle.tx_verdict.specs.Verdicts.{IsWrong};
 
+use crate::block::wrong_block;
 use crate::fit::puts;
-use crate::forced::owner_of;
+use crate::seen::owner_of;
 use crate::verdict::{Fact, Rule};
 use crate::versions::Lost;
 use std::alloc::{AllocError, Global};
 use tx_recording::{Outcome, Recording};
-use tx_views::{Owner, View, effect_of, is_end};
+use tx_views::{Owner, View, is_end};
 
 // A fact about a value of a view.
-fn fact_of(rule: Rule, view: View, value: u32, by: Option<u32>) -> Fact {
+fn fact_of(rule: Rule, view: View, value: u32, by: Option<u32>) -> Fact
+    ensures { result ≡ record { rule = rule; txn = view.txn; key = view.key; value = Some value; by = by } }
+{
     Fact {
         rule,
         txn: view.txn,
@@ -52,7 +55,7 @@ fn wrong_value(
     requires view { IsViewOf recording.now view }
     requires list { list.now ≡ list_of recording.now view.span }
     requires within { i < length list.now }
-    ensures { IfSome result (λ fact. IsNever recording.now) }
+    ensures { IfSome result (IsWrong recording.now) }
 {
     let value = list[i];
     let Some(owner) = owner_of(owners, value) else {
@@ -67,43 +70,6 @@ fn wrong_value(
     None
 }
 
-// What is wrong with the last value that was seen, since its transaction put another one behind it.
-fn wrong_last(
-    alloc: Global,
-    recording: &Recording,
-    owners: &[Option<Owner>],
-    view: View,
-    list: &[u32],
-) -> Result<Option<Fact>, AllocError>
-    requires recording { IsRecording recording.now }
-    requires owners { AreOwners recording.now owners.now }
-    requires view { IsViewOf recording.now view }
-    requires list { list.now ≡ list_of recording.now view.span }
-    ensures { IfOk result (λ found. IfSome found (λ fact. IsNever recording.now)) }
-{
-    let count = list.len();
-    if count == 0 {
-        return Ok(None);
-    }
-    let value = list[count - 1];
-    let Some(owner) = owner_of(owners, value) else {
-        return Ok(None);
-    };
-    if owner.txn as usize >= recording.transactions.len() {
-        return Ok(None);
-    }
-    let effect = effect_of(alloc, recording.ops_of(owner.txn as usize), view.key)?;
-    let own = effect.values.as_slice();
-    let puts = own.len();
-    if puts == 0 {
-        return Ok(None);
-    }
-    if own[puts - 1] == value {
-        return Ok(None);
-    }
-    Ok(Some(fact_of(Rule::G1b, view, value, Some(owner.txn))))
-}
-
 // What is wrong with what was seen.
 fn wrong_view(
     alloc: Global,
@@ -114,7 +80,7 @@ fn wrong_view(
     requires recording { IsRecording recording.now }
     requires owners { AreOwners recording.now owners.now }
     requires view { IsViewOf recording.now view }
-    ensures { IfOk result (λ found. IfSome found (λ fact. IsNever recording.now)) }
+    ensures { IfOk result (λ found. IfSome found (IsWrong recording.now)) }
 {
     let list = recording.list_of(view.span);
     for i in 0..list.len() {
@@ -123,14 +89,17 @@ fn wrong_view(
             return Ok(found);
         }
     }
-    wrong_last(alloc, recording, owners, view, list)
+    if list.is_empty() {
+        return Ok(None);
+    }
+    wrong_block(alloc, recording, owners, view, list, list.len() - 1)
 }
 
 // What is wrong with a view beside another one of the same transaction.
 fn wrong_again(recording: &Recording, before: View, view: View) -> Option<Fact>
     requires before { IsViewOf recording.now before }
     requires view { IsViewOf recording.now view }
-    ensures { IfSome result (λ fact. IsNever recording.now) }
+    ensures { IfSome result (IsWrong recording.now) }
 {
     if before.txn != view.txn {
         return None;
@@ -154,8 +123,8 @@ fn wrong_again(recording: &Recording, before: View, view: View) -> Option<Fact>
     })
 }
 
-// The view that a table has of a key.
-fn view_before(views: &[View], table: &[Option<u32>], key: u32) -> Option<usize>
+/// The view that a table has of a key.
+pub(crate) fn view_before(views: &[View], table: &[Option<u32>], key: u32) -> Option<usize>
     ensures { IfSome result (λ i. i < length views.now) }
 {
     let Some(Some(place)) = table.get(key as usize) else {
@@ -186,7 +155,7 @@ pub fn wrong_views(
     requires recording { IsRecording recording.now }
     requires owners { AreOwners recording.now owners.now }
     requires views { (v : View) → Contains views.now v → IsViewOf recording.now v }
-    ensures { IfOk result (λ found. IfSome found (λ fact. IsNever recording.now)) }
+    ensures { IfOk result (λ found. IfSome found (IsWrong recording.now)) }
 {
     let mut table = vec![in alloc; None; recording.keys as usize]?;
     for i in 0..views.len() {
@@ -230,7 +199,7 @@ pub fn wrong_update(
     requires recording { IsRecording recording.now }
     requires owners { AreOwners recording.now owners.now }
     requires views { (v : View) → Contains views.now v → IsViewOf recording.now v }
-    ensures { IfSome result (λ fact. IsNever recording.now) }
+    ensures { IfSome result (IsWrong recording.now) }
 {
     let first = lost.first as usize;
     if first >= views.len() {
@@ -283,4 +252,20 @@ fn is_update(recording: &Recording, view: View) -> bool
     ensures { IsTrue result → (v : ℕ) × PutsIn (ops_of recording.now view.txn) view.key v }
 {
     puts(recording.ops_of(view.txn as usize), view.key)
+}
+
+/// The fact of a read that no state explains.
+pub fn internal(recording: &Recording, txn: u32, place: u32) -> Fact
+    requires recording { IsRecording recording.now }
+    requires internal { IsInternal recording.now txn place }
+    ensures { IsWrong recording.now result }
+{
+    let ops = recording.ops_of(txn as usize);
+    Fact {
+        rule: Rule::Internal,
+        txn,
+        key: ops[place as usize].key,
+        value: None,
+        by: None,
+    }
 }

@@ -3,15 +3,27 @@
 //! explanation; and some reads nothing explains.
 #![tactic(auto)]
 
+mod block;
+mod chain;
+mod clock;
 mod evidence;
 mod facts;
 mod fit;
 mod forced;
+mod lists;
+mod pairs;
+mod seen;
+mod sessions;
+mod steps;
+mod undecided;
 mod verdict;
 mod versions;
 
+pub use clock::{Event, events_of};
 pub use evidence::{cycle_of, timestamps};
-pub use facts::{wrong_update, wrong_views};
+pub use facts::{internal, wrong_update, wrong_views};
 pub use fit::value_of;
-pub use verdict::{Cycle, CycleStep, Edge, Fact, Rule, Timestamps, Verdict};
+pub use lists::{are_lists, wrong_lists};
+pub use undecided::is_undecided;
+pub use verdict::{Beside, Cycle, CycleStep, Edge, Fact, Rule, Timestamps, Verdict};
 pub use versions::{Base, Home, Lives, Lost, NO_SPAN, Shown, Versions};

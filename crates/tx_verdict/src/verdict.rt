@@ -35,10 +35,21 @@ pub struct CycleStep {
     pub to: u32,
 }
 
+/// Which order a cycle needs beside those of reads and writes.
+#[derive(Clone, Copy, Debug, PartialEq, Eq)]
+pub enum Beside {
+    Nothing,
+    /// That of a process.
+    Processes,
+    /// That of the clock, and maybe of a process as well.
+    Clock,
+}
+
 /// A cycle of transactions, each of which has to come before the next one.
 #[derive(Debug, Drop)]
 pub struct Cycle {
     pub anomaly: Anomaly,
+    pub beside: Beside,
     pub steps: Vec<CycleStep>,
 }
 
@@ -47,7 +58,7 @@ pub struct Cycle {
 pub enum Rule {
     /// It is of a transaction that failed.
     G1a,
-    /// It is of a transaction that put another one behind it.
+    /// It is of a transaction that left another one in its place, or more before or behind it.
     G1b,
     /// It lacks the reader's own values, or has those that it puts only later.
     Internal,

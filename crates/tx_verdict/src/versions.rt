@@ -45,7 +45,7 @@ pub struct Lives {
 }
 
 /// Versions that some transactions may have written. A key of its history is a chain of versions of
-/// one key of the recording.
+/// one key of the recording; a transaction past the recording's is a moment of the clock.
 #[derive(Drop)]
 pub struct Versions {
     pub recorded: Recorded,
@@ -63,6 +63,8 @@ pub struct Versions {
     pub shown: Vec<Shown>,
     /// Whether each transaction committed.
     pub live: Vec<bool>,
+    /// When each moment is, by the recorder's clock.
+    pub times: Vec<u64>,
 }
 
 /// No values.

@@ -109,7 +109,7 @@ answered_own r views t p span at own s is =
 pub view_by : (r : Recording) (t p : ℕ) (span base : Span) → IsReadAt r t p span → base.first + base.count ≤ length r.elements.items
     → ((xs : List ℕ) → (list_of r span ≡ after (take p (ops_of r t)) (op_at r t p).key xs) ↔ (xs ≡ list_of r base))
     → IsViewOf r record { txn = t; key = (op_at r t p).key; span = base }
-view_by r t p span base at within iff = (within, (p, span, at, refl, λ xs e. (iff xs).0 e))
+view_by r t p span base at within iff = (within, (p, span, at, refl, iff))
 
 -- each of the old views and one more
 pub only_push : (r : Recording) (views : List View) (v : View) → IsViewOf r v → ((w : View) → Contains views w → IsViewOf r w)

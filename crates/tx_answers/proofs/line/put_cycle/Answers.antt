@@ -5,7 +5,7 @@ use Rattle.serde_json.specs.View.{items_of}
 use Rattle.serde_json.specs.Written.{compact_text}
 use Rattle.tx_text.proofs.Texts.{if_ok}
 use Rattle.tx_check.proofs.Joins.{join_two}
-use Rattle.tx_answers.specs.Words.{anomaly_word, step_data}
+use Rattle.tx_answers.specs.Words.{cycle_word, step_data}
 use Rattle.tx_answers.proofs.Lines.{after, pair_end}
 use Rattle.tx_answers.proofs.line.put_cycle.Goals as goal
 
@@ -15,7 +15,7 @@ returns c =
     let old = c.args.out.now.items in
     let cycle = c.args.cycle.now in
     let before = codes "[\"import\",\"no\"," in
-    let name = compact_text (string (anomaly_word cycle.anomaly)) in
+    let name = compact_text (string (cycle_word cycle)) in
     let steps = compact_text (array (items_of (map (step_data c.args.history.now) cycle.steps.items))) in
     let told : c.put_steps.new.out.items ≡ c.extend_from_slice-2.new.self.items ++ steps =
     c.in_ok-put_steps.ensures ∙ ap (λ xs. c.extend_from_slice-2.new.self.items

@@ -3,7 +3,7 @@ use Rattle.std.proofs.Common.{◌≡◌, get_or}
 use Rattle.std.proofs.lemmas.List.Elements.{Contains-get_or}
 use Rattle.tx_views.proofs.Owning.{put_once}
 use Rattle.tx_verdict.specs.Versions.{no_view}
-use Rattle.tx_verdict.proofs.Refuting.{lost_update}
+use Rattle.tx_verdict.proofs.Refuting.{fact_lost_update}
 use Rattle.tx_verdict.proofs.facts.wrong_update.Goals as goal
 
 pub returns : goal.returns
@@ -12,7 +12,7 @@ returns c =
     let views = c.args.views.now in
     let one = get_or views c.args.lost.first no_view in
     let other = get_or views c.args.lost.second no_view in
-    lost_update r one other (put_once r c.args.owners.now c.requires.owners)
+    fact_lost_update r one other (put_once r c.args.owners.now c.requires.owners)
     (c.requires.views one (Contains-get_or views c.args.lost.first no_view c.if-first-views.false))
     (c.requires.views other (Contains-get_or views c.args.lost.second no_view c.if-second-views.false))
     c.if-one-other.false c.if-one-other-2.false (c.is_same.ensures c.if-not-is_same.false)

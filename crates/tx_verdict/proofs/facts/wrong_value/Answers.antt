@@ -1,19 +1,19 @@
 -- Nobody put the value, one that failed did, or the reader does later.
 use Rattle.std.proofs.Common.{◌≡◌}
-use Rattle.tx_verdict.proofs.Refuting.{unwritten, aborted, itself}
+use Rattle.tx_verdict.proofs.Refuting.{fact_unwritten, fact_aborted, fact_itself}
 use Rattle.tx_verdict.proofs.facts.wrong_value.Goals as goal
 
 pub returns-in_default : goal.returns-in_default
 returns-in_default c =
-    unwritten c.args.recording.now c.args.owners.now c.requires.owners c.args.view c.requires.view c.args.list.now c.requires.list c.args.i
-    c.requires.within c.in_default.ensures.none
+    fact_unwritten c.args.recording.now c.args.owners.now c.requires.owners c.args.view c.requires.view c.args.list.now c.requires.list
+    c.args.i c.requires.within c.fact_of.result c.fact_of.ensures c.in_default.ensures.none
 
 pub returns-then-is_failed : goal.returns-then-is_failed
 returns-then-is_failed c =
-    aborted c.args.recording.now c.args.owners.now c.requires.owners c.args.view c.requires.view c.args.list.now c.requires.list c.args.i
-    c.in-Some.owner c.requires.within c.in-Some.ensures.some (c.is_failed.ensures c.if-is_failed.true)
+    fact_aborted c.args.recording.now c.args.owners.now c.requires.owners c.args.view c.requires.view c.args.list.now c.requires.list
+    c.args.i c.requires.within c.fact_of-then-is_failed.result c.in-Some.owner c.fact_of-then-is_failed.ensures c.in-Some.ensures.some (c.is_failed.ensures c.if-is_failed.true)
 
 pub returns-then-owner-view : goal.returns-then-owner-view
 returns-then-owner-view c =
-    itself c.args.recording.now c.args.owners.now c.requires.owners c.args.view c.requires.view c.args.list.now c.requires.list c.args.i
-    c.in-Some.owner c.requires.within c.in-Some.ensures.some c.if-owner-view.true
+    fact_itself c.args.recording.now c.args.owners.now c.requires.owners c.args.view c.requires.view c.args.list.now c.requires.list
+    c.args.i c.requires.within c.fact_of-then-owner-view.result c.in-Some.owner c.fact_of-then-owner-view.ensures c.in-Some.ensures.some c.if-owner-view.true

@@ -1,0 +1,8 @@
+-- None of those so far is by a process.
+use Rattle.std.proofs.Common.{ℕ, ◌<◌, ◌≢◌}
+use Rattle.tx_verdict.specs.declared.verdict.Edge.TheVariants.{So}
+use Rattle.tx_verdict.specs.Steps.{step_at}
+use Rattle.tx_verdict.proofs.steps.has_process.Given as goal
+
+abbrev pub invariant-loop-i : goal.invariant-loop-i
+invariant-loop-i l = (i : ℕ) → i < l.i → (step_at l.steps i).edge ≢ So

@@ -1,0 +1,200 @@
+//! Whether the versions of a chain are known to be committed one after the other.
+ghost use Rattle.std.specs.Prelude.{◌≡◌, ◌≢◌, ◌⊎◌, ℕ, ◌+◌, ◌<◌, ◌≤◌, length, Contains, ◌&&◌, IfOk, IsTrue, slice_index};
+ghost use Rattle.tx_recording.specs.Recordings.{IsRecording};
+ghost use Rattle.tx_views.specs.declared.view.View.{View};
+ghost use Rattle.tx_views.specs.Views.{IsViewOf};
+ghost use Rattle.tx_views.specs.Owners.{AreOwners};
+ghost use Rattle.tx_history.specs.Records.{IsRecorded, writers_of};
+ghost use Rattle.tx_verdict.specs.Forced.{IsBased, IsLinked, AreWriters, AddsFirst};
+
+use crate::seen::{is_by, sees_nothing, sees_writer};
+use crate::versions::{Base, Versions};
+use std::alloc::{AllocError, Global};
+use tx_recording::{Op, Recording};
+use tx_views::{Owner, View, effect_of};
+
+// Whether operations append to a key, and this value first.
+fn is_first(alloc: Global, ops: &[Op], key: u32, value: u32) -> Result<bool, AllocError>
+    ensures { IfOk result (λ is. IsTrue is → AddsFirst ops.now key value) }
+{
+    let effect = effect_of(alloc, ops, key)?;
+    if effect.clears {
+        return Ok(false);
+    }
+    let own = effect.values.as_slice();
+    if own.len() == 0 {
+        return Ok(false);
+    }
+    Ok(own[0] == value)
+}
+
+// Whether the value at a place of a view is the first that the writer appended to the key, and what
+// stands in front of it was put last by the one before, or nothing does before the first.
+fn is_within(
+    alloc: Global,
+    recording: &Recording,
+    owners: &[Option<Owner>],
+    view: View,
+    place: usize,
+    key: u32,
+    writers: &[u32],
+    i: usize,
+) -> Result<bool, AllocError>
+    requires recording { IsRecording recording.now }
+    requires owners { AreOwners recording.now owners.now }
+    requires view { IsViewOf recording.now view }
+    requires within { i < length writers.now }
+    ensures { IfOk result (λ is. IsTrue is → IsBased recording.now key writers.now i) }
+{
+    let list = recording.list_of(view.span);
+    let writer = writers[i];
+    if view.key != key {
+        return Ok(false);
+    }
+    if place >= list.len() {
+        return Ok(false);
+    }
+    if writer as usize >= recording.transactions.len() {
+        return Ok(false);
+    }
+    if !is_first(alloc, recording.ops_of(writer as usize), key, list[place])? {
+        return Ok(false);
+    }
+    if i == 0 {
+        return Ok(place == 0);
+    }
+    if place == 0 {
+        return Ok(false);
+    }
+    Ok(is_by(owners, list[place - 1], writers[i - 1]))
+}
+
+// Whether the writer of a version is known to have seen the one before it, or nothing before the
+// first, by a view of its own.
+fn is_viewed(
+    recording: &Recording,
+    owners: &[Option<Owner>],
+    view: View,
+    key: u32,
+    writers: &[u32],
+    i: usize,
+) -> bool
+    requires owners { AreOwners recording.now owners.now }
+    requires view { IsViewOf recording.now view }
+    requires within { i < length writers.now }
+    ensures { IsTrue result → IsBased recording.now key writers.now i }
+{
+    if i == 0 {
+        return sees_nothing(recording, view, writers[0], key);
+    }
+    sees_writer(recording, owners, view, writers[i], key, writers[i - 1])
+}
+
+// Whether the writer of a version is known to have seen the one before it, or nothing before the
+// first.
+fn is_based(
+    alloc: Global,
+    recording: &Recording,
+    owners: &[Option<Owner>],
+    views: &[View],
+    base: Base,
+    key: u32,
+    writers: &[u32],
+    i: usize,
+) -> Result<bool, AllocError>
+    requires recording { IsRecording recording.now }
+    requires owners { AreOwners recording.now owners.now }
+    requires views { (v : View) → Contains views.now v → IsViewOf recording.now v }
+    requires within { i < length writers.now }
+    ensures { IfOk result (λ is. IsTrue is → IsBased recording.now key writers.now i) }
+{
+    match base {
+        Base::Blind => Ok(false),
+        Base::View(view) => {
+            if view as usize >= views.len() {
+                return Ok(false);
+            }
+            Ok(is_viewed(recording, owners, views[view as usize], key, writers, i))
+        }
+        Base::Within(view, place) => {
+            if view as usize >= views.len() {
+                return Ok(false);
+            }
+            is_within(
+                alloc,
+                recording,
+                owners,
+                views[view as usize],
+                place as usize,
+                key,
+                writers,
+                i,
+            )
+        }
+    }
+}
+
+// Whether none of the first so many is this one.
+fn is_other(writers: &[u32], count: usize, txn: u32) -> bool
+    requires { count ≤ length writers.now }
+    ensures { IsTrue result → (i : ℕ) → i < count → slice_index writers.now i ≢ txn }
+{
+    for i in 0..count {
+        if writers[i] == txn {
+            return false;
+        }
+    }
+    true
+}
+
+// Whether the writer of a version saw the one before it, or is none of those before it, which saw one
+// another.
+fn is_next(writers: &[u32], i: usize, known: bool, based: bool) -> bool
+    requires { i < length writers.now }
+    ensures { IsTrue result → ((i ≡ 0) ⊎ IsTrue based) ⊎ (IsTrue known
+        × ((j : ℕ) → j < i → slice_index writers.now j ≢ slice_index writers.now i)) }
+{
+    if i == 0 || based {
+        return true;
+    }
+    known && is_other(writers, i, writers[i])
+}
+
+// Whether both are so.
+fn both(one: bool, other: bool) -> bool
+    ensures { result ≡ (one && other) }
+{
+    if one { other } else { false }
+}
+
+/// Whether each version of a chain is known to be committed when the writer of the next starts: the
+/// latter saw it, or it saw none of those before it, which all saw one another.
+pub(crate) fn is_chain(
+    alloc: Global,
+    recording: &Recording,
+    owners: &[Option<Owner>],
+    views: &[View],
+    versions: &Versions,
+    chain: u32,
+    key: u32,
+) -> Result<bool, AllocError>
+    requires recording { IsRecording recording.now }
+    requires owners { AreOwners recording.now owners.now }
+    requires views { (v : View) → Contains views.now v → IsViewOf recording.now v }
+    requires history { IsRecorded versions.now.recorded }
+    requires writers { AreWriters recording.now key (writers_of versions.now.recorded chain) }
+    ensures { IfOk result (λ is. IsTrue is → (i : ℕ) → i + 1 < length (writers_of versions.now.recorded chain)
+        → IsLinked recording.now (writers_of versions.now.recorded chain) i) }
+{
+    let writers = versions.recorded.writers_of(chain as usize);
+    let mut known = true;
+    for i in 0..writers.len() {
+        let base = versions.base_of(chain as usize, i);
+        let based = is_based(alloc, recording, owners, views, base, key, writers, i)?;
+        if !is_next(writers, i, known, based) {
+            return Ok(false);
+        }
+        known = both(known, based);
+    }
+    Ok(true)
+}

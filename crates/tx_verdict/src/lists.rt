@@ -1,0 +1,227 @@
+//! What is wrong with the lists that were seen, where nothing is written in place of what was there.
+ghost use Rattle.std.specs.Prelude.{◌≡◌, ◌≢◌, ℕ, ◌<◌, ◌≤◌, length, Contains, IfOk, IfSome, IsTrue, slice_index};
+ghost use Rattle.tx_recording.specs.Recordings.{IsRecording, list_of};
+ghost use Rattle.tx_views.specs.declared.view.View.{View};
+ghost use Rattle.tx_views.specs.Owners.{AreOwners};
+ghost use Rattle.tx_views.specs.Views.{IsViewOf};
+ghost use Rattle.tx_verdict.specs.Facts.{AreLists};
+ghost use Rattle.tx_verdict.specs.Verdicts.{IsWrong};
+
+use crate::block::wrong_block;
+use crate::facts::view_before;
+use crate::seen::owner_of;
+use crate::verdict::{Fact, Rule};
+use std::alloc::{AllocError, Global};
+use tx_recording::{Act, Recording};
+use tx_views::{Owner, View};
+
+/// Whether nothing is written in place of what was there: all keys hold lists.
+pub fn are_lists(recording: &Recording) -> bool
+    ensures { IsTrue result → AreLists recording.now }
+{
+    for i in 0..recording.ops.len() {
+        match recording.ops[i].act {
+            Act::Write(_) => return false,
+            Act::Append(_) | Act::Read(_) => {}
+        }
+    }
+    true
+}
+
+// The first place at which both lists have a value, and not the same.
+fn first_difference(one: &[u32], other: &[u32]) -> Option<usize>
+    ensures { IfSome result (λ i. (i < length one.now) × (i < length other.now)
+        × (slice_index one.now i ≢ slice_index other.now i)) }
+{
+    for i in 0..one.len().min(other.len()) {
+        if one[i] != other[i] {
+            return Some(i);
+        }
+    }
+    None
+}
+
+// What is wrong with a list beside another one of the same key: neither begins with the other.
+fn wrong_order(recording: &Recording, view: View, other: View) -> Option<Fact>
+    requires lists { AreLists recording.now }
+    requires view { IsViewOf recording.now view }
+    requires other { IsViewOf recording.now other }
+    ensures { IfSome result (IsWrong recording.now) }
+{
+    if view.key != other.key {
+        return None;
+    }
+    let list = recording.list_of(view.span);
+    let place = first_difference(list, recording.list_of(other.span))?;
+    Some(Fact {
+        rule: Rule::IncompatibleOrder,
+        txn: view.txn,
+        key: view.key,
+        value: Some(list[place]),
+        by: Some(other.txn),
+    })
+}
+
+// What is wrong with a list beside the longest of its key.
+fn wrong_orders(recording: &Recording, views: &[View], longest: &[Option<u32>]) -> Option<Fact>
+    requires lists { AreLists recording.now }
+    requires views { (v : View) → Contains views.now v → IsViewOf recording.now v }
+    ensures { IfSome result (IsWrong recording.now) }
+{
+    for i in 0..views.len() {
+        let Some(other) = view_before(views, longest, views[i].key) else {
+            continue;
+        };
+        let found = wrong_order(recording, views[i], views[other]);
+        if found.is_some() {
+            return found;
+        }
+    }
+    None
+}
+
+// An earlier place of the value at a place, where a table has one.
+fn place_before(table: &[usize], list: &[u32], j: usize) -> Option<usize>
+    requires { j < length list.now }
+    ensures { IfSome result (λ i. (i < j) × (slice_index list.now i ≡ slice_index list.now j)) }
+{
+    let Some(place) = table.get(list[j] as usize) else {
+        return None;
+    };
+    let i = *place;
+    if i >= j {
+        return None;
+    }
+    if list[i] != list[j] {
+        return None;
+    }
+    Some(i)
+}
+
+// Notes the place of a value in a table.
+fn note_place(table: &mut [usize], value: u32, place: usize) {
+    if (value as usize) < table.len() {
+        table[value as usize] = place;
+    }
+}
+
+// What is wrong with a list that has a value twice. It uses a table by value, whatever that has.
+fn wrong_twice(
+    recording: &Recording,
+    owners: &[Option<Owner>],
+    view: View,
+    table: &mut [usize],
+) -> Option<Fact>
+    requires owners { AreOwners recording.now owners.now }
+    requires view { IsViewOf recording.now view }
+    ensures { IfSome result (IsWrong recording.now) }
+{
+    let list = recording.list_of(view.span);
+    for j in 0..list.len() {
+        if let Some(_earlier) = place_before(table, list, j) {
+            return Some(Fact {
+                rule: Rule::Duplicate,
+                txn: view.txn,
+                key: view.key,
+                value: Some(list[j]),
+                by: None,
+            });
+        }
+        note_place(table, list[j], j);
+    }
+    None
+}
+
+// Whether the value at a place was put by the transaction that put the one before.
+fn goes_on(owners: &[Option<Owner>], list: &[u32], i: usize) -> bool
+    requires { i < length list.now }
+{
+    if i == 0 {
+        return false;
+    }
+    match (owner_of(owners, list[i - 1]), owner_of(owners, list[i])) {
+        (Some(before), Some(owner)) => before.txn == owner.txn,
+        _ => false,
+    }
+}
+
+// What is wrong with a list that has not all that one transaction put into the key.
+fn wrong_blocks(
+    alloc: Global,
+    recording: &Recording,
+    owners: &[Option<Owner>],
+    view: View,
+) -> Result<Option<Fact>, AllocError>
+    requires recording { IsRecording recording.now }
+    requires owners { AreOwners recording.now owners.now }
+    requires view { IsViewOf recording.now view }
+    ensures { IfOk result (λ found. IfSome found (IsWrong recording.now)) }
+{
+    let list = recording.list_of(view.span);
+    for i in 0..list.len() {
+        if goes_on(owners, list, i) {
+            continue;
+        }
+        let found = wrong_block(alloc, recording, owners, view, list, i)?;
+        if found.is_some() {
+            return Ok(found);
+        }
+    }
+    Ok(None)
+}
+
+// What is wrong with the longest list of a key.
+fn wrong_longest(
+    alloc: Global,
+    recording: &Recording,
+    owners: &[Option<Owner>],
+    views: &[View],
+    longest: &[Option<u32>],
+) -> Result<Option<Fact>, AllocError>
+    requires recording { IsRecording recording.now }
+    requires owners { AreOwners recording.now owners.now }
+    requires views { (v : View) → Contains views.now v → IsViewOf recording.now v }
+    ensures { IfOk result (λ found. IfSome found (IsWrong recording.now)) }
+{
+    let mut table = vec![in alloc; 0; recording.values as usize]?;
+    for key in 0..recording.keys {
+        let Some(place) = view_before(views, longest, key) else {
+            continue;
+        };
+        let view = views[place];
+        let found = wrong_twice(recording, owners, view, table.as_mut_slice());
+        if found.is_some() {
+            return Ok(found);
+        }
+        let found = wrong_blocks(alloc, recording, owners, view)?;
+        if found.is_some() {
+            return Ok(found);
+        }
+    }
+    Ok(None)
+}
+
+/// What is wrong with the lists that were seen: two of one key, of which neither begins with the other,
+/// a value that is there twice, or some of what one transaction put into the key without the rest. The
+/// table has of each key a view of it, the longest; where it has others, less is found.
+///
+/// `AllocError` where there was no room.
+pub fn wrong_lists(
+    alloc: Global,
+    recording: &Recording,
+    owners: &[Option<Owner>],
+    views: &[View],
+    longest: &[Option<u32>],
+) -> Result<Option<Fact>, AllocError>
+    requires recording { IsRecording recording.now }
+    requires owners { AreOwners recording.now owners.now }
+    requires lists { AreLists recording.now }
+    requires views { (v : View) → Contains views.now v → IsViewOf recording.now v }
+    ensures { IfOk result (λ found. IfSome found (IsWrong recording.now)) }
+{
+    let found = wrong_orders(recording, views, longest);
+    if found.is_some() {
+        return Ok(found);
+    }
+    wrong_longest(alloc, recording, owners, views, longest)
+}

@@ -1,0 +1,74 @@
+//! What a view says of who put into its key.
+ghost use Rattle.std.specs.Prelude.{◌≡◌, ℕ, ◌<◌, Some, IfSome, IfNone, IsTrue};
+ghost use Rattle.tx_recording.specs.declared.recording.Orders.{Orders};
+ghost use Rattle.tx_recording.specs.Explanations.{Explanation, Explains, IsWriter, IsNewest};
+ghost use Rattle.tx_views.specs.Views.{IsViewOf};
+ghost use Rattle.tx_views.specs.Owners.{AreOwners, owner_at};
+ghost use Rattle.tx_views.specs.declared.owner.Owner.{Owner};
+
+use tx_recording::Recording;
+use tx_views::{Owner, View};
+
+/// Who put a value.
+pub(crate) fn owner_of(owners: &[Option<Owner>], value: u32) -> Option<Owner>
+    ensures some { IfSome result (λ o. owner_at owners.now value ≡ Some o) }
+    ensures none { IfNone result ((o : Owner) → owner_at owners.now value ≡ Some o → ⊥) }
+{
+    if value as usize >= owners.len() {
+        return None;
+    }
+    owners[value as usize]
+}
+
+/// Whether a value was put by the transaction.
+pub(crate) fn is_by(owners: &[Option<Owner>], value: u32, txn: u32) -> bool
+    ensures { IsTrue result → (o : Owner) × (owner_at owners.now value ≡ Some o) × (o.txn ≡ txn) }
+{
+    match owner_of(owners, value) {
+        Some(owner) => owner.txn == txn,
+        None => false,
+    }
+}
+
+/// Whether a view is of what the writer left of a key, by the last value.
+pub(crate) fn sees_writer(
+    recording: &Recording,
+    owners: &[Option<Owner>],
+    view: View,
+    txn: u32,
+    key: u32,
+    writer: u32,
+) -> bool
+    requires owners { AreOwners recording.now owners.now }
+    requires view { IsViewOf recording.now view }
+    ensures { IsTrue result → (orders : Orders) (x : Explanation) → Explains recording.now orders x
+        → IsNewest recording.now x key (x.start txn) writer }
+{
+    if view.txn != txn {
+        return false;
+    }
+    if view.key != key {
+        return false;
+    }
+    let list = recording.list_of(view.span);
+    let count = list.len();
+    if count == 0 {
+        return false;
+    }
+    is_by(owners, list[count - 1], writer)
+}
+
+/// Whether a view is of a key that holds nothing.
+pub(crate) fn sees_nothing(recording: &Recording, view: View, txn: u32, key: u32) -> bool
+    requires view { IsViewOf recording.now view }
+    ensures { IsTrue result → (orders : Orders) (x : Explanation) → Explains recording.now orders x
+        → (w : ℕ) → IsWriter recording.now x w key → x.start txn < x.commit w }
+{
+    if view.txn != txn {
+        return false;
+    }
+    if view.key != key {
+        return false;
+    }
+    view.span.count == 0
+}

@@ -1,0 +1,262 @@
+//! The steps of a cycle.
+ghost use Rattle.std.specs.Prelude.{◌≡◌, ◌≢◌, ◌⊎◌, ℕ, ◌+◌, ◌-◌, ◌<◌, ◌≤◌, length, Contains, Some, OnOk, IfOk, IfSome, IsTrue, true, false, slice_index};
+ghost use Rattle.tx_recording.specs.declared.recording.Orders.{Orders};
+ghost use Rattle.tx_history.specs.declared.dependency.Dependency.{Dependency};
+ghost use Rattle.tx_history.specs.Dependencies.{Depends};
+ghost use Rattle.tx_history.specs.Records.{history_of};
+ghost use Rattle.tx_verdict.specs.declared.verdict.CycleStep.{CycleStep};
+ghost use Rattle.tx_verdict.specs.declared.verdict.Edge.TheVariants.{So, Rt};
+ghost use Rattle.tx_verdict.specs.Forced.{AreForced, key_of};
+ghost use Rattle.tx_verdict.specs.Steps.{IsEdgeFor, IsStep, AreSteps, AreRound, Needs};
+
+use crate::pairs::{is_earlier, is_session};
+use crate::verdict::{Beside, CycleStep, Edge};
+use crate::versions::Versions;
+use std::alloc::{AllocError, Global};
+use tx_history::{Dependency, Kind};
+use tx_recording::{Orders, Recording};
+
+// The edge of a dependency by reads and writes.
+fn edge_of(kind: Kind) -> Option<Edge>
+    ensures { IfSome result (IsEdgeFor kind) }
+{
+    match kind {
+        Kind::Ww => Some(Edge::Ww),
+        Kind::Wr => Some(Edge::Wr),
+        Kind::Rw => Some(Edge::Rw),
+        Kind::Own | Kind::After => None,
+    }
+}
+
+// The step of a dependency by reads and writes.
+fn step_of(
+    recording: &Recording,
+    versions: &Versions,
+    orders: Orders,
+    dependency: Dependency,
+) -> Option<CycleStep>
+    requires forced { AreForced recording.now orders (history_of versions.now.recorded) (key_of versions.now) }
+    requires holds { Depends (history_of versions.now.recorded) dependency.kind dependency.from dependency.to dependency.key
+        dependency.version }
+    ensures { IfSome result (IsStep recording.now orders) }
+{
+    let edge = edge_of(dependency.kind)?;
+    if dependency.key >= versions.names.len() {
+        return None;
+    }
+    Some(CycleStep {
+        from: dependency.from,
+        edge,
+        key: Some(versions.names[dependency.key]),
+        to: dependency.to,
+    })
+}
+
+// The step of two that a process ran one after the other.
+fn step_in_process(recording: &Recording, orders: Orders, from: u32, to: u32) -> Option<CycleStep>
+    ensures { IfSome result (IsStep recording.now orders) }
+{
+    if !orders.sessions {
+        return None;
+    }
+    if !is_session(recording, from, to) {
+        return None;
+    }
+    Some(CycleStep {
+        from,
+        edge: Edge::So,
+        key: None,
+        to,
+    })
+}
+
+// The step of two of which the first had ended when the second began.
+fn step_in_time(recording: &Recording, orders: Orders, from: u32, to: u32) -> Option<CycleStep>
+    ensures { IfSome result (IsStep recording.now orders) }
+{
+    if !orders.strict {
+        return None;
+    }
+    if !is_earlier(recording, from, to) {
+        return None;
+    }
+    Some(CycleStep {
+        from,
+        edge: Edge::Rt,
+        key: None,
+        to,
+    })
+}
+
+// The step of two that come one after the other, straight or by moments of the clock.
+fn step_after(
+    recording: &Recording,
+    orders: Orders,
+    dependency: Dependency,
+    began: Option<u32>,
+) -> Option<CycleStep>
+    ensures { IfSome result (IsStep recording.now orders) }
+{
+    match began {
+        Some(from) => step_in_time(recording, orders, from, dependency.to),
+        None => step_in_process(recording, orders, dependency.from, dependency.to),
+    }
+}
+
+// Adds a step, if it is one.
+fn push_step(steps: &mut Vec<CycleStep>, step: Option<CycleStep>) -> Result<(), AllocError>
+    ensures kept { OnOk result ((s : CycleStep) → Contains steps.new.items s → Contains steps.old.items s ⊎ (step ≡ Some s)) }
+{
+    if let Some(step) = step {
+        steps.push(step)?;
+    }
+    Ok(())
+}
+
+// Adds the step of two that come one after the other, unless the second is a moment of the clock. From
+// where a way over moments began.
+fn add_after(
+    steps: &mut Vec<CycleStep>,
+    recording: &Recording,
+    orders: Orders,
+    dependency: Dependency,
+    began: Option<u32>,
+) -> Result<Option<u32>, AllocError>
+    requires { AreSteps recording.now orders steps.old.items }
+    ensures { OnOk result (AreSteps recording.now orders steps.new.items) }
+{
+    if dependency.to as usize >= recording.transactions.len() {
+        return Ok(Some(began.unwrap_or(dependency.from)));
+    }
+    let step = step_after(recording, orders, dependency, began);
+    push_step(steps, step)?;
+    Ok(None)
+}
+
+// Adds the step of a dependency, unless it is of one transaction alone.
+fn add_step(
+    steps: &mut Vec<CycleStep>,
+    recording: &Recording,
+    versions: &Versions,
+    orders: Orders,
+    dependency: Dependency,
+    began: Option<u32>,
+) -> Result<Option<u32>, AllocError>
+    requires forced { AreForced recording.now orders (history_of versions.now.recorded) (key_of versions.now) }
+    requires holds { Depends (history_of versions.now.recorded) dependency.kind dependency.from dependency.to dependency.key
+        dependency.version }
+    requires steps { AreSteps recording.now orders steps.old.items }
+    ensures { OnOk result (AreSteps recording.now orders steps.new.items) }
+{
+    match dependency.kind {
+        Kind::Own => Ok(began),
+        Kind::After => add_after(steps, recording, orders, dependency, began),
+        Kind::Ww | Kind::Wr | Kind::Rw => {
+            let step = step_of(recording, versions, orders, dependency);
+            push_step(steps, step)?;
+            Ok(None)
+        }
+    }
+}
+
+// The first that does not come from a moment of the clock, 0 where there is none.
+fn first_of(recording: &Recording, found: &[Dependency]) -> usize {
+    for i in 0..found.len() {
+        if (found[i].from as usize) < recording.transactions.len() {
+            return i;
+        }
+    }
+    0
+}
+
+// The place at i from the first one on, round.
+fn place_from(first: usize, i: usize, count: usize) -> usize
+    requires { i < count }
+    ensures { result < count }
+{
+    let left = count - i;
+    if first < left {
+        return first + i;
+    }
+    (first - left).min(i)
+}
+
+/// The steps of a cycle, each from one transaction of the recording to another.
+pub(crate) fn steps_of(
+    alloc: Global,
+    recording: &Recording,
+    versions: &Versions,
+    orders: Orders,
+    found: &[Dependency],
+) -> Result<Vec<CycleStep>, AllocError>
+    requires forced { AreForced recording.now orders (history_of versions.now.recorded) (key_of versions.now) }
+    requires hold { (d : Dependency) → Contains found.now d
+        → Depends (history_of versions.now.recorded) d.kind d.from d.to d.key d.version }
+    ensures { IfOk result (λ steps. AreSteps recording.now orders steps.items) }
+{
+    let mut steps = Vec::new(alloc);
+    let first = first_of(recording, found);
+    let mut began = None;
+    for i in 0..found.len() {
+        let at = place_from(first, i, found.len());
+        began = add_step(&mut steps, recording, versions, orders, found[at], began)?;
+    }
+    Ok(steps)
+}
+
+/// Whether each step leads to where the next one begins, and the last to the first.
+pub(crate) fn is_round(steps: &[CycleStep]) -> bool
+    ensures { IsTrue result → AreRound steps.now }
+{
+    let count = steps.len();
+    if count == 0 {
+        return false;
+    }
+    for i in 1..count {
+        if steps[i - 1].to != steps[i].from {
+            return false;
+        }
+    }
+    steps[count - 1].to == steps[0].from
+}
+
+// Whether one of the steps is by the clock.
+fn has_clock(steps: &[CycleStep]) -> bool
+    ensures yes { IsTrue result → (s : CycleStep) × Contains steps.now s × (s.edge ≡ Rt) }
+    ensures no { result ≡ false → (s : CycleStep) → Contains steps.now s → s.edge ≢ Rt }
+{
+    for i in 0..steps.len() {
+        match steps[i].edge {
+            Edge::Rt => return true,
+            Edge::Ww | Edge::Wr | Edge::Rw | Edge::So => {}
+        }
+    }
+    false
+}
+
+// Whether one of the steps is by a process.
+fn has_process(steps: &[CycleStep]) -> bool
+    ensures yes { IsTrue result → (s : CycleStep) × Contains steps.now s × (s.edge ≡ So) }
+    ensures no { result ≡ false → (s : CycleStep) → Contains steps.now s → s.edge ≢ So }
+{
+    for i in 0..steps.len() {
+        match steps[i].edge {
+            Edge::So => return true,
+            Edge::Ww | Edge::Wr | Edge::Rw | Edge::Rt => {}
+        }
+    }
+    false
+}
+
+/// Which order the steps need beside those of reads and writes.
+pub(crate) fn beside_of(steps: &[CycleStep]) -> Beside
+    ensures { Needs steps.now result }
+{
+    if has_clock(steps) {
+        return Beside::Clock;
+    }
+    if has_process(steps) {
+        return Beside::Processes;
+    }
+    Beside::Nothing
+}
