@@ -17,4 +17,4 @@ pub use change::is_same_lock;
 pub use row::{Change, KeyColumn, Row, RowKind, Sending, Session, Sheet};
 pub use seen::{Kind, SeenLock, SeenRecord};
 pub use sheet::sheet_of;
-pub use words::{places, put_number, put_stamp, shown};
+pub use words::{places, put_first, put_number, put_stamp, shown};
