@@ -4,7 +4,7 @@ use crate::label::label_of;
 use crate::layout::{LEFT, Layout, row_height};
 use crate::locks::Bars;
 use crate::markup::{at, put_words};
-use crate::rows::{HeldBox, put_dot_and_label, put_reason, put_sending};
+use crate::rows::{HeldBox, put_dot_and_label, put_reads, put_reason, put_sending};
 use std::alloc::{AllocError, Global};
 use tx_sheet::{Row, RowKind, Sheet, put_number};
 
@@ -66,6 +66,13 @@ impl Drawing {
             &mut self.boxes,
             row,
             place,
+        )?;
+        put_reads(
+            self.alloc,
+            &mut self.over,
+            &self.layout,
+            y,
+            row.reads.as_slice(),
         )?;
         self.bars.put_changes(
             self.alloc,

@@ -1,6 +1,6 @@
 //! The words of a drawing.
 use std::alloc::{AllocError, Global};
-use tx_sheet::{Kind, Row, SeenLock, SeenRecord, places, put_first, put_stamp};
+use tx_sheet::{KeyRead, Kind, Row, SeenLock, SeenRecord, places, put_first, put_stamp};
 
 /// The most places that the words over a step take.
 const MAX_LABEL: usize = 33;
@@ -55,9 +55,8 @@ pub(crate) fn dropped_words(alloc: Global, count: usize) -> Result<String, Alloc
 }
 
 /// What a read found.
-pub(crate) fn read_words(alloc: Global, row: &Row) -> Result<String, AllocError> {
+pub(crate) fn read_words(alloc: Global, read: &KeyRead) -> Result<String, AllocError> {
     let mut words = String::from_str(alloc, "reads ")?;
-    let answer = row.answer.as_str();
-    words.push_str(answer.strip_prefix("= ").unwrap_or(answer))?;
+    words.push_str(read.found.as_str())?;
     Ok(words)
 }

@@ -1,7 +1,7 @@
 //! Where the rows and columns of a drawing stand, in its units.
 use crate::label::{lock_words, read_words, record_words};
 use std::alloc::{AllocError, Global};
-use tx_sheet::{Change, Row, RowKind, Sheet, places, shown};
+use tx_sheet::{Change, KeyRead, Row, RowKind, Sheet, places, shown};
 
 /// Where the heads of columns stand.
 pub(crate) const HEAD: usize = 48;
@@ -152,14 +152,11 @@ fn widen_changes(
     Ok(())
 }
 
-// Notes what is taken beside a key by what was read there.
-fn widen_read(alloc: Global, widths: &mut [usize], row: &Row) -> Result<(), AllocError> {
-    if !row.reads {
-        return Ok(());
-    }
-    let words = read_words(alloc, row)?;
-    if let Some(key) = row.targets.first() {
-        widen(widths, *key, places(words.as_str()));
+// Notes what is taken beside keys by what was read there.
+fn widen_reads(alloc: Global, widths: &mut [usize], reads: &[KeyRead]) -> Result<(), AllocError> {
+    'reads: for read in reads {
+        let words = read_words(alloc, read)?;
+        widen(widths, read.key, places(words.as_str()));
     }
     Ok(())
 }
@@ -178,7 +175,7 @@ fn key_widths(alloc: Global, sheet: &Sheet) -> Result<Vec<usize>, AllocError> {
     let mut widths = name_widths(alloc, sheet)?;
     'rows: for row in &sheet.rows {
         widen_changes(alloc, widths.as_mut_slice(), row.changes.as_slice())?;
-        widen_read(alloc, widths.as_mut_slice(), row)?;
+        widen_reads(alloc, widths.as_mut_slice(), row.reads.as_slice())?;
     }
     Ok(widths)
 }

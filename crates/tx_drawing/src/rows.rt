@@ -3,7 +3,7 @@ use crate::label::read_words;
 use crate::layout::{Layout, PLACE, SMALL_PLACE};
 use crate::markup::{Area, Point, at, put_arrow, put_box, put_cross, put_dot, put_line, put_words};
 use std::alloc::{AllocError, Global};
-use tx_sheet::{Row, Sending, places};
+use tx_sheet::{KeyRead, Row, Sending, places};
 
 /// A request that is held, and where its box stands.
 #[derive(Drop)]
@@ -70,42 +70,46 @@ fn put_held(out: &mut String, place: Point, name: &str) -> Result<Point, AllocEr
     Ok(corner.right(width / 2).down(15))
 }
 
-// Appends what was met at a key.
-fn put_met(alloc: Global, out: &mut String, row: &Row, mark: Point) -> Result<(), AllocError> {
-    if row.meets_lock {
-        return put_cross(out, mark);
-    }
-    if !row.reads || row.answer.is_empty() {
-        return Ok(());
-    }
-    put_dot(out, "read", mark, 4)?;
-    let words = read_words(alloc, row)?;
-    put_words(out, "seen", mark.right(10).down(3), words.as_str())
-}
-
-// Appends the arrow of a request to a key.
+// Appends the arrow of a request to a key, and a cross where it met a lock.
 fn put_sent(out: &mut String, row: &Row, from: Point, mark: Point) -> Result<(), AllocError> {
     let end = mark.left(6);
     put_arrow(out, from, end)?;
-    match row.sending {
-        Sending::Twice => put_arrow(out, from.down(4), end.down(4)),
-        _ => Ok(()),
+    if row.sending == Sending::Twice {
+        put_arrow(out, from.down(4), end.down(4))?;
+    }
+    if row.meets_lock {
+        put_cross(out, mark)
+    } else {
+        Ok(())
     }
 }
 
-// Appends the arrows of a request to its keys, and what was met there.
-fn put_arrows(
+// Appends the arrows of a request to its keys.
+fn put_arrows(out: &mut String, layout: &Layout, row: &Row, from: Point) -> Result<(), AllocError> {
+    'targets: for key in &row.targets {
+        if let Some(line) = layout.key_line(*key) {
+            put_sent(out, row, from, at(line, from.y))?;
+        }
+    }
+    Ok(())
+}
+
+/// Appends what a step read of keys, in the row that is so far down: below the arrow where that goes
+/// on to another key.
+pub(crate) fn put_reads(
     alloc: Global,
     out: &mut String,
     layout: &Layout,
-    row: &Row,
-    from: Point,
+    y: usize,
+    reads: &[KeyRead],
 ) -> Result<(), AllocError> {
-    'targets: for key in &row.targets {
-        if let Some(line) = layout.key_line(*key) {
-            let mark = at(line, from.y);
-            put_sent(out, row, from, mark)?;
-            put_met(alloc, out, row, mark)?;
+    let down = if reads.len() > 1 { 13 } else { 3 };
+    'reads: for read in reads {
+        if let Some(line) = layout.key_line(read.key) {
+            let mark = at(line, y);
+            put_dot(out, "read", mark, 4)?;
+            let words = read_words(alloc, read)?;
+            put_words(out, "seen", mark.right(10).down(down), words.as_str())?;
         }
     }
     Ok(())
@@ -166,12 +170,12 @@ pub(crate) fn put_sending(
         }
         Sending::Delivered => {
             let from = put_delivered(under, over, boxes.as_slice(), row, place)?;
-            put_arrows(alloc, over, layout, row, from)
+            put_arrows(over, layout, row, from)
         }
         Sending::ReplyLost => {
-            put_arrows(alloc, over, layout, row, place.right(4))?;
+            put_arrows(over, layout, row, place.right(4))?;
             put_reply_lost(over, place)
         }
-        Sending::Plain | Sending::Twice => put_arrows(alloc, over, layout, row, place.right(4)),
+        Sending::Plain | Sending::Twice => put_arrows(over, layout, row, place.right(4)),
     }
 }
