@@ -2,9 +2,10 @@
 //! is a script (`NAME.script`, played as `txkv simulate` does), a script for workers (`NAME.run`,
 //! played as `txkv run --workers 2` does) or a trace (`NAME.trace`, checked as `txkv check` does);
 //! what it writes is shown in the file of its name with `.out` added. Scripts and runs are played
-//! over both families, and the run of a script is shown as `NAME.script.text`. Many small ones
-//! stand in `scripts.rows`, `checked.rows` (played as `txkv simulate --check` does), `traces.rows`
-//! and `histories.rows` (judged as `txkv import` does), each with what it writes.
+//! over both families, and the run of a script is shown as `NAME.script.text`, of four as
+//! `NAME.script.svg` too. Many small ones stand in `scripts.rows`, `checked.rows` (played as
+//! `txkv simulate --check` does), `traces.rows` and `histories.rows` (judged as `txkv import` does),
+//! each with what it writes.
 #![tactic(auto)]
 
 mod rows;
@@ -19,7 +20,7 @@ use std::thread::Threads;
 use tx_answers::{ImportEnd, ImportOptions, import};
 use tx_cells::Fresh;
 use tx_check::check;
-use tx_explain::explain;
+use tx_explain::{PictureForm, explain};
 use tx_flat::FlatCells;
 use tx_nested::NestedCells;
 use tx_recording::Orders;
@@ -28,7 +29,7 @@ use tx_sched::Open;
 use tx_script::{simulate, simulate_checked};
 use tx_text::End;
 
-const SCRIPTS: [&str; 19] = [
+const SCRIPTS: [&str; 20] = [
     "abandoned_async.script",
     "collection.script",
     "commit_then_read.script",
@@ -42,12 +43,20 @@ const SCRIPTS: [&str; 19] = [
     "repeats_and_losses.script",
     "resolved_then_collected.script",
     "rollback_shares_a_record.script",
+    "signs_of_markup.script",
     "ticks_run_out.script",
     "truncated_script.script",
     "two_inserts.script",
     "two_regions.script",
     "write_conflict.script",
     "write_skew.script",
+];
+
+const DRAWN: [&str; 4] = [
+    "falls_back.script",
+    "push.script",
+    "repeats_and_losses.script",
+    "signs_of_markup.script",
 ];
 
 const RUNS: [&str; 1] = ["transfers.run"];
@@ -148,14 +157,18 @@ fn is_shown(rt: &HostRuntime, name: &str, kind: Kind) -> Result<bool> {
     Ok(ended == Some(end_of(shown.as_slice())) && written.as_slice() == shown.as_slice())
 }
 
-// Whether the run of a script is shown as the file beside it shows it: `NAME.text`.
-fn is_explained(rt: &HostRuntime, name: &str) -> Result<bool> {
+// Whether the run of a script is shown as the file beside it shows it: `NAME.text`, `NAME.svg`.
+fn is_explained(rt: &HostRuntime, name: &str, form: PictureForm) -> Result<bool> {
     let script = fs::read(rt, name)?;
-    let path = format!(in rt.alloc(); "{name}.text")?;
+    let end = match form {
+        PictureForm::Text => "text",
+        PictureForm::Drawing => "svg",
+    };
+    let path = format!(in rt.alloc(); "{name}.{end}")?;
     let shown = fs::read(rt, path)?;
     let mut written = Vec::new(rt.alloc());
     let mut reader = script.as_slice();
-    let ended = explain::<FlatCells, _, _, _>(rt.alloc(), &Plain, &mut reader, &mut written);
+    let ended = explain::<FlatCells, _, _, _>(rt.alloc(), &Plain, form, &mut reader, &mut written);
     Ok(ended.is_ok() && written.as_slice() == shown.as_slice())
 }
 
@@ -203,8 +216,12 @@ fn main(rt: HostRuntime) -> Result<()> {
         println!(rt; "{name}: {}", verdict(shown))?;
     }
     for name in SCRIPTS {
-        let shown = is_explained(&rt, name)?;
+        let shown = is_explained(&rt, name, PictureForm::Text)?;
         println!(rt; "{name}, explained: {}", verdict(shown))?;
+    }
+    for name in DRAWN {
+        let shown = is_explained(&rt, name, PictureForm::Drawing)?;
+        println!(rt; "{name}, drawn: {}", verdict(shown))?;
     }
     for name in RUNS {
         let shown = run_is_shown::<FlatCells, _>(&rt, name)?

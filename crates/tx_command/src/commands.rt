@@ -18,7 +18,7 @@ pub enum CommandTask {
     /// Simulate, and tell the machine's steps alone.
     SimulateSteps,
     /// Simulate, and show the run.
-    Explain,
+    Explain(ExplainOptions),
     /// By so many workers; what is out of date for so many ticks is collected meanwhile.
     Run(usize, Option<u64>),
     Check,
@@ -26,6 +26,13 @@ pub enum CommandTask {
     CheckWithReason,
     /// Judge a history of any store.
     Import(ImportOptions),
+}
+
+/// How a run is shown.
+#[derive(Clone, Copy, Debug, PartialEq, Eq)]
+pub struct ExplainOptions {
+    /// Whether as a drawing, in place of text.
+    pub svg: bool,
 }
 
 /// What is asked of a history, beside whether its reads and writes are snapshot isolation.
@@ -66,7 +73,9 @@ fn task_of(name: &str, asked: &ArgMatches<'_>) -> CommandTask {
             strict: asked.get_flag("strict"),
             dot: asked.get_flag("dot"),
         }),
-        "explain" => CommandTask::Explain,
+        "explain" => CommandTask::Explain(ExplainOptions {
+            svg: asked.get_flag("svg"),
+        }),
         _ if asked.get_flag("why") => CommandTask::CheckWithReason,
         _ => CommandTask::Check,
     }
@@ -136,9 +145,14 @@ fn simulate<'a>(alloc: Global) -> Result<Command<'a>, Error> {
 }
 
 fn explain<'a>(alloc: Global) -> Result<Command<'a>, Error> {
+    let svg = Arg::new(alloc, "svg")
+        .long("svg")
+        .action(ArgAction::SetTrue)
+        .help("Writes a drawing in place of text, an SVG: time goes down, requests are arrows");
     let command = Command::new(alloc, "explain")
         .about(help::EXPLAIN_ABOUT)
         .after_help(help::EXPLAIN_HELP)
+        .arg(svg)?
         .arg(cells_option(alloc))?
         .arg(file(alloc))?;
     Ok(command)

@@ -60,7 +60,8 @@ pub(crate) static EXPLAIN_HELP: &str =
 A refusal has its reason on a line of its own. docs/EXPLAIN.md has all forms.
 
 Examples:
-  txkv explain push.script     A reader that need not wait, step by step"#;
+  txkv explain push.script                    A reader that need not wait, step by step
+  txkv explain --svg push.script > push.svg   The same as a drawing"#;
 
 pub(crate) static RUN_ABOUT: &str = "Run the sessions of a script side by side, on several threads";
 

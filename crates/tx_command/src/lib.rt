@@ -22,7 +22,7 @@ mod status;
 mod steps;
 
 pub use cells::{CellsKind, cells_of, cells_option};
-pub use commands::{CommandLine, CommandTask, ImportOptions, job_of, parse};
+pub use commands::{CommandLine, CommandTask, ExplainOptions, ImportOptions, job_of, parse};
 pub use faults::{NotedFaults, Noting, fault_in};
 pub use live::{Asking, Shared};
 pub use progress::{Counted, Erasing, ProgressLine};

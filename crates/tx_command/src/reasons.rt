@@ -28,7 +28,7 @@ fn command_of(task: CommandTask) -> &'static str {
     match task {
         CommandTask::Simulate | CommandTask::SimulateChecked | CommandTask::SimulateSteps =>
             "simulate",
-        CommandTask::Explain => "explain",
+        CommandTask::Explain(_) => "explain",
         CommandTask::Run(..) => "run",
         CommandTask::Check | CommandTask::CheckWithReason => "check",
         CommandTask::Import(_) => "import",

@@ -3,7 +3,8 @@ use clap::error::ErrorKind;
 use std::alloc::Global;
 use std::test::Fail;
 use tx_command::{
-    CellsKind, CommandEnd, CommandLine, CommandTask, job_of, message_of, parse, status_of,
+    CellsKind, CommandEnd, CommandLine, CommandTask, ExplainOptions, job_of, message_of, parse,
+    status_of,
 };
 use tx_text::{Broken, End};
 
@@ -20,7 +21,7 @@ fn words_of(alloc: Global, line: &str) -> Result<Vec<String>, Fail> {
 }
 
 // Command lines, the tasks that they ask for, and the files that those read.
-static JOBS: [(&str, CommandTask, Option<&str>); 16] = [
+static JOBS: [(&str, CommandTask, Option<&str>); 17] = [
     ("simulate", CommandTask::Simulate, None),
     ("simulate -", CommandTask::Simulate, None),
     ("simulate a.script", CommandTask::Simulate, Some("a.script")),
@@ -36,7 +37,16 @@ static JOBS: [(&str, CommandTask, Option<&str>); 16] = [
         CommandTask::Simulate,
         Some("--check"),
     ),
-    ("explain a.script", CommandTask::Explain, Some("a.script")),
+    (
+        "explain a.script",
+        CommandTask::Explain(ExplainOptions { svg: false }),
+        Some("a.script"),
+    ),
+    (
+        "explain --svg",
+        CommandTask::Explain(ExplainOptions { svg: true }),
+        None,
+    ),
     ("check", CommandTask::Check, None),
     ("check dir/a.trace", CommandTask::Check, Some("dir/a.trace")),
     ("check --why", CommandTask::CheckWithReason, None),

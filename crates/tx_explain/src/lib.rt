@@ -5,4 +5,4 @@
 
 mod script;
 
-pub use script::explain;
+pub use script::{PictureForm, explain};

@@ -12,12 +12,22 @@ ghost use Rattle.tx_explain.specs.Explained.{Explains};
 use std::alloc::Global;
 use std::io::{BufRead, ErrorKind, Write};
 use tx_cells::{Families, Makes};
+use tx_drawing::svg_of;
 use tx_picture::text_of;
 use tx_played::{Watched, keys_of, lines_of, put_in, turns_of};
 use tx_script::{Broken, End, simulate};
 use tx_sheet::sheet_of;
 use tx_text::{finish, put_fault, send};
 use tx_types::{Cause, Key};
+
+/// What a picture is.
+#[derive(Clone, Copy, Debug, PartialEq, Eq)]
+pub enum PictureForm {
+    /// Lines of text.
+    Text,
+    /// An SVG.
+    Drawing,
+}
 
 // Reads all that is left.
 fn read_all<R: BufRead>(alloc: Global, reader: &mut R) -> Result<Vec<u8>, Broken>
@@ -53,6 +63,7 @@ fn play<F: Families + Drop, M: Makes<F>>(
 // The picture of a script that was played, by the text of its replies.
 fn picture(
     alloc: Global,
+    form: PictureForm,
     keys: &[Key],
     lines: &[&[u8]],
     watched: &Watched,
@@ -63,7 +74,10 @@ fn picture(
     let replies = lines_of(alloc, written)?;
     let turns = turns_of(alloc, lines, watched.counts.as_slice(), replies.as_slice())?;
     let sheet = sheet_of(alloc, keys, turns.as_slice())?;
-    Ok(text_of(alloc, &sheet)?)
+    match form {
+        PictureForm::Text => Ok(text_of(alloc, &sheet)?),
+        PictureForm::Drawing => Ok(svg_of(alloc, &sheet)?),
+    }
 }
 
 // Writes a text, and hands on what the writer still holds back.
@@ -96,6 +110,7 @@ fn refuse<W: Write>(alloc: Global, writer: &mut W, number: u64) -> Result<End, B
 pub fn explain<F: Families + Drop, M: Makes<F>, R: BufRead, W: Write>(
     alloc: Global,
     make: &M,
+    form: PictureForm,
     reader: &mut R,
     writer: &mut W,
 ) -> Result<End, Broken>
@@ -115,6 +130,7 @@ pub fn explain<F: Families + Drop, M: Makes<F>, R: BufRead, W: Write>(
     let (end, written) = play::<F, M>(alloc, make, watched.text.as_slice())?;
     let shown = picture(
         alloc,
+        form,
         keys.as_slice(),
         lines.as_slice(),
         &watched,

@@ -4,6 +4,7 @@
 #![tactic(auto)]
 
 mod change;
+mod reads;
 mod reason;
 mod reply;
 mod row;
@@ -14,7 +15,7 @@ mod walk;
 mod words;
 
 pub use change::is_same_lock;
-pub use row::{Change, KeyColumn, Row, RowKind, Sending, Session, Sheet};
+pub use row::{Change, KeyColumn, KeyRead, Row, RowKind, Sending, Session, Sheet};
 pub use seen::{Kind, SeenLock, SeenRecord};
 pub use sheet::sheet_of;
-pub use words::{places, put_number, put_stamp, shown};
+pub use words::{places, put_first, put_number, put_stamp, shown};

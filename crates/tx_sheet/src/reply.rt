@@ -38,6 +38,14 @@ impl<'a> Reply<'a> {
         }
     }
 
+    /// The rows that a scan found, where it is such a reply.
+    pub fn list(&self) -> Option<&'a [Value]> {
+        match (self.word, self.rest) {
+            ("rows", [rows]) => Some(rows.as_array()?.as_slice()),
+            _ => None,
+        }
+    }
+
     /// Whether it is a refusal or a fault.
     pub fn is_refusal(&self) -> bool {
         self.word.starts_with('E')

@@ -39,6 +39,15 @@ pub struct Change {
     pub went: Vec<SeenRecord>,
 }
 
+/// What a read found of a key.
+#[derive(Drop)]
+pub struct KeyRead {
+    /// Its place among the keys.
+    pub key: usize,
+    /// Its value as it is shown, or `none`.
+    pub found: String,
+}
+
 /// A line of the script that was played, and what came of it.
 #[derive(Drop)]
 pub struct Row {
@@ -58,8 +67,8 @@ pub struct Row {
     pub targets: Vec<usize>,
     /// Whether it met a lock.
     pub meets_lock: bool,
-    /// Whether it read a key.
-    pub reads: bool,
+    /// What it read of keys that its session has not in its buffer.
+    pub reads: Vec<KeyRead>,
     pub changes: Vec<Change>,
 }
 

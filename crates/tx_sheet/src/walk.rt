@@ -1,8 +1,9 @@
 //! The rows of a script that was played, one after another.
 use crate::change::change_of;
+use crate::reads::{found_by, found_in, is_scanned, last_of};
 use crate::reason::put_reason;
 use crate::reply::{Reply, put_reply, reply_of};
-use crate::row::{Change, Row, RowKind, Sending, Session};
+use crate::row::{Change, KeyRead, Row, RowKind, Sending, Session};
 use crate::seen::{SeenKey, seen_of};
 use crate::step::{put_step, sending_of, session_of};
 use crate::words::put_shown;
@@ -133,7 +134,7 @@ fn empty_row(alloc: Global) -> Row {
         reason: String::new(alloc),
         targets: Vec::new(alloc),
         meets_lock: false,
-        reads: false,
+        reads: Vec::new(alloc),
         changes: Vec::new(alloc),
     }
 }
@@ -227,6 +228,60 @@ impl<'k> Walk<'k> {
         }
     }
 
+    // Puts what a scan found among the reads, of each key that it covers.
+    fn put_scan(
+        &self,
+        row: &mut Row,
+        range: (&str, &str),
+        limit: u32,
+        rows: &[Value],
+    ) -> Result<(), AllocError> {
+        let last = last_of(rows, limit);
+        'keys: for (place, key) in self.keys.iter().enumerate() {
+            if is_scanned(key, range, last) && !self.is_own(row.column, place) {
+                let found = found_in(self.alloc, rows, key)?;
+                row.reads.push(KeyRead { key: place, found })?;
+                row.targets.push(place)?;
+            }
+        }
+        Ok(())
+    }
+
+    // Puts what a get found among the reads, and the key that a request went to among the targets.
+    fn put_get(
+        &self,
+        row: &mut Row,
+        step: &Step<&str>,
+        reply: Reply<'_>,
+    ) -> Result<(), AllocError> {
+        let Some(place) = self.target_of(row, step, reply) else {
+            return Ok(());
+        };
+        row.targets.push(place)?;
+        match found_by(self.alloc, reply)? {
+            Some(found) => Ok(row.reads.push(KeyRead { key: place, found })?),
+            None => Ok(()),
+        }
+    }
+
+    // Puts what a step read among the reads, where no key changed.
+    fn put_reads(
+        &self,
+        row: &mut Row,
+        step: &Step<&str>,
+        reply: Reply<'_>,
+    ) -> Result<(), AllocError> {
+        if !row.targets.is_empty() {
+            return Ok(());
+        }
+        match (step, reply.list()) {
+            (Step::Send(_, Call::Scan(from, to, limit), _), Some(rows)) => {
+                self.put_scan(row, (*from, *to), *limit, rows)
+            }
+            _ => self.put_get(row, step, reply),
+        }
+    }
+
     // What a step was answered.
     fn answer(
         &mut self,
@@ -241,12 +296,7 @@ impl<'k> Walk<'k> {
         put_reply(&mut row.answer, reply)?;
         put_reason(&mut row.reason, reply, start)?;
         row.meets_lock = reply.word == "E1";
-        row.reads = is_read(step) && !reply.is_refusal();
-        if row.targets.is_empty() {
-            if let Some(place) = self.target_of(row, step, reply) {
-                row.targets.push(place)?;
-            }
-        }
+        self.put_reads(row, step, reply)?;
         match row.column {
             Some(column) => self.note(column, step, reply),
             None => Ok(()),

@@ -86,8 +86,8 @@ fn put_quoted(out: &mut String, text: &str) -> Result<(), AllocError> {
     out.push('"')
 }
 
-// Appends the first places of a text, so many.
-fn put_first(out: &mut String, text: &str, count: usize) -> Result<(), AllocError> {
+/// Appends the first places of a text, so many.
+pub fn put_first(out: &mut String, text: &str, count: usize) -> Result<(), AllocError> {
     let mut left = count;
     for character in text.chars() {
         let places = places_of(character);

@@ -4,7 +4,7 @@ use std::io::{BufRead, Write};
 use std::sync::Wait;
 use std::thread::Threads;
 use tx_command::CellsKind;
-use tx_explain::explain;
+use tx_explain::{PictureForm, explain};
 use tx_flat::FlatCells;
 use tx_nested::NestedCells;
 use tx_run::{Plain, RunResult, Settings, run_script};
@@ -43,12 +43,13 @@ pub(crate) fn simulate_checked_over<B: BufRead, W: Write>(
 pub(crate) fn explain_over<B: BufRead, W: Write>(
     alloc: Global,
     cells: CellsKind,
+    form: PictureForm,
     reader: &mut B,
     writer: &mut W,
 ) -> Result<End, Broken> {
     match cells {
-        CellsKind::Flat => explain::<FlatCells, _, _, _>(alloc, &Plain, reader, writer),
-        CellsKind::Nested => explain::<NestedCells, _, _, _>(alloc, &Plain, reader, writer),
+        CellsKind::Flat => explain::<FlatCells, _, _, _>(alloc, &Plain, form, reader, writer),
+        CellsKind::Nested => explain::<NestedCells, _, _, _>(alloc, &Plain, form, reader, writer),
     }
 }
 

@@ -10,6 +10,7 @@ use std::time::{Duration, Instant};
 use tx_answers::{Answered, ImportEnd, ImportOptions, import};
 use tx_check::{check, check_with_reason};
 use tx_command::{CommandEnd, CommandTask, Steps};
+use tx_explain::PictureForm;
 use tx_recording::Orders;
 use tx_run::{RunResult, Settings};
 use tx_text::{Broken, End};
@@ -91,7 +92,14 @@ where
         CommandTask::SimulateSteps => {
             simulate_checked_over(alloc, cells, reader, &mut Steps::new(writer))
         }
-        CommandTask::Explain => explain_over(alloc, cells, reader, writer),
+        CommandTask::Explain(told) => {
+            let form = if told.svg {
+                PictureForm::Drawing
+            } else {
+                PictureForm::Text
+            };
+            explain_over(alloc, cells, form, reader, writer)
+        }
         CommandTask::Check | CommandTask::Import(_) => check(alloc, reader, writer),
         CommandTask::CheckWithReason => check_with_reason(alloc, reader, writer),
         CommandTask::Run(workers, life_time) => {

@@ -1,0 +1,253 @@
+//! Where the rows and columns of a drawing stand, in its units.
+use crate::label::{lock_words, read_words, record_words};
+use std::alloc::{AllocError, Global};
+use tx_sheet::{Change, KeyRead, Row, RowKind, Sheet, places, shown};
+
+/// Where the heads of columns stand.
+pub(crate) const HEAD: usize = 48;
+
+/// Where the lines of columns begin.
+pub(crate) const TOP: usize = 58;
+
+/// How far down a row is from the one before.
+const ROW_HEIGHT: usize = 32;
+
+/// Where the first column begins: the numbers of lines stand before it.
+pub(crate) const LEFT: usize = 36;
+
+/// The least width of a session's column: what is lost or held stands in it.
+const MIN_WIDTH: usize = 150;
+
+/// How wide a place of a step's words is, and one of the smaller words.
+pub(crate) const PLACE: usize = 7;
+
+pub(crate) const SMALL_PLACE: usize = 6;
+
+/// A column of a drawing.
+#[derive(Clone, Copy, Debug, Drop)]
+pub(crate) struct Column {
+    pub begins: usize,
+    /// Where its line stands.
+    pub line: usize,
+    pub width: usize,
+}
+
+/// Where columns stand, and how large a drawing is.
+#[derive(Drop)]
+pub(crate) struct Layout {
+    pub sessions: Vec<Column>,
+    /// The column of steps of no session, where there are some.
+    pub system: Option<Column>,
+    pub keys: Vec<Column>,
+    pub width: usize,
+    pub height: usize,
+}
+
+impl Column {
+    // Where the next column begins.
+    fn ends(self) -> usize {
+        self.begins.saturating_add(self.width)
+    }
+}
+
+/// How far down the row at this place is.
+pub(crate) fn row_height(place: usize) -> usize {
+    place
+        .saturating_mul(ROW_HEIGHT)
+        .saturating_add(TOP + ROW_HEIGHT)
+}
+
+// The column of steps of a session, whose widest words take so many places.
+fn session_column(begins: usize, widest: usize) -> Column {
+    let width = widest
+        .saturating_mul(PLACE)
+        .saturating_add(20)
+        .max(MIN_WIDTH);
+    Column {
+        begins,
+        line: begins.saturating_add(width / 2),
+        width,
+    }
+}
+
+// The column of a key, beside which words take so many places.
+fn key_column(begins: usize, widest: usize) -> Column {
+    Column {
+        begins,
+        line: begins.saturating_add(24),
+        width: widest.saturating_mul(SMALL_PLACE).saturating_add(46),
+    }
+}
+
+// Whether a row is a step of this session, or of none.
+fn is_in(row: &Row, column: Option<usize>) -> bool {
+    row.kind == RowKind::Step && row.column == column
+}
+
+// The places of the widest words over the steps of a session, or of none; None where it has no
+// steps.
+fn widest_label(rows: &[Row], labels: &[String], column: Option<usize>) -> Option<usize> {
+    let mut widest = None;
+    'rows: for (row, label) in rows.iter().zip(labels) {
+        if is_in(row, column) {
+            widest = Some(places(label.as_str()).max(widest.unwrap_or(0)));
+        }
+    }
+    widest
+}
+
+// The columns of sessions, and where the next column begins.
+fn session_columns(
+    alloc: Global,
+    sheet: &Sheet,
+    labels: &[String],
+) -> Result<(Vec<Column>, usize), AllocError> {
+    let mut columns = Vec::new(alloc);
+    let mut begins = LEFT;
+    'sessions: for (place, session) in sheet.sessions.iter().enumerate() {
+        let name = shown(alloc, session.name.as_str())?;
+        let widest = widest_label(sheet.rows.as_slice(), labels, Some(place)).unwrap_or(0);
+        let column = session_column(begins, widest.max(places(name.as_str())));
+        begins = column.ends();
+        columns.push(column)?;
+    }
+    Ok((columns, begins))
+}
+
+// The column of steps of no session, where there are some.
+fn system_column(sheet: &Sheet, labels: &[String], begins: usize) -> Option<Column> {
+    let widest = widest_label(sheet.rows.as_slice(), labels, None)?;
+    Some(session_column(begins, widest))
+}
+
+// Notes that so many places are taken beside a key.
+fn widen(widths: &mut [usize], key: usize, places: usize) {
+    if let Some(width) = widths.get_mut(key) {
+        *width = places.max(*width);
+    }
+}
+
+// Notes what is taken beside a key by records that came.
+fn widen_records(alloc: Global, widths: &mut [usize], change: &Change) -> Result<(), AllocError> {
+    'records: for record in &change.came {
+        let words = record_words(alloc, *record)?;
+        widen(widths, change.key, places(words.as_str()));
+    }
+    Ok(())
+}
+
+// Notes what is taken beside keys by what changed of them.
+fn widen_changes(
+    alloc: Global,
+    widths: &mut [usize],
+    changes: &[Change],
+) -> Result<(), AllocError> {
+    'changes: for change in changes {
+        if let Some(lock) = change.lock {
+            let words = lock_words(alloc, lock)?;
+            widen(widths, change.key, places(words.as_str()));
+        }
+        widen_records(alloc, widths, change)?;
+    }
+    Ok(())
+}
+
+// Notes what is taken beside keys by what was read there.
+fn widen_reads(alloc: Global, widths: &mut [usize], reads: &[KeyRead]) -> Result<(), AllocError> {
+    'reads: for read in reads {
+        let words = read_words(alloc, read)?;
+        widen(widths, read.key, places(words.as_str()));
+    }
+    Ok(())
+}
+
+// How many places the names of keys take.
+fn name_widths(alloc: Global, sheet: &Sheet) -> Result<Vec<usize>, AllocError> {
+    let mut widths = Vec::new(alloc);
+    'keys: for key in &sheet.keys {
+        widths.push(places(key.name.as_str()).max(8))?;
+    }
+    Ok(widths)
+}
+
+// How many places are taken beside each key.
+fn key_widths(alloc: Global, sheet: &Sheet) -> Result<Vec<usize>, AllocError> {
+    let mut widths = name_widths(alloc, sheet)?;
+    'rows: for row in &sheet.rows {
+        widen_changes(alloc, widths.as_mut_slice(), row.changes.as_slice())?;
+        widen_reads(alloc, widths.as_mut_slice(), row.reads.as_slice())?;
+    }
+    Ok(widths)
+}
+
+// The columns of keys, and where they end.
+fn key_columns(
+    alloc: Global,
+    widths: &[usize],
+    first: usize,
+) -> Result<(Vec<Column>, usize), AllocError> {
+    let mut columns = Vec::new(alloc);
+    let mut begins = first;
+    'keys: for width in widths {
+        let column = key_column(begins, *width);
+        begins = column.ends();
+        columns.push(column)?;
+    }
+    Ok((columns, begins))
+}
+
+impl Layout {
+    /// Where the columns of a sheet stand, whose steps have these words.
+    pub fn of(alloc: Global, sheet: &Sheet, labels: &[String]) -> Result<Layout, AllocError> {
+        let (sessions, end) = session_columns(alloc, sheet, labels)?;
+        let system = system_column(sheet, labels, end);
+        let end = match system {
+            Some(column) => column.ends(),
+            None => end,
+        };
+        let widths = key_widths(alloc, sheet)?;
+        let (keys, end) = key_columns(alloc, widths.as_slice(), end.saturating_add(20))?;
+        let mut layout = Layout {
+            sessions,
+            system,
+            keys,
+            width: end.saturating_add(10),
+            height: row_height(sheet.rows.len()).saturating_add(6),
+        };
+        layout.widen_to_reasons(sheet);
+        Ok(layout)
+    }
+
+    /// The column of a session, or of steps of no session.
+    pub fn sender(&self, column: Option<usize>) -> Option<Column> {
+        match column {
+            Some(place) => self.sessions.get(place).copied(),
+            None => self.system,
+        }
+    }
+
+    /// Where the reason of a refused step begins.
+    pub fn reason_begins(&self, row: &Row) -> usize {
+        match self.sender(row.column) {
+            Some(column) => column.begins.saturating_add(8),
+            None => LEFT,
+        }
+    }
+
+    // Makes room for the reasons of refusals.
+    fn widen_to_reasons(&mut self, sheet: &Sheet) {
+        'rows: for row in &sheet.rows {
+            let taken = places(row.reason.as_str()).saturating_mul(SMALL_PLACE);
+            let end = self
+                .reason_begins(row)
+                .saturating_add(taken)
+                .saturating_add(10);
+            self.width = self.width.max(end);
+        }
+    }
+
+    /// Where the line of a key stands.
+    pub fn key_line(&self, key: usize) -> Option<usize> {
+        Some(self.keys.get(key)?.line)
+    }
+}

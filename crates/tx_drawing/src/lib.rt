@@ -1,0 +1,13 @@
+//! A played script as a drawing, an SVG: time goes down, sessions and keys are columns, requests
+//! arrows, locks bars, commits and rollbacks marks. A drawing has no script, no font and no link.
+#![tactic(auto)]
+
+mod drawing;
+mod frame;
+mod label;
+mod layout;
+mod locks;
+mod markup;
+mod rows;
+
+pub use drawing::svg_of;
