@@ -35,6 +35,8 @@ pub struct ImportOptions {
     pub sessions: bool,
     /// Whether what began after another had ended came after it.
     pub strict: bool,
+    /// Whether a yes is told by a trace.
+    pub trace: bool,
     /// Whether a cycle is written for Graphviz.
     pub dot: bool,
 }
@@ -64,6 +66,7 @@ fn task_of(name: &str, asked: &ArgMatches<'_>) -> CommandTask {
         "import" => CommandTask::Import(ImportOptions {
             sessions: asked.get_flag("sessions"),
             strict: asked.get_flag("strict"),
+            trace: asked.get_flag("trace"),
             dot: asked.get_flag("dot"),
         }),
         "explain" => CommandTask::Explain,
@@ -182,6 +185,10 @@ fn import<'a>(alloc: Global) -> Result<Command<'a>, Error> {
         .long("strict")
         .action(ArgAction::SetTrue)
         .help("Asks as well that what began after another had ended comes after it");
+    let trace = Arg::new(alloc, "trace")
+        .long("trace")
+        .action(ArgAction::SetTrue)
+        .help("Writes a yes as a trace that txkv check judges, in place of its line");
     let dot = Arg::new(alloc, "dot")
         .long("dot")
         .action(ArgAction::SetTrue)
@@ -191,6 +198,7 @@ fn import<'a>(alloc: Global) -> Result<Command<'a>, Error> {
         .after_help(help::IMPORT_HELP)
         .arg(sessions)?
         .arg(strict)?
+        .arg(trace)?
         .arg(dot)?
         .arg(file(alloc))?;
     Ok(command)

@@ -123,4 +123,5 @@ the order. A last read of all keys leaves few open. docs/HISTORIES.md has what e
 Examples:
   txkv import history.jsonl             ["import","yes",{..}], or ["import","no",name,[[id,edge,key,id],..]]
   txkv import --strict history.jsonl    The same, by the clock as well: no or open, and not yet yes
+  txkv import --trace history.jsonl     A yes as steps, for txkv check
   txkv import --dot history.jsonl       The cycle of a no for Graphviz"#;

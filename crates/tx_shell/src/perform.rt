@@ -121,6 +121,7 @@ where
             };
             let options = ImportOptions {
                 orders,
+                trace: told.trace,
                 dot: told.dot,
             };
             judge(asked, options, reader, writer)
