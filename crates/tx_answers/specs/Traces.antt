@@ -30,15 +30,12 @@ each_of f (suc n) = each_of f n ++ f n
 
 -- ---- moments
 
--- the machine's numbers are the timestamps plus one, since its first is 1
-abbrev pub number_of : List ℕ → ℕ → ℕ
-number_of numbers t = slice_index numbers t + 1
-
--- the start and the commit of a transaction, where it committed
+-- the start and the commit of a transaction, where it committed: the machine's numbers are the
+-- timestamps
 abbrev pub moments_at : Timestamps → ℕ → List Moment
 moments_at x t = cond (slice_index_or x.committed.items t false)
-    (Start t (number_of x.starts.items t)
-    ∷ Commit t (number_of x.starts.items t) (number_of x.commits.items t) ∷ []) []
+    (Start t (slice_index x.starts.items t)
+    ∷ Commit t (slice_index x.starts.items t) (slice_index x.commits.items t) ∷ []) []
 
 -- ---- steps
 

@@ -1,7 +1,7 @@
 //! When the transactions of a recording start and commit.
-ghost use Rattle.std.specs.Prelude.{◌≡◌, ◌++◌, IfOk, IfSome, IsTrue};
+ghost use Rattle.std.specs.Prelude.{◌≡◌, ◌++◌, IfOk, OnOk, false, slice_index, slice_index_or};
 ghost use Rattle.std.specs.List.Sorted.{IsPermutation};
-ghost use Rattle.tx_answers.specs.Traces.{each_of, moments_at, number_of};
+ghost use Rattle.tx_answers.specs.Traces.{each_of, moments_at};
 
 use std::alloc::{AllocError, Global};
 use tx_types::Ts;
@@ -26,78 +26,69 @@ impl Moment {
     }
 }
 
-// The machine's number of a timestamp, where there is one.
-fn number(numbers: &[usize], txn: usize) -> Option<Ts>
-    ensures { IfSome result (λ n. n ≡ number_of numbers.now txn) }
+// The timestamp of a transaction.
+fn number(numbers: &[usize], txn: usize) -> Ts
+    ensures { result ≡ slice_index numbers.now txn }
 {
-    let number = match numbers.get(txn) {
-        Some(number) => *number as u64,
-        None => 0,
-    };
-    Some(Ts::new(number.checked_add(1)?))
+    match numbers.get(txn) {
+        Some(number) => Ts::new(*number as u64),
+        None => Ts::ZERO,
+    }
 }
 
-// Adds the moments of a transaction that committed. Whether they have numbers.
+// Whether a transaction committed.
+fn is_committed(committed: &[bool], txn: usize) -> bool
+    ensures { result ≡ slice_index_or committed.now txn false }
+{
+    match committed.get(txn) {
+        Some(committed) => *committed,
+        None => false,
+    }
+}
+
+// Adds the moments of a transaction, where it committed.
 fn put_moments(
     moments: &mut Vec<Moment>,
     timestamps: &Timestamps,
     txn: u32,
-) -> Result<bool, AllocError>
-    ensures { IfOk result (λ is_put. IsTrue is_put
-        → moments.new.items ≡ moments.old.items ++ moments_at timestamps.now txn) }
+) -> Result<(), AllocError>
+    ensures { OnOk result (moments.new.items ≡ moments.old.items ++ moments_at timestamps.now txn) }
 {
     let place = txn as usize;
-    let committed = match timestamps.committed.get(place) {
-        Some(committed) => *committed,
-        None => false,
-    };
-    if !committed {
-        return Ok(true);
+    if !is_committed(timestamps.committed.as_slice(), place) {
+        return Ok(());
     }
-    let starts = number(timestamps.starts.as_slice(), place);
-    let commits = number(timestamps.commits.as_slice(), place);
-    match (starts, commits) {
-        (Some(start), Some(commit)) => {
-            moments.push(Moment::Start(txn, start))?;
-            moments.push(Moment::Commit(txn, start, commit))?;
-            Ok(true)
-        }
-        _ => Ok(false),
-    }
+    let start = number(timestamps.starts.as_slice(), place);
+    let commit = number(timestamps.commits.as_slice(), place);
+    moments.push(Moment::Start(txn, start))?;
+    moments.push(Moment::Commit(txn, start, commit))?;
+    Ok(())
 }
 
-// The moments of so many transactions, one transaction after the other, where they have numbers.
+// The moments of so many transactions, one transaction after the other.
 fn moments_in_turn(
     alloc: Global,
     timestamps: &Timestamps,
     count: u32,
-) -> Result<Option<Vec<Moment>>, AllocError>
-    ensures { IfOk result (λ found. IfSome found
-        (λ moments. moments.items ≡ each_of (moments_at timestamps.now) count)) }
+) -> Result<Vec<Moment>, AllocError>
+    ensures { IfOk result (λ moments. moments.items ≡ each_of (moments_at timestamps.now) count) }
 {
     let mut moments = Vec::new(alloc);
     for txn in 0..count {
-        if !put_moments(&mut moments, timestamps, txn)? {
-            return Ok(None);
-        }
+        put_moments(&mut moments, timestamps, txn)?;
     }
-    Ok(Some(moments))
+    Ok(moments)
 }
 
-/// The moments of so many transactions in the order of their numbers, where they have numbers.
+/// The moments of so many transactions, in the order of their numbers.
 pub(crate) fn moments_of(
     alloc: Global,
     timestamps: &Timestamps,
     count: u32,
-) -> Result<Option<Vec<Moment>>, AllocError>
-    ensures { IfOk result (λ found. IfSome found
-        (λ moments. IsPermutation (each_of (moments_at timestamps.now) count) moments.items)) }
+) -> Result<Vec<Moment>, AllocError>
+    ensures { IfOk result (λ moments. IsPermutation (each_of (moments_at timestamps.now) count) moments.items) }
 {
-    match moments_in_turn(alloc, timestamps, count)? {
-        Some(mut moments) => {
-            moments.sort_by_key(|moment| moment.at())?;
-            Ok(Some(moments))
-        }
-        None => Ok(None),
-    }
+    let mut moments = moments_in_turn(alloc, timestamps, count)?;
+    moments.sort_by_key(|moment| moment.at())?;
+    Ok(moments)
 }

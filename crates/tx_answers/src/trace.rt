@@ -1,6 +1,7 @@
 //! The trace of a yes.
-ghost use Rattle.std.specs.Prelude.{◌≡◌, IfOk, IfSome};
+ghost use Rattle.std.specs.Prelude.{◌≡◌, reverse, IfOk, IfSome};
 ghost use Rattle.std.specs.List.{flat_map};
+ghost use Rattle.tx_machine.specs.Machine.{IsRun};
 ghost use Rattle.tx_check.specs.Steps.{step_text};
 ghost use Rattle.tx_recording.specs.Recordings.{IsRecording};
 ghost use Rattle.tx_answers.specs.Traces.{IsTrace};
@@ -25,6 +26,18 @@ fn steps_text(alloc: Global, steps: &[Step]) -> Result<Vec<u8>, Broken>
     Ok(text)
 }
 
+// The lines of steps that the machine has made; none where it does not make them.
+fn text_of_run(alloc: Global, steps: &[Step]) -> Result<Option<Vec<u8>>, Broken>
+    ensures { IfOk result (λ found. IfSome found (λ text. ∥ IsRun (reverse steps.now) ∥₁
+        × (text.items ≡ flat_map step_text steps.now))) }
+{
+    match check_steps(alloc, steps) {
+        Ok(checked) => Ok(Some(steps_text(alloc, checked.steps())?)),
+        Err(Refused::Step) => Ok(None),
+        Err(Refused::Memory) => Err(Broken::Memory),
+    }
+}
+
 /// The trace of a history under these timestamps, which the machine has made; none where it does
 /// not make it.
 pub(crate) fn trace_of(
@@ -36,13 +49,7 @@ pub(crate) fn trace_of(
     ensures { IfOk result (λ found. IfSome found (λ text. IsTrace history.now timestamps.now text.items)) }
 {
     let count = history.recording.transactions.len() as u32;
-    let Some(moments) = moments_of(alloc, timestamps, count)? else {
-        return Ok(None);
-    };
+    let moments = moments_of(alloc, timestamps, count)?;
     let steps = steps_of(alloc, history, moments.as_slice())?;
-    match check_steps(alloc, steps.as_slice()) {
-        Ok(checked) => Ok(Some(steps_text(alloc, checked.steps())?)),
-        Err(Refused::Step) => Ok(None),
-        Err(Refused::Memory) => Err(Broken::Memory),
-    }
+    text_of_run(alloc, steps.as_slice())
 }
