@@ -12,7 +12,6 @@ use Rattle.tx_history.specs.declared.anomaly.Anomaly.TheVariants.{G0, G1c, LostU
 use Rattle.tx_verdict.specs.declared.verdict.Edge.{Edge}
 use Rattle.tx_verdict.specs.declared.verdict.Edge.TheVariants.{Ww, Wr, Rw, So, Rt}
 use Rattle.tx_verdict.specs.declared.verdict.CycleStep.{CycleStep}
-use Rattle.tx_verdict.specs.declared.verdict.Cycle.{Cycle}
 use Rattle.tx_verdict.specs.declared.verdict.Rule.{Rule}
 use Rattle.tx_verdict.specs.declared.verdict.Rule.TheVariants as rule
 use Rattle.tx_verdict.specs.declared.verdict.Fact.{Fact}

@@ -48,7 +48,7 @@ fn key_of(alloc: Global, history: &History, key: u32) -> Result<Key, Broken>
     match history.tables.keys.get(key as usize) {
         Some(Name::Text(key)) => new_key(alloc, key.as_bytes()),
         Some(Name::Number(n)) => new_key(alloc, digits(alloc, *n)?.as_slice()),
-        None => new_key(alloc, b"0"),
+        None => new_key(alloc, digits(alloc, 0)?.as_slice()),
     }
 }
 
@@ -57,7 +57,7 @@ fn value_of(alloc: Global, history: &History, value: u32) -> Result<Value, Broke
     ensures { IfOk result (λ made. made ≡ value_bytes history.now value) }
 {
     let Some(value) = history.tables.values.get(value as usize) else {
-        return new_value(alloc, b"0");
+        return new_value(alloc, digits(alloc, 0)?.as_slice());
     };
     match &value.name {
         Name::Text(key) => new_value(alloc, key.as_bytes()),
