@@ -24,6 +24,8 @@ pub enum CommandTask {
     Check,
     /// Check, and after a no tell why.
     CheckWithReason,
+    /// Check, and go on after a no; tell why, where that is asked for.
+    CheckAll(bool),
     /// Judge a history of any store.
     Import(ImportOptions),
 }
@@ -70,6 +72,7 @@ fn task_of(name: &str, asked: &ArgMatches<'_>) -> CommandTask {
             dot: asked.get_flag("dot"),
         }),
         "explain" => CommandTask::Explain,
+        _ if asked.get_flag("all") => CommandTask::CheckAll(asked.get_flag("why")),
         _ if asked.get_flag("why") => CommandTask::CheckWithReason,
         _ => CommandTask::Check,
     }
@@ -110,10 +113,15 @@ fn check<'a>(alloc: Global) -> Result<Command<'a>, Error> {
         .long("why")
         .action(ArgAction::SetTrue)
         .help("Tells after a no why the machine does not make that step");
+    let all = Arg::new(alloc, "all")
+        .long("all")
+        .action(ArgAction::SetTrue)
+        .help("Goes on after a no, as if that line were not there");
     let command = Command::new(alloc, "check")
         .about(help::CHECK_ABOUT)
         .after_help(help::CHECK_HELP)
         .arg(why)?
+        .arg(all)?
         .arg(file(alloc))?;
     Ok(command)
 }

@@ -103,6 +103,7 @@ Examples:
   txkv check commit_then_read.trace   ["check","yes"], status 0
   txkv check lost_update.trace        ["check","no",10], the first line refused, status 3
   txkv check --why lost_update.trace  The same, and ["why",10,"conflict",{"key":"a","other":2,"start":1,"committed":3}]
+  txkv check --all lost_update.trace  A line for each step refused, as if it were not there for those behind it
   echo '["draw"]' | txkv check        [1,"E16","form"], the first line that is no step, status 2"#;
 
 pub(crate) static IMPORT_ABOUT: &str = "Judge a history of any store: is it snapshot isolation?";
