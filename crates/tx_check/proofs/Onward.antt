@@ -1,6 +1,6 @@
 -- The lines of a trace that were read by a check that goes on, and the machine that made those of
 -- their steps that it makes.
-use Rattle.std.proofs.Common.{◌≡◌, inl, inr, ℕ, suc, ◌+◌, Bool, true, false, cond, List, [], ◌∷◌, ◌++◌, length, reverse, Option, Some, None, IfSome, Ok, Err, refl, sym, ap, subst, ◌∙◌, append_assoc, append-nil, length-append, arith}
+use Rattle.std.proofs.Common.{◌≡◌, inl, inr, ℕ, suc, ◌+◌, Bool, true, false, cond, List, [], ◌∷◌, ◌++◌, length, reverse, Option, Some, None, IfSome, Ok, Err, refl, sym, ap, subst, ◌∙◌, append_assoc, append-nil, length-append}
 use Rattle.std.proofs.lemmas.List.{reverse-append, length-reverse}
 use Rattle.tx_types.specs.declared.fault.Cause.{Cause}
 use Rattle.tx_machine.specs.declared.machine.Machine.{Machine}
@@ -47,8 +47,8 @@ pub record AllSoFar (has_reasons : Bool) (input : List ℕ) (left : Option (List
   pub told : text ≡ noes_text has_reasons turns
   pub refused : is_refused ≡ has_no turns
 
-pub all_so_far : (has_reasons : Bool) (known : Option (List ℕ)) (machine : Machine) (text : List ℕ) → Represents machine empty
-    → text ≡ [] → IfSome known (λ input. AllSoFar has_reasons input known machine 0 text false)
+pub all_so_far : (has_reasons : Bool) (known : Option (List ℕ)) (machine : Machine) (text : List ℕ)
+    → Represents machine empty → text ≡ [] → IfSome known (λ input. AllSoFar has_reasons input known machine 0 text false)
 all_so_far has_reasons None machine text stands none = tt
 all_so_far has_reasons (Some input) machine text stands none = record {
   rest = input;
@@ -139,7 +139,8 @@ module _ {has_reasons : Bool} {input : List ℕ} {left : Option (List ℕ)} {mac
       }
 
   -- at the end every line was a step
-  pub through : (text' : List ℕ) (end : End) → IfSome left (λ bytes. Turns bytes left' machine next (number + 1) turn.End)
+  pub through : (text' : List ℕ) (end : End)
+      → IfSome left (λ bytes. Turns bytes left' machine next (number + 1) turn.End)
       → text' ≡ text ++ cond is_refused [] (line_text (words Yes)) → end ≡ cond is_refused ended.No Well
       → IsAllOf has_reasons (lines_of input) text' end
   through text' end turns is ends =

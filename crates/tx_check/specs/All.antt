@@ -57,7 +57,8 @@ no_text has_reasons number why = line_text (words (No number)) ++ cond has_reaso
 abbrev pub noes_text : Bool → List Turn → List ℕ
 noes_text has_reasons [] = []
 noes_text has_reasons (Made step ∷ turns) = noes_text has_reasons turns
-noes_text has_reasons (Left step why ∷ turns) = noes_text has_reasons turns ++ no_text has_reasons (length turns + 1) why
+noes_text has_reasons (Left step why ∷ turns) = noes_text has_reasons turns
+    ++ no_text has_reasons (length turns + 1) why
 
 abbrev pub has_no : List Turn → Bool
 has_no [] = false

@@ -100,7 +100,8 @@ fn put_no(
 
 // What is told where all lines say steps.
 fn at_end(alloc: Global, mut text: Vec<u8>, is_refused: bool) -> Result<Told, Broken>
-    ensures text { IfOk result (λ told. told.text.items ≡ text.items ++ cond is_refused [] (line_text (words Verdict.Yes))) }
+    ensures text { IfOk result (λ told. told.text.items
+        ≡ text.items ++ cond is_refused [] (line_text (words Verdict.Yes))) }
     ensures end { IfOk result (λ told. told.end ≡ cond is_refused End.No End.Well) }
 {
     if is_refused {
