@@ -4,8 +4,8 @@
 //! what it writes is shown in the file of its name with `.out` added. Scripts and runs are played
 //! over both families, and the run of a script is shown as `NAME.script.text`, of four as
 //! `NAME.script.svg` too. Many small ones stand in `scripts.rows`, `checked.rows` (played as
-//! `txkv simulate --check` does), `traces.rows` and `histories.rows` (judged as `txkv import` does),
-//! each with what it writes.
+//! `txkv simulate --check` does), `traces.rows` and `histories.rows` (judged as `txkv import` does,
+//! and the trace of each yes is checked), each with what it writes.
 #![tactic(auto)]
 
 mod rows;
@@ -80,6 +80,8 @@ enum Kind {
     Trace,
     /// A history of another store.
     History,
+    /// The same, and the trace of a yes is checked.
+    TracedHistory,
 }
 
 // Plays a script over these families. How it ended, unless it broke off.
@@ -94,22 +96,41 @@ fn checks<F: Fresh>(alloc: Global, text: &[u8], written: &mut Vec<u8>) -> Option
     simulate_checked::<F, _, _, _>(alloc, &Plain, &mut reader, written).ok()
 }
 
-// Judges a history. How it ended, unless it broke off; that the verdict is open, its line says.
-fn judges(alloc: Global, text: &[u8], written: &mut Vec<u8>) -> Option<End> {
+// Judges a history, and writes a yes as its trace where that is asked for.
+fn judged(alloc: Global, text: &[u8], trace: bool, written: &mut Vec<u8>) -> Option<ImportEnd> {
     let options = ImportOptions {
         orders: Orders {
             sessions: false,
             strict: false,
         },
+        trace,
         dot: false,
     };
     let mut reader = text;
     let answered = import(alloc, options, &mut reader, written).ok()?;
-    Some(match answered.end {
+    Some(answered.end)
+}
+
+// Judges a history. How it ended, unless it broke off; that the verdict is open, its line says.
+fn judges(alloc: Global, text: &[u8], written: &mut Vec<u8>) -> Option<End> {
+    Some(match judged(alloc, text, false, written)? {
         ImportEnd::Yes | ImportEnd::Open => End::Well,
         ImportEnd::No => End::No,
         ImportEnd::Faulted => End::Faulted,
     })
+}
+
+// The same; none where it is a yes whose trace is no run.
+fn judges_traced(alloc: Global, text: &[u8], written: &mut Vec<u8>) -> Option<End> {
+    let mut trace = Vec::new(alloc);
+    if judged(alloc, text, true, &mut trace)? == ImportEnd::Yes {
+        let mut reader = trace.as_slice();
+        let mut said = Vec::new(alloc);
+        if check(alloc, &mut reader, &mut said).ok()? != End::Well {
+            return None;
+        }
+    }
+    judges(alloc, text, written)
 }
 
 impl Kind {
@@ -124,6 +145,7 @@ impl Kind {
             Kind::CheckedNested => checks::<NestedCells>(alloc, text, written),
             Kind::Trace => check(alloc, &mut reader, written).ok(),
             Kind::History => judges(alloc, text, written),
+            Kind::TracedHistory => judges_traced(alloc, text, written),
         }
     }
 }
@@ -244,5 +266,7 @@ fn main(rt: HostRuntime) -> Result<()> {
     println!(rt; "traces.rows: {traces} as shown")?;
     let histories = count_shown(&rt, "histories.rows", Kind::History)?;
     println!(rt; "histories.rows: {histories} as shown")?;
+    let traced = count_shown(&rt, "histories.rows", Kind::TracedHistory)?;
+    println!(rt; "histories.rows, with traces: {traced} as shown")?;
     Ok(())
 }

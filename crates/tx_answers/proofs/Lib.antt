@@ -2,3 +2,5 @@
 pub mod Lines
 -- What is known of a result, and of the bytes that were read, where they are known.
 pub mod Known
+-- A list that is made piece by piece.
+pub mod Pieces

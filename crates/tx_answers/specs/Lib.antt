@@ -1,2 +1,4 @@
 pub mod Words
+pub mod Drawings
+pub mod Traces
 pub mod Answers

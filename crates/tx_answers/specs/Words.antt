@@ -14,7 +14,6 @@ use Rattle.tx_verdict.specs.declared.verdict.Edge.TheVariants.{Ww, Wr, Rw, So, R
 use Rattle.tx_verdict.specs.declared.verdict.Beside.{Beside}
 use Rattle.tx_verdict.specs.declared.verdict.Beside.TheVariants.{Nothing, Processes, Clock}
 use Rattle.tx_verdict.specs.declared.verdict.CycleStep.{CycleStep}
-use Rattle.tx_verdict.specs.declared.verdict.Cycle.{Cycle}
 use Rattle.tx_verdict.specs.declared.verdict.Rule.{Rule}
 use Rattle.tx_verdict.specs.declared.verdict.Rule.TheVariants as rule
 use Rattle.tx_verdict.specs.declared.verdict.Fact.{Fact}

@@ -1,5 +1,5 @@
 //! Judging a history: its lines are read, and one line is written with the verdict.
-ghost use Rattle.std.specs.Prelude.{◌≡◌, ℕ, List, false, OnOk, OnErr, IfOk, IfErr, IfSome};
+ghost use Rattle.std.specs.Prelude.{◌≡◌, ◌⊎◌, ℕ, List, OnOk, OnErr, IfOk, IfErr, IfSome};
 ghost use Rattle.std.specs.Io.KnownBytes.{Appends};
 ghost use Rattle.tx_text.specs.Faults.{fault_words};
 ghost use Rattle.tx_text.specs.Lines.{lines_of};
@@ -8,23 +8,27 @@ ghost use Rattle.tx_text.specs.Output.{AppendsPart};
 ghost use Rattle.tx_recording.specs.Recordings.{IsRecording};
 ghost use Rattle.tx_import.specs.Histories.{IsHistoryOf};
 ghost use Rattle.tx_answers.specs.Words.{verdict_text};
-ghost use Rattle.tx_answers.specs.Answers.{end_of, IsJudged, IsAnswer, Ends, Breaks};
+ghost use Rattle.tx_answers.specs.Traces.{IsTrace};
+ghost use Rattle.tx_answers.specs.Answers.{end_of, IsTextOf, IsJudged, IsAnswer, Ends, Breaks};
 
 use crate::drawing::drawing;
 use crate::line::verdict_line;
 use crate::sentences::sentences;
+use crate::trace::trace_of;
 use std::alloc::Global;
 use std::io::{BufRead, Write};
 use tx_import::{History, LineFault, read_history};
 use tx_judge::judge;
 use tx_recording::Orders;
 use tx_text::{Broken, finish, put_fault, send};
-use tx_verdict::Verdict;
+use tx_verdict::{Timestamps, Verdict};
 
 /// What is asked of a history.
 #[derive(Clone, Copy, Debug, PartialEq, Eq)]
 pub struct ImportOptions {
     pub orders: Orders,
+    /// Whether a yes is told by a trace that `tx_check` judges, in place of its line.
+    pub trace: bool,
     /// Whether a cycle is drawn for Graphviz, in place of its line.
     pub dot: bool,
 }
@@ -67,17 +71,36 @@ fn end_of(verdict: &Verdict) -> ImportEnd
     }
 }
 
-// What is written of a verdict.
-fn answer_text(
+// What is written of a yes where a trace is asked for. The line, if the machine does not make it.
+fn traced(
     alloc: Global,
     history: &History,
     verdict: &Verdict,
-    dot: bool,
+    timestamps: &Timestamps,
 ) -> Result<Vec<u8>, Broken>
-    ensures { IfOk result (λ text. dot ≡ false → text.items ≡ verdict_text history.now verdict.now) }
+    requires { IsRecording history.now.recording }
+    ensures { IfOk result (λ text. IsTrace history.now timestamps.now text.items
+        ⊎ (text.items ≡ verdict_text history.now verdict.now)) }
+{
+    match trace_of(alloc, history, timestamps)? {
+        Some(text) => Ok(text),
+        None => Ok(verdict_line(alloc, history, verdict)?),
+    }
+}
+
+// What is written of a verdict.
+fn answer_text(
+    alloc: Global,
+    options: ImportOptions,
+    history: &History,
+    verdict: &Verdict,
+) -> Result<Vec<u8>, Broken>
+    requires { IsRecording history.now.recording }
+    ensures { IfOk result (λ text. IsTextOf options history.now verdict.now text.items) }
 {
     match verdict {
-        Verdict::No(cycle) if dot => Ok(drawing(alloc, history, cycle)?),
+        Verdict::Yes(timestamps) if options.trace => traced(alloc, history, verdict, timestamps),
+        Verdict::No(cycle) if options.dot => Ok(drawing(alloc, history, cycle)?),
         _ => Ok(verdict_line(alloc, history, verdict)?),
     }
 }
@@ -85,11 +108,11 @@ fn answer_text(
 // What is said of a history that was read.
 fn judged(alloc: Global, options: ImportOptions, history: &History) -> Result<Answer, Broken>
     requires { IsRecording history.now.recording }
-    ensures { IfOk result (λ answer. options.dot ≡ false → (lines : List (List ℕ)) → IsHistoryOf lines history.now
-        → IsJudged options.orders lines answer.text.items answer.end) }
+    ensures { IfOk result (λ answer. (lines : List (List ℕ)) → IsHistoryOf lines history.now
+        → IsJudged options lines answer.text.items answer.end) }
 {
     let verdict = judge(alloc, &history.recording, options.orders)?;
-    let text = answer_text(alloc, history, &verdict, options.dot)?;
+    let text = answer_text(alloc, options, history, &verdict)?;
     let why = sentences(alloc, history, &verdict)?;
     let end = end_of(&verdict);
     Ok(Answer { text, end, why })
@@ -115,8 +138,8 @@ fn answer_of<R: BufRead>(
     options: ImportOptions,
     reader: &mut R,
 ) -> Result<Answer, Broken>
-    ensures { IfOk result (λ answer. options.dot ≡ false → IfSome (R.remaining reader.old)
-        (λ input. IsAnswer options.orders (lines_of input) answer.text.items answer.end)) }
+    ensures { IfOk result (λ answer. IfSome (R.remaining reader.old)
+        (λ input. IsAnswer options (lines_of input) answer.text.items answer.end)) }
 {
     match read_history(alloc, reader)? {
         Ok(history) => judged(alloc, options, &history),
@@ -136,7 +159,8 @@ fn write_out<W: Write>(writer: &mut W, text: &[u8]) -> Result<(), Broken>
 
 /// Judges a history, and writes one line: `["import","yes",{..}]`, `["import","no",..]`,
 /// `["import","open",keys]`, or `[n,"E16",cause]` with the first line that says no transaction.
-/// Nothing is written before all of it is known.
+/// Where that is asked for, a trace in place of the line of a yes, and the drawing of a cycle in
+/// place of its line. Nothing is written before all of it is known.
 ///
 /// `Input` where a read failed, `Output` where a write or the flush failed, `Memory` where a
 /// growth was refused.
@@ -146,13 +170,13 @@ pub fn import<R: BufRead, W: Write>(
     reader: &mut R,
     writer: &mut W,
 ) -> Result<Answered, Broken>
-    // Not broken off, and with no drawing, it has written the line of a verdict on the recording of the
-    // lines, or of the first line that says no transaction, and nothing else.
-    ensures ends { IfOk result (λ answered. options.dot ≡ false → IfSome (R.remaining reader.old)
-        (λ input. Ends options.orders input (W.contents writer.old) (W.contents writer.new) answered.end)) }
-    // Broken off, it has written nothing, or where a write failed a beginning of that line.
-    ensures breaks { IfErr result (λ broken. options.dot ≡ false → IfSome (R.remaining reader.old)
-        (λ input. Breaks options.orders input (W.contents writer.old) (W.contents writer.new) broken)) }
+    // Not broken off, it has written what is told of a verdict on the recording of the lines, or of the
+    // first line that says no transaction, and nothing else.
+    ensures ends { IfOk result (λ answered. IfSome (R.remaining reader.old)
+        (λ input. Ends options input (W.contents writer.old) (W.contents writer.new) answered.end)) }
+    // Broken off, it has written nothing, or where a write failed a beginning of that.
+    ensures breaks { IfErr result (λ broken. IfSome (R.remaining reader.old)
+        (λ input. Breaks options input (W.contents writer.old) (W.contents writer.new) broken)) }
 {
     let answer = answer_of(alloc, options, reader)?;
     write_out(writer, answer.text.as_slice())?;

@@ -5,7 +5,10 @@
 mod answer;
 mod drawing;
 mod line;
+mod moment;
 mod sentences;
+mod steps;
+mod trace;
 mod words;
 
 pub use answer::{Answered, ImportEnd, ImportOptions, import};

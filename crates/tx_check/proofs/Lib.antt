@@ -14,3 +14,5 @@ pub mod StepLines
 pub mod Joins
 -- The reason that is told is one of the step that was refused.
 pub mod Told
+-- The lines that were read by a check that goes on.
+pub mod Onward

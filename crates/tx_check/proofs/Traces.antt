@@ -45,7 +45,7 @@ so_far (Some input) machine stands = record {
 }
 
 -- what holds of the bytes that are left
-left_at : (P : List ℕ → Type 0) (left : Option (List ℕ)) (rest : List ℕ) → left ≡ Some rest → IfSome left P → P rest
+pub left_at : (P : List ℕ → Type 0) (left : Option (List ℕ)) (rest : List ℕ) → left ≡ Some rest → IfSome left P → P rest
 left_at P left rest is turns = subst (λ o. IfSome o P) is turns
 
 -- one more line says one more step
@@ -94,10 +94,10 @@ module _ {input : List ℕ} {left : Option (List ℕ)} {machine : Machine} {numb
       let table = table_of (reverse soon.steps) in (
         found.0,
         soon.steps,
-        reached found.0 found.1 found.2,
-        found.3,
+        reached found.0 (lines_of found.1) found.3,
+        found.4,
+        found.6 table soon.stands,
         found.5 table soon.stands,
-        found.4 table soon.stands,
       )
 
   pub refused : (step : Step) → IfSome left (λ bytes. Turns bytes left' machine next (number + 1) (turn.Refused step))

@@ -4,3 +4,4 @@ pub mod MachineSteps
 pub mod Reasons
 pub mod Check
 pub mod Turns
+pub mod All

@@ -20,8 +20,8 @@ Turns bytes left old new number End = bytes ≡ []
 Turns bytes left old new number Made = (line : List ℕ) × (rest : List ℕ) × (step : Step)
     × (left ≡ Some rest) × (lines_of bytes ≡ line ∷ lines_of rest)
     × (step_in number line ≡ Ok step) × Makes old new step
-Turns bytes left old new number (Refused step) = (line : List ℕ) × (more : List (List ℕ))
-    × (lines_of bytes ≡ line ∷ more)
+Turns bytes left old new number (Refused step) = (line : List ℕ) × (rest : List ℕ)
+    × (left ≡ Some rest) × (lines_of bytes ≡ line ∷ lines_of rest)
     × (step_in number line ≡ Ok step) × Refuses old step × Keeps old new
 Turns bytes left old new number (Faulted cause) = (line : List ℕ) × (more : List (List ℕ))
     × (lines_of bytes ≡ line ∷ more)

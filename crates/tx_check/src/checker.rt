@@ -9,6 +9,7 @@ ghost use Rattle.tx_check.specs.Check.{step_of_form, step_in, IsVerdict, Ends, B
 ghost use Rattle.tx_check.specs.Reasons.{reason_text};
 ghost use Rattle.tx_check.specs.Turns.{Turns, verdict_of, StandsAt, Stops};
 ghost use Rattle.tx_machine.specs.declared.reason.Why.{Why};
+ghost use Rattle.tx_machine.specs.declared.step.Step.{Step};
 ghost use Rattle.tx_text.specs.Lines.{lines_of};
 ghost use Rattle.tx_text.specs.Output.{AppendsPart};
 
@@ -72,8 +73,8 @@ pub fn check_with_reason<R: BufRead, W: Write>(
     Ok(end_of_check(stop.verdict()))
 }
 
-// Writes a text and hands it on, or writes the first of it before a failure, which is `Output`.
-fn write_out<W: Write>(writer: &mut W, text: &[u8]) -> Result<(), Broken>
+/// Writes a text and hands it on, or writes the first of it before a failure, which is `Output`.
+pub(crate) fn write_out<W: Write>(writer: &mut W, text: &[u8]) -> Result<(), Broken>
     ensures all { OnOk result (Appends (W.contents writer.old) (W.contents writer.new) text.now) }
     ensures part { OnErr result (AppendsPart (W.contents writer.old) (W.contents writer.new) text.now) }
     ensures err { IfErr result (λ e. e ≡ Broken.Output) }
@@ -162,17 +163,17 @@ fn walk<R: BufRead>(alloc: Global, reader: &mut R) -> Result<Halt, Broken>
     }
 }
 
-// What came of the next line.
+/// What came of the next line.
 #[derive(Drop)]
-enum LineTurn {
+pub(crate) enum LineTurn {
     End,
     Made,
     Refused(Step),
     Faulted(Cause),
 }
 
-// Reads the next line and has the machine make its step.
-fn next<R: BufRead>(
+/// Reads the next line and has the machine make its step.
+pub(crate) fn next<R: BufRead>(
     alloc: Global,
     reader: &mut R,
     line: &mut Vec<u8>,
@@ -181,6 +182,7 @@ fn next<R: BufRead>(
 ) -> Result<LineTurn, Broken>
     // At any reader.
     ensures early { IfOk result (λ turn. turn ≡ LineTurn.Made → number ≤ MAX_LINES) }
+    ensures refused { IfOk result (λ turn. (step : Step) → turn ≡ LineTurn.Refused step → number ≤ MAX_LINES) }
     // Where the bytes are known.
     ensures turns { IfOk result (λ turn. IfSome (R.remaining reader.old)
         (λ bytes. Turns bytes (R.remaining reader.new) machine.old machine.new number turn)) }

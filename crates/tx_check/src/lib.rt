@@ -6,6 +6,7 @@
 //! in `words`, and in `reasons` the line that says why a step is not made.
 #![tactic(auto)]
 
+mod all;
 mod checker;
 mod listed_step;
 mod machine_step;
@@ -13,6 +14,7 @@ mod reasons;
 mod step_line;
 mod words;
 
+pub use all::check_all;
 pub use checker::{check, check_with_reason};
 pub use step_line::put_step;
 pub use words::{Verdict, verdict_line};

@@ -24,6 +24,8 @@ pub enum CommandTask {
     Check,
     /// Check, and after a no tell why.
     CheckWithReason,
+    /// Check, and go on after a no; tell why, where that is asked for.
+    CheckAll(bool),
     /// Judge a history of any store.
     Import(ImportOptions),
 }
@@ -42,6 +44,8 @@ pub struct ImportOptions {
     pub sessions: bool,
     /// Whether what began after another had ended came after it.
     pub strict: bool,
+    /// Whether a yes is told by a trace.
+    pub trace: bool,
     /// Whether a cycle is written for Graphviz.
     pub dot: bool,
 }
@@ -71,11 +75,13 @@ fn task_of(name: &str, asked: &ArgMatches<'_>) -> CommandTask {
         "import" => CommandTask::Import(ImportOptions {
             sessions: asked.get_flag("sessions"),
             strict: asked.get_flag("strict"),
+            trace: asked.get_flag("trace"),
             dot: asked.get_flag("dot"),
         }),
         "explain" => CommandTask::Explain(ExplainOptions {
             svg: asked.get_flag("svg"),
         }),
+        _ if asked.get_flag("all") => CommandTask::CheckAll(asked.get_flag("why")),
         _ if asked.get_flag("why") => CommandTask::CheckWithReason,
         _ => CommandTask::Check,
     }
@@ -116,10 +122,15 @@ fn check<'a>(alloc: Global) -> Result<Command<'a>, Error> {
         .long("why")
         .action(ArgAction::SetTrue)
         .help("Tells after a no why the machine does not make that step");
+    let all = Arg::new(alloc, "all")
+        .long("all")
+        .action(ArgAction::SetTrue)
+        .help("Goes on after a no, as if that line were not there");
     let command = Command::new(alloc, "check")
         .about(help::CHECK_ABOUT)
         .after_help(help::CHECK_HELP)
         .arg(why)?
+        .arg(all)?
         .arg(file(alloc))?;
     Ok(command)
 }
@@ -196,6 +207,10 @@ fn import<'a>(alloc: Global) -> Result<Command<'a>, Error> {
         .long("strict")
         .action(ArgAction::SetTrue)
         .help("Asks as well that what began after another had ended comes after it");
+    let trace = Arg::new(alloc, "trace")
+        .long("trace")
+        .action(ArgAction::SetTrue)
+        .help("Writes a yes as a trace that txkv check judges, in place of its line");
     let dot = Arg::new(alloc, "dot")
         .long("dot")
         .action(ArgAction::SetTrue)
@@ -205,6 +220,7 @@ fn import<'a>(alloc: Global) -> Result<Command<'a>, Error> {
         .after_help(help::IMPORT_HELP)
         .arg(sessions)?
         .arg(strict)?
+        .arg(trace)?
         .arg(dot)?
         .arg(file(alloc))?;
     Ok(command)

@@ -160,7 +160,9 @@ pub(crate) fn form_of(task: CommandTask, number: u64, word: &str) -> Option<Form
                 ..form
             }))
             .or_else(|| run_form(word)),
-        CommandTask::Check | CommandTask::CheckWithReason => machine_form(word),
+        CommandTask::Check | CommandTask::CheckWithReason | CommandTask::CheckAll(_) => {
+            machine_form(word)
+        }
         CommandTask::Import(_) => None,
     }
 }

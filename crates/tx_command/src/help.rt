@@ -104,6 +104,7 @@ Examples:
   txkv check commit_then_read.trace   ["check","yes"], status 0
   txkv check lost_update.trace        ["check","no",10], the first line refused, status 3
   txkv check --why lost_update.trace  The same, and ["why",10,"conflict",{"key":"a","other":2,"start":1,"committed":3}]
+  txkv check --all lost_update.trace  A line for each step refused, as if it were not there for those behind it
   echo '["draw"]' | txkv check        [1,"E16","form"], the first line that is no step, status 2"#;
 
 pub(crate) static IMPORT_ABOUT: &str = "Judge a history of any store: is it snapshot isolation?";
@@ -124,4 +125,5 @@ the order. A last read of all keys leaves few open. docs/HISTORIES.md has what e
 Examples:
   txkv import history.jsonl             ["import","yes",{..}], or ["import","no",name,[[id,edge,key,id],..]]
   txkv import --strict history.jsonl    The same, by the clock as well: no or open, and not yet yes
+  txkv import --trace history.jsonl     A yes as steps, for txkv check
   txkv import --dot history.jsonl       The cycle of a no for Graphviz"#;

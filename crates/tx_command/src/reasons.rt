@@ -30,7 +30,7 @@ fn command_of(task: CommandTask) -> &'static str {
             "simulate",
         CommandTask::Explain(_) => "explain",
         CommandTask::Run(..) => "run",
-        CommandTask::Check | CommandTask::CheckWithReason => "check",
+        CommandTask::Check | CommandTask::CheckWithReason | CommandTask::CheckAll(_) => "check",
         CommandTask::Import(_) => "import",
     }
 }

@@ -28,6 +28,7 @@ pub fn shown_at(job: CommandLine<'_>, terminals: Terminals) -> Display {
         CommandTask::Run(..)
         | CommandTask::Check
         | CommandTask::CheckWithReason
+        | CommandTask::CheckAll(_)
         | CommandTask::Import(_)
             if terminals.error => Display::ProgressLine,
         _ => Display::Nothing,

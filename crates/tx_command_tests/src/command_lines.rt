@@ -21,7 +21,7 @@ fn words_of(alloc: Global, line: &str) -> Result<Vec<String>, Fail> {
 }
 
 // Command lines, the tasks that they ask for, and the files that those read.
-static JOBS: [(&str, CommandTask, Option<&str>); 17] = [
+static JOBS: [(&str, CommandTask, Option<&str>); 19] = [
     ("simulate", CommandTask::Simulate, None),
     ("simulate -", CommandTask::Simulate, None),
     ("simulate a.script", CommandTask::Simulate, Some("a.script")),
@@ -51,6 +51,12 @@ static JOBS: [(&str, CommandTask, Option<&str>); 17] = [
     ("check dir/a.trace", CommandTask::Check, Some("dir/a.trace")),
     ("check --why", CommandTask::CheckWithReason, None),
     ("check a --why", CommandTask::CheckWithReason, Some("a")),
+    ("check --all", CommandTask::CheckAll(false), None),
+    (
+        "check --why --all a",
+        CommandTask::CheckAll(true),
+        Some("a"),
+    ),
     ("run --workers 1", CommandTask::Run(1, None), None),
     ("run --workers=64 a", CommandTask::Run(64, None), Some("a")),
     (

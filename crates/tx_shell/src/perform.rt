@@ -8,7 +8,7 @@ use std::sync::Wait;
 use std::thread::Threads;
 use std::time::{Duration, Instant};
 use tx_answers::{Answered, ImportEnd, ImportOptions, import};
-use tx_check::{check, check_with_reason};
+use tx_check::{check, check_all, check_with_reason};
 use tx_command::{CommandEnd, CommandTask, Steps};
 use tx_explain::PictureForm;
 use tx_recording::Orders;
@@ -102,6 +102,7 @@ where
         }
         CommandTask::Check | CommandTask::Import(_) => check(alloc, reader, writer),
         CommandTask::CheckWithReason => check_with_reason(alloc, reader, writer),
+        CommandTask::CheckAll(has_reasons) => check_all(alloc, has_reasons, reader, writer),
         CommandTask::Run(workers, life_time) => {
             let settings = Settings { workers, life_time };
             run(rt, asked, settings, reader, writer)
@@ -129,6 +130,7 @@ where
             };
             let options = ImportOptions {
                 orders,
+                trace: told.trace,
                 dot: told.dot,
             };
             judge(asked, options, reader, writer)

@@ -1,6 +1,5 @@
 use Rattle.std.proofs.Common.{◌≡◌, Ok, rules}
 use Rattle.tx_check.specs.declared.checker.LineTurn.TheVariants.{Made, Refused}
-use Rattle.tx_text.specs.Lines.{lines_of}
 use Rattle.tx_check.specs.Check.{step_in}
 use Rattle.tx_check.specs.Turns.{Turns}
 use Rattle.tx_check.proofs.Traces.{if_some}
@@ -16,7 +15,7 @@ returns-in-Err-Step-clause-turns g c =
     if_some _ (λ bytes read.
     let turns : Turns bytes (g.R.Read.remaining c.read_line.new.reader) c.args.machine.now c.step.new.self c.args.number
     (Refused c.in-Ok.step) =
-    (line, lines_of read.0, read.3, found, refused (search rules), keeps) in turns) reads
+    (line, read.0, read.1, read.3, found, refused (search rules), keeps) in turns) reads
 
 pub returns-in-Ok-step-clause-turns : goal.returns-in-Ok-step-clause-turns
 returns-in-Ok-step-clause-turns g c =

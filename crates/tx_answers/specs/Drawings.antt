@@ -1,0 +1,31 @@
+-- The drawing of a cycle for Graphviz.
+use Rattle.std.specs.Prelude.{ℕ, ◌==◌, ◌||◌, cond, List, [], ◌∷◌, ◌++◌, codes, Option, Some, None}
+use Rattle.std.specs.List.{flat_map}
+use Rattle.serde_json.specs.Written.{compact_text}
+use Rattle.tx_verdict.specs.declared.verdict.CycleStep.{CycleStep}
+use Rattle.tx_verdict.specs.declared.verdict.Cycle.{Cycle}
+use Rattle.tx_import.specs.declared.reader.History.{History}
+use Rattle.tx_answers.specs.Words.{id_data, key_data, edge_word, anomaly_word}
+
+-- a byte in a string of the drawing: a quotation mark or a backslash has a backslash before it
+abbrev pub drawn_byte : ℕ → List ℕ
+drawn_byte b = cond ((b == 34) || (b == 92)) (92 ∷ b ∷ []) (b ∷ [])
+
+-- a string of the drawing
+abbrev pub quoted : List ℕ → List ℕ
+quoted text = codes "\"" ++ (flat_map drawn_byte text ++ codes "\"")
+
+-- the words at an edge: its kind, and its key where it has one
+abbrev pub label_text : History → CycleStep → Option ℕ → List ℕ
+label_text h s None = edge_word s.edge
+label_text h s (Some k) = edge_word s.edge ++ (codes " " ++ compact_text (key_data h k))
+
+-- an edge, from one transaction to another
+abbrev pub arrow_text : History → CycleStep → List ℕ
+arrow_text h s = codes "  " ++ (compact_text (id_data h s.from) ++ (codes " -> " ++ (compact_text (id_data h s.to)
+    ++ (codes " [label=" ++ (quoted (label_text h s s.key) ++ codes "];\n")))))
+
+-- a cycle
+abbrev pub drawing_text : History → Cycle → List ℕ
+drawing_text h c = codes "digraph \"" ++ (anomaly_word c.anomaly ++ (codes "\" {\n"
+    ++ (flat_map (arrow_text h) c.steps.items ++ codes "}\n")))
