@@ -1,6 +1,6 @@
 //! The accounts, and what is done to them in one transaction.
 use std::alloc::Global;
-use tx_simple::{Stop, Tx, Work};
+use tx_simple::{Failure, Stop, Tx, Work};
 use tx_types::{Fault, Key, Value};
 
 // The accounts: two in each of the regions.
@@ -30,14 +30,19 @@ fn enter<T: Tx>(tx: &mut T, account: u8, balance: u8) -> Result<(), Stop> {
     tx.put(key, value)
 }
 
+/// An account has too little, or the other would have too much.
+#[derive(Drop)]
+pub struct Poor;
+
 /// Opens each account.
 #[derive(Drop)]
 pub struct Open;
 
 impl Work for Open {
-    ghost does = { λ before buffer answer entered after_it. Unit {0} };
+    type Out = ();
+    type Err = Poor;
 
-    fn apply<T: Tx>(&mut self, tx: &mut T) -> Result<(), Stop> {
+    fn apply<T: Tx>(&mut self, tx: &mut T) -> Result<(), Failure<Poor>> {
         for account in 0..4 {
             enter(tx, account, OPENING)?;
         }
@@ -54,35 +59,35 @@ pub struct Transfer {
 }
 
 impl Work for Transfer {
-    ghost does = { λ before buffer answer entered after_it. Unit {0} };
+    type Out = ();
+    type Err = Poor;
 
-    fn apply<T: Tx>(&mut self, tx: &mut T) -> Result<(), Stop> {
+    fn apply<T: Tx>(&mut self, tx: &mut T) -> Result<(), Failure<Poor>> {
         let from = balance(tx, self.from)?;
         let to = balance(tx, self.to)?;
         let (Some(less), Some(more)) = (from.checked_sub(self.amount), to.checked_add(self.amount))
         else {
-            return Err(Stop::GaveUp);
+            return Err(Failure::Own(Poor));
         };
         enter(tx, self.from, less)?;
-        enter(tx, self.to, more)
+        enter(tx, self.to, more)?;
+        Ok(())
     }
 }
 
 /// What the accounts have together.
 #[derive(Drop)]
-pub struct Total {
-    pub sum: u32,
-}
+pub struct Total;
 
 impl Work for Total {
-    ghost does = { λ before buffer answer entered after_it. Unit {0} };
+    type Out = u32;
+    type Err = Poor;
 
-    fn apply<T: Tx>(&mut self, tx: &mut T) -> Result<(), Stop> {
+    fn apply<T: Tx>(&mut self, tx: &mut T) -> Result<u32, Failure<Poor>> {
         let mut sum: u32 = 0;
         for account in 0..4 {
             sum = sum.saturating_add(u32::from(balance(tx, account)?));
         }
-        self.sum = sum;
-        Ok(())
+        Ok(sum)
     }
 }

@@ -7,7 +7,7 @@ use tx_client::Terms;
 use tx_core::Outcome;
 use tx_journal::JournalId;
 use tx_nested::NestedCells;
-use tx_simple::{Seats, Stop, Work, update};
+use tx_simple::{Ended, Failure, Seats, Work, update};
 use tx_store::{Store, Wire};
 use tx_types::Mode;
 
@@ -17,14 +17,15 @@ const TRANSFERS: u8 = 50;
 // How often each is tried again.
 const AGAIN: u32 = 1_000_000;
 
-// Runs an update, and hands the seats back where it did what it was to do, or gave up.
+// Runs an update, and hands the seats back where it did what it was to do, or had too little for
+// that, with what it answered.
 fn done<J: JournalId, R: Wait, W: Work>(
     rt: &R,
     store: &Store<J, NestedCells>,
     alloc: Global,
     seats: Seats<J>,
     work: &mut W,
-) -> Option<Seats<J>> {
+) -> Option<(Option<W::Out>, Seats<J>)> {
     let terms = Terms {
         mode: Mode::Async,
         ttl: 100,
@@ -33,9 +34,16 @@ fn done<J: JournalId, R: Wait, W: Work>(
     let mut wire = Wire::new(rt, store);
     wire.show();
     let ended = update(alloc, seats, terms, AGAIN, work, &mut wire).ok()?;
-    match (&ended.outcome, &ended.stop) {
-        (Outcome::Committed(_) | Outcome::ReadOnly, None | Some(Stop::GaveUp)) => {
-            Some(ended.into_seats())
+    let Ended {
+        start: _,
+        outcome,
+        value,
+        stop,
+        seats,
+    } = ended;
+    match (outcome, stop) {
+        (Outcome::Committed(_) | Outcome::ReadOnly, None | Some(Failure::Own(_))) => {
+            Some((value, seats))
         }
         _ => None,
     }
@@ -55,7 +63,8 @@ fn transfers<J: JournalId, R: Wait>(
             to: n.wrapping_add(thread) % 4,
             amount: n % 7,
         };
-        seats = done(rt, store, alloc, seats, &mut transfer)?;
+        let (_, back) = done(rt, store, alloc, seats, &mut transfer)?;
+        seats = back;
     }
     Some(seats)
 }
@@ -69,14 +78,14 @@ pub fn play<J: JournalId + Send + Sync, R: Threads + Wait + Sync>(
     one: Seats<J>,
     two: Seats<J>,
 ) -> Option<u32> {
-    let one = done(rt, store, alloc, one, &mut Open)?;
+    let (_, one) = done(rt, store, alloc, one, &mut Open)?;
     let (one, two) = join(
         rt,
         || transfers(rt, store, alloc, one, 1),
         || transfers(rt, store, alloc, two, 2),
     );
     drop(two?);
-    let mut total = Total { sum: 0 };
-    drop(done(rt, store, alloc, one?, &mut total)?);
-    Some(total.sum)
+    let (total, seats) = done(rt, store, alloc, one?, &mut Total)?;
+    drop(seats);
+    total
 }
