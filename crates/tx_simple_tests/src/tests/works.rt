@@ -73,6 +73,7 @@ fn read<T: Tx>(tx: &mut T) -> Result<u8, Stop> {
 
 impl Work for Doing {
     type Out = ();
+
     type Err = GaveUp;
 
     fn apply<T: Tx>(&mut self, tx: &mut T) -> Result<(), Failure<GaveUp>> {
@@ -108,6 +109,7 @@ pub struct Contended<'a, J: JournalId, R: Wait> {
 
 impl<'a, J: JournalId, R: Wait> Work for Contended<'a, J, R> {
     type Out = ();
+
     type Err = GaveUp;
 
     fn apply<T: Tx>(&mut self, tx: &mut T) -> Result<(), Failure<GaveUp>> {
