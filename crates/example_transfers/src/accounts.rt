@@ -40,6 +40,7 @@ pub struct Open;
 
 impl Work for Open {
     type Out = ();
+
     type Err = Poor;
 
     fn apply<T: Tx>(&mut self, tx: &mut T) -> Result<(), Failure<Poor>> {
@@ -60,6 +61,7 @@ pub struct Transfer {
 
 impl Work for Transfer {
     type Out = ();
+
     type Err = Poor;
 
     fn apply<T: Tx>(&mut self, tx: &mut T) -> Result<(), Failure<Poor>> {
@@ -81,6 +83,7 @@ pub struct Total;
 
 impl Work for Total {
     type Out = u32;
+
     type Err = Poor;
 
     fn apply<T: Tx>(&mut self, tx: &mut T) -> Result<u32, Failure<Poor>> {
