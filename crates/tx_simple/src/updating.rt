@@ -33,15 +33,22 @@ pub trait Work {
     /// reason of its own.
     fn apply<T: Tx>(&mut self, tx: &mut T) -> Result<Self::Out, Failure<Self::Err>>
         ensures { does self.old (T.buffer tx.old) result (T.buffer tx.new) self.new };
+
+    /// Whether it is to be tried once more, after so many tries that came to nothing: `false` ends
+    /// the update as the last of them ended. It may wait before it answers.
+    fn may_go_on(&self, tries: u32) -> bool {
+        let _ = tries;
+        true
+    }
 }
 
 /// Does a work in a transaction: begins it, has the work read and enter what it writes, declares
 /// that under these terms and commits it, in either mode. A lock in the way is resolved, as at the
 /// last timestamp that was drawn: it is rolled back where it is past its time. Where the
 /// transaction is for certain without effect, and one that begins later may go further
-/// (`Failure::may_pass`), the work is done anew in another, up to `again` times. Each try draws one
-/// tick for its start, one for what it declares and, in two phases, one for each commit timestamp
-/// that it tries.
+/// (`Failure::may_pass`), the work is done anew in another, up to `again` times, as long as it says
+/// that it may go on. Each try draws one tick for its start, one for what it declares and, in two
+/// phases, one for each commit timestamp that it tries.
 ///
 /// What it answers of the transaction that ran last is what `finish` answered, and means as much:
 /// a commit or an abort is decided. A commit lies above each commit that the seat knew to be decided
@@ -61,11 +68,14 @@ pub fn update<J: JournalId, S: Sender<Request<J>, Reply<J>>, W: Work>(
     ensures unended { IfErr result
         (λ u. (n : ℕ) × (n ≤ again) × IsUnended W.does J.bounds terms seats work.old n u work.new) }
 {
-    for _try in 0..again {
+    for tries in 0..again {
         match try_once(alloc, seats, &terms, work, sender) {
             Err(unended) => return Err(unended),
             Ok(ended) => {
                 if !ended.may_pass() {
+                    return Ok(ended);
+                }
+                if !work.may_go_on(tries + 1) {
                     return Ok(ended);
                 }
                 seats = ended.into_seats();
