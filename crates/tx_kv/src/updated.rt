@@ -1,6 +1,7 @@
 //! What is told of an update.
 ghost use Rattle.std.specs.Prelude.{◌≡◌, IfOk, IfErr};
 ghost use Rattle.tx_kv.specs.Clients.{TellsEnd, TellsNoEnd};
+ghost use Rattle.tx_kv.specs.Telling.{told_stop, told_commit, told_reads, told_end};
 
 use tx_core::Outcome;
 use tx_journal::JournalId;
@@ -36,11 +37,66 @@ pub enum NotUpdated<E> {
 pub(crate) type Told<J, O, E> = (Result<Updated<O>, NotUpdated<E>>, Seats<J>);
 
 // Why a transaction without effect was stopped.
-fn stopped<E>(stop: Option<Failure<E>>) -> NotUpdated<E> {
+fn stopped<E>(stop: Option<Failure<E>>) -> NotUpdated<E>
+    ensures { result ≡ told_stop stop }
+{
     match stop {
         Some(Failure::Own(own)) => NotUpdated::Own(own),
         Some(Failure::Stopped(stop)) => NotUpdated::Stopped(stop),
         None => NotUpdated::Stopped(Stop::Conflict),
+    }
+}
+
+// What is told of a transaction that is committed.
+fn by_commit<O: Drop, E: Drop>(
+    start: Ts,
+    at: Ts,
+    value: Option<O>,
+) -> Result<Updated<O>, NotUpdated<E>>
+    ensures { result ≡ told_commit start at value }
+{
+    match value {
+        Some(value) => Ok(Updated {
+            start,
+            outcome: Outcome::Committed(at),
+            value,
+        }),
+        None => Err(NotUpdated::Unknown(start)),
+    }
+}
+
+// What is told of a transaction that wrote nothing.
+fn by_reads<O: Drop, E: Drop>(
+    start: Ts,
+    value: Option<O>,
+    stop: Option<Failure<E>>,
+) -> Result<Updated<O>, NotUpdated<E>>
+    ensures { result ≡ told_reads start value stop }
+{
+    match (value, stop) {
+        (Some(value), None) => Ok(Updated {
+            start,
+            outcome: Outcome::ReadOnly,
+            value,
+        }),
+        (_, stop) => Err(stopped(stop)),
+    }
+}
+
+// What is told of how a transaction ended.
+fn by_outcome<O: Drop, E: Drop>(
+    start: Ts,
+    outcome: Outcome,
+    value: Option<O>,
+    stop: Option<Failure<E>>,
+) -> Result<Updated<O>, NotUpdated<E>>
+    ensures { result ≡ told_end start outcome value stop }
+{
+    match outcome {
+        Outcome::Committed(at) => by_commit(start, at, value),
+        Outcome::ReadOnly => by_reads(start, value, stop),
+        Outcome::Aborted => Err(stopped(stop)),
+        Outcome::Unknown(_) => Err(NotUpdated::Unknown(start)),
     }
 }
 
@@ -56,21 +112,7 @@ fn by_ended<J: JournalId, O: Drop, E: Drop>(ended: Ended<J, O, E>) -> Told<J, O,
         stop,
         seats,
     } = ended;
-    let told = match (outcome, value, stop) {
-        (Outcome::Committed(at), Some(value), _) => Ok(Updated {
-            start,
-            outcome: Outcome::Committed(at),
-            value,
-        }),
-        (Outcome::ReadOnly, Some(value), None) => Ok(Updated {
-            start,
-            outcome: Outcome::ReadOnly,
-            value,
-        }),
-        (Outcome::Aborted | Outcome::ReadOnly, _, stop) => Err(stopped(stop)),
-        _ => Err(NotUpdated::Unknown(start)),
-    };
-    (told, seats)
+    (by_outcome(start, outcome, value, stop), seats)
 }
 
 // What is told of an update without an outcome. A session that goes on is left as it is.
