@@ -164,8 +164,9 @@ pub(crate) fn try_once<J: JournalId, S: Sender<Request<J>, Reply<J>>, W: Work>(
     let Seats { begins, resolves } = seats;
     match Session::begin(alloc, begins) {
         Ok(session) => {
-            let (session, resolves, value, stop) =
-                run(alloc, session, resolves, terms, work, sender);
+            let (session, resolves, value, stop) = run(
+                alloc, session, resolves, terms, work, sender,
+            );
             finished(session, resolves, value, stop)
         }
         Err(begins) => Err(Unended::Spent(Seats { begins, resolves })),
