@@ -26,8 +26,8 @@ module _ {J W O E : Type 0} (does : W → Entries → Result O (Failure E) → E
       → IfOk came (λ (e : Ended J O E). TellsEnd e r × (seats ≡ e.seats))
       → IfErr came (λ (u : Unended J E). TellsNoEnd bounds u r seats)
       → Updates does bounds old before r (record { seats = seats; terms = old.terms; again = old.again }) after_it
-  updates_so (Ok e) (n, few, ends) none tells no = (n, few, refl, refl, inl (e, ends, tells.0, tells.1))
-  updates_so (Err u) none (n, few, is) no tells = (n, few, refl, refl, inr (u, is, tells))
+  updates_so (Ok e) (n, few, ends) unit tells never = (n, few, refl, refl, inl (e, ends, tells.0, tells.1))
+  updates_so (Err u) unit (n, few, is) never tells = (n, few, refl, refl, inr (u, is, tells))
 
 module _ {J O E : Type 0} (e : Ended J O E) where
   -- a refusal is told of what was without effect

@@ -40,10 +40,16 @@ impl<'a, J: JournalId, R: Wait> Client<'a, J, R> {
             self.old.seats.resolves.events 1 at self.new.seats.resolves.events) }
         ensures begins { self.new.seats.begins ≡ self.old.seats.begins }
     {
-        let Some(seats) = &mut self.seats else {
+        let Some(Seats {
+            begins,
+            mut resolves,
+        }) = self.seats.take()
+        else {
             unreachable!()
         };
-        seats.resolves.draw(1)
+        let drawn = resolves.draw(1);
+        self.seats = Some(Seats { begins, resolves });
+        drawn
     }
 
     /// The value of a key at a timestamp, which need not be fresh: what the one-step machine sees
