@@ -3,8 +3,9 @@
 #![tactic(auto)]
 
 use std::sync::Wait;
-use tx_kv::{Client, Failure, JournalId, Key, NotUpdated, Program};
-use tx_kv::{Stop, Tx, Value, Work, with_store};
+use tx_kv::{
+    Client, Failure, JournalId, Key, NotUpdated, Program, Stop, Tx, Value, Work, with_store,
+};
 
 // How many names there are.
 const NAMES: u8 = 10;
@@ -23,6 +24,7 @@ struct SignUp {
 
 impl Work for SignUp {
     type Out = ();
+
     type Err = ();
 
     fn apply<T: Tx>(&mut self, tx: &mut T) -> Result<(), Failure<()>> {
@@ -39,6 +41,7 @@ struct Check;
 
 impl Work for Check {
     type Out = bool;
+
     type Err = ();
 
     fn apply<T: Tx>(&mut self, tx: &mut T) -> Result<bool, Failure<()>> {
@@ -65,6 +68,7 @@ struct Office;
 impl<R: Wait> Program<R> for Office {
     /// How many it signed up, and how often the name was taken.
     type Out = (u8, u8);
+
     type Answer = (u8, u8, bool);
 
     fn run<J: JournalId>(&self, client: &mut Client<'_, J, R>) -> (u8, u8) {

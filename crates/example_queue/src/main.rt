@@ -19,6 +19,7 @@ struct Add(u8);
 
 impl Work for Add {
     type Out = ();
+
     type Err = ();
 
     fn apply<T: Tx>(&mut self, tx: &mut T) -> Result<(), Failure<()>> {
@@ -33,6 +34,7 @@ struct Take;
 
 impl Work for Take {
     type Out = Option<u8>;
+
     type Err = ();
 
     fn apply<T: Tx>(&mut self, tx: &mut T) -> Result<Option<u8>, Failure<()>> {
@@ -55,6 +57,7 @@ struct Queue;
 
 impl<R: Wait> Program<R> for Queue {
     type Out = Option<Taken>;
+
     type Answer = Option<[u8; JOBS as usize]>;
 
     fn begin<J: JournalId>(&mut self, client: &mut Client<'_, J, R>) {

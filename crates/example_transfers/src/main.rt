@@ -3,8 +3,7 @@
 #![tactic(auto)]
 
 use std::sync::Wait;
-use tx_kv::{Client, Failure, JournalId, Key, Program, Stop};
-use tx_kv::{Tx, Value, Work, with_store};
+use tx_kv::{Client, Failure, JournalId, Key, Program, Stop, Tx, Value, Work, with_store};
 
 // The key of an account: two lie in each of the regions.
 fn key_of<T: Tx>(tx: &T, account: u8) -> Result<Key, Stop> {
@@ -38,6 +37,7 @@ struct Poor;
 
 impl Work for Transfer {
     type Out = ();
+
     type Err = Poor;
 
     fn apply<T: Tx>(&mut self, tx: &mut T) -> Result<(), Failure<Poor>> {
@@ -54,10 +54,16 @@ struct Total;
 
 impl Work for Total {
     type Out = u32;
+
     type Err = Poor;
 
     fn apply<T: Tx>(&mut self, tx: &mut T) -> Result<u32, Failure<Poor>> {
-        let each = [balance(tx, 0)?, balance(tx, 1)?, balance(tx, 2)?, balance(tx, 3)?];
+        let each = [
+            balance(tx, 0)?,
+            balance(tx, 1)?,
+            balance(tx, 2)?,
+            balance(tx, 3)?,
+        ];
         Ok(each.iter().map(|balance| u32::from(*balance)).sum())
     }
 }
@@ -68,6 +74,7 @@ struct Bank;
 
 impl<R: Wait> Program<R> for Bank {
     type Out = ();
+
     type Answer = Option<u32>;
 
     fn run<J: JournalId>(&self, client: &mut Client<'_, J, R>) {

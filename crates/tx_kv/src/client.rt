@@ -92,10 +92,7 @@ impl<'a, J: JournalId, R: Wait> Client<'a, J, R> {
     /// Does a work in a transaction, and commits that. A lock in the way is resolved. After a
     /// conflict the work is done anew, in a transaction that begins later; in at most one of its
     /// tries it has an effect.
-    pub fn update<W: Work>(
-        &mut self,
-        work: &mut W,
-    ) -> Result<Updated<W::Out>, NotUpdated<W::Err>>
+    pub fn update<W: Work>(&mut self, work: &mut W) -> Result<Updated<W::Out>, NotUpdated<W::Err>>
         ensures { Updates W.does J.bounds self.old work.old result self.new work.new }
     {
         let Some(seats) = self.seats.take() else {
@@ -103,9 +100,7 @@ impl<'a, J: JournalId, R: Wait> Client<'a, J, R> {
         };
         let mut wire = Wire::new(self.rt, self.store);
         wire.show();
-        let came = update(
-            self.alloc, seats, self.terms, self.again, work, &mut wire,
-        );
+        let came = update(self.alloc, seats, self.terms, self.again, work, &mut wire);
         let (told, seats) = told_of(came);
         self.seats = Some(seats);
         told

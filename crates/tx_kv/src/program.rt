@@ -34,11 +34,7 @@ pub trait Program<R: Wait>: Drop + Sync {
     fn run<J: JournalId>(&self, client: &mut Client<'_, J, R>) -> Self::Out;
 
     /// Done last, by the client that began, with what the others answered, in their order.
-    fn end<J: JournalId>(
-        self,
-        client: &mut Client<'_, J, R>,
-        outs: Vec<Self::Out>,
-    ) -> Self::Answer;
+    fn end<J: JournalId>(self, client: &mut Client<'_, J, R>, outs: Vec<Self::Out>) -> Self::Answer;
 }
 
 // A client to be run.

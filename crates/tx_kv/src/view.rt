@@ -40,10 +40,12 @@ impl<'a, J: JournalId, R: Wait> Client<'a, J, R> {
             self.old.seats.resolves.events 1 at self.new.seats.resolves.events) }
         ensures begins { self.new.seats.begins ≡ self.old.seats.begins }
     {
-        let Some(Seats {
-            begins,
-            mut resolves,
-        }) = self.seats.take()
+        let Some(
+            Seats {
+                begins,
+                mut resolves,
+            },
+        ) = self.seats.take()
         else {
             unreachable!()
         };
