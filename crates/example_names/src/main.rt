@@ -74,7 +74,7 @@ impl<R: Wait> Program<R> for Office {
     fn run<J: JournalId>(&self, client: &mut Client<'_, J, R>) -> (u8, u8) {
         let (mut signed, mut taken): (u8, u8) = (0, 0);
         for name in 0..NAMES {
-            let user = name * 2 + client.number() as u8 % 2;
+            let user = name * 2 + (client.number() % 2) as u8;
             match client.update(&mut SignUp { user, name }) {
                 Ok(_) => signed = signed.saturating_add(1),
                 Err(NotUpdated::Stopped(Stop::AlreadyExists)) => taken = taken.saturating_add(1),

@@ -14,10 +14,8 @@ fn key_of<T: Tx>(tx: &T, account: u8) -> Result<Key, Stop> {
 // What an account has: at first 100.
 fn balance<T: Tx>(tx: &mut T, account: u8) -> Result<u8, Stop> {
     let key = key_of(tx, account)?;
-    match tx.get(&key)? {
-        Some(value) => Ok(value.as_bytes().first().copied().unwrap_or(0)),
-        None => Ok(100),
-    }
+    let value = tx.get(&key)?;
+    Ok(value.map_or(100, |held| held.as_bytes().first().copied().unwrap_or(0)))
 }
 
 // Enters what an account then has; none is too little, or too much.
@@ -58,13 +56,9 @@ impl Work for Total {
     type Err = Poor;
 
     fn apply<T: Tx>(&mut self, tx: &mut T) -> Result<u32, Failure<Poor>> {
-        let each = [
-            balance(tx, 0)?,
-            balance(tx, 1)?,
-            balance(tx, 2)?,
-            balance(tx, 3)?,
-        ];
-        Ok(each.iter().map(|balance| u32::from(*balance)).sum())
+        let (ann, bob) = (balance(tx, 0)?, balance(tx, 1)?);
+        let (sue, tom) = (balance(tx, 2)?, balance(tx, 3)?);
+        Ok([ann, bob, sue, tom].iter().map(|b| u32::from(*b)).sum())
     }
 }
 
@@ -79,7 +73,7 @@ impl<R: Wait> Program<R> for Bank {
 
     fn run<J: JournalId>(&self, client: &mut Client<'_, J, R>) {
         for n in 0..50u8 {
-            let to = n.wrapping_add(client.number() as u8 % 2 + 1) % 4;
+            let to = n.wrapping_add(1 + (client.number() % 2) as u8) % 4;
             drop(client.update(&mut Transfer(n % 4, to, n % 7)));
         }
     }
