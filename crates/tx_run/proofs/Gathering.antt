@@ -19,6 +19,7 @@ use Rattle.tx_run.specs.declared.reply.LineAnswer.TheVariants.{Plain, Ended}
 use Rattle.tx_run.specs.declared.reply.LineReply.{LineReply}
 use Rattle.tx_run.specs.Outcomes.{IsTold, start_of, AreApart, TellsOutcomes}
 use Rattle.tx_run.specs.Pairs.{TellsPair}
+use Rattle.tx_run.specs.Tells.{TellsLine}
 use Rattle.tx_transfer.proofs.Transferring.{between_on}
 use Rattle.tx_run.specs.Logs.{StandsBy, TellsBy}
 use Rattle.tx_run.specs.Answers.{Answers, EndsSo, IsReply, has_fault, is_fault}
@@ -154,28 +155,31 @@ weaker h m n (Plain plain) le is = tt
 
 -- what is told so far lies above the results that are left, of which each is of a lower seat
 -- than those before it
-pub record AreLeft (source : Option (List ℕ)) (h : History) (replies : List LineReply) (rest : List Output) :
-    Type 0 where
+pub record AreLeft (source : Option (List ℕ)) (bounds : List Key) (h : History) (replies : List LineReply)
+    (rest : List Output) : Type 0 where
   pub falling : AreFalling rest
   pub told : TellsOutcomes h replies
   pub pairs : All (TellsPair source) replies
+  pub tells : All (TellsLine source bounds h) replies
   pub above : All (λ o. All (λ s. IsAbove h (o.log.seat + 1) s.answer) replies) rest
 
-module _ (source : Option (List ℕ)) (h : History) (replies : List LineReply) (output : Output) (rest :
-    List Output) where
-  pub first_above : AreLeft source h replies (output ∷ rest)
+module _ (source : Option (List ℕ)) (bounds : List Key) (h : History) (replies : List LineReply) (output : Output)
+    (rest : List Output) where
+  pub first_above : AreLeft source bounds h replies (output ∷ rest)
       → All (λ s. IsAbove h (output.log.seat + 1) s.answer) replies
   first_above left = left.above 0 output (omega (arith, length-cons output rest))
 
   pub left_next : (all : List Output) → all ≡ output ∷ rest → AreFalling all → TellsOutcomes h replies
-      → All (TellsPair source) replies → All (λ s. IsAbove h output.log.seat s.answer) replies
-      → AreLeft source h replies rest
-  left_next all is falling told pairs above =
+      → All (TellsPair source) replies → All (TellsLine source bounds h) replies
+      → All (λ s. IsAbove h output.log.seat s.answer) replies
+      → AreLeft source bounds h replies rest
+  left_next all is falling told pairs tells above =
       let fall : AreFalling (output ∷ rest) = subst (λ l. AreFalling l) is falling in
       record {
         falling = λ i j d lt bound. fall (suc i) (suc j) d (omega arith) (omega (arith, length-cons output rest));
         told = told;
         pairs = pairs;
+        tells = tells;
         above = λ k d lt i e in_list. weaker h ((get_or rest k d).log.seat + 1) output.log.seat _
             (lower_than fall k d lt) (above i e in_list);
       }

@@ -5,6 +5,7 @@ use Rattle.std.specs.Option.{option_to_list}
 use Rattle.std.proofs.lemmas.List.{map-append, reverse-reverse}
 use Rattle.std.proofs.lemmas.List.Folds.{list_any-append}
 use Rattle.tx_types.specs.declared.fault.Cause.{Cause}
+use Rattle.tx_core.specs.Histories.{History}
 use Rattle.tx_run.specs.declared.reply.LineAnswer.{LineAnswer}
 use Rattle.tx_run.specs.declared.reply.LineAnswer.TheVariants.{Plain, Ended}
 use Rattle.tx_run.specs.declared.reply.LineReply.{LineReply}
@@ -152,6 +153,28 @@ pub to_state : (a mid new : Working) → GoesOn a mid → MayAnswer mid → new 
 to_state a mid new goes may is =
     let same : record mid { going = None } ≡ mid = ap (λ (g : Option ℕ). record mid { going = g }) (sym may.0) in
     subst (λ (w : Working). GoesOn a w) (sym (is ∙ same)) goes
+
+-- its log was told more
+module _ (j heard : Working) (told : History) (number : ℕ)
+    (hears : heard ≡ record j { log = record j.log { told = told } }) where
+  pub heard_goes : (new : Working) → GoesOn (with_line number heard) new → GoesOn (with_line number j) new
+  heard_goes new goes =
+      let more = subst (λ (w : Working). GoesOn (with_line number w) new) hears goes in
+      record {
+        number = more.number;
+        seat = more.seat;
+        kept = more.kept;
+        faulted = more.faulted;
+        lines = more.lines;
+      }
+
+  pub from_heard : (mid new : Working) → mid ≡ record heard { going = None } → GoesOn (with_line number mid) new
+      → GoesOn (with_line number j) new
+  from_heard mid new is goes = heard_goes new (from_state heard mid new number is goes)
+
+  pub may_heard : MayAnswer j → MayAnswer heard
+  may_heard may =
+      (ap (λ (w : Working). w.going) hears ∙ may.0, ap (λ (w : Working). w.faulted) hears ∙ may.1)
 
 -- a transfer is on its way
 pub began : (j new : Working) (number transfer : ℕ) → transfer ≡ number → new ≡ record j { going = Some transfer }

@@ -12,6 +12,7 @@ use Rattle.tx_text.specs.Output.{AppendsPart}
 use Rattle.tx_run.specs.declared.reply.LineReply.{LineReply}
 use Rattle.tx_run.specs.Outcomes.{TellsOutcomes}
 use Rattle.tx_run.specs.Pairs.{TellsPair}
+use Rattle.tx_run.specs.Tells.{AllTell}
 use Rattle.tx_transfer.specs.declared.total.Total.{Total}
 use Rattle.tx_run.specs.Texts.{IsTextOf, IsTextFrom, WritesPart}
 
@@ -106,7 +107,7 @@ module _ {P X : Type 0} (f : X → List ℕ) (v : P → X) (xs : List P) (i : �
 
 pub from_played : (source old new : Option (List ℕ)) (seen : Seen) (replies : List LineReply) (total : Total)
     → IsWorldRun seen.bounds seen.events → TellsOutcomes seen.events replies → All (TellsPair source) replies
-    → WritesPart old new (IsTextOf replies total) → WritesPart old new (IsTextFrom source)
-from_played source old new seen replies total run told pairs (inl kept) = inl kept
-from_played source old new seen replies total run told pairs (inr (text, is, part)) =
-    inr (text, inr (seen, replies, total, run, told, pairs, is), part)
+    → AllTell source seen replies → WritesPart old new (IsTextOf replies total) → WritesPart old new (IsTextFrom source)
+from_played source old new seen replies total run told pairs tells (inl kept) = inl kept
+from_played source old new seen replies total run told pairs tells (inr (text, is, part)) =
+    inr (text, inr (seen, replies, total, run, told, pairs, tells, is), part)

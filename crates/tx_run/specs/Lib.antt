@@ -12,4 +12,6 @@ pub mod Reading
 pub mod Replies
 pub mod Scripts
 pub mod States
+pub mod Steps
+pub mod Tells
 pub mod Texts

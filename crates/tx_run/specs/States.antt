@@ -1,5 +1,6 @@
--- What is on its way in a job.
-use Rattle.std.specs.Prelude.{ℕ, Bool, true, false, Option, Some, None}
+-- What is on its way in a job, and what its session has entered.
+use Rattle.std.specs.Prelude.{ℕ, Bool, true, false, [], Option, Some, None}
+use Rattle.tx_transaction.specs.Buffers.{Entries}
 use Rattle.tx_run.specs.declared.state.JobState.{JobState}
 use Rattle.tx_run.specs.declared.state.JobState.TheVariants.{Free, Live, Transfer, Taken}
 
@@ -16,3 +17,10 @@ is_transfer (Free seat) = false
 is_transfer (Live session) = false
 is_transfer (Transfer transfer) = true
 is_transfer Taken = false
+
+-- the buffer of the session that is live, if one is
+abbrev pub buffer_of : {F L M : Type 0} → JobState F L M → (L → Entries) → Entries
+buffer_of (Free seat) buffer = []
+buffer_of (Live session) buffer = buffer session
+buffer_of (Transfer transfer) buffer = []
+buffer_of Taken buffer = []

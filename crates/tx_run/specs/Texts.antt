@@ -24,6 +24,7 @@ use Rattle.tx_run.specs.Faults.{TellsFault}
 use Rattle.tx_run.specs.Lines.{line_of}
 use Rattle.tx_run.specs.Outcomes.{TellsOutcomes}
 use Rattle.tx_run.specs.Pairs.{TellsPair}
+use Rattle.tx_run.specs.Tells.{AllTell}
 use Rattle.tx_transfer.specs.declared.total.Total.{Total}
 use Rattle.tx_run.specs.declared.counts.RunCounts.{RunCounts}
 use Rattle.tx_run.specs.declared.play.RunResult.{RunResult}
@@ -111,11 +112,12 @@ end_of None = Faulted
 end_of (Some played) = if has_fault played.replies then Faulted else Well
 
 -- the text of some run of this script: each outcome that it tells was answered in what its
--- sessions had seen
+-- sessions had seen, of which its answers tell
 abbrev pub IsTextFrom : Option (List ℕ) → List ℕ → Type 0
 IsTextFrom source text = IsFaultText source text
     ⊎ ((seen : Seen) × (replies : List LineReply) × (total : Total) × IsWorldRun seen.bounds seen.events
-    × TellsOutcomes seen.events replies × All (TellsPair source) replies × IsTextOf replies total text)
+    × TellsOutcomes seen.events replies × All (TellsPair source) replies × AllTell source seen replies
+    × IsTextOf replies total text)
 
 -- ---- what is written
 

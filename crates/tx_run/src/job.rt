@@ -1,9 +1,16 @@
 //! A session of a run, as a job of the workers: each line is a step. A transfer is mostly two: its
 //! reads, and then its writes.
-ghost use Rattle.std.specs.Prelude.{◌≡◌, ◌∷◌, map, is_some, [], None, true, false, IfErr, IfNone, IfOk, IfSome, OnErr, OnOk};
+ghost use Rattle.std.specs.Prelude.{◌≡◌, ◌∷◌, map, is_some, [], None, Ok, true, false, IfErr, IfNone, IfOk, IfSome, OnErr, OnOk};
 ghost use Rattle.tx_run.specs.Jobs.{GoesOn, MayAnswer, Promises, job_lines, with_line};
 ghost use Rattle.tx_run.specs.LineNumbers.{number_of};
-ghost use Rattle.tx_run.specs.States.{going_of};
+ghost use Rattle.tx_run.specs.Logs.{answer_to};
+ghost use Rattle.tx_run.specs.States.{going_of, buffer_of};
+ghost use Rattle.tx_run.specs.Readers.{HasSession};
+ghost use Rattle.tx_run.specs.Tells.{AreOf, EnteredBy, TellsLine, is_bare, session_name};
+ghost use Rattle.tx_run.specs.Steps.{SaysStep};
+ghost use Rattle.tx_run.specs.declared.reply.LineAnswer.TheVariants.{Plain};
+ghost use Rattle.tx_core.specs.Histories.{Begins};
+ghost use Rattle.tx_evidence.specs.Buffers.{AllBy};
 ghost use Rattle.tx_transfer.specs.Sources.{HasPair};
 ghost use Rattle.tx_transfer.specs.Transfers.{MovesSome};
 
@@ -50,7 +57,8 @@ impl<J: JournalId, L: Source, F: Families + Drop, R: Wait + Drop> Model for Scri
     ghost use Rattle.std.specs.Prelude.{map, reverse};
     ghost use Rattle.tx_run.specs.Jobs.{IsSound, Working};
     ghost use Rattle.tx_run.specs.LineNumbers.{number_of};
-    ghost use Rattle.tx_run.specs.States.{going_of};
+    ghost use Rattle.tx_run.specs.States.{going_of, buffer_of};
+    ghost use Rattle.tx_run.specs.Tells.{Owns};
 
     ghost Value = { Working };
 
@@ -68,7 +76,8 @@ impl<J: JournalId, L: Source, F: Families + Drop, R: Wait + Drop> Model for Scri
       going = going_of j.state (λ transfer. transfer.value);
       left = map number_of (reverse j.lines.items);
       faulted = j.faulted;
-    }) };
+    }) × Owns L.text j.number (map number_of (reverse j.lines.items))
+        (buffer_of j.state (λ session. session.value.state.buffer)) };
 }
 
 impl<J: JournalId, L: Source, F: Families + Drop, R: Wait + Drop> ScriptJob<J, L, F, R> {
@@ -80,6 +89,7 @@ impl<J: JournalId, L: Source, F: Families + Drop, R: Wait + Drop> ScriptJob<J, L
         mut lines: Vec<SessionLine<L>>,
         collector: Collector,
     ) -> Result<ScriptJob<J, L, F, R>, Fault>
+        requires { AreOf L.text number (map number_of lines.items) }
         ensures job { IfOk result (λ job. (job.number ≡ number) × (job.log.seat ≡ seat.seat)) }
         ensures lines { IfOk result (λ job. job_lines job ≡ map number_of lines.items) }
         ensures err { IfErr result (λ e. e ≡ Fault.OutOfMemory) }
@@ -102,7 +112,9 @@ impl<J: JournalId, L: Source, F: Families + Drop, R: Wait + Drop> ScriptJob<J, L
 
     // Is in this state from now on.
     fn set_state(&mut self, state: JobState<Seat<J>, Box<Session<J>>, Box<TransferState<J, L>>>)
-        requires { self.old.faulted ≡ true → going_of state (λ transfer. transfer.value) ≡ None }
+        requires over { self.old.faulted ≡ true → going_of state (λ transfer. transfer.value) ≡ None }
+        requires own { AllBy (EnteredBy L.text self.old.number)
+            (buffer_of state (λ session. session.value.state.buffer)) }
         ensures { self.new ≡ record self.old { going = going_of state (λ transfer. transfer.value) } }
     {
         drop(replace(&mut self.state, state));
@@ -111,6 +123,8 @@ impl<J: JournalId, L: Source, F: Families + Drop, R: Wait + Drop> ScriptJob<J, L
     // Takes the state, while it acts.
     fn take_state(&mut self) -> JobState<Seat<J>, Box<Session<J>>, Box<TransferState<J, L>>>
         ensures state { going_of result (λ transfer. transfer.value) ≡ self.old.going }
+        ensures own { AllBy (EnteredBy L.text self.old.number)
+            (buffer_of result (λ session. session.value.state.buffer)) }
         ensures over { self.old.faulted ≡ true → self.old.going ≡ None }
         ensures taken { self.new ≡ record self.old { going = None } }
     {
@@ -128,13 +142,33 @@ impl<J: JournalId, L: Source, F: Families + Drop, R: Wait + Drop> ScriptJob<J, L
         }
     }
 
-    // Keeps the answer of a line.
+    // The log knows what a session has seen.
+    fn hear(&mut self, session: &mut Session<J>)
+        ensures job { self.new ≡ record self.old { log = record self.old.log { told = self.new.log.told } } }
+        ensures knows { Begins session.old.seat.events self.new.log.told }
+        ensures state { session.new.state ≡ session.old.state }
+    {
+        self.log.hear(self.context.resolver(), session);
+    }
+
+    // Keeps the answer of a line, which tells of what the log was told.
     fn report(&mut self, number: u64, plain: PlainReply)
-        requires { MayAnswer self.old }
+        requires may { MayAnswer self.old }
+        requires tells { TellsLine L.text J.bounds self.old.log.told (answer_to number (Plain (Ok plain))) }
         ensures { GoesOn (with_line number self.old) self.new }
     {
         self.meet(&plain);
         self.log.keep(number, Ok(plain));
+    }
+
+    // Keeps the answer of a line that says a step: that it was done, or why it was not.
+    fn report_bare(&mut self, number: u64, plain: PlainReply)
+        requires may { MayAnswer self.old }
+        requires says { SaysStep L.text number }
+        requires bare { is_bare plain.reply ≡ true }
+        ensures { GoesOn (with_line number self.old) self.new }
+    {
+        self.report(number, plain);
     }
 
     // A fault of the script ends the session.
@@ -149,7 +183,8 @@ impl<J: JournalId, L: Source, F: Families + Drop, R: Wait + Drop> ScriptJob<J, L
 
     // Keeps what came of a line.
     fn on_answer(&mut self, number: u64, answer: Result<PlainReply, Cause>)
-        requires { MayAnswer self.old }
+        requires may { MayAnswer self.old }
+        requires tells { TellsLine L.text J.bounds self.old.log.told (answer_to number (Plain answer)) }
         ensures { GoesOn (with_line number self.old) self.new }
     {
         match answer {
@@ -168,6 +203,7 @@ impl<J: JournalId, L: Source, F: Families + Drop, R: Wait + Drop> ScriptJob<J, L
         requires may { MayAnswer self.old }
         requires moves { MovesSome keys session.state }
         requires pair { HasPair L.text number keys }
+        requires says { SaysStep L.text number }
         ensures kept { OnOk result (GoesOn (with_line number self.old) self.new × MayAnswer self.new) }
         ensures none { OnErr result (self.new ≡ self.old) }
     {
@@ -195,6 +231,8 @@ impl<J: JournalId, L: Source, F: Families + Drop, R: Wait + Drop> ScriptJob<J, L
     fn next_line(&mut self) -> Option<SessionLine<L>>
         ensures some { IfSome result (λ line. (self.old ≡ record self.new { left = number_of line ∷ self.new.left })
             × (self.new.faulted ≡ false)) }
+        ensures own { IfSome result
+            (λ line. HasSession L.text (number_of line) (session_name L.text self.new.number)) }
         ensures none { IfNone result (self.new ≡ self.old) }
     {
         self.lines.pop()

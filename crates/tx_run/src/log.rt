@@ -1,10 +1,12 @@
 //! What the lines of one session were answered, with what its session had seen.
 ghost use Rattle.std.specs.Prelude.{◌≡◌, ◌∷◌, ◌++◌, All, [], if◌then◌else◌, true, false, OnOk, OnErr};
 ghost use Rattle.tx_core.specs.Histories.{Begins};
-ghost use Rattle.tx_run.specs.Logs.{CanTell, IsAnswered, KeepsAnswer, KeepsOutcome, TellsBy, TellsNone};
+ghost use Rattle.tx_run.specs.Logs.{CanTell, IsAnswered, KeepsAnswer, KeepsOutcome, TellsBy, TellsNone, answer_to};
 ghost use Rattle.tx_run.specs.declared.reply.LineAnswer.TheVariants.{Plain, Ended};
 ghost use Rattle.tx_transfer.specs.Sources.{HasPair};
 ghost use Rattle.tx_run.specs.Pairs.{TellsPair};
+ghost use Rattle.tx_run.specs.Steps.{SaysStep};
+ghost use Rattle.tx_run.specs.Tells.{TellsLine};
 ghost use Rattle.tx_transfer.specs.Transfers.{MovesSome};
 
 use crate::reply::{LineAnswer, LineReply};
@@ -16,9 +18,9 @@ use tx_journal::{JournalId, Seat, Told};
 use tx_transfer::{PlainReply, Source};
 use tx_types::{Cause, Key, Ts};
 
-/// The answers of a session's lines. Each outcome among them was answered by the session's seat in
-/// what the log was told, no two are of one transaction, and each comes with the keys of the
-/// transfer that its line says.
+/// The answers of a session's lines, each of which tells of what the log was told. Each outcome among
+/// them was answered there by the session's seat, no two are of one transaction, and each comes with
+/// the keys of the transfer that its line says.
 #[derive(Drop)]
 pub(crate) struct RunLog<J: JournalId, L: Source> {
     seat: SeatNo,
@@ -33,12 +35,14 @@ impl<J: JournalId, L: Source> Model for RunLog<J, L> {
     ghost use Rattle.std.specs.Prelude.{All};
     ghost use Rattle.tx_run.specs.Logs.{Logged, TellsBy};
     ghost use Rattle.tx_run.specs.Pairs.{TellsPair};
+    ghost use Rattle.tx_run.specs.Tells.{TellsLine};
 
     ghost Value = { Logged };
 
     ghost view = { λ l. record { seat = l.seat; told = l.told; replies = l.replies.items; lost = l.lost } };
 
-    ghost invariant = { λ l. TellsBy l.told l.seat l.replies.items × All (TellsPair L.text) l.replies.items };
+    ghost invariant = { λ l. TellsBy l.told l.seat l.replies.items × All (TellsPair L.text) l.replies.items
+        × All (TellsLine L.text J.bounds l.told) l.replies.items };
 }
 
 // Adds an answer: whether there was room.
@@ -66,8 +70,9 @@ impl<J: JournalId, L: Source> RunLog<J, L> {
         }
     }
 
-    /// Keeps an answer that says no outcome.
+    /// Keeps an answer that says no outcome, and tells of what the log was told.
     pub fn keep(&mut self, number: u64, answer: Result<PlainReply, Cause>)
+        requires { TellsLine L.text J.bounds self.old.told (answer_to number (Plain answer)) }
         ensures same { (self.new.seat ≡ self.old.seat) × (self.new.told ≡ self.old.told) }
         ensures kept { KeepsAnswer self.old number (Plain answer) self.new }
     {
@@ -91,6 +96,7 @@ impl<J: JournalId, L: Source> RunLog<J, L> {
         requires answered { IsAnswered self.old.told self.old.seat start outcome.now keys }
         requires fresh { TellsNone start self.old.replies }
         requires pair { HasPair L.text number keys }
+        requires says { SaysStep L.text number }
         ensures same { self.new.seat ≡ self.old.seat }
         ensures kept { KeepsAnswer self.old number (Ended start outcome.now keys) self.new }
     {
@@ -110,11 +116,25 @@ impl<J: JournalId, L: Source> RunLog<J, L> {
     )
         requires tell { CanTell self.old start outcome keys seat.old }
         requires pair { HasPair L.text number keys }
+        requires says { SaysStep L.text number }
         ensures same { self.new.seat ≡ self.old.seat }
         ensures kept { KeepsAnswer self.old number (Ended start outcome keys) self.new }
     {
         self.learn(seat);
         self.keep_outcome(number, start, &outcome, keys);
+    }
+
+    /// Knows what a session has seen, which then knows what the log was told. `by` is a seat of the
+    /// journal.
+    pub fn hear(&mut self, by: &Seat<J>, session: &mut Session<J>)
+        ensures same { (self.new.seat ≡ self.old.seat) × (self.new.replies ≡ self.old.replies)
+            × (self.new.lost ≡ self.old.lost) }
+        ensures knows { Begins session.old.seat.events self.new.told }
+        ensures state { session.new.state ≡ session.old.state }
+    {
+        session.learn_told(by.copy(&mut self.told));
+        session.show();
+        self.told = session.tell();
     }
 
     /// Ends a transaction, and keeps its outcome: its seat is then free. Where it has no
@@ -130,6 +150,7 @@ impl<J: JournalId, L: Source> RunLog<J, L> {
     ) -> Result<Seat<J>, Session<J>>
         requires moves { MovesSome keys session.state }
         requires pair { HasPair L.text number keys }
+        requires says { SaysStep L.text number }
         ensures same { self.new.seat ≡ self.old.seat }
         ensures kept { OnOk result (KeepsOutcome self.old number keys self.new) }
         ensures none { OnErr result (self.new ≡ self.old) }
@@ -171,8 +192,9 @@ impl<J: JournalId, L: Source> RunLog<J, L> {
     /// What it was told, the answers, and whether one was lost.
     pub fn into_parts(self) -> (Told<J>, Vec<LineReply>, bool)
         ensures parts { (result.0 ≡ self.told) × (result.1.items ≡ self.replies) × (result.2 ≡ self.lost) }
-        ensures tells { TellsBy self.told self.seat self.replies }
+        ensures told { TellsBy self.told self.seat self.replies }
         ensures pairs { All (TellsPair L.text) self.replies }
+        ensures tells { All (TellsLine L.text J.bounds self.told) self.replies }
     {
         let RunLog {
             seat: _,

@@ -9,6 +9,8 @@ ghost use Rattle.tx_run.specs.LineNumbers.{numbers_in};
 ghost use Rattle.tx_run.specs.Reading.{opening_of};
 ghost use Rattle.tx_run.specs.Scripts.{IsWithin};
 ghost use Rattle.tx_run.specs.Pairs.{TellsPair};
+ghost use Rattle.tx_run.specs.Tells.{AreOwn, OpensWith, TellsLine};
+ghost use Rattle.tx_core.specs.Histories.{History};
 
 use crate::job::ScriptJob;
 use crate::output::JobOutput;
@@ -68,6 +70,7 @@ fn jobs<J: JournalId, L: Source, F: Families + Drop, R: Wait + Clone + Drop>(
 ) -> Result<Vec<ScriptJob<J, L, F, R>>, Fault>
     requires seats { AreFrom (length J.bounds + 1) seats.items }
     requires few { vec_len sessions ≤ 256 }
+    requires own { AreOwn L.text (numbers_in sessions.items) }
     ensures seats { IfOk result (λ jobs. HaveOwnSeats (length J.bounds + vec_len seats) jobs.items) }
     ensures lines { IfOk result (λ jobs. map job_lines jobs.items ≡ numbers_in sessions.items) }
 {
@@ -95,8 +98,10 @@ fn join<J: JournalId, L: Source>(
     requires told { TellsOutcomes seat.old.events replies.old }
     requires above { All (λ s. IsAbove seat.old.events (output.log.seat + 1) s.answer) replies.old }
     requires pairs { All (TellsPair L.text) replies.old }
+    requires tells { All (TellsLine L.text J.bounds seat.old.events) replies.old }
     ensures told { OnOk result (TellsOutcomes seat.new.events replies.new) }
     ensures pairs { OnOk result (All (TellsPair L.text) replies.new) }
+    ensures tells { OnOk result (All (TellsLine L.text J.bounds seat.new.events) replies.new) }
     ensures above { OnOk result (All (λ s. IsAbove seat.new.events output.log.seat s.answer) replies.new) }
     ensures joins { OnOk result (Joins seat.old.events replies.old output seat.new.events replies.new) }
     ensures fault { IfOk result (λ fault. fault ≡ output.faulted) }
@@ -125,8 +130,10 @@ fn gather<J: JournalId, L: Source>(
 ) -> Result<bool, Broken>
     requires falling { AreFalling outputs.items }
     requires none { All (λ s. IsReply s.answer) replies.old }
+    requires tells { All (TellsLine L.text J.bounds seat.old.events) replies.old }
     ensures told { OnOk result (TellsOutcomes seat.new.events replies.new) }
     ensures pairs { OnOk result (All (TellsPair L.text) replies.new) }
+    ensures tells { OnOk result (All (TellsLine L.text J.bounds seat.new.events) replies.new) }
     ensures comes { OnOk result (AreGathered (numbers_of replies.old) seat.new.events replies.new outputs.items) }
     ensures faulted { IfOk result (λ faulted. faulted ≡ list_any (λ o. o.faulted) outputs.items) }
 {
@@ -207,6 +214,7 @@ where
     R: Threads + Wait + Sync + Send + Clone + Drop,
     requires seats { AreFrom (length J.bounds + 1) seats.items }
     requires few { vec_len sessions ≤ 256 }
+    requires own { AreOwn L.text (numbers_in sessions.items) }
     ensures falling { IfOk result (λ outputs. AreFalling outputs.items) }
     ensures answered { IfOk result (λ outputs. AreAnswered (numbers_in sessions.items) outputs.items) }
 {
@@ -216,9 +224,14 @@ where
 }
 
 // Adds the first line's reply, where it says the keys between regions.
-fn write_regions<J: JournalId>(replies: &mut Vec<LineReply>, regions: usize) -> Result<(), Broken>
+fn write_regions<J: JournalId, L: Source>(
+    replies: &mut Vec<LineReply>,
+    regions: usize,
+) -> Result<(), Broken>
     requires count { regions ≡ length J.bounds + 1 }
     requires none { replies.old.items ≡ [] }
+    requires opens { OpensWith L.text J.bounds }
+    ensures tells { OnOk result ((h : History) → All (TellsLine L.text J.bounds h) replies.new.items) }
     ensures quiet { OnOk result (All (λ s. IsReply s.answer) replies.new.items) }
     ensures each { OnOk result (numbers_of replies.new.items ≡ opening_of J.bounds) }
 {
@@ -269,8 +282,13 @@ where
     requires name { (opened.table ≡ J.table) × (opened.bounds ≡ J.bounds) × (opened.seats ≡ J.seats) }
     requires count { (script.regions ≡ length J.bounds + 1) × (script.regions ≤ 64) }
     requires few { vec_len script.sessions ≤ 256 }
+    requires own { AreOwn L.text (numbers_in script.sessions.items) }
+    requires opens { OpensWith L.text J.bounds }
     ensures told { IfOk result (λ played. TellsOutcomes played.seen.events played.replies) }
     ensures pairs { IfOk result (λ played. All (TellsPair L.text) played.replies) }
+    ensures tells { IfOk result (λ played.
+        All (TellsLine L.text played.seen.bounds played.seen.events) played.replies) }
+    ensures bounds { IfOk result (λ played. played.seen.bounds ≡ J.bounds) }
     ensures comes { IfOk result (λ played.
         ComesOf (opening_of J.bounds ++ map (λ seed. seed.number) script.seeds.items)
         (numbers_in script.sessions.items) played.seen.events played.replies) }
@@ -287,7 +305,7 @@ where
         return Err(Broken::Memory);
     };
     let mut first = Vec::with_capacity(alloc, seeds.len().saturating_add(1))?;
-    write_regions::<J>(&mut first, regions)?;
+    write_regions::<J, L>(&mut first, regions)?;
     let mut seat = play_seeds(seat, &mut context, seeds.as_slice(), &mut first)?;
     let mut replies = Replies::new(alloc);
     replies.add(first)?;
@@ -328,9 +346,14 @@ where
     M: Makes<F>,
     G: Gate + Sync,
     R: Threads + Wait + Sync + Send + Clone + Drop,
-    requires { IsWithin script.bounds.items (vec_len script.sessions) }
+    requires within { IsWithin script.bounds.items (vec_len script.sessions) }
+    requires own { AreOwn L.text (numbers_in script.sessions.items) }
+    requires opens { OpensWith L.text script.bounds.items }
     ensures told { IfOk result (λ played. TellsOutcomes played.seen.events played.replies) }
     ensures pairs { IfOk result (λ played. All (TellsPair L.text) played.replies) }
+    ensures tells { IfOk result (λ played.
+        All (TellsLine L.text played.seen.bounds played.seen.events) played.replies) }
+    ensures bounds { IfOk result (λ played. played.seen.bounds ≡ script.bounds.items) }
     ensures comes { IfOk result (λ played.
         ComesOf (opening_of script.bounds.items ++ map (λ seed. seed.number) script.seeds.items)
         (numbers_in script.sessions.items) played.seen.events played.replies) }

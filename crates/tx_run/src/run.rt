@@ -3,6 +3,7 @@ ghost use Rattle.std.specs.Prelude.{◌≡◌, All, IfOk, IfSome, OnErr};
 ghost use Rattle.tx_run.specs.Faults.{IsFaultless};
 ghost use Rattle.tx_run.specs.Outcomes.{TellsOutcomes};
 ghost use Rattle.tx_run.specs.Pairs.{TellsPair};
+ghost use Rattle.tx_run.specs.Tells.{AllTell};
 ghost use Rattle.tx_run.specs.Answers.{has_fault};
 ghost use Rattle.tx_run.specs.Jobs.{ComesOfText};
 ghost use Rattle.tx_run.specs.Texts.{IsRunText, IsTextFrom, Writes, WritesPart, end_of};
@@ -42,6 +43,7 @@ where
     requires { L.text ≡ B.remaining reader.old }
     ensures told { IfOk result (λ r. IfSome r.1 (λ played. TellsOutcomes played.seen.events played.replies)) }
     ensures pairs { IfOk result (λ r. IfSome r.1 (λ played. All (TellsPair L.text) played.replies)) }
+    ensures tells { IfOk result (λ r. IfSome r.1 (λ played. AllTell L.text played.seen played.replies)) }
     ensures comes { IfOk result (λ r. IfSome r.1 (λ played. ComesOfText L.text played.seen.events played.replies)) }
     ensures faulted { IfOk result (λ r. IfSome r.1 (λ played. played.faulted ≡ has_fault played.replies)) }
     ensures wrote { IfOk result (λ r. Writes (W.contents writer.old) (W.contents writer.new) (IsRunText L.text r.1)) }
@@ -77,7 +79,8 @@ where
 /// that the text says are its own, in their order, up to a fault; each outcome that a line is told
 /// was answered in what all sessions had seen, no two are of one transaction, and the transaction of
 /// a transfer that was committed or aborted declared changes of just the two keys that its line
-/// says.
+/// says. Each other reply tells of what all sessions had seen, or of what a line of the same name
+/// entered.
 pub fn run_script<F, M, G, R, B, W>(
     rt: &R,
     alloc: Global,
@@ -96,6 +99,8 @@ where
     W: Write,
     ensures told { IfOk result (λ r. IfSome r.1 (λ played. TellsOutcomes played.seen.events played.replies)) }
     ensures pairs { IfOk result (λ r. IfSome r.1 (λ played. All (TellsPair (B.remaining reader.old)) played.replies)) }
+    ensures tells { IfOk result
+        (λ r. IfSome r.1 (λ played. AllTell (B.remaining reader.old) played.seen played.replies)) }
     ensures comes { IfOk result
         (λ r. IfSome r.1 (λ played. ComesOfText (B.remaining reader.old) played.seen.events played.replies)) }
     ensures faulted { IfOk result (λ r. IfSome r.1 (λ played. played.faulted ≡ has_fault played.replies)) }

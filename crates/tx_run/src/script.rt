@@ -10,6 +10,7 @@ ghost use Rattle.tx_run.specs.Faults.{IsFaultless, IsTooMany, Takes, TellsFault,
 ghost use Rattle.tx_run.specs.LineNumbers.{number_of, numbers_in};
 ghost use Rattle.tx_run.specs.Reading.{KeepsText, name_in, step_of};
 ghost use Rattle.tx_run.specs.Readers.{HasSession, HasSorted};
+ghost use Rattle.tx_run.specs.Steps.{SaysStep};
 ghost use Rattle.tx_transfer.specs.Sources.{HasLine, HasPair, pair_of};
 
 use crate::session_line::{ScriptLine, SessionLine};
@@ -61,6 +62,7 @@ fn session_line<L: Source>(
     step: Step<&str>,
 ) -> Result<SessionLine<L>, AllocError>
     requires line { HasLine L.text number text.now }
+    requires says { SaysStep L.text number }
     requires apart { IsApart (asked step) }
     requires pair { HasPair L.text number (pair_of (asked step)) }
     ensures { IfOk result (λ line. number_of line ≡ number) }

@@ -1,6 +1,8 @@
 //! The seeds of a run, in the order of their lines.
-ghost use Rattle.std.specs.Prelude.{◌≡◌, ◌++◌, map, All, OnOk};
+ghost use Rattle.std.specs.Prelude.{◌≡◌, ◌++◌, map, All, OnOk, true};
+ghost use Rattle.tx_core.specs.Histories.{History};
 ghost use Rattle.tx_run.specs.Answers.{IsReply, numbers_of};
+ghost use Rattle.tx_run.specs.Tells.{TellsLine, is_bare};
 
 use crate::reply::{LineAnswer, LineReply};
 use crate::session_line::ScriptLine;
@@ -16,7 +18,9 @@ fn play<J: JournalId, L: Source, F: Families + Drop, R: Wait + Drop>(
     seat: Seat<J>,
     context: &mut Context<J, F, R>,
     script_line: &ScriptLine<L>,
-) -> (Seat<J>, PlainReply) {
+) -> (Seat<J>, PlainReply)
+    ensures { is_bare result.1.reply ≡ true }
+{
     let mut parts = Parts::new();
     let read = Line::read(
         context.alloc,
@@ -40,7 +44,9 @@ pub(crate) fn play_seeds<J: JournalId, L: Source, F: Families + Drop, R: Wait + 
     seeds: &[ScriptLine<L>],
     replies: &mut Vec<LineReply>,
 ) -> Result<Seat<J>, Broken>
-    requires { All (λ s. IsReply s.answer) replies.old.items }
+    requires quiet { All (λ s. IsReply s.answer) replies.old.items }
+    requires tells { (h : History) → All (TellsLine L.text J.bounds h) replies.old.items }
+    ensures tells { OnOk result ((h : History) → All (TellsLine L.text J.bounds h) replies.new.items) }
     ensures quiet { OnOk result (All (λ s. IsReply s.answer) replies.new.items) }
     ensures each { OnOk result
         (numbers_of replies.new.items ≡ numbers_of replies.old.items ++ map (λ line. line.number) seeds.now) }

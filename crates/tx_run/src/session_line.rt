@@ -2,6 +2,7 @@
 ghost use Rattle.std.specs.Prelude.{◌≡◌, IfOk};
 ghost use Rattle.std.proofs.Props.{props};
 ghost use Rattle.tx_transfer.specs.Sources.{HasLine};
+ghost use Rattle.tx_run.specs.Steps.{SaysStep};
 
 use std::alloc::{AllocError, Global};
 use std::marker::PhantomData;
@@ -22,8 +23,8 @@ pub(crate) enum LatchNeed {
     Met,
 }
 
-/// A line that says a step, with its number. Where the text of the script is known,
-/// it has this line.
+/// A line that says a step, with its number. Where the text of the script is known, it has this line,
+/// which says one.
 #[derive(Drop)]
 pub(crate) struct ScriptLine<L: Source> {
     pub number: u64,
@@ -31,6 +32,7 @@ pub(crate) struct ScriptLine<L: Source> {
     pub text: Vec<u8>,
     of: PhantomData<L>,
     ghost line: { HasLine L.text number text.items } by { Prim.hlevel props },
+    ghost says: { SaysStep L.text number } by { Prim.hlevel props },
 }
 
 // The latches that a step asks for. Those of a transfer change on its way.
@@ -53,7 +55,8 @@ impl<L: Source> ScriptLine<L> {
         text: &[u8],
         step: Step<&str>,
     ) -> Result<ScriptLine<L>, AllocError>
-        requires { HasLine L.text number text.now }
+        requires line { HasLine L.text number text.now }
+        requires says { SaysStep L.text number }
         ensures { IfOk result (λ line. line.number ≡ number) }
     {
         let latches = latches_of(step);

@@ -1,8 +1,13 @@
 //! What a session of a run does by its lines.
-ghost use Rattle.std.specs.Prelude.{◌≡◌, None, Some};
+ghost use Rattle.std.specs.Prelude.{◌≡◌, true, None, Some};
 ghost use Rattle.tx_steps.specs.Steps.{asked, IsApart};
 ghost use Rattle.tx_run.specs.Jobs.{GoesOn, MayAnswer, with_line};
 ghost use Rattle.tx_run.specs.LineNumbers.{number_of};
+ghost use Rattle.tx_run.specs.Readers.{HasSession};
+ghost use Rattle.tx_run.specs.Steps.{Says, SaysStep};
+ghost use Rattle.tx_run.specs.Tells.{EnteredBy, EnteredIn, IsBegun, SaysOwn, SaidTells, is_bare, session_name};
+ghost use Rattle.tx_evidence.specs.Buffers.{AllBy};
+ghost use Rattle.tx_transfer.specs.Calls.{said_of};
 ghost use Rattle.tx_transfer.specs.Sources.{HasPair, pair_of};
 
 use super::ScriptJob;
@@ -20,24 +25,28 @@ use tx_types::{Cause, is_name};
 
 impl<J: JournalId, L: Source, F: Families + Drop, R: Wait + Drop> ScriptJob<J, L, F, R> {
     fn begin(&mut self, number: u64, seat: Seat<J>)
-        requires { MayAnswer self.old }
+        requires may { MayAnswer self.old }
+        requires says { SaysStep L.text number }
         ensures { GoesOn (with_line number self.old) self.new }
     {
         match Session::begin(self.context.alloc, seat) {
             Ok(session) => self.on_begun(number, session),
             Err(seat) => {
                 self.set_state(JobState::Free(seat));
-                self.report(number, PlainReply::new(ScriptReply::OracleSpent));
+                self.report_bare(number, PlainReply::new(ScriptReply::OracleSpent));
             }
         }
     }
 
     // Keeps a session that has just begun.
-    pub(super) fn on_begun(&mut self, number: u64, session: Session<J>)
-        requires { MayAnswer self.old }
+    pub(super) fn on_begun(&mut self, number: u64, mut session: Session<J>)
+        requires may { MayAnswer self.old }
+        requires says { SaysStep L.text number }
+        requires begun { IsBegun J.bounds session }
         ensures { GoesOn (with_line number self.old) self.new }
     {
         let start = session.start();
+        self.hear(&mut session);
         match Box::new(self.context.alloc, session) {
             Ok(session) => {
                 self.set_state(JobState::Live(session));
@@ -56,6 +65,7 @@ impl<J: JournalId, L: Source, F: Families + Drop, R: Wait + Drop> ScriptJob<J, L
     fn finish(&mut self, number: u64, session: Session<J>)
         requires may { MayAnswer self.old }
         requires pair { HasPair L.text number None }
+        requires says { SaysStep L.text number }
         ensures { GoesOn (with_line number self.old) self.new }
     {
         match self.conclude(number, session, None) {
@@ -68,16 +78,23 @@ impl<J: JournalId, L: Source, F: Families + Drop, R: Wait + Drop> ScriptJob<J, L
     }
 
     pub(super) fn stop(&mut self, number: u64, session: Session<J>, plain: PlainReply)
-        requires { MayAnswer self.old }
+        requires may { MayAnswer self.old }
+        requires says { SaysStep L.text number }
+        requires bare { is_bare plain.reply ≡ true }
         ensures { GoesOn (with_line number self.old) self.new }
     {
         self.set_state(JobState::Free(session.stop()));
-        self.report(number, plain);
+        self.report_bare(number, plain);
     }
 
     // What a step of a session that is live comes to.
     fn result_of(&mut self, session: &mut Session<J>, step: Step<&str>) -> Result<PlainReply, Cause>
-        ensures { self.new ≡ self.old }
+        requires own { AllBy (EnteredBy L.text self.old.number) session.old.state.buffer }
+        requires says { SaysOwn L.text self.old.number (asked step) }
+        ensures job { self.new ≡ self.old }
+        ensures own { AllBy (EnteredBy L.text self.old.number) session.new.state.buffer }
+        ensures tells { SaidTells J.bounds (EnteredIn L.text) session.new.seat.events (asked step.entry)
+            (said_of result) }
     {
         match step {
             Step::Act(_, action) => act(session, &mut self.context, action),
@@ -89,10 +106,14 @@ impl<J: JournalId, L: Source, F: Families + Drop, R: Wait + Drop> ScriptJob<J, L
 
     // A step of a session that is live.
     fn operate(&mut self, number: u64, mut session: Box<Session<J>>, step: Step<&str>)
-        requires { MayAnswer self.old }
+        requires may { MayAnswer self.old }
+        requires own { AllBy (EnteredBy L.text self.old.number) session.value.state.buffer }
+        requires says { Says L.text number (Some (asked step)) }
+        requires named { HasSession L.text number (session_name L.text self.old.number) }
         ensures { GoesOn (with_line number self.old) self.new }
     {
         let result = self.result_of(&mut session, step);
+        self.hear(&mut session);
         self.set_state(JobState::Live(session));
         self.on_answer(number, result);
     }
@@ -102,6 +123,9 @@ impl<J: JournalId, L: Source, F: Families + Drop, R: Wait + Drop> ScriptJob<J, L
         requires may { MayAnswer self.old }
         requires apart { IsApart (asked step) }
         requires pair { HasPair L.text number (pair_of (asked step)) }
+        requires says { Says L.text number (Some (asked step)) }
+        requires step { SaysStep L.text number }
+        requires named { HasSession L.text number (session_name L.text self.old.number) }
         ensures { GoesOn (with_line number self.old) self.new }
     {
         match self.take_state() {
@@ -132,7 +156,8 @@ impl<J: JournalId, L: Source, F: Families + Drop, R: Wait + Drop> ScriptJob<J, L
 
     // Makes the step that a line says.
     fn play(&mut self, script_line: &ScriptLine<L>)
-        requires { MayAnswer self.old }
+        requires may { MayAnswer self.old }
+        requires named { HasSession L.text script_line.now.number (session_name L.text self.old.number) }
         ensures { GoesOn (with_line script_line.now.number self.old) self.new }
     {
         let mut parts = Parts::new();
@@ -147,7 +172,7 @@ impl<J: JournalId, L: Source, F: Families + Drop, R: Wait + Drop> ScriptJob<J, L
                 None => self.fail(script_line.number, Cause::Form),
             },
             Ok(Err(cause)) => self.fail(script_line.number, cause),
-            Err(_) => self.report(
+            Err(_) => self.report_bare(
                 script_line.number,
                 PlainReply::new(ScriptReply::OutOfMemory),
             ),
@@ -156,7 +181,8 @@ impl<J: JournalId, L: Source, F: Families + Drop, R: Wait + Drop> ScriptJob<J, L
 
     // Makes the step that a line of the session says.
     pub(super) fn enter(&mut self, line: SessionLine<L>)
-        requires { MayAnswer self.old }
+        requires may { MayAnswer self.old }
+        requires named { HasSession L.text (number_of line) (session_name L.text self.old.number) }
         ensures { GoesOn (with_line (number_of line) self.old) self.new }
     {
         match line {

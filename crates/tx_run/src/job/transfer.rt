@@ -1,6 +1,8 @@
 //! A transfer of a session of a run: it begins, goes on, and ends.
-ghost use Rattle.std.specs.Prelude.{◌≡◌, ◌≢◌, Some};
+ghost use Rattle.std.specs.Prelude.{◌≡◌, ◌≢◌, true, Some};
 ghost use Rattle.tx_run.specs.Jobs.{GoesOn, MayAnswer, with_line};
+ghost use Rattle.tx_run.specs.Steps.{SaysStep};
+ghost use Rattle.tx_run.specs.Tells.{is_bare};
 ghost use Rattle.tx_transfer.specs.Sources.{HasPair};
 
 use super::ScriptJob;
@@ -40,7 +42,7 @@ impl<J: JournalId, L: Source, F: Families + Drop, R: Wait + Drop> ScriptJob<J, L
             },
             Err(seat) => {
                 self.set_state(JobState::Free(seat));
-                self.report(number, PlainReply::new(ScriptReply::OracleSpent));
+                self.report_bare(number, PlainReply::new(ScriptReply::OracleSpent));
             }
         }
     }
@@ -48,6 +50,7 @@ impl<J: JournalId, L: Source, F: Families + Drop, R: Wait + Drop> ScriptJob<J, L
     // A transfer begins whose keys were refused as it was read.
     pub(super) fn order_transfer(&mut self, number: u64, seat: Seat<J>, transfer: Transfer<&str>)
         requires may { MayAnswer self.old }
+        requires says { SaysStep L.text number }
         requires apart { transfer.from.now ≢ transfer.to.now }
         requires pair { HasPair L.text number (Some (transfer.from.now, transfer.to.now)) }
         ensures { GoesOn (with_line number self.old) self.new }
@@ -55,7 +58,7 @@ impl<J: JournalId, L: Source, F: Families + Drop, R: Wait + Drop> ScriptJob<J, L
         match Order::new(self.context.alloc, number, &transfer) {
             Err(fault) => {
                 self.set_state(JobState::Free(seat));
-                self.report(number, refused(fault));
+                self.report_bare(number, refused(fault));
             }
             Ok(order) => self.start_transfer(seat, order),
         }
@@ -89,7 +92,8 @@ impl<J: JournalId, L: Source, F: Families + Drop, R: Wait + Drop> ScriptJob<J, L
 
     // A transfer is left as it is.
     fn give_up(&mut self, transfer: TransferState<J, L>, plain: PlainReply)
-        requires { MayAnswer self.old }
+        requires may { MayAnswer self.old }
+        requires bare { is_bare plain.reply ≡ true }
         ensures { GoesOn (with_line transfer self.old) self.new }
     {
         let (session, number, keys) = transfer.into_parts();

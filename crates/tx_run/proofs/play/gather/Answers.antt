@@ -15,6 +15,7 @@ loop-output-init g c =
         falling = subst AreFalling (sym same) c.requires.falling;
         told = none_told replies none c.args.seat.now.events;
         pairs = none_pairs g.L.Source.text replies none;
+        tells = c.requires.tells;
         above = λ k d lt. none_above replies none c.args.seat.now.events _;
       };
       split = sym same;
@@ -28,10 +29,13 @@ join-requires-clause-told g c = c.loop-output.invariant.left.told
 pub join-requires-clause-pairs : goal.join-requires-clause-pairs
 join-requires-clause-pairs g c = c.loop-output.invariant.left.pairs
 
+pub join-requires-clause-tells : goal.join-requires-clause-tells
+join-requires-clause-tells g c = c.loop-output.invariant.left.tells
+
 pub join-requires-clause-above : goal.join-requires-clause-above
 join-requires-clause-above g c =
-    first_above g.L.Source.text c.loop-output.seat.events c.loop-output.replies c.in-Some.output _
-    (subst (AreLeft g.L.Source.text c.loop-output.seat.events c.loop-output.replies) c.in-Some.ensures.steps.0
+    first_above g.L.Source.text g.J.JournalId.bounds c.loop-output.seat.events c.loop-output.replies c.in-Some.output _
+    (subst (AreLeft g.L.Source.text g.J.JournalId.bounds c.loop-output.seat.events c.loop-output.replies) c.in-Some.ensures.steps.0
     c.loop-output.invariant.left)
 
 pub loop-output-preserved : goal.loop-output-preserved
@@ -39,9 +43,9 @@ loop-output-preserved g c =
     let before = c.loop-output.invariant in
     let step = c.in-Some.ensures.steps.0 in
     record {
-      left = left_next g.L.Source.text c.join.new.seat.events c.join.new.replies c.in-Some.output _
+      left = left_next g.L.Source.text g.J.JournalId.bounds c.join.new.seat.events c.join.new.replies c.in-Some.output _
           c.loop-output.output-iterator.rest.items step before.left.falling c.in_ok-fault.ensures.told
-          c.in_ok-fault.ensures.pairs c.in_ok-fault.ensures.above;
+          c.in_ok-fault.ensures.pairs c.in_ok-fault.ensures.tells c.in_ok-fault.ensures.above;
       split = one_goes c.args.outputs.items c.loop-output.yielded c.loop-output.output-iterator.rest.items _
           c.in-Some.output before.split step;
       joined = joined_more c.args.replies.now c.loop-output.seat.events c.join.new.seat.events c.loop-output.replies

@@ -3,6 +3,8 @@ use Rattle.tx_run.specs.Jobs.{HaveOwnSeats, job_lines}
 use Rattle.tx_run.specs.LineNumbers.{number_of, numbers_in}
 use Rattle.tx_run.proofs.Seating.{own_push, map_push}
 use Rattle.tx_run.proofs.Gathering.{one_goes, all_went}
+use Rattle.tx_run.proofs.Leaving.{next_own}
+use Rattle.std.proofs.lemmas.List.{length-map}
 use Rattle.tx_run.proofs.play.jobs.Goals as goal
 
 pub loop-lines-preserved : goal.loop-lines-preserved
@@ -35,3 +37,15 @@ returns-clause-lines g c =
     c.loop-lines.lines-iterator.rest.len c.loop-lines.invariant.split c.loop-lines.lines-iterator.rest.ok.0
     c.in-None.ensures.steps.0 in
     c.loop-lines.invariant.lines ∙ ap numbers_in went
+
+pub new-requires : goal.new-requires
+new-requires g c =
+    let before = c.loop-lines.invariant in
+    let yielded = c.loop-lines.yielded in
+    let jobs = c.loop-lines.jobs in
+    let ok = jobs.ok.0 in
+    let same = sym (length-map jobs.items job_lines) ∙ ap length before.lines
+    ∙ length-map yielded (λ lines. map number_of lines.items) in
+    next_own (λ lines. map number_of lines.items) g.L.Source.text c.args.sessions.items yielded
+    c.loop-lines.lines-iterator.rest.items _ c.in-Some.lines c.loop-lines.number before.split
+    c.in-Some.ensures.steps.0 (omega (arith, before.number, ok, same)) c.requires.own

@@ -1,9 +1,11 @@
-use Rattle.std.proofs.Common.{◌≡◌, ◌++◌, ℕ, List, map, sym, ap, subst, ◌∙◌}
+use Rattle.std.proofs.Common.{All, ◌≡◌, ◌++◌, ℕ, List, map, sym, ap, subst, ◌∙◌}
+use Rattle.tx_types.specs.declared.key.Key.{Key}
 use Rattle.tx_core.specs.Histories.{History}
 use Rattle.tx_run.specs.declared.reply.LineReply.{LineReply}
 use Rattle.tx_run.specs.Answers.{numbers_of}
 use Rattle.tx_run.specs.Jobs.{AreGathered, ComesOf}
 use Rattle.tx_run.specs.Reading.{opening_of}
+use Rattle.tx_run.specs.Tells.{TellsLine}
 use Rattle.tx_run.specs.LineNumbers.{numbers_in}
 use Rattle.tx_run.proofs.Gathering.{faults}
 use Rattle.tx_run.proofs.play.play.Goals as goal
@@ -22,6 +24,23 @@ returns-clause-comes g c =
           numbers c.in_ok-faulted.ensures.comes,
       c.in-Ok-work.ensures.answered,
     )
+
+pub gather-requires-clause-tells : goal.gather-requires-clause-tells
+gather-requires-clause-tells g c =
+    let items = c.play_seeds.new.replies.items in
+    let h = c.in_ok-seat.seat.events in
+    let all = c.in_ok-add.ensures ∙ ap (λ (l : List LineReply). l ++ items) c.new-replies.ensures in
+    subst (λ (l : List LineReply). All (TellsLine g.L.Source.text g.J.JournalId.bounds h) l) (sym all)
+    (c.in_ok-seat.ensures.tells h)
+
+pub returns-clause-tells : goal.returns-clause-tells
+returns-clause-tells g c =
+    let source = g.L.Source.text in
+    let xs = c.gather.new.replies in
+    let told = c.unnamed.ensures.1 ∙ c.tell-told.ensures.told in
+    subst (λ (h : History). All (TellsLine source c.unnamed.result.bounds h) xs) (sym told)
+    (subst (λ (b : List Key). All (TellsLine source b c.gather.new.seat.events) xs) (sym c.unnamed.ensures.0)
+    c.in_ok-faulted.ensures.tells)
 
 pub returns-clause-faulted : goal.returns-clause-faulted
 returns-clause-faulted g c =

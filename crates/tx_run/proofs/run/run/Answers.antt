@@ -1,6 +1,8 @@
 use Rattle.std.proofs.Common.{map}
 use Rattle.tx_run.specs.LineNumbers.{numbers_in}
+use Rattle.tx_run.proofs.Evidence.{all_tell, opens_with, own_lines}
 use Rattle.tx_run.proofs.Keeping.{comes_of_text}
+use Rattle.tx_run.proofs.Writing.{from_played, on_any_err}
 use Rattle.tx_run.proofs.run.run.Goals as goal
 
 pub returns-clause-comes : goal.returns-clause-comes
@@ -10,3 +12,34 @@ returns-clause-comes g c =
     let kept = rw c.in-Ok.is at c.in_ok-script.ensures.kept in
     comes_of_text g.L.Source.text (numbers_in script.sessions.items) (map (λ seed. seed.number) script.seeds.items)
     script.bounds.items played.seen.events played.replies kept c.in_ok-played.ensures.comes
+
+pub play_script-requires-clause-own : goal.play_script-requires-clause-own
+play_script-requires-clause-own g c κs within =
+    let script = c.in-Ok.script in
+    own_lines g.L.Source.text (numbers_in script.sessions.items) (map (λ seed. seed.number) script.seeds.items)
+    script.bounds.items (rw c.in-Ok.is at c.in_ok-script.ensures.kept)
+
+pub play_script-requires-clause-opens : goal.play_script-requires-clause-opens
+play_script-requires-clause-opens g c κs within =
+    let script = c.in-Ok.script in
+    opens_with g.L.Source.text (numbers_in script.sessions.items) (map (λ seed. seed.number) script.seeds.items)
+    script.bounds.items (rw c.in-Ok.is at c.in_ok-script.ensures.kept)
+
+pub returns-clause-tells : goal.returns-clause-tells
+returns-clause-tells g c =
+    let script = c.in-Ok.script in
+    let played = c.in_ok-played.played in
+    all_tell g.L.Source.text (numbers_in script.sessions.items) (map (λ seed. seed.number) script.seeds.items)
+    script.bounds.items played.seen played.replies (rw c.in-Ok.is at c.in_ok-script.ensures.kept)
+    c.in_ok-played.ensures.tells c.in_ok-played.ensures.bounds
+
+pub returns-in_err-write_all-clause-broken : goal.returns-in_err-write_all-clause-broken
+returns-in_err-write_all-clause-broken g c =
+    let script = c.in-Ok.script in
+    let played = c.in_ok-played.played in
+    let tells = all_tell g.L.Source.text (numbers_in script.sessions.items) (map (λ seed. seed.number) script.seeds.items)
+    script.bounds.items played.seen played.replies (rw c.in-Ok.is at c.in_ok-script.ensures.kept)
+    c.in_ok-played.ensures.tells c.in_ok-played.ensures.bounds in
+    on_any_err _ _ (from_played g.L.Source.text (g.W.Write.contents c.args.writer.now)
+    (g.W.Write.contents c.write_all.new.writer) played.seen played.replies played.total c.show.ensures
+    c.in_ok-played.ensures.told c.in_ok-played.ensures.pairs tells c.in_err-write_all.ensures.part)

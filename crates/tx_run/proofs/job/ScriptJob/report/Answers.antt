@@ -3,6 +3,8 @@ use Rattle.std.specs.Prelude.{reverse}
 use Rattle.tx_run.specs.LineNumbers.{number_of}
 use Rattle.tx_run.specs.States.{going_of}
 use Rattle.tx_run.specs.declared.reply.LineAnswer.TheVariants.{Plain}
+use Rattle.tx_run.specs.Logs.{answer_to}
+use Rattle.tx_run.specs.Tells.{TellsLine}
 use Rattle.tx_run.specs.Jobs.{GoesOn, MayAnswer, Working, with_line}
 use Rattle.tx_run.proofs.Going.{answered}
 use Rattle.tx_run.proofs.job.ScriptJob.report.Goals as goal
@@ -18,5 +20,10 @@ returns g c =
     } in
     let is = c.self.view_is ∙ c.meet.ensures in
     subst (λ (w : Working). GoesOn (with_line c.args.number w) (record j { log = c.keep.new.self })) is
-    (answered j c.keep.new.self c.args.number (Plain (Ok c.args.plain)) (subst MayAnswer (sym is) c.requires)
+    (answered j c.keep.new.self c.args.number (Plain (Ok c.args.plain)) (subst MayAnswer (sym is) c.requires.may)
     c.keep.ensures.same.0 c.keep.ensures.kept)
+
+pub keep-requires : goal.keep-requires
+keep-requires g c =
+    subst (λ (w : Working). TellsLine g.L.Source.text g.J.JournalId.bounds w.log.told
+    (answer_to c.args.number (Plain (Ok c.args.plain)))) (sym (c.self.view_is ∙ c.meet.ensures)) c.requires.tells

@@ -1,4 +1,4 @@
-use Rattle.std.proofs.Common.{sym, subst, ◌∙◌, ℕ}
+use Rattle.std.proofs.Common.{All, sym, subst, ◌∙◌, ℕ}
 use Rattle.std.proofs.lemmas.Bool.{eqb-true}
 use Rattle.tx_core.specs.Histories.{History, Begins}
 use Rattle.tx_core.specs.declared.event.Event.TheVariants.{Answered}
@@ -8,6 +8,8 @@ use Rattle.tx_run.specs.Logs.{KeepsOutcome, Logged, TellsBy}
 use Rattle.tx_transfer.specs.Transfers.{IsBetween}
 use Rattle.tx_transfer.specs.Transfers.{MovesSome}
 use Rattle.tx_transfer.proofs.Transferring.{ends_between}
+use Rattle.tx_run.specs.Pairs.{TellsPair}
+use Rattle.tx_run.specs.Tells.{TellsLine}
 use Rattle.tx_run.proofs.Answering.{can_tell}
 use Rattle.tx_run.proofs.log.RunLog.finish.Goals as goal
 
@@ -41,3 +43,21 @@ pub returns-then-eq-clause-kept : goal.returns-then-eq-clause-kept
 returns-then-eq-clause-kept g c =
     subst (λ (l : Logged). KeepsOutcome l c.args.number c.args.keys c.learn_outcome.new.self) c.self.view_is
     (c.start-start.result, c.in-Ok.outcome, c.learn_outcome.ensures.kept)
+
+pub invariant_of-self : goal.invariant_of-self
+invariant_of-self g c =
+    let xs = c.self.inside.replies.items in
+    subst (λ (h : History). TellsBy h c.self.inside.seat xs × All (TellsPair g.L.Source.text) xs
+    × All (TellsLine g.L.Source.text g.J.JournalId.bounds h) xs) (sym c.copy.ensures.same) c.self.invariant
+
+pub invariant_of-self-in-Ok : goal.invariant_of-self-in-Ok
+invariant_of-self-in-Ok g c =
+    let xs = c.self.inside.replies.items in
+    subst (λ (h : History). TellsBy h c.self.inside.seat xs × All (TellsPair g.L.Source.text) xs
+    × All (TellsLine g.L.Source.text g.J.JournalId.bounds h) xs) (sym c.copy.ensures.same) c.self.invariant
+
+pub invariant_of-self-in-Err : goal.invariant_of-self-in-Err
+invariant_of-self-in-Err g c =
+    let xs = c.self.inside.replies.items in
+    subst (λ (h : History). TellsBy h c.self.inside.seat xs × All (TellsPair g.L.Source.text) xs
+    × All (TellsLine g.L.Source.text g.J.JournalId.bounds h) xs) (sym c.copy.ensures.same) c.self.invariant

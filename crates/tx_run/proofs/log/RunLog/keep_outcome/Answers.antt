@@ -4,11 +4,15 @@ use Rattle.tx_run.specs.declared.reply.LineReply.{LineReply}
 use Rattle.tx_run.specs.declared.reply.LineAnswer.TheVariants.{Ended}
 use Rattle.tx_run.specs.Logs.{Logged, IsAnswered, KeepsAnswer, TellsNone}
 use Rattle.tx_run.proofs.Answering.{told_if, none_apart, kept_if}
+use Rattle.tx_run.proofs.Evidence.{outcome_tells, tell_if}
 use Rattle.tx_run.proofs.Sourcing.{pairs_if}
 use Rattle.tx_run.proofs.log.RunLog.keep_outcome.Goals as goal
 
 pub invariant_of-self : goal.invariant_of-self
 invariant_of-self g c =
+    let source = g.L.Source.text in
+    let bounds = g.J.JournalId.bounds in
+    let told = c.self.inside.told in
     let xs = c.self.inside.replies.items in
     let x : LineReply = record { number = c.args.number; answer = Ended c.args.start c.args.outcome.now c.args.keys } in
     let stands = subst (λ (l : Logged). IsAnswered l.told l.seat c.args.start c.args.outcome.now c.args.keys)
@@ -17,8 +21,11 @@ invariant_of-self g c =
       told_if c.self.inside.told c.self.inside.seat xs c.add-kept.new.replies.items x c.add-kept.result
           c.add-kept.ensures c.self.invariant.0 stands
           (none_apart c.args.start c.args.outcome.now c.args.keys c.args.number xs fresh),
-      pairs_if g.L.Source.text xs c.add-kept.new.replies.items x c.add-kept.result c.add-kept.ensures c.self.invariant.1
+      pairs_if source xs c.add-kept.new.replies.items x c.add-kept.result c.add-kept.ensures c.self.invariant.1
           c.requires.pair,
+      tell_if source bounds told xs c.add-kept.new.replies.items x c.add-kept.result c.add-kept.ensures
+          c.self.invariant.2 (outcome_tells source bounds told c.args.number c.args.start c.args.outcome.now c.args.keys
+          c.requires.says stands.among),
     )
 
 pub returns-clause-kept : goal.returns-clause-kept

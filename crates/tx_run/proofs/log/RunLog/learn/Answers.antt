@@ -1,7 +1,10 @@
 use Rattle.std.proofs.Common.{sym, subst}
 use Rattle.tx_core.specs.Histories.{Begins}
 use Rattle.tx_run.specs.Logs.{Logged, TellsBy}
+use Rattle.std.proofs.Common.{All}
+use Rattle.tx_run.specs.Tells.{TellsLine}
 use Rattle.tx_run.proofs.Answering.{tells_on}
+use Rattle.tx_run.proofs.Evidence.{lines_tell_on}
 use Rattle.tx_run.proofs.log.RunLog.learn.Goals as goal
 
 pub invariant_of-self : goal.invariant_of-self
@@ -12,4 +15,8 @@ invariant_of-self g c =
           (tells_on g.J.JournalId.bounds c.self.inside.told events c.tell.ensures.run.0 knows c.self.inside.seat
           c.self.inside.replies.items c.self.invariant.0),
       c.self.invariant.1,
+      subst (λ h. All (TellsLine g.L.Source.text g.J.JournalId.bounds h) c.self.inside.replies.items)
+          (sym c.tell.ensures.told)
+          (lines_tell_on g.L.Source.text g.J.JournalId.bounds c.self.inside.told events knows c.self.inside.replies.items
+          c.self.invariant.2),
     )
