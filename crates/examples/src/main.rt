@@ -20,7 +20,7 @@ use std::sync::Wait;
 use std::thread::Threads;
 use tx_answers::{ImportEnd, ImportOptions, import};
 use tx_cells::Fresh;
-use tx_check::check;
+use tx_check::{check, check_with_reason};
 use tx_explain::{PictureForm, explain};
 use tx_flat::FlatCells;
 use tx_nested::NestedCells;
@@ -79,6 +79,8 @@ enum Kind {
     /// The same over nested maps.
     CheckedNested,
     Trace,
+    /// A trace with the reason of a no.
+    Reason,
     /// A history of another store.
     History,
     /// The same, and the trace of a yes is checked.
@@ -162,6 +164,7 @@ impl Kind {
             Kind::Checked => checks::<FlatCells>(alloc, text, written),
             Kind::CheckedNested => checks::<NestedCells>(alloc, text, written),
             Kind::Trace => check(alloc, &mut reader, written).ok(),
+            Kind::Reason => check_with_reason(alloc, &mut reader, written).ok(),
             Kind::History => judges(alloc, NO_ORDER, text, written),
             Kind::TracedHistory => judges_traced(alloc, NO_ORDER, text, written),
             Kind::Ordered => judges(alloc, BOTH_ORDERS, text, written),
@@ -170,8 +173,8 @@ impl Kind {
     }
 }
 
-/// How what writes this text ends: its last line is a fault, says that a trace is no run, or is
-/// neither.
+/// How what writes this text ends: its last line is a fault, says that a trace is no run or why, or
+/// is neither.
 fn end_of(shown: &[u8]) -> End {
     let text = shown.trim_ascii_end();
     let last = match text.iter().rposition(|byte| *byte == b'\n') {
@@ -182,6 +185,8 @@ fn end_of(shown: &[u8]) -> End {
         End::Faulted
     } else if last.trim_ascii().starts_with(b"[\"check\",\"no\"")
         || last.trim_ascii().starts_with(b"[\"import\",\"no\"")
+        || last.trim_ascii().starts_with(b"[\"why\"")
+        || last.trim_ascii().starts_with(b"[\"wrote\"")
     {
         End::No
     } else {
@@ -284,6 +289,8 @@ fn main(rt: HostRuntime) -> Result<()> {
     println!(rt; "checked.rows, over nested maps: {nested} as shown")?;
     let traces = count_shown(&rt, "traces.rows", Kind::Trace)?;
     println!(rt; "traces.rows: {traces} as shown")?;
+    let reasons = count_shown(&rt, "reasons.rows", Kind::Reason)?;
+    println!(rt; "reasons.rows: {reasons} as shown")?;
     let histories = count_shown(&rt, "histories.rows", Kind::History)?;
     println!(rt; "histories.rows: {histories} as shown")?;
     let traced = count_shown(&rt, "histories.rows", Kind::TracedHistory)?;

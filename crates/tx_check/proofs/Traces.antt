@@ -49,7 +49,7 @@ pub left_at : (P : List ℕ → Type 0) (left : Option (List ℕ)) (rest : List 
 left_at P left rest is turns = subst (λ o. IfSome o P) is turns
 
 -- one more line says one more step
-Says-more : (number : ℕ) (lines : List (List ℕ)) (steps : List Step) (line : List ℕ) (step : Step)
+pub Says-more : (number : ℕ) (lines : List (List ℕ)) (steps : List Step) (line : List ℕ) (step : Step)
     → Says number lines steps → step_in (number + length lines) line ≡ Ok step
     → Says number (lines ++ line ∷ []) (steps ++ step ∷ [])
 Says-more number [] [] line step says is = (subst (λ n. step_in n line ≡ Ok step) (add-zero number) is, tt)

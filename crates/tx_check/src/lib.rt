@@ -8,11 +8,13 @@
 
 mod all;
 mod checker;
+mod kept;
 mod listed_step;
 mod machine_step;
 mod reasons;
 mod step_line;
 mod words;
+mod writers;
 
 pub use all::check_all;
 pub use checker::{check, check_with_reason};
