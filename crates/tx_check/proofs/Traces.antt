@@ -75,7 +75,7 @@ module _ {input : List ℕ} {left : Option (List ℕ)} {machine : Machine} {numb
       only (lines_of input) Yes (soon.steps, subst (λ ls. Says 1 ls soon.steps) (sym all) soon.says, soon.run)
 
   -- the line that is next
-  reached : (line : List ℕ) (more : List (List ℕ)) → lines_of soon.rest ≡ line ∷ more
+  pub reached : (line : List ℕ) (more : List (List ℕ)) → lines_of soon.rest ≡ line ∷ more
       → Reaches (lines_of input) (number + 1) line soon.steps
   reached line more is = record {
     before = soon.before;

@@ -10,8 +10,8 @@ use Rattle.tx_text.specs.Lines.{lines_of}
 use Rattle.tx_check.specs.declared.checker.LineTurn.TheVariants as turn
 use Rattle.tx_check.specs.declared.kept.StepTurn.TheVariants as with
 use Rattle.tx_check.specs.Check.{step_in, Says, Reaches}
-use Rattle.tx_check.specs.Turns.{Turns, StepTurns, StandsAt}
-use Rattle.tx_check.proofs.Traces.{SoFar, Says-more, stands_at, left_at}
+use Rattle.tx_check.specs.Turns.{Turns, StepTurns}
+use Rattle.tx_check.proofs.Traces.{SoFar, Says-more, reached, left_at}
 
 -- the lines before those that are left say this run, and the machine stands for what it leaves
 pub record KeptSoFar (input : List ℕ) (left : Option (List ℕ)) (machine : Machine) (number : ℕ) (steps : List Step) : Type 0 where
@@ -59,7 +59,10 @@ module _ {input : List ℕ} {left : Option (List ℕ)} {machine : Machine} {numb
     -- they are those before the line whose step is refused
     pub kept_at : (step : Step) → IfSome left (λ bytes. Turns bytes left' machine next (number + 1) (turn.Refused step))
         → (line : List ℕ) × Reaches (lines_of input) (number + 1) line steps
-    kept_at step turns = let at = stands_at as_far left' next step turns in (at.0, at.2)
+    kept_at step turns =
+        let found = left_at (λ bytes. Turns bytes left' machine next (number + 1) (turn.Refused step)) left soon.rest
+        soon.is_left turns in
+        (found.0, reached as_far left' next found.0 (lines_of found.1) found.3)
 
     -- one more line says one more step
     pub made_kept : (step : Step) (steps' : List Step)
