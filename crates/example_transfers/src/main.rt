@@ -1,40 +1,96 @@
-//! Money is moved between accounts on two threads, each transfer by one call of `update`. Whatever
-//! order they come in, what the accounts have together stays the same.
+//! Money is moved between accounts by two clients on two threads. Whatever order the transfers come
+//! in, what the accounts have together stays the same.
 #![tactic(auto)]
 
-ghost use Rattle.std.specs.Prelude.{◌≡◌, length};
-
-mod accounts;
-mod bank;
-mod opening;
-
-use anyhow::{Context, Result};
-use bank::play;
-use opening::{journal, store};
-use std::alloc::Global;
-use std::marker::Brand;
 use std::sync::Wait;
-use std::thread::Threads;
-use tx_journal::{JournalId, Opened};
+use tx_kv::{Client, Failure, JournalId, Key, Program, Stop, Tx, Value, Work, with_store};
 
-// The journal has its name here, and so have the seats and the store.
-fn run<J: JournalId + Send + Sync, R: Print + Threads + Wait + Sync>(
-    rt: &R,
-    alloc: Global,
-    opened: Opened,
-) -> Result<()>
-    requires name { (opened.table ≡ J.table) × (opened.bounds ≡ J.bounds) × (opened.seats ≡ J.seats) }
-    requires counts { (length J.bounds ≡ 1) × (J.seats ≡ 6) }
-{
-    let (store, one, two) = store::<J>(alloc, opened)?;
-    let total = play(rt, &store, alloc, one, two).context("an update ended otherwise")?;
-    println!(rt; "4 accounts, {total} in all")?;
-    drop(store);
-    Ok(())
+// The key of an account: two lie in each of the regions.
+fn key_of<T: Tx>(tx: &T, account: u8) -> Result<Key, Stop> {
+    const NAMES: [&[u8]; 4] = [b"ann", b"bob", b"sue", b"tom"];
+    Ok(Key::new(tx.alloc(), NAMES[usize::from(account) % 4])?)
 }
 
-fn main(rt: HostRuntime) -> Result<()> {
-    let alloc = rt.alloc();
-    let opened = journal(alloc)?;
-    run::<Brand, _>(&rt, alloc, opened)
+// What an account has: at first 100.
+fn balance<T: Tx>(tx: &mut T, account: u8) -> Result<u8, Stop> {
+    let key = key_of(tx, account)?;
+    match tx.get(&key)? {
+        Some(value) => Ok(value.as_bytes().first().copied().unwrap_or(0)),
+        None => Ok(100),
+    }
+}
+
+// Enters what an account then has; none is too little, or too much.
+fn enter<T: Tx>(tx: &mut T, account: u8, balance: Option<u8>) -> Result<(), Failure<Poor>> {
+    let balance = balance.ok_or(Failure::Own(Poor))?;
+    let value = Value::new(tx.alloc(), &[balance])?;
+    Ok(tx.put(key_of(tx, account)?, value)?)
+}
+
+/// Moves an amount from one account to another, where that has so much.
+#[derive(Drop)]
+struct Transfer(u8, u8, u8);
+
+/// An account has too little, or the other would have too much.
+#[derive(Drop)]
+struct Poor;
+
+impl Work for Transfer {
+    type Out = ();
+
+    type Err = Poor;
+
+    fn apply<T: Tx>(&mut self, tx: &mut T) -> Result<(), Failure<Poor>> {
+        let Transfer(from, to, amount) = *self;
+        let (less, more) = (balance(tx, from)?, balance(tx, to)?);
+        enter(tx, from, less.checked_sub(amount))?;
+        enter(tx, to, more.checked_add(amount))
+    }
+}
+
+/// What the accounts have together.
+#[derive(Drop)]
+struct Total;
+
+impl Work for Total {
+    type Out = u32;
+
+    type Err = Poor;
+
+    fn apply<T: Tx>(&mut self, tx: &mut T) -> Result<u32, Failure<Poor>> {
+        let each = [
+            balance(tx, 0)?,
+            balance(tx, 1)?,
+            balance(tx, 2)?,
+            balance(tx, 3)?,
+        ];
+        Ok(each.iter().map(|balance| u32::from(*balance)).sum())
+    }
+}
+
+/// Fifty transfers a client.
+#[derive(Drop)]
+struct Bank;
+
+impl<R: Wait> Program<R> for Bank {
+    type Out = ();
+
+    type Answer = Option<u32>;
+
+    fn run<J: JournalId>(&self, client: &mut Client<'_, J, R>) {
+        for n in 0..50u8 {
+            let to = n.wrapping_add(client.number() as u8 % 2 + 1) % 4;
+            drop(client.update(&mut Transfer(n % 4, to, n % 7)));
+        }
+    }
+
+    fn end<J: JournalId>(self, client: &mut Client<'_, J, R>, _: Vec<()>) -> Option<u32> {
+        Some(client.update(&mut Total).ok()?.value)
+    }
+}
+
+fn main(rt: HostRuntime) -> anyhow::Result<()> {
+    let total = with_store(&rt, rt.alloc(), &[b"m"], 2, Bank)?;
+    println!(rt; "4 accounts, {} in all", total.unwrap_or(0))?;
+    Ok(())
 }

@@ -5,7 +5,7 @@ use Rattle.serde_json.specs.Written.{compact_text}
 use Rattle.tx_verdict.specs.declared.verdict.CycleStep.{CycleStep}
 use Rattle.tx_verdict.specs.declared.verdict.Cycle.{Cycle}
 use Rattle.tx_import.specs.declared.reader.History.{History}
-use Rattle.tx_answers.specs.Words.{id_data, key_data, edge_word, anomaly_word}
+use Rattle.tx_answers.specs.Words.{id_data, key_data, edge_word, cycle_word}
 
 -- a byte in a string of the drawing: a quotation mark or a backslash has a backslash before it
 abbrev pub drawn_byte : ℕ → List ℕ
@@ -27,5 +27,5 @@ arrow_text h s = codes "  " ++ (compact_text (id_data h s.from) ++ (codes " -> "
 
 -- a cycle
 abbrev pub drawing_text : History → Cycle → List ℕ
-drawing_text h c = codes "digraph \"" ++ (anomaly_word c.anomaly ++ (codes "\" {\n"
+drawing_text h c = codes "digraph \"" ++ (cycle_word c ++ (codes "\" {\n"
     ++ (flat_map (arrow_text h) c.steps.items ++ codes "}\n")))

@@ -14,6 +14,7 @@ use Rattle.tx_verdict.specs.declared.verdict.Edge.TheVariants.{Ww, Wr, Rw, So, R
 use Rattle.tx_verdict.specs.declared.verdict.Beside.{Beside}
 use Rattle.tx_verdict.specs.declared.verdict.Beside.TheVariants.{Nothing, Processes, Clock}
 use Rattle.tx_verdict.specs.declared.verdict.CycleStep.{CycleStep}
+use Rattle.tx_verdict.specs.declared.verdict.Cycle.{Cycle}
 use Rattle.tx_verdict.specs.declared.verdict.Rule.{Rule}
 use Rattle.tx_verdict.specs.declared.verdict.Rule.TheVariants as rule
 use Rattle.tx_verdict.specs.declared.verdict.Fact.{Fact}
@@ -79,6 +80,7 @@ beside_word Nothing = codes ""
 beside_word Processes = codes "-process"
 beside_word Clock = codes "-realtime"
 
+-- the name of a cycle
 abbrev pub cycle_word : Cycle → List ℕ
 cycle_word c = anomaly_word c.anomaly ++ beside_word c.beside
 

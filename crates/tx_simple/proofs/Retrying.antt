@@ -9,7 +9,7 @@ use Rattle.tx_transaction.specs.declared.state.Terms.{Terms}
 use Rattle.tx_transaction.specs.Buffers.{Entries}
 use Rattle.tx_transaction.specs.Sessions.{finish_of}
 use Rattle.tx_client.specs.Calls.{Seated, BeganAt}
-use Rattle.tx_simple.specs.declared.stopping.Stop.{Stop}
+use Rattle.tx_simple.specs.declared.failure.Failure.{Failure}
 use Rattle.tx_simple.specs.declared.ending.Seats.{Seats}
 use Rattle.tx_simple.specs.declared.ending.Ended.{Ended}
 use Rattle.tx_simple.specs.declared.ending.Unended.{Unended}
@@ -21,7 +21,7 @@ use Rattle.tx_simple.proofs.Placing.{known_on}
 
 -- ---- tries in vain
 
-module _ {W : Type 0} (does : W → Entries → Result (Unit {0}) Stop → Entries → W → Type 0) (bounds : List Key) (terms :
+module _ {W O E : Type 0} (does : W → Entries → Result O (Failure E) → Entries → W → Type 0) (bounds : List Key) (terms :
     Terms) where
   one_begins : (old new : Known) (v w : W) → ComesToNothing does bounds terms old new v w → Begins old.events new.events
   one_begins old new v w t =
@@ -46,7 +46,7 @@ module _ {W : Type 0} (does : W → Entries → Result (Unit {0}) Stop → Entri
       subst (λ (k : Known). TriesInVain does bounds terms n old k v x) (sym same.0)
       (subst (λ (y : W). TriesInVain does bounds terms n old a v y) (sym same.1) vain)
 
-module _ {J W : Type 0} (does : W → Entries → Result (Unit {0}) Stop → Entries → W → Type 0) (bounds : List Key) (terms :
+module _ {J W O E : Type 0} (does : W → Entries → Result O (Failure E) → Entries → W → Type 0) (bounds : List Key) (terms :
     Terms) where
   -- the seats, and the work, after at most so many tries in vain
   abbrev pub InVain : ℕ → Seats J → W → Seats J → W → Type 0
@@ -57,14 +57,14 @@ module _ {J W : Type 0} (does : W → Entries → Result (Unit {0}) Stop → Ent
   vain_itself seats w = (0, omega arith, (refl, refl), goes_itself seats.resolves)
 
   -- a session began over the seats, and has no outcome
-  pub unended_in : (old : Seats J) (begun session : Seated) (resolves : Known) (stop : Option Stop) (r :
-      Result (Ended J) (Unended J)) (v w : W) → BeganAt bounds old.begins begun.state.start begun.seat
-      → Writes begun session → Works does bounds terms begun session stop v w
+  pub unended_in : (old : Seats J) (begun session : Seated) (resolves : Known) (value : Option O) (stop : Option (Failure E)) (r :
+      Result (Ended J O E) (Unended J E)) (v w : W) → BeganAt bounds old.begins begun.state.start begun.seat
+      → Writes begun session → Works does bounds terms begun session value stop v w
       → GoesOn old.resolves resolves → IfErr r (IsOpen session resolves stop)
-      → IfErr r (λ (u : Unended J). IsUnended does bounds terms old v 0 u w)
-  unended_in old begun session resolves stop (Ok e) v w began writes works goes is = tt
-  unended_in old begun session resolves stop (Err (Spent s)) v w began writes works goes is = absurd is
-  unended_in old begun session resolves stop (Err (Open again same why)) v w began writes works goes is = (
+      → IfErr r (λ (u : Unended J E). IsUnended does bounds terms old v 0 u w)
+  unended_in old begun session resolves value stop (Ok e) v w began writes works goes is = tt
+  unended_in old begun session resolves value stop (Err (Spent s)) v w began writes works goes is = absurd is
+  unended_in old begun session resolves value stop (Err (Open again same why)) v w began writes works goes is = (
     old.begins,
     v,
     (refl, refl),
@@ -74,13 +74,14 @@ module _ {J W : Type 0} (does : W → Entries → Result (Unit {0}) Stop → Ent
           began = began;
           seat = writes.seat;
           start = writes.start;
-          works = subst (λ (o : Option Stop). Works does bounds terms begun session o v w) (sym is.3) works;
+          value = value;
+          works = subst (λ (o : Option (Failure E)). Works does bounds terms begun session value o v w) (sym is.3) works;
           none = is.0;
         }),
     subst (λ (k : Known). GoesOn old.resolves k) (sym is.2) goes,
   )
 
-  pub unended_after : (upto again : ℕ) → upto ≤ again → (old mid : Seats J) (u : Unended J) (v x w : W)
+  pub unended_after : (upto again : ℕ) → upto ≤ again → (old mid : Seats J) (u : Unended J E) (v x w : W)
       → InVain upto old v mid x → IsUnended does bounds terms mid x 0 u w → (n : ℕ) × (n ≤ again) × IsUnended does bounds terms old v n u w
   unended_after upto again le old mid (Spent s) v x w (n, few, vain, goes) is = (
     n,
@@ -103,21 +104,21 @@ module _ {J W : Type 0} (does : W → Entries → Result (Unit {0}) Stop → Ent
     ),
   )
 
-  pub if_unended_after : (upto again : ℕ) → upto ≤ again → (old mid : Seats J) (r : Result (Ended J) (Unended J)) (v x w : W)
+  pub if_unended_after : (upto again : ℕ) → upto ≤ again → (old mid : Seats J) (r : Result (Ended J O E) (Unended J E)) (v x w : W)
       → InVain upto old v mid x
-      → IfErr r (λ (u : Unended J). IsUnended does bounds terms mid x 0 u w)
-      → IfErr r (λ (u : Unended J). (n : ℕ) × (n ≤ again) × IsUnended does bounds terms old v n u w)
+      → IfErr r (λ (u : Unended J E). IsUnended does bounds terms mid x 0 u w)
+      → IfErr r (λ (u : Unended J E). (n : ℕ) × (n ≤ again) × IsUnended does bounds terms old v n u w)
   if_unended_after upto again le old mid (Ok e) v x w vain is = tt
   if_unended_after upto again le old mid (Err u) v x w vain is = unended_after upto again le old mid u v x w vain is
 
   -- a session began over the seats, and finished
-  pub ended_over : (old : Seats J) (begun session : Seated) (resolves : Known) (stop : Option Stop) (r :
-      Result (Ended J) (Unended J)) (v w : W) → BeganAt bounds old.begins begun.state.start begun.seat
-      → Writes begun session → Works does bounds terms begun session stop v w → GoesOn old.resolves resolves
-      → IfOk r (EndsFrom bounds begun.seat session resolves stop)
-      → IfOk r (λ (e : Ended J). EndsOver does bounds terms old v 0 e w)
-  ended_over old begun session resolves stop (Err u) v w began writes works goes is = tt
-  ended_over old begun session resolves stop (Ok e) v w began writes works goes (ends, is, at, why) = record {
+  pub ended_over : (old : Seats J) (begun session : Seated) (resolves : Known) (value : Option O) (stop : Option (Failure E)) (r :
+      Result (Ended J O E) (Unended J E)) (v w : W) → BeganAt bounds old.begins begun.state.start begun.seat
+      → Writes begun session → Works does bounds terms begun session value stop v w → GoesOn old.resolves resolves
+      → IfOk r (EndsFrom bounds begun.seat session resolves value stop)
+      → IfOk r (λ (e : Ended J O E). EndsOver does bounds terms old v 0 e w)
+  ended_over old begun session resolves value stop (Err u) v w began writes works goes is = tt
+  ended_over old begun session resolves value stop (Ok e) v w began writes works goes (ends, is, at, same, why) = record {
     last = old.begins;
     between = v;
     vain = (refl, refl);
@@ -125,15 +126,16 @@ module _ {J W : Type 0} (does : W → Entries → Result (Unit {0}) Stop → Ent
     began = began;
     ends = ends;
     start = sym ends.start ∙ (ap (λ (s : Seated). s.state.start) is ∙ writes.start);
-    works = subst (λ (s : Seated). Works does bounds terms begun s e.stop v w) (sym is)
-        (subst (λ (o : Option Stop). Works does bounds terms begun session o v w) (sym why) works);
+    works = subst (λ (s : Seated). Works does bounds terms begun s e.value e.stop v w) (sym is)
+        (subst (λ (o : Option (Failure E)). Works does bounds terms begun session e.value o v w) (sym why)
+        (subst (λ (o : Option O). Works does bounds terms begun session o stop v w) (sym same) works));
     above = known_on old.begins.events begun.seat.events
         (began_begins bounds old.begins begun.seat begun.state.start began) e.outcome ends.above;
     resolves = subst (λ (k : Known). GoesOn old.resolves k) (sym at) goes;
   }
 
   -- tries before it were in vain
-  pub over_after : (upto again : ℕ) → upto ≤ again → (old mid : Seats J) (e : Ended J) (v x w : W)
+  pub over_after : (upto again : ℕ) → upto ≤ again → (old mid : Seats J) (e : Ended J O E) (v x w : W)
       → InVain upto old v mid x → EndsOver does bounds terms mid x 0 e w → (n : ℕ) × (n ≤ again) × EndsOver does bounds terms old v n e w
   over_after upto again le old mid e v x w (n, few, vain, goes) over = (
     n,
@@ -153,15 +155,15 @@ module _ {J W : Type 0} (does : W → Entries → Result (Unit {0}) Stop → Ent
     },
   )
 
-  pub if_over_after : (upto again : ℕ) → upto ≤ again → (old mid : Seats J) (r : Result (Ended J) (Unended J)) (v x w : W)
+  pub if_over_after : (upto again : ℕ) → upto ≤ again → (old mid : Seats J) (r : Result (Ended J O E) (Unended J E)) (v x w : W)
       → InVain upto old v mid x
-      → IfOk r (λ (e : Ended J). EndsOver does bounds terms mid x 0 e w)
-      → IfOk r (λ (e : Ended J). (n : ℕ) × (n ≤ again) × EndsOver does bounds terms old v n e w)
+      → IfOk r (λ (e : Ended J O E). EndsOver does bounds terms mid x 0 e w)
+      → IfOk r (λ (e : Ended J O E). (n : ℕ) × (n ≤ again) × EndsOver does bounds terms old v n e w)
   if_over_after upto again le old mid (Ok e) v x w vain over = over_after upto again le old mid e v x w vain over
   if_over_after upto again le old mid (Err u) v x w vain over = tt
 
   -- one more in vain
-  pub vain_again : (upto : ℕ) (old mid : Seats J) (e : Ended J) (v x w : W) → InVain upto old v mid x
+  pub vain_again : (upto : ℕ) (old mid : Seats J) (e : Ended J O E) (v x w : W) → InVain upto old v mid x
       → EndsOver does bounds terms mid x 0 e w → IsWithoutEffect e.outcome → InVain (upto + 1) old v e.seats w
   vain_again upto old mid e v x w (n, few, vain, goes) over none = (
     suc n,
@@ -178,6 +180,7 @@ module _ {J W : Type 0} (does : W → Entries → Result (Unit {0}) Stop → Ent
         ends = over.ends;
         same = over.start;
         nothing = over.ends.nothing none;
+        value = e.value;
         stop = e.stop;
         works = over.works;
       },

@@ -6,41 +6,43 @@ use Rattle.tx_transaction.specs.Sessions.{finish_of}
 use Rattle.tx_client.specs.Calls.{Seated, BeganAt}
 use Rattle.tx_transaction.specs.declared.state.Terms.{Terms}
 use Rattle.tx_transaction.specs.Buffers.{Entries}
-use Rattle.tx_simple.specs.declared.stopping.Stop.{Stop}
+use Rattle.tx_simple.specs.declared.failure.Failure.{Failure}
 use Rattle.tx_simple.specs.declared.ending.Seats.{Seats}
 use Rattle.tx_simple.specs.declared.ending.Ended.{Ended}
 use Rattle.tx_simple.specs.declared.ending.Unended.{Unended}
 use Rattle.tx_simple.specs.declared.ending.Unended.TheVariants as unended
 use Rattle.tx_simple.specs.Updates.{GoesOn, Ends, TriesInVain, Works, CommitsAboveKnown}
 
--- the session over this seat ended so, this stopped it, and the other seat is this one
-abbrev pub EndsFrom : {J : Type 0} → List Key → Known → Seated → Known → Option Stop → Ended J → Type 0
-EndsFrom bounds begins session resolves stop e = (ends : Ends bounds begins e.start e.outcome e.seats.begins)
-    × (ends.session ≡ session) × (e.seats.resolves ≡ resolves) × (e.stop ≡ stop)
+-- the session over this seat ended so, with this value, this stopped it, and the other seat is this one
+abbrev pub EndsFrom : {J O E : Type 0} → List Key → Known → Seated → Known → Option O → Option (Failure E) → Ended J O E
+    → Type 0
+EndsFrom bounds begins session resolves value stop e = (ends : Ends bounds begins e.start e.outcome e.seats.begins)
+    × (ends.session ≡ session) × (e.seats.resolves ≡ resolves) × (e.value ≡ value) × (e.stop ≡ stop)
 
 -- a session that has no outcome is handed back
-abbrev pub IsOpen : {J : Type 0} → Seated → Known → Option Stop → Unended J → Type 0
+abbrev pub IsOpen : {J E : Type 0} → Seated → Known → Option (Failure E) → Unended J E → Type 0
 IsOpen session resolves stop (unended.Spent seats) = ⊥
 IsOpen session resolves stop (unended.Open again same why) = (finish_of session.state ≡ None)
     × (again ≡ session) × (same ≡ resolves) × (why ≡ stop)
 
-module _ {W : Type 0} (does : W → Entries → Result (Unit {0}) Stop → Entries → W → Type 0) (bounds : List Key) (terms :
+module _ {W O E : Type 0} (does : W → Entries → Result O (Failure E) → Entries → W → Type 0) (bounds : List Key) (terms :
     Terms) where
   -- a session began over this seat, the work was done in it, and it has no outcome
-  pub record StaysOpen (last : Known) (session : Seated) (stop : Option Stop) (between new : W) : Type 0 where
+  pub record StaysOpen (last : Known) (session : Seated) (stop : Option (Failure E)) (between new : W) : Type 0 where
     pub begun : Seated
     pub began : BeganAt bounds last begun.state.start begun.seat
     pub seat : GoesOn begun.seat session.seat
     pub start : session.state.start ≡ begun.state.start
-    pub works : Works does bounds terms begun session stop between new
+    pub value : Option O
+    pub works : Works does bounds terms begun session value stop between new
     pub none : finish_of session.state ≡ None
 
-module _ {J W : Type 0} (does : W → Entries → Result (Unit {0}) Stop → Entries → W → Type 0) (bounds : List Key) (terms :
+module _ {J W O E : Type 0} (does : W → Entries → Result O (Failure E) → Entries → W → Type 0) (bounds : List Key) (terms :
     Terms) where
   -- How the last try ended, after so many that came to nothing: a transaction began over the seat
   -- that begins and ended so, the work was done in it, and the other seat went on. A commit lies above
   -- each that the seat knew to be decided before the first.
-  pub record EndsOver (old : Seats J) (before : W) (tries : ℕ) (e : Ended J) (new : W) : Type 0 where
+  pub record EndsOver (old : Seats J) (before : W) (tries : ℕ) (e : Ended J O E) (new : W) : Type 0 where
     pub last : Known
     pub between : W
     pub vain : TriesInVain does bounds terms tries old.begins last before between
@@ -48,13 +50,13 @@ module _ {J W : Type 0} (does : W → Entries → Result (Unit {0}) Stop → Ent
     pub began : BeganAt bounds last begun.state.start begun.seat
     pub ends : Ends bounds begun.seat e.start e.outcome e.seats.begins
     pub start : e.start ≡ begun.state.start
-    pub works : Works does bounds terms begun ends.session e.stop between new
+    pub works : Works does bounds terms begun ends.session e.value e.stop between new
     pub above : CommitsAboveKnown old.begins.events e.outcome
     pub resolves : GoesOn old.resolves e.seats.resolves
 
   -- nothing ended after so many tries that came to nothing: the seat has no ticks to begin with, or
   -- the session has no outcome
-  abbrev pub IsUnended : Seats J → W → ℕ → Unended J → W → Type 0
+  abbrev pub IsUnended : Seats J → W → ℕ → Unended J E → W → Type 0
   IsUnended old before tries (unended.Spent seats) new =
       TriesInVain does bounds terms tries old.begins seats.begins before new
       × GoesOn old.resolves seats.resolves × (seats.begins.ticks < 1)

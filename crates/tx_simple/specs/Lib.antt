@@ -3,3 +3,4 @@ pub mod Updates
 pub mod Endings
 pub mod Reads
 pub mod Stops
+pub mod Failures

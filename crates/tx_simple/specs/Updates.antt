@@ -2,7 +2,8 @@
 use Rattle.std.specs.Prelude.{◌≡◌, ◌≢◌, ◌⊎◌, ◌<◌, ℕ, zero, suc, List, [], ◌∷◌, false, Option, Some, None, Result, Ok, Err}
 use Rattle.tx_transaction.specs.declared.state.Terms.{Terms}
 use Rattle.tx_transaction.specs.Buffers.{Entries}
-use Rattle.tx_simple.specs.declared.stopping.Stop.{Stop}
+use Rattle.tx_simple.specs.declared.failure.Failure.{Failure}
+use Rattle.tx_simple.specs.Failures.{Tells}
 use Rattle.tx_types.specs.declared.key.Key.{Key}
 use Rattle.tx_core.specs.declared.event.Outcome.{Outcome}
 use Rattle.tx_core.specs.declared.event.Outcome.TheVariants as outcome
@@ -88,28 +89,24 @@ pub record Wrote (bounds : List Key) (terms : Terms) (start : ℕ) (entered : En
   pub declares : RecordsDeclared bounds old (declaration start placed entered terms) after
   pub goes : GoesOn after new
 
--- why it stopped
-abbrev pub stop_in : Result (Unit {0}) Stop → Option Stop
-stop_in (Ok x) = None
-stop_in (Err stop) = Some stop
-
 -- where nothing stopped it
-abbrev pub OnNoStop : Option Stop → Type 0 → Type 0
+abbrev pub OnNoStop : {E : Type 0} → Option (Failure E) → Type 0 → Type 0
 OnNoStop None P = P
-OnNoStop (Some stop) P = Unit {0}
+OnNoStop (Some failure) P = Unit {0}
 
-module _ {W : Type 0} (does : W → Entries → Result (Unit {0}) Stop → Entries → W → Type 0) (bounds : List Key) (terms :
+module _ {W O E : Type 0} (does : W → Entries → Result O (Failure E) → Entries → W → Type 0) (bounds : List Key) (terms :
     Terms) where
-  -- The work was called, once, in a transaction in which nothing was entered; where nothing stopped
-  -- that, the work answered well, and what it left entered is what was declared.
-  pub record Works (begun session : Seated) (stop : Option Stop) (old new : W) : Type 0 where
-    pub answered : Result (Unit {0}) Stop
+  -- The work was called, once, in a transaction in which nothing was entered; its value is what it
+  -- answered; where nothing stopped that, the work answered well, and what it left entered is what
+  -- was declared.
+  pub record Works (begun session : Seated) (value : Option O) (stop : Option (Failure E)) (old new : W) : Type 0 where
+    pub answered : Result O (Failure E)
     pub entered : Entries
     pub did : does old [] answered entered new
+    pub tells : Tells answered value stop
     pub before : Known
     pub goes : GoesOn begun.seat before
-    pub wrote : OnNoStop stop ((stop_in answered ≡ None)
-        × Wrote bounds terms begun.state.start entered before session.seat)
+    pub wrote : OnNoStop stop (Wrote bounds terms begun.state.start entered before session.seat)
 
   -- A try that is over and came to nothing: the seat began a transaction, went on within it alone,
   -- and answered of it, of which nothing was declared, or it is decided that it is aborted.
@@ -121,8 +118,9 @@ module _ {W : Type 0} (does : W → Entries → Result (Unit {0}) Stop → Entri
     pub ends : Ends bounds begun.seat start end new
     pub same : start ≡ begun.state.start
     pub nothing : CameToNothing ends.session.seat.events start
-    pub stop : Option Stop
-    pub works : Works begun ends.session stop before after_it
+    pub value : Option O
+    pub stop : Option (Failure E)
+    pub works : Works begun ends.session value stop before after_it
 
   -- so many tries, one after another, came to nothing, and neither the seat nor the work did anything else
   abbrev pub TriesInVain : ℕ → Known → Known → W → W → Type 0

@@ -6,7 +6,7 @@ ghost use Rattle.tx_client.specs.Calls.{Seated};
 ghost use Rattle.tx_simple.specs.Updates.{IsWithoutEffect, Writes};
 ghost use Rattle.tx_simple.specs.Endings.{EndsFrom, IsOpen};
 
-use crate::stopping::Stop;
+use crate::failure::Failure;
 use tx_client::Session;
 use tx_core::Outcome;
 use tx_journal::{JournalId, Seat};
@@ -22,19 +22,21 @@ pub struct Seats<J: JournalId> {
 
 /// How the transaction ended that ran last.
 #[derive(Drop)]
-pub struct Ended<J: JournalId> {
+pub struct Ended<J: JournalId, O, E> {
     /// Its start timestamp.
     pub start: Ts,
     /// What `finish` answered.
     pub outcome: Outcome,
+    /// What the work answered, where it went well.
+    pub value: Option<O>,
     /// Why it went no further; none where it did all that it was to do.
-    pub stop: Option<Stop>,
+    pub stop: Option<Failure<E>>,
     pub seats: Seats<J>,
 }
 
 /// There is no outcome.
 #[derive(Drop)]
-pub enum Unended<J: JournalId> {
+pub enum Unended<J: JournalId, E> {
     /// The ticks of the seat that begins are spent: no transaction began.
     Spent(Seats<J>),
     /// Nothing is decided, and no answer is missing: memory was refused to the session itself. The
@@ -42,11 +44,11 @@ pub enum Unended<J: JournalId> {
     Open {
         session: Session<J>,
         resolves: Seat<J>,
-        stop: Option<Stop>,
+        stop: Option<Failure<E>>,
     },
 }
 
-impl<J: JournalId> Ended<J> {
+impl<J: JournalId, O: Drop, E: Drop> Ended<J, O, E> {
     /// Whether the transaction changed nothing, for good, and one that begins later may go further.
     pub fn may_pass(&self) -> bool
         ensures { result ≡ true → IsWithoutEffect self.now.outcome }
@@ -64,6 +66,7 @@ impl<J: JournalId> Ended<J> {
         let Ended {
             start: _,
             outcome: _,
+            value: _,
             stop: _,
             seats,
         } = self;
@@ -73,13 +76,14 @@ impl<J: JournalId> Ended<J> {
 
 // Finishes a transaction that has gone as far as it goes.
 #[inline(always)]
-pub(crate) fn finished<J: JournalId>(
+pub(crate) fn finished<J: JournalId, O: Drop, E: Drop>(
     session: Session<J>,
     resolves: Seat<J>,
-    stop: Option<Stop>,
-) -> Result<Ended<J>, Unended<J>>
+    value: Option<O>,
+    stop: Option<Failure<E>>,
+) -> Result<Ended<J, O, E>, Unended<J, E>>
     ensures ended { (begun : Seated) → Writes begun session
-        → IfOk result (λ e. EndsFrom J.bounds begun.seat session resolves stop e) }
+        → IfOk result (λ e. EndsFrom J.bounds begun.seat session resolves value stop e) }
     ensures open_yet { IfErr result (λ u. IsOpen session resolves stop u) }
 {
     // For proofs: what its seat has seen declared.
@@ -89,6 +93,7 @@ pub(crate) fn finished<J: JournalId>(
         Ok((outcome, begins)) => Ok(Ended {
             start,
             outcome,
+            value,
             stop,
             seats: Seats { begins, resolves },
         }),

@@ -3,6 +3,7 @@
 
 mod carrying;
 mod ending;
+mod failure;
 mod lending;
 mod meeting;
 mod running;
@@ -11,6 +12,7 @@ mod trying;
 mod updating;
 
 pub use ending::{Ended, Seats, Unended};
+pub use failure::Failure;
 pub use lending::Tx;
 pub use meeting::resolve_met;
 pub use stopping::Stop;

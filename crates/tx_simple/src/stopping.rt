@@ -6,11 +6,9 @@ use tx_client::{Miss, WaitCause};
 use tx_core::Answer;
 use tx_types::Fault;
 
-/// Why a transaction, or what it was to do, went no further.
+/// Why a transaction went no further.
 #[derive(Debug, Drop)]
 pub enum Stop {
-    /// What it was to do gave up, for a reason of its own.
-    GaveUp,
     /// A lock stands in the way, and this is why what became of its transaction is not known.
     Waits(WaitCause),
     /// Another transaction committed a key after the start (E2), or this one was rolled back (E3).
@@ -32,7 +30,7 @@ impl Stop {
     {
         match self {
             Stop::Waits(_) | Stop::Conflict | Stop::BelowSafePoint | Stop::Lost => true,
-            Stop::GaveUp | Stop::AlreadyExists | Stop::Refused(_) => false,
+            Stop::AlreadyExists | Stop::Refused(_) => false,
         }
     }
 }

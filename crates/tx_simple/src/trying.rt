@@ -2,10 +2,11 @@
 ghost use Rattle.std.specs.Prelude.{◌≡◌, true, false, [], OnOk, IfOk, IfErr};
 ghost use Rattle.tx_transaction.specs.Sessions.{is_declared, has_primary};
 ghost use Rattle.tx_journal.specs.Senders.{IsWay};
-ghost use Rattle.tx_simple.specs.Updates.{GoesOn, Follows, Writes, Wrote, Works, stop_in};
+ghost use Rattle.tx_simple.specs.Updates.{GoesOn, Follows, Writes, Wrote, Works};
 ghost use Rattle.tx_simple.specs.Endings.{EndsOver, IsUnended};
 
 use crate::ending::{Ended, Seats, Unended, finished};
+use crate::failure::{Failure, failed_by};
 use crate::lending::Lent;
 use crate::running::{Begun, Running};
 use crate::stopping::Stop;
@@ -18,6 +19,13 @@ use tx_journal::{JournalId, Reply, Request, Seat, Sender};
 // A session after what was done in it, the seat that resolved for it, and how that went.
 type Done<J> = (Session<J>, Seat<J>, Result<(), Stop>);
 
+// A session after a work was done in it, the seat that resolved for it, and what the work answered.
+type Applied<J, O, E> = (Session<J>, Seat<J>, Result<O, Failure<E>>);
+
+// A session after a work was done and written, the seat that resolved for it, what the work
+// answered, and why it went no further.
+type Ran<J, O, E> = (Session<J>, Seat<J>, Option<O>, Option<Failure<E>>);
+
 // Has a work read, and enter what it writes, from where the call picks.
 fn applied<J: JournalId, S: Sender<Request<J>, Reply<J>>, W: Work, B: Begun>(
     alloc: Global,
@@ -25,7 +33,7 @@ fn applied<J: JournalId, S: Sender<Request<J>, Reply<J>>, W: Work, B: Begun>(
     resolver: Seat<J>,
     work: &mut W,
     sender: &mut S,
-) -> Done<J>
+) -> Applied<J, W::Out, W::Err>
     requires way { IsWay J.bounds S.fits S.sends S.keys_between }
     requires open { is_declared session.state ≡ false }
     requires session { session ≡ B.session }
@@ -48,7 +56,7 @@ fn apply<J: JournalId, S: Sender<Request<J>, Reply<J>>, W: Work>(
     resolver: Seat<J>,
     work: &mut W,
     sender: &mut S,
-) -> Done<J>
+) -> Applied<J, W::Out, W::Err>
     requires way { IsWay J.bounds S.fits S.sends S.keys_between }
     requires open { is_declared session.state ≡ false }
     ensures session { Follows session result.0 }
@@ -123,28 +131,21 @@ fn run<J: JournalId, S: Sender<Request<J>, Reply<J>>, W: Work>(
     terms: &Terms,
     work: &mut W,
     sender: &mut S,
-) -> Done<J>
+) -> Ran<J, W::Out, W::Err>
     requires way { IsWay J.bounds S.fits S.sends S.keys_between }
     requires open { is_declared session.state ≡ false }
     requires empty { session.state.buffer ≡ [] }
     ensures session { Writes session result.0 }
     ensures resolver { GoesOn resolver result.1 }
-    ensures works { Works W.does J.bounds terms.now session result.0 (stop_in result.2) work.old work.new }
+    ensures works { Works W.does J.bounds terms.now session result.0 result.2 result.3 work.old work.new }
 {
-    let (session, resolver, done) = apply(alloc, session, resolver, work, sender);
-    if let Err(stop) = done {
-        return (session, resolver, Err(stop));
-    }
-    write(alloc, session, resolver, terms, sender)
-}
-
-// Why it went no further, if it did not.
-fn stopped_by(done: Result<(), Stop>) -> Option<Stop>
-    ensures { result ≡ stop_in done }
-{
-    match done {
-        Ok(()) => None,
-        Err(stop) => Some(stop),
+    let (session, resolver, answered) = apply(alloc, session, resolver, work, sender);
+    match answered {
+        Err(failure) => (session, resolver, None, Some(failure)),
+        Ok(value) => {
+            let (session, resolver, done) = write(alloc, session, resolver, terms, sender);
+            (session, resolver, Some(value), failed_by(done))
+        }
     }
 }
 
@@ -155,7 +156,7 @@ pub(crate) fn try_once<J: JournalId, S: Sender<Request<J>, Reply<J>>, W: Work>(
     terms: &Terms,
     work: &mut W,
     sender: &mut S,
-) -> Result<Ended<J>, Unended<J>>
+) -> Result<Ended<J, W::Out, W::Err>, Unended<J, W::Err>>
     requires way { IsWay J.bounds S.fits S.sends S.keys_between }
     ensures ended { IfOk result (λ e. EndsOver W.does J.bounds terms.now seats work.old 0 e work.new) }
     ensures unended { IfErr result (λ u. IsUnended W.does J.bounds terms.now seats work.old 0 u work.new) }
@@ -163,8 +164,10 @@ pub(crate) fn try_once<J: JournalId, S: Sender<Request<J>, Reply<J>>, W: Work>(
     let Seats { begins, resolves } = seats;
     match Session::begin(alloc, begins) {
         Ok(session) => {
-            let (session, resolves, done) = run(alloc, session, resolves, terms, work, sender);
-            finished(session, resolves, stopped_by(done))
+            let (session, resolves, value, stop) = run(
+                alloc, session, resolves, terms, work, sender,
+            );
+            finished(session, resolves, value, stop)
         }
         Err(begins) => Err(Unended::Spent(Seats { begins, resolves })),
     }

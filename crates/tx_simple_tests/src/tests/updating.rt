@@ -44,7 +44,7 @@ struct Case(
 
 const PLAIN: (u32, Turn) = (0, Turn::Plain);
 
-const CASES: [Case; 18] = [
+const CASES: [Case; 19] = [
     // It goes well at once.
     Case(
         Before::Empty,
@@ -109,6 +109,16 @@ const CASES: [Case; 18] = [
         ("committed", "done"),
         2,
         1,
+    ),
+    // One that does not go on is not.
+    Case(
+        Before::Rival,
+        PLAIN,
+        (Deed::PutOnce(1), Mode::TwoPhase),
+        3,
+        ("aborted", "conflict"),
+        1,
+        9,
     ),
     // What it gives up, or what a later try does not help, is not.
     Case(

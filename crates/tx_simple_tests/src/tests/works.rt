@@ -7,7 +7,7 @@ use tx_client::Terms;
 use tx_core::Outcome;
 use tx_journal::{JournalId, Reply, Request, Sender};
 use tx_nested::NestedCells;
-use tx_simple::{Seats, Stop, Tx, Work, update};
+use tx_simple::{Failure, Seats, Stop, Tx, Work, update};
 use tx_store::{Store, Wire};
 use tx_types::{Key, Mode, Value};
 
@@ -24,7 +24,13 @@ pub enum Deed {
     Read,
     /// It gives up.
     GiveUp,
+    /// It puts this byte there, and does not go on after the first try.
+    PutOnce(u8),
 }
+
+/// It gave up.
+#[derive(Drop)]
+pub struct GaveUp;
 
 /// One deed, and how often it was done.
 #[derive(Drop)]
@@ -66,23 +72,27 @@ fn read<T: Tx>(tx: &mut T) -> Result<u8, Stop> {
 }
 
 impl Work for Doing {
-    ghost does = { λ before buffer answer entered after_it. Unit {0} };
+    type Out = ();
 
-    fn apply<T: Tx>(&mut self, tx: &mut T) -> Result<(), Stop> {
+    type Err = GaveUp;
+
+    fn apply<T: Tx>(&mut self, tx: &mut T) -> Result<(), Failure<GaveUp>> {
         self.calls = self.calls.saturating_add(1);
         match self.deed {
-            Deed::Put(byte) => put(tx, b"a", byte),
-            Deed::Insert(byte) => insert(tx, byte),
+            Deed::Put(byte) | Deed::PutOnce(byte) => put(tx, b"a", byte)?,
+            Deed::Insert(byte) => insert(tx, byte)?,
             Deed::PutBoth(byte) => {
                 put(tx, b"a", byte)?;
-                put(tx, b"z", byte)
+                put(tx, b"z", byte)?;
             }
-            Deed::Read => {
-                self.read = read(tx)?;
-                Ok(())
-            }
-            Deed::GiveUp => Err(Stop::GaveUp),
+            Deed::Read => self.read = read(tx)?,
+            Deed::GiveUp => return Err(Failure::Own(GaveUp)),
         }
+        Ok(())
+    }
+
+    fn may_go_on(&self, tries: u32) -> bool {
+        tries < 1 || !matches!(self.deed, Deed::PutOnce(_))
     }
 }
 
@@ -98,9 +108,11 @@ pub struct Contended<'a, J: JournalId, R: Wait> {
 }
 
 impl<'a, J: JournalId, R: Wait> Work for Contended<'a, J, R> {
-    ghost does = { λ before buffer answer entered after_it. Unit {0} };
+    type Out = ();
 
-    fn apply<T: Tx>(&mut self, tx: &mut T) -> Result<(), Stop> {
+    type Err = GaveUp;
+
+    fn apply<T: Tx>(&mut self, tx: &mut T) -> Result<(), Failure<GaveUp>> {
         if let Some(seats) = self.rival.take() {
             let mut wire = Wire::new(self.rt, self.store);
             wire.show();
@@ -116,10 +128,14 @@ impl<'a, J: JournalId, R: Wait> Work for Contended<'a, J, R> {
         }
         self.doing.apply(tx)
     }
+
+    fn may_go_on(&self, tries: u32) -> bool {
+        self.doing.may_go_on(tries)
+    }
 }
 
 // An outcome, and why it went no further, in words.
-fn words(outcome: &Outcome, stop: Option<&Stop>) -> (&'static str, &'static str) {
+fn words<E>(outcome: &Outcome, stop: Option<&Failure<E>>) -> (&'static str, &'static str) {
     let outcome = match outcome {
         Outcome::Committed(_) => "committed",
         Outcome::Aborted => "aborted",
@@ -128,15 +144,22 @@ fn words(outcome: &Outcome, stop: Option<&Stop>) -> (&'static str, &'static str)
     };
     let stop = match stop {
         None => "done",
-        Some(Stop::GaveUp) => "gave up",
-        Some(Stop::Waits(_)) => "waits",
-        Some(Stop::Conflict) => "conflict",
-        Some(Stop::AlreadyExists) => "exists",
-        Some(Stop::BelowSafePoint) => "below",
-        Some(Stop::Lost) => "lost",
-        Some(Stop::Refused(_)) => "refused",
+        Some(Failure::Own(_)) => "gave up",
+        Some(Failure::Stopped(stop)) => word(stop),
     };
     (outcome, stop)
+}
+
+// Why a transaction was stopped, in a word.
+fn word(stop: &Stop) -> &'static str {
+    match stop {
+        Stop::Waits(_) => "waits",
+        Stop::Conflict => "conflict",
+        Stop::AlreadyExists => "exists",
+        Stop::BelowSafePoint => "below",
+        Stop::Lost => "lost",
+        Stop::Refused(_) => "refused",
+    }
 }
 
 /// Runs an update in this mode, with locks that live so long, and tries it again so often: how

@@ -9,4 +9,4 @@ returns-in-Ok-clause-ended g c =
     let both = ended_so g.J.JournalId.bounds begun c.args.session c.in-Ok.outcome c.start-start.result c.in-Ok.begins
     c.show.ensures.run c.show.ensures.stands writes c.start-start.ensures c.in-Ok.ensures.ended
     c.in-Ok.ensures.in_order in
-    (both.0, both.1, refl, refl)
+    (both.0, both.1, refl, refl, refl)

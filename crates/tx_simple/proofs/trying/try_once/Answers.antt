@@ -1,7 +1,5 @@
-use Rattle.std.proofs.Common.{◌<◌, Option, refl, sym, subst}
+use Rattle.std.proofs.Common.{◌<◌, refl, sym, subst}
 use Rattle.tx_journal.specs.Known.{Known}
-use Rattle.tx_simple.specs.declared.stopping.Stop.{Stop}
-use Rattle.tx_simple.specs.Updates.{Works}
 use Rattle.tx_simple.proofs.Going.{goes_itself}
 use Rattle.tx_simple.proofs.Retrying.{ended_over, unended_in}
 use Rattle.tx_simple.proofs.trying.try_once.Goals as goal
@@ -9,25 +7,17 @@ use Rattle.tx_simple.proofs.trying.try_once.Goals as goal
 pub returns-in-Ok-clause-ended : goal.returns-in-Ok-clause-ended
 returns-in-Ok-clause-ended g c =
     let begun = c.in-Ok.session in
-    let after = c.run-session.result.0 in
-    ended_over g.W.Work.does g.J.JournalId.bounds c.args.terms.now c.args.seats begun after c.run-session.result.1
-    c.stopped_by.result c.finished.result c.args.work.now c.run-session.new.work c.in-Ok.ensures.ok.1
-    c.run-session.ensures.session
-    (subst
-    (λ (o : Option Stop). Works g.W.Work.does g.J.JournalId.bounds c.args.terms.now begun after o
-    c.args.work.now c.run-session.new.work) (sym c.stopped_by.ensures) c.run-session.ensures.works)
+    ended_over g.W.Work.does g.J.JournalId.bounds c.args.terms.now c.args.seats begun c.run-session.result.0
+    c.run-session.result.1 c.run-session.result.2 c.run-session.result.3 c.finished.result c.args.work.now
+    c.run-session.new.work c.in-Ok.ensures.ok.1 c.run-session.ensures.session c.run-session.ensures.works
     c.run-session.ensures.resolver (c.finished.ensures.ended begun c.run-session.ensures.session)
 
 pub returns-in-Ok-clause-unended : goal.returns-in-Ok-clause-unended
 returns-in-Ok-clause-unended g c =
     let begun = c.in-Ok.session in
-    let after = c.run-session.result.0 in
-    unended_in g.W.Work.does g.J.JournalId.bounds c.args.terms.now c.args.seats begun after c.run-session.result.1
-    c.stopped_by.result c.finished.result c.args.work.now c.run-session.new.work c.in-Ok.ensures.ok.1
-    c.run-session.ensures.session
-    (subst
-    (λ (o : Option Stop). Works g.W.Work.does g.J.JournalId.bounds c.args.terms.now begun after o
-    c.args.work.now c.run-session.new.work) (sym c.stopped_by.ensures) c.run-session.ensures.works)
+    unended_in g.W.Work.does g.J.JournalId.bounds c.args.terms.now c.args.seats begun c.run-session.result.0
+    c.run-session.result.1 c.run-session.result.2 c.run-session.result.3 c.finished.result c.args.work.now
+    c.run-session.new.work c.in-Ok.ensures.ok.1 c.run-session.ensures.session c.run-session.ensures.works
     c.run-session.ensures.resolver c.finished.ensures.open_yet
 
 pub returns-in-Err-clause-unended : goal.returns-in-Err-clause-unended

@@ -1,5 +1,0 @@
-use Rattle.example_transfers.proofs.main.Given as goal
-
--- the journal that was just opened
-abbrev pub ghosts-run : goal.ghosts-run
-ghosts-run g a = record { table = a.opened.table; bounds = a.opened.bounds; seats = a.opened.seats }

@@ -1,0 +1,65 @@
+-- An update of a client tells how it came out.
+use Rattle.std.proofs.Common.{◌≡◌, ◌≤◌, ◌⊎◌, inl, inr, ℕ, List, Option, Some, None, Result, Ok, Err, IfOk, IfErr, refl, sym, subst}
+use Rattle.tx_types.specs.declared.key.Key.{Key}
+use Rattle.tx_transaction.specs.Buffers.{Entries}
+use Rattle.tx_simple.specs.declared.failure.Failure.{Failure}
+use Rattle.tx_simple.specs.declared.ending.Seats.{Seats}
+use Rattle.tx_simple.specs.declared.ending.Ended.{Ended}
+use Rattle.tx_simple.specs.declared.ending.Unended.{Unended}
+use Rattle.tx_simple.specs.Endings.{EndsOver, IsUnended}
+use Rattle.tx_kv.specs.declared.updated.Updated.{Updated}
+use Rattle.tx_kv.specs.declared.updated.NotUpdated.{NotUpdated}
+use Rattle.tx_core.specs.declared.event.Outcome.{Outcome}
+use Rattle.tx_core.specs.declared.event.Outcome.TheVariants as outcome
+use Rattle.tx_simple.specs.declared.failure.Failure.TheVariants as failure
+use Rattle.tx_simple.specs.Updates.{IsWithoutEffect}
+use Rattle.tx_kv.specs.Clients.{ClientState, TellsEnd, TellsNoEnd, Updates, WentWell}
+use Rattle.tx_kv.specs.Telling.{told_stop, told_commit, told_reads, told_end}
+
+module _ {J W O E : Type 0} (does : W → Entries → Result O (Failure E) → Entries → W → Type 0) (bounds : List Key) (old :
+    ClientState J) (before after_it : W) (r : Result (Updated O) (NotUpdated E)) (seats : Seats J) where
+  pub updates_so : (came : Result (Ended J O E) (Unended J E))
+      → IfOk came (λ (e : Ended J O E). (n : ℕ) × (n ≤ old.again)
+      × EndsOver does bounds old.terms old.seats before n e after_it)
+      → IfErr came (λ (u : Unended J E). (n : ℕ) × (n ≤ old.again)
+      × IsUnended does bounds old.terms old.seats before n u after_it)
+      → IfOk came (λ (e : Ended J O E). TellsEnd e r × (seats ≡ e.seats))
+      → IfErr came (λ (u : Unended J E). TellsNoEnd bounds u r seats)
+      → Updates does bounds old before r (record { seats = seats; terms = old.terms; again = old.again }) after_it
+  updates_so (Ok e) (n, few, ends) unit tells never = (n, few, refl, refl, inl (e, ends, tells.0, tells.1))
+  updates_so (Err u) unit (n, few, is) never tells = (n, few, refl, refl, inr (u, is, tells))
+
+module _ {J O E : Type 0} (e : Ended J O E) where
+  -- a refusal is told of what was without effect
+  by_stop : IsWithoutEffect e.outcome → (s : Option (Failure E)) → e.stop ≡ s
+      → TellsEnd e (Err (told_stop s))
+  by_stop without (Some (failure.Own own)) is = (without, is)
+  by_stop without (Some (failure.Stopped stop)) is = (without, inl is)
+  by_stop without None is = (without, inr is)
+
+  by_commit : (at : ℕ) → e.outcome ≡ outcome.Committed at → (v : Option O) → e.value ≡ v
+      → TellsEnd e (told_commit e.start at v)
+  by_commit at is (Some value) value_is = (refl, sym is, sym value_is, subst (λ o. WentWell o e.stop) (sym is) tt)
+  by_commit at is None value_is = (refl, λ without. subst IsWithoutEffect is without)
+
+  by_reads : e.outcome ≡ outcome.ReadOnly → (v : Option O) → e.value ≡ v → (s : Option (Failure E)) → e.stop ≡ s
+      → TellsEnd e (told_reads e.start v s)
+  by_reads is (Some value) value_is None stop_is = (
+    refl,
+    sym is,
+    sym value_is,
+    subst (λ o. WentWell o e.stop) (sym is) (subst (λ s. WentWell outcome.ReadOnly s) (sym stop_is) tt),
+  )
+  by_reads is (Some value) value_is (Some failure) stop_is =
+      by_stop (subst IsWithoutEffect (sym is) tt) (Some failure) stop_is
+  by_reads is None value_is s stop_is = by_stop (subst IsWithoutEffect (sym is) tt) s stop_is
+
+  by_outcome : (o : Outcome) → e.outcome ≡ o → TellsEnd e (told_end e.start o e.value e.stop)
+  by_outcome (outcome.Committed at) is = by_commit at is e.value refl
+  by_outcome outcome.ReadOnly is = by_reads is e.value refl e.stop refl
+  by_outcome outcome.Aborted is = by_stop (subst IsWithoutEffect (sym is) tt) e.stop refl
+  by_outcome (outcome.Unknown why) is = (refl, λ without. subst IsWithoutEffect is without)
+
+  -- what is told of how it ended is right
+  pub tells_end : TellsEnd e (told_end e.start e.outcome e.value e.stop)
+  tells_end = by_outcome e.outcome refl

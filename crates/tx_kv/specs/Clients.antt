@@ -1,0 +1,68 @@
+-- What contracts see of a client, and what it tells of an update.
+use Rattle.std.specs.Prelude.{◌≡◌, ◌⊎◌, ◌≤◌, ℕ, List, [], Option, Some, None, Result, Ok, Err}
+use Rattle.tx_types.specs.declared.key.Key.{Key}
+use Rattle.tx_core.specs.declared.event.Outcome.{Outcome}
+use Rattle.tx_core.specs.declared.event.Outcome.TheVariants.{Committed, ReadOnly}
+use Rattle.tx_core.specs.declared.event.Event.TheVariants as event
+use Rattle.tx_journal.specs.Known.{Known, known}
+use Rattle.tx_transaction.specs.declared.state.Terms.{Terms}
+use Rattle.tx_transaction.specs.Buffers.{Entries}
+use Rattle.tx_client.specs.Calls.{Records}
+use Rattle.tx_simple.specs.declared.failure.Failure.{Failure}
+use Rattle.tx_simple.specs.declared.failure.Failure.TheVariants as failure
+use Rattle.tx_simple.specs.declared.ending.Seats.{Seats}
+use Rattle.tx_simple.specs.declared.ending.Ended.{Ended}
+use Rattle.tx_simple.specs.declared.ending.Unended.{Unended}
+use Rattle.tx_simple.specs.declared.ending.Unended.TheVariants as unended
+use Rattle.tx_simple.specs.Updates.{IsWithoutEffect}
+use Rattle.tx_simple.specs.Endings.{EndsOver, IsUnended}
+use Rattle.tx_kv.specs.declared.updated.Updated.{Updated}
+use Rattle.tx_kv.specs.declared.updated.NotUpdated.{NotUpdated}
+use Rattle.tx_kv.specs.declared.updated.NotUpdated.TheVariants.{Own, Stopped, Unknown, Spent}
+
+-- the seats that a client has between two calls
+abbrev pub seats_of : {J : Type 0} → Option (Seats J) → Seats J
+seats_of None = record { begins = known 0 0 []; resolves = known 0 0 [] }
+seats_of (Some seats) = seats
+
+-- what contracts see of a client: its seats, under which terms it writes, and how often it tries
+-- again
+pub record ClientState (J : Type 0) : Type 0 where
+  pub seats : Seats J
+  pub terms : Terms
+  pub again : ℕ
+
+-- it is committed, or it wrote nothing and nothing stopped it
+abbrev pub WentWell : {E : Type 0} → Outcome → Option (Failure E) → Type 0
+WentWell (Committed c) stop = Unit {0}
+WentWell ReadOnly None = Unit {0}
+WentWell o stop = ⊥
+
+-- What is told of how an update ended: its start, its outcome and what the work answered, where it
+-- went well; else, where it was without effect, why; and else that it is not known.
+abbrev pub TellsEnd : {J O E : Type 0} → Ended J O E → Result (Updated O) (NotUpdated E) → Type 0
+TellsEnd e (Ok u) = (u.start ≡ e.start) × (u.outcome ≡ e.outcome) × (Some u.value ≡ e.value)
+    × WentWell e.outcome e.stop
+TellsEnd e (Err (Own own)) = IsWithoutEffect e.outcome × (e.stop ≡ Some (failure.Own own))
+TellsEnd e (Err (Stopped stop)) = IsWithoutEffect e.outcome
+    × ((e.stop ≡ Some (failure.Stopped stop)) ⊎ (e.stop ≡ None))
+TellsEnd e (Err (Unknown start)) = (start ≡ e.start) × (IsWithoutEffect e.outcome → ⊥)
+TellsEnd e (Err Spent) = ⊥
+
+-- What is told where there is no outcome: that the ticks are spent, or that what becomes of the
+-- transaction is not known; its session is stopped.
+abbrev pub TellsNoEnd : {J O E : Type 0} → List Key → Unended J E → Result (Updated O) (NotUpdated E) → Seats J → Type 0
+TellsNoEnd bounds (unended.Spent seats) (Err Spent) new = new ≡ seats
+TellsNoEnd bounds (unended.Open session resolves stop) (Err (Unknown start)) new = (start ≡ session.state.start)
+    × Records bounds session.seat (event.Stopped session.seat.seat) new.begins × (new.resolves ≡ resolves)
+TellsNoEnd bounds u r new = ⊥
+
+module _ {J W O E : Type 0} (does : W → Entries → Result O (Failure E) → Entries → W → Type 0) (bounds : List Key) where
+  -- An update of a client is an update over its seats, under its terms, with at most so many tries
+  -- in vain; it tells how that ended, and has the seats that were handed back.
+  abbrev pub Updates : ClientState J → W → Result (Updated O) (NotUpdated E) → ClientState J → W → Type 0
+  Updates old before r new after_it = (n : ℕ) × (n ≤ old.again) × (new.terms ≡ old.terms) × (new.again ≡ old.again)
+      × (((e : Ended J O E) × EndsOver does bounds old.terms old.seats before n e after_it × TellsEnd e r
+      × (new.seats ≡ e.seats))
+      ⊎ ((u : Unended J E) × IsUnended does bounds old.terms old.seats before n u after_it
+      × TellsNoEnd bounds u r new.seats))

@@ -1,0 +1,19 @@
+//! Transactions over a store in this process: all that a program calls, by one import.
+#![tactic(auto)]
+
+mod client;
+mod opening;
+mod program;
+mod unopened;
+mod updated;
+mod view;
+
+pub use client::Client;
+pub use program::{Program, with_store};
+pub use tx_client::{Terms, WaitCause};
+pub use tx_core::Outcome;
+pub use tx_journal::JournalId;
+pub use tx_simple::{Failure, Stop, Tx, Work};
+pub use tx_types::{Fault, Key, KeyValue, KeyValues, Mode, Ts, Value};
+pub use unopened::Unopened;
+pub use updated::{NotUpdated, Updated};

@@ -1,0 +1,119 @@
+//! A program over a store of its own.
+ghost use Rattle.std.specs.Prelude.{◌≡◌, ◌+◌, All, length, vec_len};
+ghost use Rattle.tx_cells.specs.Contents.{nothing_held};
+ghost use Rattle.tx_nested.specs.Nested.{nested_content};
+
+use crate::client::Client;
+use crate::opening::{journal, store};
+use crate::unopened::Unopened;
+use std::alloc::Global;
+use std::marker::Brand;
+use std::sync::Wait;
+use std::thread::{Threads, map_vec};
+use tx_journal::{JournalId, Opened};
+use tx_nested::NestedCells;
+use tx_simple::Seats;
+use tx_store::Store;
+use tx_types::Fault;
+
+/// What a program does with the clients of a store. The store's journal has its name, `J`, in the
+/// type of each client, so that none is taken for another's.
+pub trait Program<R: Wait>: Drop + Sync {
+    /// What a client answers.
+    type Out: Drop + Send;
+
+    /// What all comes to.
+    type Answer;
+
+    /// Done first, by a client of its own.
+    fn begin<J: JournalId>(&mut self, client: &mut Client<'_, J, R>) {
+        let _ = client;
+    }
+
+    /// What each client does, on a thread of its own.
+    fn run<J: JournalId>(&self, client: &mut Client<'_, J, R>) -> Self::Out;
+
+    /// Done last, by the client that began, with what the others answered, in their order.
+    fn end<J: JournalId>(self, client: &mut Client<'_, J, R>, outs: Vec<Self::Out>) -> Self::Answer;
+}
+
+// A client to be run.
+#[derive(Drop)]
+struct Job<J: JournalId> {
+    number: usize,
+    seats: Seats<J>,
+}
+
+// The clients to be run, in order.
+fn jobs<J: JournalId>(alloc: Global, pairs: Vec<Seats<J>>) -> Result<Vec<Job<J>>, Fault> {
+    let mut jobs = Vec::new(alloc);
+    for (number, seats) in pairs.into_iter().enumerate() {
+        jobs.push(Job { number, seats })?;
+    }
+    Ok(jobs)
+}
+
+// Runs a client.
+fn run_one<J: JournalId, R: Wait, P: Program<R>>(
+    rt: &R,
+    alloc: Global,
+    store: &Store<J, NestedCells>,
+    program: &P,
+    job: Job<J>,
+) -> P::Out {
+    let Job { number, seats } = job;
+    let mut client = Client::new(rt, alloc, store, number, seats);
+    program.run(&mut client)
+}
+
+// Runs each client on a thread of its own.
+fn run_each<J: JournalId + Send + Sync, R: Threads + Wait + Sync, P: Program<R>>(
+    rt: &R,
+    alloc: Global,
+    store: &Store<J, NestedCells>,
+    program: &P,
+    jobs: Vec<Job<J>>,
+) -> Result<Vec<P::Out>, Fault> {
+    Ok(map_vec(rt, jobs, &|job| run_one(rt, alloc, store, program, job))?)
+}
+
+// Runs a program over a journal that was opened.
+fn run_over<J: JournalId + Send + Sync, R: Threads + Wait + Sync, P: Program<R>>(
+    rt: &R,
+    alloc: Global,
+    opened: Opened,
+    families: Vec<NestedCells>,
+    mut program: P,
+) -> Result<P::Answer, Unopened>
+    requires name { (opened.table ≡ J.table) × (opened.bounds ≡ J.bounds) × (opened.seats ≡ J.seats) }
+    requires count { vec_len families ≡ length J.bounds + 1 }
+    requires empty { All (λ f. nested_content f ≡ (λ k. nothing_held)) families.items }
+{
+    let (store, mut pairs) = store::<J>(alloc, opened, families)?;
+    let Some(first) = pairs.pop() else {
+        return Err(Unopened::TooMany);
+    };
+    let jobs = jobs(alloc, pairs)?;
+    let mut client = Client::new(rt, alloc, &store, jobs.len(), first);
+    program.begin(&mut client);
+    let outs = run_each(rt, alloc, &store, &program, jobs)?;
+    let answer = program.end(&mut client, outs);
+    drop(client);
+    Ok(answer)
+}
+
+/// Opens a store in memory over regions with these keys between them, which rise, and runs a
+/// program over it: what the program answers. It has so many clients on threads of their own, and
+/// one more that begins and ends. `Refused` is for want of memory, or a key of no or of too many
+/// bytes.
+pub fn with_store<R: Threads + Wait + Sync, P: Program<R>>(
+    rt: &R,
+    alloc: Global,
+    bounds: &[&[u8]],
+    clients: usize,
+    program: P,
+) -> Result<P::Answer, Unopened> {
+    let sessions = clients.saturating_mul(2).saturating_add(2);
+    let (opened, families) = journal(alloc, bounds, sessions)?;
+    run_over::<Brand, R, P>(rt, alloc, opened, families, program)
+}

@@ -1,0 +1,23 @@
+//! Why a store is not opened.
+use thiserror::Error;
+use tx_types::Fault;
+
+/// Why a store is not opened.
+#[derive(Debug, Drop, Error)]
+pub enum Unopened {
+    /// The keys between the regions do not rise.
+    #[error("the keys between the regions do not rise")]
+    NotRising,
+    /// There are more regions and clients than a journal has seats.
+    #[error("a store has at most 1024 seats: one for each region, two for each client, and two more")]
+    TooMany,
+    /// E12, E13: memory was refused, or a key between the regions is no key.
+    #[error("{0}")]
+    Refused(Fault),
+}
+
+impl From<Fault> for Unopened {
+    fn from(fault: Fault) -> Unopened {
+        Unopened::Refused(fault)
+    }
+}

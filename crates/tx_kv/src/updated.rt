@@ -1,0 +1,147 @@
+//! What is told of an update.
+ghost use Rattle.std.specs.Prelude.{◌≡◌, IfOk, IfErr};
+ghost use Rattle.tx_kv.specs.Clients.{TellsEnd, TellsNoEnd};
+ghost use Rattle.tx_kv.specs.Telling.{told_stop, told_commit, told_reads, told_end};
+
+use tx_core::Outcome;
+use tx_journal::JournalId;
+use tx_simple::{Ended, Failure, Seats, Stop, Unended};
+use tx_types::Ts;
+
+/// An update that went well.
+#[derive(Debug, Drop)]
+pub struct Updated<O> {
+    /// The start timestamp of its transaction, at which it read.
+    pub start: Ts,
+    /// When it was committed, or that it wrote nothing.
+    pub outcome: Outcome,
+    /// What the work answered.
+    pub value: O,
+}
+
+/// Why an update did not go well.
+#[derive(Debug, Drop)]
+pub enum NotUpdated<E> {
+    /// The work refused, for a reason of its own. Nothing is written.
+    Own(E),
+    /// The transaction was stopped. Nothing is written.
+    Stopped(Stop),
+    /// What becomes of the transaction that began at this timestamp is not known: a reply or memory
+    /// is missing.
+    Unknown(Ts),
+    /// The ticks of the client are spent: no transaction began.
+    Spent,
+}
+
+/// What an update answers, and the seats that it hands back.
+pub(crate) type Told<J, O, E> = (Result<Updated<O>, NotUpdated<E>>, Seats<J>);
+
+// Why a transaction without effect was stopped.
+fn stopped<E>(stop: Option<Failure<E>>) -> NotUpdated<E>
+    ensures { result ≡ told_stop stop }
+{
+    match stop {
+        Some(Failure::Own(own)) => NotUpdated::Own(own),
+        Some(Failure::Stopped(stop)) => NotUpdated::Stopped(stop),
+        None => NotUpdated::Stopped(Stop::Conflict),
+    }
+}
+
+// What is told of a transaction that is committed.
+fn by_commit<O: Drop, E: Drop>(
+    start: Ts,
+    at: Ts,
+    value: Option<O>,
+) -> Result<Updated<O>, NotUpdated<E>>
+    ensures { result ≡ told_commit start at value }
+{
+    match value {
+        Some(value) => Ok(Updated {
+            start,
+            outcome: Outcome::Committed(at),
+            value,
+        }),
+        None => Err(NotUpdated::Unknown(start)),
+    }
+}
+
+// What is told of a transaction that wrote nothing.
+fn by_reads<O: Drop, E: Drop>(
+    start: Ts,
+    value: Option<O>,
+    stop: Option<Failure<E>>,
+) -> Result<Updated<O>, NotUpdated<E>>
+    ensures { result ≡ told_reads start value stop }
+{
+    match (value, stop) {
+        (Some(value), None) => Ok(Updated {
+            start,
+            outcome: Outcome::ReadOnly,
+            value,
+        }),
+        (_, stop) => Err(stopped(stop)),
+    }
+}
+
+// What is told of how a transaction ended.
+fn by_outcome<O: Drop, E: Drop>(
+    start: Ts,
+    outcome: Outcome,
+    value: Option<O>,
+    stop: Option<Failure<E>>,
+) -> Result<Updated<O>, NotUpdated<E>>
+    ensures { result ≡ told_end start outcome value stop }
+{
+    match outcome {
+        Outcome::Committed(at) => by_commit(start, at, value),
+        Outcome::ReadOnly => by_reads(start, value, stop),
+        Outcome::Aborted => Err(stopped(stop)),
+        Outcome::Unknown(_) => Err(NotUpdated::Unknown(start)),
+    }
+}
+
+// What is told of how an update ended.
+fn by_ended<J: JournalId, O: Drop, E: Drop>(ended: Ended<J, O, E>) -> Told<J, O, E>
+    ensures tells { TellsEnd ended result.0 }
+    ensures seats { result.1 ≡ ended.seats }
+{
+    let Ended {
+        start,
+        outcome,
+        value,
+        stop,
+        seats,
+    } = ended;
+    (by_outcome(start, outcome, value, stop), seats)
+}
+
+// What is told of an update without an outcome. A session that goes on is left as it is.
+fn by_unended<J: JournalId, O: Drop, E: Drop>(unended: Unended<J, E>) -> Told<J, O, E>
+    ensures { TellsNoEnd J.bounds unended result.0 result.1 }
+{
+    match unended {
+        Unended::Spent(seats) => (Err(NotUpdated::Spent), seats),
+        Unended::Open {
+            session,
+            resolves,
+            stop: _,
+        } => {
+            let start = session.start();
+            let begins = session.stop();
+            (Err(NotUpdated::Unknown(start)), Seats { begins, resolves })
+        }
+    }
+}
+
+/// What is told of an update, however it came out.
+pub(crate) fn told_of<J: JournalId, O: Drop, E: Drop>(
+    came: Result<Ended<J, O, E>, Unended<J, E>>,
+) -> Told<J, O, E>
+    ensures ended { IfOk came (λ e. TellsEnd e result.0 × (result.1 ≡ e.seats)) }
+    ensures unended { IfErr came (λ u. TellsNoEnd J.bounds u result.0 result.1) }
+{
+    match came {
+        Ok(ended) => by_ended(ended),
+        Err(unended) => by_unended(unended),
+    }
+}

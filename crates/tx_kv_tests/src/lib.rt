@@ -1,0 +1,5 @@
+//! Tests of what a program calls.
+#![tactic(auto)]
+
+#[cfg(test)]
+mod tests;

@@ -1,0 +1,60 @@
+//! Why a work went no further.
+ghost use Rattle.std.specs.Prelude.{◌≡◌};
+ghost use Rattle.tx_simple.specs.Failures.{may_pass, failure_in};
+
+use crate::stopping::Stop;
+use tx_types::Fault;
+
+/// Why a work, or the transaction that it was done in, went no further.
+#[derive(Debug, Drop)]
+pub enum Failure<E> {
+    /// The work refused, for a reason of its own.
+    Own(E),
+    /// The transaction was stopped.
+    Stopped(Stop),
+}
+
+impl<E> Failure<E> {
+    /// Whether it may go well in a transaction that begins later.
+    pub fn may_pass(&self) -> bool
+        ensures { result ≡ may_pass self.now }
+    {
+        match self {
+            Failure::Own(_) => false,
+            Failure::Stopped(stop) => stop.may_pass(),
+        }
+    }
+}
+
+impl<E> From<Stop> for Failure<E> {
+    ghost use Rattle.std.specs.Prelude.{◌≡◌};
+    ghost use Rattle.tx_simple.specs.declared.failure.Failure.TheVariants.{Stopped};
+
+    ghost from_gives = { λ stop failure. failure ≡ Stopped stop };
+
+    fn from(stop: Stop) -> Failure<E> {
+        Failure::Stopped(stop)
+    }
+}
+
+impl<E> From<Fault> for Failure<E> {
+    ghost use Rattle.std.specs.Prelude.{◌≡◌};
+    ghost use Rattle.tx_simple.specs.declared.failure.Failure.TheVariants.{Stopped};
+    ghost use Rattle.tx_simple.specs.Stops.{stop_of_fault};
+
+    ghost from_gives = { λ fault failure. failure ≡ Stopped (stop_of_fault fault) };
+
+    fn from(fault: Fault) -> Failure<E> {
+        Failure::Stopped(Stop::from(fault))
+    }
+}
+
+/// What went no further after a work had answered.
+pub(crate) fn failed_by<E>(done: Result<(), Stop>) -> Option<Failure<E>>
+    ensures { result ≡ failure_in done }
+{
+    match done {
+        Ok(()) => None,
+        Err(stop) => Some(Failure::Stopped(stop)),
+    }
+}
