@@ -3,7 +3,8 @@
 //!
 //! A line is one JSON array, which `tx_text` reads. The steps of the machine stand in
 //! `machine_step` and `listed_step`, the lines that say them in `step_line`, the words of verdicts
-//! in `words`, and in `reasons` the line that says why a step is not made.
+//! in `words`, in `reasons` the line that says why a step is not made, and in `writers` that of who
+//! wrote what a read claims, by the steps that the walk in `kept` keeps.
 #![tactic(auto)]
 
 mod all;
