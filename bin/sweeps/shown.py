@@ -48,10 +48,10 @@ def fault_in(lines):
 
 
 def status_for(lines):
-    """The status that the last line calls for."""
+    """The status that the lines call for: the last, or that of a no with its reason behind it."""
     if fault_in(lines) is not None:
         return 2
-    return 3 if lines and json.loads(lines[-1])[:2] == ["check", "no"] else 0
+    return 3 if any(line.startswith(b'["check","no"') for line in lines) else 0
 
 
 def is_json(line):

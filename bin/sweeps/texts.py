@@ -48,7 +48,7 @@ def rows_with(name, words):
     for at, (title, steps, shown) in enumerate(rows(name)):
         cases[f"{name}-{at + 1:03}"] = text_of(steps)
         wanted[f"{name}-{at + 1:03}"] = (status_for(shown), shown)
-    for path in sorted(os.listdir(DATA)) if name != "checked.rows" else []:
+    for path in sorted(os.listdir(DATA)) if name not in ("checked.rows", "reasons.rows") else []:
         if path.endswith(".script" if name == "scripts.rows" else ".trace"):
             cases[path] = read(f"{DATA}/{path}")
             shown = example(path)[1]
@@ -92,6 +92,7 @@ def all_rows():
     rows_with("scripts.rows", ["simulate"])
     rows_with("checked.rows", ["simulate", "--check"])
     rows_with("traces.rows", ["check"])
+    rows_with("reasons.rows", ["check", "--why"])
     runs()
 
 

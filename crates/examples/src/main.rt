@@ -4,8 +4,9 @@
 //! what it writes is shown in the file of its name with `.out` added. Scripts and runs are played
 //! over both families, and the run of a script is shown as `NAME.script.text`, of four as
 //! `NAME.script.svg` too. Many small ones stand in `scripts.rows`, `checked.rows` (played as
-//! `txkv simulate --check` does), `traces.rows` and `histories.rows` (judged as `txkv import` does,
-//! and the trace of each yes is checked), each with what it writes.
+//! `txkv simulate --check` does), `traces.rows`, `histories.rows` (judged as `txkv import` does, and
+//! the trace of each yes is checked) and `ordered.rows` (the same with `--sessions --strict`), each
+//! with what it writes.
 #![tactic(auto)]
 
 mod rows;
@@ -19,7 +20,7 @@ use std::sync::Wait;
 use std::thread::Threads;
 use tx_answers::{ImportEnd, ImportOptions, import};
 use tx_cells::Fresh;
-use tx_check::check;
+use tx_check::{check, check_with_reason};
 use tx_explain::{PictureForm, explain};
 use tx_flat::FlatCells;
 use tx_nested::NestedCells;
@@ -78,11 +79,27 @@ enum Kind {
     /// The same over nested maps.
     CheckedNested,
     Trace,
+    /// A trace with the reason of a no.
+    Reason,
     /// A history of another store.
     History,
     /// The same, and the trace of a yes is checked.
     TracedHistory,
+    /// A history that keeps the order of each process and of the clock.
+    Ordered,
+    /// The same, and the trace of a yes is checked.
+    TracedOrdered,
 }
+
+const NO_ORDER: Orders = Orders {
+    sessions: false,
+    strict: false,
+};
+
+const BOTH_ORDERS: Orders = Orders {
+    sessions: true,
+    strict: true,
+};
 
 // Plays a script over these families. How it ended, unless it broke off.
 fn plays<F: Fresh>(alloc: Global, text: &[u8], written: &mut Vec<u8>) -> Option<End> {
@@ -97,12 +114,15 @@ fn checks<F: Fresh>(alloc: Global, text: &[u8], written: &mut Vec<u8>) -> Option
 }
 
 // Judges a history, and writes a yes as its trace where that is asked for.
-fn judged(alloc: Global, text: &[u8], trace: bool, written: &mut Vec<u8>) -> Option<ImportEnd> {
+fn judged(
+    alloc: Global,
+    orders: Orders,
+    trace: bool,
+    text: &[u8],
+    written: &mut Vec<u8>,
+) -> Option<ImportEnd> {
     let options = ImportOptions {
-        orders: Orders {
-            sessions: false,
-            strict: false,
-        },
+        orders,
         trace,
         dot: false,
     };
@@ -112,8 +132,8 @@ fn judged(alloc: Global, text: &[u8], trace: bool, written: &mut Vec<u8>) -> Opt
 }
 
 // Judges a history. How it ended, unless it broke off; that the verdict is open, its line says.
-fn judges(alloc: Global, text: &[u8], written: &mut Vec<u8>) -> Option<End> {
-    Some(match judged(alloc, text, false, written)? {
+fn judges(alloc: Global, orders: Orders, text: &[u8], written: &mut Vec<u8>) -> Option<End> {
+    Some(match judged(alloc, orders, false, text, written)? {
         ImportEnd::Yes | ImportEnd::Open => End::Well,
         ImportEnd::No => End::No,
         ImportEnd::Faulted => End::Faulted,
@@ -121,16 +141,16 @@ fn judges(alloc: Global, text: &[u8], written: &mut Vec<u8>) -> Option<End> {
 }
 
 // The same; none where it is a yes whose trace is no run.
-fn judges_traced(alloc: Global, text: &[u8], written: &mut Vec<u8>) -> Option<End> {
+fn judges_traced(alloc: Global, orders: Orders, text: &[u8], written: &mut Vec<u8>) -> Option<End> {
     let mut trace = Vec::new(alloc);
-    if judged(alloc, text, true, &mut trace)? == ImportEnd::Yes {
+    if judged(alloc, orders, true, text, &mut trace)? == ImportEnd::Yes {
         let mut reader = trace.as_slice();
         let mut said = Vec::new(alloc);
         if check(alloc, &mut reader, &mut said).ok()? != End::Well {
             return None;
         }
     }
-    judges(alloc, text, written)
+    judges(alloc, orders, text, written)
 }
 
 impl Kind {
@@ -144,14 +164,17 @@ impl Kind {
             Kind::Checked => checks::<FlatCells>(alloc, text, written),
             Kind::CheckedNested => checks::<NestedCells>(alloc, text, written),
             Kind::Trace => check(alloc, &mut reader, written).ok(),
-            Kind::History => judges(alloc, text, written),
-            Kind::TracedHistory => judges_traced(alloc, text, written),
+            Kind::Reason => check_with_reason(alloc, &mut reader, written).ok(),
+            Kind::History => judges(alloc, NO_ORDER, text, written),
+            Kind::TracedHistory => judges_traced(alloc, NO_ORDER, text, written),
+            Kind::Ordered => judges(alloc, BOTH_ORDERS, text, written),
+            Kind::TracedOrdered => judges_traced(alloc, BOTH_ORDERS, text, written),
         }
     }
 }
 
-/// How what writes this text ends: its last line is a fault, says that a trace is no run, or is
-/// neither.
+/// How what writes this text ends: its last line is a fault, says that a trace is no run or why, or
+/// is neither.
 fn end_of(shown: &[u8]) -> End {
     let text = shown.trim_ascii_end();
     let last = match text.iter().rposition(|byte| *byte == b'\n') {
@@ -162,6 +185,8 @@ fn end_of(shown: &[u8]) -> End {
         End::Faulted
     } else if last.trim_ascii().starts_with(b"[\"check\",\"no\"")
         || last.trim_ascii().starts_with(b"[\"import\",\"no\"")
+        || last.trim_ascii().starts_with(b"[\"why\"")
+        || last.trim_ascii().starts_with(b"[\"wrote\"")
     {
         End::No
     } else {
@@ -264,9 +289,15 @@ fn main(rt: HostRuntime) -> Result<()> {
     println!(rt; "checked.rows, over nested maps: {nested} as shown")?;
     let traces = count_shown(&rt, "traces.rows", Kind::Trace)?;
     println!(rt; "traces.rows: {traces} as shown")?;
+    let reasons = count_shown(&rt, "reasons.rows", Kind::Reason)?;
+    println!(rt; "reasons.rows: {reasons} as shown")?;
     let histories = count_shown(&rt, "histories.rows", Kind::History)?;
     println!(rt; "histories.rows: {histories} as shown")?;
     let traced = count_shown(&rt, "histories.rows", Kind::TracedHistory)?;
     println!(rt; "histories.rows, with traces: {traced} as shown")?;
+    let ordered = count_shown(&rt, "ordered.rows", Kind::Ordered)?;
+    println!(rt; "ordered.rows: {ordered} as shown")?;
+    let traced = count_shown(&rt, "ordered.rows", Kind::TracedOrdered)?;
+    println!(rt; "ordered.rows, with traces: {traced} as shown")?;
     Ok(())
 }

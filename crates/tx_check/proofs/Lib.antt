@@ -16,3 +16,5 @@ pub mod Joins
 pub mod Told
 -- The lines that were read by a check that goes on.
 pub mod Onward
+-- The lines that were read by a walk that keeps their steps.
+pub mod Walks

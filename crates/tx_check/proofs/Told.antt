@@ -18,7 +18,8 @@ use Rattle.tx_check.specs.declared.checker.Halt.TheVariants.{Refused}
 use Rattle.tx_check.specs.declared.words.Verdict.TheVariants.{No}
 use Rattle.tx_check.specs.Check.{IsReason, Explained, IsVerdict, end_of, EndsWithReason, BreaksWithReason}
 use Rattle.tx_check.specs.Reasons.{reason_text}
-use Rattle.tx_check.specs.Turns.{verdict_of, StandsAt, Stops}
+use Rattle.tx_check.specs.Turns.{verdict_of, StandsAt, Stops, IsKept}
+use Rattle.tx_check.specs.Writers.{writer_text}
 use Rattle.tx_check.specs.Words.{words}
 
 module _ (lines : List (List ℕ)) (number : ℕ) (machine : Machine) (step : Step) where
@@ -31,16 +32,24 @@ module _ (lines : List (List ℕ)) (number : ℕ) (machine : Machine) (step : St
   pub never_none : IsWhy machine step None → StandsAt lines number machine step → ⊥
   never_none made at = at.5 (made (table_of (reverse at.1)) at.4)
 
-  -- the line of a no, and the line of a reason
-  pub explained_no : (stop : Halt) (first text : List ℕ) → stop ≡ Refused number machine step
+  -- the line of a no, the line of a reason, and that of who wrote what a read claims
+  pub explained_no : (stop : Halt) (steps : List Step) (first text : List ℕ) → stop ≡ Refused number machine step
       → first ≡ line_text (words (verdict_of stop))
       → (StandsAt lines number machine step
-      → (why : Why) × IsReason lines number why × (text ≡ first ++ reason_text number why))
-      → Stops lines stop → Explained lines (verdict_of stop) text
-  explained_no stop first text is line made =
+      → (why : Why) × IsReason lines number why
+      × (text ≡ first ++ (reason_text number why ++ writer_text steps number why)))
+      → Stops lines stop → IsKept lines stop steps → Explained lines (verdict_of stop) text
+  explained_no stop steps first text is line made =
       let no : first ≡ line_text (words (No number)) = line ∙ ap (λ s. line_text (words (verdict_of s))) is in
-      subst (λ s. Stops lines s → Explained lines (verdict_of s) text) (sym is)
-      (λ at. let one = made at in (one.0, one.1, one.2 ∙ ap (λ t. t ++ reason_text number one.0) no))
+      subst (λ s. Stops lines s → IsKept lines s steps → Explained lines (verdict_of s) text) (sym is)
+      (λ at kept. let one = made at in (
+        one.0,
+        kept.0,
+        steps,
+        one.1,
+        kept.1,
+        one.2 ∙ ap (λ t. t ++ (reason_text number one.0 ++ writer_text steps number one.0)) no,
+      ))
 
 -- ---- what is known of the same bytes
 
@@ -48,6 +57,11 @@ pub if_both : {X : Type 0} {P Q R : X → Type 0} (o : Option X) → ((x : X) �
     → IfSome o R
 if_both None f p q = tt
 if_both (Some x) f p q = f x p q
+
+pub if_three : {X : Type 0} {P Q R S : X → Type 0} (o : Option X) → ((x : X) → P x → Q x → R x → S x) → IfSome o P
+    → IfSome o Q → IfSome o R → IfSome o S
+if_three None f p q r = tt
+if_three (Some x) f p q r = f x p q r
 
 -- ---- how a check with its reason ends
 

@@ -49,7 +49,7 @@ pub left_at : (P : List ℕ → Type 0) (left : Option (List ℕ)) (rest : List 
 left_at P left rest is turns = subst (λ o. IfSome o P) is turns
 
 -- one more line says one more step
-Says-more : (number : ℕ) (lines : List (List ℕ)) (steps : List Step) (line : List ℕ) (step : Step)
+pub Says-more : (number : ℕ) (lines : List (List ℕ)) (steps : List Step) (line : List ℕ) (step : Step)
     → Says number lines steps → step_in (number + length lines) line ≡ Ok step
     → Says number (lines ++ line ∷ []) (steps ++ step ∷ [])
 Says-more number [] [] line step says is = (subst (λ n. step_in n line ≡ Ok step) (add-zero number) is, tt)
@@ -75,7 +75,7 @@ module _ {input : List ℕ} {left : Option (List ℕ)} {machine : Machine} {numb
       only (lines_of input) Yes (soon.steps, subst (λ ls. Says 1 ls soon.steps) (sym all) soon.says, soon.run)
 
   -- the line that is next
-  reached : (line : List ℕ) (more : List (List ℕ)) → lines_of soon.rest ≡ line ∷ more
+  pub reached : (line : List ℕ) (more : List (List ℕ)) → lines_of soon.rest ≡ line ∷ more
       → Reaches (lines_of input) (number + 1) line soon.steps
   reached line more is = record {
     before = soon.before;

@@ -19,6 +19,7 @@ use Rattle.tx_text.specs.Lines.{lines_of, max_line, max_lines}
 use Rattle.tx_text.specs.Parts.{json_of}
 use Rattle.tx_check.specs.MachineSteps.{step_of}
 use Rattle.tx_check.specs.Reasons.{reason_text}
+use Rattle.tx_check.specs.Writers.{writer_text}
 use Rattle.tx_text.specs.Output.{AppendsPart}
 use Rattle.tx_text.specs.Texts.{line_text}
 use Rattle.tx_check.specs.Words.{words}
@@ -94,10 +95,12 @@ abbrev pub IsReason : List (List ℕ) → ℕ → Why → Type 0
 IsReason lines number why = (line : List ℕ) × (steps : List Step) × (step : Step) × Reaches lines number line steps
     × (step_in number line ≡ Ok step) × IsRefused (table_of (reverse steps)) step why
 
--- what is written of a verdict: its line, and after a no the line of a reason
+-- what is written of a verdict: its line, and after a no the line of a reason, and that of who wrote
+-- what a read claims, by the steps of the lines before
 abbrev pub Explained : List (List ℕ) → Verdict → List ℕ → Type 0
-Explained lines (No number) text = (why : Why) × IsReason lines number why
-    × (text ≡ line_text (words (No number)) ++ reason_text number why)
+Explained lines (No number) text = (why : Why) × (line : List ℕ) × (steps : List Step) × IsReason lines number why
+    × Reaches lines number line steps
+    × (text ≡ line_text (words (No number)) ++ (reason_text number why ++ writer_text steps number why))
 Explained lines verdict text = text ≡ line_text (words verdict)
 
 -- a check that was not broken off has written that, and nothing else

@@ -9,6 +9,8 @@ use Rattle.tx_check.specs.declared.checker.LineTurn.{LineTurn}
 use Rattle.tx_check.specs.declared.checker.LineTurn.TheVariants.{End, Made, Refused, Faulted}
 use Rattle.tx_check.specs.declared.checker.Halt.{Halt}
 use Rattle.tx_check.specs.declared.checker.Halt.TheVariants as stop
+use Rattle.tx_check.specs.declared.kept.StepTurn.{StepTurn}
+use Rattle.tx_check.specs.declared.kept.StepTurn.TheVariants as with
 use Rattle.tx_check.specs.declared.words.Verdict.{Verdict}
 use Rattle.tx_check.specs.declared.words.Verdict.TheVariants.{Yes, No, Fault}
 use Rattle.tx_text.specs.Lines.{lines_of}
@@ -44,3 +46,17 @@ StandsAt lines number machine step = (line : List ℕ) × (steps : List Step) ×
 abbrev pub Stops : List (List ℕ) → Halt → Type 0
 Stops lines (stop.Refused number machine step) = StandsAt lines number machine step
 Stops lines _ = Unit {0}
+
+-- the same of a turn that comes with its step
+abbrev pub StepTurns : List ℕ → Option (List ℕ) → Machine → Machine → ℕ → StepTurn → Type 0
+StepTurns bytes left old new number with.End = Turns bytes left old new number End
+StepTurns bytes left old new number (with.Made step) = (line : List ℕ) × (rest : List ℕ)
+    × (left ≡ Some rest) × (lines_of bytes ≡ line ∷ lines_of rest)
+    × (step_in number line ≡ Ok step) × Makes old new step
+StepTurns bytes left old new number (with.Refused step) = Turns bytes left old new number (Refused step)
+StepTurns bytes left old new number (with.Faulted cause) = Turns bytes left old new number (Faulted cause)
+
+-- these are the steps of the lines before the one whose step was refused
+abbrev pub IsKept : List (List ℕ) → Halt → List Step → Type 0
+IsKept lines (stop.Refused number machine step) steps = (line : List ℕ) × Reaches lines number line steps
+IsKept lines _ steps = Unit {0}

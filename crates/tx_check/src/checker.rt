@@ -5,17 +5,15 @@ ghost use Rattle.std.specs.Io.KnownBytes.{Appends};
 ghost use Rattle.serde_json.specs.View.{view};
 ghost use Rattle.tx_text.specs.Parts.{parts_items};
 ghost use Rattle.tx_check.specs.MachineSteps.{step_of, step_of_items};
-ghost use Rattle.tx_check.specs.Check.{step_of_form, step_in, IsVerdict, Ends, Breaks, end_of, IsReason, Explained, EndsWithReason, BreaksWithReason};
-ghost use Rattle.tx_check.specs.Reasons.{reason_text};
-ghost use Rattle.tx_check.specs.Turns.{Turns, verdict_of, StandsAt, Stops};
-ghost use Rattle.tx_machine.specs.declared.reason.Why.{Why};
+ghost use Rattle.tx_check.specs.Check.{step_of_form, step_in, IsVerdict, Ends, Breaks, end_of, EndsWithReason, BreaksWithReason};
+ghost use Rattle.tx_check.specs.Turns.{Turns, verdict_of};
 ghost use Rattle.tx_machine.specs.declared.step.Step.{Step};
 ghost use Rattle.tx_text.specs.Lines.{lines_of};
 ghost use Rattle.tx_text.specs.Output.{AppendsPart};
 
+use crate::kept::{explained, walk_kept};
 use crate::listed_step::listed_step;
 use crate::machine_step::{UnreadStep, machine_step};
-use crate::reasons::put_reason;
 use crate::words::{Verdict, verdict_line};
 use serde_json::Value;
 use std::alloc::Global;
@@ -53,24 +51,26 @@ pub fn check<R: BufRead, W: Write>(
 }
 
 /// The same, and after a no writes one line more, `["why",n,word,{..}]`, with a reason for which
-/// the machine does not make the step of line n.
+/// the machine does not make the step of line n. Where that is a read or a scan that claims a value,
+/// another one, `["wrote",n,{..}]`, says who wrote it and what became of him, or
+/// `["wrote",n,null]` that no line before puts it.
 pub fn check_with_reason<R: BufRead, W: Write>(
     alloc: Global,
     reader: &mut R,
     writer: &mut W,
 ) -> Result<End, Broken>
-    // Not broken off, it has written the line of its verdict, after a no the line of a reason, and
-    // nothing else.
+    // Not broken off, it has written the line of its verdict, after a no the line of a reason and
+    // that of who wrote what a read claims, and nothing else.
     ensures ends { IfOk result (λ end. IfSome (R.remaining reader.old)
         (λ input. EndsWithReason input (W.contents writer.old) (W.contents writer.new) end)) }
     // Broken off, it has written nothing, or where a write failed a beginning of that.
     ensures breaks { IfErr result (λ broken. IfSome (R.remaining reader.old)
         (λ input. BreaksWithReason input (W.contents writer.old) (W.contents writer.new) broken)) }
 {
-    let stop = walk(alloc, reader)?;
-    let text = explained(alloc, &stop)?;
+    let walked = walk_kept(alloc, reader)?;
+    let text = explained(alloc, walked.steps.as_slice(), &walked.halt)?;
     write_out(writer, text.as_slice())?;
-    Ok(end_of_check(stop.verdict()))
+    Ok(end_of_check(walked.halt.verdict()))
 }
 
 /// Writes a text and hands it on, or writes the first of it before a failure, which is `Output`.
@@ -95,7 +95,7 @@ fn end_of_check(verdict: Verdict) -> End
 
 // Where the walk over the lines of a trace stops.
 #[derive(Drop)]
-enum Halt {
+pub(crate) enum Halt {
     /// At their end.
     End,
     /// At the line of this number, whose step the machine does not make. It is as it was before.
@@ -105,7 +105,7 @@ enum Halt {
 }
 
 impl Halt {
-    fn verdict(&self) -> Verdict
+    pub(crate) fn verdict(&self) -> Verdict
         ensures { result ≡ verdict_of self.now }
     {
         match self {
@@ -116,39 +116,10 @@ impl Halt {
     }
 }
 
-// Appends the line of a reason for which the machine does not make the step.
-fn put_why(text: &mut Vec<u8>, number: u64, machine: &Machine, step: &Step) -> Result<(), Broken>
-    ensures { OnOk result ((lines : List (List ℕ)) → StandsAt lines number machine.now step.now
-        → (why : Why) × IsReason lines number why × (text.new.items ≡ text.old.items ++ reason_text number why)) }
-{
-    match machine.why(step) {
-        Ok(Some(why)) => Ok(put_reason(text, number, &why)?),
-        // It makes the step.
-        Ok(None) => Ok(()),
-        Err(_) => Err(Broken::Memory),
-    }
-}
-
-// The line of the verdict, and after a no the line of its reason.
-fn explained(alloc: Global, stop: &Halt) -> Result<Vec<u8>, Broken>
-    ensures { IfOk result (λ text. (lines : List (List ℕ)) → Stops lines stop.now
-        → Explained lines (verdict_of stop.now) text.items) }
-{
-    let mut text = verdict_line(alloc, stop.verdict())?.into_bytes();
-    match stop {
-        Halt::Refused(number, machine, step) => {
-            put_why(&mut text, *number, machine, step)?;
-            Ok(text)
-        }
-        Halt::End | Halt::Faulted(_, _) => Ok(text),
-    }
-}
-
 // Walks over the lines up to the first that is refused or is no step.
 fn walk<R: BufRead>(alloc: Global, reader: &mut R) -> Result<Halt, Broken>
-    ensures verdict { IfOk result (λ stop. IfSome (R.remaining reader.old)
+    ensures { IfOk result (λ stop. IfSome (R.remaining reader.old)
         (λ input. IsVerdict (lines_of input) (verdict_of stop))) }
-    ensures stops { IfOk result (λ stop. IfSome (R.remaining reader.old) (λ input. Stops (lines_of input) stop)) }
 {
     let mut machine = Machine::new(alloc);
     let mut line = Vec::new(alloc);

@@ -14,21 +14,21 @@ use tx_types::{Fate, Key, Ts, Value};
 
 // ---- members, each behind its name as it is written
 
-fn put_null(out: &mut Vec<u8>, name: &[u8]) -> Result<(), AllocError>
+pub(crate) fn put_null(out: &mut Vec<u8>, name: &[u8]) -> Result<(), AllocError>
     ensures { OnOk result (out.new.items ≡ out.old.items ++ (name.now ++ compact_text null)) }
 {
     out.extend_from_slice(name)?;
     out.extend_from_slice(b"null")
 }
 
-fn put_count(out: &mut Vec<u8>, name: &[u8], n: u64) -> Result<(), AllocError>
+pub(crate) fn put_count(out: &mut Vec<u8>, name: &[u8], n: u64) -> Result<(), AllocError>
     ensures { OnOk result (out.new.items ≡ out.old.items ++ (name.now ++ decimal n)) }
 {
     out.extend_from_slice(name)?;
     put_digits(out, n)
 }
 
-fn put_stamp(out: &mut Vec<u8>, name: &[u8], at: Ts) -> Result<(), AllocError>
+pub(crate) fn put_stamp(out: &mut Vec<u8>, name: &[u8], at: Ts) -> Result<(), AllocError>
     ensures { OnOk result (out.new.items ≡ out.old.items ++ (name.now ++ decimal at)) }
 {
     put_count(out, name, at.get())
@@ -74,7 +74,7 @@ fn standing_word(is: &Standing) -> &'static [u8]
     }
 }
 
-fn put_standing(out: &mut Vec<u8>, name: &[u8], is: &Standing) -> Result<(), AllocError>
+pub(crate) fn put_standing(out: &mut Vec<u8>, name: &[u8], is: &Standing) -> Result<(), AllocError>
     ensures { OnOk result (out.new.items ≡ out.old.items
         ++ (name.now ++ compact_text (string (standing_word is.now)))) }
 {
@@ -83,7 +83,7 @@ fn put_standing(out: &mut Vec<u8>, name: &[u8], is: &Standing) -> Result<(), All
 }
 
 // Where a transaction committed, or null.
-fn put_committed(out: &mut Vec<u8>, name: &[u8], is: &Standing) -> Result<(), AllocError>
+pub(crate) fn put_committed(out: &mut Vec<u8>, name: &[u8], is: &Standing) -> Result<(), AllocError>
     ensures { OnOk result (out.new.items ≡ out.old.items ++ (name.now ++ compact_text (committed_data is.now))) }
 {
     match is {

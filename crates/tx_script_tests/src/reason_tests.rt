@@ -147,7 +147,8 @@ static COMMITTED: &str = r#"["draw",1]
 static OF_COMMITTED: [(&str, &str); 13] = [
     (
         r#"["read",4,"a","0"]"#,
-        r#""read",{"key":"a","at":4,"claims":"0","is":"x","by":1,"committed":2}"#,
+        r#""read",{"key":"a","at":4,"claims":"0","is":"x","by":1,"committed":2}]
+["wrote",10,null"#,
     ),
     (
         r#"["read",4,"a",null]"#,
@@ -159,19 +160,23 @@ static OF_COMMITTED: [(&str, &str); 13] = [
     ),
     (
         r#"["read",4,"b","y"]"#,
-        r#""read",{"key":"b","at":4,"claims":"y","is":null,"by":3,"committed":4}"#,
+        r#""read",{"key":"b","at":4,"claims":"y","is":null,"by":3,"committed":4}]
+["wrote",10,{"line":3,"start":1,"is":"committed","committed":2,"ended":4}"#,
     ),
     (
         r#"["read",4,"c",""]"#,
-        r#""read",{"key":"c","at":4,"claims":"","is":null,"by":null,"committed":null}"#,
+        r#""read",{"key":"c","at":4,"claims":"","is":null,"by":null,"committed":null}]
+["wrote",10,null"#,
     ),
     (
         r#"["read",1,"a","x"]"#,
-        r#""read",{"key":"a","at":1,"claims":"x","is":null,"by":null,"committed":null}"#,
+        r#""read",{"key":"a","at":1,"claims":"x","is":null,"by":null,"committed":null}]
+["wrote",10,{"line":3,"start":1,"is":"committed","committed":2,"ended":4}"#,
     ),
     (
         r#"[ "read" , 4 , "\u00e9\"\u000a\\" , "\t" ]"#,
-        r#""read",{"key":"é\"\n\\","at":4,"claims":"\t","is":null,"by":null,"committed":null}"#,
+        r#""read",{"key":"é\"\n\\","at":4,"claims":"\t","is":null,"by":null,"committed":null}]
+["wrote",10,null"#,
     ),
     (
         r#"["scan",4,"a","z",9,[]]"#,
@@ -179,11 +184,13 @@ static OF_COMMITTED: [(&str, &str); 13] = [
     ),
     (
         r#"["scan",4,"a","z",9,[["a","x"],["b","y"]]]"#,
-        r#""read",{"key":"b","at":4,"claims":"y","is":null,"by":3,"committed":4}"#,
+        r#""read",{"key":"b","at":4,"claims":"y","is":null,"by":3,"committed":4}]
+["wrote",10,{"line":3,"start":1,"is":"committed","committed":2,"ended":4}"#,
     ),
     (
         r#"["scan",3,"a","z",9,[["a","x"],["b","x"]]]"#,
-        r#""read",{"key":"b","at":3,"claims":"x","is":"y","by":1,"committed":2}"#,
+        r#""read",{"key":"b","at":3,"claims":"x","is":"y","by":1,"committed":2}]
+["wrote",10,null"#,
     ),
     (
         r#"["scan",3,"a","z",1,[["a","x"],["b","y"]]]"#,

@@ -1,5 +1,5 @@
 use Rattle.std.proofs.Common.{arith}
-use Rattle.tx_check.proofs.Traces.{if_some, so_far, ended, refused, stands_at, faulted, made}
+use Rattle.tx_check.proofs.Traces.{if_some, so_far, ended, refused, faulted, made}
 use Rattle.tx_check.proofs.checker.walk.Goals as goal
 
 pub lines-init : goal.lines-init
@@ -13,26 +13,20 @@ lines-preserved g c =
           c.lines.invariant.1,
     )
 
-pub returns-in-Refused-clause-verdict : goal.returns-in-Refused-clause-verdict
-returns-in-Refused-clause-verdict g c =
+pub returns-in-Refused : goal.returns-in-Refused
+returns-in-Refused g c =
     let turns = rw c.in-Refused.is at c.in_ok-next.ensures.turns in
     if_some _ (λ input soon. refused soon (g.R.Read.remaining c.next.new.reader) c.next.new.machine c.in-Refused.step
     turns) c.lines.invariant.1
 
-pub returns-in-Refused-clause-stops : goal.returns-in-Refused-clause-stops
-returns-in-Refused-clause-stops g c =
-    let turns = rw c.in-Refused.is at c.in_ok-next.ensures.turns in
-    if_some _ (λ input soon. stands_at soon (g.R.Read.remaining c.next.new.reader) c.next.new.machine c.in-Refused.step
-    turns) c.lines.invariant.1
-
-pub returns-in-End-clause-verdict : goal.returns-in-End-clause-verdict
-returns-in-End-clause-verdict g c =
+pub returns-in-End : goal.returns-in-End
+returns-in-End g c =
     let turns = rw c.in-End.is at c.in_ok-next.ensures.turns in
     if_some _ (λ input soon. ended soon (g.R.Read.remaining c.next.new.reader) c.next.new.machine turns)
     c.lines.invariant.1
 
-pub returns-in-Faulted-clause-verdict : goal.returns-in-Faulted-clause-verdict
-returns-in-Faulted-clause-verdict g c =
+pub returns-in-Faulted : goal.returns-in-Faulted
+returns-in-Faulted g c =
     let turns = rw c.in-Faulted.is at c.in_ok-next.ensures.turns in
     if_some _ (λ input soon. faulted soon (g.R.Read.remaining c.next.new.reader) c.next.new.machine c.in-Faulted.cause
     turns) c.lines.invariant.1

@@ -1,5 +1,5 @@
 use Rattle.tx_check.proofs.Told.{told, never_none}
-use Rattle.tx_check.proofs.checker.put_why.Goals as goal
+use Rattle.tx_check.proofs.kept.put_why.Goals as goal
 
 pub returns-in-Ok-Some : goal.returns-in-Ok-Some
 returns-in-Ok-Some c =
@@ -7,7 +7,7 @@ returns-in-Ok-Some c =
     λ lines at. (
       c.in-Ok-Some.why,
       told lines c.args.number c.args.machine.now c.args.step.now c.in-Ok-Some.why is at,
-      c.in_ok-put_reason-in-Ok-Some.ensures,
+      c.in_ok-put_both-in-Ok-Some.ensures,
     )
 
 pub returns-in-Ok-None : goal.returns-in-Ok-None
