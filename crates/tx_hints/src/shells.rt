@@ -176,9 +176,9 @@ fn put_fish(out: &mut String, program: &Command<'_>) -> Result<(), AllocError> {
     Ok(())
 }
 
-/// What completes the command lines of a program called `txkv` in a shell, as a text that this shell
-/// reads: its commands, their options, and the words that a value may be where they are a few. Names
-/// of files are completed as the shell does by itself. Refused where a growth is.
+/// What completes the command lines of a program called `txkv` in a shell, as a text that it reads:
+/// the commands, their options, and the words that a value may be where they are a few. Names of
+/// files are completed as the shell does by itself. Refused where a growth is.
 pub fn completions(
     alloc: Global,
     program: &Command<'_>,
