@@ -3,7 +3,8 @@ use crate::cells::{CellsKind, cells_of, cells_option};
 use crate::help;
 use clap::builder::ValueParser;
 use clap::{Arg, ArgAction, ArgMatches, Command, Error};
-use std::alloc::Global;
+use std::alloc::{AllocError, Global};
+use tx_hints::Shell;
 use tx_types::limits::MAX_WORKERS;
 
 /// The longest that a version may be kept, in ticks: as long as all timestamps last.
@@ -226,9 +227,29 @@ fn import<'a>(alloc: Global) -> Result<Command<'a>, Error> {
     Ok(command)
 }
 
-/// The command that the words ask for, the first of which is the program; `Err` also where they ask
-/// for help or the version.
-pub fn parse<'a>(alloc: Global, words: &'a [String]) -> Result<ArgMatches<'a>, Error> {
+static SHELLS: [&str; 3] = ["bash", "zsh", "fish"];
+
+fn completions<'a>(alloc: Global) -> Result<Command<'a>, Error> {
+    let shell = Arg::new(alloc, "shell")
+        .value_name("SHELL")
+        .help("The shell: bash, zsh or fish")
+        .required(true)
+        .value_parser(ValueParser::Names(&SHELLS));
+    let command = Command::new(alloc, "completions")
+        .about(help::COMPLETIONS_ABOUT)
+        .after_help(help::COMPLETIONS_HELP)
+        .arg(shell)?;
+    Ok(command)
+}
+
+fn refusals<'a>(alloc: Global) -> Command<'a> {
+    Command::new(alloc, "refusals")
+        .about(help::REFUSALS_ABOUT)
+        .after_help(help::REFUSALS)
+}
+
+// The program with its commands, as a command line may say them.
+fn program<'a>(alloc: Global) -> Result<Command<'a>, Error> {
     let command = Command::new(alloc, "txkv")
         .about(help::ABOUT)
         .version("0.1.0")
@@ -238,6 +259,42 @@ pub fn parse<'a>(alloc: Global, words: &'a [String]) -> Result<ArgMatches<'a>, E
         .subcommand(explain(alloc)?)?
         .subcommand(run(alloc)?)?
         .subcommand(check(alloc)?)?
-        .subcommand(import(alloc)?)?;
-    command.try_get_matches_from(words)
+        .subcommand(import(alloc)?)?
+        .subcommand(refusals(alloc))?
+        .subcommand(completions(alloc)?)?;
+    Ok(command)
+}
+
+// The shell that is named.
+fn shell_of(asked: &ArgMatches<'_>) -> Shell {
+    match asked.get_str("shell") {
+        Some("zsh") => Shell::Zsh,
+        Some("fish") => Shell::Fish,
+        _ => Shell::Bash,
+    }
+}
+
+// A text that is all that is shown, as help is.
+fn text_alone(alloc: Global, text: &str) -> Error {
+    let shown = Command::new(alloc, "txkv").override_help(text);
+    match shown.try_get_matches_from(&["txkv", "--help"]) {
+        Err(error) => error,
+        // Who asks for help gets no matches.
+        Ok(_) => Error::from(AllocError),
+    }
+}
+
+/// The command that the words ask for, the first of which is the program; `Err` also where they ask
+/// for what is only shown: help, the version, the table of refusals, and what completes command
+/// lines in a shell.
+pub fn parse<'a>(alloc: Global, words: &'a [String]) -> Result<ArgMatches<'a>, Error> {
+    let matches = program(alloc)?.try_get_matches_from(words)?;
+    match matches.subcommand() {
+        Some(("refusals", _)) => Err(text_alone(alloc, help::REFUSALS)),
+        Some(("completions", asked)) => {
+            let text = tx_hints::completions(alloc, &program(alloc)?, shell_of(asked))?;
+            Err(text_alone(alloc, text.as_str()))
+        }
+        _ => Ok(matches),
+    }
 }

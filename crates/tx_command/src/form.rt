@@ -1,5 +1,6 @@
 //! The members that each step has, for who is told what is wrong with a line.
 use crate::CommandTask;
+use std::alloc::{AllocError, Global};
 
 /// What a member may be.
 #[derive(Clone, Copy, Debug, PartialEq, Eq)]
@@ -165,4 +166,48 @@ pub(crate) fn form_of(task: CommandTask, number: u64, word: &str) -> Option<Form
         }
         CommandTask::Import(_) => None,
     }
+}
+
+// The words of all steps.
+static WORDS: [&str; 25] = [
+    "begin",
+    "put",
+    "insert",
+    "delete",
+    "lock",
+    "get",
+    "scan",
+    "declare",
+    "prewrite",
+    "draw",
+    "commit",
+    "abort",
+    "heartbeat",
+    "finish",
+    "stop",
+    "resolve",
+    "deliver",
+    "gc",
+    "read",
+    "tick",
+    "versions",
+    "regions",
+    "seed",
+    "transfer",
+    "answer",
+];
+
+/// The words of the steps that a task reads in the line of this number.
+pub(crate) fn words_of(
+    alloc: Global,
+    task: CommandTask,
+    number: u64,
+) -> Result<Vec<&'static str>, AllocError> {
+    let mut words = Vec::new(alloc);
+    'words: for word in WORDS.iter() {
+        if form_of(task, number, word).is_some() {
+            words.push(*word)?;
+        }
+    }
+    Ok(words)
 }

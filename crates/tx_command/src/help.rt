@@ -127,3 +127,33 @@ Examples:
   txkv import --strict history.jsonl    The same, by the clock as well: no or open, and not yet yes
   txkv import --trace history.jsonl     A yes as steps, for txkv check
   txkv import --dot history.jsonl       The cycle of a no for Graphviz"#;
+
+pub(crate) static REFUSALS_ABOUT: &str = "Tell what each refusal means, E1 to E17";
+
+/// The refusals, a line each.
+pub(crate) static REFUSALS: &str =
+    r#"A refusal is the reply of its line, and the script goes on; with E16 it ends. Behind the number stands what is in brackets:
+  E1   KeyIsLocked        Another transaction's lock stands in the way [the lock's key, start, primary, minimum and mode]
+  E2   WriteConflict      A newer committed record of another transaction stands on the key [its start and commit]
+  E3   AlreadyRolledBack  The transaction's rollback stands on the key
+  E4   AlreadyCommitted   The transaction's commit stands on the key [its commit]
+  E5   CommitTsExpired    A commit below the lock's minimum: another may be drawn [the minimum]
+  E6   TxnLockNotFound    Neither lock nor record of the transaction stands on the key
+  E7   BelowSafePoint     A timestamp below the safe point, or a start below the last collection [that safe point]
+  E8   FutureTimestamp    A timestamp above the last number that the region loaded [that number]
+  E9   LocksRemain        Collection finds a lock that started below the safe point [the lock, as E1]
+  E10  TxnNotFound        A status is asked, nothing stands, and no rollback is wanted
+  E11  OracleSpent        A seat has drawn its 2^32 ticks
+  E12  OutOfMemory        A growth was refused
+  E13  KeyLength          A key not of 1 to 512 bytes
+  E14  ValueLength        A value over 65,536 bytes
+  E15  TooManyKeys        Over 1,024 keys; of an async transaction over 256
+  E16  ScriptFault        A script or a trace cannot go on [the cause]: standard error says why
+  E17  AlreadyExists      A key that is to be inserted has a value, in the buffer or at the start"#;
+
+pub(crate) static COMPLETIONS_ABOUT: &str = "Write what completes command lines in a shell";
+
+pub(crate) static COMPLETIONS_HELP: &str = r#"Examples:
+  txkv completions bash > ~/.local/share/bash-completion/completions/txkv
+  txkv completions zsh > ~/.zfunc/_txkv                        With ~/.zfunc among the folders of fpath
+  txkv completions fish > ~/.config/fish/completions/txkv.fish"#;

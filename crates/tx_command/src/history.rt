@@ -2,6 +2,7 @@
 use crate::show::shown;
 use serde_json::Value;
 use std::alloc::{AllocError, Global};
+use tx_hints::meant;
 
 // Whether a value is a name: a string, or a whole number.
 fn is_name(value: &Value) -> bool {
@@ -34,6 +35,17 @@ fn is_op(value: &Value) -> bool {
     }
 }
 
+// The word that an operation begins with, or an empty one.
+fn word_of(op: &Value) -> &str {
+    match op.as_array() {
+        Some(members) => match members.first() {
+            Some(word) => word.as_str().unwrap_or_default(),
+            None => "",
+        },
+        None => "",
+    }
+}
+
 // Why a transaction's operations are none.
 fn wrong_ops(alloc: Global, value: &Value) -> Result<Option<String>, AllocError> {
     let Some(ops) = value.get("ops").and_then(Value::as_array) else {
@@ -42,9 +54,10 @@ fn wrong_ops(alloc: Global, value: &Value) -> Result<Option<String>, AllocError>
     match ops.iter().find(|op| !is_op(op)) {
         None => Ok(None),
         Some(op) => {
+            let meant = meant(alloc, word_of(op), &["append"])?;
             let op = shown(alloc, op)?;
             Ok(Some(format!(in alloc;
-                "{op} is no operation ([\"append\",key,value], [\"w\",key,value], [\"r\",key,values])"
+                "{op} is no operation ([\"append\",key,value], [\"w\",key,value], [\"r\",key,values]){meant}"
             )?))
         }
     }

@@ -1,6 +1,8 @@
 //! Whether a member of a line is what its step wants there, and what that is.
 use crate::form::Kind;
 use serde_json::Value;
+use std::alloc::{AllocError, Global};
+use tx_hints::meant;
 use tx_steps::MAX_AMOUNT;
 use tx_types::limits::{
     MAX_KEY_BYTES, MAX_REGIONS, MAX_SCAN_ROWS, MAX_TICK, MAX_TTL, MAX_VALUE_BYTES,
@@ -153,5 +155,15 @@ pub(crate) fn rule_of(kind: Kind) -> (&'static str, &'static str) {
             r#"[[key,"put",value],[key,"insert",value],[key,"delete"],[key,"lock"],..]"#,
         ),
         Kind::Rows => ("list of rows", "[[key,value],..]"),
+    }
+}
+
+/// The end of a sentence on a word that is no member of this kind: which was meant, where there are
+/// a few and one of them is near.
+pub(crate) fn meant_for(alloc: Global, kind: Kind, word: &str) -> Result<String, AllocError> {
+    match kind {
+        Kind::Mode => meant(alloc, word, &["two-phase", "async"]),
+        Kind::Fate => meant(alloc, word, &["committed", "aborted"]),
+        _ => Ok(String::new(alloc)),
     }
 }

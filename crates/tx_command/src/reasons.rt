@@ -1,13 +1,14 @@
 //! Why a line is a fault, in a sentence for who wrote it: the line, the member and the rule.
 use crate::CommandTask;
 use crate::faults::NotedFaults;
-use crate::form::{Form, More, form_of};
+use crate::form::{Form, More, form_of, words_of};
 use crate::history::wrong_transaction;
-use crate::member::{is_of, rule_of};
+use crate::member::{is_of, meant_for, rule_of};
 use crate::show::shown;
 use crate::state::{too_many, wrong_name, wrong_state};
 use serde_json::Value;
 use std::alloc::{AllocError, Global};
+use tx_hints::{meant, wrong_json};
 use tx_types::Cause;
 
 // The word of a cause, as the line of a fault has it.
@@ -42,8 +43,35 @@ fn no_such(
     what: &str,
     rule: &str,
 ) -> Result<Option<String>, AllocError> {
+    no_such_word(alloc, member, what, rule, "")
+}
+
+// A member is not the word that it should be, and which was meant.
+fn no_such_word(
+    alloc: Global,
+    member: &Value,
+    what: &str,
+    rule: &str,
+    meant: &str,
+) -> Result<Option<String>, AllocError> {
     let member = shown(alloc, member)?;
-    Ok(Some(format!(in alloc; "{member} is no {what} ({rule})")?))
+    Ok(Some(format!(in alloc; "{member} is no {what} ({rule}){meant}")?))
+}
+
+// Why there is no step with this word among those of a task.
+fn unknown_step(
+    alloc: Global,
+    task: CommandTask,
+    number: u64,
+    word: &str,
+) -> Result<String, AllocError> {
+    let command = command_of(task);
+    if word == "regions" && command != "check" {
+        return "only line 1 may say the regions".to_string(alloc);
+    }
+    let words = words_of(alloc, task, number)?;
+    let meant = meant(alloc, word, words.as_slice())?;
+    format!(in alloc; "\"{word}\" is no step of txkv {command}{meant}")
 }
 
 // A member stands where the step has ended.
@@ -71,7 +99,12 @@ fn wrong_delivery(alloc: Global, rest: &[Value]) -> Result<Option<String>, Alloc
             }
             beyond(alloc, more)
         }
-        _ => no_such(alloc, first, "delivery", "lose, lose-reply, repeat, hold"),
+        _ => {
+            let word = first.as_str().unwrap_or_default();
+            let meant = meant(alloc, word, &["lose", "lose-reply", "repeat", "hold"])?;
+            let rule = "lose, lose-reply, repeat, hold";
+            no_such_word(alloc, first, "delivery", rule, meant.as_str())
+        }
     }
 }
 
@@ -131,7 +164,8 @@ fn wrong_members(
     'members: for (kind, member) in form.members.iter().zip(members) {
         if !is_of(*kind, member) {
             let (what, rule) = rule_of(*kind);
-            return no_such(alloc, member, what, rule);
+            let meant = meant_for(alloc, *kind, member.as_str().unwrap_or_default())?;
+            return no_such_word(alloc, member, what, rule, meant.as_str());
         }
     }
     match members.get(form.members.len()..) {
@@ -157,11 +191,7 @@ fn wrong_step(
     members: &[Value],
 ) -> Result<Option<String>, AllocError> {
     let Some(form) = form_of(task, number, word) else {
-        let command = command_of(task);
-        if word == "regions" && command != "check" {
-            return Ok(Some("only line 1 may say the regions".to_string(alloc)?));
-        }
-        return Ok(Some(format!(in alloc; "\"{word}\" is no step of txkv {command}")?));
+        return Ok(Some(unknown_step(alloc, task, number, word)?));
     };
     if is_to_itself(word, members) {
         return Ok(Some("a transfer moves between two different keys".to_string(alloc)?));
@@ -214,7 +244,7 @@ pub fn why(
             _ => wrong_value(alloc, task, fault, &value),
         },
         Err(error) if error.is_memory() => Err(AllocError),
-        Err(error) => Ok(Some(format!(in alloc; "the line is no JSON value: {error}")?)),
+        Err(error) => Ok(Some(wrong_json(alloc, line, &error)?)),
     }
 }
 

@@ -126,10 +126,10 @@ fn command_lines_say_families(rt: HostRuntime) -> Result<(), Fail> {
 const TRY_HELP: &str = "\n\nFor more information, try '--help'.\n";
 
 // Faults of the command line, and what is told of them before that last line.
-static FAULTS: [(&str, &str); 17] = [
+static FAULTS: [(&str, &str); 19] = [
     (
         "",
-        "error: 'txkv' requires a subcommand but one was not provided\n  [subcommands: simulate, explain, run, check, import, help]\n\nUsage: txkv <COMMAND>",
+        "error: 'txkv' requires a subcommand but one was not provided\n  [subcommands: simulate, explain, run, check, import, refusals, completions, help]\n\nUsage: txkv <COMMAND>",
     ),
     (
         "simulat",
@@ -192,6 +192,14 @@ static FAULTS: [(&str, &str); 17] = [
         "error: invalid value '0' for '--gc-life-time <TICKS>': 0 is not in 1..=4398046511104",
     ),
     (
+        "completions ksh",
+        "error: invalid value 'ksh' for '<SHELL>'\n  [possible values: bash, zsh, fish]\n\n  tip: a similar value exists: 'zsh'",
+    ),
+    (
+        "completions",
+        "error: the following required arguments were not provided:\n  <SHELL>\n\nUsage: txkv completions <SHELL>",
+    ),
+    (
         "run --workers 4 --gc-life-time 4398046511105",
         "error: invalid value '4398046511105' for '--gc-life-time <TICKS>': 4398046511105 is not in 1..=4398046511104",
     ),
@@ -219,12 +227,14 @@ const TOP: &str = "The transaction layer of a key-value store, in one process
 Usage: txkv <COMMAND>
 
 Commands:
-  simulate  Run a script of sessions in one thread, and write one reply line a step
-  explain   Run a script as simulate does, and show its run: a column a session, a line a step
-  run       Run the sessions of a script side by side, on several threads
-  check     Check a trace: is it a run of the machine that commits each transaction in one step?
-  import    Judge a history of any store: is it snapshot isolation?
-  help      Print this message or the help of the given subcommand(s)
+  simulate     Run a script of sessions in one thread, and write one reply line a step
+  explain      Run a script as simulate does, and show its run: a column a session, a line a step
+  run          Run the sessions of a script side by side, on several threads
+  check        Check a trace: is it a run of the machine that commits each transaction in one step?
+  import       Judge a history of any store: is it snapshot isolation?
+  refusals     Tell what each refusal means, E1 to E17
+  completions  Write what completes command lines in a shell
+  help         Print this message or the help of the given subcommand(s)
 
 Options:
   -h, --help     Print help
@@ -276,13 +286,14 @@ Arguments:
 
 Options:
       --why   Tells after a no why the machine does not make that step
+      --all   Goes on after a no, as if that line were not there
   -h, --help  Print help
 
 A trace has one step a line, each a JSON array:
 ";
 
 // Requests for help, how the text begins, and how it ends.
-static HELPS: [(&str, &str, &str); 8] = [
+static HELPS: [(&str, &str, &str); 13] = [
     (
         "--help",
         TOP,
@@ -307,6 +318,31 @@ static HELPS: [(&str, &str, &str); 8] = [
         "  echo '[\"draw\"]' | txkv check        [1,\"E16\",\"form\"], the first line that is no step, status 2\n",
     ),
     ("check a.trace -h", CHECK, "status 2\n"),
+    (
+        "help refusals",
+        "Tell what each refusal means, E1 to E17\n\nUsage: txkv refusals\n",
+        "  E17  AlreadyExists      A key that is to be inserted has a value, in the buffer or at the start\n",
+    ),
+    (
+        "refusals",
+        "A refusal is the reply of its line, and the script goes on; with E16 it ends.",
+        "  E17  AlreadyExists      A key that is to be inserted has a value, in the buffer or at the start\n",
+    ),
+    (
+        "completions bash",
+        "_txkv_words() {\n",
+        "\ncomplete -o default -F _txkv_words txkv\n",
+    ),
+    (
+        "completions zsh",
+        "#compdef txkv\n",
+        "\ncomplete -o default -F _txkv_words txkv\n",
+    ),
+    (
+        "completions fish",
+        "complete -c txkv -n __fish_use_subcommand -f -a simulate -d 'Run a script of sessions in one thread,",
+        "complete -c txkv -n '__fish_seen_subcommand_from completions' -x -a ' bash zsh fish' -d 'The shell: bash, zsh or fish'\n",
+    ),
 ];
 
 #[test]

@@ -8,11 +8,11 @@ use tx_text::{End, Parts};
 use tx_types::Cause;
 
 // Lines of scripts that are faults, and why.
-static SCRIPTS: [(&str, Cause, &str); 33] = [
+static SCRIPTS: [(&str, Cause, &str); 39] = [
     (
         r#"["commit","A","loose"]"#,
         Cause::Form,
-        r#"form: "loose" is no delivery (lose, lose-reply, repeat, hold)"#,
+        r#"form: "loose" is no delivery (lose, lose-reply, repeat, hold); did you mean "lose"?"#,
     ),
     (
         r#"["prewrite","A","hold"]"#,
@@ -32,7 +32,29 @@ static SCRIPTS: [(&str, Cause, &str); 33] = [
     (
         r#"["putt","A","a","x"]"#,
         Cause::Form,
-        r#"form: "putt" is no step of txkv simulate"#,
+        r#"form: "putt" is no step of txkv simulate; did you mean "put"?"#,
+    ),
+    (
+        r#"["GET","A","a"]"#,
+        Cause::Form,
+        r#"form: "GET" is no step of txkv simulate; did you mean "get"?"#,
+    ),
+    (
+        r#"["commti","A"]"#,
+        Cause::Form,
+        r#"form: "commti" is no step of txkv simulate; did you mean "commit"?"#,
+    ),
+    (
+        r#"["declare","A","asinc",9]"#,
+        Cause::Form,
+        r#"form: "asinc" is no mode (two-phase, async); did you mean "async"?"#,
+    ),
+    ("", Cause::Json, "json: the line is empty"),
+    (" \t", Cause::Json, "json: the line is empty"),
+    (
+        "\u{feff}[\"begin\",\"A\"]",
+        Cause::Json,
+        "json: the line begins with a byte order mark",
     ),
     (
         r#"["seed","a","1"]"#,
@@ -123,7 +145,7 @@ static SCRIPTS: [(&str, Cause, &str); 33] = [
     (
         r#"["get","A""#,
         Cause::Json,
-        "json: the line is no JSON value: EOF while parsing at line 1 column 10",
+        "json: the line is no JSON value: EOF while parsing at byte 10",
     ),
     (
         r#"["get","A","a"]"#,
@@ -173,7 +195,7 @@ static SCRIPTS: [(&str, Cause, &str); 33] = [
 ];
 
 // Lines of runs and of traces that are faults, and why.
-static OTHERS: [(CommandTask, &str, Cause, &str); 11] = [
+static OTHERS: [(CommandTask, &str, Cause, &str); 13] = [
     (
         CommandTask::Run(1, None),
         r#"["get","A","a","lose"]"#,
@@ -197,6 +219,18 @@ static OTHERS: [(CommandTask, &str, Cause, &str); 11] = [
         r#"["transfer","A","a","b",0,"async"]"#,
         Cause::Form,
         "form: 0 is no amount (1 to 1000000000000)",
+    ),
+    (
+        CommandTask::Run(1, None),
+        r#"["transfr","A","a","b",5,"async"]"#,
+        Cause::Form,
+        r#"form: "transfr" is no step of txkv run; did you mean "transfer"?"#,
+    ),
+    (
+        CommandTask::Check,
+        r#"["answer",3,"commited",4]"#,
+        Cause::Form,
+        r#"form: "commited" is no fate (committed, aborted); did you mean "committed"?"#,
     ),
     (
         CommandTask::Check,
@@ -290,6 +324,17 @@ fn lines_that_cannot_be_shown_have_a_sentence(rt: HostRuntime) -> Result<(), Fai
     assert_eq!(rt;
         told.as_str(),
         "line 1000001: lines: the script has more than 1000000 lines"
+    );
+    Ok(())
+}
+
+#[test]
+fn lines_are_not_nested_deeper(rt: HostRuntime) -> Result<(), Fail> {
+    let line = "[".repeat(rt.alloc(), 128)?;
+    let told = sentence_of(rt.alloc(), CommandTask::Check, Cause::Json, line.as_bytes())?;
+    assert_eq!(rt;
+        told.as_str(),
+        "line 4: json: the line is nested deeper than 127"
     );
     Ok(())
 }

@@ -1,7 +1,8 @@
 //! A command over an input and an output: what was written is handed on before more is read.
 use crate::asked::Invocation;
+use crate::failing::{Failing, Stopped};
 use crate::perform::perform;
-use std::cell::RefCell;
+use std::cell::{Cell, RefCell};
 use std::io::{BufWriter, Read, Write};
 use std::sync::Wait;
 use std::thread::Threads;
@@ -26,6 +27,32 @@ fn explain<I>(asked: &Invocation<'_>, faults: &[NotedFaults], lines: &Recent<I>)
 /// Does what is asked over an input and an output. What was written is handed on each time before
 /// more of the input is read.
 pub(crate) fn answer<R, I, O>(
+    rt: &R,
+    asked: &Invocation<'_>,
+    input: I,
+    output: O,
+) -> Result<CommandEnd, Stopped>
+where
+    R: AllocGlobal + Threads + Wait + Sync + Send + Clone + Drop,
+    I: Read + Drop,
+    O: Write + Drop,
+{
+    let (read, written) = (Cell::new(None), Cell::new(None));
+    let input = Failing::new(input, &read);
+    let output = Failing::new(output, &written);
+    let ended = answer_over(rt, asked, input, output);
+    ended.map_err(|why| Stopped {
+        why,
+        cause: match why {
+            Broken::Input => read.get(),
+            Broken::Output => written.get(),
+            Broken::Memory => None,
+        },
+    })
+}
+
+// Does it, over streams that note why they failed.
+fn answer_over<R, I, O>(
     rt: &R,
     asked: &Invocation<'_>,
     input: I,

@@ -6,6 +6,7 @@
 mod answer;
 mod asked;
 mod cells;
+mod failing;
 mod perform;
 mod program;
 mod stats;

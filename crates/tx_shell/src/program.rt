@@ -1,9 +1,8 @@
 //! The program: its words, its streams, and the status with which it ends.
 use crate::answer::answer;
 use crate::asked::Invocation;
+use crate::failing::Stopped;
 use clap::error::ErrorKind;
-use log::sink::Console;
-use log::{LevelFilter, Log, Logged, warn};
 use std::env::Env;
 use std::io::IsTerminal;
 use std::process::ExitCode;
@@ -18,7 +17,7 @@ use tx_command::{
 use tx_text::Broken;
 
 // Does what is asked over the input that is named.
-fn run<R>(rt: &R, asked: &Invocation<'_>) -> Result<CommandEnd, Broken>
+fn run<R>(rt: &R, asked: &Invocation<'_>) -> Result<CommandEnd, Stopped>
 where
     R: Input + Files + Print + Eprint + AllocGlobal + Threads + Wait + Sync + Send + Clone + Drop,
 {
@@ -27,11 +26,24 @@ where
     };
     match fs::open(rt, name) {
         Ok(file) => answer(rt, asked, file, io::writer(rt)),
-        Err(error) => {
-            let _ = eprintln!(rt; "txkv: {name}: {error}");
-            Err(Broken::Input)
-        }
+        Err(error) => Err(Stopped {
+            why: Broken::Input,
+            cause: Some(error),
+        }),
     }
+}
+
+// The warning before status 4: the file, where its input failed, and what the system says. What
+// cannot be said is left out.
+fn warn<R: Eprint>(rt: &R, file: Option<&str>, stopped: Stopped) {
+    let message = message_of(stopped.why);
+    let file = file.filter(|_| stopped.why == Broken::Input);
+    let _ = match (file, stopped.cause) {
+        (Some(file), Some(cause)) => eprintln!(rt; "txkv: {file}: {message}: {cause}"),
+        (Some(file), None) => eprintln!(rt; "txkv: {file}: {message}"),
+        (None, Some(cause)) => eprintln!(rt; "txkv: {message}: {cause}"),
+        (None, None) => eprintln!(rt; "txkv: {message}"),
+    };
 }
 
 // The words of the command line.
@@ -47,23 +59,30 @@ fn words<R: Env + AllocGlobal>(rt: &R) -> io::Result<Vec<String>> {
 // told on standard error.
 fn report<R: Print + Eprint>(rt: &R, error: &clap::Error) -> Result<CommandEnd, Broken> {
     if error.kind() == ErrorKind::OutOfMemory {
-        Err(Broken::Memory)
-    } else if error.print(rt).is_err() {
-        Err(Broken::Output)
-    } else if error.use_stderr() {
-        Ok(CommandEnd::Faulted)
-    } else {
-        Ok(CommandEnd::Well)
+        return Err(broken(rt, Broken::Memory, None));
     }
+    match error.print(rt) {
+        Err(cause) => Err(broken(rt, Broken::Output, Some(cause))),
+        Ok(()) if error.use_stderr() => Ok(CommandEnd::Faulted),
+        Ok(()) => Ok(CommandEnd::Well),
+    }
+}
+
+// Warns of what was broken off before any job.
+fn broken<R: Eprint>(rt: &R, why: Broken, cause: Option<io::Error>) -> Broken {
+    warn(rt, None, Stopped { why, cause });
+    why
 }
 
 // The words of the command line could not be read: there was no room for them, or one of them is
 // not UTF-8.
 fn unread<R: Eprint>(rt: &R, error: &io::Error) -> Result<CommandEnd, Broken> {
     if error.kind() == io::ErrorKind::OutOfMemory {
-        return Err(Broken::Memory);
+        return Err(broken(rt, Broken::Memory, None));
     }
-    match eprintln!(rt; "error: a word of the command line is not UTF-8") {
+    match eprintln!(rt;
+        "error: a word of the command line is not UTF-8; a file of such a name is read by '< FILE'"
+    ) {
         Ok(()) => Ok(CommandEnd::Faulted),
         Err(_) => Err(Broken::Output),
     }
@@ -87,7 +106,13 @@ where
         prompts: shown == Display::Prompts,
         progress: &progress,
     };
-    run(rt, &asked)
+    match run(rt, &asked) {
+        Ok(end) => Ok(end),
+        Err(stopped) => {
+            warn(rt, job.file, stopped);
+            Err(stopped.why)
+        }
+    }
 }
 
 /// The program `txkv`, by the words that it was called with and over its standard streams.
@@ -96,7 +121,6 @@ where
     R: Env + Input + Files + Print + Eprint + AllocGlobal + Threads + Wait,
     R: Sync + Send + Clone + Drop,
 {
-    let logger = Logged::new(host, LevelFilter::Warn, Console(host));
     let end = match words(rt) {
         Err(error) => unread(rt, &error),
         Ok(words) => match parse(rt.alloc(), words.as_slice()) {
@@ -104,8 +128,5 @@ where
             Err(error) => report(rt, &error),
         },
     };
-    if let Err(broken) = &end {
-        warn!(logger; "{}", message_of(*broken));
-    }
     ExitCode::from(status_of(end))
 }
