@@ -61,6 +61,11 @@ impl Work for Check {
     }
 }
 
+// Whether the index agrees with the users, where it could be looked at.
+fn is_right<J: JournalId, R: Wait>(client: &mut Client<'_, J, R>) -> Option<bool> {
+    Some(client.update(&mut Check).ok()?.value)
+}
+
 /// Each client signs users of its own up under all names.
 #[derive(Drop)]
 struct Office;
@@ -94,8 +99,7 @@ impl<R: Wait> Program<R> for Office {
             signed = signed.saturating_add(some);
             taken = taken.saturating_add(others);
         }
-        let right = client.update(&mut Check).is_ok_and(|checked| checked.value);
-        (signed, taken, right)
+        (signed, taken, is_right(client) == Some(true))
     }
 }
 

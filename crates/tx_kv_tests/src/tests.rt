@@ -44,7 +44,7 @@ fn byte_at<J: JournalId, R: Wait>(
 struct Story;
 
 // Puts a byte: the value that came back, where it is committed.
-fn put<J: JournalId, R: Wait>(client: &mut Client<'_, J, R>, byte: u8) -> Option<u8> {
+fn put_byte<J: JournalId, R: Wait>(client: &mut Client<'_, J, R>, byte: u8) -> Option<u8> {
     let updated = client.update(&mut Put(byte)).ok()?;
     match updated.outcome {
         Outcome::Committed(_) => Some(updated.value),
@@ -56,11 +56,11 @@ fn put<J: JournalId, R: Wait>(client: &mut Client<'_, J, R>, byte: u8) -> Option
 // all looked at in the end.
 fn told<J: JournalId, R: Wait>(client: &mut Client<'_, J, R>) -> Option<[Option<u8>; 3]> {
     let none = client.timestamp().ok()?;
-    if put(client, 1) != Some(1) {
+    if put_byte(client, 1) != Some(1) {
         return None;
     }
     let one = client.timestamp().ok()?;
-    if put(client, 2) != Some(2) {
+    if put_byte(client, 2) != Some(2) {
         return None;
     }
     let two = client.timestamp().ok()?;
