@@ -3,9 +3,9 @@
 //! played as `txkv run --workers 2` does) or a trace (`NAME.trace`, checked as `txkv check` does);
 //! what it writes is shown in the file of its name with `.out` added. Scripts and runs are played
 //! over both families, and the run of a script is shown as `NAME.script.text`, of four as
-//! `NAME.script.svg` too. Many small ones stand in `scripts.rows`, `checked.rows` (played as
-//! `txkv simulate --check` does), `traces.rows`, `histories.rows` (judged as `txkv import` does, and
-//! the trace of each yes is checked) and `ordered.rows` (the same with `--sessions --strict`), each
+//! `NAME.script.svg` too. Many small ones stand in `scripts.rows`, `checked.rows` (played as `txkv
+//! simulate --check` does), `traces.rows`, `histories.rows` (judged as `txkv import` does, and the
+//! trace of each yes is checked) and `ordered.rows` (the same with `--sessions --strict`), each
 //! with what it writes.
 #![tactic(auto)]
 

@@ -28,8 +28,8 @@ end_of (verdict.Fact f) = No
 end_of (verdict.Open ks) = Open
 end_of (verdict.Twice first second value) = Faulted
 
--- what is written of a verdict: its line, or where that is asked for the trace of a yes or the drawing
--- of a cycle
+-- what is written of a verdict: its line, or where that is asked for the trace of a yes or the
+-- drawing of a cycle
 abbrev pub IsTextOf : ImportOptions → History → Verdict → List ℕ → Type 0
 IsTextOf options h (verdict.Yes t) text =
     (IsTrue options.trace × IsTrace h t text) ⊎ (text ≡ verdict_text h (verdict.Yes t))

@@ -1,5 +1,5 @@
--- The words of what is said of a history. Transactions are told by their ids, keys and values by their
--- names.
+-- The words of what is said of a history. Transactions are told by their ids, keys and values by
+-- their names.
 use Rattle.std.specs.Prelude.{ℕ, ◌+◌, ◌++◌, List, codes, map, length, Option, Some, None, slice_get, option_map}
 use Rattle.serde_json.specs.Data.{Data, Items, no_items, item, Members, no_members, member, number, unsigned, string, null, array, object}
 use Rattle.serde_json.specs.View.{items_of}
@@ -113,7 +113,8 @@ answer_words word more = item (string (codes "import")) (item (string word) more
 abbrev pub yes_members : History → Members
 yes_members h = member (codes "transactions") (number (unsigned (length h.recording.transactions.items))) no_members
 
--- the line of a verdict: of a value that is given twice, the fault of the line that does so the second time
+-- the line of a verdict: of a value that is given twice, the fault of the line that does so the
+-- second time
 abbrev pub verdict_text : History → Verdict → List ℕ
 verdict_text h (verdict.Yes t) = line_text (answer_words (codes "yes") (item (object (yes_members h)) no_items))
 verdict_text h (verdict.No c) = line_text (answer_words (codes "no") (item (string (cycle_word c))

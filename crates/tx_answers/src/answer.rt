@@ -170,8 +170,8 @@ pub fn import<R: BufRead, W: Write>(
     reader: &mut R,
     writer: &mut W,
 ) -> Result<Answered, Broken>
-    // Not broken off, it has written what is told of a verdict on the recording of the lines, or of the
-    // first line that says no transaction, and nothing else.
+    // Not broken off, it has written what is told of a verdict on the recording of the lines, or of
+    // the first line that says no transaction, and nothing else.
     ensures ends { IfOk result (λ answered. IfSome (R.remaining reader.old)
         (λ input. Ends options input (W.contents writer.old) (W.contents writer.new) answered.end)) }
     // Broken off, it has written nothing, or where a write failed a beginning of that.

@@ -1,5 +1,5 @@
-//! What is answered of a history of any store: a line with the verdict of `tx_judge` in the names of
-//! the history, sentences that say why, and a drawing of a cycle.
+//! What is answered of a history of any store: a line with the verdict of `tx_judge` in the names
+//! of the history, sentences that say why, and a drawing of a cycle.
 #![tactic(auto)]
 
 mod answer;

@@ -104,7 +104,8 @@ fn clock_name(anomaly: Anomaly) -> &'static str
     }
 }
 
-/// The name of the anomaly of a cycle, with the order that it needs beside those of reads and writes.
+/// The name of the anomaly of a cycle, with the order that it needs beside those of reads and
+/// writes.
 pub(crate) fn cycle_word(cycle: &Cycle) -> &'static str
     ensures { result.now ≡ word_of_cycle cycle.now }
 {

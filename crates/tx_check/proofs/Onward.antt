@@ -33,7 +33,8 @@ as_many [] (t ∷ ts) are = absurd are
 as_many (l ∷ ls) [] are = absurd are
 as_many (l ∷ ls) (t ∷ ts) are = ap suc (as_many ls ts are.0)
 
--- the lines before those that are left have had these turns, and the machine stands for what they leave
+-- the lines before those that are left have had these turns, and the machine stands for what they
+-- leave
 pub record AllSoFar (has_reasons : Bool) (input : List ℕ) (left : Option (List ℕ)) (machine : Machine) (number : ℕ)
     (text : List ℕ) (is_refused : Bool) : Type 0 where
   pub rest : List ℕ

@@ -95,8 +95,8 @@ abbrev pub IsReason : List (List ℕ) → ℕ → Why → Type 0
 IsReason lines number why = (line : List ℕ) × (steps : List Step) × (step : Step) × Reaches lines number line steps
     × (step_in number line ≡ Ok step) × IsRefused (table_of (reverse steps)) step why
 
--- what is written of a verdict: its line, and after a no the line of a reason, and that of who wrote
--- what a read claims, by the steps of the lines before
+-- what is written of a verdict: its line, and after a no the line of a reason, and that of who
+-- wrote what a read claims, by the steps of the lines before
 abbrev pub Explained : List (List ℕ) → Verdict → List ℕ → Type 0
 Explained lines (No number) text = (why : Why) × (line : List ℕ) × (steps : List Step) × IsReason lines number why
     × Reaches lines number line steps

@@ -18,9 +18,9 @@ use std::io::{BufRead, Write};
 use tx_machine::{Machine, Step, Why};
 use tx_text::{Broken, End};
 
-/// Checks a trace, and goes on after a no as if its line were not there: writes
-/// `["check","no",n]` for each line whose step the machine does not make, where it is asked for with
-/// the line `["why",n,word,{..}]` behind it. Then `["check","yes"]` where there was none, or
+/// Checks a trace, and goes on after a no as if its line were not there: writes `["check","no",n]`
+/// for each line whose step the machine does not make, where it is asked for with the line
+/// `["why",n,word,{..}]` behind it. Then `["check","yes"]` where there was none, or
 /// `[n,"E16",cause]` with the first line that is no step. Nothing is written before all of it is
 /// known.
 ///

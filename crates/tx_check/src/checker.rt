@@ -51,8 +51,8 @@ pub fn check<R: BufRead, W: Write>(
 }
 
 /// The same, and after a no writes one line more, `["why",n,word,{..}]`, with a reason for which
-/// the machine does not make the step of line n. Where that is a read or a scan that claims a value,
-/// another one, `["wrote",n,{..}]`, says who wrote it and what became of him, or
+/// the machine does not make the step of line n. Where that is a read or a scan that claims a
+/// value, another one, `["wrote",n,{..}]`, says who wrote it and what became of him, or
 /// `["wrote",n,null]` that no line before puts it.
 pub fn check_with_reason<R: BufRead, W: Write>(
     alloc: Global,

@@ -90,8 +90,8 @@ pub record AllowsCheckSecondaryLocks (h : History) (b : CheckSecondaryLocks) : T
   pub within : mutation_at of.changes b.key ≢ None
 
 -- The requests that may be made after a history. A commit is at the timestamp that is decided, or
--- decides; a lock is resolved by what is decided of its transaction. What is allowed stays so, however
--- the history grows.
+-- decides; a lock is resolved by what is decided of its transaction. What is allowed stays so,
+-- however the history grows.
 abbrev pub Allowed : History → Body → Type 0
 Allowed h (body.Get b) = AllowsRead h b.at b.bypass
 Allowed h (body.Scan b) = AllowsRead h b.at b.bypass

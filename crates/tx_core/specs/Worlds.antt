@@ -69,8 +69,8 @@ pub record MayDeclare (h : History) (d : Declaration) : Type 0 where
   pub distinct : IsDistinct d.changes
   pub drew : DrewSince h d.start d.drawn
 
--- A region takes a request that is allowed and that it holds, having loaded a number at or below the
--- last one, and answers by the case tables from what its own events left.
+-- A region takes a request that is allowed and that it holds, having loaded a number at or below
+-- the last one, and answers by the case tables from what its own events left.
 pub record MayTake (bounds : List Key) (h : History) (x : Taken) : Type 0 where
   pub region : x.region ≤ length bounds
   pub allowed : Allowed h x.body

@@ -14,10 +14,10 @@ ghost use Rattle.tx_types.specs.declared.key.Key.{Key};
 ghost use Rattle.tx_types.specs.declared.mutation.Fate.{Fate};
 
 /// Of every world run, whatever the bounds between the regions, there are steps of the one-step
-/// machine that explain it: of each event all its own and no others, in the order of the events, and
-/// each answer is true of the machine's table where it stands. They are a run of the machine; and
-/// what is decided of a transaction, which is what a session or a resolver may say of it, is how it
-/// has ended there.
+/// machine that explain it: of each event all its own and no others, in the order of the events,
+/// and each answer is true of the machine's table where it stands. They are a run of the machine;
+/// and what is decided of a transaction, which is what a session or a resolver may say of it, is
+/// how it has ended there.
 pub fn every_run()
     ensures { (bounds : List Key) (events : History) → IsWorldRun bounds events → (steps : List Step)
         × Explains steps events × IsRun steps

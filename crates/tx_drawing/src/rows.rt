@@ -94,8 +94,8 @@ fn put_arrows(out: &mut String, layout: &Layout, row: &Row, from: Point) -> Resu
     Ok(())
 }
 
-/// Appends what a step read of keys, in the row that is so far down: below the arrow where that goes
-/// on to another key.
+/// Appends what a step read of keys, in the row that is so far down: below the arrow where that
+/// goes on to another key.
 pub(crate) fn put_reads(
     alloc: Global,
     out: &mut String,

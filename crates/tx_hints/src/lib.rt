@@ -1,5 +1,5 @@
-//! What helps who typed something wrong, or is about to type: the word that was meant, why a line is
-//! no JSON, and what completes command lines in a shell.
+//! What helps who typed something wrong, or is about to type: the word that was meant, why a line
+//! is no JSON, and what completes command lines in a shell.
 #![tactic(auto)]
 
 mod json;

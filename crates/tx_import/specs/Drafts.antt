@@ -50,7 +50,8 @@ IsActIn values elements (act.Read span) = span.first + span.count ≤ elements
 abbrev pub IsOpIn : ℕ → ℕ → ℕ → Op → Type 0
 IsOpIn keys values elements o = (o.key < keys) × IsActIn values elements o.act
 
--- all that is named is there; there are no more names than operations that name them, and few of all
+-- all that is named is there; there are no more names than operations that name them, and few of
+-- all
 pub record FitsOps (d : Draft) : Type 0 where
   pub keys : length d.tables.keys ≤ length d.ops.items
   pub values : length d.tables.values ≤ held d

@@ -43,8 +43,8 @@ abbrev pub total : List SaidTransaction → ℕ
 total [] = 0
 total (t ∷ ts) = weight t.ops + total ts
 
--- the recording is what was said: its transactions are those, in order, by the names of its numbers,
--- and no two numbers have one name
+-- the recording is what was said: its transactions are those, in order, by the names of its
+-- numbers, and no two numbers have one name
 pub record IsHistory (h : History) (said : List SaidTransaction) : Type 0 where
   pub recording : IsRecording h.recording
   pub keys : h.recording.keys ≡ length h.tables.keys

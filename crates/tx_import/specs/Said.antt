@@ -57,8 +57,8 @@ outcome_said d = option_and_then outcome_of (get (codes "type") d)
 abbrev pub ops_said : Data → Option (List SaidOp)
 ops_said d = option_and_then (list_of op_of) (get (codes "ops") d)
 
--- the transaction that the line of this number says: an object with a `type` and a list of `ops`, and
--- where there are some an `id`, a `start`, an `end` and a `process`
+-- the transaction that the line of this number says: an object with a `type` and a list of `ops`,
+-- and where there are some an `id`, a `start`, an `end` and a `process`
 abbrev pub transaction_of : ℕ → Data → Option SaidTransaction
 transaction_of line d =
     option_and_then (λ outcome. option_and_then (λ id. option_and_then (λ began. option_and_then (λ ended.

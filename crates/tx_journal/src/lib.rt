@@ -15,8 +15,8 @@
 //! seat.learn(reply.tell(&seat));                         // the seat knows of the answer
 //! ```
 //!
-//! Who opens a journal passes the `Opened` on, with `Brand`, to a function that is generic in
-//! `J: JournalId`, and that one names it: the proof of this one call picks the table, the bounds and
+//! Who opens a journal passes the `Opened` on, with `Brand`, to a function that is generic in `J:
+//! JournalId`, and that one names it: the proof of this one call picks the table, the bounds and
 //! the number of seats that J stands for (as each test here does).
 //!
 //! No value of the journal holds a reference: the seats own the table together, and a

@@ -158,8 +158,8 @@ impl Extras {
     }
 }
 
-// Takes the chain of each key: with the put that is left, else with its extras, where there is one, or
-// where all are asked for.
+// Takes the chain of each key: with the put that is left, else with its extras, where there is one,
+// or where all are asked for.
 fn take_keys(
     chains: &mut Chains,
     recording: &Recording,

@@ -1,5 +1,6 @@
-//! The judge of a recording: whether it is snapshot isolation. The versions of its keys are put in an
-//! order, and are decided as a history; what comes of it is a verdict where the evidence says so.
+//! The judge of a recording: whether it is snapshot isolation. The versions of its keys are put in
+//! an order, and are decided as a history; what comes of it is a verdict where the evidence says
+//! so.
 #![tactic(auto)]
 
 mod assemble;

@@ -107,8 +107,8 @@ fn add_event(
     Ok(())
 }
 
-// Adds for each live transaction that it comes after those that had ended before it began: by moments
-// of the clock, at most one for each end.
+// Adds for each live transaction that it comes after those that had ended before it began: by
+// moments of the clock, at most one for each end.
 fn add_clock(
     alloc: Global,
     versions: &mut Versions,

@@ -224,8 +224,8 @@ fn verdict_by(
     verdict_in(alloc, recording, owners, views, orders, lives, parts, order)
 }
 
-// What the recording is, with those puts in the order of some commits, of some starts, or in which they
-// are recorded.
+// What the recording is, with those puts in the order of some commits, of some starts, or in which
+// they are recorded.
 fn verdict_found(
     alloc: Global,
     recording: &Recording,

@@ -69,11 +69,11 @@ AnswersFrom mark region loaded = AnswersBy (λ b m. m ≡ least_minimum mark b) 
 
 -- ---- what an answer leaves
 
--- What an answer leaves on the key of its request: the answer tells the change. An accepted prewrite
--- leaves its lock, where none stands yet. Where a transaction is committed, its lock, if it stands,
--- becomes its commit record; where it is rolled back, its lock is gone and its rollback stands; where
--- it is missing, its rollback stands. A lock that is told of has the time to live, or the minimum, of
--- the answer. One that is resolved is committed or rolled back. All else stays.
+-- What an answer leaves on the key of its request: the answer tells the change. An accepted
+-- prewrite leaves its lock, where none stands yet. Where a transaction is committed, its lock, if
+-- it stands, becomes its commit record; where it is rolled back, its lock is gone and its rollback
+-- stands; where it is missing, its rollback stands. A lock that is told of has the time to live, or
+-- the minimum, of the answer. One that is resolved is committed or rolled back. All else stays.
 abbrev pub leaves_on : Cells → Body → Answer → Cells
 leaves_on cells (Prewrite b) (Prewritten m) = with_lock cells (Some (locked cells.lock b m))
 leaves_on cells (Commit b) (Committed c) = commit_lock cells b.start b.commit
@@ -87,10 +87,10 @@ leaves_on cells (CheckSecondaryLocks b) Missing = leave_rollback cells b.start
 leaves_on cells (ResolveLock b) Resolved = resolve cells b.start b.fate
 leaves_on cells _ _ = cells
 
--- What it leaves of the region. A read raises the greatest timestamp read, also where a lock stopped
--- it, and so does the check of an insert. A safe point that is raised is the one that was asked for.
--- Where a region has collected, the records that are not kept are gone, on every key, and it has
--- collected up to there.
+-- What it leaves of the region. A read raises the greatest timestamp read, also where a lock
+-- stopped it, and so does the check of an insert. A safe point that is raised is the one that was
+-- asked for. Where a region has collected, the records that are not kept are gone, on every key,
+-- and it has collected up to there.
 abbrev pub leaves : Region → Body → Answer → Region
 leaves r (Get b) a = with_max_read r (raised a b.at r.max_read)
 leaves r (Scan b) a = with_max_read r (raised a b.at r.max_read)

@@ -100,8 +100,8 @@ turn_of line replies at count = record {
   shown = take count (drop (at + 1) replies);
 }
 
--- Each line that was replied to has the next reply, and then so many as lines were put in behind it,
--- or as there are.
+-- Each line that was replied to has the next reply, and then so many as lines were put in behind
+-- it, or as there are.
 abbrev pub turned : List (List ℕ) → List ℕ → List (List ℕ) → List Turned
 turned [] counts replies = []
 turned (line ∷ lines) [] replies = []

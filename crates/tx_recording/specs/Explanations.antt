@@ -1,5 +1,5 @@
--- Snapshot isolation of a recording. A committed transaction has a start and a commit above it. In each
--- key it sees what the newest committed writer at or below its start left there, it does its
+-- Snapshot isolation of a recording. A committed transaction has a start and a commit above it. In
+-- each key it sees what the newest committed writer at or below its start left there, it does its
 -- operations on that, and it leaves what comes of it.
 use Rattle.std.specs.Prelude.{◌≡◌, ◌≢◌, ◌⊎◌, ℕ, ◌<◌, ◌≤◌, ◌==◌, Bool, false, cond, List, [], ◌∷◌, ◌++◌, Contains, Option, Some, IsTrue, take, slice_index_or}
 use Rattle.tx_recording.specs.declared.recording.Outcome.{Outcome}
@@ -80,10 +80,10 @@ IsEarlier r t u = (e : ℕ) × (b : ℕ) × (e < b) × ((transaction_at r t).end
 abbrev pub Precedes : Recording → Orders → ℕ → ℕ → Type 0
 Precedes r orders t u = (IsTrue orders.sessions × IsSession r t u) ⊎ (IsTrue orders.strict × IsEarlier r t u)
 
--- Under this the recording is snapshot isolation. What is known to have committed did, and what failed
--- did not; of two that put into one key one started when the other had committed; each left what its
--- operations make of what it saw; each value that was read is what the reader's own operations until
--- then make of what it saw; and the orders that are asked for hold.
+-- Under this the recording is snapshot isolation. What is known to have committed did, and what
+-- failed did not; of two that put into one key one started when the other had committed; each left
+-- what its operations make of what it saw; each value that was read is what the reader's own
+-- operations until then make of what it saw; and the orders that are asked for hold.
 pub record Explains (r : Recording) (orders : Orders) (x : Explanation) : Type 0 where
   pub ok : (t : ℕ) → t < txns_of r → (transaction_at r t).outcome ≡ Ok → IsTrue (x.committed t)
   pub fail : (t : ℕ) → (transaction_at r t).outcome ≡ Fail → x.committed t ≡ false

@@ -19,10 +19,10 @@ abbrev pub value_of : (List ℕ → Value) → List ℕ → Option Value
 value_of value [] = None
 value_of value (v ∷ vs) = Some (value (v ∷ vs))
 
--- The committed rows are those of the recorded transactions under these timestamps, each key's list told
--- by a value of its own. Each writer put what it left, and nothing else was put or deleted on the
--- keys; each writer has its own start; what a writer started from, and what was read, is what the
--- machine shows at the start; what is known of commits and of orders holds.
+-- The committed rows are those of the recorded transactions under these timestamps, each key's list
+-- told by a value of its own. Each writer put what it left, and nothing else was put or deleted on
+-- the keys; each writer has its own start; what a writer started from, and what was read, is what
+-- the machine shows at the start; what is known of commits and of orders holds.
 pub record IsRecordingOf (r : Recording) (orders : Orders) (x : Explanation) (rows : Rows) (key : ℕ → Key)
     (value : List ℕ → Value) : Type 0 where
   pub ok : (t : ℕ) → t < txns_of r → (transaction_at r t).outcome ≡ Ok → IsTrue (x.committed t)

@@ -1,5 +1,5 @@
-//! A recording of a run of the one-step machine is explained by the run's timestamps: so what nothing
-//! explains is a recording of no run.
+//! A recording of a run of the one-step machine is explained by the run's timestamps: so what
+//! nothing explains is a recording of no run.
 #![tactic(auto)]
 
 ghost use Rattle.std.specs.Prelude.{ℕ, List};

@@ -242,8 +242,8 @@ fn reply_done<J: JournalId>(
     Reply::new(request, Some(answer), told)
 }
 
-// Records that the region of this seat, which loaded `loaded`, answered a request so, and leaves the
-// answer at a place.
+// Records that the region of this seat, which loaded `loaded`, answered a request so, and leaves
+// the answer at a place.
 #[inline(always)]
 fn note_done<J: JournalId>(
     seat: &mut Seat<J>,

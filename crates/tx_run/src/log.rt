@@ -18,9 +18,9 @@ use tx_journal::{JournalId, Seat, Told};
 use tx_transfer::{PlainReply, Source};
 use tx_types::{Cause, Key, Ts};
 
-/// The answers of a session's lines, each of which tells of what the log was told. Each outcome among
-/// them was answered there by the session's seat, no two are of one transaction, and each comes with
-/// the keys of the transfer that its line says.
+/// The answers of a session's lines, each of which tells of what the log was told. Each outcome
+/// among them was answered there by the session's seat, no two are of one transaction, and each
+/// comes with the keys of the transfer that its line says.
 #[derive(Drop)]
 pub(crate) struct RunLog<J: JournalId, L: Source> {
     seat: SeatNo,

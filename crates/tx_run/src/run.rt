@@ -75,12 +75,12 @@ where
 /// sum of all balances. The first fault of the form of a line, or a 257th session, is told alone,
 /// and nothing is played. `make` gives each region its families.
 ///
-/// It hands back what was played, where the script was played: each session has answers of the lines
-/// that the text says are its own, in their order, up to a fault; each outcome that a line is told
-/// was answered in what all sessions had seen, no two are of one transaction, and the transaction of
-/// a transfer that was committed or aborted declared changes of just the two keys that its line
-/// says. Each other reply tells of what all sessions had seen, or of what a line of the same name
-/// entered.
+/// It hands back what was played, where the script was played: each session has answers of the
+/// lines that the text says are its own, in their order, up to a fault; each outcome that a line is
+/// told was answered in what all sessions had seen, no two are of one transaction, and the
+/// transaction of a transfer that was committed or aborted declared changes of just the two keys
+/// that its line says. Each other reply tells of what all sessions had seen, or of what a line of
+/// the same name entered.
 pub fn run_script<F, M, G, R, B, W>(
     rt: &R,
     alloc: Global,

@@ -23,8 +23,8 @@ pub(crate) enum LatchNeed {
     Met,
 }
 
-/// A line that says a step, with its number. Where the text of the script is known, it has this line,
-/// which says one.
+/// A line that says a step, with its number. Where the text of the script is known, it has this
+/// line, which says one.
 #[derive(Drop)]
 pub(crate) struct ScriptLine<L: Source> {
     pub number: u64,

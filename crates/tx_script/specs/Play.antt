@@ -113,7 +113,8 @@ module _ (bounds : List Key) where
   -- What lines mean over regions with these bounds, where the calls that `refused` names met want
   -- of memory: they mean nothing else, and their events are a run of the protocol. So the steps of
   -- the machine that commits each transaction in one step, read off that run, are a run of that
-  -- machine, and each answer is true of its table where it was given. Each reply tells of these events.
+  -- machine, and each answer is true of its table where it was given. Each reply tells of these
+  -- events.
   pub record IsPlay (refused : List Bool) (lines : List (List ℕ)) (p : Played) : Type 0 where
     pub plays : Plays (opening MAX_LIVE_SESSIONS) 0 refused lines p
     pub only : (q : Played) → Plays (opening MAX_LIVE_SESSIONS) 0 refused lines q → q ≡ p

@@ -13,7 +13,8 @@ use Rattle.tx_simple.specs.declared.ending.Unended.{Unended}
 use Rattle.tx_simple.specs.declared.ending.Unended.TheVariants as unended
 use Rattle.tx_simple.specs.Updates.{GoesOn, Ends, TriesInVain, Works, CommitsAboveKnown}
 
--- the session over this seat ended so, with this value, this stopped it, and the other seat is this one
+-- the session over this seat ended so, with this value, this stopped it, and the other seat is this
+-- one
 abbrev pub EndsFrom : {J O E : Type 0} → List Key → Known → Seated → Known → Option O → Option (Failure E) → Ended J O E
     → Type 0
 EndsFrom bounds begins session resolves value stop e = (ends : Ends bounds begins e.start e.outcome e.seats.begins)
@@ -40,8 +41,8 @@ module _ {W O E : Type 0} (does : W → Entries → Result O (Failure E) → Ent
 module _ {J W O E : Type 0} (does : W → Entries → Result O (Failure E) → Entries → W → Type 0) (bounds : List Key) (terms :
     Terms) where
   -- How the last try ended, after so many that came to nothing: a transaction began over the seat
-  -- that begins and ended so, the work was done in it, and the other seat went on. A commit lies above
-  -- each that the seat knew to be decided before the first.
+  -- that begins and ended so, the work was done in it, and the other seat went on. A commit lies
+  -- above each that the seat knew to be decided before the first.
   pub record EndsOver (old : Seats J) (before : W) (tries : ℕ) (e : Ended J O E) (new : W) : Type 0 where
     pub last : Known
     pub between : W

@@ -32,13 +32,14 @@ AnswersNoEffect (Answered t o) = ⊥
 AnswersNoEffect (Stopped seat) = ⊥
 AnswersNoEffect (Took x) = Unit {0}
 
--- h goes on from l, and since then this seat began no transaction, answered of none and stopped none
+-- h goes on from l, and since then this seat began no transaction, answered of none and stopped
+-- none
 abbrev pub GoesWithoutEffect : ℕ → History → History → Type 0
 GoesWithoutEffect i l [] = l ≡ []
 GoesWithoutEffect i l (e ∷ h) = (l ≡ e ∷ h) ⊎ GoesWithoutEffect i l h × ((owner h e ≢ Some i) ⊎ AnswersNoEffect e)
 
--- a seat goes on within a transaction, or beside one: it has its number, knows what it knew, and has
--- since begun no transaction, answered of none and stopped none
+-- a seat goes on within a transaction, or beside one: it has its number, knows what it knew, and
+-- has since begun no transaction, answered of none and stopped none
 pub record GoesOn (old new : Known) : Type 0 where
   pub number : new.seat ≡ old.seat
   pub knows : GoesWithoutEffect old.seat old.events new.events
@@ -122,7 +123,8 @@ module _ {W O E : Type 0} (does : W → Entries → Result O (Failure E) → Ent
     pub stop : Option (Failure E)
     pub works : Works begun ends.session value stop before after_it
 
-  -- so many tries, one after another, came to nothing, and neither the seat nor the work did anything else
+  -- so many tries, one after another, came to nothing, and neither the seat nor the work did
+  -- anything else
   abbrev pub TriesInVain : ℕ → Known → Known → W → W → Type 0
   TriesInVain zero old new before after_all = (new ≡ old) × (after_all ≡ before)
   TriesInVain (suc n) old new before after_all = (mid : Known) × (between : W) × TriesInVain n old mid before between

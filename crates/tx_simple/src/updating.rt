@@ -50,8 +50,8 @@ pub trait Work {
 /// that it may go on. Each try draws one tick for its start, one for what it declares and, in two
 /// phases, one for each commit timestamp that it tries.
 ///
-/// What it answers of the transaction that ran last is what `finish` answered, and means as much:
-/// a commit or an abort is decided. A commit lies above each commit that the seat knew to be decided
+/// What it answers of the transaction that ran last is what `finish` answered, and means as much: a
+/// commit or an abort is decided. A commit lies above each commit that the seat knew to be decided
 /// before the call. `Err` where there is no outcome. The terms' bounds are those of `declare`: at
 /// most 1,024 keys, of an async transaction 256; it stops as `Refused` beyond.
 pub fn update<J: JournalId, S: Sender<Request<J>, Reply<J>>, W: Work>(

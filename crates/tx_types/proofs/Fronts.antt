@@ -1,4 +1,5 @@
--- The first eight bytes of a key spell its front, and where the fronts of two keys differ they decide their order.
+-- The first eight bytes of a key spell its front, and where the fronts of two keys differ they
+-- decide their order.
 use Rattle.std.proofs.Common.{◌≡◌, ℕ, suc, zero, ◌+◌, ◌*◌, ◌<◌, ◌≤◌, List, [], ◌∷◌, ◌++◌, get_or, take, replicate, refl, sym, ap, subst, ◌∙◌, arith}
 use Rattle.std.specs.Int.{w64, from_be_bytes}
 use Rattle.std.specs.Ordering.{nat_cmp, ordering_then, ordering_reverse}

@@ -1,5 +1,5 @@
--- A history that holds under an explanation has timestamps: those of the explanation, with room between
--- two of them for the moments of the clock.
+-- A history that holds under an explanation has timestamps: those of the explanation, with room
+-- between two of them for the moments of the clock.
 use Rattle.std.proofs.Common.{◌≡◌, ◌⊎◌, ℕ, ◌+◌, ◌-◌, ◌*◌, ◌<◌, ◌≤◌, Bool, true, false, cond, Contains, arith, inl, inr, refl, sym, ap, ◌∙◌, subst, zero, suc, IsTrue}
 use Rattle.std.proofs.Math.Dec.{ltb}
 use Rattle.std.proofs.Math.Nat.{mul-suc, mul-le-mul_left}

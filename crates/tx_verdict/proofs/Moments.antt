@@ -22,7 +22,8 @@ ended_commit Ok None time c = 0
 ended_commit Fail q time c = 0
 ended_commit Info q time c = 0
 
--- the greatest commit of those of the first n that are known to have committed, and had ended by then
+-- the greatest commit of those of the first n that are known to have committed, and had ended by
+-- then
 abbrev pub latest : Recording → Explanation → ℕ → ℕ → ℕ
 latest r x time zero = 0
 latest r x time (suc n) = max (latest r x time n) (ended_commit (transaction_at r n).outcome (transaction_at r n).ended time (x.commit n))

@@ -1,4 +1,5 @@
--- Where nothing is written in place of what was there, what is seen earlier begins what is seen later.
+-- Where nothing is written in place of what was there, what is seen earlier begins what is seen
+-- later.
 use Rattle.std.proofs.Common.{◌≡◌, ◌⊎◌, ◌≢◌, ℕ, ◌+◌, ◌-◌, ◌<◌, ◌≤◌, List, [], ◌∷◌, ◌++◌, length, get_or, Contains, arith, inl, inr, refl, sym, ap, ◌∙◌, subst, zero, suc, IsTrue}
 use Rattle.std.proofs.lemmas.Bool.{cases_eq, cases_lt}
 use Rattle.std.proofs.lemmas.List.{get_or_append_left, append_assoc, append-nil, get_or_default}

@@ -24,10 +24,10 @@ abbrev pub IsTorn : Recording → ℕ → ℕ → List ℕ → ℕ → Type 0
 IsTorn r u k xs i = (front rest : List ℕ) → xs ≡ after (ops_of r u) k front ++ rest → length front ≤ i
     → i < length (after (ops_of r u) k front) → ⊥
 
--- Of what t saw in k: a value that u put and that failed; one that u put, and not as u left it; a read
--- that no state explains, or a value that t puts itself; two reads that differ; a value that nobody
--- put; one that is there twice; one where u saw another one; what u saw as well, though both put
--- something there.
+-- Of what t saw in k: a value that u put and that failed; one that u put, and not as u left it; a
+-- read that no state explains, or a value that t puts itself; two reads that differ; a value that
+-- nobody put; one that is there twice; one where u saw another one; what u saw as well, though both
+-- put something there.
 abbrev pub IsRule : Recording → Rule → ℕ → ℕ → Option ℕ → Option ℕ → Type 0
 IsRule r G1a t k (Some v) (Some u) = SawValue r t k v × IsPutBy r u v × ((transaction_at r u).outcome ≡ Fail)
 IsRule r G1b t k (Some v) (Some u) = (xs : List ℕ) × (i : ℕ) × Saw r t k xs × (i < length xs) × (slice_index xs i ≡ v)

@@ -1,4 +1,5 @@
--- When a history holds under each explanation of a recording. Only this crate's own clauses cite it.
+-- When a history holds under each explanation of a recording. Only this crate's own clauses cite
+-- it.
 use Rattle.std.specs.Prelude.{◌≡◌, ℕ, ◌+◌, ◌<◌, ◌≤◌, Bool, cond, List, length, Contains, IsTrue, false, zero, suc, slice_index}
 use Rattle.tx_recording.specs.declared.recording.Op.{Op}
 use Rattle.tx_recording.specs.declared.recording.Orders.{Orders}
@@ -13,8 +14,8 @@ use Rattle.tx_history.specs.Records.{history_of, writers_of}
 use Rattle.tx_verdict.specs.declared.versions.Versions.{Versions}
 use Rattle.tx_verdict.specs.Versions.{live_of}
 
--- The versions of each of its keys are of a key of the recording, their writers commit one after the
--- other, and who read a version saw it.
+-- The versions of each of its keys are of a key of the recording, their writers commit one after
+-- the other, and who read a version saw it.
 pub record IsForced (r : Recording) (x : Explanation) (h : History) (key : ℕ → ℕ) : Type 0 where
   pub writers : (k i : ℕ) → HasVersion h k i → IsWriter r x (h.writer k i) (key k)
   pub steps : (k i : ℕ) → HasVersion h k i → HasVersion h k (i + 1) → x.commit (h.writer k i) ≤ x.start (h.writer k (i + 1))

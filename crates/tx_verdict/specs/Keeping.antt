@@ -12,7 +12,8 @@ abbrev pub KeepsPairs : (ℕ → ℕ → Type 0) → List Bool → List ℕ → 
 KeepsPairs P live starts commits = (t u : ℕ) → P t u → IsTrue (live_in live t) → IsTrue (live_in live u)
     → slice_index commits t ≤ slice_index starts u
 
--- that each live one began, and each one ended that is known to have committed, in the order of time
+-- that each live one began, and each one ended that is known to have committed, in the order of
+-- time
 pub record AreEvents (r : Recording) (live : List Bool) (events : List Event) : Type 0 where
   pub begun : (u b : ℕ) → u < txns_of r → IsTrue (live_in live u) → (transaction_at r u).began ≡ Some b
       → Contains events record { time = b; txn = u; ends = false }

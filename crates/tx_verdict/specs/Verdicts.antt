@@ -32,9 +32,9 @@ IsNever r = (orders : Orders) → IsRefused r orders
 abbrev pub IsWrong : Recording → Fact → Type 0
 IsWrong r fact = IsFact r fact × IsNever r
 
--- yes: these timestamps explain the recording; no: nothing does, and the cycle is one of what has to be
--- so, or one transaction saw what the fact says; open: two put into each of these keys that had not
--- read it
+-- yes: these timestamps explain the recording; no: nothing does, and the cycle is one of what has
+-- to be so, or one transaction saw what the fact says; open: two put into each of these keys that
+-- had not read it
 abbrev pub IsVerdict : Recording → Orders → Verdict → Type 0
 IsVerdict r orders (Yes t) = AreTimestampsOf r orders t
 IsVerdict r orders (No cycle) = IsCycleFor r orders cycle × IsRefused r orders

@@ -32,8 +32,8 @@ fn begins(list: &[u32], own: &[u32]) -> bool
     list.starts_with(own)
 }
 
-// Whether the value at a place of a list is part of what an effect leaves: the effect's values in place
-// of all there was, or behind something.
+// Whether the value at a place of a list is part of what an effect leaves: the effect's values in
+// place of all there was, or behind something.
 fn is_whole(list: &[u32], effect: &Effect, i: usize) -> bool
     requires within { i < length list.now }
     requires once { IsDistinct effect.now.values.items }
@@ -52,8 +52,8 @@ fn is_whole(list: &[u32], effect: &Effect, i: usize) -> bool
     begins(&list[i - j..], own)
 }
 
-/// What is wrong with the value at a place of a list that was seen, since its transaction left another
-/// one there, or more before or behind it.
+/// What is wrong with the value at a place of a list that was seen, since its transaction left
+/// another one there, or more before or behind it.
 pub(crate) fn wrong_block(
     alloc: Global,
     recording: &Recording,

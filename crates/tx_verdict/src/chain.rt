@@ -147,8 +147,8 @@ fn is_other(writers: &[u32], count: usize, txn: u32) -> bool
     true
 }
 
-// Whether the writer of a version saw the one before it, or is none of those before it, which saw one
-// another.
+// Whether the writer of a version saw the one before it, or is none of those before it, which saw
+// one another.
 fn is_next(writers: &[u32], i: usize, known: bool, based: bool) -> bool
     requires { i < length writers.now }
     ensures { IsTrue result → ((i ≡ 0) ⊎ IsTrue based) ⊎ (IsTrue known

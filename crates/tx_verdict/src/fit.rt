@@ -160,7 +160,8 @@ pub fn value_of(act: Act) -> Option<u32>
     }
 }
 
-// Whether an operation of a transaction puts nothing, or the transaction wrote a version of its key.
+// Whether an operation of a transaction puts nothing, or the transaction wrote a version of its
+// key.
 fn is_op_placed(versions: &Versions, txn: u32, op: Op) -> bool
     requires { IsRecorded versions.now.recorded }
     ensures { IsTrue result → (v : ℕ) → Puts op.act v → IsPlaced versions.now txn op.key }

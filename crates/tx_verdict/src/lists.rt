@@ -1,4 +1,5 @@
-//! What is wrong with the lists that were seen, where nothing is written in place of what was there.
+//! What is wrong with the lists that were seen, where nothing is written in place of what was
+//! there.
 ghost use Rattle.std.specs.Prelude.{◌≡◌, ◌≢◌, ℕ, ◌<◌, ◌≤◌, length, Contains, IfOk, IfSome, IsTrue, slice_index};
 ghost use Rattle.tx_recording.specs.Recordings.{IsRecording, list_of};
 ghost use Rattle.tx_views.specs.declared.view.View.{View};
@@ -201,9 +202,9 @@ fn wrong_longest(
     Ok(None)
 }
 
-/// What is wrong with the lists that were seen: two of one key, of which neither begins with the other,
-/// a value that is there twice, or some of what one transaction put into the key without the rest. The
-/// table has of each key a view of it, the longest; where it has others, less is found.
+/// What is wrong with the lists that were seen: two of one key, of which neither begins with the
+/// other, a value that is there twice, or some of what one transaction put into the key without the
+/// rest. The table has of each key a view of it, the longest; where it has others, less is found.
 ///
 /// `AllocError` where there was no room.
 pub fn wrong_lists(

@@ -9,7 +9,8 @@ use crate::versions::Versions;
 use tx_history::After;
 use tx_recording::{Orders, Recording};
 
-/// Whether a process is known to have run the one after the other, which is known to have committed.
+/// Whether a process is known to have run the one after the other, which is known to have
+/// committed.
 pub(crate) fn is_session(recording: &Recording, earlier: u32, later: u32) -> bool
     ensures { IsTrue result → IsSession recording.now earlier later }
 {

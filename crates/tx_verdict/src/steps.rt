@@ -113,8 +113,8 @@ fn push_step(steps: &mut Vec<CycleStep>, step: Option<CycleStep>) -> Result<(), 
     Ok(())
 }
 
-// Adds the step of two that come one after the other, unless the second is a moment of the clock. From
-// where a way over moments began.
+// Adds the step of two that come one after the other, unless the second is a moment of the clock.
+// From where a way over moments began.
 fn add_after(
     steps: &mut Vec<CycleStep>,
     recording: &Recording,

@@ -19,7 +19,8 @@ fn puts_first(ops: &[Op], key: u32) -> bool
     false
 }
 
-// Whether a transaction put into a key that it had not read, or of which nobody knows whether it had.
+// Whether a transaction put into a key that it had not read, or of which nobody knows whether it
+// had.
 fn is_blind(recording: &Recording, txn: u32, key: u32) -> bool
     requires { IsRecording recording.now }
     ensures { IsTrue result → IsBlind recording.now txn key }

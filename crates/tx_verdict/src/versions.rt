@@ -89,8 +89,8 @@ impl Versions {
         }
     }
 
-    /// Why the writer of a version had the one before it there: the version at a place among those of
-    /// a chain.
+    /// Why the writer of a version had the one before it there: the version at a place among those
+    /// of a chain.
     pub fn base_of(&self, chain: usize, i: usize) -> Base {
         let Some(head) = self.recorded.heads.get(chain) else {
             return Base::Blind;

@@ -35,8 +35,8 @@ IsSeen r os k span Wrong = (xs : List ℕ) → list_of r span ≡ after os k xs 
 abbrev pub IsReadAt : Recording → ℕ → ℕ → Span → Type 0
 IsReadAt r t p span = ((transaction_at r t).outcome ≡ Ok) × ((op_at r t p).act ≡ Read span)
 
--- a read of the transaction is what its operations before make of these values in the key, and of no
--- others: that is what it saw there
+-- a read of the transaction is what its operations before make of these values in the key, and of
+-- no others: that is what it saw there
 abbrev pub Saw : Recording → ℕ → ℕ → List ℕ → Type 0
 Saw r t k xs = (p : ℕ) × (span : Span) × IsReadAt r t p span × ((op_at r t p).key ≡ k)
     × ((ys : List ℕ) → (list_of r span ≡ after (take p (ops_of r t)) k ys) ↔ (ys ≡ xs))
@@ -45,8 +45,8 @@ Saw r t k xs = (p : ℕ) × (span : Span) × IsReadAt r t p span × ((op_at r t 
 abbrev pub IsViewOf : Recording → View → Type 0
 IsViewOf r v = (v.span.first + v.span.count ≤ length r.elements.items) × Saw r v.txn v.key (list_of r v.span)
 
--- the read at that place is of own values alone, or it is as it should be where what one of these views
--- says was seen
+-- the read at that place is of own values alone, or it is as it should be where what one of these
+-- views says was seen
 abbrev pub IsAnswered : Recording → List View → ℕ → ℕ → Type 0
 IsAnswered r views t p = (span : Span) → (op_at r t p).act ≡ Read span
     → ((xs : List ℕ) → list_of r span ≡ after (take p (ops_of r t)) (op_at r t p).key xs)

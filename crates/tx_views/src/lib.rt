@@ -1,5 +1,5 @@
-//! What the reads of a recording say: who put each value, and what each transaction saw of a key before
-//! it did anything there.
+//! What the reads of a recording say: who put each value, and what each transaction saw of a key
+//! before it did anything there.
 #![tactic(auto)]
 
 mod effect;

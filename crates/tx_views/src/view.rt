@@ -110,8 +110,8 @@ fn seen_at(
     seen_behind(alloc, recording, &ops[..place], key, span)
 }
 
-// Adds what the operation of a transaction at a place says, if it is a read. Whether it can have seen
-// what it read.
+// Adds what the operation of a transaction at a place says, if it is a read. Whether it can have
+// seen what it read.
 fn add_view(
     alloc: Global,
     views: &mut Vec<View>,

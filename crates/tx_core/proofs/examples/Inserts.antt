@@ -1,5 +1,5 @@
--- A key is inserted; a second insert of it is refused; and after it was deleted it is inserted again.
--- The first commit's answer was lost: it is answered again, and a status check tells of it.
+-- A key is inserted; a second insert of it is refused; and after it was deleted it is inserted
+-- again. The first commit's answer was lost: it is answered again, and a status check tells of it.
 use Rattle.std.proofs.Common.{◌≡◌, ℕ, ◌<◌, inl, inr, true, false, [], ◌∷◌, Option, Some, None, refl, sym, ap, subst, arith}
 use Rattle.tx_types.specs.declared.mutation.Mutation.TheVariants.{Insert, Delete}
 use Rattle.tx_plan.specs.declared.body.Body.TheVariants.{CheckTxnStatus}

@@ -29,8 +29,8 @@ enum Before {
 }
 
 // One case: what stands there; after how many requests one fares how; what is done, in which mode,
-// and how often it is tried again; then how it ends, how often it was done, and what the key `a` has
-// in the end, 0 for no value.
+// and how often it is tried again; then how it ends, how often it was done, and what the key `a`
+// has in the end, 0 for no value.
 #[derive(Clone, Copy)]
 struct Case(
     Before,
