@@ -57,4 +57,5 @@ IsDistinct xs = (i j : ℕ) → i < length xs → j < length xs → slice_index 
 
 -- by an effect: in no way the value at i is part of what it leaves
 abbrev pub IsTornBy : List ℕ → Effect → ℕ → Type 0
-IsTornBy xs f i = (front rest : List ℕ) → xs ≡ left_by f front ++ rest → length front ≤ i → i < length (left_by f front) → ⊥
+IsTornBy xs f i = (front rest : List ℕ) → xs ≡ left_by f front ++ rest → length front ≤ i
+    → i < length (left_by f front) → ⊥

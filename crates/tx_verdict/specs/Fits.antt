@@ -10,7 +10,8 @@ use Rattle.tx_history.specs.Histories.{History, HasVersion}
 -- The history is the recording's where the live transactions committed: each version is what its
 -- writer makes of the version before it, who puts into a key wrote a version of it, and what was
 -- seen is the version that was read.
-pub record IsFit (r : Recording) (views : List View) (h : History) (live : ℕ → Bool) (text : ℕ → ℕ → List ℕ) : Type 0 where
+pub record IsFit (r : Recording) (views : List View) (h : History) (live : ℕ → Bool)
+    (text : ℕ → ℕ → List ℕ) : Type 0 where
   pub txns : txns_of r ≤ h.txns
   pub ok : (t : ℕ) → t < txns_of r → (transaction_at r t).outcome ≡ Ok → IsTrue (live t)
   pub fail : (t : ℕ) → (transaction_at r t).outcome ≡ Fail → live t ≡ false

@@ -18,7 +18,8 @@ use Rattle.tx_verdict.specs.Versions.{live_of}
 -- the other, and who read a version saw it.
 pub record IsForced (r : Recording) (x : Explanation) (h : History) (key : ℕ → ℕ) : Type 0 where
   pub writers : (k i : ℕ) → HasVersion h k i → IsWriter r x (h.writer k i) (key k)
-  pub steps : (k i : ℕ) → HasVersion h k i → HasVersion h k (i + 1) → x.commit (h.writer k i) ≤ x.start (h.writer k (i + 1))
+  pub steps : (k i : ℕ) → HasVersion h k i → HasVersion h k (i + 1)
+      → x.commit (h.writer k i) ≤ x.start (h.writer k (i + 1))
   pub seen : (p : Read) → Contains h.reads p → HasVersion h p.key p.version
       → IsNewest r x (key p.key) (x.start p.txn) (h.writer p.key p.version)
   pub none : (p : Read) → Contains h.reads p → p.version ≡ 0 → (w : ℕ) → IsWriter r x w (key p.key)
@@ -48,7 +49,8 @@ IsLinked r ws i = (orders : Orders) (x : Explanation) → Explains r orders x
 
 -- what is live committed
 abbrev pub AreKnown : Recording → Versions → Type 0
-AreKnown r v = (orders : Orders) (x : Explanation) → Explains r orders x → (t : ℕ) → IsTrue (live_of v t) → IsTrue (x.committed t)
+AreKnown r v = (orders : Orders) (x : Explanation) → Explains r orders x → (t : ℕ)
+    → IsTrue (live_of v t) → IsTrue (x.committed t)
 
 abbrev pub AreWriters : Recording → ℕ → List ℕ → Type 0
 AreWriters r k ws = (orders : Orders) (x : Explanation) → Explains r orders x → (i : ℕ) → i < length ws
@@ -75,4 +77,5 @@ no_read = record { txn = 0; key = 0; version = 0 }
 
 -- the operations put values behind those of the key, and this one first
 abbrev pub AddsFirst : List Op → ℕ → ℕ → Type 0
-AddsFirst os k y = (f : Effect) × IsEffect os k f × (f.clears ≡ false) × (1 ≤ length f.values.items) × (slice_index f.values.items 0 ≡ y)
+AddsFirst os k y = (f : Effect) × IsEffect os k f × (f.clears ≡ false)
+    × (1 ≤ length f.values.items) × (slice_index f.values.items 0 ≡ y)

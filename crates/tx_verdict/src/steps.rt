@@ -36,8 +36,8 @@ fn step_of(
     dependency: Dependency,
 ) -> Option<CycleStep>
     requires forced { AreForced recording.now orders (history_of versions.now.recorded) (key_of versions.now) }
-    requires holds { Depends (history_of versions.now.recorded) dependency.kind dependency.from dependency.to dependency.key
-        dependency.version }
+    requires holds { Depends (history_of versions.now.recorded) dependency.kind dependency.from
+        dependency.to dependency.key dependency.version }
     ensures { IfSome result (IsStep recording.now orders) }
 {
     let edge = edge_of(dependency.kind)?;
@@ -105,7 +105,8 @@ fn step_after(
 
 // Adds a step, if it is one.
 fn push_step(steps: &mut Vec<CycleStep>, step: Option<CycleStep>) -> Result<(), AllocError>
-    ensures kept { OnOk result ((s : CycleStep) → Contains steps.new.items s → Contains steps.old.items s ⊎ (step ≡ Some s)) }
+    ensures kept { OnOk result ((s : CycleStep) → Contains steps.new.items s
+        → Contains steps.old.items s ⊎ (step ≡ Some s)) }
 {
     if let Some(step) = step {
         steps.push(step)?;
@@ -143,8 +144,8 @@ fn add_step(
     began: Option<u32>,
 ) -> Result<Option<u32>, AllocError>
     requires forced { AreForced recording.now orders (history_of versions.now.recorded) (key_of versions.now) }
-    requires holds { Depends (history_of versions.now.recorded) dependency.kind dependency.from dependency.to dependency.key
-        dependency.version }
+    requires holds { Depends (history_of versions.now.recorded) dependency.kind dependency.from
+        dependency.to dependency.key dependency.version }
     requires steps { AreSteps recording.now orders steps.old.items }
     ensures { OnOk result (AreSteps recording.now orders steps.new.items) }
 {
