@@ -4,7 +4,7 @@
 use crate::key::KeyFamilies;
 use std::alloc::Global;
 use std::collections::BTreeMap;
-use tx_spelling::KeyBytes;
+use tx_codec::KeyBytes;
 
 mod apply;
 mod cells;
@@ -18,8 +18,11 @@ mod put_lock;
 mod read;
 mod searches;
 mod sees;
+mod timeline;
 mod view;
 mod walks;
+
+pub use timeline::Timeline;
 
 /// The families of a region, nested.
 #[derive(Drop)]
