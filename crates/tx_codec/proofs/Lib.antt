@@ -22,7 +22,3 @@ pub mod KeyLists
 pub mod LockParts
 -- No two records are spelled alike.
 pub mod OneSpelling
--- Keys that are spelt by their first group, its marker, and the groups behind it.
-mod FirstGroups
--- The order of bytes, eight at a time.
-mod ByteOrder

@@ -1,4 +1,3 @@
 pub mod Keys
 pub mod Records
 pub mod Readers
-pub mod Spelt

@@ -12,7 +12,7 @@ use Rattle.std.specs.BTreeMap.{BTreeMap}
 use Rattle.std.specs.BTreeMap.Range.{IsRangeOf}
 use Rattle.std.proofs.lemmas.Cmp.{ranked, tied_itself, nat_list_cmp_total}
 use Rattle.std.proofs.lemmas.Map.Lookups.{exact_bytes}
-use Rattle.tx_codec.specs.Spelt.{version_cmp}
+use Rattle.tx_spelling.specs.Spelt.{version_cmp}
 use Rattle.tx_cells.proofs.Maps.{less_of}
 use Rattle.tx_flat.proofs.Nearest.{beside}
 

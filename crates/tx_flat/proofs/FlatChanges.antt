@@ -20,7 +20,7 @@ use Rattle.tx_plan.specs.declared.key_change.KeyChange.{KeyChange}
 use Rattle.tx_plan.specs.Changes.{CanPut, Applies, changed}
 use Rattle.tx_cells.specs.Contents.{OnKey, Content, IsWhole, cells_of}
 use Rattle.tx_cells.specs.Afterwards.{OnlyOn, after, after_left, put_on, lock_put, with_lock, with_value, apart_of, with_record, commit_of, on_lock}
-use Rattle.tx_codec.specs.Spelt.{version_cmp}
+use Rattle.tx_spelling.specs.Spelt.{version_cmp}
 use Rattle.tx_cells.proofs.Facts.{whole_at, lock_alone}
 use Rattle.tx_cells.proofs.CellsAfter.{cells_after}
 use Rattle.tx_cells.proofs.WholeAfter.{no_value, on_same}

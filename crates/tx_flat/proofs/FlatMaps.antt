@@ -18,7 +18,7 @@ use Rattle.tx_types.specs.declared.lock.LockRec.{LockRec}
 use Rattle.tx_types.specs.declared.write.WriteRec.{WriteRec}
 use Rattle.tx_cells.specs.Contents.{OnKey, Content, IsWhole}
 use Rattle.tx_cells.specs.Afterwards.{OnlyOn}
-use Rattle.tx_codec.specs.Spelt.{version_cmp}
+use Rattle.tx_spelling.specs.Spelt.{version_cmp}
 use Rattle.tx_cells.proofs.Maps.{key_here, key_elsewhere}
 
 -- ---- look-ups of a map of versions that was changed at one version

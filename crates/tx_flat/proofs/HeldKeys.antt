@@ -20,7 +20,7 @@ use Rattle.tx_flat.specs.declared.FlatCells.{FlatCells}
 use Rattle.tx_cells.specs.Contents.{OnKey, cells_in, lock_of, write_of}
 use Rattle.tx_flat.specs.Flats.{flat_content, put_key, in_order, fronts_of, held_keys, rows_on, rows_from}
 use Rattle.tx_flat.specs.NextKeys.{IsHeld, FirstOf}
-use Rattle.tx_codec.specs.Spelt.{version_cmp, exact_versions}
+use Rattle.tx_spelling.specs.Spelt.{version_cmp, exact_versions}
 use Rattle.tx_cells.proofs.CellsAfter.{cells_same}
 use Rattle.tx_flat.proofs.Retaining.{tied}
 use Rattle.tx_flat.proofs.Sieving.{find_first}

@@ -11,7 +11,7 @@ use Rattle.std.specs.BTreeMap.{BTreeMap}
 use Rattle.std.specs.BTreeMap.Range.{IsRangeOf}
 use Rattle.std.proofs.lemmas.Cmp.{ranked, tied_itself, nat_list_cmp_total}
 use Rattle.std.proofs.lemmas.Map.Lookups.{exact_bytes}
-use Rattle.tx_codec.specs.Spelt.{version_cmp}
+use Rattle.tx_spelling.specs.Spelt.{version_cmp}
 
 not_above : (o p : Ordering) → is_gt (ordering_then o p) ≡ false → is_gt o ≡ false
 not_above Less p e = refl

@@ -30,7 +30,7 @@ use Rattle.tx_flat.specs.declared.FlatCells.{FlatCells}
 use Rattle.tx_flat.specs.Flats.{flat_content, fronts_of}
 use Rattle.tx_flat.specs.NextKeys.{IsHeld, FirstOf, lesser_of}
 use Rattle.tx_flat.specs.Positions.{Locks, Writes, coming, locks_where, writes_where, first_of, next_key, is_to_come, IsPosition}
-use Rattle.tx_codec.specs.Spelt.{version_cmp, exact_versions}
+use Rattle.tx_spelling.specs.Spelt.{version_cmp, exact_versions}
 use Rattle.tx_flat.proofs.HeldKeys.{In, lock_in, in_lock, write_in, in_write}
 use Rattle.tx_flat.proofs.Above.{less_cases, less_newer}
 use Rattle.tx_flat.proofs.Retaining.{tied}

@@ -11,7 +11,7 @@ use Rattle.std.specs.declared.cmp.Ordering.TheVariants.{Less, Equal, Greater}
 use Rattle.std.proofs.lemmas.Bool.{cases_Bool}
 use Rattle.std.proofs.lemmas.Map.Entries.{lookup_tail}
 use Rattle.std.proofs.lemmas.Map.Keys.{sorted_head, sorted_tail}
-use Rattle.tx_codec.specs.Spelt.{version_cmp, exact_versions}
+use Rattle.tx_spelling.specs.Spelt.{version_cmp, exact_versions}
 use Rattle.tx_flat.proofs.Sieving.{Version, find, find_first, find_before}
 
 pub tied : (o : Ordering) → is_eq o ≡ true → o ≡ Equal

@@ -17,7 +17,7 @@ use Rattle.tx_plan.proofs.OnceLists.{Once}
 use Rattle.tx_plan.proofs.LockRows.{contains_first, contains_next, contains_cases, contains_none}
 use Rattle.tx_cells.specs.Contents.{write_of}
 use Rattle.tx_flat.specs.Sieves.{writes_of}
-use Rattle.tx_codec.specs.Spelt.{version_cmp, exact_versions}
+use Rattle.tx_spelling.specs.Spelt.{version_cmp, exact_versions}
 use Rattle.tx_flat.proofs.Retaining.{tied}
 use Rattle.tx_flat.proofs.Sieving.{Version, Entries, Place, AreLeft, find, find_first, find_before, first_is, on, keeps_at}
 

@@ -23,7 +23,7 @@ use Rattle.tx_plan.proofs.Collects.{SeenFrom, keeps_above, keeps_put, drops_othe
 use Rattle.tx_cells.specs.Heads.{record_kind}
 use Rattle.tx_flat.specs.Sieves.{is_followed, is_kept, writes_of}
 use Rattle.tx_flat.specs.declared.sieve.Sieve.{Sieve}
-use Rattle.tx_codec.specs.Spelt.{version_cmp, versions_total}
+use Rattle.tx_spelling.specs.Spelt.{version_cmp, versions_total}
 use Rattle.tx_cells.proofs.RecordKinds.{kind_puts, kind_seen, seen_there}
 use Rattle.tx_flat.proofs.Above.{less_cases, less_key, less_newer, newer_of}
 

@@ -16,7 +16,7 @@ use Rattle.tx_plan.specs.declared.view.ReadView.{ReadView}
 use Rattle.tx_plan.specs.Views.{ShowsRead}
 use Rattle.tx_cells.specs.Contents.{cells_of}
 use Rattle.tx_flat.specs.NextKeys.{IsHeld, FirstOf, lesser_of}
-use Rattle.tx_codec.specs.Spelt.{version_cmp}
+use Rattle.tx_spelling.specs.Spelt.{version_cmp}
 use Rattle.tx_flat.specs.Flats.{flat_content, fronts_of}
 use Rattle.tx_flat.specs.declared.FlatCells.{FlatCells}
 

@@ -6,16 +6,16 @@ ghost use Rattle.tx_plan.specs.Changes.{Applies, changed};
 ghost use Rattle.tx_plan.specs.declared.key_change.KeyChange.TheVariants as change;
 ghost use Rattle.tx_cells.specs.Contents.{cells_of};
 ghost use Rattle.tx_cells.specs.Afterwards.{OnlyOn, after, after_left};
-ghost use Rattle.tx_codec.specs.Spelt.{version_cmp};
+ghost use Rattle.tx_spelling.specs.Spelt.{version_cmp};
 
 use crate::FlatCells;
 use std::alloc::Global;
 use std::collections::BTreeMap;
-use tx_codec::{EncodedKey, VersionBytes};
 use tx_plan::{KeyChange, Left};
 use tx_records::{
     WriteBytes, commit_record, lock_with_min, lock_with_ttl, marked_record, rollback_record,
 };
+use tx_spelling::{EncodedKey, VersionBytes};
 use tx_types::{Fault, Ts};
 
 /// Leaves the rollback of the transaction that started then. `OutOfMemory` leaves the records as

@@ -4,7 +4,7 @@ ghost use Rattle.tx_flat.specs.Ceilings.{slot_of, ceiling_of};
 ghost use Rattle.tx_flat.specs.declared.ceilings.TheConstants.{SLOTS};
 
 use std::marker::Model;
-use tx_codec::EncodedKey;
+use tx_spelling::EncodedKey;
 use tx_types::Ts;
 
 /// How many timestamps are kept: keys share one where their last two bytes lead to one slot.

@@ -1,14 +1,14 @@
 //! What is shown of a key.
 ghost use Rattle.std.specs.Prelude.{◌≡◌, ◌↔◌, ◌^◌, ◌<◌, ◌≤◌, ℕ, Some, None, Contains, IsSome, IfSome, IfNone, IfOk, IfErr};
 ghost use Rattle.std.specs.BTreeMap as tree;
-ghost use Rattle.tx_codec.specs.Spelt.{version_cmp};
+ghost use Rattle.tx_spelling.specs.Spelt.{version_cmp};
 ghost use Rattle.tx_cells.specs.Copies.{AreFalling};
 ghost use Rattle.tx_plan.specs.declared.view.LockHead.{LockHead};
 
 use std::alloc::Global;
 use std::collections::BTreeMap;
-use tx_codec::VersionBytes;
 use tx_plan::LockHead;
+use tx_spelling::VersionBytes;
 use tx_types::{Fault, Items, Ts, Value};
 
 /// The start of the value nearest to a version of its key, at its timestamp or below.

@@ -5,8 +5,8 @@ use crate::drop_below::{drop_records, drop_values};
 use crate::numbers::{note, note_back};
 use std::alloc::Global;
 use tx_cells::Changes;
-use tx_codec::EncodedKey;
 use tx_plan::{KeyChange, NewLock, Prewrite};
+use tx_spelling::EncodedKey;
 use tx_types::{Fault, Ts};
 
 impl Changes for FlatCells {

@@ -7,12 +7,12 @@ ghost use Rattle.tx_types.specs.declared.value.Value.{Value};
 ghost use Rattle.tx_codec.specs.Keys.{encoded_key};
 ghost use Rattle.tx_cells.specs.Heads.{record_kind, is_rollback, start_in};
 ghost use Rattle.tx_flat.specs.Sieves.{is_followed, is_kept, writes_of, Outdated};
-ghost use Rattle.tx_codec.specs.Spelt.{version_cmp};
+ghost use Rattle.tx_spelling.specs.Spelt.{version_cmp};
 
 use crate::sieve::Sieve;
 use std::collections::BTreeMap;
-use tx_codec::VersionBytes;
 use tx_records::{WriteBytes, kind_of};
+use tx_spelling::VersionBytes;
 use tx_types::{Ts, Value};
 
 /// The record nearest to a version of its key, above it.

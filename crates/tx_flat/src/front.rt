@@ -1,11 +1,11 @@
 //! The key of a version, spelt into a buffer that is there.
 ghost use Rattle.std.specs.Prelude.{◌≡◌, ◌^◌, ◌<◌, ◌≤◌, ℕ, List, [], take, cond, bytes_eq};
 ghost use Rattle.tx_codec.specs.Keys.{encoded_key};
-ghost use Rattle.tx_codec.specs.Spelt.{spelt};
-ghost use Rattle.tx_codec.specs.declared.spelling.TheConstants.{MAX_ENCODED_REST};
+ghost use Rattle.tx_spelling.specs.Spelt.{spelt};
+ghost use Rattle.tx_spelling.specs.declared.spelling.TheConstants.{MAX_ENCODED_REST};
 
 use std::marker::Model;
-use tx_codec::{MAX_ENCODED_REST, ROOM, VersionBytes};
+use tx_spelling::{MAX_ENCODED_REST, ROOM, VersionBytes};
 
 /// The bytes of an encoded key, or none.
 #[derive(Drop)]

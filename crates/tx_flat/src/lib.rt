@@ -5,7 +5,7 @@ ghost use Rattle.std.specs.Prelude.{◌≡◌, ◌<◌, List, ℕ, None};
 ghost use Rattle.std.specs.BTreeMap as tree;
 ghost use Rattle.std.specs.Ordering.{nat_cmp};
 ghost use Rattle.std.specs.Cmp.Lexicographic.{slice_cmp};
-ghost use Rattle.tx_codec.specs.Spelt.{version_cmp};
+ghost use Rattle.tx_spelling.specs.Spelt.{version_cmp};
 ghost use Rattle.tx_flat.specs.Ceilings.{ceiling_of};
 ghost use Rattle.tx_cells.specs.Contents.{IsWhole};
 
@@ -13,8 +13,8 @@ use ceilings::Ceilings;
 use numbers::KeyNumbers;
 use std::alloc::Global;
 use std::collections::BTreeMap;
-use tx_codec::{KeyBytes, VersionBytes};
 use tx_records::{LockBytes, WriteBytes};
+use tx_spelling::{KeyBytes, VersionBytes};
 use tx_types::Value;
 
 mod apply;

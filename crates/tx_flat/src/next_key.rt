@@ -4,15 +4,15 @@ ghost use Rattle.std.specs.List.Sorted.{IsStrictlySortedBy};
 ghost use Rattle.std.specs.Map.{keys_of};
 ghost use Rattle.std.specs.Map.Iter.{deref_pair};
 ghost use Rattle.tx_types.specs.Keys.{key_lt, key_le};
-ghost use Rattle.tx_codec.specs.Spelt.{version_cmp};
+ghost use Rattle.tx_spelling.specs.Spelt.{version_cmp};
 ghost use Rattle.tx_flat.specs.Positions.{coming, writes_where};
 
 use std::alloc::{AllocError, Global};
 use std::collections::BTreeMap;
 use std::collections::btree_map::Range;
 use std::ops::Bound;
-use tx_codec::VersionBytes;
 use tx_records::WriteBytes;
+use tx_spelling::VersionBytes;
 use tx_types::{Key, Ts};
 
 /// How many entries are passed one by one before a search.

@@ -11,7 +11,7 @@ ghost use Rattle.tx_flat.specs.declared.ceilings.TheConstants.{SLOTS};
 use crate::ceilings::{SLOTS, slot};
 use std::alloc::Global;
 use std::collections::BTreeMap;
-use tx_codec::{EncodedKey, KeyBytes};
+use tx_spelling::{EncodedKey, KeyBytes};
 use tx_types::Fault;
 
 /// The numbers of keys. Keys share a map by the slots of their ceilings, so that each map is

@@ -6,9 +6,9 @@ ghost use Rattle.tx_cells.specs.Afterwards.{OnlyOn, put_on};
 
 use crate::FlatCells;
 use std::alloc::Global;
-use tx_codec::EncodedKey;
 use tx_plan::{NewLock, Prewrite};
 use tx_records::{apart, lock_bytes};
+use tx_spelling::EncodedKey;
 use tx_types::Fault;
 
 impl FlatCells {

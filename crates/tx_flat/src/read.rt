@@ -8,8 +8,8 @@ use crate::FlatCells;
 use crate::searches::{FlatHistory, newest_seen};
 use std::alloc::Global;
 use tx_cells::{SeenRecord, seen_at};
-use tx_codec::{EncodedKey, KeyBytes, VersionBytes};
 use tx_records::{WriteBytes, seen_in};
+use tx_spelling::{EncodedKey, KeyBytes, VersionBytes};
 use tx_types::{Fault, Ts, Value};
 
 impl FlatCells {

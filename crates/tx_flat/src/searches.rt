@@ -4,15 +4,15 @@ ghost use Rattle.std.specs.Prelude.{◌≡◌, ◌≤◌, ℕ, None, Some, IfSom
 ghost use Rattle.std.specs.BTreeMap as tree;
 ghost use Rattle.std.specs.Ordering.{nat_cmp};
 ghost use Rattle.std.specs.Cmp.Lexicographic.{slice_cmp};
-ghost use Rattle.tx_codec.specs.Spelt.{version_cmp};
+ghost use Rattle.tx_spelling.specs.Spelt.{version_cmp};
 ghost use Rattle.tx_cells.specs.Heads.{write_head, lock_head};
 ghost use Rattle.tx_cells.specs.Histories.{IsSeen, AreFitting};
 
 use std::collections::BTreeMap;
 use tx_cells::{History, SeenRecord};
-use tx_codec::{KeyBytes, VersionBytes};
 use tx_plan::{LockHead, RecordHead};
 use tx_records::{LockBytes, WriteBytes, head_of, lock_head_of, seen_in};
+use tx_spelling::{KeyBytes, VersionBytes};
 use tx_types::Ts;
 
 /// What is asked of the lock on this key.

@@ -6,10 +6,10 @@ use crate::searches::{FlatHistory, head_on};
 use crate::sieve::Sieve;
 use std::alloc::Global;
 use tx_cells::{KeyVersions, Sees, records_down, sum};
-use tx_codec::EncodedKey;
 use tx_plan::{
     Answer, Dropped, Infos, ReadView, Scan, TxnView, first_below, infos_below, scan_walk,
 };
+use tx_spelling::EncodedKey;
 use tx_types::{Fault, LockInfo, Ts};
 
 impl Sees for FlatCells {

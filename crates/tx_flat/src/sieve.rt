@@ -6,8 +6,8 @@ ghost use Rattle.tx_cells.specs.Heads.{record_kind};
 ghost use Rattle.tx_flat.specs.Sieves.{is_followed, is_kept};
 
 use crate::front::Front;
-use tx_codec::VersionBytes;
 use tx_records::{WriteBytes, kind_of};
+use tx_spelling::VersionBytes;
 use tx_types::Ts;
 
 /// What the records so far say of the next: the key of the last, and whether a put or delete of it

@@ -8,8 +8,8 @@ use crate::FlatCells;
 use crate::searches::{FlatHistory, are_past, head_at};
 use std::alloc::Global;
 use tx_cells::{Above, commits_above};
-use tx_codec::{EncodedKey, VersionBytes};
 use tx_plan::{LockHead, TxnView};
+use tx_spelling::{EncodedKey, VersionBytes};
 use tx_types::{Fault, Ts};
 
 // Whether a ceiling is below a start and a commit.

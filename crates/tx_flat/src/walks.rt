@@ -14,9 +14,9 @@ use crate::next_key::{Record, next_front};
 use std::alloc::Global;
 use std::collections::btree_map::{Iter, Range};
 use tx_cells::Sees;
-use tx_codec::{EncodedKey, KeyBytes, VersionBytes};
 use tx_plan::{LockHead, LockWalk, ReadView, ReadWalk};
 use tx_records::{LockBytes, WriteBytes, lock_head_of};
+use tx_spelling::{EncodedKey, KeyBytes, VersionBytes};
 use tx_types::{Fault, Key, LockInfo, Ts};
 
 /// A key and its lock, in the maps.

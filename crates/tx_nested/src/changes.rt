@@ -9,8 +9,8 @@ use crate::key::KeyFamilies;
 use std::alloc::Global;
 use std::collections::BTreeMap;
 use tx_cells::Changes;
-use tx_codec::EncodedKey;
 use tx_plan::{KeyChange, NewLock, Prewrite};
+use tx_spelling::EncodedKey;
 use tx_types::{Fault, Ts};
 
 impl Changes for NestedCells {

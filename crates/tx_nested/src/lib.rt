@@ -4,7 +4,7 @@
 use crate::key::KeyFamilies;
 use std::alloc::Global;
 use std::collections::BTreeMap;
-use tx_codec::KeyBytes;
+use tx_spelling::KeyBytes;
 
 mod apply;
 mod cells;

@@ -3,10 +3,10 @@ use crate::NestedCells;
 use crate::view::empty_view;
 use std::alloc::Global;
 use tx_cells::{KeyVersions, Sees, sum};
-use tx_codec::EncodedKey;
 use tx_plan::{
     Answer, Dropped, Infos, ReadView, Scan, TxnView, first_below, infos_below, scan_walk,
 };
+use tx_spelling::EncodedKey;
 use tx_types::{Fault, Items, LockInfo, Ts};
 
 impl Sees for NestedCells {

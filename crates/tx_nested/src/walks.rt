@@ -9,8 +9,8 @@ use crate::key::KeyFamilies;
 use std::alloc::Global;
 use std::collections::btree_map::{Iter, Range};
 use tx_cells::Sees;
-use tx_codec::{EncodedKey, KeyBytes};
 use tx_plan::{LockHead, LockWalk, ReadView, ReadWalk};
+use tx_spelling::{EncodedKey, KeyBytes};
 use tx_types::{Fault, Key, LockInfo, Ts};
 
 /// A walk over keys, rising.

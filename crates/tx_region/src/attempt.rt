@@ -5,10 +5,10 @@ ghost use Rattle.tx_region.specs.Planning.{IsCopyFor, IsPlanFor};
 use crate::copy::{KeyView, Loaded, RegionNumbers};
 use crate::planning::plan_on;
 use std::marker::Model;
-use tx_codec::KeyBytes;
 use tx_core::SeatNo;
 use tx_journal::{AnswerWithLock, JournalId, Request, Told};
 use tx_plan::ReadView;
+use tx_spelling::KeyBytes;
 use tx_types::Ts;
 
 /// What a region had seen when a key was copied, and the key, as it is spelt.

@@ -5,9 +5,9 @@ ghost use Rattle.tx_region.specs.Planning.{IsCopyFor, IsPlanFor};
 use crate::copy::{KeyView, Loaded, RegionNumbers};
 use crate::planning::plan;
 use std::marker::Model;
-use tx_codec::KeyBytes;
 use tx_core::SeatNo;
 use tx_journal::{JournalId, Request, Told};
+use tx_spelling::KeyBytes;
 
 /// A copy of what a request sees of its key in a region, which stays so long as the key is not
 /// changed: the answer can be planned of it while others have the region. It is known to be of that

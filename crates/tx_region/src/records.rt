@@ -35,9 +35,9 @@ use crate::planning::key_of;
 use std::alloc::Global;
 use std::mem::replace;
 use tx_cells::{Families, ShownKey};
-use tx_codec::{EncodedKey, KeyBytes};
 use tx_journal::AnswerWithLock;
 use tx_plan::{Answer, Body, KeyChange, Plan, PlannedAnswer, Prewrite};
+use tx_spelling::{EncodedKey, KeyBytes};
 use tx_types::{Fault, Key, Mutation, Ts};
 
 /// What a command answered, and the timestamp that it read, if it read one.

@@ -26,10 +26,10 @@ use crate::routing::holds;
 use std::alloc::Global;
 use std::marker::{Brand, Model};
 use tx_cells::{Families, ShownKey};
-use tx_codec::KeyBytes;
 use tx_core::{Answer, Body, SeatNo};
 use tx_journal::{AnswerWithLock, Journal, JournalId, Reply, Request, Seat, StepEvent, Told};
 use tx_plan::KeyChange;
+use tx_spelling::KeyBytes;
 use tx_types::{Fault, Key, Mode, Ts};
 
 /// A region of the journal `J`. Contracts see its seat: its number, its ticks and the events that

@@ -7,11 +7,11 @@ ghost use Rattle.tx_cells.specs.Contents.{cells_of};
 use crate::cells::steps::At;
 use std::alloc::Global;
 use tx_cells::Families;
-use tx_codec::EncodedKey;
 use tx_plan::{
     BatchRollback, Commit, Dropped, KeyChange, Plan, Prewrite, plan_batch_rollback, plan_commit,
     plan_prewrite,
 };
+use tx_spelling::EncodedKey;
 use tx_types::{Fault, Key, Mode, Mutation, Secondaries, Ts, Value};
 
 /// What values are cut from.

@@ -2,8 +2,8 @@
 use crate::cells::steps::{At, Range, Record};
 use std::alloc::Global;
 use tx_cells::{Families, KeyVersions};
-use tx_codec::EncodedKey;
 use tx_plan::{Answer, Infos, LockHead, ReadView, RecordHead, Scan, Starts};
+use tx_spelling::EncodedKey;
 use tx_types::{Fault, Key, LockInfo, Ts};
 
 /// Whether a read sees a value of so many bytes, or none.

@@ -5,8 +5,8 @@ ghost use Rattle.tx_cells.specs.Contents.{nothing_held};
 use std::alloc::Global;
 use std::sync::atomic::{AtomicU64, Ordering};
 use tx_cells::{Changes, Families, Fresh, Holds, KeyVersions, Sees};
-use tx_codec::EncodedKey;
 use tx_plan::{Answer, Dropped, Infos, KeyChange, NewLock, Prewrite, ReadView, Scan, TxnView};
+use tx_spelling::EncodedKey;
 use tx_types::{Fault, LockInfo, Ts};
 
 /// Families whose Nth call that may be refused memory is, and no other.

@@ -7,11 +7,11 @@ use std::sync::{Arc, Wait};
 use std::test::Fail;
 use std::thread::{Threads, yield_now};
 use tx_cells::{Changes, Families, Holds, KeyVersions, Sees};
-use tx_codec::EncodedKey;
 use tx_nested::NestedCells;
 use tx_plan::{Answer, Dropped, Infos, KeyChange, NewLock, Prewrite, ReadView, Scan, TxnView};
 use tx_run::{Makes, Settings, run_script};
 use tx_sched::Open;
+use tx_spelling::EncodedKey;
 use tx_text::Broken;
 use tx_types::{Fault, Key, LockInfo, Ts};
 

@@ -8,9 +8,9 @@ use std::sync::Arc;
 use std::sync::atomic::{AtomicU64, Ordering};
 use std::thread::yield_now;
 use tx_cells::{Changes, Families, Holds, KeyVersions, Sees};
-use tx_codec::EncodedKey;
 use tx_nested::NestedCells;
 use tx_plan::{Answer, Dropped, Infos, KeyChange, NewLock, Prewrite, ReadView, Scan, TxnView};
+use tx_spelling::EncodedKey;
 use tx_types::{Fault, Key, LockInfo, Ts};
 
 /// The first look-ups of `a` and `b`, each of which looks for the other.

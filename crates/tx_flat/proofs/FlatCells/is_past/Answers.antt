@@ -1,7 +1,7 @@
 use Rattle.std.proofs.Common.{◌<◌, sym, arith}
 use Rattle.std.specs.BTreeMap as tree
 use Rattle.tx_flat.specs.Ceilings.{ceiling_of}
-use Rattle.tx_codec.specs.Spelt.{version_cmp}
+use Rattle.tx_spelling.specs.Spelt.{version_cmp}
 use Rattle.tx_flat.specs.Flats.{flat_content}
 use Rattle.tx_cells.proofs.Facts.{fitting, whole_at}
 use Rattle.tx_flat.proofs.FlatBounds.{none_past}

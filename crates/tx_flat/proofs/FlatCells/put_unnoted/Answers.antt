@@ -4,7 +4,7 @@ use Rattle.std.specs.Ordering.{nat_cmp}
 use Rattle.std.specs.Cmp.Lexicographic.{slice_cmp}
 use Rattle.tx_cells.specs.Contents.{cells_of}
 use Rattle.tx_cells.specs.Afterwards.{put_on}
-use Rattle.tx_codec.specs.Spelt.{version_cmp}
+use Rattle.tx_spelling.specs.Spelt.{version_cmp}
 use Rattle.tx_flat.specs.Flats.{flat_content}
 use Rattle.tx_cells.proofs.Facts.{whole_at}
 use Rattle.tx_cells.proofs.CellsAfter.{cells_put}

@@ -6,7 +6,7 @@ use Rattle.std.specs.Cmp.Lexicographic.{slice_cmp}
 use Rattle.tx_types.specs.Keys.{key_le}
 use Rattle.tx_flat.specs.Flats.{flat_content}
 use Rattle.tx_flat.specs.Positions.{coming, locks_where, writes_where, next_key}
-use Rattle.tx_codec.specs.Spelt.{version_cmp}
+use Rattle.tx_spelling.specs.Spelt.{version_cmp}
 use Rattle.tx_cells.proofs.Facts.{fitting, whole_at}
 use Rattle.tx_flat.proofs.HeldKeys.{walk_from}
 use Rattle.tx_flat.proofs.Positions.{le_upward, slot, first_held, searched_from, searched_lock, coming_is}

@@ -5,7 +5,7 @@ use Rattle.std.specs.Cmp.Lexicographic.{slice_cmp}
 use Rattle.tx_plan.specs.declared.key_change.KeyChange.TheVariants as change
 use Rattle.tx_cells.specs.Afterwards.{OnlyOn, after}
 use Rattle.tx_flat.specs.Ceilings.{ceiling_of}
-use Rattle.tx_codec.specs.Spelt.{version_cmp}
+use Rattle.tx_spelling.specs.Spelt.{version_cmp}
 use Rattle.tx_flat.specs.Flats.{flat_content}
 use Rattle.tx_cells.proofs.WholeAfter.{whole_after}
 use Rattle.tx_flat.proofs.FlatMaps.{Writes, AllWhole, content_by, same_versions, whole_on}

@@ -5,7 +5,7 @@ use Rattle.std.specs.Cmp.Lexicographic.{slice_cmp}
 use Rattle.tx_types.specs.declared.lock.LockRec.{LockRec}
 use Rattle.tx_plan.specs.declared.key_change.KeyChange.TheVariants as change
 use Rattle.tx_cells.specs.Afterwards.{after, with_min}
-use Rattle.tx_codec.specs.Spelt.{version_cmp}
+use Rattle.tx_spelling.specs.Spelt.{version_cmp}
 use Rattle.tx_flat.specs.Flats.{flat_content}
 use Rattle.tx_cells.proofs.WholeAfter.{whole_after}
 use Rattle.tx_flat.proofs.FlatMaps.{Locks, AllWhole, content_by, same_keys, whole_on}

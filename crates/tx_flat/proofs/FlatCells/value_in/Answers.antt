@@ -4,7 +4,7 @@ use Rattle.tx_types.specs.declared.value.Value.{Value}
 use Rattle.tx_types.specs.declared.write.WriteRec.TheVariants.{Commit}
 use Rattle.tx_plan.specs.Reads.{Reads}
 use Rattle.tx_cells.specs.Contents.{cells_of}
-use Rattle.tx_codec.specs.Spelt.{version_cmp}
+use Rattle.tx_spelling.specs.Spelt.{version_cmp}
 use Rattle.tx_flat.specs.Flats.{flat_content}
 use Rattle.tx_cells.specs.Heads.{write_inline, write_keeps_apart}
 use Rattle.tx_cells.proofs.Facts.{write_kept, whole_at, if_ok}

@@ -6,7 +6,7 @@ use Rattle.tx_plan.specs.Reads.{Reads}
 use Rattle.tx_cells.specs.Contents.{cells_of}
 use Rattle.tx_flat.specs.Ceilings.{ceiling_of}
 use Rattle.tx_flat.specs.Flats.{flat_content}
-use Rattle.tx_codec.specs.Spelt.{version_cmp}
+use Rattle.tx_spelling.specs.Spelt.{version_cmp}
 use Rattle.tx_flat.proofs.FlatBounds.{at_most}
 use Rattle.tx_flat.proofs.FlatCells.value_seen.Goals as goal
 

@@ -2,7 +2,7 @@ use Rattle.std.proofs.Common.{ℕ, List, ap, subst, ◌∙◌}
 use Rattle.std.specs.Prelude.{MatchOption, option_map}
 use Rattle.std.specs.BTreeMap as tree
 use Rattle.tx_plan.specs.declared.view.CommitAt.{CommitAt}
-use Rattle.tx_codec.specs.Spelt.{version_cmp}
+use Rattle.tx_spelling.specs.Spelt.{version_cmp}
 use Rattle.tx_flat.specs.Flats.{flat_content}
 use Rattle.tx_cells.specs.Histories.{Records, CommitsAt, CommitsAbove, IsNewest}
 use Rattle.tx_cells.specs.Heads.{write_head}

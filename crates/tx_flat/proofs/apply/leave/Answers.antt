@@ -1,6 +1,6 @@
 use Rattle.std.proofs.Common.{Some, subst}
 use Rattle.std.specs.BTreeMap as tree
-use Rattle.tx_codec.specs.Spelt.{version_cmp}
+use Rattle.tx_spelling.specs.Spelt.{version_cmp}
 use Rattle.tx_flat.proofs.FlatMaps.{off_version}
 use Rattle.tx_flat.proofs.FlatChanges.{VersionChanged}
 use Rattle.tx_flat.proofs.apply.leave.Goals as goal

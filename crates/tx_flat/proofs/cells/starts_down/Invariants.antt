@@ -1,6 +1,6 @@
 use Rattle.std.proofs.Common.{◌≡◌, ℕ}
 use Rattle.std.specs.BTreeMap as tree
-use Rattle.tx_codec.specs.Spelt.{version_cmp}
+use Rattle.tx_spelling.specs.Spelt.{version_cmp}
 use Rattle.tx_cells.proofs.Falling.{Down, HasStart}
 use Rattle.tx_flat.proofs.cells.starts_down.Given as goal
 

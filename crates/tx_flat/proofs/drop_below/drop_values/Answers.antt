@@ -4,7 +4,7 @@ use Rattle.std.specs.BTreeMap as tree
 use Rattle.std.specs.BTreeMap.{BTreeMap}
 use Rattle.tx_types.specs.declared.write.WriteRec.{WriteRec}
 use Rattle.tx_flat.specs.Sieves.{Outdated}
-use Rattle.tx_codec.specs.Spelt.{version_cmp}
+use Rattle.tx_spelling.specs.Spelt.{version_cmp}
 use Rattle.tx_flat.proofs.Retaining.{Sifted, sifts}
 use Rattle.tx_flat.proofs.Sieving.{Version}
 use Rattle.tx_flat.proofs.drop_below.drop_values.Goals as goal

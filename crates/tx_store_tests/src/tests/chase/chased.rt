@@ -7,8 +7,8 @@ use std::sync::Arc;
 use std::sync::atomic::{AtomicU64, Ordering};
 use std::thread::yield_now;
 use tx_cells::{Changes, Families, Fresh, Holds, KeyVersions, Sees};
-use tx_codec::EncodedKey;
 use tx_plan::{Answer, Dropped, Infos, KeyChange, NewLock, Prewrite, ReadView, Scan, TxnView};
+use tx_spelling::EncodedKey;
 use tx_types::{Fault, LockInfo, Ts};
 
 /// How far two threads are, of which one reads while the other prewrites.

@@ -2,7 +2,7 @@ use Rattle.std.proofs.Math.Logic.{∥∥₁_map}
 use Rattle.std.specs.BTreeMap as tree
 use Rattle.tx_flat.specs.Flats.{flat_content}
 use Rattle.tx_flat.specs.Ceilings.{ceiling_of}
-use Rattle.tx_codec.specs.Spelt.{version_cmp}
+use Rattle.tx_spelling.specs.Spelt.{version_cmp}
 use Rattle.tx_cells.proofs.Facts.{whole_at}
 use Rattle.tx_flat.proofs.FlatDrops.{whole_now, collected_now, cells_now}
 use Rattle.tx_flat.proofs.FlatBounds.{below_less, kept_none}

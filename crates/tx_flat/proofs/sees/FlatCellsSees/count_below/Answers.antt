@@ -5,7 +5,7 @@ use Rattle.std.specs.Ordering.{nat_cmp}
 use Rattle.std.specs.Cmp.Lexicographic.{slice_cmp}
 use Rattle.tx_cells.specs.Contents.{lock_of}
 use Rattle.tx_flat.specs.Flats.{flat_content}
-use Rattle.tx_codec.specs.Spelt.{version_cmp}
+use Rattle.tx_spelling.specs.Spelt.{version_cmp}
 use Rattle.tx_cells.proofs.Facts.{whole_at}
 use Rattle.tx_cells.proofs.RecordKinds.{kind_is, apart_is}
 use Rattle.tx_flat.proofs.Sieving.{AreLeft, Goes, keeps_at, says, knows_on, left_rest, left_all, knows_none, first_is}

@@ -1,6 +1,0 @@
-use Rattle.std.proofs.Common.{sym}
-use Rattle.tx_codec.proofs.FirstGroups.{tells_same}
-use Rattle.tx_codec.proofs.version.VersionBytes.is_beside.Goals as goal
-
-pub returns : goal.returns
-returns c = rw (c.eq.ensures, sym c.self.view_is, sym c.other.view_is) (tells_same c.self.inside.key c.other.inside.key)
