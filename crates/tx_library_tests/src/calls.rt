@@ -143,7 +143,9 @@ fn get<J: JournalId, S: Sender<Request<J>, Reply<J>>>(
 fn scan<J: JournalId, S: Sender<Request<J>, Reply<J>>>(
     alloc: Global,
     session: &mut Session<J>,
-    (from, to, limit): (&[u8], &[u8], u32),
+    from: &[u8],
+    to: &[u8],
+    limit: u32,
     sender: &mut S,
 ) -> Result<Answer, Miss>
     requires way { IsSender J.bounds S.fits S.sends S.keys_between }
@@ -182,7 +184,7 @@ pub fn perform<J: JournalId, S: Sender<Request<J>, Reply<J>>>(
         }
         Op::Get(key) => Came::Answered(get(alloc, session, key, sender).map(Some)),
         Op::Scan(from, to, limit) => {
-            Came::Answered(scan(alloc, session, (from, to, limit), sender).map(Some))
+            Came::Answered(scan(alloc, session, from, to, limit, sender).map(Some))
         }
         _ => prepare(alloc, session, op),
     }

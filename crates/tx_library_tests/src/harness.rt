@@ -138,7 +138,7 @@ impl<J: JournalId, S: Sender<Request<J>, Reply<J>>> Harness<J, S> {
             return ORDER;
         };
         self.sender.show();
-        let short = leave_orphan(self.alloc, &mut seat, (first, second), &mut self.sender);
+        let short = leave_orphan(self.alloc, &mut seat, first, second, &mut self.sender);
         drop(seat);
         short
     }

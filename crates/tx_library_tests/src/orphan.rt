@@ -103,7 +103,8 @@ fn orphan<J: JournalId, S: Sender<Request<J>, Reply<J>>>(
 pub fn leave_orphan<J: JournalId, S: Sender<Request<J>, Reply<J>>>(
     alloc: Global,
     seat: &mut Seat<J>,
-    (first, second): (&[u8], &[u8]),
+    first: &[u8],
+    second: &[u8],
     sender: &mut S,
 ) -> Short
     requires way { IsSender J.bounds S.fits S.sends S.keys_between }
