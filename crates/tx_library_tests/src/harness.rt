@@ -40,6 +40,14 @@ fn shortened<J: JournalId>(mut seat: Seat<J>, left: u32) -> Seat<J> {
     seat
 }
 
+// How many steps came out as they say, up to the first that did not, and whether no session was
+// refused memory of its own once all that a step sends was answered.
+#[derive(Clone, Copy)]
+struct Tally {
+    right: usize,
+    refuses_first: bool,
+}
+
 /// How requests reach the regions, the seats that are free, the seat of the resolver and of the
 /// collector, and the sessions.
 #[derive(Drop)]
@@ -176,26 +184,21 @@ impl<J: JournalId, S: Sender<Request<J>, Reply<J>>> Harness<J, S> {
         }
     }
 
-    // Whether no session was refused memory of its own once all that a step sends was answered.
-    fn refuses_first(&mut self, steps: &[Step]) -> bool {
-        for (who, op, delivery, _, _) in steps {
-            let short = self.step(*who, *op, *delivery);
-            if short.0 == "E12" && self.sender.is_answered(most(*op)) {
-                return false;
-            }
-        }
-        true
-    }
-
-    // How many steps came out as they say, up to the first that did not.
-    fn play(&mut self, steps: &[Step]) -> usize {
-        let mut played = 0_usize;
+    fn play(&mut self, steps: &[Step]) -> Tally {
+        let mut played = Tally {
+            right: 0,
+            refuses_first: true,
+        };
+        let mut goes_on = true;
         for (who, op, delivery, word, number) in steps {
             let short = self.step(*who, *op, *delivery);
-            if short.0 != *word || short.1 != *number {
-                return played;
+            goes_on = goes_on && short.0 == *word && short.1 == *number;
+            if goes_on {
+                played.right = played.right.wrapping_add(1);
             }
-            played = played.wrapping_add(1);
+            if short.0 == "E12" && self.sender.is_answered(most(*op)) {
+                played.refuses_first = false;
+            }
         }
         played
     }
@@ -244,7 +247,7 @@ fn play<J: JournalId, R: Wait>(
     alloc: Global,
     opened: Opened,
     steps: &[Step],
-) -> Option<usize>
+) -> Option<Tally>
     requires name { (opened.table ≡ J.table) × (opened.bounds ≡ J.bounds) × (opened.seats ≡ J.seats) }
     requires three { length J.bounds ≡ 2 }
 {
@@ -254,23 +257,6 @@ fn play<J: JournalId, R: Wait>(
     drop(harness);
     drop(store);
     Some(played)
-}
-
-fn judge<J: JournalId, R: Wait>(
-    rt: &R,
-    alloc: Global,
-    opened: Opened,
-    steps: &[Step],
-) -> Option<bool>
-    requires name { (opened.table ≡ J.table) × (opened.bounds ≡ J.bounds) × (opened.seats ≡ J.seats) }
-    requires three { length J.bounds ≡ 2 }
-{
-    let (store, seats) = open::<J, NestedCells, Plain>(alloc, opened, &Plain, 3)?;
-    let mut harness = harness_over(rt, alloc, &store, seats)?;
-    let holds = harness.refuses_first(steps);
-    drop(harness);
-    drop(store);
-    Some(holds)
 }
 
 // The keys between the regions.
@@ -288,17 +274,19 @@ fn bounds(alloc: Global) -> Option<Vec<Key>>
     Some(keys)
 }
 
-/// How many steps came out as they say, up to the first that did not.
-pub fn played<R: Wait>(rt: &R, alloc: Global, steps: &[Step]) -> Option<usize> {
+fn run<R: Wait>(rt: &R, alloc: Global, steps: &[Step]) -> Option<Tally> {
     let bounds = bounds(alloc)?;
     let opened = Opened::new(alloc, bounds, 6).ok()?;
     play::<Brand, R>(rt, alloc, opened, steps)
 }
 
+/// How many steps came out as they say, up to the first that did not.
+pub fn played<R: Wait>(rt: &R, alloc: Global, steps: &[Step]) -> Option<usize> {
+    Some(run(rt, alloc, steps)?.right)
+}
+
 /// Whether no step of these, however each comes out, says that memory was refused once all that it
 /// sends was answered. None where memory was refused before the first.
 pub fn refuses_first<R: Wait>(rt: &R, alloc: Global, steps: &[Step]) -> Option<bool> {
-    let bounds = bounds(alloc)?;
-    let opened = Opened::new(alloc, bounds, 6).ok()?;
-    judge::<Brand, R>(rt, alloc, opened, steps)
+    Some(run(rt, alloc, steps)?.refuses_first)
 }

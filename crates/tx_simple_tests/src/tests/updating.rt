@@ -44,7 +44,7 @@ struct Case(
 
 const PLAIN: (u32, Delivery) = (0, Delivery::Plain);
 
-const CASES: [Case; 19] = [
+const CASES: [Case; 25] = [
     // It goes well at once.
     Case(
         Before::Empty,
@@ -205,6 +205,62 @@ const CASES: [Case; 19] = [
         ("committed", "lost"),
         1,
         1,
+    ),
+    // A request is taken twice: it is answered as before.
+    Case(
+        Before::Empty,
+        (0, Delivery::Repeat),
+        (Deed::Put(1), Mode::TwoPhase),
+        0,
+        ("committed", "done"),
+        1,
+        1,
+    ),
+    Case(
+        Before::Empty,
+        (1, Delivery::Repeat),
+        (Deed::Put(1), Mode::TwoPhase),
+        0,
+        ("committed", "done"),
+        1,
+        1,
+    ),
+    Case(
+        Before::Empty,
+        (0, Delivery::Repeat),
+        (Deed::Insert(1), Mode::Async),
+        0,
+        ("committed", "done"),
+        1,
+        1,
+    ),
+    // A prewrite or a commit that comes after the rollback that its sender asked for changes nothing.
+    Case(
+        Before::Empty,
+        (0, Delivery::Late),
+        (Deed::Put(1), Mode::TwoPhase),
+        1,
+        ("committed", "done"),
+        2,
+        1,
+    ),
+    Case(
+        Before::Empty,
+        (0, Delivery::Late),
+        (Deed::Put(1), Mode::Async),
+        0,
+        ("aborted", "lost"),
+        1,
+        0,
+    ),
+    Case(
+        Before::Empty,
+        (1, Delivery::Late),
+        (Deed::Put(1), Mode::TwoPhase),
+        0,
+        ("aborted", "lost"),
+        1,
+        0,
     ),
     // Memory is refused.
     Case(

@@ -1,4 +1,4 @@
-use Rattle.tx_library_tests.proofs.harness.played.Given as goal
+use Rattle.tx_library_tests.proofs.harness.run.Given as goal
 
 -- the journal that was just opened
 abbrev pub ghosts-play : goal.ghosts-play
