@@ -1,12 +1,15 @@
-//! A sender that loses, holds and repeats requests.
+//! A way to the regions of a store that loses, delays and repeats requests.
 ghost use Rattle.std.specs.Prelude.{◌≡◌, IfSome};
-ghost use Rattle.tx_journal.specs.Senders.{IsHeld, IsSender, LosesNothing};
+ghost use Rattle.tx_journal.specs.Senders.{IsHeld, IsSender};
 
 use crate::refusing::Refusing;
 use std::marker::Model;
 use std::mem::replace;
+use std::sync::Wait;
+use tx_cells::Families;
 use tx_journal::{JournalId, Lost, Reply, Request, Seat, Sender};
 use tx_resolve::Counts;
+use tx_store::Wire;
 use tx_types::{Fault, Key, Ts};
 
 /// What becomes of a request.
@@ -26,10 +29,10 @@ pub enum Delivery {
     Refuse,
 }
 
-/// A sender by which one request fares so, after so many that are delivered plainly.
-#[derive(Drop)]
-pub struct Faulty<J: JournalId, S: Sender<Request<J>, Reply<J>>> {
-    sender: Refusing<J, S>,
+/// A way to the regions of a store by which one request fares so, after so many that are delivered
+/// plainly.
+pub struct Faulty<'a, J: JournalId, F: Families + Drop, R: Wait> {
+    wire: Refusing<'a, J, F, R>,
     late: Option<Request<J>>,
     skipped: u32,
     delivery: Delivery,
@@ -39,7 +42,7 @@ pub struct Faulty<J: JournalId, S: Sender<Request<J>, Reply<J>>> {
     answered: bool,
 }
 
-impl<J: JournalId, S: Sender<Request<J>, Reply<J>>> Model for Faulty<J, S> {
+impl<'a, J: JournalId, F: Families + Drop, R: Wait> Model for Faulty<'a, J, F, R> {
     ghost use Rattle.std.specs.Prelude.{IfSome, ℕ};
     ghost use Rattle.tx_journal.specs.Senders.{IsHeld};
 
@@ -50,13 +53,24 @@ impl<J: JournalId, S: Sender<Request<J>, Reply<J>>> Model for Faulty<J, S> {
     ghost invariant = { λ s. IfSome s.late (λ q. IsHeld J.bounds q.body) };
 }
 
-impl<J: JournalId, S: Sender<Request<J>, Reply<J>>> Faulty<J, S> {
+impl<'a, J: JournalId, F: Families + Drop, R: Wait> Drop for Faulty<'a, J, F, R> {
+    fn drop(self) {
+        let Self {
+            wire: _,
+            late: _,
+            skipped: _,
+            delivery: _,
+            asked: _,
+            answered: _,
+        } = self;
+    }
+}
+
+impl<'a, J: JournalId, F: Families + Drop, R: Wait> Faulty<'a, J, F, R> {
     /// Each request is delivered plainly. By the seat a region is refused memory.
-    pub fn new(sender: S, seat: Seat<J>) -> Faulty<J, S>
-        requires way { IsSender J.bounds S.fits S.sends S.keys_between }
-    {
+    pub fn new(wire: Wire<'a, J, F, R>, seat: Seat<J>) -> Faulty<'a, J, F, R> {
         Faulty {
-            sender: Refusing::new(sender, seat),
+            wire: Refusing::new(wire, seat),
             late: None,
             skipped: 0,
             delivery: Delivery::Plain,
@@ -69,9 +83,9 @@ impl<J: JournalId, S: Sender<Request<J>, Reply<J>>> Faulty<J, S> {
     /// does nothing when it runs.
     pub fn show(&self)
         ensures { IsSender J.bounds
-            ⟦<Faulty<J, S> as Sender<Request<J>, Reply<J>>>⟧.fits
-            ⟦<Faulty<J, S> as Sender<Request<J>, Reply<J>>>⟧.sends
-            ⟦<Faulty<J, S> as Sender<Request<J>, Reply<J>>>⟧.keys_between }
+            ⟦<Faulty<'a, J, F, R> as Sender<Request<J>, Reply<J>>>⟧.fits
+            ⟦<Faulty<'a, J, F, R> as Sender<Request<J>, Reply<J>>>⟧.sends
+            ⟦<Faulty<'a, J, F, R> as Sender<Request<J>, Reply<J>>>⟧.keys_between }
     {
         let _ = self.skipped;
     }
@@ -96,15 +110,13 @@ impl<J: JournalId, S: Sender<Request<J>, Reply<J>>> Faulty<J, S> {
 
     /// A collector collects at this safe point. Nothing that it sends is lost, but a region may
     /// be refused memory.
-    pub fn collect(&mut self, collector: &mut Seat<J>, safe: Ts) -> Result<Counts, Fault>
-        requires lossless { LosesNothing S.sends }
-    {
+    pub fn collect(&mut self, collector: &mut Seat<J>, safe: Ts) -> Result<Counts, Fault> {
         let skipped = replace(&mut self.skipped, 0);
         let refused = match self.delivery {
             Delivery::Refuse => skipped.saturating_add(1),
             _ => 0,
         };
-        self.sender.collect(collector, safe, refused)
+        self.wire.collect(collector, safe, refused)
     }
 
     // How the next request is delivered.
@@ -121,9 +133,9 @@ impl<J: JournalId, S: Sender<Request<J>, Reply<J>>> Faulty<J, S> {
         requires { IsHeld J.bounds request.body }
         ensures { IfSome result (λ g. g.request ≡ request) }
     {
-        let reply = self.sender.send(request).ok();
+        let reply = self.wire.send(request).ok();
         if let Some(late) = self.late.take() {
-            drop(self.sender.send(late));
+            drop(self.wire.send(late));
         }
         reply
     }
@@ -133,7 +145,7 @@ impl<J: JournalId, S: Sender<Request<J>, Reply<J>>> Faulty<J, S> {
         requires { IsHeld J.bounds request.body }
         ensures { IfSome result (λ g. g.request ≡ request) }
     {
-        if let Ok(copy) = self.sender.copy(&mut request) {
+        if let Ok(copy) = self.wire.copy(&mut request) {
             drop(self.take(copy));
         }
         self.take(request)
@@ -159,7 +171,7 @@ impl<J: JournalId, S: Sender<Request<J>, Reply<J>>> Faulty<J, S> {
                 drop(replace(&mut self.late, Some(request)));
                 None
             }
-            Delivery::Refuse => Some(self.sender.refuse(request)),
+            Delivery::Refuse => Some(self.wire.refuse(request)),
         }
     }
 }
@@ -172,7 +184,8 @@ fn is_answer<J: JournalId>(reply: &Option<Reply<J>>) -> bool {
     }
 }
 
-impl<J: JournalId, S: Sender<Request<J>, Reply<J>>> Sender<Request<J>, Reply<J>> for Faulty<J, S> {
+impl<'a, J: JournalId, F: Families + Drop, R: Wait> Sender<Request<J>, Reply<J>>
+    for Faulty<'a, J, F, R> {
     ghost use Rattle.std.specs.Prelude.{◌≡◌, IfOk};
     ghost use Rattle.tx_journal.specs.Senders.{IsHeld};
 
@@ -191,6 +204,6 @@ impl<J: JournalId, S: Sender<Request<J>, Reply<J>>> Sender<Request<J>, Reply<J>>
     }
 
     fn bounds(&self) -> &[Key] {
-        self.sender.bounds()
+        self.wire.bounds()
     }
 }

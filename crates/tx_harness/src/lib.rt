@@ -1,6 +1,6 @@
-//! For tests of what stands on stores: a store of some regions (`open`), a sender that loses, holds
-//! and repeats requests, and whose regions may be refused memory (`Faulty`), and families whose
-//! calls are watched (`Watched`).
+//! For tests of what stands on stores: a store of some regions (`open`), a way to it that loses,
+//! delays and repeats requests, or by which memory is refused for them (`Faulty`), and families
+//! whose calls are watched (`Watched`).
 #![tactic(auto)]
 
 mod faulty;

@@ -1,41 +1,38 @@
-//! A sender whose regions may be refused memory.
+//! A way to the regions of a store which may be refused memory.
 ghost use Rattle.std.specs.Prelude.{◌≡◌, IfOk};
-ghost use Rattle.tx_journal.specs.Senders.{IsHeld, IsSender, LosesNothing};
 
-use std::marker::Model;
+use std::sync::Wait;
+use tx_cells::Families;
 use tx_journal::{JournalId, Lost, Reply, Request, Seat, Sender};
 use tx_resolve::{Counts, gc};
+use tx_store::Wire;
 use tx_types::{Fault, Key, Ts};
 
-/// A sender that loses no more than the one it hands its requests to. A region may be refused
-/// memory for an answer.
-#[derive(Drop)]
-pub struct Refusing<J: JournalId, S: Sender<Request<J>, Reply<J>>> {
-    sender: S,
+/// A way to the regions of a store, which loses nothing. A region may be refused memory for an
+/// answer.
+pub struct Refusing<'a, J: JournalId, F: Families + Drop, R: Wait> {
+    wire: Wire<'a, J, F, R>,
     /// By which a region is refused memory.
     seat: Seat<J>,
     /// Of the next requests the one that is refused memory, counted from 1; 0 is none.
     refused: u32,
 }
 
-impl<J: JournalId, S: Sender<Request<J>, Reply<J>>> Model for Refusing<J, S> {
-    ghost use Rattle.std.specs.Prelude.{ℕ};
-    ghost use Rattle.tx_journal.specs.Senders.{IsSender};
-
-    ghost Value = { ℕ };
-
-    ghost view = { λ r. r.refused };
-
-    ghost invariant = { λ r. IsSender J.bounds S.fits S.sends S.keys_between };
+impl<'a, J: JournalId, F: Families + Drop, R: Wait> Drop for Refusing<'a, J, F, R> {
+    fn drop(self) {
+        let Self {
+            wire: _,
+            seat: _,
+            refused: _,
+        } = self;
+    }
 }
 
-impl<J: JournalId, S: Sender<Request<J>, Reply<J>>> Refusing<J, S> {
+impl<'a, J: JournalId, F: Families + Drop, R: Wait> Refusing<'a, J, F, R> {
     /// No region is refused memory.
-    pub fn new(sender: S, seat: Seat<J>) -> Refusing<J, S>
-        requires way { IsSender J.bounds S.fits S.sends S.keys_between }
-    {
+    pub fn new(wire: Wire<'a, J, F, R>, seat: Seat<J>) -> Refusing<'a, J, F, R> {
         Refusing {
-            sender,
+            wire,
             seat,
             refused: 0,
         }
@@ -64,9 +61,7 @@ impl<J: JournalId, S: Sender<Request<J>, Reply<J>>> Refusing<J, S> {
         collector: &mut Seat<J>,
         safe: Ts,
         refused: u32,
-    ) -> Result<Counts, Fault>
-        requires lossless { LosesNothing S.sends }
-    {
+    ) -> Result<Counts, Fault> {
         self.refused = refused;
         gc(collector, safe, self)
     }
@@ -81,15 +76,14 @@ fn comes_to_zero(count: &mut u32) -> bool {
     *count == 0
 }
 
-impl<J: JournalId, S: Sender<Request<J>, Reply<J>>> Sender<Request<J>, Reply<J>>
-    for Refusing<J, S> {
+impl<'a, J: JournalId, F: Families + Drop, R: Wait> Sender<Request<J>, Reply<J>>
+    for Refusing<'a, J, F, R> {
     ghost use Rattle.std.specs.Prelude.{◌≡◌, IfOk, IfErr};
-    ghost use Rattle.tx_journal.specs.Senders.{IsHeld, LosesNothing};
+    ghost use Rattle.tx_journal.specs.Senders.{IsHeld};
 
     ghost fits = { λ r q. IsHeld J.bounds q.body };
 
-    ghost sends = { λ r q came t. IfOk came (λ g. g.request ≡ q)
-        × IfErr came (λ e. LosesNothing S.sends → ⊥) };
+    ghost sends = { λ r q came t. IfOk came (λ g. g.request ≡ q) × IfErr came (λ e. ⊥) };
 
     ghost keys_between = { λ r. J.bounds };
 
@@ -97,10 +91,10 @@ impl<J: JournalId, S: Sender<Request<J>, Reply<J>>> Sender<Request<J>, Reply<J>>
         if comes_to_zero(&mut self.refused) {
             return Ok(self.refuse(request));
         }
-        self.sender.send(request)
+        self.wire.send(request)
     }
 
     fn bounds(&self) -> &[Key] {
-        self.sender.bounds()
+        self.wire.bounds()
     }
 }

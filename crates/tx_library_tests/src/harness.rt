@@ -15,7 +15,7 @@ use std::sync::Wait;
 use tx_cells::Plain;
 use tx_client::Session;
 use tx_harness::{Delivery, Faulty, open};
-use tx_journal::{JournalId, Opened, Reply, Request, Seat, Sender};
+use tx_journal::{JournalId, Opened, Seat};
 use tx_nested::NestedCells;
 use tx_store::{Store, Wire};
 use tx_types::{Key, Ts};
@@ -51,16 +51,16 @@ struct Tally {
 /// How requests reach the regions, the seats that are free, the seat of the resolver and of the
 /// collector, and the sessions.
 #[derive(Drop)]
-struct Harness<J: JournalId, S: Sender<Request<J>, Reply<J>>> {
+struct Harness<'a, J: JournalId, R: Wait> {
     alloc: Global,
-    sender: Faulty<J, S>,
+    sender: Faulty<'a, J, NestedCells, R>,
     seats: Vec<Seat<J>>,
     resolver: Seat<J>,
     a: Option<Session<J>>,
     b: Option<Session<J>>,
 }
 
-impl<J: JournalId, S: Sender<Request<J>, Reply<J>>> Harness<J, S> {
+impl<'a, J: JournalId, R: Wait> Harness<'a, J, R> {
     // A session is there from now on.
     fn keep(&mut self, who: Who, session: Option<Session<J>>) {
         match who {
@@ -227,14 +227,12 @@ fn harness_over<'a, J: JournalId, R: Wait>(
     alloc: Global,
     store: &'a Store<J, NestedCells>,
     mut seats: Vec<Seat<J>>,
-) -> Option<Harness<J, Wire<'a, J, NestedCells, R>>> {
+) -> Option<Harness<'a, J, R>> {
     let resolver = seats.pop()?;
     let seat = seats.pop()?;
-    let wire = Wire::new(rt, store);
-    wire.show();
     Some(Harness {
         alloc,
-        sender: Faulty::new(wire, seat),
+        sender: Faulty::new(Wire::new(rt, store), seat),
         seats,
         resolver,
         a: None,

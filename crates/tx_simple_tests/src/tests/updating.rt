@@ -349,9 +349,7 @@ fn update_in<J: JournalId, R: Wait>(
 ) -> Option<((&'static str, &'static str), u32, Seats<J>)> {
     let (seats, seat) = own;
     let Case(_, (spared, delivery), (deed, mode), again, _, _, _) = *case;
-    let wire = Wire::new(rt, store);
-    wire.show();
-    let mut sender = Faulty::new(wire, seat);
+    let mut sender = Faulty::new(Wire::new(rt, store), seat);
     sender.set_delivery(delivery);
     sender.skip(spared);
     sender.show();
