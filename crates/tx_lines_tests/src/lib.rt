@@ -1,6 +1,9 @@
-//! What is scanned of lines and what they say, replies; latches, and jobs side by side.
+//! What is scanned of lines and what they say, lines of histories, replies; latches, and jobs side
+//! by side.
 #![tactic(auto)]
 
+#[cfg(test)]
+mod import;
 #[cfg(test)]
 mod latch;
 #[cfg(test)]

@@ -1,5 +1,4 @@
 //! Locks that are resolved, and updates that go well, are tried again or stop.
-mod faulty;
 mod leaving;
 mod meeting;
 mod opening;

@@ -89,7 +89,7 @@ fn resolves<J: JournalId, R: Wait>(
     later: u64,
 ) -> Option<(&'static str, &'static str, &'static str)>
     requires name { (opened.table ≡ J.table) × (opened.bounds ≡ J.bounds) × (opened.seats ≡ J.seats) }
-    requires counts { (length J.bounds ≡ 1) × (J.seats ≡ 8) }
+    requires two { length J.bounds ≡ 1 }
 {
     let (store, seats) = open::<J>(alloc, opened)?;
     let words = reads(rt, &store, alloc, seats, later);

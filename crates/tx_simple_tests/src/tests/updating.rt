@@ -1,7 +1,6 @@
 //! Updates that go well, are tried again, or stop.
 ghost use Rattle.std.specs.Prelude.{◌≡◌, length};
 
-use crate::tests::faulty::{Faulty, Turn};
 use crate::tests::leaving::leave_lock;
 use crate::tests::opening::{journal, open, pair};
 use crate::tests::works::{Contended, Deed, Doing, run};
@@ -9,6 +8,7 @@ use std::alloc::Global;
 use std::marker::Brand;
 use std::sync::Wait;
 use std::test::Fail;
+use tx_harness::{Delivery, Faulty};
 use tx_journal::{JournalId, Opened, Seat};
 use tx_nested::NestedCells;
 use tx_simple::Seats;
@@ -34,7 +34,7 @@ enum Before {
 #[derive(Clone, Copy)]
 struct Case(
     Before,
-    (u32, Turn),
+    (u32, Delivery),
     (Deed, Mode),
     u32,
     (&'static str, &'static str),
@@ -42,9 +42,9 @@ struct Case(
     u8,
 );
 
-const PLAIN: (u32, Turn) = (0, Turn::Plain);
+const PLAIN: (u32, Delivery) = (0, Delivery::Plain);
 
-const CASES: [Case; 19] = [
+const CASES: [Case; 25] = [
     // It goes well at once.
     Case(
         Before::Empty,
@@ -171,7 +171,7 @@ const CASES: [Case; 19] = [
     // A request is lost: it is aborted, and tried again.
     Case(
         Before::Empty,
-        (0, Turn::Loses),
+        (0, Delivery::Lose),
         (Deed::Put(1), Mode::TwoPhase),
         0,
         ("aborted", "lost"),
@@ -180,7 +180,7 @@ const CASES: [Case; 19] = [
     ),
     Case(
         Before::Empty,
-        (0, Turn::Loses),
+        (0, Delivery::Lose),
         (Deed::Put(1), Mode::TwoPhase),
         1,
         ("committed", "done"),
@@ -190,7 +190,7 @@ const CASES: [Case; 19] = [
     // The reply that decides is lost: it is asked for.
     Case(
         Before::Empty,
-        (1, Turn::LosesReply),
+        (1, Delivery::LoseReply),
         (Deed::Put(1), Mode::TwoPhase),
         1,
         ("committed", "lost"),
@@ -199,17 +199,73 @@ const CASES: [Case; 19] = [
     ),
     Case(
         Before::Empty,
-        (0, Turn::LosesReply),
+        (0, Delivery::LoseReply),
         (Deed::Put(1), Mode::Async),
         1,
         ("committed", "lost"),
         1,
         1,
     ),
+    // A request is taken twice: it is answered as before.
+    Case(
+        Before::Empty,
+        (0, Delivery::Repeat),
+        (Deed::Put(1), Mode::TwoPhase),
+        0,
+        ("committed", "done"),
+        1,
+        1,
+    ),
+    Case(
+        Before::Empty,
+        (1, Delivery::Repeat),
+        (Deed::Put(1), Mode::TwoPhase),
+        0,
+        ("committed", "done"),
+        1,
+        1,
+    ),
+    Case(
+        Before::Empty,
+        (0, Delivery::Repeat),
+        (Deed::Insert(1), Mode::Async),
+        0,
+        ("committed", "done"),
+        1,
+        1,
+    ),
+    // A prewrite or a commit that comes after the rollback that its sender asked for changes nothing.
+    Case(
+        Before::Empty,
+        (0, Delivery::Late),
+        (Deed::Put(1), Mode::TwoPhase),
+        1,
+        ("committed", "done"),
+        2,
+        1,
+    ),
+    Case(
+        Before::Empty,
+        (0, Delivery::Late),
+        (Deed::Put(1), Mode::Async),
+        0,
+        ("aborted", "lost"),
+        1,
+        0,
+    ),
+    Case(
+        Before::Empty,
+        (1, Delivery::Late),
+        (Deed::Put(1), Mode::TwoPhase),
+        0,
+        ("aborted", "lost"),
+        1,
+        0,
+    ),
     // Memory is refused.
     Case(
         Before::Empty,
-        (0, Turn::Refuses),
+        (0, Delivery::Refuse),
         (Deed::Put(1), Mode::Async),
         3,
         ("aborted", "refused"),
@@ -218,7 +274,7 @@ const CASES: [Case; 19] = [
     ),
     Case(
         Before::Value,
-        (0, Turn::Refuses),
+        (0, Delivery::Refuse),
         (Deed::Read, Mode::Async),
         3,
         ("read-only", "refused"),
@@ -292,9 +348,11 @@ fn update_in<J: JournalId, R: Wait>(
     case: &Case,
 ) -> Option<((&'static str, &'static str), u32, Seats<J>)> {
     let (seats, seat) = own;
-    let Case(_, (spared, turn), (deed, mode), again, _, _, _) = *case;
-    let mut way = Faulty::new(Wire::new(rt, store), seat, spared, turn);
-    way.show();
+    let Case(_, (spared, delivery), (deed, mode), again, _, _, _) = *case;
+    let mut sender = Faulty::new(Wire::new(rt, store), seat);
+    sender.set_delivery(delivery);
+    sender.skip(spared);
+    sender.show();
     let mut work = Contended {
         rt,
         store,
@@ -302,7 +360,7 @@ fn update_in<J: JournalId, R: Wait>(
         rival,
         doing: Doing::new(deed),
     };
-    let (ends, seats) = run(alloc, seats, (mode, 10), again, &mut work, &mut way)?;
+    let (ends, seats) = run(alloc, seats, (mode, 10), again, &mut work, &mut sender)?;
     Some((ends, work.doing.calls, seats))
 }
 
@@ -326,7 +384,7 @@ fn ends_so<J: JournalId, R: Wait>(
 
 fn plays<J: JournalId, R: Wait>(rt: &R, alloc: Global, opened: Opened, case: &Case) -> Option<bool>
     requires name { (opened.table ≡ J.table) × (opened.bounds ≡ J.bounds) × (opened.seats ≡ J.seats) }
-    requires counts { (length J.bounds ≡ 1) × (J.seats ≡ 8) }
+    requires two { length J.bounds ≡ 1 }
 {
     let (store, seats) = open::<J>(alloc, opened)?;
     let is = ends_so(rt, &store, alloc, seats, case);

@@ -1,5 +1,0 @@
-use Rattle.tx_harness_tests.proofs.harness.played.Given as goal
-
--- the journal that was just opened
-abbrev pub ghosts-play : goal.ghosts-play
-ghosts-play a = record { table = a.opened.table; bounds = a.opened.bounds; seats = a.opened.seats }

@@ -1,5 +1,0 @@
-//! Lines of histories, and the first that says no transaction.
-#![tactic(auto)]
-
-#[cfg(test)]
-mod tests;

@@ -1,0 +1,2 @@
+-- A transaction of no session may declare two keys.
+mod Orphans

@@ -1,6 +1,0 @@
-use Rattle.std.proofs.Common.{◌≡◌}
-use Rattle.tx_region_tests.proofs.desk.Desk.take_held.Given as goal
-
--- the region is still that one
-abbrev pub invariant-loop-request : goal.invariant-loop-request
-invariant-loop-request g l = l.self.region.seat ≡ l.fn.self.region.seat

@@ -1,5 +1,0 @@
-use Rattle.tx_region_tests.proofs.planning_tests.holds_over.Given as goal
-
--- the journal that was just opened
-abbrev pub ghosts-played : goal.ghosts-played
-ghosts-played g a = record { table = a.opened.table; bounds = a.opened.bounds; seats = a.opened.seats }
