@@ -6,3 +6,5 @@ pub mod Placing
 pub mod Retrying
 -- What a session's reads find.
 pub mod Reading
+pub mod Paging
+pub mod Entering

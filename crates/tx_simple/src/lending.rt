@@ -8,6 +8,7 @@ ghost use Rattle.tx_transaction.specs.Buffers.{buffered};
 ghost use Rattle.tx_transaction.specs.Sessions.{is_declared};
 ghost use Rattle.tx_simple.specs.Reads.{Finds, FindsRows, AnswersRead, AnswersScan};
 
+use crate::rows::{KeyRange, enter_over};
 use crate::running::{Begun, Running};
 use crate::stopping::{Stop, stop_by};
 use std::alloc::Global;
@@ -25,7 +26,7 @@ pub trait Tx {
     ghost use Rattle.tx_types.specs.declared.mutation.Mutation.TheVariants as mutation;
     ghost use Rattle.tx_core.specs.Histories.{History};
     ghost use Rattle.tx_transaction.specs.Buffers.{Entries, touched, put_over, inserted, locked, buffered};
-    ghost use Rattle.tx_simple.specs.Reads.{Finds, FindsRows};
+    ghost use Rattle.tx_simple.specs.Reads.{Finds, FindsRows, FindsRange};
 
     /// What is entered so far.
     ghost buffer: { Self → Entries };
@@ -56,6 +57,14 @@ pub trait Tx {
     fn scan(&mut self, from: &Key, to: &Key, limit: u32) -> Result<KeyValues, Stop>
         ensures same { (buffer self.new ≡ buffer self.old) × (begins self.new ≡ begins self.old) }
         ensures finds { IfOk result (λ rows. FindsRows (seen self.new) (begins self.old) from.now to.now limit rows) };
+
+    /// The rows of a range, of any number, from a key, or from the least, and up to but not
+    /// including another, or to the greatest: each as `get` finds it, so that what was entered
+    /// lies over what is seen at the start. It asks page by page, and stops as `get` does.
+    fn range(&mut self, from: Option<Key>, to: Option<Key>) -> Result<KeyValues, Stop>
+        ensures same { (buffer self.new ≡ buffer self.old) × (begins self.new ≡ begins self.old) }
+        ensures finds { IfOk result
+            (λ rows. FindsRange (buffer self.old) (seen self.new) (begins self.old) from to rows) };
 
     /// Enters a put. `Refused` for more than 1,024 keys, or for want of memory: nothing is entered
     /// then.
@@ -90,12 +99,12 @@ pub trait Tx {
 /// A running session that declares nothing yet.
 #[derive(Drop)]
 pub(crate) struct Lent<'a, J: JournalId, S: Sender<Request<J>, Reply<J>>, B: Begun> {
-    running: Running<'a, J, S, B>,
+    pub(crate) running: Running<'a, J, S, B>,
     ghost open: { is_declared B.session.state ≡ false },
 }
 
 // The value that a read of a key found.
-fn value_in(answer: Answer) -> Result<Option<Value>, Stop>
+pub(crate) fn value_in(answer: Answer) -> Result<Option<Value>, Stop>
     ensures { IfOk result (λ found. (entered : Option Mutation) (h : History) (start : ℕ) (key : Key)
         → AnswersRead entered h start key answer → Finds entered h start key found) }
 {
@@ -107,7 +116,7 @@ fn value_in(answer: Answer) -> Result<Option<Value>, Stop>
 }
 
 // The rows that a scan found.
-fn rows_in(answer: Answer) -> Result<KeyValues, Stop>
+pub(crate) fn rows_in(answer: Answer) -> Result<KeyValues, Stop>
     ensures { IfOk result (λ rows. answer ≡ Rows rows) }
 {
     match answer {
@@ -149,7 +158,7 @@ impl<'a, J: JournalId, S: Sender<Request<J>, Reply<J>>, B: Begun> Lent<'a, J, S,
     }
 
     // Reads a key, once.
-    fn look(&mut self, key: &Key) -> Result<Option<Answer>, Stop>
+    pub(crate) fn look(&mut self, key: &Key) -> Result<Option<Answer>, Stop>
         ensures same { self.new.running.state.buffer ≡ self.old.running.state.buffer }
         ensures reads { IfOk result (λ found. IfSome found (AnswersRead (buffered self.old.running.state.buffer key.now)
             self.new.running.seat.events B.session.state.start key.now)) }
@@ -159,7 +168,7 @@ impl<'a, J: JournalId, S: Sender<Request<J>, Reply<J>>, B: Begun> Lent<'a, J, S,
     }
 
     // Reads a range, once.
-    fn look_over(&mut self, from: &Key, to: &Key, limit: u32) -> Result<Option<Answer>, Stop>
+    pub(crate) fn look_over(&mut self, from: &Key, to: &Key, limit: u32) -> Result<Option<Answer>, Stop>
         ensures same { self.new.running.state.buffer ≡ self.old.running.state.buffer }
         ensures reads { IfOk result (λ found. IfSome found
             (AnswersScan self.new.running.seat.events B.session.state.start from.now to.now limit)) }
@@ -200,6 +209,14 @@ impl<'a, J: JournalId, S: Sender<Request<J>, Reply<J>>, B: Begun> Tx for Lent<'a
             }
         }
         Err(Stop::Waits(WaitCause::Live))
+    }
+
+    fn range(&mut self, from: Option<Key>, to: Option<Key>) -> Result<KeyValues, Stop> {
+        let range = KeyRange::new(self.running.alloc(), from, to)?;
+        let mut rows = self.seen_in(&range)?;
+        let changes = self.running.entered()?;
+        enter_over(&mut rows, changes.as_slice(), &range)?;
+        Ok(KeyValues::from_vec(rows))
     }
 
     fn put(&mut self, key: Key, value: Value) -> Result<(), Stop> {

@@ -6,6 +6,8 @@ mod ending;
 mod failure;
 mod lending;
 mod meeting;
+mod range;
+mod rows;
 mod running;
 mod stopping;
 mod trying;

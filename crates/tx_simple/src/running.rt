@@ -11,10 +11,10 @@ use crate::meeting::clear_met;
 use crate::stopping::Stop;
 use std::alloc::Global;
 use std::marker::{Brand, Model, PhantomData};
-use tx_client::{Miss, Session, Status};
+use tx_client::{Miss, Session, Status, Terms};
 use tx_core::Answer;
 use tx_journal::{JournalId, Reply, Request, Seat, Sender};
-use tx_types::{Fault, Key, Ts, Value};
+use tx_types::{Changes, Fault, Key, Mode, Ts, Value};
 
 /// Where a session sets out. The call that runs it picks this.
 pub(crate) trait Begun {
@@ -165,6 +165,21 @@ impl<'a, J: JournalId, S: Sender<Request<J>, Reply<J>>, B: Begun> Running<'a, J,
         // For proofs: what its seat has seen is a run.
         self.session.show();
         result
+    }
+
+    /// What was entered, in the order in which its keys were first entered.
+    pub(crate) fn entered(&self) -> Result<Changes, Fault>
+        ensures { IfOk result (λ changes. changes ≡ changes_of self.now.state.buffer) }
+    {
+        let terms = Terms {
+            mode: Mode::Async,
+            ttl: 0,
+            max_commit: None,
+        };
+        match self.session.declaration(self.alloc, Ts::ZERO, &terms)? {
+            Some(declaration) => Ok(declaration.changes),
+            None => Ok(Changes::new(self.alloc)),
+        }
     }
 
     /// Resolves the lock that last stood in its way, at the last timestamp that was drawn, and
