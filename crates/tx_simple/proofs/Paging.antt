@@ -7,7 +7,7 @@ use Rattle.tx_types.specs.declared.mutation.KeyValue.{KeyValue}
 use Rattle.tx_types.specs.Keys.{key_lt, key_le, is_between, is_scanned, IsRising, value_in, reaches}
 use Rattle.tx_machine.proofs.Basics.{key_test, none_is}
 use Rattle.tx_plan.proofs.KeyOrder.{key_same, lt_trans, lt_itself, lt_le, le_itself, le_cases, le_lt, lt_then_le, not_lt, lt_other}
-use Rattle.tx_simple.specs.Ranges.{AreRowsOf, row_with}
+use Rattle.tx_simple.specs.Ranges.{AreRowsOf, IsSplit, row_with}
 
 -- ---- tests
 
@@ -286,3 +286,55 @@ module _ (tells : Key → Option Value → Type 0) where
                 cc (nothing))
           ]
         ]
+
+-- ---- pages, one behind the other
+
+module _ (tells : Key → Option Value → Type 0) (from to : Key) where
+  -- the rows so far are those of the range up to a key, at which the next page begins
+  abbrev pub AreSoFar : Key → List KeyValue → Type 0
+  AreSoFar next rows = AreRowsOf (is_between from next) tells rows × IsTrue (key_le from next)
+      × (IsTrue (key_le next to) ⊎ (rows ≡ []))
+
+  pub none_so_far : AreSoFar from []
+  none_so_far = (
+    none_there tells (is_between from from) (λ k inside. let both = between_both from from k inside in
+        lt_itself from (le_lt from k from both.0 both.1)),
+    le_itself from,
+    inr refl,
+  )
+
+  module _ (at end next : Key) (old page front : List KeyValue) (h : AreSoFar at old) (on : IsTrue (key_le at end))
+      (upto : IsTrue (key_le end to)) (p : AreRowsOf (is_scanned at end 1024 page) tells page) where
+    -- one page more
+    pub more_so_far : IsSplit page end front next → AreSoFar next (old ++ front)
+    more_so_far (inl (short, rows, same)) =
+        subst (λ (k : Key). AreSoFar k (old ++ front)) (sym same)
+        (subst (λ (r : List KeyValue). AreSoFar end (old ++ r)) (sym rows) (
+          joined tells from at end h.1 on old page h.0 (short_page tells at end 1024 page p short),
+          le_trans from at end h.1 on,
+          inl upto,
+        ))
+    more_so_far (inr (v, is)) =
+        let q : AreRowsOf (is_scanned at end 1024 (front ++ row_with next v ∷ [])) tells (front ++ row_with next v ∷ []) =
+        subst (λ (r : List KeyValue). AreRowsOf (is_scanned at end 1024 r) tells r) is p in
+        let inside = between_both at end next (last_within tells at end 1024 front (row_with next v) q) in (
+          joined tells from at next h.1 inside.0 old front h.0
+              (front_of_page tells at end 1024 front (row_with next v) q),
+          le_trans from at next h.1 inside.0,
+          inl (le_trans next end to (lt_le next end inside.1) upto),
+        )
+
+  -- all are there once the next page would begin at the end
+  pub all_so_far : (next : Key) (rows : List KeyValue) → AreSoFar next rows → IsTrue (key_le to next)
+      → AreRowsOf (is_between from to) tells rows
+  all_so_far next rows (h, up, ends) le = record {
+    rising = h.rising;
+    within = λ k v e. elim ends [
+      | inl upto ↦ (let both = between_both from next k (h.within k v e) in
+          between from to k both.0 (lt_then_le k next to both.1 upto))
+      | inr none ↦ absurd (let nothing : None ≡ Some v = subst (λ (r : List KeyValue). value_in r k ≡ Some v) none e in
+          cc (nothing))
+    ];
+    each = λ k inside. let both = between_both from to k inside in
+        h.each k (between from next k both.0 (lt_then_le k to next both.1 le));
+  }

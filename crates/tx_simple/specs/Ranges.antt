@@ -1,5 +1,5 @@
 -- The rows of a range of keys.
-use Rattle.std.specs.Prelude.{◌≡◌, ◌&&◌, ℕ, Bool, true, false, cond, List, [], ◌∷◌, ◌++◌, replicate, Option, Some, None, bytes_eq, IsTrue}
+use Rattle.std.specs.Prelude.{◌≡◌, ◌⊎◌, ◌<◌, ◌&&◌, ℕ, Bool, true, false, cond, List, [], ◌∷◌, ◌++◌, length, replicate, Option, Some, None, bytes_eq, IsTrue}
 use Rattle.tx_types.specs.declared.key.Key.{Key}
 use Rattle.tx_types.specs.declared.value.Value.{Value}
 use Rattle.tx_types.specs.declared.mutation.Change.{Change}
@@ -44,6 +44,12 @@ row_with k v = record { key = k; value = v }
 abbrev pub row_of : Key → Option Value → List KeyValue
 row_of k None = []
 row_of k (Some v) = row_with k v ∷ []
+
+-- The rows of a page before the next page begins: all where the page is not full, and the next then
+-- begins at the end of the range; else all but the last, at which it begins.
+abbrev pub IsSplit : List KeyValue → Key → List KeyValue → Key → Type 0
+IsSplit page end front next = (length page < 1024) × (front ≡ page) × (next ≡ end)
+    ⊎ ((v : Value) × (page ≡ front ++ row_with next v ∷ []))
 
 -- rows that rise, with this value at a key, or none
 abbrev pub with_value : List KeyValue → Key → Option Value → List KeyValue

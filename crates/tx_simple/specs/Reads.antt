@@ -1,5 +1,5 @@
 -- What a transaction that is lent finds where it reads.
-use Rattle.std.specs.Prelude.{◌≡◌, ℕ, List, Option, Some, None}
+use Rattle.std.specs.Prelude.{◌≡◌, ℕ, cond, List, Option, Some, None}
 use Rattle.tx_types.specs.declared.key.Key.{Key}
 use Rattle.tx_types.specs.declared.value.Value.{Value}
 use Rattle.tx_types.specs.declared.mutation.KeyValue.{KeyValue}
@@ -12,7 +12,7 @@ use Rattle.tx_machine.specs.Machine.{Sees, SeesRows, table_of}
 use Rattle.tx_core.specs.Histories.{History, Begins}
 use Rattle.tx_core.specs.Shadow.{shadow}
 use Rattle.tx_core.specs.Worlds.{IsWorldRun}
-use Rattle.tx_transaction.specs.Buffers.{Entries, buffered}
+use Rattle.tx_transaction.specs.Buffers.{Entries, buffered, is_known}
 use Rattle.tx_laws.specs.Scans.{scan_at}
 use Rattle.tx_simple.specs.Ranges.{AreRowsOf, is_in_range}
 
@@ -44,6 +44,12 @@ AnswersScan h start from to limit _ = Unit {0}
 abbrev pub FindsRange : Entries → History → ℕ → Option Key → Option Key → List KeyValue → Type 0
 FindsRange entries h start from to rows =
     AreRowsOf (is_in_range from to) (λ k found. Finds (buffered entries k) h start k found) rows
+
+-- what the one-step machine sees at a key at the start, where no put, insert or delete of the key
+-- lies over it
+abbrev pub Beneath : Entries → History → ℕ → Key → Option Value → Type 0
+Beneath entries h start k found = cond (is_known (buffered entries k)) (Unit {0})
+    (Sees (table_of (shadow h)).row k start found)
 
 -- the one-step machine sees this at a key, in each world run that begins with what is known
 abbrev pub SeesOn : List Key → History → ℕ → Key → Option Value → Type 0

@@ -3,10 +3,12 @@ ghost use Rattle.std.specs.Prelude.{◌≡◌, ℕ, false, Option, Ok, IfOk, IfS
 ghost use Rattle.tx_types.specs.declared.key.Key.{Key};
 ghost use Rattle.tx_types.specs.declared.mutation.Mutation.{Mutation};
 ghost use Rattle.tx_plan.specs.declared.answer.Answer.TheVariants.{Rows};
-ghost use Rattle.tx_core.specs.Histories.{History};
+ghost use Rattle.tx_types.specs.Keys.{is_scanned};
+ghost use Rattle.tx_core.specs.Histories.{History, Begins};
 ghost use Rattle.tx_transaction.specs.Buffers.{buffered};
 ghost use Rattle.tx_transaction.specs.Sessions.{is_declared};
-ghost use Rattle.tx_simple.specs.Reads.{Finds, FindsRows, AnswersRead, AnswersScan};
+ghost use Rattle.tx_simple.specs.Ranges.{AreRowsOf};
+ghost use Rattle.tx_simple.specs.Reads.{Finds, FindsRows, AnswersRead, AnswersScan, SeesOn, TellsPage};
 
 use crate::rows::{KeyRange, enter_over};
 use crate::running::{Begun, Running};
@@ -104,7 +106,7 @@ pub(crate) struct Lent<'a, J: JournalId, S: Sender<Request<J>, Reply<J>>, B: Beg
 }
 
 // The value that a read of a key found.
-pub(crate) fn value_in(answer: Answer) -> Result<Option<Value>, Stop>
+fn value_in(answer: Answer) -> Result<Option<Value>, Stop>
     ensures { IfOk result (λ found. (entered : Option Mutation) (h : History) (start : ℕ) (key : Key)
         → AnswersRead entered h start key answer → Finds entered h start key found) }
 {
@@ -116,7 +118,7 @@ pub(crate) fn value_in(answer: Answer) -> Result<Option<Value>, Stop>
 }
 
 // The rows that a scan found.
-pub(crate) fn rows_in(answer: Answer) -> Result<KeyValues, Stop>
+fn rows_in(answer: Answer) -> Result<KeyValues, Stop>
     ensures { IfOk result (λ rows. answer ≡ Rows rows) }
 {
     match answer {
@@ -145,6 +147,7 @@ impl<'a, J: JournalId, S: Sender<Request<J>, Reply<J>>, B: Begun> Lent<'a, J, S,
     // What a read answered; none where a lock was in its way that it may pass by now.
     fn passed(&mut self, response: Result<Answer, Miss>) -> Result<Option<Answer>, Stop>
         ensures same { self.new.running.state.buffer ≡ self.old.running.state.buffer }
+        ensures more { Begins self.old.running.seat.events self.new.running.seat.events }
         ensures answers { IfOk result
             (λ found. IfSome found (λ a. (response ≡ Ok a) × (self.new.running ≡ self.old.running))) }
     {
@@ -158,8 +161,9 @@ impl<'a, J: JournalId, S: Sender<Request<J>, Reply<J>>, B: Begun> Lent<'a, J, S,
     }
 
     // Reads a key, once.
-    pub(crate) fn look(&mut self, key: &Key) -> Result<Option<Answer>, Stop>
+    fn look(&mut self, key: &Key) -> Result<Option<Answer>, Stop>
         ensures same { self.new.running.state.buffer ≡ self.old.running.state.buffer }
+        ensures more { Begins self.old.running.seat.events self.new.running.seat.events }
         ensures reads { IfOk result (λ found. IfSome found (AnswersRead (buffered self.old.running.state.buffer key.now)
             self.new.running.seat.events B.session.state.start key.now)) }
     {
@@ -168,13 +172,48 @@ impl<'a, J: JournalId, S: Sender<Request<J>, Reply<J>>, B: Begun> Lent<'a, J, S,
     }
 
     // Reads a range, once.
-    pub(crate) fn look_over(&mut self, from: &Key, to: &Key, limit: u32) -> Result<Option<Answer>, Stop>
+    fn look_over(&mut self, from: &Key, to: &Key, limit: u32) -> Result<Option<Answer>, Stop>
         ensures same { self.new.running.state.buffer ≡ self.old.running.state.buffer }
+        ensures more { Begins self.old.running.seat.events self.new.running.seat.events }
         ensures reads { IfOk result (λ found. IfSome found
             (AnswersScan self.new.running.seat.events B.session.state.start from.now to.now limit)) }
+        ensures tells { IfOk result (λ found. IfSome found
+            (TellsPage J.bounds self.new.running.seat.events B.session.state.start from.now to.now limit)) }
     {
         let response = self.running.scan(from, to, limit);
         self.passed(response)
+    }
+
+    /// The value of a key at the start, or what was entered of it. Locks in its way are resolved.
+    pub(crate) fn find(&mut self, key: &Key) -> Result<Option<Value>, Stop>
+        ensures same { self.new.running.state.buffer ≡ self.old.running.state.buffer }
+        ensures more { Begins self.old.running.seat.events self.new.running.seat.events }
+        ensures finds { IfOk result (λ found. Finds (buffered self.old.running.state.buffer key.now)
+            self.new.running.seat.events B.session.state.start key.now found) }
+    {
+        for _ in 0..MAX_SCAN_ROWS {
+            if let Some(answer) = self.look(key)? {
+                return value_in(answer);
+            }
+        }
+        Err(Stop::Waits(WaitCause::Live))
+    }
+
+    /// The first rows of a range at the start. Locks in its way are resolved.
+    pub(crate) fn page(&mut self, from: &Key, to: &Key, limit: u32) -> Result<KeyValues, Stop>
+        ensures same { self.new.running.state.buffer ≡ self.old.running.state.buffer }
+        ensures more { Begins self.old.running.seat.events self.new.running.seat.events }
+        ensures finds { IfOk result
+            (λ rows. FindsRows self.new.running.seat.events B.session.state.start from.now to.now limit rows) }
+        ensures tells { IfOk result (λ rows. AreRowsOf (is_scanned from.now to.now limit rows)
+            (SeesOn J.bounds self.new.running.seat.events B.session.state.start) rows) }
+    {
+        for _ in 0..MAX_SCAN_ROWS {
+            if let Some(answer) = self.look_over(from, to, limit)? {
+                return rows_in(answer);
+            }
+        }
+        Err(Stop::Waits(WaitCause::Live))
     }
 }
 
@@ -194,26 +233,16 @@ impl<'a, J: JournalId, S: Sender<Request<J>, Reply<J>>, B: Begun> Tx for Lent<'a
     }
 
     fn get(&mut self, key: &Key) -> Result<Option<Value>, Stop> {
-        for _ in 0..MAX_SCAN_ROWS {
-            if let Some(answer) = self.look(key)? {
-                return value_in(answer);
-            }
-        }
-        Err(Stop::Waits(WaitCause::Live))
+        self.find(key)
     }
 
     fn scan(&mut self, from: &Key, to: &Key, limit: u32) -> Result<KeyValues, Stop> {
-        for _ in 0..MAX_SCAN_ROWS {
-            if let Some(answer) = self.look_over(from, to, limit)? {
-                return rows_in(answer);
-            }
-        }
-        Err(Stop::Waits(WaitCause::Live))
+        self.page(from, to, limit)
     }
 
     fn range(&mut self, from: Option<Key>, to: Option<Key>) -> Result<KeyValues, Stop> {
         let range = KeyRange::new(self.running.alloc(), from, to)?;
-        let mut rows = self.seen_in(&range)?;
+        let mut rows = self.rows_in(&range)?;
         let changes = self.running.entered()?;
         enter_over(&mut rows, changes.as_slice(), &range)?;
         Ok(KeyValues::from_vec(rows))

@@ -17,5 +17,7 @@ pub use ending::{Ended, Seats, Unended};
 pub use failure::Failure;
 pub use lending::Tx;
 pub use meeting::resolve_met;
+pub use range::{add_last, add_rows, split_page};
+pub use rows::{KeyRange, greatest};
 pub use stopping::Stop;
 pub use updating::{Work, update};

@@ -63,13 +63,13 @@ fn value_of(change: &Change) -> Result<Option<Value>, Fault>
 
 /// The keys from one on, up to but not including another, or all from there on.
 #[derive(Drop)]
-pub(crate) struct KeyRange {
-    pub(crate) from: Key,
-    pub(crate) to: Option<Key>,
+pub struct KeyRange {
+    pub from: Key,
+    pub to: Option<Key>,
 }
 
 /// The greatest key.
-pub(crate) fn greatest(alloc: Global) -> Result<Key, Fault>
+pub fn greatest(alloc: Global) -> Result<Key, Fault>
     ensures { IfOk result (λ key. key ≡ greatest) }
 {
     Key::new(alloc, &[u8::MAX; MAX_KEY_BYTES])
@@ -77,7 +77,7 @@ pub(crate) fn greatest(alloc: Global) -> Result<Key, Fault>
 
 impl KeyRange {
     /// The range from a key, or from the least, and up to a key, or to the greatest.
-    pub(crate) fn new(
+    pub fn new(
         alloc: Global,
         from: Option<Key>,
         to: Option<Key>,

@@ -3,8 +3,11 @@ ghost use Rattle.std.specs.Prelude.{◌≡◌, true, false, Some, OnOk, OnErr, I
 ghost use Rattle.tx_types.specs.declared.mutation.Mutation.TheVariants as mutation;
 ghost use Rattle.tx_transaction.specs.Buffers.{touched, put_over, inserted, locked, buffered};
 ghost use Rattle.tx_transaction.specs.Sessions.{is_declared, can_commit, can_abort};
+ghost use Rattle.tx_core.specs.Histories.{Begins};
+ghost use Rattle.tx_core.specs.Worlds.{IsWorldRun};
+ghost use Rattle.tx_transaction.specs.Buffers.{changes_of};
 ghost use Rattle.tx_journal.specs.Senders.{IsWay};
-ghost use Rattle.tx_simple.specs.Reads.{AnswersRead, AnswersScan};
+ghost use Rattle.tx_simple.specs.Reads.{AnswersRead, AnswersScan, TellsPage};
 ghost use Rattle.tx_simple.specs.Updates.{Follows, GoesOn};
 
 use crate::meeting::clear_met;
@@ -144,9 +147,17 @@ impl<'a, J: JournalId, S: Sender<Request<J>, Reply<J>>, B: Begun> Running<'a, J,
         self.session.can_abort()
     }
 
+    /// For proofs: what its seat has seen is a world run. It does nothing when it runs.
+    pub(crate) fn know_run(&self)
+        ensures { IsWorldRun J.bounds self.now.seat.events }
+    {
+        self.session.show();
+    }
+
     /// Reads a key.
     pub(crate) fn get(&mut self, key: &Key) -> Result<Answer, Miss>
         ensures same { self.new.state.buffer ≡ self.old.state.buffer }
+        ensures more { Begins self.old.seat.events self.new.seat.events }
         ensures reads { IfOk result (AnswersRead (buffered self.old.state.buffer key.now) self.new.seat.events
             B.session.state.start key.now) }
     {
@@ -156,8 +167,11 @@ impl<'a, J: JournalId, S: Sender<Request<J>, Reply<J>>, B: Begun> Running<'a, J,
     /// Reads a range.
     pub(crate) fn scan(&mut self, from: &Key, to: &Key, limit: u32) -> Result<Answer, Miss>
         ensures same { self.new.state.buffer ≡ self.old.state.buffer }
+        ensures more { Begins self.old.seat.events self.new.seat.events }
         ensures reads { IfOk result
             (AnswersScan self.new.seat.events B.session.state.start from.now to.now limit) }
+        ensures tells { IfOk result
+            (TellsPage J.bounds self.new.seat.events B.session.state.start from.now to.now limit) }
     {
         // For proofs: the keys between the regions rise.
         let _bounds = self.sender.bounds();
@@ -185,7 +199,8 @@ impl<'a, J: JournalId, S: Sender<Request<J>, Reply<J>>, B: Begun> Running<'a, J,
     /// Resolves the lock that last stood in its way, at the last timestamp that was drawn, and
     /// learns what was found.
     pub(crate) fn clear(&mut self) -> Result<Status, Stop>
-        ensures { self.new.state.buffer ≡ self.old.state.buffer }
+        ensures same { self.new.state.buffer ≡ self.old.state.buffer }
+        ensures more { Begins self.old.seat.events self.new.seat.events }
     {
         clear_met(&mut self.session, &mut self.resolver, self.sender)
     }
