@@ -5,7 +5,7 @@ ghost use Rattle.tx_core.specs.Allowed.{Allowed};
 ghost use Rattle.tx_core.specs.Histories.{Begins};
 ghost use Rattle.tx_core.specs.Laws.{WasToldOf};
 ghost use Rattle.tx_core.specs.Worlds.{IsWorldRun};
-ghost use Rattle.tx_journal.specs.Senders.{IsWay};
+ghost use Rattle.tx_journal.specs.Senders.{IsSender};
 ghost use Rattle.tx_client.specs.Facts.{WasAnswered};
 ghost use Rattle.tx_reader.specs.Readers.{AreTogether, IsOfOneRegion, IsReadOf, FindsAt, OnlySees, ReadsAt, ScansAt};
 
@@ -103,7 +103,7 @@ impl<J: JournalId> Reader<J> {
         read: &Read,
         sender: &mut S,
     ) -> Result<Answer, Miss>
-        requires way { IsWay J.bounds S.fits S.sends S.keys_between }
+        requires way { IsSender J.bounds S.fits S.sends S.keys_between }
         requires held { IsOfOneRegion J.bounds read.now }
         ensures at { self.new.at ≡ self.old.at }
         ensures seat { OnlySees self.old.seat self.new.seat }
@@ -143,7 +143,7 @@ impl<J: JournalId> Reader<J> {
         now: Ts,
         sender: &mut S,
     ) -> Result<bool, Miss>
-        requires way { IsWay J.bounds S.fits S.sends S.keys_between }
+        requires way { IsSender J.bounds S.fits S.sends S.keys_between }
         requires told { WasToldOf self.old.seat.events info.now }
         ensures at { self.new.at ≡ self.old.at }
         ensures seat { OnlySees self.old.seat self.new.seat }
@@ -160,7 +160,7 @@ impl<J: JournalId> Reader<J> {
         read: &Read,
         sender: &mut S,
     ) -> Result<Answer, Miss>
-        requires way { IsWay J.bounds S.fits S.sends S.keys_between }
+        requires way { IsSender J.bounds S.fits S.sends S.keys_between }
         requires held { IsOfOneRegion J.bounds read.now }
         ensures at { self.new.at ≡ self.old.at }
         ensures seat { OnlySees self.old.seat self.new.seat }
@@ -187,7 +187,7 @@ impl<J: JournalId> Reader<J> {
         key: &Key,
         sender: &mut S,
     ) -> Result<Answer, Miss>
-        requires way { IsWay J.bounds S.fits S.sends S.keys_between }
+        requires way { IsSender J.bounds S.fits S.sends S.keys_between }
         ensures at { self.new.at ≡ self.old.at }
         ensures seat { OnlySees self.old.seat self.new.seat }
         ensures finds { IfOk result (ReadsAt self.new.seat.events self.old.at key.now) }
@@ -208,7 +208,7 @@ impl<J: JournalId> Reader<J> {
         limit: u32,
         sender: &mut S,
     ) -> Result<Answer, Miss>
-        requires way { IsWay J.bounds S.fits S.sends S.keys_between }
+        requires way { IsSender J.bounds S.fits S.sends S.keys_between }
         requires held { AreTogether J.bounds from.now to.now }
         ensures at { self.new.at ≡ self.old.at }
         ensures seat { OnlySees self.old.seat self.new.seat }
