@@ -73,6 +73,13 @@ impl<J: JournalId> Reader<J> {
         seat
     }
 
+    /// For proofs: what its seat has seen is a world run. It does nothing when it runs.
+    pub fn know_run(&self)
+        ensures { IsWorldRun J.bounds self.now.seat.events }
+    {
+        let _number = self.seat.number();
+    }
+
     // The request of a read.
     fn body_of(&self, read: &Read) -> Result<Body, Fault>
         ensures { IfOk result (λ b. IsReadOf read.now self.now.at b × Allowed self.now.seat.events b) }

@@ -1,11 +1,11 @@
-//! Ranges of more rows than a page has, with what was entered over them.
+//! Ranges of more rows than a page has: with what was entered over them, and as they were before.
 use std::sync::Wait;
 use std::test::Fail;
 use tx_kv::{Client, Failure, JournalId, Key, KeyValues, Mode, Program};
-use tx_kv::{Stop, Terms, Tx, Value, Work, with_store};
+use tx_kv::{Stop, Terms, Ts, Tx, Value, Work, with_store};
 
 // How many rows one transaction puts.
-const ROWS: u16 = 1_000;
+const ROWS: u16 = 600;
 
 // The key of a number, in the order of the numbers.
 fn key_of<T: Tx>(tx: &T, n: u16) -> Result<Key, Stop> {
@@ -35,7 +35,7 @@ impl Work for Fill {
     }
 }
 
-/// Deletes row 3, locks 7, puts 2,500, and reads ranges: how many rows each has.
+/// Deletes row 3, locks 7, puts 1,500, and reads ranges: how many rows each has.
 #[derive(Drop)]
 struct Look;
 
@@ -51,11 +51,11 @@ impl Work for Look {
         let before = count(&tx.range(None, None)?);
         tx.delete(key_of(tx, 3)?)?;
         tx.lock(key_of(tx, 7)?)?;
-        put(tx, 2_500)?;
+        put(tx, 1_500)?;
         let after = count(&tx.range(None, None)?);
         let (from, to) = (key_of(tx, 2)?, key_of(tx, 8)?);
         let part = count(&tx.range(Some(from), Some(to))?);
-        let last = key_of(tx, 1_990)?;
+        let last = key_of(tx, 1_190)?;
         let rest = count(&tx.range(Some(last), None)?);
         let first = key_of(tx, 1_100)?;
         let low = count(&tx.range(None, Some(first))?);
@@ -65,12 +65,27 @@ impl Work for Look {
     }
 }
 
+// How many rows a client sees as it is now, and before it wrote the second half.
+fn rows_seen<J: JournalId, R: Wait>(
+    client: &mut Client<'_, J, R>,
+    half: Ts,
+) -> Result<[usize; 4], Stop> {
+    let from = Key::new(client.alloc(), b"k\x02")?;
+    let to = Key::new(client.alloc(), b"k\x04")?;
+    let now = count(&client.view()?.range(None, None)?);
+    let before = count(&client.view_at(half).range(None, None)?);
+    let mut view = client.view()?;
+    let part = count(&view.range(Some(from.clone()?), Some(to.clone()?))?);
+    let none = count(&view.range(Some(to), Some(from))?);
+    Ok([now, before, part, none])
+}
+
 #[derive(Drop)]
 struct Story;
 
 impl<R: Wait> Program<R> for Story {
     type Out = ();
-    type Answer = Option<[usize; 6]>;
+    type Answer = Option<([usize; 6], [usize; 4])>;
 
     fn run<J: JournalId>(&self, client: &mut Client<'_, J, R>) {
         let _ = client;
@@ -80,7 +95,7 @@ impl<R: Wait> Program<R> for Story {
         self,
         client: &mut Client<'_, J, R>,
         _: Vec<()>,
-    ) -> Option<[usize; 6]> {
+    ) -> Option<([usize; 6], [usize; 4])> {
         let terms = Terms {
             mode: Mode::TwoPhase,
             ttl: 1_000,
@@ -88,14 +103,18 @@ impl<R: Wait> Program<R> for Story {
         };
         client.set_terms(terms, 0);
         drop(client.update(&mut Fill(0)).ok()?);
+        let half = client.timestamp().ok()?;
         drop(client.update(&mut Fill(ROWS)).ok()?);
-        Some(client.update(&mut Look).ok()?.value)
+        let looked = client.update(&mut Look).ok()?.value;
+        Some((looked, rows_seen(client, half).ok()?))
     }
 }
 
 #[test]
 fn ranges_have_all_rows(rt: HostRuntime) -> Result<(), Fail> {
     let told = with_store(&rt, rt.alloc(), &[b"k\x03", b"m"], 1, Story);
-    assert!(rt; matches!(told, Ok(Some([2_000, 2_000, 5, 11, 1_099, 0]))));
+    let in_it = [1_200, 1_200, 5, 11, 1_099, 0];
+    let after = [1_200, 600, 512, 0];
+    assert!(rt; matches!(told, Ok(Some((found, seen))) if found == in_it && seen == after));
     Ok(())
 }
