@@ -95,6 +95,15 @@ impl<'a, J: JournalId, R: Wait> Client<'a, J, R> {
     }
 
     /// It is to write under these terms, and to try a transaction again so often.
+    ///
+    /// ```
+    /// let terms = Terms {
+    ///     mode: Mode::TwoPhase,
+    ///     ttl: 1_000,
+    ///     max_commit: None,
+    /// };
+    /// client.set_terms(terms, 0);
+    /// ```
     pub fn set_terms(&mut self, terms: Terms, again: u32)
         ensures terms { (self.new.terms ≡ terms) × (self.new.again ≡ again) }
         ensures seats { self.new.seats ≡ self.old.seats }
@@ -106,6 +115,14 @@ impl<'a, J: JournalId, R: Wait> Client<'a, J, R> {
     /// Does a work in a transaction, and commits that. A lock in the way is resolved. After a
     /// conflict the work is done anew, in a transaction that begins later; in at most one of its
     /// tries it has an effect.
+    ///
+    /// ```
+    /// let updated = client.update(&mut Put(byte)).ok()?;
+    /// match updated.outcome {
+    ///     Outcome::Committed(_) => Some(updated.value),
+    ///     _ => None,
+    /// }
+    /// ```
     pub fn update<W: Work>(&mut self, work: &mut W) -> Result<Updated<W::Out>, NotUpdated<W::Err>>
         ensures { Updates W.does J.bounds self.old work.old result self.new work.new }
     {

@@ -24,6 +24,11 @@ impl<'a, J: JournalId, R: Wait> Client<'a, J, R> {
     /// which the clients still read. First it resolves the locks of transactions that started below
     /// it. `BelowSafePoint` where the safe point lies above already, `LocksRemain` where a lock
     /// could not be resolved, and `OutOfMemory`; it may be asked again.
+    ///
+    /// ```
+    /// let collected = client.collect(Ts::new(u64::MAX)).ok()?;
+    /// let refused = matches!(byte_at(client, one), Err(Stop::BelowSafePoint));
+    /// ```
     pub fn collect(&mut self, keep: Ts) -> Result<Collected, Fault>
         ensures kept { IfOk result (λ collected. collected.safe ≤ keep) }
         ensures begins { self.new.seats.begins ≡ self.old.seats.begins }

@@ -19,6 +19,21 @@ use tx_types::Fault;
 
 /// What a program does with the clients of a store. The store's journal has its name, `J`, in the
 /// type of each client, so that none is taken for another's.
+///
+/// ```
+/// impl<R: Wait> Program<R> for Greet {
+///     type Out = bool;
+///     type Answer = usize;
+///
+///     fn run<J: JournalId>(&self, client: &mut Client<'_, J, R>) -> bool {
+///         client.update(&mut Hello).is_ok()
+///     }
+///
+///     fn end<J: JournalId>(self, _: &mut Client<'_, J, R>, first: Vec<bool>) -> usize {
+///         first.into_iter().filter(|is| *is).count()
+///     }
+/// }
+/// ```
 pub trait Program<R: Wait>: Drop + Sync {
     /// What a client answers.
     type Out: Drop + Send;
@@ -110,6 +125,10 @@ fn run_over<J: JournalId + Send + Sync, R: Threads + Wait + Sync, P: Program<R>>
 /// program over it: what the program answers. It has so many clients on threads of their own, and
 /// one more that begins and ends. `Refused` is for want of memory, or a key of no or of too many
 /// bytes.
+///
+/// ```
+/// let first = with_store(&rt, rt.alloc(), &[b"m"], 2, Greet);
+/// ```
 pub fn with_store<R: Threads + Wait + Sync, P: Program<R>>(
     rt: &R,
     alloc: Global,

@@ -19,6 +19,10 @@ use tx_types::{Fault, Key, KeyValues, Ts, Value};
 impl<'a, J: JournalId, R: Wait> Client<'a, J, R> {
     /// A timestamp that is drawn for reads: what was committed before is seen there, and what is
     /// read there stays. `OracleSpent` where the client has drawn 2^32 ticks.
+    ///
+    /// ```
+    /// let half = client.timestamp().ok()?;
+    /// ```
     pub fn timestamp(&mut self) -> Result<Ts, Fault>
         ensures drawn { IfOk result (λ at. HasDrawn J.bounds self.old.seats.resolves.seat
             self.old.seats.resolves.events 1 at self.new.seats.resolves.events) }

@@ -15,6 +15,11 @@ use tx_types::{Fault, Key, KeyValues, Ts, Value};
 /// Reads of a client alone, at one timestamp: a view of the store as it was there. It is no
 /// transaction: nothing is written, and nothing is to be ended. As long as it is there, its client
 /// can do nothing else, and no collection drops what it may read.
+///
+/// ```
+/// let mut view = client.view()?;
+/// let part = count(&view.range(Some(from.clone()?), Some(to.clone()?))?);
+/// ```
 pub struct View<'v, 'a, J: JournalId, R: Wait> {
     client: &'v mut Client<'a, J, R>,
     at: Ts,
@@ -30,6 +35,10 @@ impl<J: JournalId, R: Wait> Drop for View<'_, '_, J, R> {
 impl<'a, J: JournalId, R: Wait> Client<'a, J, R> {
     /// A view of the store as it is now: at a timestamp that is drawn for it. `OracleSpent` where
     /// the client has drawn 2^32 ticks.
+    ///
+    /// ```
+    /// let now = count(&client.view()?.range(None, None)?);
+    /// ```
     pub fn view(&mut self) -> Result<View<'_, 'a, J, R>, Fault> {
         self.enter(Ts::ZERO);
         match self.timestamp() {
@@ -44,6 +53,10 @@ impl<'a, J: JournalId, R: Wait> Client<'a, J, R> {
     /// A view of the store as it was at a timestamp, which need not be fresh: its reads answer
     /// `BelowSafePoint` where that lies below the safe point, and `Refused` where it lies above the
     /// last that was drawn.
+    ///
+    /// ```
+    /// let found = client.view_at(at).get(&key)?;
+    /// ```
     pub fn view_at(&mut self, at: Ts) -> View<'_, 'a, J, R> {
         self.enter(at);
         View { client: self, at }

@@ -23,6 +23,14 @@ use tx_types::{Key, KeyValues, Ts, Value};
 /// A transaction that declares nothing yet, as it is lent to an update: it reads at its start, and
 /// enters changes into its buffer, which nobody else sees. A lock in the way of a read is resolved,
 /// and the read is made again.
+///
+/// ```
+/// let before = count(&tx.range(None, None)?);
+/// tx.delete(key_of(tx, 3)?)?;
+/// tx.lock(key_of(tx, 7)?)?;
+/// put(tx, 1_500)?;
+/// let after = count(&tx.range(None, None)?);
+/// ```
 pub trait Tx {
     ghost use Rattle.std.specs.Prelude.{◌≡◌, ℕ, OnOk, OnErr, IfOk, Some};
     ghost use Rattle.tx_types.specs.declared.mutation.Mutation.TheVariants as mutation;
@@ -46,9 +54,10 @@ pub trait Tx {
     fn start(&self) -> Ts
         ensures { result ≡ begins self.now };
 
-    /// The value of a key at the start, or what was entered of it: what the one-step machine sees. `Waits` where a lock stands in
-    /// the way whose transaction lives or cannot be asked, `BelowSafePoint` where the start lies
-    /// below the safe point, `Lost` where no reply came, `Refused` for want of memory.
+    /// The value of a key at the start, or what was entered of it: what the one-step machine sees.
+    /// `Waits` where a lock stands in the way whose transaction lives or cannot be asked,
+    /// `BelowSafePoint` where the start lies below the safe point, `Lost` where no reply came,
+    /// `Refused` for want of memory.
     fn get(&mut self, key: &Key) -> Result<Option<Value>, Stop>
         ensures same { (buffer self.new ≡ buffer self.old) × (begins self.new ≡ begins self.old) }
         ensures finds { IfOk result
