@@ -1,6 +1,7 @@
 -- What was entered of keys, over rows.
 use Rattle.std.proofs.Common.{◌≡◌, ◌≢◌, ◌⊎◌, ℕ, ◌<◌, ◌≤◌, ◌&&◌, inl, inr, Bool, true, false, cond, List, [], ◌∷◌, ◌++◌, length, Option, Some, None, bytes_eq, IsTrue, refl, sym, ap, subst, ◌∙◌, arith}
-use Rattle.std.proofs.Common.{take, drop}
+use Rattle.std.proofs.Common.{take, drop, take_all, ◌-◌}
+use Rattle.std.proofs.lemmas.List.{length-drop}
 use Rattle.std.specs.List.{prefix_len, list_any, insert, remove}
 use Rattle.std.proofs.Math.Numerals.{one-add}
 use Rattle.std.proofs.lemmas.Bool.{cases_Bool}
@@ -161,6 +162,15 @@ put_in (x ∷ xs) k v = elim (cases_Bool (key_lt x.key k)) [
   | inr not_below ↦ rw not_below refl
 ]
 
+-- whether the row at the place of a key is of it, by the rows from there on
+pub first_at : (xs rows : List KeyValue) (at : ℕ) (k : Key) (b : Bool) → xs ≡ rows → at ≡ place rows k
+    → b ≡ is_first_of (take (length xs - at) (drop at xs)) k → b ≡ is_first_of (drop (place rows k) rows) k
+first_at xs rows at k b same here is =
+    let all : take (length xs - at) (drop at xs) ≡ drop at xs =
+    take_all (length xs - at) (drop at xs) (omega (arith, length-drop at xs)) in
+    is ∙ ap (λ (ys : List KeyValue). is_first_of ys k) all ∙ ap (λ (n : ℕ). is_first_of (drop n xs) k) here
+    ∙ ap (λ (ys : List KeyValue). is_first_of (drop (place rows k) ys) k) same
+
 -- ---- what the first change of a key does to it
 
 pub not_entered : (cs : List Change) (k : Key) → list_any (λ (c : Change). bytes_eq c.key k) cs ≡ false
@@ -282,3 +292,32 @@ module _ (test : Key → Bool) (old : List KeyValue) where
             ∙ ap (λ o. over o (value_in old k)) (sym (entry_other cs c k other.0))
       ];
     }
+
+-- one change more, among all
+module _ (test : Key → Bool) (old new next : List KeyValue) (cs all : List Change) (c : Change) where
+  pub entered_step : (k : Key) (o : Option Value) → all ≡ cs ++ c ∷ [] → AreEntered test cs old new
+      → is_visible c.mutation ≡ true → test c.key ≡ true → list_any (λ (d : Change). bytes_eq d.key c.key) cs ≡ false
+      → k ≡ c.key → o ≡ value_of c.mutation → next ≡ with_value new k o → AreEntered test all old next
+  entered_step k o seam so_far visible inside first key value is =
+      subst (λ (xs : List KeyValue). AreEntered test all old xs)
+      (sym (is ∙ ap (λ (j : Key). with_value new j o) key ∙ ap (with_value new c.key) value))
+      (subst (λ (ds : List Change). AreEntered test ds old (with_value new c.key (value_of c.mutation))) (sym seam)
+      (entered_more test old cs c new so_far visible inside first))
+
+  passed_step : all ≡ cs ++ c ∷ [] → AreEntered test (cs ++ c ∷ []) old new → next ≡ new
+      → AreEntered test all old next
+  passed_step seam passed is =
+      subst (λ (xs : List KeyValue). AreEntered test all old xs) (sym is)
+      (subst (λ (ds : List Change). AreEntered test ds old new) (sym seam) passed)
+
+  pub passed_step_unseen : all ≡ cs ++ c ∷ [] → AreEntered test cs old new → is_visible c.mutation ≡ false → next ≡ new
+      → AreEntered test all old next
+  passed_step_unseen seam so_far lock is = passed_step seam (passed_unseen test old cs c new so_far lock) is
+
+  pub passed_step_outside : all ≡ cs ++ c ∷ [] → AreEntered test cs old new → test c.key ≡ false → next ≡ new
+      → AreEntered test all old next
+  passed_step_outside seam so_far outside is = passed_step seam (passed_outside test old cs c new so_far outside) is
+
+  pub passed_step_later : all ≡ cs ++ c ∷ [] → AreEntered test cs old new
+      → list_any (λ (d : Change). bytes_eq d.key c.key) cs ≡ true → next ≡ new → AreEntered test all old next
+  passed_step_later seam so_far before is = passed_step seam (passed_later test old cs c new so_far before) is

@@ -338,3 +338,10 @@ module _ (tells : Key → Option Value → Type 0) (from to : Key) where
     each = λ k inside. let both = between_both from to k inside in
         h.each k (between from next k both.0 (lt_then_le k to next both.1 le));
   }
+
+-- what more was told by then
+pub later_so_far : (tells also : Key → Option Value → Type 0) → ((k : Key) (o : Option Value) → tells k o → also k o)
+    → (from to next : Key) (rows : List KeyValue) → AreSoFar tells from to next rows
+    → AreSoFar also from to next rows
+later_so_far tells also on from to next rows (h, up, ends) =
+    (tells_more tells also on (is_between from next) rows h, up, ends)

@@ -138,7 +138,7 @@ scan_finds bounds fits sends keys_between rising way k new a b s after from to l
 scan_finds bounds fits sends keys_between rising way k new a b s after from to limit r run sent = tt
 
 -- rows that each run from then on shows are those of their range
-page_told : (bounds : List Key) (known : History) → IsWorldRun bounds known → (start : ℕ) (from to : Key) (limit : ℕ)
+pub page_told : (bounds : List Key) (known : History) → IsWorldRun bounds known → (start : ℕ) (from to : Key) (limit : ℕ)
     → (rows : List KeyValue)
     → ((h : History) → Begins known h → IsWorldRun bounds h
     → SeesRows (table_of (shadow h)).row (scan_at start from to limit rows))
