@@ -1,5 +1,5 @@
 -- What was entered of keys, over rows.
-use Rattle.std.proofs.Common.{◌≡◌, ◌≢◌, ◌⊎◌, ℕ, ◌<◌, ◌≤◌, ◌&&◌, inl, inr, Bool, true, false, cond, List, [], ◌∷◌, ◌++◌, length, Option, Some, None, bytes_eq, IsTrue, refl, sym, ap, subst, ◌∙◌, arith}
+use Rattle.std.proofs.Common.{◌≡◌, ◌≢◌, ◌⊎◌, ℕ, inl, inr, Bool, true, false, cond, List, [], ◌∷◌, ◌++◌, length, Option, Some, None, bytes_eq, IsTrue, refl, sym, ap, subst, ◌∙◌, arith}
 use Rattle.std.proofs.Common.{take, drop, take_all, ◌-◌}
 use Rattle.std.proofs.lemmas.List.{length-drop}
 use Rattle.std.specs.List.{prefix_len, list_any, insert, remove}
@@ -11,11 +11,11 @@ use Rattle.tx_types.specs.declared.mutation.KeyValue.{KeyValue}
 use Rattle.tx_types.specs.declared.mutation.Change.{Change}
 use Rattle.tx_types.specs.declared.mutation.Mutation.{Mutation}
 use Rattle.tx_types.specs.declared.mutation.Mutation.TheVariants as mutation
-use Rattle.tx_types.specs.Keys.{key_lt, key_le, IsRising, value_in, is_visible}
-use Rattle.tx_machine.proofs.Basics.{key_test, none_is}
-use Rattle.tx_plan.proofs.KeyOrder.{key_same, lt_trans, lt_itself, lt_le, le_cases, lt_then_le, not_lt, lt_other, other_key}
-use Rattle.tx_simple.specs.Ranges.{AreRowsOf, row_of, row_with, with_value, is_first_of, entry_in, value_of, over, AreEntered}
-use Rattle.tx_simple.proofs.Paging.{rising_rest, has_or}
+use Rattle.tx_types.specs.Keys.{key_lt, IsRising, value_in, is_visible}
+use Rattle.tx_machine.proofs.Basics.{key_test}
+use Rattle.tx_plan.proofs.KeyOrder.{key_same, lt_trans, lt_itself, le_cases, not_lt, lt_other, other_key}
+use Rattle.tx_simple.specs.Ranges.{row_of, row_with, with_value, is_first_of, entry_in, value_of, over, AreEntered}
+use Rattle.tx_simple.proofs.Paging.{rising_rest}
 
 -- all rows lie above a key
 abbrev AreAbove : Key → List KeyValue → Type 0

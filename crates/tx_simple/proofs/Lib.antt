@@ -12,3 +12,5 @@ pub mod Paging
 pub mod Entering
 -- The rows of a range, with what was entered over them.
 pub mod Ranging
+-- No key lies above the greatest.
+pub mod Topmost

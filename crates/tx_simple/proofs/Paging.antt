@@ -1,12 +1,12 @@
 -- The rows of pages, one behind the other, are the rows of their range.
-use Rattle.std.proofs.Common.{◌≡◌, ◌≢◌, ◌⊎◌, ℕ, ◌<◌, ◌≤◌, ◌&&◌, ◌||◌, inl, inr, Bool, true, false, cond, List, [], ◌∷◌, ◌++◌, length, Option, Some, None, bytes_eq, nat_lt, IsTrue, refl, sym, ap, subst, ◌∙◌, arith}
-use Rattle.std.proofs.lemmas.Bool.{cases_Bool, ltb-true, lt-ltb}
+use Rattle.std.proofs.Common.{◌≡◌, ◌⊎◌, ℕ, ◌<◌, ◌&&◌, ◌||◌, inl, inr, Bool, true, false, List, [], ◌∷◌, ◌++◌, length, Option, Some, None, nat_lt, IsTrue, refl, sym, subst, ◌∙◌}
+use Rattle.std.proofs.lemmas.Bool.{cases_Bool, lt-ltb}
 use Rattle.tx_types.specs.declared.key.Key.{Key}
 use Rattle.tx_types.specs.declared.value.Value.{Value}
 use Rattle.tx_types.specs.declared.mutation.KeyValue.{KeyValue}
 use Rattle.tx_types.specs.Keys.{key_lt, key_le, is_between, is_scanned, IsRising, value_in, reaches}
 use Rattle.tx_machine.proofs.Basics.{key_test, none_is}
-use Rattle.tx_plan.proofs.KeyOrder.{key_same, lt_trans, lt_itself, lt_le, le_itself, le_cases, le_lt, lt_then_le, not_lt, lt_other}
+use Rattle.tx_plan.proofs.KeyOrder.{key_same, lt_trans, lt_itself, lt_le, le_itself, le_cases, le_lt, lt_then_le, not_lt}
 use Rattle.tx_simple.specs.Ranges.{AreRowsOf, IsSplit, row_with}
 
 -- ---- tests

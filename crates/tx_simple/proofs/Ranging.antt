@@ -1,5 +1,5 @@
 -- The rows of a range at the start, and what was entered over them.
-use Rattle.std.proofs.Common.{◌≡◌, ◌⊎◌, ℕ, ◌&&◌, inl, inr, Bool, true, false, cond, List, [], ◌∷◌, ◌++◌, Option, Some, None, bytes_eq, IsTrue, refl, sym, ap, subst, ◌∙◌}
+use Rattle.std.proofs.Common.{◌≡◌, ℕ, ◌&&◌, Bool, true, false, cond, List, [], ◌∷◌, ◌++◌, Option, Some, None, bytes_eq, IsTrue, refl, sym, ap, subst, ◌∙◌}
 use Rattle.tx_types.specs.declared.key.Key.{Key}
 use Rattle.tx_types.specs.declared.value.Value.{Value}
 use Rattle.tx_types.specs.declared.mutation.Change.{Change}
@@ -97,6 +97,7 @@ module _ (bounds : List Key) (entries : Entries) (known : History) (run : IsWorl
         upto_top (rows ++ row_of top (Some v)) (top_with (Beneath entries known start) from top up rows below_top v
         (beneath_found (buffered entries top) known start top (Some v) found))
 
+module _ (bounds : List Key) (entries : Entries) (known : History) (start : ℕ) where
   -- a range that begins above the greatest key has no row
   pub above_top : (old : History) (from top : Key) → top ≡ greatest → IsTrue (key_lt top from) → (rows : List KeyValue)
       → AreRowsOf (is_between from top) (SeesOn bounds old start) rows

@@ -1,12 +1,11 @@
 -- What a session's reads find.
-use Rattle.std.proofs.Common.{◌≡◌, ◌⊎◌, inl, inr, ℕ, List, Option, Some, None, Result, Ok, Err, IfOk, refl, sym, ap, subst, ◌∙◌}
+use Rattle.std.proofs.Common.{◌≡◌, inl, inr, ℕ, List, Option, Some, None, Result, Ok, Err, IfOk, refl, sym, ap, subst}
 use Rattle.tx_types.specs.declared.key.Key.{Key}
 use Rattle.tx_types.specs.declared.value.Value.{Value}
 use Rattle.tx_types.specs.declared.mutation.KeyValue.{KeyValue}
 use Rattle.tx_types.specs.declared.mutation.Mutation.{Mutation}
 use Rattle.tx_types.specs.declared.mutation.Mutation.TheVariants as mutation
 use Rattle.tx_types.specs.Keys.{AreRising, is_scanned}
-use Rattle.tx_plan.specs.declared.body.Body.{Body}
 use Rattle.tx_plan.specs.declared.answer.Answer.{Answer}
 use Rattle.tx_plan.specs.declared.answer.Answer.TheVariants as answer
 use Rattle.tx_machine.specs.Machine.{SeesRows, table_of}
@@ -15,7 +14,7 @@ use Rattle.tx_core.specs.Shadow.{shadow}
 use Rattle.tx_core.specs.Worlds.{IsWorldRun}
 use Rattle.tx_core.proofs.seats.Beginnings.{begins_all}
 use Rattle.tx_journal.specs.Known.{Known}
-use Rattle.tx_journal.specs.Replies.{Asked, Given}
+use Rattle.tx_journal.specs.Replies.{Asked}
 use Rattle.tx_journal.specs.Senders.{Reached, IsSender}
 use Rattle.tx_transaction.specs.declared.state.Response.{Response}
 use Rattle.tx_transaction.specs.declared.state.Response.TheVariants as response

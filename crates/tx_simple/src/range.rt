@@ -89,7 +89,7 @@ impl<'a, J: JournalId, S: Sender<Request<J>, Reply<J>>, B: Begun> Lent<'a, J, S,
     {
         let top = greatest(self.running.alloc())?;
         let mut rows = self.pages(from, &top)?;
-        if *from > top {
+        if top < *from {
             return Ok(rows);
         }
         let found = self.find(&top)?;

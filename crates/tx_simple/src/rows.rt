@@ -5,6 +5,7 @@ ghost use Rattle.tx_types.specs.declared.key.Key.{Key as Name};
 ghost use Rattle.tx_types.specs.declared.value.Value.{Value as Given};
 ghost use Rattle.tx_types.specs.declared.mutation.KeyValue.{KeyValue as Row};
 ghost use Rattle.tx_types.specs.declared.mutation.Change.{Change as Entry};
+ghost use Rattle.tx_types.specs.Fronts.{AreBytes};
 ghost use Rattle.tx_types.specs.Keys.{key_lt, IsRising, value_in};
 ghost use Rattle.tx_simple.specs.Ranges.{greatest, begin_of, is_in_range, is_first_of, with_value, value_of, AreEntered};
 
@@ -75,6 +76,14 @@ pub fn greatest(alloc: Global) -> Result<Key, Fault>
     Key::new(alloc, &[u8::MAX; MAX_KEY_BYTES])
 }
 
+// For proofs: bytes are bytes, so that no key lies above the greatest. It does nothing when it
+// runs.
+fn know_bytes(bytes: &[u8])
+    ensures { AreBytes bytes.now }
+{
+    let _ = bytes;
+}
+
 impl KeyRange {
     /// The range from a key, or from the least, and up to a key, or to the greatest.
     pub fn new(
@@ -97,7 +106,10 @@ impl KeyRange {
     {
         match &self.to {
             Some(to) => self.from <= *key && *key < *to,
-            None => self.from <= *key && key.as_bytes() <= [u8::MAX; MAX_KEY_BYTES].as_slice(),
+            None => {
+                know_bytes(key.as_bytes());
+                self.from <= *key
+            }
         }
     }
 }

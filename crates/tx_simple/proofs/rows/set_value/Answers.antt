@@ -1,8 +1,6 @@
-use Rattle.std.proofs.Common.{◌≡◌, Some, None, Option, List, refl, sym, ap, subst, ◌∙◌, rules}
+use Rattle.std.proofs.Common.{◌≡◌, None, List, sym, ap, ◌∙◌, rules}
 use Rattle.std.specs.List.{insert, remove}
-use Rattle.std.specs.declared.vec.Vec.{Vec}
 use Rattle.tx_types.specs.declared.mutation.KeyValue.{KeyValue}
-use Rattle.tx_types.specs.declared.value.Value.{Value}
 use Rattle.tx_simple.specs.Ranges.{row_with, with_value}
 use Rattle.tx_simple.proofs.Entering.{first_at, kept, place, put_in, removed}
 use Rattle.tx_simple.proofs.rows.set_value.Goals.{then-is_first_of, else-is_first_of, in-Some+in_ok-insert, in_default}

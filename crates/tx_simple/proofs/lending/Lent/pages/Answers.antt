@@ -1,11 +1,11 @@
-use Rattle.std.proofs.Common.{◌≡◌, Some, IsTrue, refl, sym, subst, ◌∙◌, rules}
-use Rattle.std.proofs.Common.{List, ◌++◌}
+use Rattle.std.proofs.Common.{IsTrue, refl, sym, subst, ◌∙◌}
+use Rattle.std.proofs.Common.{List, []}
 use Rattle.tx_types.specs.declared.key.Key.{Key}
 use Rattle.tx_types.specs.declared.mutation.KeyValue.{KeyValue}
-use Rattle.tx_types.specs.Keys.{is_between, key_le, key_lt}
+use Rattle.tx_types.specs.Keys.{key_le, key_lt}
 use Rattle.tx_plan.proofs.KeyOrder.{ge_false, ge_true, le_itself, lt_le}
 use Rattle.tx_core.proofs.seats.Beginnings.{begins_all, begins_more}
-use Rattle.tx_simple.specs.Ranges.{AreRowsOf, IsSplit}
+use Rattle.tx_simple.specs.Ranges.{IsSplit}
 use Rattle.tx_simple.specs.Reads.{SeesOn}
 use Rattle.tx_simple.proofs.Paging.{AreSoFar, all_so_far, later_so_far, more_so_far, none_so_far}
 use Rattle.tx_simple.proofs.Ranging.{sees_later}

@@ -1,11 +1,8 @@
-use Rattle.std.proofs.Common.{◌≡◌, true, replicate, sym, rules, ◌∙◌}
-use Rattle.tx_types.specs.Keys.{key_le}
-use Rattle.tx_simple.specs.Ranges.{greatest}
+use Rattle.tx_simple.proofs.Topmost.{in_open_range}
 use Rattle.tx_simple.proofs.rows.KeyRange.contains.Goals as goal
 
-pub returns-then-le-2 : goal.returns-then-le-2
-unfolding greatest
-returns-then-le-2 c =
-    let first : key_le c.args.self.now.from c.args.key.now ≡ true = sym c.le-in-None.ensures ∙ c.if-le-2.true in
-    let last : c.le-then-le-2.result ≡ key_le c.args.key.now (replicate 512 255) = ? in
-    rw (c.in-None.is, first) last
+pub returns-in-None : goal.returns-in-None
+returns-in-None c =
+    in_open_range c.args.self.now.from c.args.key.now c.as_bytes.result.now c.as_bytes.ensures.value
+    c.as_bytes.ensures.within c.know_bytes.ensures c.args.self.now.to c.in-None.is c.le-in-None.result
+    c.le-in-None.ensures
