@@ -2,6 +2,7 @@
 ghost use Rattle.std.specs.Prelude.{◌≡◌};
 ghost use Rattle.tx_kv.specs.Clients.{Updates};
 
+use crate::live::Live;
 use crate::updated::{NotUpdated, Updated, told_of};
 use std::alloc::Global;
 use std::marker::Model;
@@ -11,7 +12,7 @@ use tx_journal::JournalId;
 use tx_nested::NestedCells;
 use tx_simple::{Seats, Work, update};
 use tx_store::{Store, Wire};
-use tx_types::Mode;
+use tx_types::{Mode, Ts};
 
 /// How long the locks of a client live, in ticks, where it does not say.
 const TTL: u32 = 1_000;
@@ -26,6 +27,7 @@ pub struct Client<'a, J: JournalId, R: Wait> {
     pub(crate) rt: &'a R,
     pub(crate) alloc: Global,
     pub(crate) store: &'a Store<J, NestedCells>,
+    pub(crate) live: &'a Live,
     number: usize,
     /// They are there between two calls.
     pub(crate) seats: Option<Seats<J>>,
@@ -50,6 +52,7 @@ impl<'a, J: JournalId, R: Wait> Client<'a, J, R> {
         rt: &'a R,
         alloc: Global,
         store: &'a Store<J, NestedCells>,
+        live: &'a Live,
         number: usize,
         seats: Seats<J>,
     ) -> Client<'a, J, R>
@@ -59,6 +62,7 @@ impl<'a, J: JournalId, R: Wait> Client<'a, J, R> {
             rt,
             alloc,
             store,
+            live,
             number,
             seats: Some(seats),
             terms: Terms {
@@ -80,7 +84,26 @@ impl<'a, J: JournalId, R: Wait> Client<'a, J, R> {
         self.alloc
     }
 
+    /// It reads at this timestamp or above until it leaves.
+    pub(crate) fn enter(&self, at: Ts) {
+        self.live.enter(self.number, at);
+    }
+
+    /// It reads nowhere.
+    pub(crate) fn leave(&self) {
+        self.live.leave(self.number);
+    }
+
     /// It is to write under these terms, and to try a transaction again so often.
+    ///
+    /// ```
+    /// let terms = Terms {
+    ///     mode: Mode::TwoPhase,
+    ///     ttl: 1_000,
+    ///     max_commit: None,
+    /// };
+    /// client.set_terms(terms, 0);
+    /// ```
     pub fn set_terms(&mut self, terms: Terms, again: u32)
         ensures terms { (self.new.terms ≡ terms) × (self.new.again ≡ again) }
         ensures seats { self.new.seats ≡ self.old.seats }
@@ -92,17 +115,27 @@ impl<'a, J: JournalId, R: Wait> Client<'a, J, R> {
     /// Does a work in a transaction, and commits that. A lock in the way is resolved. After a
     /// conflict the work is done anew, in a transaction that begins later; in at most one of its
     /// tries it has an effect.
+    ///
+    /// ```
+    /// let updated = client.update(&mut Put(byte)).ok()?;
+    /// match updated.outcome {
+    ///     Outcome::Committed(_) => Some(updated.value),
+    ///     _ => None,
+    /// }
+    /// ```
     pub fn update<W: Work>(&mut self, work: &mut W) -> Result<Updated<W::Out>, NotUpdated<W::Err>>
         ensures { Updates W.does J.bounds self.old work.old result self.new work.new }
     {
-        let Some(seats) = self.seats.take() else {
+        let Some(mut seats) = self.seats.take() else {
             unreachable!()
         };
+        self.enter(seats.resolves.last());
         let mut wire = Wire::new(self.rt, self.store);
         wire.show();
         let came = update(self.alloc, seats, self.terms, self.again, work, &mut wire);
         let (told, seats) = told_of(came);
         self.seats = Some(seats);
+        self.leave();
         told
     }
 }

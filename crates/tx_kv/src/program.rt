@@ -4,6 +4,7 @@ ghost use Rattle.tx_cells.specs.Contents.{nothing_held};
 ghost use Rattle.tx_nested.specs.Nested.{nested_content};
 
 use crate::client::Client;
+use crate::live::Live;
 use crate::opening::{journal, store};
 use crate::unopened::Unopened;
 use std::alloc::Global;
@@ -18,6 +19,21 @@ use tx_types::Fault;
 
 /// What a program does with the clients of a store. The store's journal has its name, `J`, in the
 /// type of each client, so that none is taken for another's.
+///
+/// ```
+/// impl<R: Wait> Program<R> for Greet {
+///     type Out = bool;
+///     type Answer = usize;
+///
+///     fn run<J: JournalId>(&self, client: &mut Client<'_, J, R>) -> bool {
+///         client.update(&mut Hello).is_ok()
+///     }
+///
+///     fn end<J: JournalId>(self, _: &mut Client<'_, J, R>, first: Vec<bool>) -> usize {
+///         first.into_iter().filter(|is| *is).count()
+///     }
+/// }
+/// ```
 pub trait Program<R: Wait>: Drop + Sync {
     /// What a client answers.
     type Out: Drop + Send;
@@ -58,11 +74,12 @@ fn run_one<J: JournalId, R: Wait, P: Program<R>>(
     rt: &R,
     alloc: Global,
     store: &Store<J, NestedCells>,
+    live: &Live,
     program: &P,
     job: Job<J>,
 ) -> P::Out {
     let Job { number, seats } = job;
-    let mut client = Client::new(rt, alloc, store, number, seats);
+    let mut client = Client::new(rt, alloc, store, live, number, seats);
     program.run(&mut client)
 }
 
@@ -71,10 +88,11 @@ fn run_each<J: JournalId + Send + Sync, R: Threads + Wait + Sync, P: Program<R>>
     rt: &R,
     alloc: Global,
     store: &Store<J, NestedCells>,
+    live: &Live,
     program: &P,
     jobs: Vec<Job<J>>,
 ) -> Result<Vec<P::Out>, Fault> {
-    Ok(map_vec(rt, jobs, &|job| run_one(rt, alloc, store, program, job))?)
+    Ok(map_vec(rt, jobs, &|job| run_one(rt, alloc, store, live, program, job))?)
 }
 
 // Runs a program over a journal that was opened.
@@ -94,9 +112,10 @@ fn run_over<J: JournalId + Send + Sync, R: Threads + Wait + Sync, P: Program<R>>
         return Err(Unopened::TooMany);
     };
     let jobs = jobs(alloc, pairs)?;
-    let mut client = Client::new(rt, alloc, &store, jobs.len(), first);
+    let live = Live::new(alloc, jobs.len().saturating_add(1))?;
+    let mut client = Client::new(rt, alloc, &store, &live, jobs.len(), first);
     program.begin(&mut client);
-    let outs = run_each(rt, alloc, &store, &program, jobs)?;
+    let outs = run_each(rt, alloc, &store, &live, &program, jobs)?;
     let answer = program.end(&mut client, outs);
     drop(client);
     Ok(answer)
@@ -106,6 +125,10 @@ fn run_over<J: JournalId + Send + Sync, R: Threads + Wait + Sync, P: Program<R>>
 /// program over it: what the program answers. It has so many clients on threads of their own, and
 /// one more that begins and ends. `Refused` is for want of memory, or a key of no or of too many
 /// bytes.
+///
+/// ```
+/// let first = with_store(&rt, rt.alloc(), &[b"m"], 2, Greet);
+/// ```
 pub fn with_store<R: Threads + Wait + Sync, P: Program<R>>(
     rt: &R,
     alloc: Global,

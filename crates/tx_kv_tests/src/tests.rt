@@ -1,10 +1,12 @@
 //! A store that is opened, written, and read as it was before.
+mod collecting;
+mod first;
+mod ranges;
+
 use std::sync::Wait;
 use std::test::Fail;
-use tx_kv::{
-    Client, Failure, Fault, JournalId, Key, NotUpdated, Outcome, Program, Stop, Ts, Tx, Unopened,
-    Value, Work, with_store,
-};
+use tx_kv::{Client, Failure, Fault, JournalId, Key, NotUpdated, Outcome, Program, Stop};
+use tx_kv::{Ts, Tx, Unopened, Value, Work, with_store};
 
 /// Puts a byte on the key `a`; refuses 0.
 #[derive(Drop)]
@@ -16,7 +18,6 @@ struct Zero;
 
 impl Work for Put {
     type Out = u8;
-
     type Err = Zero;
 
     fn apply<T: Tx>(&mut self, tx: &mut T) -> Result<u8, Failure<Zero>> {
@@ -35,7 +36,7 @@ fn byte_at<J: JournalId, R: Wait>(
     at: Ts,
 ) -> Result<Option<u8>, Stop> {
     let key = Key::new(client.alloc(), b"a")?;
-    let found = client.get_at(at, &key)?;
+    let found = client.view_at(at).get(&key)?;
     Ok(found.and_then(|value| value.as_bytes().first().copied()))
 }
 
@@ -73,7 +74,6 @@ fn told<J: JournalId, R: Wait>(client: &mut Client<'_, J, R>) -> Option<[Option<
 
 impl<R: Wait> Program<R> for Story {
     type Out = usize;
-
     type Answer = bool;
 
     fn run<J: JournalId>(&self, client: &mut Client<'_, J, R>) -> usize {

@@ -1,5 +1,5 @@
 -- Seats and sessions that go on, one call after another.
-use Rattle.std.proofs.Common.{◌≡◌, ◌⊎◌, inl, inr, ℕ, Bool, true, false, List, [], ◌∷◌, ◌++◌, length, nat_lt, Option, Some, None, Result, Ok, Err, OnOk, OnErr, refl, sym, ap, subst, ◌∙◌}
+use Rattle.std.proofs.Common.{◌≡◌, inl, inr, ℕ, Bool, true, false, List, [], ◌∷◌, ◌++◌, length, nat_lt, Option, Some, None, Result, Ok, Err, OnOk, OnErr, refl, sym, ap, subst, ◌∙◌}
 use Rattle.tx_types.specs.declared.key.Key.{Key}
 use Rattle.tx_types.specs.declared.fault.Fault.{Fault}
 use Rattle.tx_types.specs.declared.mutation.KeyValue.{KeyValue}
@@ -8,7 +8,6 @@ use Rattle.tx_types.specs.declared.mutation.Mutation.TheVariants as mutation
 use Rattle.tx_types.specs.Keys.{key_lt}
 use Rattle.tx_plan.specs.declared.answer.Answer.{Answer}
 use Rattle.tx_plan.specs.declared.answer.Answer.TheVariants.{Rows}
-use Rattle.tx_plan.specs.declared.body.Body.{Body}
 use Rattle.tx_core.specs.declared.event.Declaration.{Declaration}
 use Rattle.tx_core.specs.declared.event.Event.{Event}
 use Rattle.tx_core.specs.declared.event.Event.TheVariants.{Drawn, Began, Declared}
@@ -24,16 +23,16 @@ use Rattle.tx_transaction.specs.declared.state.Miss.{Miss}
 use Rattle.tx_transaction.specs.declared.state.Phase.{Phase}
 use Rattle.tx_transaction.specs.declared.state.Due.{Due}
 use Rattle.tx_transaction.specs.Buffers.{buffered}
-use Rattle.tx_transaction.specs.Sessions.{SessionState, after_response, after_read, with_passed, read_of, scan_of}
+use Rattle.tx_transaction.specs.Sessions.{SessionState, after_response, after_read, with_passed}
 use Rattle.tx_transaction.specs.Returns.{read}
 use Rattle.tx_journal.specs.Senders.{Reached}
 use Rattle.tx_client.specs.Learns.{response_of, Learns}
 use Rattle.tx_client.specs.Walks.{Walk, asks, grows, ends, then_walk, Sends, due_walk, part_by, part_walk, get_by, get_walk, enough, scan_after, scan_from, scan_walk, greater, lesser}
-use Rattle.tx_client.specs.Calls.{Seated, HasHeard, BeganAt, Draws, DeclaredWith, RecordsDeclared}
+use Rattle.tx_client.specs.Calls.{Seated, HasHeard, BeganAt, Draws, RecordsDeclared}
 use Rattle.tx_client.specs.declared.resolved.Status.{Status}
 use Rattle.tx_client.specs.Statuses.{Stopping}
 use Rattle.tx_resolve.specs.Reading.{read_walk}
-use Rattle.tx_simple.specs.Meeting.{HasLearnt, Resolves}
+use Rattle.tx_simple.specs.Meeting.{Resolves}
 use Rattle.tx_simple.specs.Updates.{AnswersNoEffect, GoesWithoutEffect, GoesOn, Follows}
 
 -- ---- histories

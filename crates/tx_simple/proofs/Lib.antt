@@ -6,3 +6,11 @@ pub mod Placing
 pub mod Retrying
 -- What a session's reads find.
 pub mod Reading
+-- The rows of pages are the rows of their range.
+pub mod Paging
+-- What was entered of keys, over rows.
+pub mod Entering
+-- The rows of a range, with what was entered over them.
+pub mod Ranging
+-- No key lies above the greatest.
+pub mod Topmost

@@ -1,19 +1,20 @@
 -- What a session's reads find.
-use Rattle.std.proofs.Common.{◌≡◌, ◌⊎◌, inl, inr, ℕ, List, Option, Some, None, Result, Ok, Err, IfOk, refl, sym, ap, subst, ◌∙◌}
+use Rattle.std.proofs.Common.{◌≡◌, inl, inr, ℕ, List, Option, Some, None, Result, Ok, Err, IfOk, refl, sym, ap, subst}
 use Rattle.tx_types.specs.declared.key.Key.{Key}
 use Rattle.tx_types.specs.declared.value.Value.{Value}
 use Rattle.tx_types.specs.declared.mutation.KeyValue.{KeyValue}
 use Rattle.tx_types.specs.declared.mutation.Mutation.{Mutation}
 use Rattle.tx_types.specs.declared.mutation.Mutation.TheVariants as mutation
-use Rattle.tx_types.specs.Keys.{AreRising}
-use Rattle.tx_plan.specs.declared.body.Body.{Body}
+use Rattle.tx_types.specs.Keys.{AreRising, is_scanned}
 use Rattle.tx_plan.specs.declared.answer.Answer.{Answer}
 use Rattle.tx_plan.specs.declared.answer.Answer.TheVariants as answer
-use Rattle.tx_core.specs.Histories.{History}
+use Rattle.tx_machine.specs.Machine.{SeesRows, table_of}
+use Rattle.tx_core.specs.Histories.{History, Begins}
+use Rattle.tx_core.specs.Shadow.{shadow}
 use Rattle.tx_core.specs.Worlds.{IsWorldRun}
 use Rattle.tx_core.proofs.seats.Beginnings.{begins_all}
 use Rattle.tx_journal.specs.Known.{Known}
-use Rattle.tx_journal.specs.Replies.{Asked, Given}
+use Rattle.tx_journal.specs.Replies.{Asked}
 use Rattle.tx_journal.specs.Senders.{Reached, IsSender}
 use Rattle.tx_transaction.specs.declared.state.Response.{Response}
 use Rattle.tx_transaction.specs.declared.state.Response.TheVariants as response
@@ -27,10 +28,12 @@ use Rattle.tx_client.specs.Facts.{WasAnswered, RespondsSo}
 use Rattle.tx_client.specs.Learns.{response_by, response_of, Learns}
 use Rattle.tx_client.specs.Walks.{Sends, get_by, get_walk, scan_walk}
 use Rattle.tx_client.proofs.Calling.{came_told}
+use Rattle.tx_laws.specs.Scans.{scan_at}
 use Rattle.tx_laws.specs.Told.{Says}
 use Rattle.tx_laws.proofs.Standing.{answer_seen}
 use Rattle.tx_laws.proofs.Scanned.{sees_whole}
-use Rattle.tx_simple.specs.Reads.{Finds, AnswersRead, AnswersScan}
+use Rattle.tx_simple.specs.Ranges.{AreRowsOf}
+use Rattle.tx_simple.specs.Reads.{Finds, AnswersRead, AnswersScan, SeesOn, TellsPage}
 
 -- what a call came to, a state and a result
 abbrev Came : Type 0
@@ -133,6 +136,31 @@ scan_finds bounds fits sends keys_between rising way k new a b s after from to l
     (begins_all new.events) run
 scan_finds bounds fits sends keys_between rising way k new a b s after from to limit r run sent = tt
 
+-- rows that each run from then on shows are those of their range
+pub page_told : (bounds : List Key) (known : History) → IsWorldRun bounds known → (start : ℕ) (from to : Key) (limit : ℕ)
+    → (rows : List KeyValue)
+    → ((h : History) → Begins known h → IsWorldRun bounds h
+    → SeesRows (table_of (shadow h)).row (scan_at start from to limit rows))
+    → AreRowsOf (is_scanned from to limit rows) (SeesOn bounds known start) rows
+page_told bounds known run start from to limit rows sees =
+    let now = sees known (begins_all known) run in record {
+      rising = now.rising;
+      within = now.within;
+      each = λ k inside h begins later. (sees h begins later).each k inside;
+    }
+
+-- what a session's scan tells, in each run from then on
+pub scan_tells : {S : Type 0} (bounds : List Key) (fits : S → Asked → Type 0) (sends : S → Asked → Reached → S → Type 0)
+    (keys_between : S → List Key) → AreRising bounds → IsSender bounds fits sends keys_between
+    → (k new : Known) (a b : S) (s after : SessionState) (from to : Key) (limit : ℕ) (r : Answer)
+    → IsWorldRun bounds new.events → Sends sends bounds k a (scan_walk s bounds from to limit) (after, Ok r) b new
+    → TellsPage bounds new.events s.start from to limit r
+scan_tells bounds fits sends keys_between rising way k new a b s after from to limit (answer.Rows rows) run sent =
+    page_told bounds new.events run s.start from to limit rows
+    (λ h begins later. sees_whole bounds fits sends keys_between rising way k new a b s after from to limit rows h sent
+    begins later)
+scan_tells bounds fits sends keys_between rising way k new a b s after from to limit r run sent = tt
+
 -- ---- the calls of a session that runs: it began at this start, and its model is this
 
 module _ {S : Type 0} (bounds : List Key) (fits : S → Asked → Type 0) (sends : S → Asked → Reached → S → Type 0)
@@ -156,3 +184,13 @@ module _ {S : Type 0} (bounds : List Key) (fits : S → Asked → Type 0) (sends
       (scan_finds bounds fits sends keys_between rising way old.seat new.seat a b old.state new.state from to limit x run
       sent)
   if_scan_finds rising run from to limit (Err why) sent = tt
+
+  pub if_scan_tells : AreRising bounds → IsWorldRun bounds new.seat.events → (from to : Key) (limit : ℕ)
+      → (r : Result Answer Miss)
+      → Sends sends bounds old.seat a (scan_walk old.state bounds from to limit) (new.state, r) b new.seat
+      → IfOk r (TellsPage bounds new.seat.events start from to limit)
+  if_scan_tells rising run from to limit (Ok x) sent =
+      subst (λ n. TellsPage bounds new.seat.events n from to limit x) start_is
+      (scan_tells bounds fits sends keys_between rising way old.seat new.seat a b old.state new.state from to limit x run
+      sent)
+  if_scan_tells rising run from to limit (Err why) sent = tt

@@ -1,5 +1,5 @@
 -- How a try ends after tries that came to nothing, so the whole ends.
-use Rattle.std.proofs.Common.{◌≡◌, ◌<◌, ◌≤◌, ◌+◌, arith, ℕ, zero, suc, List, Option, Result, Ok, Err, None, IfOk, IfErr, refl, sym, ap, subst, ◌∙◌}
+use Rattle.std.proofs.Common.{◌≡◌, ◌≤◌, ◌+◌, arith, ℕ, zero, suc, List, Option, Result, Ok, Err, IfOk, IfErr, refl, sym, ap, subst, ◌∙◌}
 use Rattle.tx_types.specs.declared.key.Key.{Key}
 use Rattle.tx_core.specs.declared.event.Event.TheVariants.{Answered}
 use Rattle.tx_core.specs.Histories.{Begins}
@@ -7,7 +7,6 @@ use Rattle.tx_core.proofs.seats.Beginnings.{begins_all, begins_more}
 use Rattle.tx_journal.specs.Known.{Known}
 use Rattle.tx_transaction.specs.declared.state.Terms.{Terms}
 use Rattle.tx_transaction.specs.Buffers.{Entries}
-use Rattle.tx_transaction.specs.Sessions.{finish_of}
 use Rattle.tx_client.specs.Calls.{Seated, BeganAt}
 use Rattle.tx_simple.specs.declared.failure.Failure.{Failure}
 use Rattle.tx_simple.specs.declared.ending.Seats.{Seats}

@@ -4,3 +4,4 @@ pub mod Endings
 pub mod Reads
 pub mod Stops
 pub mod Failures
+pub mod Ranges

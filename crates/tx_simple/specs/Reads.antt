@@ -1,16 +1,20 @@
 -- What a transaction that is lent finds where it reads.
-use Rattle.std.specs.Prelude.{◌≡◌, ℕ, List, Option, Some, None}
+use Rattle.std.specs.Prelude.{◌≡◌, ℕ, cond, List, Option, Some, None}
 use Rattle.tx_types.specs.declared.key.Key.{Key}
 use Rattle.tx_types.specs.declared.value.Value.{Value}
 use Rattle.tx_types.specs.declared.mutation.KeyValue.{KeyValue}
 use Rattle.tx_types.specs.declared.mutation.Mutation.{Mutation}
 use Rattle.tx_types.specs.declared.mutation.Mutation.TheVariants as mutation
+use Rattle.tx_types.specs.Keys.{is_scanned}
 use Rattle.tx_plan.specs.declared.answer.Answer.{Answer}
 use Rattle.tx_plan.specs.declared.answer.Answer.TheVariants as answer
 use Rattle.tx_machine.specs.Machine.{Sees, SeesRows, table_of}
-use Rattle.tx_core.specs.Histories.{History}
+use Rattle.tx_core.specs.Histories.{History, Begins}
 use Rattle.tx_core.specs.Shadow.{shadow}
+use Rattle.tx_core.specs.Worlds.{IsWorldRun}
+use Rattle.tx_transaction.specs.Buffers.{Entries, buffered, is_known}
 use Rattle.tx_laws.specs.Scans.{scan_at}
+use Rattle.tx_simple.specs.Ranges.{AreRowsOf, is_in_range}
 
 -- What a read of a key finds, by what was entered of it: a value that was put or inserted, none
 -- where it was deleted; else what the one-step machine sees there at the start.
@@ -34,3 +38,26 @@ AnswersRead entered h start key _ = Unit {0}
 abbrev pub AnswersScan : History → ℕ → Key → Key → ℕ → Answer → Type 0
 AnswersScan h start from to limit (answer.Rows rows) = FindsRows h start from to limit rows
 AnswersScan h start from to limit _ = Unit {0}
+
+-- The rows of a range of any number of keys, with what was entered over what the one-step machine
+-- sees there at the start: of each key of it they tell what a read of that key finds.
+abbrev pub FindsRange : Entries → History → ℕ → Option Key → Option Key → List KeyValue → Type 0
+FindsRange entries h start from to rows =
+    AreRowsOf (is_in_range from to) (λ k found. Finds (buffered entries k) h start k found) rows
+
+-- what the one-step machine sees at a key at the start, where no put, insert or delete of the key
+-- lies over it
+abbrev pub Beneath : Entries → History → ℕ → Key → Option Value → Type 0
+Beneath entries h start k found = cond (is_known (buffered entries k)) (Unit {0})
+    (Sees (table_of (shadow h)).row k start found)
+
+-- the one-step machine sees this at a key, in each world run that begins with what is known
+abbrev pub SeesOn : List Key → History → ℕ → Key → Option Value → Type 0
+SeesOn bounds known start key found =
+    (h : History) → Begins known h → IsWorldRun bounds h → Sees (table_of (shadow h)).row key start found
+
+-- the rows that an answer to a scan tells, where it tells any, are seen in each such run
+abbrev pub TellsPage : List Key → History → ℕ → Key → Key → ℕ → Answer → Type 0
+TellsPage bounds known start from to limit (answer.Rows rows) =
+    AreRowsOf (is_scanned from to limit rows) (SeesOn bounds known start) rows
+TellsPage bounds known start from to limit _ = Unit {0}

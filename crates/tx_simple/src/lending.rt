@@ -3,11 +3,14 @@ ghost use Rattle.std.specs.Prelude.{◌≡◌, ℕ, false, Option, Ok, IfOk, IfS
 ghost use Rattle.tx_types.specs.declared.key.Key.{Key};
 ghost use Rattle.tx_types.specs.declared.mutation.Mutation.{Mutation};
 ghost use Rattle.tx_plan.specs.declared.answer.Answer.TheVariants.{Rows};
-ghost use Rattle.tx_core.specs.Histories.{History};
+ghost use Rattle.tx_types.specs.Keys.{is_scanned};
+ghost use Rattle.tx_core.specs.Histories.{History, Begins};
 ghost use Rattle.tx_transaction.specs.Buffers.{buffered};
 ghost use Rattle.tx_transaction.specs.Sessions.{is_declared};
-ghost use Rattle.tx_simple.specs.Reads.{Finds, FindsRows, AnswersRead, AnswersScan};
+ghost use Rattle.tx_simple.specs.Ranges.{AreRowsOf};
+ghost use Rattle.tx_simple.specs.Reads.{Finds, FindsRows, AnswersRead, AnswersScan, SeesOn, TellsPage};
 
+use crate::rows::{KeyRange, enter_over};
 use crate::running::{Begun, Running};
 use crate::stopping::{Stop, stop_by};
 use std::alloc::Global;
@@ -20,12 +23,20 @@ use tx_types::{Key, KeyValues, Ts, Value};
 /// A transaction that declares nothing yet, as it is lent to an update: it reads at its start, and
 /// enters changes into its buffer, which nobody else sees. A lock in the way of a read is resolved,
 /// and the read is made again.
+///
+/// ```
+/// let before = count(&tx.range(None, None)?);
+/// tx.delete(key_of(tx, 3)?)?;
+/// tx.lock(key_of(tx, 7)?)?;
+/// put(tx, 1_500)?;
+/// let after = count(&tx.range(None, None)?);
+/// ```
 pub trait Tx {
     ghost use Rattle.std.specs.Prelude.{◌≡◌, ℕ, OnOk, OnErr, IfOk, Some};
     ghost use Rattle.tx_types.specs.declared.mutation.Mutation.TheVariants as mutation;
     ghost use Rattle.tx_core.specs.Histories.{History};
     ghost use Rattle.tx_transaction.specs.Buffers.{Entries, touched, put_over, inserted, locked, buffered};
-    ghost use Rattle.tx_simple.specs.Reads.{Finds, FindsRows};
+    ghost use Rattle.tx_simple.specs.Reads.{Finds, FindsRows, FindsRange};
 
     /// What is entered so far.
     ghost buffer: { Self → Entries };
@@ -43,9 +54,10 @@ pub trait Tx {
     fn start(&self) -> Ts
         ensures { result ≡ begins self.now };
 
-    /// The value of a key at the start, or what was entered of it: what the one-step machine sees. `Waits` where a lock stands in
-    /// the way whose transaction lives or cannot be asked, `BelowSafePoint` where the start lies
-    /// below the safe point, `Lost` where no reply came, `Refused` for want of memory.
+    /// The value of a key at the start, or what was entered of it: what the one-step machine sees.
+    /// `Waits` where a lock stands in the way whose transaction lives or cannot be asked,
+    /// `BelowSafePoint` where the start lies below the safe point, `Lost` where no reply came,
+    /// `Refused` for want of memory.
     fn get(&mut self, key: &Key) -> Result<Option<Value>, Stop>
         ensures same { (buffer self.new ≡ buffer self.old) × (begins self.new ≡ begins self.old) }
         ensures finds { IfOk result
@@ -56,6 +68,14 @@ pub trait Tx {
     fn scan(&mut self, from: &Key, to: &Key, limit: u32) -> Result<KeyValues, Stop>
         ensures same { (buffer self.new ≡ buffer self.old) × (begins self.new ≡ begins self.old) }
         ensures finds { IfOk result (λ rows. FindsRows (seen self.new) (begins self.old) from.now to.now limit rows) };
+
+    /// The rows of a range, of any number, from a key, or from the least, and up to but not
+    /// including another, or to the greatest: each as `get` finds it, so that what was entered
+    /// lies over what is seen at the start. It asks page by page, and stops as `get` does.
+    fn range(&mut self, from: Option<Key>, to: Option<Key>) -> Result<KeyValues, Stop>
+        ensures same { (buffer self.new ≡ buffer self.old) × (begins self.new ≡ begins self.old) }
+        ensures finds { IfOk result
+            (λ rows. FindsRange (buffer self.old) (seen self.new) (begins self.old) from to rows) };
 
     /// Enters a put. `Refused` for more than 1,024 keys, or for want of memory: nothing is entered
     /// then.
@@ -90,7 +110,7 @@ pub trait Tx {
 /// A running session that declares nothing yet.
 #[derive(Drop)]
 pub(crate) struct Lent<'a, J: JournalId, S: Sender<Request<J>, Reply<J>>, B: Begun> {
-    running: Running<'a, J, S, B>,
+    pub(crate) running: Running<'a, J, S, B>,
     ghost open: { is_declared B.session.state ≡ false },
 }
 
@@ -136,6 +156,7 @@ impl<'a, J: JournalId, S: Sender<Request<J>, Reply<J>>, B: Begun> Lent<'a, J, S,
     // What a read answered; none where a lock was in its way that it may pass by now.
     fn passed(&mut self, response: Result<Answer, Miss>) -> Result<Option<Answer>, Stop>
         ensures same { self.new.running.state.buffer ≡ self.old.running.state.buffer }
+        ensures more { Begins self.old.running.seat.events self.new.running.seat.events }
         ensures answers { IfOk result
             (λ found. IfSome found (λ a. (response ≡ Ok a) × (self.new.running ≡ self.old.running))) }
     {
@@ -151,6 +172,7 @@ impl<'a, J: JournalId, S: Sender<Request<J>, Reply<J>>, B: Begun> Lent<'a, J, S,
     // Reads a key, once.
     fn look(&mut self, key: &Key) -> Result<Option<Answer>, Stop>
         ensures same { self.new.running.state.buffer ≡ self.old.running.state.buffer }
+        ensures more { Begins self.old.running.seat.events self.new.running.seat.events }
         ensures reads { IfOk result (λ found. IfSome found (AnswersRead (buffered self.old.running.state.buffer key.now)
             self.new.running.seat.events B.session.state.start key.now)) }
     {
@@ -161,11 +183,46 @@ impl<'a, J: JournalId, S: Sender<Request<J>, Reply<J>>, B: Begun> Lent<'a, J, S,
     // Reads a range, once.
     fn look_over(&mut self, from: &Key, to: &Key, limit: u32) -> Result<Option<Answer>, Stop>
         ensures same { self.new.running.state.buffer ≡ self.old.running.state.buffer }
+        ensures more { Begins self.old.running.seat.events self.new.running.seat.events }
         ensures reads { IfOk result (λ found. IfSome found
             (AnswersScan self.new.running.seat.events B.session.state.start from.now to.now limit)) }
+        ensures tells { IfOk result (λ found. IfSome found
+            (TellsPage J.bounds self.new.running.seat.events B.session.state.start from.now to.now limit)) }
     {
         let response = self.running.scan(from, to, limit);
         self.passed(response)
+    }
+
+    /// The value of a key at the start, or what was entered of it. Locks in its way are resolved.
+    pub(crate) fn find(&mut self, key: &Key) -> Result<Option<Value>, Stop>
+        ensures same { self.new.running.state.buffer ≡ self.old.running.state.buffer }
+        ensures more { Begins self.old.running.seat.events self.new.running.seat.events }
+        ensures finds { IfOk result (λ found. Finds (buffered self.old.running.state.buffer key.now)
+            self.new.running.seat.events B.session.state.start key.now found) }
+    {
+        for _ in 0..MAX_SCAN_ROWS {
+            if let Some(answer) = self.look(key)? {
+                return value_in(answer);
+            }
+        }
+        Err(Stop::Waits(WaitCause::Live))
+    }
+
+    /// The first rows of a range at the start. Locks in its way are resolved.
+    pub(crate) fn page(&mut self, from: &Key, to: &Key, limit: u32) -> Result<KeyValues, Stop>
+        ensures same { self.new.running.state.buffer ≡ self.old.running.state.buffer }
+        ensures more { Begins self.old.running.seat.events self.new.running.seat.events }
+        ensures finds { IfOk result
+            (λ rows. FindsRows self.new.running.seat.events B.session.state.start from.now to.now limit rows) }
+        ensures tells { IfOk result (λ rows. AreRowsOf (is_scanned from.now to.now limit rows)
+            (SeesOn J.bounds self.new.running.seat.events B.session.state.start) rows) }
+    {
+        for _ in 0..MAX_SCAN_ROWS {
+            if let Some(answer) = self.look_over(from, to, limit)? {
+                return rows_in(answer);
+            }
+        }
+        Err(Stop::Waits(WaitCause::Live))
     }
 }
 
@@ -185,21 +242,19 @@ impl<'a, J: JournalId, S: Sender<Request<J>, Reply<J>>, B: Begun> Tx for Lent<'a
     }
 
     fn get(&mut self, key: &Key) -> Result<Option<Value>, Stop> {
-        for _ in 0..MAX_SCAN_ROWS {
-            if let Some(answer) = self.look(key)? {
-                return value_in(answer);
-            }
-        }
-        Err(Stop::Waits(WaitCause::Live))
+        self.find(key)
     }
 
     fn scan(&mut self, from: &Key, to: &Key, limit: u32) -> Result<KeyValues, Stop> {
-        for _ in 0..MAX_SCAN_ROWS {
-            if let Some(answer) = self.look_over(from, to, limit)? {
-                return rows_in(answer);
-            }
-        }
-        Err(Stop::Waits(WaitCause::Live))
+        self.page(from, to, limit)
+    }
+
+    fn range(&mut self, from: Option<Key>, to: Option<Key>) -> Result<KeyValues, Stop> {
+        let range = KeyRange::new(self.running.alloc(), from, to)?;
+        let mut rows = self.rows_in(&range)?;
+        let changes = self.running.entered()?;
+        enter_over(&mut rows, changes.as_slice(), &range)?;
+        Ok(KeyValues::from_vec(rows))
     }
 
     fn put(&mut self, key: Key, value: Value) -> Result<(), Stop> {

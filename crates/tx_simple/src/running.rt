@@ -3,18 +3,21 @@ ghost use Rattle.std.specs.Prelude.{◌≡◌, true, false, Some, OnOk, OnErr, I
 ghost use Rattle.tx_types.specs.declared.mutation.Mutation.TheVariants as mutation;
 ghost use Rattle.tx_transaction.specs.Buffers.{touched, put_over, inserted, locked, buffered};
 ghost use Rattle.tx_transaction.specs.Sessions.{is_declared, can_commit, can_abort};
+ghost use Rattle.tx_core.specs.Histories.{Begins};
+ghost use Rattle.tx_core.specs.Worlds.{IsWorldRun};
+ghost use Rattle.tx_transaction.specs.Buffers.{changes_of};
 ghost use Rattle.tx_journal.specs.Senders.{IsSender};
-ghost use Rattle.tx_simple.specs.Reads.{AnswersRead, AnswersScan};
+ghost use Rattle.tx_simple.specs.Reads.{AnswersRead, AnswersScan, TellsPage};
 ghost use Rattle.tx_simple.specs.Updates.{Follows, GoesOn};
 
 use crate::meeting::clear_met;
 use crate::stopping::Stop;
 use std::alloc::Global;
 use std::marker::{Brand, Model, PhantomData};
-use tx_client::{Miss, Session, Status};
+use tx_client::{Miss, Session, Status, Terms};
 use tx_core::Answer;
 use tx_journal::{JournalId, Reply, Request, Seat, Sender};
-use tx_types::{Fault, Key, Ts, Value};
+use tx_types::{Changes, Fault, Key, Mode, Ts, Value};
 
 /// Where a session sets out. The call that runs it picks this.
 pub(crate) trait Begun {
@@ -144,9 +147,17 @@ impl<'a, J: JournalId, S: Sender<Request<J>, Reply<J>>, B: Begun> Running<'a, J,
         self.session.can_abort()
     }
 
+    /// For proofs: what its seat has seen is a world run. It does nothing when it runs.
+    pub(crate) fn know_run(&self)
+        ensures { IsWorldRun J.bounds self.now.seat.events }
+    {
+        self.session.show();
+    }
+
     /// Reads a key.
     pub(crate) fn get(&mut self, key: &Key) -> Result<Answer, Miss>
         ensures same { self.new.state.buffer ≡ self.old.state.buffer }
+        ensures more { Begins self.old.seat.events self.new.seat.events }
         ensures reads { IfOk result (AnswersRead (buffered self.old.state.buffer key.now) self.new.seat.events
             B.session.state.start key.now) }
     {
@@ -156,8 +167,11 @@ impl<'a, J: JournalId, S: Sender<Request<J>, Reply<J>>, B: Begun> Running<'a, J,
     /// Reads a range.
     pub(crate) fn scan(&mut self, from: &Key, to: &Key, limit: u32) -> Result<Answer, Miss>
         ensures same { self.new.state.buffer ≡ self.old.state.buffer }
+        ensures more { Begins self.old.seat.events self.new.seat.events }
         ensures reads { IfOk result
             (AnswersScan self.new.seat.events B.session.state.start from.now to.now limit) }
+        ensures tells { IfOk result
+            (TellsPage J.bounds self.new.seat.events B.session.state.start from.now to.now limit) }
     {
         // For proofs: the keys between the regions rise.
         let _bounds = self.sender.bounds();
@@ -167,10 +181,26 @@ impl<'a, J: JournalId, S: Sender<Request<J>, Reply<J>>, B: Begun> Running<'a, J,
         result
     }
 
+    /// What was entered, in the order in which its keys were first entered.
+    pub(crate) fn entered(&self) -> Result<Changes, Fault>
+        ensures { IfOk result (λ changes. changes ≡ changes_of self.now.state.buffer) }
+    {
+        let terms = Terms {
+            mode: Mode::Async,
+            ttl: 0,
+            max_commit: None,
+        };
+        match self.session.declaration(self.alloc, Ts::ZERO, &terms)? {
+            Some(declaration) => Ok(declaration.changes),
+            None => Ok(Changes::new(self.alloc)),
+        }
+    }
+
     /// Resolves the lock that last stood in its way, at the last timestamp that was drawn, and
     /// learns what was found.
     pub(crate) fn clear(&mut self) -> Result<Status, Stop>
-        ensures { self.new.state.buffer ≡ self.old.state.buffer }
+        ensures same { self.new.state.buffer ≡ self.old.state.buffer }
+        ensures more { Begins self.old.seat.events self.new.seat.events }
     {
         clear_met(&mut self.session, &mut self.resolver, self.sender)
     }

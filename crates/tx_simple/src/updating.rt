@@ -12,6 +12,19 @@ use tx_client::Terms;
 use tx_journal::{JournalId, Reply, Request, Sender};
 
 /// What a transaction is to do.
+///
+/// ```
+/// impl Work for Hello {
+///     type Out = ();
+///     type Err = ();
+///
+///     fn apply<T: Tx>(&mut self, tx: &mut T) -> Result<(), Failure<()>> {
+///         let key = Key::new(tx.alloc(), b"hello")?;
+///         let value = Value::new(tx.alloc(), b"world")?;
+///         Ok(tx.insert(key, value)?)
+///     }
+/// }
+/// ```
 pub trait Work {
     ghost use Rattle.std.specs.Prelude.{Result};
     ghost use Rattle.tx_transaction.specs.Buffers.{Entries};

@@ -1,0 +1,5 @@
+use Rattle.tx_reader.proofs.Seeing.{sees_itself}
+use Rattle.tx_reader.proofs.reader.Reader.scan.Goals as goal
+
+pub returns-in_default-clause-seat : goal.returns-in_default-clause-seat
+returns-in_default-clause-seat g c = sees_itself c.args.self.now.seat

@@ -1,6 +1,0 @@
-use Rattle.std.proofs.Common.{◌≡◌}
-use Rattle.tx_simple.proofs.lending.LentTx.scan.Given as goal
-
--- nothing is entered
-abbrev pub invariant-loop : goal.invariant-loop
-invariant-loop g l = l.self.running.state.buffer ≡ l.fn.self.running.state.buffer

@@ -1,0 +1,91 @@
+-- The rows of a range of keys.
+use Rattle.std.specs.Prelude.{◌≡◌, ◌⊎◌, ◌<◌, ◌&&◌, Bool, false, cond, List, [], ◌∷◌, ◌++◌, length, replicate, Option, Some, None, bytes_eq, IsTrue}
+use Rattle.tx_types.specs.declared.key.Key.{Key}
+use Rattle.tx_types.specs.declared.value.Value.{Value}
+use Rattle.tx_types.specs.declared.mutation.Change.{Change}
+use Rattle.tx_types.specs.declared.mutation.KeyValue.{KeyValue}
+use Rattle.tx_types.specs.declared.mutation.Mutation.{Mutation}
+use Rattle.tx_types.specs.declared.mutation.Mutation.TheVariants as mutation
+use Rattle.tx_types.specs.Keys.{key_lt, key_le, IsRising, value_in}
+
+-- the least key is a byte of 0, and the greatest 512 bytes of 255
+abbrev pub least : Key
+least = 0 ∷ []
+
+unfoldable pub greatest : Key
+greatest = replicate 512 255
+
+-- where a range begins: at a key, or at the least
+abbrev pub begin_of : Option Key → Key
+begin_of None = least
+begin_of (Some from) = from
+
+-- a key lies below the end of a range: below a key, or at the greatest or below
+abbrev pub is_below : Option Key → Key → Bool
+is_below None k = key_le k greatest
+is_below (Some to) k = key_lt k to
+
+-- the keys of a range
+abbrev pub is_in_range : Option Key → Option Key → Key → Bool
+is_in_range from to k = key_le (begin_of from) k && is_below to k
+
+-- Rows are those of the keys that pass a test: they rise, each is of such a key, and of each such
+-- key they tell.
+pub record AreRowsOf (test : Key → Bool) (tells : Key → Option Value → Type 0) (rows : List KeyValue) : Type 0 where
+  pub rising : IsRising rows
+  pub within : (k : Key) (v : Value) → value_in rows k ≡ Some v → IsTrue (test k)
+  pub each : (k : Key) → IsTrue (test k) → tells k (value_in rows k)
+
+-- a row of a key
+abbrev pub row_with : Key → Value → KeyValue
+row_with k v = record { key = k; value = v }
+
+-- the same, where it has a value
+abbrev pub row_of : Key → Option Value → List KeyValue
+row_of k None = []
+row_of k (Some v) = row_with k v ∷ []
+
+-- The rows of a page before the next page begins: all where the page is not full, and the next then
+-- begins at the end of the range; else all but the last, at which it begins.
+abbrev pub IsSplit : List KeyValue → Key → List KeyValue → Key → Type 0
+IsSplit page end front next = (length page < 1024) × (front ≡ page) × (next ≡ end)
+    ⊎ ((v : Value) × (page ≡ front ++ row_with next v ∷ []))
+
+-- rows that rise, with this value at a key, or none
+abbrev pub with_value : List KeyValue → Key → Option Value → List KeyValue
+with_value [] k o = row_of k o
+with_value (x ∷ xs) k o = cond (key_lt x.key k) (x ∷ with_value xs k o)
+    (row_of k o ++ cond (bytes_eq x.key k) xs (x ∷ xs))
+
+-- the first of these rows is of a key
+abbrev pub is_first_of : List KeyValue → Key → Bool
+is_first_of [] k = false
+is_first_of (x ∷ xs) k = bytes_eq x.key k
+
+-- ---- what was entered, over rows
+
+-- what the first change of a key does to it
+abbrev pub entry_in : List Change → Key → Option Mutation
+entry_in [] k = None
+entry_in (c ∷ cs) k = cond (bytes_eq c.key k) (Some c.mutation) (entry_in cs k)
+
+-- the value that a change leaves
+abbrev pub value_of : Mutation → Option Value
+value_of (mutation.Put v) = Some v
+value_of (mutation.Insert v) = Some v
+value_of mutation.Delete = None
+value_of mutation.Lock = None
+
+-- a value, and what was entered of its key over that
+abbrev pub over : Option Mutation → Option Value → Option Value
+over (Some (mutation.Put v)) o = Some v
+over (Some (mutation.Insert v)) o = Some v
+over (Some mutation.Delete) o = None
+over (Some mutation.Lock) o = o
+over None o = o
+
+-- New rows are the old ones with what changes leave of the keys that pass a test over them.
+pub record AreEntered (test : Key → Bool) (changes : List Change) (old new : List KeyValue) : Type 0 where
+  pub rising : IsRising new
+  pub within : (k : Key) (v : Value) → value_in new k ≡ Some v → IsTrue (test k)
+  pub each : (k : Key) → IsTrue (test k) → value_in new k ≡ over (entry_in changes k) (value_in old k)

@@ -1,0 +1,113 @@
+//! The rows of a range at the start of a transaction that is lent, page by page.
+ghost use Rattle.std.specs.Prelude.{◌≡◌, OnOk, IfOk, Some, None, ◌++◌};
+ghost use Rattle.tx_types.specs.Keys.{is_between};
+ghost use Rattle.tx_core.specs.Histories.{Begins};
+ghost use Rattle.tx_simple.specs.Ranges.{AreRowsOf, IsSplit, is_in_range, row_of};
+ghost use Rattle.tx_simple.specs.Reads.{Beneath, SeesOn};
+
+use crate::lending::Lent;
+use crate::rows::{KeyRange, greatest};
+use crate::running::Begun;
+use crate::stopping::Stop;
+use tx_journal::{JournalId, Reply, Request, Sender};
+use tx_types::limits::MAX_SCAN_ROWS;
+use tx_types::{Fault, Key, KeyValue, KeyValues, Value};
+
+/// The rows of a page of a range that goes up to `end`, and where the next page begins: at the end,
+/// where this one is not full; else at its last row, which is left for the next.
+pub fn split_page(page: KeyValues, end: Key) -> (Vec<KeyValue>, Key)
+    ensures { IsSplit page end result.0.items result.1 }
+{
+    let mut rows = page.into_vec();
+    if rows.len() < MAX_SCAN_ROWS as usize {
+        return (rows, end);
+    }
+    let Some(last) = rows.pop() else {
+        unreachable!()
+    };
+    (rows, last.key)
+}
+
+/// Adds rows at the end.
+pub fn add_rows(rows: &mut Vec<KeyValue>, mut more: Vec<KeyValue>) -> Result<(), Fault>
+    ensures { OnOk result (rows.new.items ≡ rows.old.items ++ more.items) }
+{
+    Ok(rows.append(&mut more)?)
+}
+
+/// Adds the row of a key at the end, where it has a value.
+pub fn add_last(rows: &mut Vec<KeyValue>, key: Key, value: Option<Value>) -> Result<(), Fault>
+    ensures { OnOk result (rows.new.items ≡ rows.old.items ++ row_of key value) }
+{
+    if let Some(value) = value {
+        rows.push(KeyValue { key, value })?;
+    }
+    Ok(())
+}
+
+impl<'a, J: JournalId, S: Sender<Request<J>, Reply<J>>, B: Begun> Lent<'a, J, S, B> {
+    // The rows from a key up to but not including another at the start, page by page.
+    fn pages(&mut self, from: &Key, to: &Key) -> Result<Vec<KeyValue>, Stop>
+        ensures same { self.new.running.state.buffer ≡ self.old.running.state.buffer }
+        ensures more { Begins self.old.running.seat.events self.new.running.seat.events }
+        ensures finds { IfOk result (λ rows. AreRowsOf (is_between from.now to.now)
+            (SeesOn J.bounds self.new.running.seat.events B.session.state.start) rows.items) }
+    {
+        let mut rows = Vec::new(self.running.alloc());
+        let mut next = from.clone()?;
+        for _ in 0..u32::MAX {
+            if next >= *to {
+                return Ok(rows);
+            }
+            let page = self.page(&next, to, MAX_SCAN_ROWS)?;
+            let (more, upto) = split_page(page, to.clone()?);
+            add_rows(&mut rows, more)?;
+            next = upto;
+        }
+        Err(Stop::Refused(Fault::OutOfMemory))
+    }
+
+    // The rows from a key up to but not including another at the start, over which what was entered
+    // is still to be entered.
+    fn rows_upto(&mut self, from: &Key, to: &Key) -> Result<Vec<KeyValue>, Stop>
+        ensures same { self.new.running.state.buffer ≡ self.old.running.state.buffer }
+        ensures more { Begins self.old.running.seat.events self.new.running.seat.events }
+        ensures finds { IfOk result (λ rows. AreRowsOf (is_in_range (Some from.now) (Some to.now))
+            (Beneath self.old.running.state.buffer self.new.running.seat.events B.session.state.start) rows.items) }
+    {
+        let rows = self.pages(from, to)?;
+        self.running.know_run();
+        Ok(rows)
+    }
+
+    // The same from a key on: the rows up to the greatest key, and its own.
+    fn rows_from(&mut self, from: &Key) -> Result<Vec<KeyValue>, Stop>
+        ensures same { self.new.running.state.buffer ≡ self.old.running.state.buffer }
+        ensures more { Begins self.old.running.seat.events self.new.running.seat.events }
+        ensures finds { IfOk result (λ rows. AreRowsOf (is_in_range (Some from.now) None)
+            (Beneath self.old.running.state.buffer self.new.running.seat.events B.session.state.start) rows.items) }
+    {
+        let top = greatest(self.running.alloc())?;
+        let mut rows = self.pages(from, &top)?;
+        if top < *from {
+            return Ok(rows);
+        }
+        let found = self.find(&top)?;
+        self.running.know_run();
+        add_last(&mut rows, top, found)?;
+        Ok(rows)
+    }
+
+    /// The rows of a range at the start, over which what was entered is still to be entered.
+    pub(crate) fn rows_in(&mut self, range: &KeyRange) -> Result<Vec<KeyValue>, Stop>
+        ensures same { self.new.running.state.buffer ≡ self.old.running.state.buffer }
+        ensures more { Begins self.old.running.seat.events self.new.running.seat.events }
+        ensures finds { IfOk result (λ rows. AreRowsOf (is_in_range (Some range.now.from) range.now.to)
+            (Beneath self.old.running.state.buffer self.new.running.seat.events B.session.state.start) rows.items) }
+    {
+        match &range.to {
+            Some(to) => self.rows_upto(&range.from, to),
+            None => self.rows_from(&range.from),
+        }
+    }
+}
