@@ -1,7 +1,7 @@
 //! Versions from chains.
 ghost use Rattle.tx_recording.specs.Recordings.{IsRecording};
 
-use crate::plan::{Member, Plan};
+use crate::plan::{Member, Plan, members_of};
 use crate::puts::{Put, list_at, number, put_at};
 use std::alloc::{AllocError, Global};
 use tx_history::{Read, Recorded};
@@ -89,19 +89,6 @@ fn add_chain(
         .heads
         .push(number(versions.recorded.writers.len()))?;
     Ok(())
-}
-
-// The members of a chain.
-fn members_of(plan: &Plan, chain: usize) -> &[Member] {
-    if chain >= plan.heads.len() || chain + 1 >= plan.heads.len() {
-        return &plan.members[0..0];
-    }
-    let from = plan.heads[chain] as usize;
-    let upto = plan.heads[chain + 1] as usize;
-    if from > upto || upto > plan.members.len() {
-        return &plan.members[0..0];
-    }
-    &plan.members[from..upto]
 }
 
 // Which version a view is of.

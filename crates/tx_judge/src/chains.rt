@@ -27,6 +27,21 @@ pub(crate) struct Extras {
     left: Vec<Option<u32>>,
 }
 
+/// Which puts of those that nobody knows the place of go into the chains of their keys.
+#[derive(Clone, Copy)]
+pub(crate) enum Asked<'a> {
+    /// All.
+    All,
+    /// By key one of them, where there are two or more, and what follows it.
+    First(&'a [Option<u32>]),
+}
+
+// The put that a table has of a key.
+fn first_in(first: &[Option<u32>], key: u32) -> Option<u32> {
+    let put = first.get(key as usize)?;
+    *put
+}
+
 // Takes what is known of the order of a key.
 fn take_key(
     chains: &mut Chains,
@@ -142,7 +157,12 @@ impl Extras {
         *next
     }
 
-    // Whether a key has two or more.
+    /// Whether some key has two or more.
+    pub(crate) fn are_open(&self) -> bool {
+        self.many.iter().any(|many| *many)
+    }
+
+    /// Whether a key has two or more.
     pub(crate) fn is_open(&self, key: u32) -> bool {
         self.many.get(key as usize) == Some(&true)
     }
@@ -158,22 +178,38 @@ impl Extras {
     }
 }
 
-// Takes the chain of each key: with the put that is left, else with its extras, where there is one,
-// or where all are asked for.
+// Takes of the extras of a key those that are asked for, and the only one in any case.
+fn take_asked(
+    chains: &mut Chains,
+    parts: &Parts,
+    extras: &Extras,
+    key: u32,
+    asked: Asked,
+) -> Result<(), AllocError> {
+    match asked {
+        Asked::First(first) if extras.is_open(key) => {
+            let puts = parts.puts.all.as_slice();
+            take_from(chains, puts, &parts.follows, first_in(first, key))
+        }
+        Asked::All | Asked::First(_) => take_extras(chains, parts, extras, key, false),
+    }
+}
+
+// Takes the chain of each key: with the put that is left, else with the extras that are asked for.
 fn take_keys(
     chains: &mut Chains,
     recording: &Recording,
     views: &[View],
     parts: &Parts,
     extras: &Extras,
-    all: bool,
+    asked: Asked,
 ) -> Result<(), AllocError> {
     for key in 0..recording.keys {
         take_key(chains, recording, views, parts, key)?;
         if let Some(left) = extras.left_of(key) {
             take_put(chains, parts.puts.all.as_slice(), left, Base::Blind)?;
-        } else if all || !extras.is_open(key) {
-            take_extras(chains, parts, extras, key, false)?;
+        } else {
+            take_asked(chains, parts, extras, key, asked)?;
         }
         end_chain(&mut chains.plan, key)?;
     }
@@ -219,16 +255,15 @@ fn known_puts(
     Ok(chains)
 }
 
-/// The chains, with what nobody knows of in this order; and what nobody knows of.
-///
-/// Where not all is asked for, the chain of a key lacks what may come in two orders.
+/// The chains, with what nobody knows of in this order; and what nobody knows of. Those of the keys
+/// come first. Where one lacks what may come in two orders, this has chains of its own.
 pub(crate) fn plan_of(
     alloc: Global,
     recording: &Recording,
     views: &[View],
     parts: &Parts,
     order: &[u32],
-    all: bool,
+    asked: Asked,
 ) -> Result<(Plan, Extras), AllocError> {
     let mut known = known_puts(alloc, recording, views, parts)?;
     let puts = parts.puts.all.as_slice();
@@ -238,7 +273,7 @@ pub(crate) fn plan_of(
     }
     note_left(&mut extras, puts, known.used.as_slice());
     let mut chains = Chains::new(alloc, puts.len())?;
-    take_keys(&mut chains, recording, views, parts, &extras, all)?;
+    take_keys(&mut chains, recording, views, parts, &extras, asked)?;
     take_open(&mut chains, recording, parts, &extras)?;
     take_rest(&mut chains, puts)?;
     Ok((chains.plan, extras))

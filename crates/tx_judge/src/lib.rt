@@ -4,10 +4,15 @@
 #![tactic(auto)]
 
 mod assemble;
+mod attempt;
 mod chains;
+mod first;
+mod judge;
 mod orders;
 mod plan;
 mod puts;
 mod search;
+mod undecided;
+mod wide;
 
-pub use search::judge;
+pub use judge::judge;

@@ -3,9 +3,10 @@ ghost use Rattle.tx_recording.specs.Recordings.{IsRecording};
 
 use crate::puts::{number, put_at};
 use std::alloc::{AllocError, Global};
+use tx_clock::{Event, events_of};
 use tx_history::After;
 use tx_recording::{Orders, Recording};
-use tx_verdict::{Event, Versions, events_of};
+use tx_verdict::Versions;
 
 // The last of a process that is known to have committed.
 fn last_in(last: &[Option<u32>], process: usize) -> Option<u32> {

@@ -24,6 +24,42 @@ pub(crate) struct Member {
     pub(crate) base: Base,
 }
 
+/// The members of a chain.
+pub(crate) fn members_of(plan: &Plan, chain: usize) -> &[Member] {
+    if chain >= plan.heads.len() || chain + 1 >= plan.heads.len() {
+        return &plan.members[0..0];
+    }
+    let from = plan.heads[chain] as usize;
+    let upto = plan.heads[chain + 1] as usize;
+    if from > upto || upto > plan.members.len() {
+        return &plan.members[0..0];
+    }
+    &plan.members[from..upto]
+}
+
+/// The first member of a chain.
+pub(crate) fn first_member(plan: &Plan, chain: usize) -> Option<Member> {
+    let member = members_of(plan, chain).first()?;
+    Some(*member)
+}
+
+// The put of a member.
+fn put_in(puts: &[Put], member: Member) -> Option<Put> {
+    let put = puts.get(member.put as usize)?;
+    Some(*put)
+}
+
+/// The first put of a chain.
+pub(crate) fn first_put(plan: &Plan, puts: &[Put], chain: usize) -> Option<Put> {
+    put_in(puts, first_member(plan, chain)?)
+}
+
+/// The last put of a chain.
+pub(crate) fn last_put(plan: &Plan, puts: &[Put], chain: usize) -> Option<Put> {
+    let member = members_of(plan, chain).last()?;
+    put_in(puts, *member)
+}
+
 /// Which put follows which.
 #[derive(Drop)]
 pub(crate) struct Follows {

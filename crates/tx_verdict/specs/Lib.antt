@@ -1,7 +1,6 @@
 pub mod Facts
 pub mod Fits
 pub mod Forced
-pub mod Keeping
 pub mod Pairs
 pub mod Steps
 pub mod Undecided

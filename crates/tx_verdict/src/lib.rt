@@ -5,7 +5,6 @@
 
 mod block;
 mod chain;
-mod clock;
 mod evidence;
 mod facts;
 mod fit;
@@ -13,13 +12,11 @@ mod forced;
 mod lists;
 mod pairs;
 mod seen;
-mod sessions;
 mod steps;
 mod undecided;
 mod verdict;
 mod versions;
 
-pub use clock::{Event, events_of};
 pub use evidence::{cycle_of, timestamps};
 pub use facts::{internal, wrong_update, wrong_views};
 pub use fit::value_of;
