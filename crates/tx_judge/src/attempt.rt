@@ -8,12 +8,8 @@ ghost use Rattle.tx_history.specs.Histories.{IsAssignment};
 ghost use Rattle.tx_history.specs.Graph.{IsCycleOf};
 ghost use Rattle.tx_verdict.specs.Verdicts.{IsVerdict};
 
-use crate::assemble::assemble;
-use crate::chains::{Asked, Parts, plan_of};
-use crate::orders::add_orders;
-use crate::plan::Plan;
-use crate::puts::Put;
 use std::alloc::{AllocError, Global};
+use tx_chains::{Asked, Parts, plan_of, versions_of};
 use tx_history::{Decision, decide};
 use tx_recording::{Orders, Recording};
 use tx_verdict::{Lives, Verdict, Versions, cycle_of, timestamps};
@@ -91,24 +87,6 @@ pub(crate) fn try_versions(
             no_of(alloc, recording, owners, views, orders, &versions, nodes)
         }
     }
-}
-
-/// The versions of the chains of a plan, with what comes after what in the orders that are asked
-/// for.
-pub(crate) fn versions_of(
-    alloc: Global,
-    recording: &Recording,
-    views: &[View],
-    orders: Orders,
-    lives: &Lives,
-    puts: &[Put],
-    plan: &Plan,
-) -> Result<Versions, AllocError>
-    requires { IsRecording recording.now }
-{
-    let mut versions = assemble(alloc, recording, views, puts, lives, plan)?;
-    add_orders(alloc, &mut versions, recording, orders)?;
-    Ok(versions)
 }
 
 /// What the recording is, with those puts of which nobody knows the place that are asked for in

@@ -1,11 +1,9 @@
 //! Which puts come first of those that nobody knows the place of.
 ghost use Rattle.std.specs.Prelude.{◌≡◌};
 
-use crate::chains::Extras;
-use crate::plan::{Plan, first_member, first_put, last_put};
-use crate::puts::{Put, number, put_at};
 use crate::wide::{are_within, wide_edges};
 use std::alloc::{AllocError, Global};
+use tx_chains::{Extras, Plan, Put, first_member, first_put, last_put, number, put_at};
 use tx_order::{Unordered, order};
 use tx_verdict::Versions;
 

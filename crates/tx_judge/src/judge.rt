@@ -6,11 +6,9 @@ ghost use Rattle.tx_views.specs.Owners.{AreOwners, IsOwned};
 ghost use Rattle.tx_verdict.specs.Facts.{AreLists};
 ghost use Rattle.tx_verdict.specs.Verdicts.{IsVerdict, IsWrong};
 
-use crate::chains::Parts;
-use crate::plan::follows_of;
-use crate::puts::{lives_of, number, put_at, puts_of};
 use crate::search::judge_parts;
 use std::alloc::{AllocError, Global};
+use tx_chains::{Parts, follows_of, lives_of, number, put_at, puts_of};
 use tx_recording::{Orders, Recording};
 use tx_verdict::{Fact, Verdict, are_lists, internal, wrong_lists, wrong_update, wrong_views};
 use tx_views::{Owned, Owner, View, Viewed, owners, views};

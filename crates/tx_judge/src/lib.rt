@@ -3,14 +3,9 @@
 //! so.
 #![tactic(auto)]
 
-mod assemble;
 mod attempt;
-mod chains;
 mod first;
 mod judge;
-mod orders;
-mod plan;
-mod puts;
 mod search;
 mod undecided;
 mod wide;

@@ -5,12 +5,11 @@ ghost use Rattle.tx_views.specs.Views.{AreViews};
 ghost use Rattle.tx_views.specs.Owners.{AreOwners};
 ghost use Rattle.tx_verdict.specs.Verdicts.{IsVerdict};
 
-use crate::attempt::{try_versions, verdict_in, versions_of};
-use crate::chains::{Asked, Parts, plan_of};
+use crate::attempt::{try_versions, verdict_in};
 use crate::first::{Hint, hint_of};
-use crate::puts::{Put, number};
 use crate::undecided::open_keys;
 use std::alloc::{AllocError, Global};
+use tx_chains::{Asked, Parts, Put, number, plan_of, versions_of};
 use tx_recording::{Orders, Recording};
 use tx_verdict::{Lives, Verdict};
 use tx_views::{Owner, View};

@@ -3,9 +3,8 @@ ghost use Rattle.std.specs.Prelude.{◌≡◌, OnOk, IfOk, IsTrue};
 ghost use Rattle.tx_recording.specs.Recordings.{IsRecording};
 ghost use Rattle.tx_verdict.specs.Undecided.{AreUndecided, IsUndecided};
 
-use crate::chains::Extras;
-use crate::puts::Put;
 use std::alloc::{AllocError, Global};
+use tx_chains::{Extras, Put};
 use tx_recording::Recording;
 use tx_verdict::is_undecided;
 

@@ -4,10 +4,8 @@ ghost use Rattle.std.specs.Prelude.{◌≡◌, ◌<◌, All, IsTrue};
 ghost use Rattle.tx_order.specs.Graphs.{AreWithin};
 ghost use Rattle.tx_history.specs.Records.{IsRecorded};
 
-use crate::chains::Extras;
-use crate::plan::{Plan, first_put, last_put};
-use crate::puts::{Put, number};
 use std::alloc::{AllocError, Global};
+use tx_chains::{Extras, Plan, Put, first_put, last_put, number};
 use tx_history::{Read, Recorded, edges};
 use tx_order::Edge;
 

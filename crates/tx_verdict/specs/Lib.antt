@@ -3,6 +3,8 @@ pub mod Fits
 pub mod Forced
 pub mod Pairs
 pub mod Steps
+pub mod Anomalies
+pub mod Cycles
 pub mod Undecided
 pub mod Versions
 pub mod Verdicts

@@ -6,9 +6,10 @@ ghost use Rattle.tx_views.specs.Owners.{AreOwners};
 ghost use Rattle.tx_history.specs.Records.{IsRecorded, history_of};
 ghost use Rattle.tx_history.specs.Histories.{IsAssignment};
 ghost use Rattle.tx_history.specs.Graph.{IsCycleOf};
-ghost use Rattle.tx_verdict.specs.Steps.{IsCycleFor};
+ghost use Rattle.tx_verdict.specs.Cycles.{IsCycleFor};
 ghost use Rattle.tx_verdict.specs.Verdicts.{IsRefused, AreTimestampsOf};
 
+use crate::anomaly::anomaly_of;
 use crate::fit::is_fit;
 use crate::forced::is_forced;
 use crate::steps::{beside_of, is_round, steps_of};
@@ -16,7 +17,7 @@ use crate::verdict::{Cycle, Timestamps};
 use crate::versions::Versions;
 use std::alloc::{AllocError, Global};
 use tx_clock::keeps_orders;
-use tx_history::{anomaly_of, dependencies};
+use tx_history::dependencies;
 use tx_recording::{Orders, Recording};
 use tx_views::{Owner, View};
 
@@ -85,8 +86,9 @@ pub fn cycle_of(
         return Ok(None);
     }
     let beside = beside_of(steps.as_slice());
+    let anomaly = anomaly_of(steps.as_slice());
     Ok(Some(Cycle {
-        anomaly: anomaly_of(found.as_slice()),
+        anomaly,
         beside,
         steps,
     }))

@@ -3,6 +3,7 @@
 //! explanation; and some reads nothing explains.
 #![tactic(auto)]
 
+mod anomaly;
 mod block;
 mod chain;
 mod evidence;
@@ -17,6 +18,7 @@ mod undecided;
 mod verdict;
 mod versions;
 
+pub use anomaly::Anomaly;
 pub use evidence::{cycle_of, timestamps};
 pub use facts::{internal, wrong_update, wrong_views};
 pub use fit::value_of;

@@ -9,19 +9,19 @@ use tx_views::View;
 
 /// Chains of what was put: each of a key, one version after the other.
 #[derive(Drop)]
-pub(crate) struct Plan {
+pub struct Plan {
     /// Where each chain begins among the members, and where the last ends.
-    pub(crate) heads: Vec<u32>,
+    pub heads: Vec<u32>,
     /// The key of each chain.
-    pub(crate) names: Vec<u32>,
-    pub(crate) members: Vec<Member>,
+    pub names: Vec<u32>,
+    pub members: Vec<Member>,
 }
 
 /// A version of a chain.
 #[derive(Clone, Copy)]
-pub(crate) struct Member {
-    pub(crate) put: u32,
-    pub(crate) base: Base,
+pub struct Member {
+    pub put: u32,
+    pub base: Base,
 }
 
 /// The members of a chain.
@@ -38,7 +38,7 @@ pub(crate) fn members_of(plan: &Plan, chain: usize) -> &[Member] {
 }
 
 /// The first member of a chain.
-pub(crate) fn first_member(plan: &Plan, chain: usize) -> Option<Member> {
+pub fn first_member(plan: &Plan, chain: usize) -> Option<Member> {
     let member = members_of(plan, chain).first()?;
     Some(*member)
 }
@@ -50,25 +50,25 @@ fn put_in(puts: &[Put], member: Member) -> Option<Put> {
 }
 
 /// The first put of a chain.
-pub(crate) fn first_put(plan: &Plan, puts: &[Put], chain: usize) -> Option<Put> {
+pub fn first_put(plan: &Plan, puts: &[Put], chain: usize) -> Option<Put> {
     put_in(puts, first_member(plan, chain)?)
 }
 
 /// The last put of a chain.
-pub(crate) fn last_put(plan: &Plan, puts: &[Put], chain: usize) -> Option<Put> {
+pub fn last_put(plan: &Plan, puts: &[Put], chain: usize) -> Option<Put> {
     let member = members_of(plan, chain).last()?;
     put_in(puts, *member)
 }
 
 /// Which put follows which.
 #[derive(Drop)]
-pub(crate) struct Follows {
+pub struct Follows {
     /// By key: the one that saw nothing there.
-    pub(crate) first: Vec<Option<u32>>,
+    pub first: Vec<Option<u32>>,
     /// By value: the one that saw it last in its key.
-    pub(crate) next: Vec<Option<u32>>,
+    pub next: Vec<Option<u32>>,
     /// Two that saw the same.
-    pub(crate) lost: Option<Lost>,
+    pub lost: Option<Lost>,
 }
 
 // Notes what a put saw, in a table.
@@ -111,7 +111,7 @@ fn seen_by<'a>(recording: &'a Recording, views: &[View], put: Put) -> Option<&'a
 }
 
 /// Which put follows which, by what they saw.
-pub(crate) fn follows_of(
+pub fn follows_of(
     alloc: Global,
     recording: &Recording,
     views: &[View],
@@ -145,8 +145,8 @@ fn lost_by(puts: &[Put], before: u32, put: Put) -> Option<Lost> {
 /// Members that are put into a plan once.
 #[derive(Drop)]
 pub(crate) struct Chains {
-    pub(crate) plan: Plan,
-    pub(crate) used: Vec<bool>,
+    pub plan: Plan,
+    pub used: Vec<bool>,
 }
 
 /// Ends a chain.
@@ -156,23 +156,23 @@ pub(crate) fn end_chain(plan: &mut Plan, key: u32) -> Result<(), AllocError> {
     Ok(())
 }
 
-/// Takes a put, unless it is taken. Whether it was.
-pub(crate) fn take_put(
-    chains: &mut Chains,
-    puts: &[Put],
-    place: u32,
-    within: Base,
-) -> Result<bool, AllocError> {
-    if chains.used.get(place as usize) != Some(&false) {
+// Takes a put, unless it is taken. Whether it was.
+fn take(chains: &mut Chains, put: u32, base: Base) -> Result<bool, AllocError> {
+    if chains.used.get(put as usize) != Some(&false) {
         return Ok(false);
     }
+    put_at(chains.used.as_mut_slice(), put as usize, true);
+    chains.plan.members.push(Member { put, base })?;
+    Ok(true)
+}
+
+/// Takes a put for what it saw, unless it is taken. Whether it was.
+pub(crate) fn take_put(chains: &mut Chains, puts: &[Put], place: u32) -> Result<bool, AllocError> {
     let base = match view_in(puts, place) {
         Some(view) => Base::View(view),
-        None => within,
+        None => Base::Blind,
     };
-    put_at(chains.used.as_mut_slice(), place as usize, true);
-    chains.plan.members.push(Member { put: place, base })?;
-    Ok(true)
+    take(chains, place, base)
 }
 
 /// Takes a put, and what follows it.
@@ -187,7 +187,7 @@ pub(crate) fn take_from(
         let Some(place) = at else {
             return Ok(());
         };
-        if !take_put(chains, puts, place, Base::Blind)? {
+        if !take_put(chains, puts, place)? {
             return Ok(());
         }
         at = next_of(puts, follows, place);
@@ -202,10 +202,10 @@ fn next_of(puts: &[Put], follows: &Follows, place: u32) -> Option<u32> {
     *next
 }
 
-/// Takes the puts whose values are read, in their order.
+/// Takes the puts whose values are read, in their order: what stands in front of each in the list
+/// was there, whatever its own transaction read.
 pub(crate) fn take_list(
     chains: &mut Chains,
-    puts: &[Put],
     by_value: &[Option<u32>],
     list: &[u32],
     view: u32,
@@ -214,7 +214,7 @@ pub(crate) fn take_list(
         let Some(Some(put)) = by_value.get(list[place] as usize) else {
             continue;
         };
-        take_put(chains, puts, *put, Base::Within(view, number(place)))?;
+        take(chains, *put, Base::Within(view, number(place)))?;
     }
     Ok(())
 }

@@ -8,25 +8,25 @@ use tx_views::{Owner, View};
 
 /// That a transaction put values into a key.
 #[derive(Clone, Copy)]
-pub(crate) struct Put {
-    pub(crate) txn: u32,
-    pub(crate) key: u32,
+pub struct Put {
+    pub txn: u32,
+    pub key: u32,
     /// The first view that it has of the key.
-    pub(crate) view: Option<u32>,
+    pub view: Option<u32>,
     /// The last value that it put.
-    pub(crate) last: u32,
+    pub last: u32,
 }
 
 /// Of all live transactions.
 #[derive(Drop)]
-pub(crate) struct Puts {
-    pub(crate) all: Vec<Put>,
+pub struct Puts {
+    pub all: Vec<Put>,
     /// By the number of the value, which of them put it.
-    pub(crate) by_value: Vec<Option<u32>>,
+    pub by_value: Vec<Option<u32>>,
 }
 
 /// The number, or the greatest of its type.
-pub(crate) fn number(n: usize) -> u32 {
+pub fn number(n: usize) -> u32 {
     if n > 0xffff_ffff {
         0xffff_ffff
     } else {
@@ -45,7 +45,7 @@ pub(crate) fn list_at(recording: &Recording, span: Span) -> &[u32] {
 }
 
 /// Sets what is at a place, if there is one.
-pub(crate) fn put_at<T: Copy + Drop>(items: &mut [T], place: usize, item: T) {
+pub fn put_at<T: Copy + Drop>(items: &mut [T], place: usize, item: T) {
     if place < items.len() {
         items[place] = item;
     }
@@ -89,7 +89,7 @@ fn committed(alloc: Global, recording: &Recording) -> Result<Lives, AllocError> 
 }
 
 /// Which transactions committed: those that are known to have, and those of which a value was seen.
-pub(crate) fn lives_of(
+pub fn lives_of(
     alloc: Global,
     recording: &Recording,
     owners: &[Option<Owner>],
@@ -208,7 +208,7 @@ fn note_views(marks: &mut Marks, views: &[View], txn: u32, from: usize) -> usize
 }
 
 /// What the live transactions put, in their order.
-pub(crate) fn puts_of(
+pub fn puts_of(
     alloc: Global,
     recording: &Recording,
     views: &[View],

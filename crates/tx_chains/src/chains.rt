@@ -4,32 +4,31 @@ use crate::plan::{Chains, Follows, Plan, end_chain, take_from, take_list, take_p
 use crate::puts::{Put, Puts, list_at, number, put_at};
 use std::alloc::{AllocError, Global};
 use tx_recording::Recording;
-use tx_verdict::Base;
 use tx_views::View;
 
 /// What chains are made of.
 #[derive(Drop)]
-pub(crate) struct Parts {
-    pub(crate) puts: Puts,
-    pub(crate) follows: Follows,
+pub struct Parts {
+    pub puts: Puts,
+    pub follows: Follows,
     /// By key: the view with most values.
-    pub(crate) longest: Vec<Option<u32>>,
+    pub longest: Vec<Option<u32>>,
 }
 
 /// The puts of which nobody knows what they follow, by key.
 #[derive(Drop)]
-pub(crate) struct Extras {
+pub struct Extras {
     first: Vec<Option<u32>>,
     next: Vec<Option<u32>>,
     /// By key: whether there are two or more.
-    pub(crate) many: Vec<bool>,
+    pub many: Vec<bool>,
     /// By key: one that follows what another one follows in the order that is known.
     left: Vec<Option<u32>>,
 }
 
 /// Which puts of those that nobody knows the place of go into the chains of their keys.
 #[derive(Clone, Copy)]
-pub(crate) enum Asked<'a> {
+pub enum Asked<'a> {
     /// All.
     All,
     /// By key one of them, where there are two or more, and what follows it.
@@ -55,7 +54,7 @@ fn take_key(
         if (*view as usize) < views.len() {
             let list = list_at(recording, views[*view as usize].span);
             let by_value = parts.puts.by_value.as_slice();
-            take_list(chains, parts.puts.all.as_slice(), by_value, list, *view)?;
+            take_list(chains, by_value, list, *view)?;
         }
     }
     let start = chains.start(parts, before, key);
@@ -158,17 +157,17 @@ impl Extras {
     }
 
     /// Whether some key has two or more.
-    pub(crate) fn are_open(&self) -> bool {
+    pub fn are_open(&self) -> bool {
         self.many.iter().any(|many| *many)
     }
 
     /// Whether a key has two or more.
-    pub(crate) fn is_open(&self, key: u32) -> bool {
+    pub fn is_open(&self, key: u32) -> bool {
         self.many.get(key as usize) == Some(&true)
     }
 
     // The transactions of the first two of a key, where it has two.
-    pub(crate) fn pair_of(&self, puts: &[Put], key: u32) -> Option<(u32, u32)> {
+    pub fn pair_of(&self, puts: &[Put], key: u32) -> Option<(u32, u32)> {
         let first = self.first.get(key as usize)?;
         let one = (*first)?;
         let other = self.after(one)?;
@@ -207,7 +206,7 @@ fn take_keys(
     for key in 0..recording.keys {
         take_key(chains, recording, views, parts, key)?;
         if let Some(left) = extras.left_of(key) {
-            take_put(chains, parts.puts.all.as_slice(), left, Base::Blind)?;
+            take_put(chains, parts.puts.all.as_slice(), left)?;
         } else {
             take_asked(chains, parts, extras, key, asked)?;
         }
@@ -234,7 +233,7 @@ fn take_open(
 // Takes what is left, each into a chain of its own.
 fn take_rest(chains: &mut Chains, puts: &[Put]) -> Result<(), AllocError> {
     for place in 0..puts.len() {
-        if take_put(chains, puts, number(place), Base::Blind)? {
+        if take_put(chains, puts, number(place))? {
             end_chain(&mut chains.plan, puts[place].key)?;
         }
     }
@@ -257,7 +256,7 @@ fn known_puts(
 
 /// The chains, with what nobody knows of in this order; and what nobody knows of. Those of the keys
 /// come first. Where one lacks what may come in two orders, this has chains of its own.
-pub(crate) fn plan_of(
+pub fn plan_of(
     alloc: Global,
     recording: &Recording,
     views: &[View],

@@ -1,11 +1,12 @@
 //! Versions from chains.
 ghost use Rattle.tx_recording.specs.Recordings.{IsRecording};
 
+use crate::orders::add_orders;
 use crate::plan::{Member, Plan, members_of};
 use crate::puts::{Put, list_at, number, put_at};
 use std::alloc::{AllocError, Global};
 use tx_history::{Read, Recorded};
-use tx_recording::{Op, Recording, Span};
+use tx_recording::{Op, Orders, Recording, Span};
 use tx_verdict::{Home, Lives, NO_SPAN, Versions, value_of};
 use tx_views::{Effect, View, effect_of};
 
@@ -156,8 +157,8 @@ const NO_HOME: Home = Home {
     version: 0,
 };
 
-/// The versions of the chains of a plan.
-pub(crate) fn assemble(
+// The versions of the chains of a plan.
+fn assemble(
     alloc: Global,
     recording: &Recording,
     views: &[View],
@@ -180,5 +181,23 @@ pub(crate) fn assemble(
         )?;
     }
     add_reads(&mut versions, recording, views)?;
+    Ok(versions)
+}
+
+/// The versions of the chains of a plan, with what comes after what in the orders that are asked
+/// for.
+pub fn versions_of(
+    alloc: Global,
+    recording: &Recording,
+    views: &[View],
+    orders: Orders,
+    lives: &Lives,
+    puts: &[Put],
+    plan: &Plan,
+) -> Result<Versions, AllocError>
+    requires { IsRecording recording.now }
+{
+    let mut versions = assemble(alloc, recording, views, puts, lives, plan)?;
+    add_orders(alloc, &mut versions, recording, orders)?;
     Ok(versions)
 }
