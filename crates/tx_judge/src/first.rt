@@ -1,6 +1,7 @@
 //! Which puts come first of those that nobody knows the place of.
 ghost use Rattle.std.specs.Prelude.{◌≡◌};
 
+use crate::greedy::ranks_of;
 use crate::wide::{are_within, wide_edges};
 use std::alloc::{AllocError, Global};
 use tx_chains::{Extras, Plan, Put, first_member, first_put, last_put, number, put_at};
@@ -12,8 +13,8 @@ use tx_verdict::Versions;
 pub(crate) enum Hint {
     /// A cycle, also where only these puts have a place, by key: each behind all that is known.
     First(Vec<Option<u32>>),
-    /// These starts and commits keep it.
-    Numbers(Vec<usize>, Vec<usize>),
+    /// Orders in which it may be kept, each by numbers of the transactions.
+    Guesses(Vec<Vec<usize>>),
     Nothing,
 }
 
@@ -132,9 +133,12 @@ pub(crate) fn hint_of(
     }
     match order(alloc, nodes, &mut wide) {
         Ok(places) => {
-            let starts = every_other(alloc, places.as_slice(), 0, txns)?;
-            let commits = every_other(alloc, places.as_slice(), 1, txns)?;
-            Ok(Hint::Numbers(starts, commits))
+            let ranks = ranks_of(alloc, wide.as_slice(), nodes, puts, extras, txns, keys)?;
+            let mut guesses = Vec::new(alloc);
+            guesses.push(ranks)?;
+            guesses.push(every_other(alloc, places.as_slice(), 1, txns)?)?;
+            guesses.push(every_other(alloc, places.as_slice(), 0, txns)?)?;
+            Ok(Hint::Guesses(guesses))
         }
         Err(Unordered::Cycle(cycle)) => {
             let leads = leads_of(alloc, txns, keys, cycle.as_slice())?;

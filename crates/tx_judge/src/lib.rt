@@ -5,7 +5,9 @@
 
 mod attempt;
 mod first;
+mod greedy;
 mod judge;
+mod lists;
 mod search;
 mod undecided;
 mod wide;

@@ -67,8 +67,7 @@ fn verdict_by(
     )
 }
 
-// What the recording is, with those puts in the order of some commits, of some starts, or in which
-// they are recorded.
+// What the recording is, with those puts in one of these orders, or in which they are recorded.
 fn verdict_found(
     alloc: Global,
     recording: &Recording,
@@ -77,38 +76,25 @@ fn verdict_found(
     orders: Orders,
     lives: &Lives,
     parts: &Parts,
-    starts: &[usize],
-    commits: &[usize],
+    guesses: &[Vec<usize>],
 ) -> Result<Option<Verdict>, AllocError>
     requires recording { IsRecording recording.now }
     requires owners { AreOwners recording.now owners.now }
     requires views { AreViews recording.now views.now }
     ensures { IfOk result (λ found. IfSome found (IsVerdict recording.now orders)) }
 {
-    let found = verdict_by(
-        alloc, recording, owners, views, orders, lives, parts, commits,
-    )?;
-    if found.is_some() {
-        return Ok(found);
-    }
-    let found = verdict_by(
-        alloc, recording, owners, views, orders, lives, parts, starts,
-    )?;
-    if found.is_some() {
-        return Ok(found);
+    for i in 0..guesses.len() {
+        let guess = guesses[i].as_slice();
+        let found = verdict_by(alloc, recording, owners, views, orders, lives, parts, guess)?;
+        if found.is_some() {
+            return Ok(found);
+        }
     }
     let turn = in_turn(alloc, parts.puts.all.len())?;
     let order = turn.as_slice();
+    let asked = Asked::All;
     verdict_in(
-        alloc,
-        recording,
-        owners,
-        views,
-        orders,
-        lives,
-        parts,
-        order,
-        Asked::All,
+        alloc, recording, owners, views, orders, lives, parts, order, asked,
     )
 }
 
@@ -137,11 +123,10 @@ fn verdict_by_hint(
                 alloc, recording, owners, views, orders, lives, parts, order, asked,
             )
         }
-        Hint::Numbers(starts, commits) => {
-            let starts = starts.as_slice();
-            let commits = commits.as_slice();
+        Hint::Guesses(guesses) => {
+            let guesses = guesses.as_slice();
             verdict_found(
-                alloc, recording, owners, views, orders, lives, parts, starts, commits,
+                alloc, recording, owners, views, orders, lives, parts, guesses,
             )
         }
         Hint::Nothing => Ok(None),
