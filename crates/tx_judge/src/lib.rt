@@ -6,10 +6,10 @@
 mod attempt;
 mod first;
 mod greedy;
-mod judge;
 mod lists;
 mod search;
 mod undecided;
+mod verdict;
 mod wide;
 
-pub use judge::judge;
+pub use verdict::judge;

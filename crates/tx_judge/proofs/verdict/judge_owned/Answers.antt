@@ -2,7 +2,7 @@
 use Rattle.std.proofs.Common.{subst}
 use Rattle.tx_views.specs.Owners.{IsOwned}
 use Rattle.tx_judge.proofs.Firsts.{put_by}
-use Rattle.tx_judge.proofs.judge.judge_owned.Goals as goal
+use Rattle.tx_judge.proofs.verdict.judge_owned.Goals as goal
 
 pub returns-in-Twice : goal.returns-in-Twice
 returns-in-Twice c =
