@@ -96,12 +96,12 @@ fn first_by(
 fn every_other(
     alloc: Global,
     numbers: &[usize],
-    first: usize,
+    first: u32,
     count: u32,
 ) -> Result<Vec<usize>, AllocError> {
     let mut taken = Vec::new(alloc);
     for i in 0..count as usize {
-        let number = match numbers.get(2 * i + first) {
+        let number = match numbers.get(2 * i + first as usize) {
             Some(number) => *number,
             None => 0,
         };

@@ -143,7 +143,7 @@ impl Taken {
     // Adds the nodes that no edge leads to.
     fn add_first(&mut self, graph: &Graph<'_>) -> Result<(), AllocError> {
         for node in 0..self.left.len() {
-            if self.left[node] == 0 {
+            if self.left.get(node) == Some(&0) {
                 self.add(graph, number(node))?;
             }
         }

@@ -1,6 +1,6 @@
 //! The graph of versions of which the order is not known in some keys, with what holds in each of
 //! their orders.
-ghost use Rattle.std.specs.Prelude.{◌≡◌, ◌<◌, All, IsTrue};
+ghost use Rattle.std.specs.Prelude.{◌↔◌, IsTrue};
 ghost use Rattle.tx_order.specs.Graphs.{AreWithin};
 ghost use Rattle.tx_history.specs.Records.{IsRecorded};
 
@@ -109,7 +109,7 @@ pub(crate) fn wide_edges(
 
 /// Whether each edge joins two of so many nodes.
 pub(crate) fn are_within(edges: &[Edge], nodes: u32) -> bool
-    ensures { IsTrue result → AreWithin nodes edges.now }
+    ensures { IsTrue result ↔ AreWithin nodes edges.now }
 {
     for i in 0..edges.len() {
         if edges[i].from >= nodes || edges[i].to >= nodes {
