@@ -7,8 +7,8 @@ use Rattle.tx_types.specs.declared.fault.Cause.TheVariants.{Form}
 use Rattle.tx_text.specs.Texts.{text_of, line_text}
 use Rattle.tx_text.specs.Members.{reply_text}
 use Rattle.tx_text.specs.Faults.{fault_words}
-use Rattle.tx_history.specs.declared.anomaly.Anomaly.{Anomaly}
-use Rattle.tx_history.specs.declared.anomaly.Anomaly.TheVariants.{G0, G1c, LostUpdate, GSingle, LongFork, GNonadjacent}
+use Rattle.tx_verdict.specs.declared.anomaly.Anomaly.{Anomaly}
+use Rattle.tx_verdict.specs.declared.anomaly.Anomaly.TheVariants.{G0, G1c, LostUpdate, GSingle, LongFork, GNonadjacent}
 use Rattle.tx_verdict.specs.declared.verdict.Edge.{Edge}
 use Rattle.tx_verdict.specs.declared.verdict.Edge.TheVariants.{Ww, Wr, Rw, So, Rt}
 use Rattle.tx_verdict.specs.declared.verdict.Beside.{Beside}

@@ -4,10 +4,9 @@ ghost use Rattle.serde_json.specs.Written.{compact_text};
 ghost use Rattle.tx_answers.specs.Words.{name_data, key_data, value_data, id_data, edge_word as word_of_edge, anomaly_word, beside_word, cycle_word as word_of_cycle, rule_word as word_of_rule};
 
 use std::alloc::AllocError;
-use tx_history::Anomaly;
 use tx_import::{History, Name};
 use tx_text::{put_digits, put_string};
-use tx_verdict::{Beside, Cycle, Edge, Rule};
+use tx_verdict::{Anomaly, Beside, Cycle, Edge, Rule};
 
 // Appends a name, as it was read.
 fn put_name(out: &mut Vec<u8>, name: &Name) -> Result<(), AllocError>

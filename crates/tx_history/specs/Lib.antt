@@ -4,4 +4,3 @@ pub mod Graph
 pub mod Adding
 pub mod Decisions
 pub mod Dependencies
-pub mod Anomalies

@@ -4,14 +4,12 @@
 //! which refuses all.
 #![tactic(auto)]
 
-mod anomaly;
 mod decision;
 mod dependency;
 mod graph;
 mod laws;
 mod recorded;
 
-pub use anomaly::{Anomaly, anomaly_of};
 pub use decision::{Decision, decide};
 pub use dependency::{Dependency, Kind, dependencies};
 pub use graph::edges;

@@ -3,11 +3,13 @@
 //! so.
 #![tactic(auto)]
 
-mod assemble;
-mod chains;
-mod orders;
-mod plan;
-mod puts;
+mod attempt;
+mod first;
+mod greedy;
+mod lists;
 mod search;
+mod undecided;
+mod verdict;
+mod wide;
 
-pub use search::judge;
+pub use verdict::judge;

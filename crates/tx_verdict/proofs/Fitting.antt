@@ -14,6 +14,7 @@ use Rattle.tx_recording.specs.Explanations.{after, op_at, IsPut, PutsIn, Explana
 use Rattle.tx_recording.proofs.Puts.{ends}
 use Rattle.tx_views.specs.declared.view.View.{View}
 use Rattle.tx_views.specs.Views.{AreViews, IsAnswered}
+use Rattle.tx_clock.proofs.Ticking.{is_one}
 use Rattle.tx_history.specs.Histories.{History, HasVersion, IsAssignment}
 use Rattle.tx_verdict.specs.Fits.{IsFit, last_by, explanation_of}
 
@@ -39,16 +40,6 @@ pub within : (r : Recording) (t p : ℕ) (s : Span) → (op_at r t p).act ≡ Re
 within r t p s is = elim (cases_lt p (length (ops_of r t))) [
   | inl lt ↦ lt
   | inr past ↦ absurd (same_act s (sym (ap (λ (o : Op). o.act) (get_or_past (ops_of r t) p no_op past)) ∙ is))
-]
-
-ok_fails : Fail ≡ Ok → ⊥
-ok_fails e = (cc)
-
--- what has committed is one of the transactions
-pub is_one : (r : Recording) (t : ℕ) → (transaction_at r t).outcome ≡ Ok → t < txns_of r
-is_one r t is = elim (cases_lt t (txns_of r)) [
-  | inl lt ↦ lt
-  | inr past ↦ absurd (ok_fails (sym (ap (λ (q : Transaction). q.outcome) (get_or_past r.transactions.items t no_transaction past)) ∙ is))
 ]
 
 puts_in_more : (os : List Op) (n k v : ℕ) → PutsIn (take n os) k v → PutsIn os k v

@@ -14,5 +14,3 @@ pub mod Prefixes
 pub mod Torn
 pub mod Moments
 pub mod Stepping
-pub mod Ticking
-pub mod Running

@@ -19,7 +19,7 @@ use Rattle.tx_verdict.specs.declared.verdict.Fact.{Fact}
 use Rattle.tx_verdict.specs.declared.verdict.Rule.TheVariants.{G1a, Internal, Unrepeatable, Unwritten, LostUpdate}
 use Rattle.tx_verdict.specs.Facts.{IsPutBy}
 use Rattle.tx_verdict.specs.Verdicts.{IsNever, IsWrong}
-use Rattle.tx_verdict.proofs.Fitting.{is_one}
+use Rattle.tx_clock.proofs.Ticking.{is_one}
 use Rattle.tx_verdict.proofs.Seeing.{view_sees, owner_is, saw_value, owner_puts, nobody_puts}
 
 module _ (r : Recording) (table : List (Option Owner)) (owners : AreOwners r table) (v : View) (view : IsViewOf r v) (list : List ℕ)

@@ -14,7 +14,7 @@ use Rattle.tx_views.specs.Owners.{AreOwners, owner_at}
 use Rattle.tx_views.specs.Views.{IsViewOf}
 use Rattle.tx_views.proofs.Owning.{put_by_owner}
 use Rattle.tx_verdict.specs.Facts.{SawValue, IsPutBy}
-use Rattle.tx_verdict.proofs.Fitting.{is_one}
+use Rattle.tx_clock.proofs.Ticking.{is_one}
 
 -- what a view says its transaction saw, it saw
 pub view_sees : (r : Recording) (orders : Orders) (x : Explanation) → Explains r orders x → (v : View) → IsViewOf r v

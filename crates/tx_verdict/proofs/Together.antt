@@ -21,7 +21,7 @@ use Rattle.tx_verdict.specs.Fits.{IsFit, last_by}
 use Rattle.tx_verdict.specs.Forced.{AreForced, AreKnown, IsChain, IsReadForced, key_of}
 use Rattle.tx_verdict.specs.Verdicts.{AreTimestampsOf, IsRefused}
 use Rattle.tx_verdict.proofs.Fitting.{explains_so}
-use Rattle.tx_verdict.specs.Keeping.{KeepsPairs}
+use Rattle.tx_clock.specs.Keeping.{KeepsPairs}
 use Rattle.tx_verdict.specs.Pairs.{IsPair}
 use Rattle.tx_verdict.proofs.Forcing.{start_in, commit_in, assigned}
 use Rattle.tx_verdict.proofs.Moments.{tick_of, pair_after}

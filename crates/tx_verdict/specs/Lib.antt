@@ -1,9 +1,10 @@
 pub mod Facts
 pub mod Fits
 pub mod Forced
-pub mod Keeping
 pub mod Pairs
 pub mod Steps
+pub mod Anomalies
+pub mod Cycles
 pub mod Undecided
 pub mod Versions
 pub mod Verdicts

@@ -10,7 +10,6 @@ use Rattle.tx_verdict.specs.declared.verdict.Edge.TheVariants.{Ww, Wr, Rw, So, R
 use Rattle.tx_verdict.specs.declared.verdict.CycleStep.{CycleStep}
 use Rattle.tx_verdict.specs.declared.verdict.Beside.{Beside}
 use Rattle.tx_verdict.specs.declared.verdict.Beside.TheVariants.{Nothing, Processes, Clock}
-use Rattle.tx_verdict.specs.declared.verdict.Cycle.{Cycle}
 
 -- Both put into k, and u started when t had committed; u saw what t left in k; t started before u
 -- committed, which puts into k; a process ran u after t; t had ended when u began.
@@ -49,7 +48,3 @@ abbrev pub Needs : List CycleStep → Beside → Type 0
 Needs steps Nothing = (s : CycleStep) → Contains steps s → (s.edge ≢ So) × (s.edge ≢ Rt)
 Needs steps Processes = (s : CycleStep) × Contains steps s × (s.edge ≡ So)
 Needs steps Clock = (s : CycleStep) × Contains steps s × (s.edge ≡ Rt)
-
--- a cycle of steps that hold under each explanation
-abbrev pub IsCycleFor : Recording → Orders → Cycle → Type 0
-IsCycleFor r orders c = AreRound c.steps.items × AreSteps r orders c.steps.items × Needs c.steps.items c.beside

@@ -8,7 +8,7 @@ use Rattle.tx_verdict.specs.declared.verdict.Timestamps.{Timestamps}
 use Rattle.tx_verdict.specs.declared.verdict.Verdict.{Verdict}
 use Rattle.tx_verdict.specs.declared.verdict.Verdict.TheVariants.{Yes, No, Fact as Found, Open, Twice}
 use Rattle.tx_verdict.specs.Facts.{IsFact}
-use Rattle.tx_verdict.specs.Steps.{IsCycleFor}
+use Rattle.tx_verdict.specs.Cycles.{IsCycleFor}
 use Rattle.tx_verdict.specs.Undecided.{AreUndecided}
 
 -- these timestamps explain the recording, whatever each left being as it is

@@ -1,5 +1,5 @@
 -- What versions hold. Only this crate's own clauses cite it.
-use Rattle.std.specs.Prelude.{◌≡◌, ℕ, ◌+◌, ◌<◌, ◌≤◌, Bool, false, List, length, ◌-◌, Contains, IsTrue, zero, suc, slice_index, slice_index_or, slice_range}
+use Rattle.std.specs.Prelude.{◌≡◌, ℕ, ◌+◌, ◌<◌, ◌≤◌, Bool, List, length, ◌-◌, Contains, IsTrue, zero, suc, slice_index, slice_index_or, slice_range}
 use Rattle.tx_recording.specs.declared.recording.Span.{Span}
 use Rattle.tx_recording.specs.declared.recording.Recording.{Recording}
 use Rattle.tx_recording.specs.Recordings.{txns_of, ops_of, list_of}
@@ -8,6 +8,7 @@ use Rattle.tx_views.specs.declared.view.View.{View}
 use Rattle.tx_history.specs.declared.recorded.Read.{Read}
 use Rattle.tx_history.specs.Histories.{HasVersion}
 use Rattle.tx_history.specs.Records.{history_of, writers_of}
+use Rattle.tx_clock.specs.Keeping.{live_in}
 use Rattle.tx_verdict.specs.declared.versions.Versions.{Versions}
 
 abbrev pub no_span : Span
@@ -24,10 +25,6 @@ text_in texts span = slice_range texts span.first (span.first + span.count)
 -- the values of a version
 abbrev pub text_of : Versions → ℕ → ℕ → List ℕ
 text_of v k i = text_in v.texts.items (span_of v k i)
-
--- whether it is live, by a table
-abbrev pub live_in : List Bool → ℕ → Bool
-live_in live t = slice_index_or live t false
 
 abbrev pub live_of : Versions → ℕ → Bool
 live_of v t = live_in v.live.items t

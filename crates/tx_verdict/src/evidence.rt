@@ -1,83 +1,25 @@
 //! Timestamps and cycles of versions, as evidence of a recording.
-ghost use Rattle.std.specs.Prelude.{◌≡◌, ℕ, IfOk, IfSome, IsTrue, false, slice_index};
-ghost use Rattle.tx_recording.specs.Explanations.{IsSession, IsEarlier, Precedes};
+ghost use Rattle.std.specs.Prelude.{◌≡◌, ℕ, IfOk, IfSome, slice_index};
 ghost use Rattle.tx_recording.specs.Recordings.{IsRecording};
 ghost use Rattle.tx_views.specs.Views.{AreViews};
 ghost use Rattle.tx_views.specs.Owners.{AreOwners};
 ghost use Rattle.tx_history.specs.Records.{IsRecorded, history_of};
 ghost use Rattle.tx_history.specs.Histories.{IsAssignment};
 ghost use Rattle.tx_history.specs.Graph.{IsCycleOf};
-ghost use Rattle.tx_verdict.specs.Keeping.{KeepsPairs};
-ghost use Rattle.tx_verdict.specs.Steps.{IsCycleFor};
+ghost use Rattle.tx_verdict.specs.Cycles.{IsCycleFor};
 ghost use Rattle.tx_verdict.specs.Verdicts.{IsRefused, AreTimestampsOf};
 
-use crate::clock::keeps_clock;
+use crate::anomaly::anomaly_of;
 use crate::fit::is_fit;
 use crate::forced::is_forced;
-use crate::sessions::keeps_sessions;
 use crate::steps::{beside_of, is_round, steps_of};
 use crate::verdict::{Cycle, Timestamps};
 use crate::versions::Versions;
 use std::alloc::{AllocError, Global};
-use tx_history::{anomaly_of, dependencies};
+use tx_clock::keeps_orders;
+use tx_history::dependencies;
 use tx_recording::{Orders, Recording};
 use tx_views::{Owner, View};
-
-// Whether timestamps keep the order of processes, if that is asked for.
-fn keeps_sessions_if(
-    alloc: Global,
-    recording: &Recording,
-    asked: bool,
-    live: &[bool],
-    starts: &[usize],
-    commits: &[usize],
-) -> Result<bool, AllocError>
-    ensures { IfOk result (λ keeps. IsTrue keeps → IsTrue asked
-        → KeepsPairs (IsSession recording.now) live.now starts.now commits.now) }
-{
-    if !asked {
-        return Ok(true);
-    }
-    keeps_sessions(alloc, recording, live, starts, commits)
-}
-
-// Whether timestamps keep the order of the clock, if that is asked for.
-fn keeps_clock_if(
-    alloc: Global,
-    recording: &Recording,
-    asked: bool,
-    live: &[bool],
-    starts: &[usize],
-    commits: &[usize],
-) -> Result<bool, AllocError>
-    requires { IsRecording recording.now }
-    ensures { IfOk result (λ keeps. IsTrue keeps → IsTrue asked
-        → KeepsPairs (IsEarlier recording.now) live.now starts.now commits.now) }
-{
-    if !asked {
-        return Ok(true);
-    }
-    keeps_clock(alloc, recording, live, starts, commits)
-}
-
-// Whether timestamps keep the orders that are asked for.
-fn keeps_orders(
-    alloc: Global,
-    recording: &Recording,
-    orders: Orders,
-    live: &[bool],
-    starts: &[usize],
-    commits: &[usize],
-) -> Result<bool, AllocError>
-    requires { IsRecording recording.now }
-    ensures { IfOk result (λ keeps. IsTrue keeps
-        → KeepsPairs (Precedes recording.now orders) live.now starts.now commits.now) }
-{
-    if !keeps_sessions_if(alloc, recording, orders.sessions, live, starts, commits)? {
-        return Ok(false);
-    }
-    keeps_clock_if(alloc, recording, orders.strict, live, starts, commits)
-}
 
 /// What the timestamps of versions are for the recording, if they are.
 pub fn timestamps(
@@ -144,8 +86,9 @@ pub fn cycle_of(
         return Ok(None);
     }
     let beside = beside_of(steps.as_slice());
+    let anomaly = anomaly_of(steps.as_slice());
     Ok(Some(Cycle {
-        anomaly: anomaly_of(found.as_slice()),
+        anomaly,
         beside,
         steps,
     }))

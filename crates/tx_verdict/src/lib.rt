@@ -3,9 +3,9 @@
 //! explanation; and some reads nothing explains.
 #![tactic(auto)]
 
+mod anomaly;
 mod block;
 mod chain;
-mod clock;
 mod evidence;
 mod facts;
 mod fit;
@@ -13,13 +13,12 @@ mod forced;
 mod lists;
 mod pairs;
 mod seen;
-mod sessions;
 mod steps;
 mod undecided;
 mod verdict;
 mod versions;
 
-pub use clock::{Event, events_of};
+pub use anomaly::Anomaly;
 pub use evidence::{cycle_of, timestamps};
 pub use facts::{internal, wrong_update, wrong_views};
 pub use fit::value_of;

@@ -1,6 +1,6 @@
 //! The verdict on a recording.
 
-use tx_history::Anomaly;
+use crate::anomaly::Anomaly;
 
 /// When each transaction starts and commits, and which committed, by their place in the recording.
 #[derive(Debug, Drop)]

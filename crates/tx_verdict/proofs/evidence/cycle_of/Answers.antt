@@ -5,6 +5,7 @@ use Rattle.tx_history.specs.declared.dependency.Dependency.{Dependency}
 use Rattle.tx_history.specs.Records.{history_of}
 use Rattle.tx_verdict.specs.declared.verdict.CycleStep.{CycleStep}
 use Rattle.tx_verdict.specs.Steps.{AreRound, Needs}
+use Rattle.tx_verdict.specs.Anomalies.{IsNamed}
 use Rattle.tx_verdict.proofs.Together.{refused_of}
 use Rattle.tx_verdict.proofs.Stepping.{depends_all}
 use Rattle.tx_verdict.proofs.evidence.cycle_of.Goals as goal
@@ -23,4 +24,5 @@ returns-clause-cycle c = (
   subst AreRound c.as_slice-2.ensures.value (c.is_round.ensures c.if-not-is_round.false),
   c.in_ok-steps.ensures,
   subst (λ (q : List CycleStep). Needs q c.beside_of-beside.result) c.as_slice-3.ensures.value c.beside_of-beside.ensures,
+  subst (λ (q : List CycleStep). IsNamed q c.anomaly_of-anomaly.result) c.as_slice-4.ensures.value c.anomaly_of-anomaly.ensures,
 )

@@ -1,7 +1,7 @@
 -- The timestamps of the history explain the recording.
 use Rattle.std.proofs.Common.{◌≡◌, ℕ, Bool, List, subst, refl}
 use Rattle.tx_recording.specs.Explanations.{Precedes}
-use Rattle.tx_verdict.specs.Keeping.{KeepsPairs}
+use Rattle.tx_clock.specs.Keeping.{KeepsPairs}
 use Rattle.tx_verdict.specs.declared.verdict.Timestamps.{Timestamps}
 use Rattle.tx_verdict.proofs.Together.{timestamps_of}
 use Rattle.tx_verdict.proofs.evidence.timestamps.Goals as goal

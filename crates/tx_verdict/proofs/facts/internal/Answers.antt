@@ -4,7 +4,7 @@ use Rattle.tx_recording.specs.Recordings.{no_op}
 use Rattle.tx_verdict.specs.declared.verdict.Fact.{Fact}
 use Rattle.tx_verdict.specs.declared.verdict.Rule.TheVariants.{Internal}
 use Rattle.tx_verdict.specs.Verdicts.{IsWrong}
-use Rattle.tx_verdict.proofs.Fitting.{is_one}
+use Rattle.tx_clock.proofs.Ticking.{is_one}
 use Rattle.tx_verdict.proofs.Refuting.{fact_internal}
 use Rattle.tx_verdict.proofs.facts.internal.Goals as goal
 

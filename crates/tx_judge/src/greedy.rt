@@ -1,0 +1,274 @@
+//! An order in which of two that put into a key, of which nobody knows the order, one has committed
+//! when the other starts.
+
+use crate::lists::Lists;
+use std::alloc::{AllocError, Global};
+use tx_chains::{Extras, Put, number, put_at};
+use tx_order::Edge;
+
+// How many of those that wait for a key are looked at when it is free.
+const MOST_WOKEN: usize = 64;
+
+// A graph, and the puts into keys of which nobody knows the order.
+#[derive(Drop)]
+struct Graph<'a> {
+    txns: u32,
+    edges: &'a [Edge],
+    // the edges of each node
+    by_node: Lists,
+    puts: &'a [Put],
+    // those puts of each transaction
+    by_txn: Lists,
+}
+
+// What is taken of a graph, a node after all that its edges come from.
+#[derive(Drop)]
+struct Taken {
+    // by node: how many edges lead to it from nodes that are not taken
+    left: Vec<u32>,
+    // what may be taken, but starts
+    ready: Vec<u32>,
+    // the transactions that may start
+    starts: Vec<u32>,
+    // by key: whether one that puts into it has started, and not committed
+    held: Vec<bool>,
+    // by key: the transactions that wait for it
+    waiting: Lists,
+    // by transaction: how many nodes were taken before its commit
+    ranks: Vec<usize>,
+    count: usize,
+}
+
+// The edges of each of so many nodes.
+fn edges_by_node(alloc: Global, edges: &[Edge], nodes: u32) -> Result<Lists, AllocError> {
+    let mut by_node = Lists::new(alloc, nodes as usize, edges.len())?;
+    for i in 0..edges.len() {
+        by_node.push(edges[i].from as usize, number(i));
+    }
+    Ok(by_node)
+}
+
+// The puts of each transaction into keys of which nobody knows the order.
+fn puts_by_txn(
+    alloc: Global,
+    puts: &[Put],
+    extras: &Extras,
+    txns: u32,
+) -> Result<Lists, AllocError> {
+    let mut by_txn = Lists::new(alloc, txns as usize, puts.len())?;
+    for i in 0..puts.len() {
+        if extras.is_open(puts[i].key) {
+            by_txn.push(puts[i].txn as usize, number(i));
+        }
+    }
+    Ok(by_txn)
+}
+
+// By node, how many edges lead to it.
+fn count_edges(alloc: Global, edges: &[Edge], nodes: u32) -> Result<Vec<u32>, AllocError> {
+    let mut left = vec![in alloc; 0u32; nodes as usize]?;
+    for i in 0..edges.len() {
+        let node = edges[i].to as usize;
+        if let Some(count) = left.get(node) {
+            let more = count.saturating_add(1);
+            put_at(left.as_mut_slice(), node, more);
+        }
+    }
+    Ok(left)
+}
+
+impl Graph<'_> {
+    // The transaction of a node that is a start.
+    fn start_of(&self, node: u32) -> Option<u32> {
+        if node % 2 == 0 && node / 2 < self.txns {
+            Some(node / 2)
+        } else {
+            None
+        }
+    }
+
+    // The transaction of a node that is a commit.
+    fn commit_of(&self, node: u32) -> Option<u32> {
+        if node % 2 == 1 && node / 2 < self.txns {
+            Some(node / 2)
+        } else {
+            None
+        }
+    }
+
+    // The put at a place.
+    fn key_of(&self, place: u32) -> Option<u32> {
+        let put = self.puts.get(place as usize)?;
+        Some(put.key)
+    }
+
+    // A key that a transaction puts into, and another one holds.
+    fn held_by(&self, held: &[bool], txn: u32) -> Option<u32> {
+        let mut at = self.by_txn.first(txn as usize);
+        for _ in 0..self.puts.len() {
+            let place = at?;
+            let key = self.key_of(place)?;
+            if held.get(key as usize) == Some(&true) {
+                return Some(key);
+            }
+            at = self.by_txn.next(place);
+        }
+        None
+    }
+}
+
+impl Taken {
+    // Nothing is taken yet.
+    fn new(alloc: Global, left: Vec<u32>, txns: u32, keys: u32) -> Result<Taken, AllocError> {
+        Ok(Taken {
+            left,
+            ready: Vec::new(alloc),
+            starts: Vec::new(alloc),
+            held: vec![in alloc; false; keys as usize]?,
+            waiting: Lists::new(alloc, keys as usize, txns as usize)?,
+            ranks: vec![in alloc; 0; txns as usize]?,
+            count: 0,
+        })
+    }
+
+    // Adds a node that may be taken.
+    fn add(&mut self, graph: &Graph<'_>, node: u32) -> Result<(), AllocError> {
+        match graph.start_of(node) {
+            Some(txn) => self.starts.push(txn)?,
+            None => self.ready.push(node)?,
+        }
+        Ok(())
+    }
+
+    // Adds the nodes that no edge leads to.
+    fn add_first(&mut self, graph: &Graph<'_>) -> Result<(), AllocError> {
+        for node in 0..self.left.len() {
+            if self.left.get(node) == Some(&0) {
+                self.add(graph, number(node))?;
+            }
+        }
+        Ok(())
+    }
+
+    // Passes an edge to a node.
+    fn pass(&mut self, graph: &Graph<'_>, node: u32) -> Result<(), AllocError> {
+        let Some(count) = self.left.get(node as usize) else {
+            return Ok(());
+        };
+        let left = count.saturating_sub(1);
+        put_at(self.left.as_mut_slice(), node as usize, left);
+        if left == 0 {
+            self.add(graph, node)
+        } else {
+            Ok(())
+        }
+    }
+
+    // Takes a node: passes each of its edges.
+    fn leave(&mut self, graph: &Graph<'_>, node: u32) -> Result<(), AllocError> {
+        self.count = self.count.saturating_add(1);
+        let mut at = graph.by_node.first(node as usize);
+        for _ in 0..graph.edges.len() {
+            let Some(place) = at else {
+                return Ok(());
+            };
+            if let Some(edge) = graph.edges.get(place as usize) {
+                self.pass(graph, edge.to)?;
+            }
+            at = graph.by_node.next(place);
+        }
+        Ok(())
+    }
+
+    // Lets those that wait for a key try again.
+    fn wake(&mut self, key: u32) -> Result<(), AllocError> {
+        for _ in 0..MOST_WOKEN {
+            match self.waiting.pop(key as usize) {
+                Some(txn) => self.starts.push(txn)?,
+                None => return Ok(()),
+            }
+        }
+        Ok(())
+    }
+
+    // Holds the keys that a transaction puts into, or lets go of them.
+    fn hold(&mut self, graph: &Graph<'_>, txn: u32, held: bool) -> Result<(), AllocError> {
+        let mut at = graph.by_txn.first(txn as usize);
+        for _ in 0..graph.puts.len() {
+            let Some(place) = at else {
+                return Ok(());
+            };
+            if let Some(key) = graph.key_of(place) {
+                put_at(self.held.as_mut_slice(), key as usize, held);
+                if !held {
+                    self.wake(key)?;
+                }
+            }
+            at = graph.by_txn.next(place);
+        }
+        Ok(())
+    }
+
+    // Takes the start of a transaction, or has it wait for a key.
+    fn start(&mut self, graph: &Graph<'_>, txn: u32) -> Result<(), AllocError> {
+        if let Some(key) = graph.held_by(self.held.as_slice(), txn) {
+            self.waiting.push(key as usize, txn);
+            return Ok(());
+        }
+        self.hold(graph, txn, true)?;
+        self.leave(graph, number(2 * txn as usize))
+    }
+
+    // Takes a node that is no start.
+    fn take(&mut self, graph: &Graph<'_>, node: u32) -> Result<(), AllocError> {
+        if let Some(txn) = graph.commit_of(node) {
+            put_at(self.ranks.as_mut_slice(), txn as usize, self.count);
+            self.hold(graph, txn, false)?;
+        }
+        self.leave(graph, node)
+    }
+
+    // Takes one of the nodes that may be taken, a start only where there is no other. Whether there
+    // was one.
+    fn step(&mut self, graph: &Graph<'_>) -> Result<bool, AllocError> {
+        if let Some(node) = self.ready.pop() {
+            self.take(graph, node)?;
+            return Ok(true);
+        }
+        if let Some(txn) = self.starts.pop() {
+            self.start(graph, txn)?;
+            return Ok(true);
+        }
+        Ok(false)
+    }
+}
+
+/// By transaction, a number that rises in the order in which they commit, if one after the other is
+/// taken as soon as it may be, and none starts while another one holds one of its keys.
+///
+/// `AllocError` where there was no room.
+pub(crate) fn ranks_of(
+    alloc: Global,
+    edges: &[Edge],
+    nodes: u32,
+    puts: &[Put],
+    extras: &Extras,
+    txns: u32,
+    keys: u32,
+) -> Result<Vec<usize>, AllocError> {
+    let graph = Graph {
+        txns,
+        edges,
+        by_node: edges_by_node(alloc, edges, nodes)?,
+        puts,
+        by_txn: puts_by_txn(alloc, puts, extras, txns)?,
+    };
+    let mut taken = Taken::new(alloc, count_edges(alloc, edges, nodes)?, txns, keys)?;
+    taken.add_first(&graph)?;
+    for _ in 0..u64::MAX {
+        if !taken.step(&graph)? {
+            break;
+        }
+    }
+    Ok(taken.ranks)
+}

@@ -1,0 +1,157 @@
+//! Whether a recording is snapshot isolation.
+ghost use Rattle.std.specs.Prelude.{◌≡◌, IfOk, IfSome, IsTrue};
+ghost use Rattle.tx_recording.specs.Recordings.{IsRecording};
+ghost use Rattle.tx_views.specs.Views.{AreViews, IsViewed};
+ghost use Rattle.tx_views.specs.Owners.{AreOwners, IsOwned};
+ghost use Rattle.tx_verdict.specs.Facts.{AreLists};
+ghost use Rattle.tx_verdict.specs.Verdicts.{IsVerdict, IsWrong};
+
+use crate::search::judge_parts;
+use std::alloc::{AllocError, Global};
+use tx_chains::{Parts, follows_of, lives_of, number, put_at, puts_of};
+use tx_recording::{Orders, Recording};
+use tx_verdict::{Fact, Verdict, are_lists, internal, wrong_lists, wrong_update, wrong_views};
+use tx_views::{Owned, Owner, View, Viewed, owners, views};
+
+// By key, the view with most values, where keys hold lists.
+fn longest_of(
+    alloc: Global,
+    recording: &Recording,
+    views: &[View],
+    lists: bool,
+) -> Result<Vec<Option<u32>>, AllocError> {
+    let mut longest = vec![in alloc; None; recording.keys as usize]?;
+    if !lists {
+        return Ok(longest);
+    }
+    for place in 0..views.len() {
+        let key = views[place].key as usize;
+        if views[place].span.count > count_at(longest.as_slice(), views, key) {
+            put_at(longest.as_mut_slice(), key, Some(number(place)));
+        }
+    }
+    Ok(longest)
+}
+
+// How many values the view has that a table has of a key.
+fn count_at(longest: &[Option<u32>], views: &[View], key: usize) -> u32 {
+    let Some(Some(place)) = longest.get(key) else {
+        return 0;
+    };
+    match views.get(*place as usize) {
+        Some(view) => view.span.count,
+        None => 0,
+    }
+}
+
+// What is wrong with the lists that were seen, where keys hold lists.
+fn wrong_lists_if(
+    alloc: Global,
+    recording: &Recording,
+    owners: &[Option<Owner>],
+    views: &[View],
+    longest: &[Option<u32>],
+    lists: bool,
+) -> Result<Option<Fact>, AllocError>
+    requires recording { IsRecording recording.now }
+    requires owners { AreOwners recording.now owners.now }
+    requires views { AreViews recording.now views.now }
+    requires lists { IsTrue lists → AreLists recording.now }
+    ensures { IfOk result (λ found. IfSome found (IsWrong recording.now)) }
+{
+    if !lists {
+        return Ok(None);
+    }
+    wrong_lists(alloc, recording, owners, views, longest)
+}
+
+// What the recording is, by what was seen.
+fn judge_views(
+    alloc: Global,
+    recording: &Recording,
+    owners: &[Option<Owner>],
+    views: &[View],
+    orders: Orders,
+) -> Result<Verdict, AllocError>
+    requires recording { IsRecording recording.now }
+    requires owners { AreOwners recording.now owners.now }
+    requires views { AreViews recording.now views.now }
+    ensures { IfOk result (IsVerdict recording.now orders) }
+{
+    if let Some(fact) = wrong_views(alloc, recording, owners, views)? {
+        return Ok(Verdict::Fact(fact));
+    }
+    let lists = are_lists(recording);
+    let longest = longest_of(alloc, recording, views, lists)?;
+    let table = longest.as_slice();
+    if let Some(fact) = wrong_lists_if(alloc, recording, owners, views, table, lists)? {
+        return Ok(Verdict::Fact(fact));
+    }
+    let lives = lives_of(alloc, recording, owners, views)?;
+    let puts = puts_of(alloc, recording, views, lives.live.as_slice())?;
+    let follows = follows_of(alloc, recording, views, puts.all.as_slice())?;
+    if let Some(lost) = follows.lost {
+        if let Some(fact) = wrong_update(recording, owners, views, lost) {
+            return Ok(Verdict::Fact(fact));
+        }
+    }
+    let parts = Parts {
+        puts,
+        follows,
+        longest,
+    };
+    judge_parts(alloc, recording, owners, views, orders, &lives, &parts)
+}
+
+// What the recording is, by what its reads say.
+fn judge_viewed(
+    alloc: Global,
+    recording: &Recording,
+    owners: &[Option<Owner>],
+    viewed: Viewed,
+    orders: Orders,
+) -> Result<Verdict, AllocError>
+    requires recording { IsRecording recording.now }
+    requires owners { AreOwners recording.now owners.now }
+    requires viewed { IsViewed recording.now viewed }
+    ensures { IfOk result (IsVerdict recording.now orders) }
+{
+    match viewed {
+        Viewed::Views(views) => judge_views(alloc, recording, owners, views.as_slice(), orders),
+        Viewed::Internal(txn, place) => Ok(Verdict::Fact(internal(recording, txn, place))),
+    }
+}
+
+// What the recording is, by who put its values.
+fn judge_owned(
+    alloc: Global,
+    recording: &Recording,
+    owned: Owned,
+    orders: Orders,
+) -> Result<Verdict, AllocError>
+    requires recording { IsRecording recording.now }
+    requires owned { IsOwned recording.now owned }
+    ensures { IfOk result (IsVerdict recording.now orders) }
+{
+    match owned {
+        Owned::Once(table) => {
+            let viewed = views(alloc, recording)?;
+            judge_viewed(alloc, recording, table.as_slice(), viewed, orders)
+        }
+        Owned::Twice(twice) => {
+            Ok(Verdict::Twice(twice.first.txn, twice.second.txn, twice.value))
+        }
+    }
+}
+
+/// Whether a recording is snapshot isolation, in the orders that are asked for.
+///
+/// Where the order of two puts into a key is not known, and none is found, it is open. `AllocError`
+/// where there was no room to find out.
+pub fn judge(alloc: Global, recording: &Recording, orders: Orders) -> Result<Verdict, AllocError>
+    requires { IsRecording recording.now }
+    ensures { IfOk result (IsVerdict recording.now orders) }
+{
+    let owned = owners(alloc, recording)?;
+    judge_owned(alloc, recording, owned, orders)
+}

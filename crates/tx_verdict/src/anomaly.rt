@@ -1,0 +1,74 @@
+//! The names of cycles.
+ghost use Rattle.std.specs.Prelude.{◌≡◌, ◌↔◌, ℕ, Option, IsTrue};
+ghost use Rattle.tx_verdict.specs.Anomalies.{IsNamed, is_rw, is_wr};
+
+use crate::verdict::{CycleStep, Edge};
+
+/// The anomaly of a cycle, by Adya's names.
+#[derive(Clone, Copy, Debug, PartialEq, Eq)]
+pub enum Anomaly {
+    /// Nothing that was read is part of it: a dirty write.
+    G0,
+    /// No anti-dependency (`Rw`) is part of it, but a read: circular information flow.
+    G1c,
+    /// Two transactions changed a key, of which one had not seen the other's change.
+    LostUpdate,
+    /// One anti-dependency: read skew.
+    GSingle,
+    /// Two readers saw two writes in two orders.
+    LongFork,
+    /// Two or more anti-dependencies.
+    GNonadjacent,
+}
+
+// Whether it is an anti-dependency.
+fn is_rw(step: &CycleStep) -> bool
+    ensures { result ≡ is_rw step.now }
+{
+    match step.edge {
+        Edge::Rw => true,
+        Edge::Ww | Edge::Wr | Edge::So | Edge::Rt => false,
+    }
+}
+
+// Whether the second saw what the first put.
+fn is_wr(step: &CycleStep) -> bool
+    ensures { result ≡ is_wr step.now }
+{
+    match step.edge {
+        Edge::Wr => true,
+        Edge::Ww | Edge::Rw | Edge::So | Edge::Rt => false,
+    }
+}
+
+// Whether two keys are one.
+fn is_same(one: Option<u32>, other: Option<u32>) -> bool
+    ensures { IsTrue result ↔ (one ≡ other) }
+{
+    match (one, other) {
+        (Some(first), Some(second)) => first == second,
+        (None, None) => true,
+        (Some(_), None) | (None, Some(_)) => false,
+    }
+}
+
+/// The name of the anomaly that a cycle of these steps is.
+pub(crate) fn anomaly_of(steps: &[CycleStep]) -> Anomaly
+    ensures { IsNamed steps.now result }
+{
+    let rw = steps.iter().filter(|step| is_rw(step)).count();
+    let wr = steps.iter().filter(|step| is_wr(step)).count();
+    if rw == 0 {
+        return if wr == 0 { Anomaly::G0 } else { Anomaly::G1c };
+    }
+    if rw == 1 {
+        if steps.len() == 2 && is_same(steps[0].key, steps[1].key) {
+            return Anomaly::LostUpdate;
+        }
+        return Anomaly::GSingle;
+    }
+    if rw == 2 && wr == 2 && steps.len() == 4 {
+        return Anomaly::LongFork;
+    }
+    Anomaly::GNonadjacent
+}
