@@ -1,0 +1,29 @@
+//! Noting of which transactions a verdict tells.
+ghost use Rattle.std.specs.Prelude.{◌≡◌, ℕ, ◌<◌, ◌||◌, Bool, length, true, false, slice_index_or};
+ghost use Rattle.tx_recording.specs.Recordings.{IsRecording, txns_of};
+ghost use Rattle.tx_onward.specs.Tells.{tells as tells_of};
+ghost use Rattle.tx_onward.specs.Untold.{untold};
+
+use crate::tells::tells;
+use tx_recording::Recording;
+use tx_verdict::Verdict;
+
+/// Notes of which transactions a verdict tells. Whether one of them was not told of before.
+pub fn note(told: &mut [bool], recording: &Recording, verdict: &Verdict) -> bool
+    requires recording { IsRecording recording.now }
+    requires count { length told.old ≡ txns_of recording.now }
+    ensures count { length told.new ≡ length told.old }
+    ensures told { (t : ℕ) → slice_index_or told.new t false
+        ≡ (slice_index_or told.old t false || tells_of recording.now verdict.now t) }
+    ensures more { result ≡ true → untold told.new < untold told.old }
+    ensures none { result ≡ false → told.new ≡ told.old }
+{
+    let mut is_more = false;
+    for t in 0..told.len() {
+        if !told[t] && tells(recording, verdict, t as u32) {
+            told[t] = true;
+            is_more = true;
+        }
+    }
+    is_more
+}
