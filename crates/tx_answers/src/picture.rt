@@ -46,12 +46,7 @@ fn told(
 fn sense(alloc: Global, history: &History, step: CycleStep) -> Result<Vec<u8>, AllocError>
     ensures { IfOk result (λ text. text.items ≡ sense_text history.now step.edge step.from step.to) }
 {
-    let CycleStep {
-        from,
-        edge,
-        to,
-        ..
-    } = step;
+    let CycleStep { from, edge, to, .. } = step;
     match edge {
         Edge::Ww => told(alloc, history, "", to, " wrote it next after ", from, ""),
         Edge::Wr => told(alloc, history, "", to, " read what ", from, " wrote"),
@@ -59,7 +54,15 @@ fn sense(alloc: Global, history: &History, step: CycleStep) -> Result<Vec<u8>, A
             let between = " read it as it was before ";
             told(alloc, history, "", from, between, to, " wrote it")
         }
-        Edge::So => told(alloc, history, "one process ran ", from, " and then ", to, ""),
+        Edge::So => told(
+            alloc,
+            history,
+            "one process ran ",
+            from,
+            " and then ",
+            to,
+            "",
+        ),
         Edge::Rt => told(alloc, history, "", from, " had ended when ", to, " began"),
     }
 }

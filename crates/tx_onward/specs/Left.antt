@@ -1,6 +1,6 @@
 -- What is left of a recording when of some transactions what they read is not known any more: they
 -- may have committed, with what they put.
-use Rattle.std.specs.Prelude.{◌≡◌, ℕ, Bool, false, cond, List, [], ◌∷◌, ◌++◌, zero, suc, slice_index_or}
+use Rattle.std.specs.Prelude.{◌≡◌, ℕ, ◌<◌, Bool, false, cond, List, [], ◌∷◌, ◌++◌, zero, suc, slice_index_or}
 use Rattle.tx_recording.specs.declared.recording.Outcome.TheVariants.{Info}
 use Rattle.tx_recording.specs.declared.recording.Transaction.{Transaction}
 use Rattle.tx_recording.specs.declared.recording.Recording.{Recording}
@@ -26,7 +26,7 @@ withouts told ts (suc n) = withouts told ts n
 
 -- it is the recording but for that
 pub record IsLeft (r : Recording) (is_told : ℕ → Bool) (left : Recording) : Type 0 where
-  pub transactions : (t : ℕ) → transaction_at left t ≡ without (is_told t) (transaction_at r t)
+  pub transactions : (t : ℕ) → t < txns_of r → transaction_at left t ≡ without (is_told t) (transaction_at r t)
   pub count : txns_of left ≡ txns_of r
   pub ops : left.ops.items ≡ r.ops.items
   pub elements : left.elements.items ≡ r.elements.items

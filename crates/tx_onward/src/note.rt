@@ -16,6 +16,8 @@ pub fn note(told: &mut [bool], recording: &Recording, verdict: &Verdict) -> bool
     ensures told { (t : ℕ) → slice_index_or told.new t false
         ≡ (slice_index_or told.old t false || tells_of recording.now verdict.now t) }
     ensures more { result ≡ true → untold told.new < untold told.old }
+    ensures one { result ≡ true → (t : ℕ) × (tells_of recording.now verdict.now t ≡ true)
+        × (slice_index_or told.old t false ≡ false) }
     ensures none { result ≡ false → told.new ≡ told.old }
 {
     let mut is_more = false;

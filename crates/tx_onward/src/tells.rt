@@ -105,11 +105,13 @@ fn sees_first(recording: &Recording, steps: &[CycleStep], txn: u32) -> bool
     ensures { result ≡ sees_first recording.now (slice_get steps.now 0) txn }
 {
     match steps.first() {
-        Some(CycleStep {
-            key: Some(key),
-            to,
-            ..
-        }) => sees_put(recording, *key, *to, txn),
+        Some(
+            CycleStep {
+                key: Some(key),
+                to,
+                ..
+            },
+        ) => sees_put(recording, *key, *to, txn),
         Some(_) | None => false,
     }
 }

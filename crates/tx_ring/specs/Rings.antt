@@ -30,12 +30,12 @@ size_text width between height = decimal width ++ (between ++ decimal height)
 abbrev pub head_text : List ℕ → ℕ → ℕ → List ℕ
 head_text title n reach = codes "<svg xmlns=\"http://www.w3.org/2000/svg\" viewBox=\"0 0 "
     ++ (size_text (width_of reach) (codes " ") (height_of n) ++ (codes "\" width=\""
-    ++ (size_text (width_of reach) (codes "\" height=\"") (height_of n) ++ (LOOKS ++ (title ++ NOTE)))))
+    ++ (size_text (width_of reach) (codes "\" height=\"") (height_of n) ++ (LOOKS.now ++ (title ++ NOTE.now)))))
 
 -- the box at a place with its name
 abbrev pub box_text : ℕ → List ℕ → List ℕ → List ℕ
 box_text place kind name = codes "<g class=\"" ++ (kind ++ (codes "\" transform=\"translate(56 "
-    ++ (decimal (top_of place) ++ (BOX ++ name))))
+    ++ (decimal (top_of place) ++ (BOX.now ++ name))))
 
 -- the words at an arrow
 abbrev pub words_text : List ℕ → List ℕ → List ℕ
