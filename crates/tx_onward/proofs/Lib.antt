@@ -2,3 +2,5 @@
 pub mod Lefts
 -- How many were not told of yet.
 pub mod Counts
+-- Past the last transaction nobody is told of.
+pub mod Past

@@ -4,7 +4,7 @@ ghost use Rattle.tx_recording.specs.Recordings.{IsRecording};
 ghost use Rattle.tx_onward.specs.Left.{without, withouts, IsLeft};
 
 use std::alloc::{AllocError, Global};
-use tx_recording::{Outcome, Recording, Transaction};
+use tx_recording::{Op, Outcome, Recording, Transaction};
 
 // Whether a transaction was told of.
 fn is_told(told: &[bool], txn: usize) -> bool
@@ -44,6 +44,24 @@ fn transactions_of(
     Ok(left)
 }
 
+// The same operations.
+fn same_ops(alloc: Global, ops: &[Op]) -> Result<Vec<Op>, AllocError>
+    ensures { IfOk result (λ same. same.items ≡ ops.now) }
+{
+    let mut same = Vec::new(alloc);
+    same.extend_from_slice(ops)?;
+    Ok(same)
+}
+
+// The same values.
+fn same_values(alloc: Global, values: &[u32]) -> Result<Vec<u32>, AllocError>
+    ensures { IfOk result (λ same. same.items ≡ values.now) }
+{
+    let mut same = Vec::new(alloc);
+    same.extend_from_slice(values)?;
+    Ok(same)
+}
+
 /// What is left of a recording when of those transactions that were told of what they read is not
 /// known any more.
 pub fn left_of(alloc: Global, recording: &Recording, told: &[bool]) -> Result<Recording, AllocError>
@@ -53,8 +71,8 @@ pub fn left_of(alloc: Global, recording: &Recording, told: &[bool]) -> Result<Re
 {
     Ok(Recording {
         transactions: transactions_of(alloc, recording.transactions.as_slice(), told)?,
-        ops: recording.ops.clone()?,
-        elements: recording.elements.clone()?,
+        ops: same_ops(alloc, recording.ops.as_slice())?,
+        elements: same_values(alloc, recording.elements.as_slice())?,
         keys: recording.keys,
         values: recording.values,
     })

@@ -3,8 +3,8 @@
 #![tactic(auto)]
 
 mod left;
-mod note;
+mod noted;
 mod tells;
 
 pub use left::left_of;
-pub use note::note;
+pub use noted::note;

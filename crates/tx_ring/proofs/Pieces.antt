@@ -1,5 +1,6 @@
 -- A text that is written piece by piece.
-use Rattle.std.proofs.Common.{◌≡◌, ℕ, suc, ◌+◌, List, ◌++◌, ap, ◌∙◌, append_assoc, arith}
+use Rattle.std.proofs.Common.{◌≡◌, ℕ, suc, ◌+◌, List, ◌++◌, Result, Ok, Err, ap, ◌∙◌, append_assoc, arith}
+use Rattle.std.specs.Prelude.{OnOk}
 use Rattle.tx_ring.specs.Markup.{each_of}
 
 -- the piece of one more number, behind others
@@ -12,3 +13,8 @@ each_more_behind f old n =
 -- what stands before a piece, and the piece
 pub after : {x y : List ℕ} (old n a : List ℕ) → x ≡ old ++ n → y ≡ x ++ a → y ≡ old ++ (n ++ a)
 after old n a first second = second ∙ ap (λ t. t ++ a) first ∙ append_assoc old n a
+
+-- what is known of a result says more
+pub on_so : {T E P Q : Type 0} (r : Result T E) → OnOk r P → (P → Q) → OnOk r Q
+on_so (Ok v) p f = f p
+on_so (Err e) p f = tt

@@ -23,14 +23,15 @@ width_of reach = max (190 + few reach) 440
 abbrev pub reach_of : List ℕ → List ℕ → ℕ
 reach_of label sense = max (8 * few (length label)) (6 * few (length sense))
 
+-- the size of a picture, with words between
 abbrev pub size_text : ℕ → List ℕ → ℕ → List ℕ
-size_text width between height = decimal width ++ (between ++ decimal height)
+size_text reach between n = decimal (width_of reach) ++ (between ++ decimal (height_of n))
 
 -- the head: how large the picture is, how it looks, and its title
 abbrev pub head_text : List ℕ → ℕ → ℕ → List ℕ
 head_text title n reach = codes "<svg xmlns=\"http://www.w3.org/2000/svg\" viewBox=\"0 0 "
-    ++ (size_text (width_of reach) (codes " ") (height_of n) ++ (codes "\" width=\""
-    ++ (size_text (width_of reach) (codes "\" height=\"") (height_of n) ++ (LOOKS.now ++ (title ++ NOTE.now)))))
+    ++ (size_text reach (codes " ") n ++ (codes "\" width=\""
+    ++ (size_text reach (codes "\" height=\"") n ++ (LOOKS.now ++ (title ++ NOTE.now)))))
 
 -- the box at a place with its name
 abbrev pub box_text : ℕ → List ℕ → List ℕ → List ℕ
@@ -51,5 +52,5 @@ step_text place is_last kind name label sense = box_text place kind name ++ (wor
 
 -- the arrow from the last box to the first
 abbrev pub end_text : ℕ → List ℕ → List ℕ
-end_text n kind = codes "<g class=\"" ++ (kind ++ (codes "\"><path d=\"M144 " ++ (decimal (top_of (n - 1) + 40)
-    ++ codes "v42H30V92h24m-8 -5l8 5l-8 5\"/></g>\n</svg>\n")))
+end_text n kind = codes "<g class=\"" ++ (kind ++ (codes "\"><path d=\"M144 " ++ (decimal (top_of (n - 1))
+    ++ codes "m0 40v42H30V92h24m-8 -5l8 5l-8 5\"/></g>\n</svg>\n")))

@@ -1,5 +1,5 @@
 //! The parts of a picture of a ring, from its head to its end.
-ghost use Rattle.std.specs.Prelude.{◌≡◌, ◌++◌, length, OnOk};
+ghost use Rattle.std.specs.Prelude.{◌≡◌, ◌-◌, ◌++◌, decimal, OnOk};
 ghost use Rattle.tx_ring.specs.Markup.{marked};
 ghost use Rattle.tx_ring.specs.Rings.{few, top_of, height_of, width_of, reach_of, size_text, head_text, box_text, arrow_text, words_text, step_text, end_text};
 
@@ -47,13 +47,20 @@ pub fn reach_of(label: &[u8], sense: &[u8]) -> usize
     label.max(sense) as usize
 }
 
-// Appends a size: two numbers with words between.
-fn put_size(out: &mut Vec<u8>, width: u64, between: &str, height: u64) -> Result<(), AllocError>
-    ensures { OnOk result (out.new.items ≡ out.old.items ++ size_text width between.now height) }
+// Appends words.
+fn put(out: &mut Vec<u8>, words: &str) -> Result<(), AllocError>
+    ensures { OnOk result (out.new.items ≡ out.old.items ++ words.now) }
 {
-    put_digits(out, width)?;
-    out.extend_from_slice(between.as_bytes())?;
-    put_digits(out, height)
+    out.extend_from_slice(words.as_bytes())
+}
+
+// Appends a size: two numbers with words between.
+fn put_size(out: &mut Vec<u8>, reach: usize, between: &str, count: usize) -> Result<(), AllocError>
+    ensures { OnOk result (out.new.items ≡ out.old.items ++ size_text reach between.now count) }
+{
+    put_digits(out, width_of(reach))?;
+    put(out, between)?;
+    put_digits(out, height_of(count))
 }
 
 /// Appends how a picture of so many boxes begins, whose words reach so far.
@@ -65,15 +72,16 @@ pub fn put_head(
 ) -> Result<(), AllocError>
     ensures { OnOk result (out.new.items ≡ out.old.items ++ head_text title.now count reach) }
 {
-    let width = width_of(reach);
-    let height = height_of(count);
-    out.extend_from_slice(b"<svg xmlns=\"http://www.w3.org/2000/svg\" viewBox=\"0 0 ")?;
-    put_size(out, width, " ", height)?;
-    out.extend_from_slice(b"\" width=\"")?;
-    put_size(out, width, "\" height=\"", height)?;
-    out.extend_from_slice(LOOKS.as_bytes())?;
-    out.extend_from_slice(title.as_bytes())?;
-    out.extend_from_slice(NOTE.as_bytes())
+    put(
+        out,
+        "<svg xmlns=\"http://www.w3.org/2000/svg\" viewBox=\"0 0 ",
+    )?;
+    put_size(out, reach, " ", count)?;
+    put(out, "\" width=\"")?;
+    put_size(out, reach, "\" height=\"", count)?;
+    put(out, LOOKS)?;
+    put(out, title)?;
+    put(out, NOTE)
 }
 
 // How each class looks: sizes of words, colours.
@@ -92,15 +100,29 @@ const LOOKS: &str = "\" font-family=\"DejaVu Sans,Helvetica,Arial,sans-serif\">\
 const NOTE: &str = "</text>\n<text class=\"small\" x=\"20\" y=\"48\">\
     Each has to come before the next one, and the last before the first</text>\n";
 
+// Appends how far down the box at a place stands.
+fn put_top(out: &mut Vec<u8>, place: usize) -> Result<(), AllocError>
+    ensures { OnOk result (out.new.items ≡ out.old.items ++ decimal (top_of place)) }
+{
+    put_digits(out, top_of(place))
+}
+
+// Appends how far down the last of so many boxes stands.
+fn put_last_top(out: &mut Vec<u8>, count: usize) -> Result<(), AllocError>
+    ensures { OnOk result (out.new.items ≡ out.old.items ++ decimal (top_of (count - 1))) }
+{
+    put_top(out, count.saturating_sub(1))
+}
+
 // Appends the beginning of a step: its box with a name.
 fn put_box(out: &mut Vec<u8>, place: usize, kind: &str, name: &[u8]) -> Result<(), AllocError>
     ensures { OnOk result (out.new.items ≡ out.old.items ++ box_text place kind.now name.now) }
 {
-    out.extend_from_slice(b"<g class=\"")?;
-    out.extend_from_slice(kind.as_bytes())?;
-    out.extend_from_slice(b"\" transform=\"translate(56 ")?;
-    put_digits(out, top_of(place))?;
-    out.extend_from_slice(BOX.as_bytes())?;
+    put(out, "<g class=\"")?;
+    put(out, kind)?;
+    put(out, "\" transform=\"translate(56 ")?;
+    put_top(out, place)?;
+    put(out, BOX)?;
     out.extend_from_slice(name)
 }
 
@@ -153,9 +175,9 @@ pub fn put_step(
 pub fn put_end(out: &mut Vec<u8>, count: usize, kind: &str) -> Result<(), AllocError>
     ensures { OnOk result (out.new.items ≡ out.old.items ++ end_text count kind.now) }
 {
-    out.extend_from_slice(b"<g class=\"")?;
-    out.extend_from_slice(kind.as_bytes())?;
-    out.extend_from_slice(b"\"><path d=\"M144 ")?;
-    put_digits(out, top_of(count.saturating_sub(1)) + 40)?;
-    out.extend_from_slice(b"v42H30V92h24m-8 -5l8 5l-8 5\"/></g>\n</svg>\n")
+    put(out, "<g class=\"")?;
+    put(out, kind)?;
+    put(out, "\"><path d=\"M144 ")?;
+    put_last_top(out, count)?;
+    put(out, "m0 40v42H30V92h24m-8 -5l8 5l-8 5\"/></g>\n</svg>\n")
 }

@@ -12,9 +12,9 @@ returns c =
     let height = decimal (top_of c.args.place) in
     let name = c.args.name.now in
     let turn = codes "\" transform=\"translate(56 " in
-    if_ok c.extend_from_slice-5.result _ _ _ c.extend_from_slice-5.ensures.items (λ e.
-    after c.args.out.now.items (codes "<g class=\"") (kind ++ (turn ++ (height ++ (BOX.now ++ name)))) c.in_ok-extend_from_slice.ensures.items
-    (after c.extend_from_slice.new.self.items kind (turn ++ (height ++ (BOX.now ++ name))) c.in_ok-extend_from_slice-2.ensures.items
-    (after c.extend_from_slice-2.new.self.items turn (height ++ (BOX.now ++ name)) c.in_ok-extend_from_slice-3.ensures.items
-    (after c.extend_from_slice-3.new.self.items height (BOX.now ++ name) c.in_ok-put_digits.ensures
-    (after c.put_digits.new.out.items BOX.now name c.in_ok-extend_from_slice-4.ensures.items e)))))
+    if_ok c.extend_from_slice.result _ _ _ c.extend_from_slice.ensures.items (λ e.
+    after c.args.out.now.items (codes "<g class=\"") (kind ++ (turn ++ (height ++ (BOX.now ++ name)))) c.in_ok-put.ensures
+    (after c.put.new.out.items kind (turn ++ (height ++ (BOX.now ++ name))) c.in_ok-put-2.ensures
+    (after c.put-2.new.out.items turn (height ++ (BOX.now ++ name)) c.in_ok-put-3.ensures
+    (after c.put-3.new.out.items height (BOX.now ++ name) c.in_ok-put_top.ensures
+    (after c.put_top.new.out.items BOX.now name c.in_ok-put-4.ensures e)))))

@@ -1,5 +1,5 @@
 //! Noting of which transactions a verdict tells.
-ghost use Rattle.std.specs.Prelude.{◌≡◌, ℕ, ◌<◌, ◌||◌, Bool, length, true, false, slice_index_or};
+ghost use Rattle.std.specs.Prelude.{◌≡◌, ℕ, ◌^◌, ◌<◌, ◌||◌, length, true, false, slice_index_or, slice_set};
 ghost use Rattle.tx_recording.specs.Recordings.{IsRecording, txns_of};
 ghost use Rattle.tx_onward.specs.Tells.{tells as tells_of};
 ghost use Rattle.tx_onward.specs.Untold.{untold};
@@ -7,6 +7,23 @@ ghost use Rattle.tx_onward.specs.Untold.{untold};
 use crate::tells::tells;
 use tx_recording::Recording;
 use tx_verdict::Verdict;
+
+// Notes whether a verdict tells of a transaction that was not told of.
+fn note_one(told: &mut [bool], recording: &Recording, verdict: &Verdict, t: usize) -> bool
+    requires recording { IsRecording recording.now }
+    requires within { t < length told.old }
+    requires few { t < 2 ^ 32 }
+    ensures yes { result ≡ true → (slice_index_or told.old t false ≡ false)
+        × (tells_of recording.now verdict.now t ≡ true) × (told.new ≡ slice_set told.old t true) }
+    ensures no { result ≡ false → (told.new ≡ told.old)
+        × ((slice_index_or told.old t false || tells_of recording.now verdict.now t) ≡ slice_index_or told.old t false) }
+{
+    if told[t] || !tells(recording, verdict, t as u32) {
+        return false;
+    }
+    told[t] = true;
+    true
+}
 
 /// Notes of which transactions a verdict tells. Whether one of them was not told of before.
 pub fn note(told: &mut [bool], recording: &Recording, verdict: &Verdict) -> bool
@@ -22,10 +39,8 @@ pub fn note(told: &mut [bool], recording: &Recording, verdict: &Verdict) -> bool
 {
     let mut is_more = false;
     for t in 0..told.len() {
-        if !told[t] && tells(recording, verdict, t as u32) {
-            told[t] = true;
-            is_more = true;
-        }
+        let is_new = note_one(told, recording, verdict, t);
+        is_more = is_new || is_more;
     }
     is_more
 }
