@@ -61,7 +61,7 @@ const DRAWN: [&str; 4] = [
     "signs_of_markup.script",
 ];
 
-const HISTORIES: [&str; 2] = ["markup_in_keys.history", "torn_read.history"];
+const HISTORIES: [&str; 2] = ["markup_in_keys.history", "read_committed.history"];
 
 const RUNS: [&str; 1] = ["transfers.run"];
 
