@@ -25,6 +25,13 @@ fn note_one(told: &mut [bool], recording: &Recording, verdict: &Verdict, t: usiz
     true
 }
 
+// Whether one of two holds.
+fn either(one: bool, other: bool) -> bool
+    ensures { result ≡ (one || other) }
+{
+    one || other
+}
+
 /// Notes of which transactions a verdict tells. Whether one of them was not told of before.
 pub fn note(told: &mut [bool], recording: &Recording, verdict: &Verdict) -> bool
     requires recording { IsRecording recording.now }
@@ -40,7 +47,8 @@ pub fn note(told: &mut [bool], recording: &Recording, verdict: &Verdict) -> bool
     let mut is_more = false;
     for t in 0..told.len() {
         let is_new = note_one(told, recording, verdict, t);
-        is_more = is_new || is_more;
+        let is_any = either(is_new, is_more);
+        is_more = is_any;
     }
     is_more
 }
