@@ -5,8 +5,9 @@
 //! over both families, and the run of a script is shown as `NAME.script.text`, of four as
 //! `NAME.script.svg` too. Many small ones stand in `scripts.rows`, `checked.rows` (played as `txkv
 //! simulate --check` does), `traces.rows`, `histories.rows` (judged as `txkv import` does, and the
-//! trace of each yes is checked) and `ordered.rows` (the same with `--sessions --strict`), each
-//! with what it writes.
+//! trace of each yes is checked), `ordered.rows` (the same with `--sessions --strict`) and `all.rows`
+//! (with `--all`), each with what it writes. The picture of a history (`NAME.history`, drawn as
+//! `txkv import --svg` does) is shown as `NAME.history.svg`.
 #![tactic(auto)]
 
 mod rows;
@@ -18,7 +19,7 @@ use std::fs;
 use std::rt::Files;
 use std::sync::Wait;
 use std::thread::Threads;
-use tx_answers::{ImportEnd, ImportOptions, import};
+use tx_answers::{CycleForm, ImportEnd, ImportOptions, import};
 use tx_cells::Fresh;
 use tx_check::{check, check_with_reason};
 use tx_explain::{PictureForm, explain};
@@ -60,6 +61,8 @@ const DRAWN: [&str; 4] = [
     "signs_of_markup.script",
 ];
 
+const HISTORIES: [&str; 2] = ["markup_in_keys.history", "read_committed.history"];
+
 const RUNS: [&str; 1] = ["transfers.run"];
 
 const TRACES: [&str; 3] = [
@@ -89,6 +92,10 @@ enum Kind {
     Ordered,
     /// The same, and the trace of a yes is checked.
     TracedOrdered,
+    /// A history that is judged to its end.
+    AllOfHistory,
+    /// A history whose answer is a picture.
+    DrawnHistory,
 }
 
 const NO_ORDER: Orders = Orders {
@@ -113,44 +120,73 @@ fn checks<F: Fresh>(alloc: Global, text: &[u8], written: &mut Vec<u8>) -> Option
     simulate_checked::<F, _, _, _>(alloc, &Plain, &mut reader, written).ok()
 }
 
-// Judges a history, and writes a yes as its trace where that is asked for.
-fn judged(
-    alloc: Global,
-    orders: Orders,
-    trace: bool,
-    text: &[u8],
-    written: &mut Vec<u8>,
-) -> Option<ImportEnd> {
-    let options = ImportOptions {
-        orders,
-        trace,
-        dot: false,
-    };
-    let mut reader = text;
-    let answered = import(alloc, options, &mut reader, written).ok()?;
-    Some(answered.end)
-}
+/// A verdict by its line, with no order, and nothing more.
+const ONE_LINE: ImportOptions = ImportOptions {
+    orders: NO_ORDER,
+    trace: false,
+    form: CycleForm::Line,
+    all: false,
+};
+
+const ORDERED: ImportOptions = ImportOptions {
+    orders: BOTH_ORDERS,
+    ..ONE_LINE
+};
+
+const TO_THE_END: ImportOptions = ImportOptions {
+    all: true,
+    ..ONE_LINE
+};
+
+const AS_PICTURE: ImportOptions = ImportOptions {
+    form: CycleForm::Picture,
+    ..ONE_LINE
+};
 
 // Judges a history. How it ended, unless it broke off; that the verdict is open, its line says.
-fn judges(alloc: Global, orders: Orders, text: &[u8], written: &mut Vec<u8>) -> Option<End> {
-    Some(match judged(alloc, orders, false, text, written)? {
+fn judges(
+    alloc: Global,
+    options: ImportOptions,
+    text: &[u8],
+    written: &mut Vec<u8>,
+) -> Option<End> {
+    let mut reader = text;
+    let answered = import(alloc, options, &mut reader, written).ok()?;
+    Some(match answered.end {
         ImportEnd::Yes | ImportEnd::Open => End::Well,
         ImportEnd::No => End::No,
         ImportEnd::Faulted => End::Faulted,
     })
 }
 
-// The same; none where it is a yes whose trace is no run.
-fn judges_traced(alloc: Global, orders: Orders, text: &[u8], written: &mut Vec<u8>) -> Option<End> {
+// Whether the answer to a history that a trace was asked of is no yes, or a trace that is a run.
+fn is_traced(alloc: Global, options: ImportOptions, text: &[u8]) -> Option<bool> {
+    let asked = ImportOptions {
+        trace: true,
+        ..options
+    };
+    let mut reader = text;
     let mut trace = Vec::new(alloc);
-    if judged(alloc, orders, true, text, &mut trace)? == ImportEnd::Yes {
-        let mut reader = trace.as_slice();
-        let mut said = Vec::new(alloc);
-        if check(alloc, &mut reader, &mut said).ok()? != End::Well {
-            return None;
-        }
+    let answered = import(alloc, asked, &mut reader, &mut trace).ok()?;
+    if answered.end != ImportEnd::Yes {
+        return Some(true);
     }
-    judges(alloc, orders, text, written)
+    let mut reader = trace.as_slice();
+    let mut said = Vec::new(alloc);
+    Some(check(alloc, &mut reader, &mut said).ok()? == End::Well)
+}
+
+// The same as `judges`; none where it is a yes whose trace is no run.
+fn judges_traced(
+    alloc: Global,
+    options: ImportOptions,
+    text: &[u8],
+    written: &mut Vec<u8>,
+) -> Option<End> {
+    if !is_traced(alloc, options, text)? {
+        return None;
+    }
+    judges(alloc, options, text, written)
 }
 
 impl Kind {
@@ -165,16 +201,18 @@ impl Kind {
             Kind::CheckedNested => checks::<NestedCells>(alloc, text, written),
             Kind::Trace => check(alloc, &mut reader, written).ok(),
             Kind::Reason => check_with_reason(alloc, &mut reader, written).ok(),
-            Kind::History => judges(alloc, NO_ORDER, text, written),
-            Kind::TracedHistory => judges_traced(alloc, NO_ORDER, text, written),
-            Kind::Ordered => judges(alloc, BOTH_ORDERS, text, written),
-            Kind::TracedOrdered => judges_traced(alloc, BOTH_ORDERS, text, written),
+            Kind::History => judges(alloc, ONE_LINE, text, written),
+            Kind::TracedHistory => judges_traced(alloc, ONE_LINE, text, written),
+            Kind::Ordered => judges(alloc, ORDERED, text, written),
+            Kind::TracedOrdered => judges_traced(alloc, ORDERED, text, written),
+            Kind::AllOfHistory => judges(alloc, TO_THE_END, text, written),
+            Kind::DrawnHistory => judges(alloc, AS_PICTURE, text, written),
         }
     }
 }
 
 /// How what writes this text ends: its last line is a fault, says that a trace is no run or why, or
-/// is neither.
+/// is neither; of a history its first line says no.
 fn end_of(shown: &[u8]) -> End {
     let text = shown.trim_ascii_end();
     let last = match text.iter().rposition(|byte| *byte == b'\n') {
@@ -184,7 +222,7 @@ fn end_of(shown: &[u8]) -> End {
     if last.windows(6).any(|part| part == b"\"E16\",".as_slice()) {
         End::Faulted
     } else if last.trim_ascii().starts_with(b"[\"check\",\"no\"")
-        || last.trim_ascii().starts_with(b"[\"import\",\"no\"")
+        || text.starts_with(b"[\"import\",\"no\"")
         || last.trim_ascii().starts_with(b"[\"why\"")
         || last.trim_ascii().starts_with(b"[\"wrote\"")
     {
@@ -217,6 +255,16 @@ fn is_explained(rt: &HostRuntime, name: &str, form: PictureForm) -> Result<bool>
     let mut reader = script.as_slice();
     let ended = explain::<FlatCells, _, _, _>(rt.alloc(), &Plain, form, &mut reader, &mut written);
     Ok(ended.is_ok() && written.as_slice() == shown.as_slice())
+}
+
+// Whether the cycle of a history is drawn as the file beside it shows it: `NAME.svg`.
+fn is_drawn(rt: &HostRuntime, name: &str) -> Result<bool> {
+    let history = fs::read(rt, name)?;
+    let path = format!(in rt.alloc(); "{name}.svg")?;
+    let shown = fs::read(rt, path)?;
+    let mut written = Vec::new(rt.alloc());
+    let ended = Kind::DrawnHistory.run(rt, history.as_slice(), &mut written);
+    Ok(ended == Some(End::No) && written.as_slice() == shown.as_slice())
 }
 
 // Whether a script for workers, of whom there are two, writes over these families what the file
@@ -270,6 +318,10 @@ fn main(rt: HostRuntime) -> Result<()> {
         let shown = is_explained(&rt, name, PictureForm::Drawing)?;
         println!(rt; "{name}, drawn: {}", verdict(shown))?;
     }
+    for name in HISTORIES {
+        let shown = is_drawn(&rt, name)?;
+        println!(rt; "{name}, drawn: {}", verdict(shown))?;
+    }
     for name in RUNS {
         let shown = run_is_shown::<FlatCells, _>(&rt, name)?
             && run_is_shown::<NestedCells, _>(&rt, name)?;
@@ -299,5 +351,7 @@ fn main(rt: HostRuntime) -> Result<()> {
     println!(rt; "ordered.rows: {ordered} as shown")?;
     let traced = count_shown(&rt, "ordered.rows", Kind::TracedOrdered)?;
     println!(rt; "ordered.rows, with traces: {traced} as shown")?;
+    let all = count_shown(&rt, "all.rows", Kind::AllOfHistory)?;
+    println!(rt; "all.rows: {all} as shown")?;
     Ok(())
 }

@@ -4,3 +4,5 @@ pub mod Lines
 pub mod Known
 -- A list that is made piece by piece.
 pub mod Pieces
+-- What is told of a history so far, one verdict after another.
+pub mod Onward

@@ -1,5 +1,5 @@
 -- What is answered of the lines of a history.
-use Rattle.std.specs.Prelude.{◌≡◌, ◌⊎◌, ℕ, cond, List, [], Option, IsTrue}
+use Rattle.std.specs.Prelude.{◌≡◌, ◌⊎◌, ℕ, List, [], Option, if◌then◌else◌}
 use Rattle.std.specs.Io.KnownBytes.{Appends}
 use Rattle.tx_text.specs.declared.end.Broken.{Broken}
 use Rattle.tx_text.specs.declared.end.Broken.TheVariants.{Output}
@@ -8,38 +8,28 @@ use Rattle.tx_text.specs.Lines.{lines_of}
 use Rattle.tx_text.specs.Members.{reply_text}
 use Rattle.tx_text.specs.Output.{AppendsPart}
 use Rattle.tx_verdict.specs.declared.verdict.Verdict.{Verdict}
-use Rattle.tx_verdict.specs.declared.verdict.Verdict.TheVariants as verdict
 use Rattle.tx_verdict.specs.Verdicts.{IsVerdict}
 use Rattle.tx_import.specs.declared.reader.History.{History}
 use Rattle.tx_import.specs.declared.reader.LineFault.{LineFault}
 use Rattle.tx_import.specs.Histories.{IsHistoryOf, IsFaultOf}
 use Rattle.tx_answers.specs.declared.answer.ImportOptions.{ImportOptions}
 use Rattle.tx_answers.specs.declared.answer.ImportEnd.{ImportEnd}
-use Rattle.tx_answers.specs.declared.answer.ImportEnd.TheVariants.{Yes, No, Open, Faulted}
-use Rattle.tx_answers.specs.Words.{verdict_text}
-use Rattle.tx_answers.specs.Drawings.{drawing_text}
-use Rattle.tx_answers.specs.Traces.{IsTrace}
+use Rattle.tx_answers.specs.declared.answer.ImportEnd.TheVariants.{Faulted}
+use Rattle.tx_answers.specs.Texts.{end_of, IsTextOf}
+use Rattle.tx_answers.specs.All.{IsAllOf}
 
--- how a verdict ends
-abbrev pub end_of : Verdict → ImportEnd
-end_of (verdict.Yes t) = Yes
-end_of (verdict.No c) = No
-end_of (verdict.Fact f) = No
-end_of (verdict.Open ks) = Open
-end_of (verdict.Twice first second value) = Faulted
+-- a verdict, and what is written of it
+abbrev pub IsOne : ImportOptions → History → List ℕ → ImportEnd → Type 0
+IsOne options h text end = (v : Verdict) × IsVerdict h.recording options.orders v × IsTextOf options h v text
+    × (end ≡ end_of v)
 
--- what is written of a verdict: its line, or where that is asked for the trace of a yes or the
--- drawing of a cycle
-abbrev pub IsTextOf : ImportOptions → History → Verdict → List ℕ → Type 0
-IsTextOf options h (verdict.Yes t) text =
-    (IsTrue options.trace × IsTrace h t text) ⊎ (text ≡ verdict_text h (verdict.Yes t))
-IsTextOf options h (verdict.No c) text = text ≡ cond options.dot (drawing_text h c) (verdict_text h (verdict.No c))
-IsTextOf options h v text = text ≡ verdict_text h v
+-- what is said of a history: a verdict, or where that is asked for all to the end
+abbrev pub IsSaid : ImportOptions → History → List ℕ → ImportEnd → Type 0
+IsSaid options h text end = if options.all then IsAllOf options h text end else IsOne options h text end
 
--- the recording of the lines, a verdict on it, and what is written of that
+-- the recording of the lines, and what is said of it
 abbrev pub IsJudged : ImportOptions → List (List ℕ) → List ℕ → ImportEnd → Type 0
-IsJudged options lines text end = (h : History) × (v : Verdict) × IsHistoryOf lines h
-    × IsVerdict h.recording options.orders v × IsTextOf options h v text × (end ≡ end_of v)
+IsJudged options lines text end = (h : History) × IsHistoryOf lines h × IsSaid options h text end
 
 -- the first line that says no transaction, and its line
 abbrev pub IsRead : List (List ℕ) → List ℕ → ImportEnd → Type 0

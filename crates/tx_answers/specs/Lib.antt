@@ -1,4 +1,7 @@
 pub mod Words
 pub mod Drawings
 pub mod Traces
+pub mod Pictures
+pub mod Texts
+pub mod All
 pub mod Answers

@@ -6,13 +6,15 @@ ghost use Rattle.tx_text.specs.Lines.{lines_of};
 ghost use Rattle.tx_text.specs.Members.{reply_text};
 ghost use Rattle.tx_text.specs.Output.{AppendsPart};
 ghost use Rattle.tx_recording.specs.Recordings.{IsRecording};
-ghost use Rattle.tx_import.specs.Histories.{IsHistoryOf};
 ghost use Rattle.tx_answers.specs.Words.{verdict_text};
 ghost use Rattle.tx_answers.specs.Traces.{IsTrace};
-ghost use Rattle.tx_answers.specs.Answers.{end_of, IsTextOf, IsJudged, IsAnswer, Ends, Breaks};
+ghost use Rattle.tx_answers.specs.Texts.{end_of, cycle_text, IsTextOf};
+ghost use Rattle.tx_answers.specs.Answers.{IsOne, IsSaid, IsAnswer, Ends, Breaks};
 
+use crate::all::judged_to_end;
 use crate::drawing::drawing;
 use crate::line::verdict_line;
+use crate::picture::picture;
 use crate::sentences::sentences;
 use crate::trace::trace_of;
 use std::alloc::Global;
@@ -21,7 +23,17 @@ use tx_import::{History, LineFault, read_history};
 use tx_judge::judge;
 use tx_recording::Orders;
 use tx_text::{Broken, finish, put_fault, send};
-use tx_verdict::{Timestamps, Verdict};
+use tx_verdict::{Cycle, Timestamps, Verdict};
+
+/// How a cycle is told.
+#[derive(Clone, Copy, Debug, PartialEq, Eq)]
+pub enum CycleForm {
+    Line,
+    /// As a graph for Graphviz.
+    Graph,
+    /// As an SVG.
+    Picture,
+}
 
 /// What is asked of a history.
 #[derive(Clone, Copy, Debug, PartialEq, Eq)]
@@ -29,8 +41,9 @@ pub struct ImportOptions {
     pub orders: Orders,
     /// Whether a yes is told by a trace that `tx_check` judges, in place of its line.
     pub trace: bool,
-    /// Whether a cycle is drawn for Graphviz, in place of its line.
-    pub dot: bool,
+    pub form: CycleForm,
+    /// Whether it goes on after a no, with what that leaves.
+    pub all: bool,
 }
 
 /// How a verdict ends.
@@ -52,15 +65,16 @@ pub struct Answered {
     pub why: Vec<u8>,
 }
 
-// What is to be written, and how it ends.
+/// What is to be written, and how it ends.
 #[derive(Drop)]
-struct Answer {
-    text: Vec<u8>,
-    end: ImportEnd,
-    why: Vec<u8>,
+pub(crate) struct Answer {
+    pub(crate) text: Vec<u8>,
+    pub(crate) end: ImportEnd,
+    pub(crate) why: Vec<u8>,
 }
 
-fn end_of(verdict: &Verdict) -> ImportEnd
+/// How a verdict ends.
+pub(crate) fn end_of(verdict: &Verdict) -> ImportEnd
     ensures { result ≡ end_of verdict.now }
 {
     match verdict {
@@ -88,8 +102,26 @@ fn traced(
     }
 }
 
-// What is written of a verdict.
-fn answer_text(
+// What is written of a cycle.
+fn cycle_text(
+    alloc: Global,
+    form: CycleForm,
+    history: &History,
+    verdict: &Verdict,
+    cycle: &Cycle,
+) -> Result<Vec<u8>, Broken>
+    requires { verdict.now ≡ Verdict.No cycle.now }
+    ensures { IfOk result (λ text. text.items ≡ cycle_text form history.now cycle.now) }
+{
+    match form {
+        CycleForm::Line => Ok(verdict_line(alloc, history, verdict)?),
+        CycleForm::Graph => Ok(drawing(alloc, history, cycle)?),
+        CycleForm::Picture => Ok(picture(alloc, history, cycle)?),
+    }
+}
+
+/// What is written of a verdict.
+pub(crate) fn answer_text(
     alloc: Global,
     options: ImportOptions,
     history: &History,
@@ -100,22 +132,32 @@ fn answer_text(
 {
     match verdict {
         Verdict::Yes(timestamps) if options.trace => traced(alloc, history, verdict, timestamps),
-        Verdict::No(cycle) if options.dot => Ok(drawing(alloc, history, cycle)?),
+        Verdict::No(cycle) => cycle_text(alloc, options.form, history, verdict, cycle),
         _ => Ok(verdict_line(alloc, history, verdict)?),
     }
 }
 
-// What is said of a history that was read.
-fn judged(alloc: Global, options: ImportOptions, history: &History) -> Result<Answer, Broken>
+// What is said of a history that was read, by one verdict.
+fn judged_once(alloc: Global, options: ImportOptions, history: &History) -> Result<Answer, Broken>
     requires { IsRecording history.now.recording }
-    ensures { IfOk result (λ answer. (lines : List (List ℕ)) → IsHistoryOf lines history.now
-        → IsJudged options lines answer.text.items answer.end) }
+    ensures { IfOk result (λ answer. IsOne options history.now answer.text.items answer.end) }
 {
     let verdict = judge(alloc, &history.recording, options.orders)?;
     let text = answer_text(alloc, options, history, &verdict)?;
     let why = sentences(alloc, history, &verdict)?;
     let end = end_of(&verdict);
     Ok(Answer { text, end, why })
+}
+
+// What is said of a history that was read.
+fn judged(alloc: Global, options: ImportOptions, history: &History) -> Result<Answer, Broken>
+    requires { IsRecording history.now.recording }
+    ensures { IfOk result (λ answer. IsSaid options history.now answer.text.items answer.end) }
+{
+    if options.all {
+        return judged_to_end(alloc, options, history);
+    }
+    judged_once(alloc, options, history)
 }
 
 // What is said of a fault.
@@ -160,7 +202,8 @@ fn write_out<W: Write>(writer: &mut W, text: &[u8]) -> Result<(), Broken>
 /// Judges a history, and writes one line: `["import","yes",{..}]`, `["import","no",..]`,
 /// `["import","open",keys]`, or `[n,"E16",cause]` with the first line that says no transaction.
 /// Where that is asked for, a trace in place of the line of a yes, and the drawing of a cycle in
-/// place of its line. Nothing is written before all of it is known.
+/// place of its line; or after a no also what comes of what it leaves, to the end. Nothing is
+/// written before all of it is known.
 ///
 /// `Input` where a read failed, `Output` where a write or the flush failed, `Memory` where a
 /// growth was refused.

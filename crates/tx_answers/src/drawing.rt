@@ -38,8 +38,12 @@ fn put_quoted(out: &mut Vec<u8>, text: &[u8]) -> Result<(), AllocError>
     out.extend_from_slice(b"\"")
 }
 
-// The words at an edge: its kind, and its key where it has one.
-fn label(alloc: Global, history: &History, step: CycleStep) -> Result<Vec<u8>, AllocError>
+/// The words at an edge: its kind, and its key where it has one.
+pub(crate) fn label(
+    alloc: Global,
+    history: &History,
+    step: CycleStep,
+) -> Result<Vec<u8>, AllocError>
     ensures { IfOk result (λ text. text.items ≡ label_text history.now step step.key) }
 {
     let mut label = Vec::new(alloc);

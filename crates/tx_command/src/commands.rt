@@ -49,6 +49,10 @@ pub struct ImportOptions {
     pub trace: bool,
     /// Whether a cycle is written for Graphviz.
     pub dot: bool,
+    /// Whether a cycle is drawn, as an SVG.
+    pub svg: bool,
+    /// Whether it goes on after a no.
+    pub all: bool,
 }
 
 /// What the command line asks for.
@@ -78,6 +82,8 @@ fn task_of(name: &str, asked: &ArgMatches<'_>) -> CommandTask {
             strict: asked.get_flag("strict"),
             trace: asked.get_flag("trace"),
             dot: asked.get_flag("dot"),
+            svg: asked.get_flag("svg"),
+            all: asked.get_flag("all"),
         }),
         "explain" => CommandTask::Explain(ExplainOptions {
             svg: asked.get_flag("svg"),
@@ -216,6 +222,16 @@ fn import<'a>(alloc: Global) -> Result<Command<'a>, Error> {
         .long("dot")
         .action(ArgAction::SetTrue)
         .help("Writes the cycle of a no for Graphviz, in place of its line");
+    let svg = Arg::new(alloc, "svg")
+        .long("svg")
+        .action(ArgAction::SetTrue)
+        .help("Draws the cycle of a no, an SVG, in place of its line")
+        .conflicts_with("dot")?
+        .conflicts_with("all")?;
+    let all = Arg::new(alloc, "all")
+        .long("all")
+        .action(ArgAction::SetTrue)
+        .help("Goes on after a no, as if nobody knew what its transactions had read");
     let command = Command::new(alloc, "import")
         .about(help::IMPORT_ABOUT)
         .after_help(help::IMPORT_HELP)
@@ -223,6 +239,8 @@ fn import<'a>(alloc: Global) -> Result<Command<'a>, Error> {
         .arg(strict)?
         .arg(trace)?
         .arg(dot)?
+        .arg(svg)?
+        .arg(all)?
         .arg(file(alloc))?;
     Ok(command)
 }

@@ -121,12 +121,15 @@ out; start and end are numbers of one clock. Keys and values are strings or whol
 
 The answer is one line, yes with status 0, no with 3, open with 5: transactions put values into a key of which nobody read
 the order. A last read of all keys leaves few open. docs/HISTORIES.md has what each answer means, and the names of a no.
+With --all, what those read that a no tells of is taken as not known, and what is left is judged again: a line for each no.
 
 Examples:
   txkv import history.jsonl             ["import","yes",{..}], or ["import","no",name,[[id,edge,key,id],..]]
   txkv import --strict history.jsonl    The same, by the clock as well: no or open, and not yet yes
   txkv import --trace history.jsonl     A yes as steps, for txkv check
-  txkv import --dot history.jsonl       The cycle of a no for Graphviz"#;
+  txkv import --dot history.jsonl       The cycle of a no for Graphviz
+  txkv import --svg history.jsonl       The cycle of a no as a drawing
+  txkv import --all history.jsonl       Every no, a line each"#;
 
 pub(crate) static REFUSALS_ABOUT: &str = "Tell what each refusal means, E1 to E17";
 

@@ -7,7 +7,7 @@ use std::io::{BufRead, Write};
 use std::sync::Wait;
 use std::thread::Threads;
 use std::time::{Duration, Instant};
-use tx_answers::{Answered, ImportEnd, ImportOptions, import};
+use tx_answers::{Answered, CycleForm, ImportEnd, ImportOptions, import};
 use tx_check::{check, check_all, check_with_reason};
 use tx_command::{CommandEnd, CommandTask, Steps};
 use tx_explain::PictureForm;
@@ -49,6 +49,17 @@ where
     }
     drop(played);
     Ok(end)
+}
+
+// How a cycle is told.
+fn form_of(told: tx_command::ImportOptions) -> CycleForm {
+    if told.svg {
+        CycleForm::Picture
+    } else if told.dot {
+        CycleForm::Graph
+    } else {
+        CycleForm::Line
+    }
 }
 
 // Judges a history, and says on standard error why. What cannot be said there is left out.
@@ -131,7 +142,8 @@ where
             let options = ImportOptions {
                 orders,
                 trace: told.trace,
-                dot: told.dot,
+                form: form_of(told),
+                all: told.all,
             };
             judge(asked, options, reader, writer)
         }

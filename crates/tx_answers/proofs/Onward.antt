@@ -1,0 +1,119 @@
+-- What is told of a history so far, one verdict after another.
+use Rattle.std.proofs.Common.{◌≡◌, ℕ, Bool, true, false, List, [], ◌∷◌, ◌++◌, length, get_or, refl, sym, ap, subst, ◌∙◌}
+use Rattle.std.specs.Prelude.{IsTrue, cond, ◌||◌}
+use Rattle.tx_recording.specs.declared.recording.Recording.{Recording}
+use Rattle.tx_recording.specs.Recordings.{txns_of}
+use Rattle.tx_verdict.specs.declared.verdict.Verdict.{Verdict}
+use Rattle.tx_verdict.specs.Verdicts.{IsVerdict}
+use Rattle.tx_import.specs.declared.reader.History.{History}
+use Rattle.tx_onward.specs.Tells.{tells, told_by}
+use Rattle.tx_onward.specs.Left.{IsLeft}
+use Rattle.tx_answers.specs.declared.answer.ImportOptions.{ImportOptions}
+use Rattle.tx_answers.specs.declared.answer.ImportEnd.{ImportEnd}
+use Rattle.tx_answers.specs.Texts.{end_of}
+use Rattle.tx_answers.specs.All.{IsNext, TellsMore, TellsNoMore, AreNext, is_none, IsOneOf, IsTextOfAll, end_of_all, IsAllOf}
+
+-- where there is a verdict, the end is that of the oldest
+abbrev pub EndsAs : List Verdict → ImportEnd → Type 0
+EndsAs [] end = Unit {0}
+EndsAs (v ∷ vs) end = end ≡ end_of_all v vs
+
+pub record IsSoFar (options : ImportOptions) (h : History) (told : List Bool) (text : List ℕ) (end : ImportEnd)
+    (is_first : Bool) (vs : List Verdict) : Type 0 where
+  pub next : AreNext h.recording options.orders vs
+  pub told_of : (t : ℕ) → get_or told t false ≡ told_by h.recording vs t
+  pub count : length told ≡ txns_of h.recording
+  pub said : IsTextOfAll options h vs text
+  pub first : is_first ≡ is_none vs
+  pub ends : EndsAs vs end
+
+abbrev pub SoFar : ImportOptions → History → List Bool → List ℕ → ImportEnd → Bool → Type 0
+SoFar options h told text end is_first = (vs : List Verdict) × IsSoFar options h told text end is_first vs
+
+-- what is left is what those before it have left
+pub left_by : {r left : Recording} {f g : ℕ → Bool} → ((t : ℕ) → f t ≡ g t) → IsLeft r f left → IsLeft r g left
+left_by same l = record {
+  transactions = λ t h. rw sym (same t) (l.transactions t h);
+  count = l.count;
+  ops = l.ops;
+  elements = l.elements;
+  keys = l.keys;
+  values = l.values;
+}
+
+-- the end with one verdict more
+pub ends_with : (vs : List Verdict) (v : Verdict) (end : ImportEnd) → EndsAs vs end
+    → cond (is_none vs) (end_of v) end ≡ end_of_all v vs
+ends_with [] v end e = refl
+ends_with (w ∷ ws) v end e = e
+
+-- a verdict that is of what is left
+pub is_next : {options : ImportOptions} {h : History} {told : List Bool} {text : List ℕ} {end : ImportEnd} {is_first : Bool}
+    {vs : List Verdict} {left : Recording} {v : Verdict} → IsSoFar options h told text end is_first vs
+    → IsLeft h.recording (λ t. get_or told t false) left → IsVerdict left options.orders v
+    → IsNext h.recording options.orders vs v
+is_next {left = left} s l v = (left, left_by s.told_of l, v)
+
+or_true : (b : Bool) → (b || true) ≡ true
+or_true true = refl
+or_true false = refl
+
+-- the text with one verdict more
+pub said_with : {options : ImportOptions} {h : History} {told : List Bool} {text : List ℕ} {end : ImportEnd} {is_first : Bool}
+    {vs : List Verdict} (v : Verdict) (one more : List ℕ) → IsSoFar options h told text end is_first vs
+    → IsOneOf options h is_first v one → more ≡ text ++ one → IsTextOfAll options h (v ∷ vs) more
+said_with {options} {h} {told} {text} v one more s o e =
+    (text, one, s.said, subst (λ b. IsOneOf options h b v one) s.first o, e)
+
+-- the end with one verdict more
+pub end_so : {options : ImportOptions} {h : History} {told : List Bool} {text : List ℕ} {end : ImportEnd} {is_first : Bool}
+    {vs : List Verdict} (v : Verdict) (new : ImportEnd) → IsSoFar options h told text end is_first vs
+    → new ≡ cond is_first (end_of v) end → new ≡ end_of_all v vs
+end_so {end = end} {vs = vs} v new s e =
+    e ∙ subst (λ b. cond b (end_of v) end ≡ end_of_all v vs) (sym s.first) (ends_with vs v end s.ends)
+
+-- a verdict that tells of none but those that were told of is the last
+pub done : (options : ImportOptions) (h : History) (told after : List Bool) (text more : List ℕ) (end new : ImportEnd)
+    (is_first : Bool) (left : Recording) (v : Verdict) → SoFar options h told text end is_first
+    → IsLeft h.recording (λ t. get_or told t false) left → IsVerdict left options.orders v
+    → ((one : List ℕ) × IsOneOf options h is_first v one × (more ≡ text ++ one))
+    → new ≡ cond is_first (end_of v) end
+    → ((t : ℕ) → get_or after t false ≡ (get_or told t false || tells h.recording v t)) → after ≡ told
+    → IsAllOf options h more new
+done options h told after text more end new is_first left v (vs, s) l verdict (one, o, e) ends noted same =
+    let none : TellsNoMore h.recording vs v = λ t told_of.
+        let is : get_or told t false ≡ (get_or told t false || tells h.recording v t) =
+            subst (λ bs. get_or bs t false ≡ (get_or told t false || tells h.recording v t)) same (noted t) in
+        sym (s.told_of t) ∙ is ∙ ap (λ b. get_or told t false || b) told_of ∙ or_true (get_or told t false)
+    in (v, vs, s.next, is_next s l verdict, none, said_with v one more s o e, end_so v new s ends)
+
+-- one that tells of one more is followed by what comes of what is left then
+pub more_so : (options : ImportOptions) (h : History) (told after : List Bool) (text more : List ℕ) (end new : ImportEnd)
+    (is_first : Bool) (left : Recording) (v : Verdict) → SoFar options h told text end is_first
+    → IsLeft h.recording (λ t. get_or told t false) left → IsVerdict left options.orders v
+    → ((one : List ℕ) × IsOneOf options h is_first v one × (more ≡ text ++ one))
+    → new ≡ cond is_first (end_of v) end
+    → ((t : ℕ) → get_or after t false ≡ (get_or told t false || tells h.recording v t))
+    → ((t : ℕ) × (tells h.recording v t ≡ true) × (get_or told t false ≡ false)) → length after ≡ length told
+    → SoFar options h after more new false
+more_so options h told after text more end new is_first left v (vs, s) l verdict (one, o, e) ends noted (t, tells_of, f) count =
+    (v ∷ vs, record {
+      next = (s.next, is_next s l verdict, (t, tells_of, sym (s.told_of t) ∙ f));
+      told_of = λ u. noted u ∙ ap (λ b. b || tells h.recording v u) (s.told_of u);
+      count = count ∙ s.count;
+      said = said_with v one more s o e;
+      first = refl;
+      ends = end_so v new s ends;
+    })
+
+-- before the first verdict
+pub nothing_told : (options : ImportOptions) (h : History) (told : List Bool) (end : ImportEnd)
+    → ((t : ℕ) → get_or told t false ≡ false) → length told ≡ txns_of h.recording → SoFar options h told [] end true
+nothing_told options h told end none count = ([], record {
+  next = tt;
+  told_of = none;
+  count = count;
+  said = refl;
+  first = refl;
+  ends = tt;
+})

@@ -1,0 +1,159 @@
+//! A cycle, drawn as a picture.
+ghost use Rattle.std.specs.Prelude.{◌≡◌, ◌++◌, length, OnOk, IfOk};
+ghost use Rattle.tx_verdict.specs.Steps.{step_at};
+ghost use Rattle.tx_answers.specs.Traces.{each_of};
+ghost use Rattle.tx_answers.specs.Pictures.{id_text, told_text, sense_text, reach_at, most_of, piece_text, piece_at, last_word, picture_text};
+
+use crate::drawing::label;
+use crate::words::{cycle_word, edge_word, put_id};
+use std::alloc::{AllocError, Global};
+use tx_import::History;
+use tx_ring::{put_end, put_head, put_step, reach_of};
+use tx_verdict::{Cycle, CycleStep, Edge};
+
+// The id of a transaction.
+fn name(alloc: Global, history: &History, txn: u32) -> Result<Vec<u8>, AllocError>
+    ensures { IfOk result (λ text. text.items ≡ id_text history.now txn) }
+{
+    let mut text = Vec::new(alloc);
+    put_id(&mut text, history, txn)?;
+    Ok(text)
+}
+
+// Words before, between and behind the ids of two transactions.
+fn told(
+    alloc: Global,
+    history: &History,
+    before: &str,
+    first: u32,
+    between: &str,
+    second: u32,
+    behind: &str,
+) -> Result<Vec<u8>, AllocError>
+    ensures { IfOk result (λ text. text.items
+        ≡ told_text history.now before.now first between.now second behind.now) }
+{
+    let mut text = Vec::new(alloc);
+    text.extend_from_slice(before.as_bytes())?;
+    put_id(&mut text, history, first)?;
+    text.extend_from_slice(between.as_bytes())?;
+    put_id(&mut text, history, second)?;
+    text.extend_from_slice(behind.as_bytes())?;
+    Ok(text)
+}
+
+// What an edge says.
+fn sense(alloc: Global, history: &History, step: CycleStep) -> Result<Vec<u8>, AllocError>
+    ensures { IfOk result (λ text. text.items ≡ sense_text history.now step.edge step.from step.to) }
+{
+    let CycleStep { from, edge, to, .. } = step;
+    match edge {
+        Edge::Ww => told(alloc, history, "", to, " wrote it next after ", from, ""),
+        Edge::Wr => told(alloc, history, "", to, " read what ", from, " wrote"),
+        Edge::Rw => {
+            let between = " read it as it was before ";
+            told(alloc, history, "", from, between, to, " wrote it")
+        }
+        Edge::So => told(
+            alloc,
+            history,
+            "one process ran ",
+            from,
+            " and then ",
+            to,
+            "",
+        ),
+        Edge::Rt => told(alloc, history, "", from, " had ended when ", to, " began"),
+    }
+}
+
+// How far the words of an edge reach.
+fn reach_at(alloc: Global, history: &History, step: CycleStep) -> Result<usize, AllocError>
+    ensures { IfOk result (λ reach. reach ≡ reach_at history.now step) }
+{
+    let label = label(alloc, history, step)?;
+    let sense = sense(alloc, history, step)?;
+    Ok(reach_of(label.as_slice(), sense.as_slice()))
+}
+
+// How far the words of all edges reach.
+fn reach_over(alloc: Global, history: &History, steps: &[CycleStep]) -> Result<usize, AllocError>
+    ensures { IfOk result (λ reach. reach
+        ≡ most_of (λ i. reach_at history.now (step_at steps.now i)) (length steps.now)) }
+{
+    let mut most = 0_usize;
+    for i in 0..steps.len() {
+        most = most.max(reach_at(alloc, history, steps[i])?);
+    }
+    Ok(most)
+}
+
+// Appends the box of a transaction, and the edge that leaves it.
+fn put_piece(
+    alloc: Global,
+    out: &mut Vec<u8>,
+    history: &History,
+    place: usize,
+    is_last: bool,
+    step: CycleStep,
+) -> Result<(), AllocError>
+    ensures { OnOk result (out.new.items ≡ out.old.items ++ piece_text history.now place is_last step) }
+{
+    let name = name(alloc, history, step.from)?;
+    let label = label(alloc, history, step)?;
+    let sense = sense(alloc, history, step)?;
+    let kind = edge_word(step.edge);
+    put_step(
+        out,
+        place,
+        is_last,
+        kind,
+        name.as_slice(),
+        label.as_slice(),
+        sense.as_slice(),
+    )
+}
+
+// Appends the boxes of all transactions.
+fn put_pieces(
+    alloc: Global,
+    out: &mut Vec<u8>,
+    history: &History,
+    steps: &[CycleStep],
+) -> Result<(), AllocError>
+    ensures { OnOk result (out.new.items ≡ out.old.items
+        ++ each_of (piece_at history.now steps.now) (length steps.now)) }
+{
+    for i in 0..steps.len() {
+        let is_last = i == steps.len() - 1;
+        put_piece(alloc, out, history, i, is_last, steps[i])?;
+    }
+    Ok(())
+}
+
+// The kind of the last edge.
+fn last_kind(steps: &[CycleStep]) -> &'static str
+    ensures { result.now ≡ last_word steps.now }
+{
+    if steps.is_empty() {
+        return edge_word(Edge::Ww);
+    }
+    edge_word(steps[steps.len() - 1].edge)
+}
+
+/// A cycle as an SVG.
+pub(crate) fn picture(
+    alloc: Global,
+    history: &History,
+    cycle: &Cycle,
+) -> Result<Vec<u8>, AllocError>
+    ensures { IfOk result (λ text. text.items ≡ picture_text history.now cycle.now) }
+{
+    let steps = cycle.steps.as_slice();
+    let reach = reach_over(alloc, history, steps)?;
+    let mut out = Vec::new(alloc);
+    put_head(&mut out, cycle_word(cycle), steps.len(), reach)?;
+    put_pieces(alloc, &mut out, history, steps)?;
+    put_end(&mut out, steps.len(), last_kind(steps))?;
+    Ok(out)
+}

@@ -1,0 +1,3 @@
+pub mod Tells
+pub mod Left
+pub mod Untold

@@ -1,0 +1,94 @@
+-- Of which transactions a no tells: of those on its cycle, or of the one that read what it names.
+-- Of a cycle of writes alone it also tells of those that read in the key of its first edge what that
+-- edge's second transaction put there: that is why the order of its writes is known.
+use Rattle.std.specs.Prelude.{ℕ, ◌+◌, ◌==◌, Bool, true, false, ◌&&◌, ◌||◌, cond, List, [], ◌∷◌, length, nat_le, Option, Some, None, slice_get}
+use Rattle.std.specs.List.{list_any}
+use Rattle.tx_history.specs.declared.anomaly.Anomaly.{Anomaly}
+use Rattle.tx_history.specs.declared.anomaly.Anomaly.TheVariants.{G0}
+use Rattle.tx_recording.specs.declared.recording.Outcome.{Outcome}
+use Rattle.tx_recording.specs.declared.recording.Outcome.TheVariants.{Ok, Fail, Info}
+use Rattle.tx_recording.specs.declared.recording.Act.{Act}
+use Rattle.tx_recording.specs.declared.recording.Act.TheVariants.{Append, Write, Read}
+use Rattle.tx_recording.specs.declared.recording.Op.{Op}
+use Rattle.tx_recording.specs.declared.recording.Recording.{Recording}
+use Rattle.tx_recording.specs.Recordings.{transaction_at, ops_of, list_of}
+use Rattle.tx_verdict.specs.declared.verdict.Beside.{Beside}
+use Rattle.tx_verdict.specs.declared.verdict.Beside.TheVariants.{Nothing}
+use Rattle.tx_verdict.specs.declared.verdict.Cycle.{Cycle}
+use Rattle.tx_verdict.specs.declared.verdict.CycleStep.{CycleStep}
+use Rattle.tx_verdict.specs.declared.verdict.Verdict.{Verdict}
+use Rattle.tx_verdict.specs.declared.verdict.Verdict.TheVariants.{No, Fact as Found}
+
+-- it is known to have committed
+abbrev pub is_ok : Outcome → Bool
+is_ok Ok = true
+is_ok Fail = false
+is_ok Info = false
+
+-- the act puts the value
+abbrev pub is_value : ℕ → Act → Bool
+is_value v (Append w) = w == v
+is_value v (Write w) = w == v
+is_value v (Read span) = false
+
+-- one of the operations puts the value
+abbrev pub puts_value : List Op → ℕ → Bool
+puts_value os v = list_any (λ o. is_value v o.act) os
+
+-- one of the operations puts one of the values
+abbrev pub sees_one : List Op → List ℕ → Bool
+sees_one os vs = list_any (puts_value os) vs
+
+-- the values that an act read
+abbrev pub read_by : Recording → Act → List ℕ
+read_by r (Append v) = []
+read_by r (Write v) = []
+read_by r (Read span) = cond (nat_le (span.first + span.count) (length r.elements.items)) (list_of r span) []
+
+-- the operation read in the key what one of these operations put
+abbrev pub sees_in : Recording → ℕ → List Op → Op → Bool
+sees_in r k os o = (o.key == k) && sees_one os (read_by r o.act)
+
+-- t read in the key of an edge what its second transaction put there
+abbrev pub sees_second : Recording → ℕ → Option ℕ → ℕ → Bool
+sees_second r u None t = false
+sees_second r u (Some k) t = list_any (sees_in r k (ops_of r u)) (ops_of r t)
+
+-- the same of the first edge, where there is one
+abbrev pub sees_first : Recording → Option CycleStep → ℕ → Bool
+sees_first r None t = false
+sees_first r (Some s) t = sees_second r s.to s.key t
+
+-- t is on the cycle
+abbrev pub is_on : List CycleStep → ℕ → Bool
+is_on steps t = list_any (λ s. s.from == t) steps
+
+abbrev pub is_writes : Anomaly → Bool
+is_writes G0 = true
+is_writes _ = false
+
+abbrev pub is_alone : Beside → Bool
+is_alone Nothing = true
+is_alone _ = false
+
+-- all edges of the cycle are of writes
+abbrev pub is_dirty : Cycle → Bool
+is_dirty c = is_writes c.anomaly && is_alone c.beside
+
+abbrev pub is_named : Recording → Cycle → ℕ → Bool
+is_named r c t = is_on c.steps.items t || (is_dirty c && sees_first r (slice_get c.steps.items 0) t)
+
+-- what is told is told of t
+abbrev pub is_of : Recording → Verdict → ℕ → Bool
+is_of r (No c) t = is_named r c t
+is_of r (Found f) t = f.txn == t
+is_of r _ t = false
+
+-- the verdict tells of t, which is known to have committed
+abbrev pub tells : Recording → Verdict → ℕ → Bool
+tells r v t = is_ok (transaction_at r t).outcome && is_of r v t
+
+-- one of the verdicts does
+abbrev pub told_by : Recording → List Verdict → ℕ → Bool
+told_by r [] t = false
+told_by r (v ∷ vs) t = told_by r vs t || tells r v t

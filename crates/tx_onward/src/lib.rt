@@ -1,0 +1,10 @@
+//! How a recording is judged on after a no: of the transactions that a no tells of, what they read
+//! is taken as not known, and what is left is judged again.
+#![tactic(auto)]
+
+mod left;
+mod noted;
+mod tells;
+
+pub use left::left_of;
+pub use noted::note;

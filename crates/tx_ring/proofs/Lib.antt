@@ -1,0 +1,2 @@
+-- A text that is written piece by piece.
+pub mod Pieces
