@@ -20,7 +20,7 @@ use Rattle.tx_core.proofs.runs.CommitOrder.{answered_before, decided_below}
 use Rattle.tx_core.proofs.seats.Beginnings.{begins_all, begins_more, extends_begins}
 use Rattle.tx_core.proofs.seats.Staying.{among_on}
 use Rattle.tx_journal.specs.Known.{Known}
-use Rattle.tx_journal.specs.Senders.{Reached, IsWay}
+use Rattle.tx_journal.specs.Senders.{Reached, IsSender}
 use Rattle.tx_store.specs.Stores.{Replies, TakesHeld}
 use Rattle.tx_transaction.specs.Sessions.{SessionState}
 use Rattle.tx_transaction.specs.declared.state.Miss.{Miss}
@@ -60,7 +60,7 @@ sent_begins bounds (asks body more) old new result (reached, mid, then, sent, le
 -- ---- a page
 
 -- a way to the regions of a store
-replies_way : (bounds : List Key) → IsWay bounds (TakesHeld bounds) (Replies {S = Unit {0}}) (λ a. bounds)
+replies_way : (bounds : List Key) → IsSender bounds (TakesHeld bounds) (Replies {S = Unit {0}}) (λ a. bounds)
 replies_way bounds = record { takes = λ a q held. held; answers = λ a b q g is. is; between = λ a. refl }
 
 module _ (bounds : List Key) (from : Key) (old new : Seated) (r : Result Answer Miss)
