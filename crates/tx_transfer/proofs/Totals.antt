@@ -11,6 +11,7 @@ use Rattle.tx_plan.proofs.KeyOrder.{le_itself, lt_le, lt_itself, lt_then_le}
 use Rattle.tx_plan.specs.declared.answer.Answer.{Answer}
 use Rattle.tx_plan.specs.declared.answer.Answer.TheVariants as answer
 use Rattle.tx_machine.specs.Machine.{Rows, Sees, SeesRows, table_of}
+use Rattle.tx_core.specs.declared.event.Event.{Event}
 use Rattle.tx_core.specs.declared.event.Event.TheVariants.{Drawn, Began, Answered}
 use Rattle.tx_core.specs.declared.event.Outcome.TheVariants as outcome
 use Rattle.tx_core.specs.Histories.{History, Among, Begins}
@@ -34,7 +35,7 @@ use Rattle.tx_laws.proofs.Scanned.{sees_whole}
 use Rattle.tx_transfer.specs.Balances.{balance_of}
 use Rattle.tx_transfer.specs.Resolving.{ResolvesMet}
 use Rattle.tx_transfer.specs.Sending.{SendsOver}
-use Rattle.tx_transfer.specs.Totals.{least, top, AreRowsOf, balances_of, IsSumOf, SumsTo, HasReadTo, ReadsOn, IsPage, AddsPage}
+use Rattle.tx_transfer.specs.Totals.{least, top, AreRowsOf, balances_of, IsSumOf, SumsTo, IsTotal, HasReadTo, ReadsOn, IsPage, AddsPage}
 use Rattle.tx_transfer.proofs.Paging.{le_trans, between_both, none_there, short_page, last_within, front_of_page, joined}
 use Rattle.tx_transfer.proofs.Starting.{scan_start, passed_start}
 
@@ -63,18 +64,18 @@ sent_begins bounds (asks body more) old new result (reached, mid, then, sent, le
 replies_way : (bounds : List Key) → IsSender bounds (TakesHeld bounds) (Replies {S = Unit {0}}) (λ a. bounds)
 replies_way bounds = record { takes = λ a q held. held; answers = λ a b q g is. is; between = λ a. refl }
 
-module _ (bounds : List Key) (from : Key) (old new : Seated) (r : Result Answer Miss)
-    (sent : SendsOver bounds old.seat (scan_walk old.state bounds from top MAX_SCAN_ROWS) (new.state, r) new.seat) where
+module _ (bounds : List Key) (from to : Key) (old new : Seated) (r : Result Answer Miss)
+    (sent : SendsOver bounds old.seat (scan_walk old.state bounds from to MAX_SCAN_ROWS) (new.state, r) new.seat) where
   pub page_start : new.state.start ≡ old.state.start
-  page_start = scan_start (Replies {S = Unit {0}}) bounds old.seat new.seat tt tt old.state from top MAX_SCAN_ROWS
+  page_start = scan_start (Replies {S = Unit {0}}) bounds old.seat new.seat tt tt old.state from to MAX_SCAN_ROWS
       (new.state, r) sent
 
   pub page_knows : Begins old.seat.events new.seat.events
-  page_knows = sent_begins bounds (scan_walk old.state bounds from top MAX_SCAN_ROWS) old.seat new.seat (new.state, r) sent
+  page_knows = sent_begins bounds (scan_walk old.state bounds from to MAX_SCAN_ROWS) old.seat new.seat (new.state, r) sent
 
-  pub page_is : AreRising bounds → IsWorldRun bounds new.seat.events → (rows : List KeyValue) → r ≡ Ok (answer.Rows rows)
-      → IsPage bounds new.seat.events old.state.start from rows
-  page_is rising run rows is = record {
+  pub page_is : to ≡ top → AreRising bounds → IsWorldRun bounds new.seat.events → (rows : List KeyValue)
+      → r ≡ Ok (answer.Rows rows) → IsPage bounds new.seat.events old.state.start from rows
+  page_is all rising run rows is = record {
     few = (seen new.seat.events (begins_all new.seat.events) run).upto;
     run = run;
     sees = seen;
@@ -85,7 +86,9 @@ module _ (bounds : List Key) (from : Key) (old new : Seated) (r : Result Answer 
       seen h begins there = sees_whole bounds (TakesHeld bounds) (Replies {S = Unit {0}}) (λ a. bounds) rising
           (replies_way bounds) old.seat new.seat tt tt old.state new.state from top MAX_SCAN_ROWS rows h
           (subst (λ (x : Result Answer Miss).
-          SendsOver bounds old.seat (scan_walk old.state bounds from top MAX_SCAN_ROWS) (new.state, x) new.seat) is sent)
+          SendsOver bounds old.seat (scan_walk old.state bounds from top MAX_SCAN_ROWS) (new.state, x) new.seat) is
+          (subst (λ (k : Key).
+          SendsOver bounds old.seat (scan_walk old.state bounds from k MAX_SCAN_ROWS) (new.state, r) new.seat) all sent))
           begins there
 
 -- ---- a lock in the way
@@ -213,3 +216,32 @@ began_knows bounds old new start b =
     let began : Begins b.mid new.events = subst (Begins b.mid) (sym b.began.is)
     (inr (extends_begins old.seat b.mid b.began.before b.began.extends)) in
     begins_more old.events b.mid new.events drew began
+
+stopped_knows : (bounds : List Key) (old new : Known) (e : Event) → Records bounds old e new → Begins old.events new.events
+stopped_knows bounds old new e r = subst (Begins old.events) (sym r.recorded.is)
+    (inr (extends_begins old.seat old.events r.recorded.before r.recorded.extends))
+
+-- what a reading came to, once its session began at a timestamp, read all and was stopped
+module _ (bounds : List Key) (before : Known) (begun read_all : Seated) (seat : Known) (e : Event)
+    (began : BeganAt bounds before begun.state.start begun.seat) (grew : Begins begun.seat.events read_all.seat.events)
+    (stopped : Records bounds read_all.seat e seat) {E F : Type 0} (read : Result ℕ F) where
+  pub total_read : (r : Result (ℕ × Known) E) → IfOk r (λ x. (read ≡ Ok x.0) × (x.1 ≡ seat))
+      → IfOk read (SumsTo bounds read_all.seat.events begun.state.start top)
+      → IfOk r (λ x. IsTotal bounds before.events x.1.events x.0)
+  total_read (Ok x) same sums = subst (λ (k : Known). IsTotal bounds before.events k.events x.0) (sym same.1) (record {
+    at = begun.state.start;
+    above = began_above bounds before begun.seat begun.state.start began;
+    sums = sums_on bounds begun.state.start read_all.seat.events seat.events
+        (stopped_knows bounds read_all.seat seat e stopped) top x.0
+        (subst (λ (q : Result ℕ F). IfOk q (SumsTo bounds read_all.seat.events begun.state.start top)) same.0 sums);
+  })
+  total_read (Err why) same sums = tt
+
+  pub total_knows : (r : Result (ℕ × Known) E) → IfOk r (λ x. (read ≡ Ok x.0) × (x.1 ≡ seat))
+      → IfOk r (λ x. Begins before.events x.1.events)
+  total_knows (Ok x) same = subst (λ (k : Known). Begins before.events k.events) (sym same.1)
+      (begins_more before.events begun.seat.events seat.events
+      (began_knows bounds before begun.seat begun.state.start began)
+      (begins_more begun.seat.events read_all.seat.events seat.events grew
+      (stopped_knows bounds read_all.seat seat e stopped)))
+  total_knows (Err why) same = tt

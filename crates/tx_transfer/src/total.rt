@@ -1,5 +1,5 @@
 //! The sum of the balances of all keys.
-ghost use Rattle.std.specs.Prelude.{◌≡◌, ◌≤◌, ◌<◌, ◌+◌, ◌*◌, ◌^◌, length, IfOk, IfErr, IfSome};
+ghost use Rattle.std.specs.Prelude.{◌≡◌, ◌≤◌, ◌<◌, ◌+◌, ◌*◌, ◌^◌, length, Ok, IfOk, IfErr, IfSome};
 ghost use Rattle.tx_core.specs.Histories.{Begins};
 ghost use Rattle.tx_transfer.specs.Totals.{AddsPage, HasReadTo, IsPage, IsTotal, ReadsOn, SumsTo, balances_of, top};
 
@@ -114,6 +114,20 @@ fn read_all<J: JournalId, F: Families + Drop, R: Wait + Drop>(
     Err(Fault::OutOfMemory)
 }
 
+// What was read, and the seat, which is free again.
+fn ended<J: JournalId>(read: Result<u128, Fault>, seat: Seat<J>) -> Result<(u128, Seat<J>), Broken>
+    ensures same { IfOk result (λ r. (read ≡ Ok r.0) × (r.1 ≡ seat)) }
+    ensures err { IfErr result (λ e. e ≡ Broken.Memory) }
+{
+    match read {
+        Ok(total) => Ok((total, seat)),
+        Err(_) => {
+            drop(seat);
+            Err(Broken::Memory)
+        }
+    }
+}
+
 /// The sum of the balances of all keys, read at a fresh timestamp, page by page. Locks that stand in
 /// the way are resolved as if their time were over.
 pub fn read_total<J: JournalId, F: Families + Drop, R: Wait + Drop>(
@@ -131,14 +145,7 @@ pub fn read_total<J: JournalId, F: Families + Drop, R: Wait + Drop>(
         }
         Ok(mut session) => {
             let read = read_all(&mut session, context);
-            let seat = session.stop();
-            match read {
-                Ok(total) => Ok((total, seat)),
-                Err(_) => {
-                    drop(seat);
-                    Err(Broken::Memory)
-                }
-            }
+            ended(read, session.stop())
         }
     }
 }
