@@ -23,7 +23,7 @@ use Rattle.tx_run.specs.Tells.{TellsLine}
 use Rattle.tx_transfer.proofs.Transferring.{between_on}
 use Rattle.tx_run.specs.Logs.{StandsBy, TellsBy}
 use Rattle.tx_run.specs.Answers.{Answers, EndsSo, IsReply, has_fault, is_fault}
-use Rattle.tx_run.specs.Jobs.{IsAbove, AreAnswered, AreFalling, Output, IsLearnt, Joins, AreJoined}
+use Rattle.tx_run.specs.Jobs.{IsAbove, AreAnswered, AreFalling, AreGathered, Output, IsLearnt, Joins, AreJoined}
 
 pairs_append : {X : Type 0} (R : X → X → Type 0) (xs ys : List X) → AllPairs R xs → AllPairs R ys
     → ((i j : ℕ) (d : X) → i < length xs → j < length ys → R (get_or xs i d) (get_or ys j d)) → AllPairs R (xs ++ ys)
@@ -208,6 +208,19 @@ joined_more before old new replies after jobs output are joins = record {
   all = joins.all ∙ ap (λ (l : List LineReply). l ++ output.log.replies) are.all
       ∙ flat_map_more (λ (c : Output). c.log.replies) before jobs output;
 }
+
+-- what was gathered stays so as more is known
+pub gathered_on : (l h : History) → Begins l h → (firsts : List ℕ) (replies : List LineReply) (jobs : List Output)
+    → AreGathered firsts l replies jobs → AreGathered firsts h replies jobs
+gathered_on l h begins firsts replies jobs (before, named, quiet, joined) = (before, named, quiet, record {
+  learnt = λ k d lt. let was = joined.learnt k d lt in
+      record {
+        kept = was.kept;
+        tells = was.tells;
+        knows = begins_more (get_or jobs k d).log.told l h was.knows begins;
+      };
+  all = joined.all;
+})
 
 -- the first of those that are left goes behind those that went
 pub one_goes : {T : Type 0} (all went left rest : List T) (output : T) → all ≡ went ++ left → left ≡ output ∷ rest

@@ -11,6 +11,7 @@ pub mod Naming
 pub mod Seating
 pub mod Seeding
 pub mod Sourcing
+pub mod Summing
 pub mod Sums
 pub mod Telling
 pub mod Writing

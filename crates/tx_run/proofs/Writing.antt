@@ -13,7 +13,7 @@ use Rattle.tx_run.specs.declared.reply.LineReply.{LineReply}
 use Rattle.tx_run.specs.Outcomes.{TellsOutcomes}
 use Rattle.tx_run.specs.Pairs.{TellsPair}
 use Rattle.tx_run.specs.Tells.{AllTell}
-use Rattle.tx_transfer.specs.declared.total.Total.{Total}
+use Rattle.tx_run.specs.Totals.{TellsTotal}
 use Rattle.tx_run.specs.Texts.{IsTextOf, IsTextFrom, WritesPart}
 
 pub on_any_err : {T E : Type 0} (P : Type 0) (r : Result T E) → P → OnErr r P
@@ -105,9 +105,9 @@ module _ {P X : Type 0} (f : X → List ℕ) (v : P → X) (xs : List P) (i : �
 
 -- ---- of what was played
 
-pub from_played : (source old new : Option (List ℕ)) (seen : Seen) (replies : List LineReply) (total : Total)
+pub from_played : (source old new : Option (List ℕ)) (seen : Seen) (replies : List LineReply) (total : ℕ)
     → IsWorldRun seen.bounds seen.events → TellsOutcomes seen.events replies → All (TellsPair source) replies
-    → AllTell source seen replies → WritesPart old new (IsTextOf replies total) → WritesPart old new (IsTextFrom source)
-from_played source old new seen replies total run told pairs tells (inl kept) = inl kept
-from_played source old new seen replies total run told pairs tells (inr (text, is, part)) =
-    inr (text, inr (seen, replies, total, run, told, pairs, tells, is), part)
+    → AllTell source seen replies → TellsTotal seen replies total → WritesPart old new (IsTextOf replies total) → WritesPart old new (IsTextFrom source)
+from_played source old new seen replies total run told pairs tells sum (inl kept) = inl kept
+from_played source old new seen replies total run told pairs tells sum (inr (text, is, part)) =
+    inr (text, inr (seen, replies, total, run, told, pairs, tells, sum, is), part)

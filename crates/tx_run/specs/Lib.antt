@@ -15,3 +15,4 @@ pub mod States
 pub mod Steps
 pub mod Tells
 pub mod Texts
+pub mod Totals

@@ -15,7 +15,6 @@ use Rattle.tx_text.specs.Faults.{fault_words}
 use Rattle.tx_text.specs.Output.{AppendsPart}
 use Rattle.tx_text.specs.Members.{reply_text}
 use Rattle.tx_text.specs.Texts.{line_text}
-use Rattle.tx_transfer.specs.declared.balance.TheConstants.{BALANCES}
 use Rattle.tx_run.specs.declared.reply.LineAnswer.{LineAnswer}
 use Rattle.tx_run.specs.declared.reply.LineAnswer.TheVariants.{Plain, Ended}
 use Rattle.tx_run.specs.declared.reply.LineReply.{LineReply}
@@ -25,7 +24,7 @@ use Rattle.tx_run.specs.Lines.{line_of}
 use Rattle.tx_run.specs.Outcomes.{TellsOutcomes}
 use Rattle.tx_run.specs.Pairs.{TellsPair}
 use Rattle.tx_run.specs.Tells.{AllTell}
-use Rattle.tx_transfer.specs.declared.total.Total.{Total}
+use Rattle.tx_run.specs.Totals.{TellsTotal}
 use Rattle.tx_run.specs.declared.counts.RunCounts.{RunCounts}
 use Rattle.tx_run.specs.declared.play.RunResult.{RunResult}
 
@@ -77,10 +76,9 @@ outcomes_text counts = line_text (item (string (codes "outcomes"))
     (item (number (unsigned counts.committed)) (item (number (unsigned counts.aborted))
     (item (number (unsigned counts.unknown)) (item (number (unsigned counts.read_only)) no_items)))))
 
--- the sum of all balances in one number
-unfoldable pub total_text : Total → List ℕ
-total_text total = line_text (item (string (codes "total"))
-    (item (number (unsigned (total.high * BALANCES + total.low))) no_items))
+-- the sum of all balances
+unfoldable pub total_text : ℕ → List ℕ
+total_text total = line_text (item (string (codes "total")) (item (number (unsigned total)) no_items))
 
 -- ---- the whole text
 
@@ -90,7 +88,7 @@ pub record AreInOrder (replies lines : List LineReply) : Type 0 where
   pub rising : IsNonDecreasingBy (λ s. s.number) lines
 
 -- a line for each of the answers and for no other, in the order of the script, and then the sums
-abbrev pub IsTextOf : List LineReply → Total → List ℕ → Type 0
+abbrev pub IsTextOf : List LineReply → ℕ → List ℕ → Type 0
 IsTextOf replies total text = (lines : List LineReply) × AreInOrder replies lines
     × (text ≡ flat_map line_of lines ++ (outcomes_text (counts_of lines) ++ total_text total))
 
@@ -112,12 +110,12 @@ end_of None = Faulted
 end_of (Some played) = if has_fault played.replies then Faulted else Well
 
 -- the text of some run of this script: each outcome that it tells was answered in what its
--- sessions had seen, of which its answers tell
+-- sessions had seen, of which its answers and its total tell
 abbrev pub IsTextFrom : Option (List ℕ) → List ℕ → Type 0
 IsTextFrom source text = IsFaultText source text
-    ⊎ ((seen : Seen) × (replies : List LineReply) × (total : Total) × IsWorldRun seen.bounds seen.events
+    ⊎ ((seen : Seen) × (replies : List LineReply) × (total : ℕ) × IsWorldRun seen.bounds seen.events
     × TellsOutcomes seen.events replies × All (TellsPair source) replies × AllTell source seen replies
-    × IsTextOf replies total text)
+    × TellsTotal seen replies total × IsTextOf replies total text)
 
 -- ---- what is written
 

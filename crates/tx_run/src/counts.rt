@@ -8,7 +8,6 @@ use itoa::Buffer;
 use std::alloc::AllocError;
 use tx_core::Outcome;
 use tx_text::put_number;
-use tx_transfer::{BALANCES, Total};
 
 /// How many lines are told each outcome.
 #[derive(Clone, Copy, Debug, PartialEq, Eq)]
@@ -66,12 +65,11 @@ pub(crate) fn put_outcomes(out: &mut Vec<u8>, counts: RunCounts) -> Result<(), A
 
 /// Appends the line of the sum of all balances.
 #[tactic(auto, unfolding(json::specs::Print::escape_byte, crate::specs::Texts::total_text))]
-pub(crate) fn put_total(out: &mut Vec<u8>, total: Total) -> Result<(), AllocError>
+pub(crate) fn put_total(out: &mut Vec<u8>, total: u128) -> Result<(), AllocError>
     ensures { OnOk result (out.new.items ≡ out.old.items ++ total_text total) }
 {
-    let sum = u128::from(total.high) * u128::from(BALANCES) + u128::from(total.low);
     let mut buffer = Buffer::new();
     out.extend_from_slice(b"[\"total\",")?;
-    out.extend_from_slice(buffer.format(sum).as_bytes())?;
+    out.extend_from_slice(buffer.format(total).as_bytes())?;
     out.extend_from_slice(b"]\n")
 }

@@ -10,7 +10,8 @@ ghost use Rattle.tx_run.specs.Reading.{opening_of};
 ghost use Rattle.tx_run.specs.Scripts.{IsWithin};
 ghost use Rattle.tx_run.specs.Pairs.{TellsPair};
 ghost use Rattle.tx_run.specs.Tells.{AreOwn, OpensWith, TellsLine};
-ghost use Rattle.tx_core.specs.Histories.{History};
+ghost use Rattle.tx_run.specs.Totals.{TellsTotal, seen_in};
+ghost use Rattle.tx_core.specs.Histories.{History, Begins};
 
 use crate::job::ScriptJob;
 use crate::output::JobOutput;
@@ -29,7 +30,7 @@ use tx_journal::{JournalId, Opened, Seat, Unnamed};
 use tx_sched::{Gate, run_sessions};
 use tx_store::Store;
 use tx_text::Broken;
-use tx_transfer::{Collector, Context, PlainReply, Refusals, Source, Total, read_total};
+use tx_transfer::{Collector, Context, PlainReply, Refusals, Source, read_total};
 use tx_types::Fault;
 
 // A store, and the seats for others than its regions.
@@ -149,6 +150,26 @@ fn memory(_fault: Fault) -> Broken {
     Broken::Memory
 }
 
+// Sums all balances, once all sessions are over. What the replies tell stays so.
+fn sum_up<J: JournalId, L: Source, F: Families + Drop, R: Wait + Drop>(
+    seat: Seat<J>,
+    context: &mut Context<J, F, R>,
+    replies: &Replies,
+) -> Result<(u128, Seat<J>), Broken>
+    requires told { TellsOutcomes seat.events replies.now }
+    requires tells { All (TellsLine L.text J.bounds seat.events) replies.now }
+    ensures told { IfOk result (λ r. TellsOutcomes r.1.events replies.now) }
+    ensures tells { IfOk result (λ r. All (TellsLine L.text J.bounds r.1.events) replies.now) }
+    ensures total { IfOk result (λ r. TellsTotal (seen_in J.bounds r.1.events) replies.now r.0) }
+    ensures knows { IfOk result (λ r. Begins seat.events r.1.events) }
+{
+    let _ = replies;
+    let (total, seat) = read_total(seat, context)?;
+    // For proofs: what it has seen is a run.
+    let _ = seat.number();
+    Ok((total, seat))
+}
+
 // What is to be played over so many regions.
 #[derive(Drop)]
 struct Lines<L: Source> {
@@ -170,7 +191,7 @@ pub struct RunResult {
     /// What stood in the way of its sessions' requests.
     pub refusals: Refusals,
     /// The sum of all balances at the end.
-    pub total: Total,
+    pub total: u128,
     /// What all sessions had seen.
     pub seen: Unnamed,
 }
@@ -293,6 +314,7 @@ where
         ComesOf (opening_of J.bounds ++ map (λ seed. seed.number) script.seeds.items)
         (numbers_in script.sessions.items) played.seen.events played.replies) }
     ensures faulted { IfOk result (λ played. played.faulted ≡ has_fault played.replies) }
+    ensures total { IfOk result (λ played. TellsTotal played.seen played.replies played.total) }
 {
     let Lines {
         regions,
@@ -315,8 +337,8 @@ where
     let collected = count_collected(outputs.as_slice());
     let refusals = count_refusals(outputs.as_slice());
     let faulted = gather(outputs, &mut seat, &mut replies)?;
+    let (total, mut seat) = sum_up::<J, L, F, R>(seat, &mut context, &replies)?;
     let told = seat.tell();
-    let (total, seat) = read_total(seat, &mut context)?;
     Ok(RunResult {
         replies,
         faulted,
@@ -358,6 +380,7 @@ where
         ComesOf (opening_of script.bounds.items ++ map (λ seed. seed.number) script.seeds.items)
         (numbers_in script.sessions.items) played.seen.events played.replies) }
     ensures faulted { IfOk result (λ played. played.faulted ≡ has_fault played.replies) }
+    ensures total { IfOk result (λ played. TellsTotal played.seen played.replies played.total) }
 {
     let Script {
         bounds,

@@ -4,6 +4,7 @@ ghost use Rattle.tx_run.specs.Faults.{IsFaultless};
 ghost use Rattle.tx_run.specs.Outcomes.{TellsOutcomes};
 ghost use Rattle.tx_run.specs.Pairs.{TellsPair};
 ghost use Rattle.tx_run.specs.Tells.{AllTell};
+ghost use Rattle.tx_run.specs.Totals.{TellsTotal};
 ghost use Rattle.tx_run.specs.Answers.{has_fault};
 ghost use Rattle.tx_run.specs.Jobs.{ComesOfText};
 ghost use Rattle.tx_run.specs.Texts.{IsRunText, IsTextFrom, Writes, WritesPart, end_of};
@@ -46,6 +47,7 @@ where
     ensures tells { IfOk result (λ r. IfSome r.1 (λ played. AllTell L.text played.seen played.replies)) }
     ensures comes { IfOk result (λ r. IfSome r.1 (λ played. ComesOfText L.text played.seen.events played.replies)) }
     ensures faulted { IfOk result (λ r. IfSome r.1 (λ played. played.faulted ≡ has_fault played.replies)) }
+    ensures total { IfOk result (λ r. IfSome r.1 (λ played. TellsTotal played.seen played.replies played.total)) }
     ensures wrote { IfOk result (λ r. Writes (W.contents writer.old) (W.contents writer.new) (IsRunText L.text r.1)) }
     ensures ends { IfOk result (λ r. r.0 ≡ end_of r.1) }
     ensures whole { IfOk result (λ r. IfSome r.1 (λ played. IsFaultless L.text)) }
@@ -80,7 +82,8 @@ where
 /// told was answered in what all sessions had seen, no two are of one transaction, and the
 /// transaction of a transfer that was committed or aborted declared changes of just the two keys
 /// that its line says. Each other reply tells of what all sessions had seen, or of what a line of
-/// the same name entered.
+/// the same name entered. The total is the sum of the balances that the one-step machine sees at one
+/// timestamp, at or above each commit that a line is told.
 pub fn run_script<F, M, G, R, B, W>(
     rt: &R,
     alloc: Global,
@@ -104,6 +107,7 @@ where
     ensures comes { IfOk result
         (λ r. IfSome r.1 (λ played. ComesOfText (B.remaining reader.old) played.seen.events played.replies)) }
     ensures faulted { IfOk result (λ r. IfSome r.1 (λ played. played.faulted ≡ has_fault played.replies)) }
+    ensures total { IfOk result (λ r. IfSome r.1 (λ played. TellsTotal played.seen played.replies played.total)) }
     ensures wrote { IfOk result
         (λ r. Writes (W.contents writer.old) (W.contents writer.new) (IsRunText (B.remaining reader.old) r.1)) }
     ensures ends { IfOk result (λ r. r.0 ≡ end_of r.1) }

@@ -15,7 +15,6 @@ use crate::reply::{LineReply, put_line};
 use std::alloc::{AllocError, Global};
 use std::io::Write;
 use tx_text::{Broken, finish, put_fault, send};
-use tx_transfer::Total;
 use tx_types::Cause;
 
 // Adds these answers, each with the number of its line.
@@ -73,7 +72,7 @@ fn write_sums<W: Write>(
     alloc: Global,
     writer: &mut W,
     counts: RunCounts,
-    total: Total,
+    total: u128,
 ) -> Result<(), Broken>
     ensures all { OnOk result
         (Appends (W.contents writer.old) (W.contents writer.new) (outcomes_text counts ++ total_text total)) }

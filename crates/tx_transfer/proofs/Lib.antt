@@ -2,7 +2,10 @@
 pub mod Calling
 pub mod Collecting
 pub mod Digits
+pub mod Paging
 pub mod Resolving
 pub mod Sending
+pub mod Starting
 pub mod Telling
+pub mod Totals
 pub mod Transferring

@@ -9,4 +9,5 @@ pub mod Seeds
 pub mod Sending
 pub mod Slots
 pub mod Sources
+pub mod Totals
 pub mod Transfers

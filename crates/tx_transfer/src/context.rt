@@ -1,5 +1,6 @@
 //! The context of a session: how it reaches the regions, and resolves what stands in its way.
 ghost use Rattle.std.specs.Prelude.{◌≡◌, ◌≤◌, true, IfOk, IfErr, OnErr};
+ghost use Rattle.tx_types.specs.Keys.{AreRising};
 ghost use Rattle.tx_types.specs.declared.fault.Fault.TheVariants as fault;
 ghost use Rattle.tx_core.specs.Histories.{last};
 ghost use Rattle.tx_core.specs.Laws.{WasToldOf};
@@ -61,6 +62,13 @@ impl<J: JournalId, F: Families + Drop, R: Wait + Drop> Context<J, F, R> {
         ensures { result ≡ self.now.refusals }
     {
         self.refusals
+    }
+
+    // For proofs: the keys between the regions rise. It does nothing when it runs.
+    pub(crate) fn know_rising(&self)
+        ensures { AreRising J.bounds }
+    {
+        let _ = self.store.bounds();
     }
 
     // Counts what a read was answered.

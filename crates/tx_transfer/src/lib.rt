@@ -24,5 +24,5 @@ pub use plain_reply::PlainReply;
 pub use refusals::Refusals;
 pub use seeds::seed;
 pub use source::Source;
-pub use total::{Total, read_total};
+pub use total::read_total;
 pub use transfer::{TransferProgress, TransferState, slots_of};

@@ -42,4 +42,4 @@ returns-in_err-write_all-clause-broken g c =
     c.in_ok-played.ensures.tells c.in_ok-played.ensures.bounds in
     on_any_err _ _ (from_played g.L.Source.text (g.W.Write.contents c.args.writer.now)
     (g.W.Write.contents c.write_all.new.writer) played.seen played.replies played.total c.show.ensures
-    c.in_ok-played.ensures.told c.in_ok-played.ensures.pairs tells c.in_err-write_all.ensures.part)
+    c.in_ok-played.ensures.told c.in_ok-played.ensures.pairs tells c.in_ok-played.ensures.total c.in_err-write_all.ensures.part)
