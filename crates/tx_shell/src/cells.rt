@@ -1,4 +1,6 @@
 //! Each command that plays a script, over the families that the command line names.
+use crate::asked::Invocation;
+use crate::terminal::Terminal;
 use std::alloc::Global;
 use std::io::{BufRead, Write};
 use std::sync::Wait;
@@ -21,6 +23,19 @@ pub(crate) fn simulate_over<B: BufRead, W: Write>(
     match cells {
         CellsKind::Flat => simulate::<FlatCells, _, _, _>(alloc, &Plain, reader, writer),
         CellsKind::Nested => simulate::<NestedCells, _, _, _>(alloc, &Plain, reader, writer),
+    }
+}
+
+/// `txkv simulate` at a terminal.
+pub(crate) fn converse_over<B: BufRead, W: Write>(
+    asked: &Invocation<'_>,
+    reader: &mut B,
+    writer: &mut W,
+) -> Result<End, Broken> {
+    let mut terminal = Terminal::new(asked, reader, writer);
+    match asked.job.cells {
+        CellsKind::Flat => terminal.converse::<FlatCells>(),
+        CellsKind::Nested => terminal.converse::<NestedCells>(),
     }
 }
 

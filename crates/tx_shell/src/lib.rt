@@ -7,9 +7,12 @@ mod answer;
 mod asked;
 mod cells;
 mod failing;
+mod generated;
 mod perform;
 mod program;
+mod questions;
 mod stats;
+mod terminal;
 mod watching;
 
 pub use program::txkv;
