@@ -46,6 +46,7 @@ A delivery is nothing, or "lose", "lose-reply", "repeat", or "hold",name
 Each reply is the number of the line and the step's words; docs/SCRIPT.md has all replies, refusals and causes.
 With --check, a script that ended without a fault is followed by the machine's steps of its run, in the form of txkv check.
 With --steps, those steps are all that is written, but for the line of a fault.
+Typed at a terminal, a fault is told and the next line read in its place; help and :keys answer questions.
 
 Examples:
   txkv simulate commit_then_read.script         One transaction and a reader

@@ -1,6 +1,4 @@
 //! Each command that plays a script, over the families that the command line names.
-use crate::asked::Invocation;
-use crate::terminal::Terminal;
 use std::alloc::Global;
 use std::io::{BufRead, Write};
 use std::sync::Wait;
@@ -12,6 +10,7 @@ use tx_nested::NestedCells;
 use tx_run::{Plain, RunResult, Settings, run_script};
 use tx_sched::Gate;
 use tx_script::{Broken, End, simulate, simulate_checked};
+use tx_terminal::converse;
 
 /// `txkv simulate`.
 pub(crate) fn simulate_over<B: BufRead, W: Write>(
@@ -28,14 +27,14 @@ pub(crate) fn simulate_over<B: BufRead, W: Write>(
 
 /// `txkv simulate` at a terminal.
 pub(crate) fn converse_over<B: BufRead, W: Write>(
-    asked: &Invocation<'_>,
+    host: HostRuntime,
+    cells: CellsKind,
     reader: &mut B,
     writer: &mut W,
 ) -> Result<End, Broken> {
-    let mut terminal = Terminal::new(asked, reader, writer);
-    match asked.job.cells {
-        CellsKind::Flat => terminal.converse::<FlatCells>(),
-        CellsKind::Nested => terminal.converse::<NestedCells>(),
+    match cells {
+        CellsKind::Flat => converse::<FlatCells, _, _>(host, reader, writer),
+        CellsKind::Nested => converse::<NestedCells, _, _>(host, reader, writer),
     }
 }
 

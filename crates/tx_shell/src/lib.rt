@@ -10,9 +10,7 @@ mod failing;
 mod generated;
 mod perform;
 mod program;
-mod questions;
 mod stats;
-mod terminal;
 mod watching;
 
 pub use program::txkv;

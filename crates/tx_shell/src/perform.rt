@@ -90,7 +90,9 @@ where
     let alloc = rt.alloc();
     let cells = asked.job.cells;
     match asked.job.task {
-        CommandTask::Simulate if asked.is_talk() => converse_over(asked, reader, writer),
+        CommandTask::Simulate if asked.is_talk() => {
+            converse_over(asked.host, cells, reader, writer)
+        },
         CommandTask::Simulate => simulate_over(alloc, cells, reader, writer),
         CommandTask::SimulateChecked => simulate_checked_over(alloc, cells, reader, writer),
         CommandTask::SimulateSteps => {

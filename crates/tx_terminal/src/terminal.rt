@@ -5,7 +5,6 @@ ghost use Rattle.tx_types.specs.declared.limits.TheConstants as limits;
 ghost use Rattle.tx_cells.specs.Contents.{nothing_held};
 ghost use Rattle.tx_script.specs.Players.{IsPlayer};
 
-use crate::asked::Invocation;
 use crate::questions::{answer_question, is_question};
 use std::io::{BufRead, Write};
 use std::marker::Brand;
@@ -18,38 +17,43 @@ use tx_text::{Found, finish, put_fault, read_line, send};
 use tx_types::Cause;
 use tx_types::limits::MAX_LIVE_SESSIONS;
 
-/// What is typed, and what is shown.
+// What was typed at last.
+#[derive(Clone, Copy, Debug, PartialEq, Eq)]
+enum Typed {
+    /// A line that is to be a step.
+    Step,
+    /// A line that is too long, of which what is left is not read.
+    Long,
+    End,
+}
+
+// What is typed, and what is shown.
 #[derive(Drop)]
-pub(crate) struct Terminal<'a, I, O> {
-    asked: &'a Invocation<'a>,
+struct Terminal<'a, I, O> {
+    host: HostRuntime,
     reader: &'a mut I,
     writer: &'a mut O,
-    /// The line that was typed last.
+    // The line that was typed last.
     line: Vec<u8>,
-    /// The lines that went well.
+    // The lines that went well.
     script: Vec<u8>,
 }
 
 impl<'a, I: BufRead, O: Write> Terminal<'a, I, O> {
-    /// Nothing was typed yet.
-    pub(crate) fn new(
-        asked: &'a Invocation<'a>,
-        reader: &'a mut I,
-        writer: &'a mut O,
-    ) -> Terminal<'a, I, O> {
-        let alloc = asked.host.alloc();
+    // Nothing was typed yet.
+    fn new(host: HostRuntime, reader: &'a mut I, writer: &'a mut O) -> Terminal<'a, I, O> {
         Terminal {
-            asked,
+            host,
             reader,
             writer,
-            line: Vec::new(alloc),
-            script: Vec::new(alloc),
+            line: Vec::new(host.alloc()),
+            script: Vec::new(host.alloc()),
         }
     }
 
     // Tells that the line that was typed is a fault.
     fn tell(&mut self, number: u64, cause: Cause) -> Result<(), Broken> {
-        let host = self.asked.host;
+        let host = self.host;
         let mut text = Vec::new(host.alloc());
         put_fault(&mut text, number, cause)?;
         send(self.writer, text.as_slice())?;
@@ -62,25 +66,24 @@ impl<'a, I: BufRead, O: Write> Terminal<'a, I, O> {
         Ok(())
     }
 
-    // Reads the next step that is typed, and answers what is asked before; whether there is one.
-    fn next_step(&mut self, number: u64) -> Result<bool, Broken> {
+    // Reads the next step that is typed, and answers what is asked before.
+    fn next_step<F: Fresh>(&mut self, number: u64) -> Result<Typed, Broken> {
         'typed: for _ in 0..u64::MAX {
             match read_line(self.reader, &mut self.line)? {
-                Found::End => return Ok(false),
+                Found::End => return Ok(Typed::End),
                 Found::Long => {
-                    // What is left of a line that is too long is not read.
                     self.tell(number, Cause::Long)?;
-                    return Ok(false);
+                    return Ok(Typed::Long);
                 }
                 Found::Line if self.line.is_empty() => {}
                 Found::Line if is_question(self.line.as_slice()) => {
                     let (line, script) = (self.line.as_slice(), self.script.as_slice());
-                    answer_question(self.asked, line, script, self.writer)?;
+                    answer_question::<F, _>(self.host.alloc(), line, script, self.writer)?;
                 }
-                Found::Line => return Ok(true),
+                Found::Line => return Ok(Typed::Step),
             }
         }
-        Ok(false)
+        Ok(Typed::End)
     }
 
     // Tries the line that was typed: whether it went well. Its reply is written, or why it is a
@@ -92,7 +95,7 @@ impl<'a, I: BufRead, O: Write> Terminal<'a, I, O> {
         requires { IsPlayer J.bounds player.old }
         ensures { IsPlayer J.bounds player.new }
     {
-        let alloc = self.asked.host.alloc();
+        let alloc = self.host.alloc();
         match player.play(alloc, self.line.as_slice())? {
             Err(cause) => {
                 self.tell(player.number().saturating_add(1), cause)?;
@@ -109,37 +112,39 @@ impl<'a, I: BufRead, O: Write> Terminal<'a, I, O> {
         }
     }
 
-    // Plays what is typed over a journal that was opened, the first line of which was typed: whether
-    // that one went well, and so all was played.
-    fn play<J: JournalId, F: Families + Drop>(
+    // Plays what is typed over a journal that was opened, the first line of which was typed: what
+    // ended it, or None where that first line is a fault.
+    fn play<J: JournalId, F: Fresh>(
         &mut self,
         opened: Opened,
         families: Vec<F>,
-    ) -> Result<bool, Broken>
+    ) -> Result<Option<Typed>, Broken>
         requires named { (opened.table ≡ J.table) × (opened.bounds ≡ J.bounds) × (opened.seats ≡ J.seats) }
         requires few { vec_len families ≡ length opened.bounds + 1 }
         requires seats { opened.seats ≡ length opened.bounds + 2 + limits.MAX_LIVE_SESSIONS }
         requires empty { All (λ f. F.content f ≡ (λ k. nothing_held)) families.items }
     {
-        let alloc = self.asked.host.alloc();
+        let alloc = self.host.alloc();
         let mut player = Player::<J, F>::new(alloc, opened, families)?;
         if !self.try_step(&mut player)? {
-            return Ok(false);
+            return Ok(None);
         }
+        let mut typed = Typed::Step;
         'steps: for _ in 0..u64::MAX {
-            if !self.next_step(player.number().saturating_add(1))? {
+            typed = self.next_step::<F>(player.number().saturating_add(1))?;
+            if typed != Typed::Step {
                 break;
             }
             self.try_step(&mut player)?;
         }
         player.end();
-        Ok(true)
+        Ok(Some(typed))
     }
 
-    // Plays what is typed from the line on that was typed, which may say the regions: whether it
-    // went well, and so all was played.
-    fn begin<F: Fresh>(&mut self) -> Result<bool, Broken> {
-        let alloc = self.asked.host.alloc();
+    // Plays what is typed from the line on that was typed, which may say the regions: what ended it,
+    // or None where that line is a fault.
+    fn begin<F: Fresh>(&mut self) -> Result<Option<Typed>, Broken> {
+        let alloc = self.host.alloc();
         let bounds = bounds_in(alloc, self.line.as_slice())?;
         let Ok(families) = make_families::<F, _>(alloc, &Plain, bounds.len() + 1) else {
             return Err(Broken::Memory);
@@ -150,14 +155,39 @@ impl<'a, I: BufRead, O: Write> Terminal<'a, I, O> {
         self.play::<Brand, F>(opened, families)
     }
 
-    /// Plays what is typed, to the end of the input.
-    pub(crate) fn converse<F: Fresh>(&mut self) -> Result<End, Broken> {
+    // Reads lines until one of them is a first step that is no fault, and plays what is typed from
+    // it on: what ended it.
+    fn converse<F: Fresh>(&mut self) -> Result<Typed, Broken> {
         'firsts: for _ in 0..u64::MAX {
-            if !self.next_step(1)? || self.begin::<F>()? {
-                break;
+            let typed = self.next_step::<F>(1)?;
+            if typed != Typed::Step {
+                return Ok(typed);
+            }
+            if let Some(typed) = self.begin::<F>()? {
+                return Ok(typed);
             }
         }
-        finish(self.writer)?;
-        Ok(End::Well)
+        Ok(Typed::End)
+    }
+}
+
+/// Plays the script that is typed, to the end of the input, over families of this kind: each line is
+/// replied to as `simulate` does. One that is a fault is told, on standard error why, and the next
+/// one is read in its place, with its number; it leaves all as it was. Empty lines are passed over.
+/// `help`, `help WORD`, `:keys`, `:sessions`, `:steps` and `:script` are answered between two lines.
+///
+/// Well where the input ended, whatever was a fault; `Faulted` after a line that is too long, of
+/// which what is left is not read. `Input` where a read failed, `Output` where a write or the flush
+/// failed, `Memory` where a growth was refused outside of a step's own calls.
+pub fn converse<F: Fresh, I: BufRead, O: Write>(
+    host: HostRuntime,
+    reader: &mut I,
+    writer: &mut O,
+) -> Result<End, Broken> {
+    let typed = Terminal::new(host, reader, writer).converse::<F>()?;
+    finish(writer)?;
+    match typed {
+        Typed::Long => Ok(End::Faulted),
+        Typed::Step | Typed::End => Ok(End::Well),
     }
 }

@@ -1,12 +1,11 @@
 //! What is asked at a terminal between two lines of a script.
-use crate::asked::Invocation;
-use crate::cells::{simulate_checked_over, simulate_over};
 use memchr::memchr;
 use std::alloc::{AllocError, Global};
 use std::io::Write;
+use tx_cells::Fresh;
 use tx_command::{REFUSALS, SIMULATE_HELP, Steps};
 use tx_played::{keys_of, lines_of};
-use tx_script::Broken;
+use tx_script::{Broken, Plain, simulate, simulate_checked};
 use tx_steps::{Line, Op, Program, Step};
 use tx_text::{Parts, finish, put_string, send};
 use tx_types::Key;
@@ -63,8 +62,7 @@ fn put_keys(out: &mut Vec<u8>, keys: &[Key], replies: &[&[u8]]) -> Result<(), Al
 }
 
 // What stands on each key that the lines name.
-fn keys(asked: &Invocation<'_>, script: &[u8]) -> Result<Vec<u8>, Broken> {
-    let alloc = asked.host.alloc();
+fn keys<F: Fresh>(alloc: Global, script: &[u8]) -> Result<Vec<u8>, Broken> {
     let lines = lines_of(alloc, script)?;
     let keys = keys_of(alloc, lines.as_slice())?;
     let mut shown = script.to_vec(alloc)?;
@@ -74,7 +72,7 @@ fn keys(asked: &Invocation<'_>, script: &[u8]) -> Result<Vec<u8>, Broken> {
         shown.extend_from_slice(b"]\n")?;
     }
     let mut replies = Vec::new(alloc);
-    simulate_over(alloc, asked.job.cells, &mut shown.as_slice(), &mut replies)?;
+    simulate::<F, _, _, _>(alloc, &Plain, &mut shown.as_slice(), &mut replies)?;
     let replies = lines_of(alloc, replies.as_slice())?;
     let mut out = Vec::new(alloc);
     put_keys(
@@ -86,10 +84,10 @@ fn keys(asked: &Invocation<'_>, script: &[u8]) -> Result<Vec<u8>, Broken> {
 }
 
 // The machine's steps so far.
-fn steps(asked: &Invocation<'_>, script: &[u8]) -> Result<Vec<u8>, Broken> {
-    let mut out = Vec::new(asked.host.alloc());
-    let (alloc, cells) = (asked.host.alloc(), asked.job.cells);
-    simulate_checked_over(alloc, cells, &mut &*script, &mut Steps::new(&mut out))?;
+fn steps<F: Fresh>(alloc: Global, script: &[u8]) -> Result<Vec<u8>, Broken> {
+    let mut out = Vec::new(alloc);
+    let mut steps = Steps::new(&mut out);
+    simulate_checked::<F, _, _, _>(alloc, &Plain, &mut &*script, &mut steps)?;
     Ok(out)
 }
 
@@ -155,12 +153,11 @@ fn live_after(alloc: Global, lines: &[&[u8]]) -> Result<Vec<LiveSession>, Broken
 }
 
 // The live sessions: the last line of each, and its reply.
-fn sessions(asked: &Invocation<'_>, script: &[u8]) -> Result<Vec<u8>, Broken> {
-    let alloc = asked.host.alloc();
+fn sessions<F: Fresh>(alloc: Global, script: &[u8]) -> Result<Vec<u8>, Broken> {
     let lines = lines_of(alloc, script)?;
     let live = live_after(alloc, lines.as_slice())?;
     let mut replies = Vec::new(alloc);
-    simulate_over(alloc, asked.job.cells, &mut &*script, &mut replies)?;
+    simulate::<F, _, _, _>(alloc, &Plain, &mut &*script, &mut replies)?;
     let replies = lines_of(alloc, replies.as_slice())?;
     let mut out = Vec::new(alloc);
     'sessions: for session in &live {
@@ -187,18 +184,17 @@ fn help(alloc: Global, line: &str) -> Result<Vec<u8>, Broken> {
 }
 
 /// Answers what is asked after these lines.
-pub(crate) fn answer_question<O: Write>(
-    asked: &Invocation<'_>,
+pub(crate) fn answer_question<F: Fresh, O: Write>(
+    alloc: Global,
     line: &[u8],
     script: &[u8],
     writer: &mut O,
 ) -> Result<(), Broken> {
-    let alloc = asked.host.alloc();
     let line = str::from_utf8(line).unwrap_or_default();
     let text = match line.trim() {
-        ":keys" => keys(asked, script)?,
-        ":sessions" => sessions(asked, script)?,
-        ":steps" => steps(asked, script)?,
+        ":keys" => keys::<F>(alloc, script)?,
+        ":sessions" => sessions::<F>(alloc, script)?,
+        ":steps" => steps::<F>(alloc, script)?,
         ":script" => script.to_vec(alloc)?,
         other => help(alloc, other)?,
     };
