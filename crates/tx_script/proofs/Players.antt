@@ -110,6 +110,34 @@ module _ (bounds : List Key) where
         (λ le. subst (λ n. SoFar bounds lines done n old.engine) (sym number) (has.so_far le));
   }
 
+  -- it is a player still
+  module _ (line : List ℕ) (old new : PlayerState) (tried : old.left ≡ suc new.left) where
+    pub plays_on : (reply : ScriptReply) → new.number ≡ old.number + 1 → old.number + 1 ≤ MAX_LINES
+        → Goes bounds old.engine new.engine (TurnedBy bounds (λ refused. line_turn bounds refused (old.number + 1) line)
+        (Ok reply) old.engine new.engine) → IsPlayer bounds old → IsPlayer bounds new
+    plays_on reply number some goes (lines, done, has) = (
+      lines ++ line ∷ [],
+      done ++ (new.number, reply_words reply) ∷ [],
+      goes_on line old new tried lines done has reply number some goes,
+    )
+
+    pub stays_on : (why : Cause) → new.number ≡ old.number
+        → Goes bounds old.engine new.engine (TurnedBy bounds (λ refused. line_turn bounds refused (old.number + 1) line)
+        (Err why) old.engine new.engine) → IsPlayer bounds old → IsPlayer bounds new
+    stays_on why number goes (lines, done, has) = (
+      lines,
+      done,
+      stays line old new tried lines done has why number goes,
+    )
+
+  pub rests_on : (old new : PlayerState) → new.engine ≡ old.engine → new.number ≡ old.number → new.left ≤ old.left
+      → IsPlayer bounds old → IsPlayer bounds new
+  rests_on old new engine number less (lines, done, has) = (
+    lines,
+    done,
+    rests old new engine number less lines done has,
+  )
+
   -- what it has played ends well
   pub ends : (p : PlayerState) → length p.engine.network.newest ≤ own p.engine
       → IsWorldRun bounds p.engine.network.newest → (lines : List (List ℕ)) (done : List (ℕ × Items))
