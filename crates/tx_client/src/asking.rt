@@ -2,7 +2,7 @@
 ghost use Rattle.std.specs.Prelude.{◌≡◌};
 ghost use Rattle.tx_core.specs.Allowed.{Allowed};
 ghost use Rattle.tx_transaction.specs.Sessions.{lock_met};
-ghost use Rattle.tx_journal.specs.Senders.{IsHeld, IsWay};
+ghost use Rattle.tx_journal.specs.Senders.{IsHeld, IsSender};
 ghost use Rattle.tx_client.specs.Learns.{Learns, response_by, response_of};
 ghost use Rattle.tx_client.specs.Facts.{RespondsSo};
 ghost use Rattle.tx_client.specs.Calls.{Asks};
@@ -65,7 +65,7 @@ pub(crate) fn ask_with_lock<J: JournalId, S: Sender<Request<J>, Reply<J>>>(
     body: Body,
     sender: &mut S,
 ) -> Answering
-    requires way { IsWay J.bounds S.fits S.sends S.keys_between }
+    requires way { IsSender J.bounds S.fits S.sends S.keys_between }
     requires held { IsHeld J.bounds body }
     requires allowed { Allowed seat.old.events body }
     ensures asked { Asks S.sends J.bounds seat.old body sender.old sender.new result.response seat.new }
@@ -82,7 +82,7 @@ pub fn ask<J: JournalId, S: Sender<Request<J>, Reply<J>>>(
     body: Body,
     sender: &mut S,
 ) -> Response
-    requires way { IsWay J.bounds S.fits S.sends S.keys_between }
+    requires way { IsSender J.bounds S.fits S.sends S.keys_between }
     requires held { IsHeld J.bounds body }
     requires allowed { Allowed seat.old.events body }
     ensures asked { Asks S.sends J.bounds seat.old body sender.old sender.new result seat.new }

@@ -10,7 +10,7 @@ ghost use Rattle.tx_transaction.specs.declared.state.Phase.TheVariants as phase;
 ghost use Rattle.tx_transaction.specs.Buffers.{touched, put_over, inserted, locked, buffered, not_empty, is_full, is_known};
 ghost use Rattle.tx_transaction.specs.Sessions.{begun, is_declared, has_primary, declaration, declaration_of, exceeds, lock_met, due_prewrite, due_commit, due_abort, can_draw, can_commit, can_abort};
 ghost use Rattle.tx_transaction.specs.Next.{due};
-ghost use Rattle.tx_journal.specs.Senders.{IsHeld, IsWay};
+ghost use Rattle.tx_journal.specs.Senders.{IsHeld, IsSender};
 ghost use Rattle.tx_client.specs.Walks.{Sends, due_walk, heartbeat_walk};
 ghost use Rattle.tx_client.specs.Facts.{RespondsSo, IsFor};
 ghost use Rattle.tx_client.specs.Calls.{seated, HasHeard, BeganAt, Records, Draws, RecordsDeclared, Asks};
@@ -348,7 +348,7 @@ impl<J: JournalId> Session<J> {
         body: Body,
         sender: &mut S,
     ) -> Answering
-        requires way { IsWay J.bounds S.fits S.sends S.keys_between }
+        requires way { IsSender J.bounds S.fits S.sends S.keys_between }
         requires held { IsHeld J.bounds body }
         requires allowed { Allowed self.old.seat.events body }
         ensures state { self.new.state ≡ self.old.state }
@@ -366,7 +366,7 @@ impl<J: JournalId> Session<J> {
         due: Due,
         sender: &mut S,
     ) -> Result<Option<Answer>, Miss>
-        requires way { IsWay J.bounds S.fits S.sends S.keys_between }
+        requires way { IsSender J.bounds S.fits S.sends S.keys_between }
         requires within { due.index < length self.old.state.buffer }
         requires allowed { Allowed self.old.seat.events due.body }
         requires right { IsFor self.old.state phase due }
@@ -385,7 +385,7 @@ impl<J: JournalId> Session<J> {
         phase: Phase,
         sender: &mut S,
     ) -> Result<Option<Answer>, Miss>
-        requires way { IsWay J.bounds S.fits S.sends S.keys_between }
+        requires way { IsSender J.bounds S.fits S.sends S.keys_between }
         ensures { Sends S.sends J.bounds self.old.seat sender.old
             (due_walk self.old.state phase (due self.old.state phase)) (self.new.state, result)
             sender.new self.new.seat }
@@ -405,7 +405,7 @@ impl<J: JournalId> Session<J> {
         alloc: Global,
         sender: &mut S,
     ) -> Result<Option<Answer>, Miss>
-        requires way { IsWay J.bounds S.fits S.sends S.keys_between }
+        requires way { IsSender J.bounds S.fits S.sends S.keys_between }
         requires can { is_declared self.old.state ≡ true }
         ensures { Sends S.sends J.bounds self.old.seat sender.old
             (due_walk self.old.state phase.Prewrite (due_prewrite self.old.state)) (
@@ -437,7 +437,7 @@ impl<J: JournalId> Session<J> {
         &mut self,
         sender: &mut S,
     ) -> Result<Option<Answer>, Miss>
-        requires way { IsWay J.bounds S.fits S.sends S.keys_between }
+        requires way { IsSender J.bounds S.fits S.sends S.keys_between }
         requires can { can_commit self.old.state ≡ true }
         ensures { Sends S.sends J.bounds self.old.seat sender.old
             (due_walk self.old.state phase.Commit (due_commit self.old.state)) (
@@ -456,7 +456,7 @@ impl<J: JournalId> Session<J> {
         &mut self,
         sender: &mut S,
     ) -> Result<Option<Answer>, Miss>
-        requires way { IsWay J.bounds S.fits S.sends S.keys_between }
+        requires way { IsSender J.bounds S.fits S.sends S.keys_between }
         requires can { can_abort self.old.state ≡ true }
         ensures { Sends S.sends J.bounds self.old.seat sender.old
             (due_walk self.old.state phase.Abort (due_abort self.old.state)) (
@@ -475,7 +475,7 @@ impl<J: JournalId> Session<J> {
         ttl: u32,
         sender: &mut S,
     ) -> Result<Option<Answer>, Miss>
-        requires way { IsWay J.bounds S.fits S.sends S.keys_between }
+        requires way { IsSender J.bounds S.fits S.sends S.keys_between }
         requires can { has_primary self.old.state ≡ true }
         ensures { Sends S.sends J.bounds self.old.seat sender.old (heartbeat_walk self.old.state ttl) (
           self.new.state,

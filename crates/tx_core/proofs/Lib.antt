@@ -14,5 +14,7 @@ pub mod locks
 pub mod seats
 -- A region has one answer to each request.
 pub mod unique
+-- How a region goes on: until its next collection no state of a key comes back.
+pub mod going_on
 -- Runs that exist, with what is decided in them and the machine's steps that are read off.
 mod examples

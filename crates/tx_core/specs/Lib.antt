@@ -9,3 +9,5 @@ pub mod Recording
 pub mod Laws
 pub mod ReadMarks
 pub mod Happens
+pub mod Later
+pub mod Noting

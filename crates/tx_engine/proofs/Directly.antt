@@ -3,7 +3,7 @@ use Rattle.std.proofs.Common.{◌≡◌, inl, inr, List, Some, Ok, Err, refl, ap
 use Rattle.tx_types.specs.declared.key.Key.{Key}
 use Rattle.tx_journal.specs.Known.{Known}
 use Rattle.tx_journal.specs.Replies.{Asked}
-use Rattle.tx_journal.specs.Senders.{Reached, IsHeld, IsWay, LosesNothing}
+use Rattle.tx_journal.specs.Senders.{Reached, IsHeld, IsSender, LosesNothing}
 use Rattle.tx_client.specs.Learns.{response_by, response_of}
 use Rattle.tx_client.specs.Walks.{Walk, asks, grows, ends, Sends}
 use Rattle.tx_steps.specs.declared.delivery.Delivery.TheVariants as deliveries
@@ -16,7 +16,7 @@ module _ {S : Type 0} (network : S → NetworkParts) (bounds : List Key) where
   abbrev pub Direct : S → Asked → Reached → S → Type 0
   Direct a q r b = Passes bounds (Some deliveries.Taken) (network a) q r (network b)
 
-  pub is_direct : IsWay bounds (λ (a : S) (q : Asked). IsHeld bounds q.body) Direct (λ a. bounds)
+  pub is_direct : IsSender bounds (λ (a : S) (q : Asked). IsHeld bounds q.body) Direct (λ a. bounds)
   is_direct = record { takes = λ a q held. held; answers = λ a b q g p. p.request; between = λ a. refl }
 
   pub loses_nothing : LosesNothing Direct

@@ -11,11 +11,11 @@ ghost use Rattle.tx_spelling.specs.Spelt.{version_cmp};
 use crate::FlatCells;
 use std::alloc::Global;
 use std::collections::BTreeMap;
-use tx_encoded::{
+use tx_plan::{KeyChange, Left};
+use tx_records::{
     WriteBytes, commit_record, lock_with_min, lock_with_ttl, marked_record, rollback_record,
 };
-use tx_plan::{KeyChange, Left};
-use tx_spelling::{SpeltKey, VersionBytes};
+use tx_spelling::{EncodedKey, VersionBytes};
 use tx_types::{Fault, Ts};
 
 /// Leaves the rollback of the transaction that started then. `OutOfMemory` leaves the records as
@@ -23,7 +23,7 @@ use tx_types::{Fault, Ts};
 fn leave(
     writes: &mut BTreeMap<VersionBytes, WriteBytes>,
     alloc: Global,
-    key: &SpeltKey<'_>,
+    key: &EncodedKey<'_>,
     start: Ts,
     left: Left,
 ) -> Result<(), Fault>
@@ -60,7 +60,7 @@ impl FlatCells {
     ghost use Rattle.tx_flat.specs.Flats.{flat_content};
 
     // Gives the lock another time to live.
-    fn set_ttl(&mut self, alloc: Global, key: &SpeltKey<'_>, ttl: u32) -> Result<(), Fault>
+    fn set_ttl(&mut self, alloc: Global, key: &EncodedKey<'_>, ttl: u32) -> Result<(), Fault>
         requires { Applies (cells_of (flat_content self.old key.now)) (change.Ttl ttl) }
         ensures content { OnOk result (OnlyOn key.now (after (flat_content self.old key.now) (change.Ttl ttl))
             (flat_content self.old) (flat_content self.new)) }
@@ -78,7 +78,7 @@ impl FlatCells {
     }
 
     // Gives the lock another minimum.
-    fn set_minimum(&mut self, alloc: Global, key: &SpeltKey<'_>, min: Ts) -> Result<(), Fault>
+    fn set_minimum(&mut self, alloc: Global, key: &EncodedKey<'_>, min: Ts) -> Result<(), Fault>
         requires { Applies (cells_of (flat_content self.old key.now)) (change.Minimum min) }
         ensures content { OnOk result (OnlyOn key.now (after (flat_content self.old key.now) (change.Minimum min))
             (flat_content self.old) (flat_content self.new)) }
@@ -99,7 +99,7 @@ impl FlatCells {
     fn commit(
         &mut self,
         alloc: Global,
-        key: &SpeltKey<'_>,
+        key: &EncodedKey<'_>,
         commit: Ts,
         overlapped_rollback: bool,
     ) -> Result<(), Fault>
@@ -129,7 +129,7 @@ impl FlatCells {
     fn roll_back(
         &mut self,
         alloc: Global,
-        key: &SpeltKey<'_>,
+        key: &EncodedKey<'_>,
         start: Ts,
         removes_lock: bool,
         left: Left,
@@ -160,7 +160,7 @@ impl FlatCells {
     pub(crate) fn apply_unnoted(
         &mut self,
         alloc: Global,
-        key: &SpeltKey<'_>,
+        key: &EncodedKey<'_>,
         change: KeyChange,
     ) -> Result<(), Fault>
         requires { Applies (cells_of (flat_content self.old key.now)) change }

@@ -4,14 +4,14 @@ ghost use Rattle.tx_flat.specs.Ceilings.{slot_of, ceiling_of};
 ghost use Rattle.tx_flat.specs.declared.ceilings.TheConstants.{SLOTS};
 
 use std::marker::Model;
-use tx_spelling::SpeltKey;
+use tx_spelling::EncodedKey;
 use tx_types::Ts;
 
 /// How many timestamps are kept: keys share one where their last two bytes lead to one slot.
 pub(crate) const SLOTS: usize = 64;
 
 /// The slot of a key, by its last two bytes, in which numbered keys differ.
-pub(crate) fn slot(key: &SpeltKey<'_>) -> usize
+pub(crate) fn slot(key: &EncodedKey<'_>) -> usize
     ensures slot { result ≡ slot_of key.now }
     ensures within { result < SLOTS }
 {
@@ -41,14 +41,14 @@ impl Ceilings {
     }
 
     /// The ceiling of a key.
-    pub fn of(&self, key: &SpeltKey<'_>) -> Ts
+    pub fn of(&self, key: &EncodedKey<'_>) -> Ts
         ensures { result ≡ ceiling_of self.now key.now }
     {
         self.marks[slot(key)]
     }
 
     /// A record of this key is put at a timestamp.
-    pub fn raise(&mut self, key: &SpeltKey<'_>, at: Ts)
+    pub fn raise(&mut self, key: &EncodedKey<'_>, at: Ts)
         ensures kept { (k : List ℕ) → ceiling_of self.old k ≤ ceiling_of self.new k }
         ensures above { at ≤ ceiling_of self.new key.now }
     {

@@ -6,7 +6,7 @@ use crate::numbers::{note, note_back};
 use std::alloc::Global;
 use tx_cells::Changes;
 use tx_plan::{KeyChange, NewLock, Prewrite};
-use tx_spelling::SpeltKey;
+use tx_spelling::EncodedKey;
 use tx_types::{Fault, Ts};
 
 impl Changes for FlatCells {
@@ -18,7 +18,7 @@ impl Changes for FlatCells {
     fn put_lock(
         &mut self,
         alloc: Global,
-        key: &SpeltKey<'_>,
+        key: &EncodedKey<'_>,
         body: &Prewrite,
         new: NewLock,
         number: u64,
@@ -36,7 +36,7 @@ impl Changes for FlatCells {
     fn apply(
         &mut self,
         alloc: Global,
-        key: &SpeltKey<'_>,
+        key: &EncodedKey<'_>,
         change: KeyChange,
         number: u64,
     ) -> Result<(), Fault> {

@@ -11,7 +11,7 @@ ghost use Rattle.tx_spelling.specs.Spelt.{version_cmp};
 
 use crate::sieve::Sieve;
 use std::collections::BTreeMap;
-use tx_encoded::{WriteBytes, kind_of};
+use tx_records::{WriteBytes, kind_of};
 use tx_spelling::VersionBytes;
 use tx_types::{Ts, Value};
 

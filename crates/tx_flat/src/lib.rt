@@ -13,7 +13,7 @@ use ceilings::Ceilings;
 use numbers::KeyNumbers;
 use std::alloc::Global;
 use std::collections::BTreeMap;
-use tx_encoded::{LockBytes, WriteBytes};
+use tx_records::{LockBytes, WriteBytes};
 use tx_spelling::{KeyBytes, VersionBytes};
 use tx_types::Value;
 

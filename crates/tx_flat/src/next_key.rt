@@ -11,7 +11,7 @@ use std::alloc::{AllocError, Global};
 use std::collections::BTreeMap;
 use std::collections::btree_map::Range;
 use std::ops::Bound;
-use tx_encoded::WriteBytes;
+use tx_records::WriteBytes;
 use tx_spelling::VersionBytes;
 use tx_types::{Key, Ts};
 

@@ -11,7 +11,7 @@ ghost use Rattle.tx_flat.specs.declared.ceilings.TheConstants.{SLOTS};
 use crate::ceilings::{SLOTS, slot};
 use std::alloc::Global;
 use std::collections::BTreeMap;
-use tx_spelling::{KeyBytes, SpeltKey};
+use tx_spelling::{EncodedKey, KeyBytes};
 use tx_types::Fault;
 
 /// The numbers of keys. Keys share a map by the slots of their ceilings, so that each map is
@@ -62,7 +62,7 @@ fn note_first(
     numbers: &mut BTreeMap<KeyBytes, u64>,
     alloc: Global,
     slot: usize,
-    key: &SpeltKey<'_>,
+    key: &EncodedKey<'_>,
     number: u64,
 ) -> Result<Earlier, Fault>
     ensures noted { OnOk result ((k : Key) → numbers_in numbers.new k
@@ -86,7 +86,7 @@ fn note_in(
     numbers: &mut BTreeMap<KeyBytes, u64>,
     alloc: Global,
     slot: usize,
-    key: &SpeltKey<'_>,
+    key: &EncodedKey<'_>,
     number: u64,
 ) -> Result<Earlier, Fault>
     ensures noted { OnOk result ((k : Key) → numbers_in numbers.new k
@@ -107,7 +107,7 @@ fn note_in(
 pub(crate) fn note(
     numbers: &mut KeyNumbers,
     alloc: Global,
-    key: &SpeltKey<'_>,
+    key: &EncodedKey<'_>,
     number: u64,
 ) -> Result<Earlier, Fault>
     ensures noted { OnOk result ((k : Key) → numbers_among numbers.new.items k
@@ -133,7 +133,7 @@ fn note_back_in(numbers: &mut BTreeMap<KeyBytes, u64>, key: &KeyBytes, before: u
 }
 
 /// Notes the number before it, where a number was noted.
-pub(crate) fn note_back(numbers: &mut KeyNumbers, key: &SpeltKey<'_>, earlier: Earlier)
+pub(crate) fn note_back(numbers: &mut KeyNumbers, key: &EncodedKey<'_>, earlier: Earlier)
     requires { IsNoted numbers.old.items earlier.slot key.now }
     ensures { (k : Key) → numbers_among numbers.new.items k
         ≡ noted (numbers_among numbers.old.items) key.now earlier.before k }

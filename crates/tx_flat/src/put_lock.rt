@@ -6,9 +6,9 @@ ghost use Rattle.tx_cells.specs.Afterwards.{OnlyOn, put_on};
 
 use crate::FlatCells;
 use std::alloc::Global;
-use tx_encoded::{apart, lock_bytes};
 use tx_plan::{NewLock, Prewrite};
-use tx_spelling::SpeltKey;
+use tx_records::{apart, lock_bytes};
+use tx_spelling::EncodedKey;
 use tx_types::Fault;
 
 impl FlatCells {
@@ -19,7 +19,7 @@ impl FlatCells {
     pub(crate) fn put_unnoted(
         &mut self,
         alloc: Global,
-        key: &SpeltKey<'_>,
+        key: &EncodedKey<'_>,
         body: &Prewrite,
         new: NewLock,
     ) -> Result<(), Fault>

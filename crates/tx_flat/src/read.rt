@@ -8,8 +8,8 @@ use crate::FlatCells;
 use crate::searches::{FlatHistory, newest_seen};
 use std::alloc::Global;
 use tx_cells::{SeenRecord, seen_at};
-use tx_encoded::{WriteBytes, seen_in};
-use tx_spelling::{KeyBytes, SpeltKey, VersionBytes};
+use tx_records::{WriteBytes, seen_in};
+use tx_spelling::{EncodedKey, KeyBytes, VersionBytes};
 use tx_types::{Fault, Ts, Value};
 
 impl FlatCells {
@@ -127,7 +127,7 @@ impl FlatCells {
     pub(crate) fn value_seen(
         &self,
         alloc: Global,
-        key: &SpeltKey<'_>,
+        key: &EncodedKey<'_>,
         mut version: VersionBytes,
         at: Ts,
     ) -> Result<Option<Value>, Fault>

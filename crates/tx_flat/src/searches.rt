@@ -10,8 +10,8 @@ ghost use Rattle.tx_cells.specs.Histories.{IsSeen, AreFitting};
 
 use std::collections::BTreeMap;
 use tx_cells::{History, SeenRecord};
-use tx_encoded::{LockBytes, WriteBytes, head_of, lock_head_of, seen_in};
 use tx_plan::{LockHead, RecordHead};
+use tx_records::{LockBytes, WriteBytes, head_of, lock_head_of, seen_in};
 use tx_spelling::{KeyBytes, VersionBytes};
 use tx_types::Ts;
 

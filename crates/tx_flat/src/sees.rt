@@ -9,7 +9,7 @@ use tx_cells::{KeyVersions, Sees, records_down, sum};
 use tx_plan::{
     Answer, Dropped, Infos, ReadView, Scan, TxnView, first_below, infos_below, scan_walk,
 };
-use tx_spelling::SpeltKey;
+use tx_spelling::EncodedKey;
 use tx_types::{Fault, LockInfo, Ts};
 
 impl Sees for FlatCells {
@@ -17,7 +17,7 @@ impl Sees for FlatCells {
     fn view(
         &self,
         alloc: Global,
-        key: &SpeltKey<'_>,
+        key: &EncodedKey<'_>,
         start: Ts,
         commit: Ts,
     ) -> Result<TxnView, Fault> {
@@ -36,14 +36,14 @@ impl Sees for FlatCells {
         Ok(self.view_by(version, lock, start, commit))
     }
 
-    fn read(&self, alloc: Global, key: &SpeltKey<'_>, at: Ts) -> Result<ReadView, Fault> {
+    fn read(&self, alloc: Global, key: &EncodedKey<'_>, at: Ts) -> Result<ReadView, Fault> {
         let lock = head_on(&self.locks, key.bytes());
         let version = key.version(alloc, at)?;
         let value = self.value_seen(alloc, key, version, at)?;
         Ok(ReadView { lock, value })
     }
 
-    fn lock_info(&self, alloc: Global, key: &SpeltKey<'_>) -> Result<Option<LockInfo>, Fault> {
+    fn lock_info(&self, alloc: Global, key: &EncodedKey<'_>) -> Result<Option<LockInfo>, Fault> {
         match self.locks.get(key.bytes()) {
             Some(bytes) => Ok(Some(bytes.read(alloc)?.info(alloc, key.key())?)),
             None => Ok(None),
@@ -81,7 +81,7 @@ impl Sees for FlatCells {
         Ok(Dropped { records, values })
     }
 
-    fn cells(&self, alloc: Global, key: &SpeltKey<'_>) -> Result<KeyVersions, Fault> {
+    fn cells(&self, alloc: Global, key: &EncodedKey<'_>) -> Result<KeyVersions, Fault> {
         let version = key.version(alloc, Ts::ZERO)?;
         let lock = head_on(&self.locks, version.spelt());
         start_fits(&lock);
@@ -98,7 +98,7 @@ impl Sees for FlatCells {
         })
     }
 
-    fn number(&self, key: &SpeltKey<'_>) -> u64 {
+    fn number(&self, key: &EncodedKey<'_>) -> u64 {
         let slot = slot(key);
         if self.numbers.len() <= slot {
             return 0;

@@ -6,7 +6,7 @@ ghost use Rattle.tx_cells.specs.Heads.{record_kind};
 ghost use Rattle.tx_flat.specs.Sieves.{is_followed, is_kept};
 
 use crate::front::Front;
-use tx_encoded::{WriteBytes, kind_of};
+use tx_records::{WriteBytes, kind_of};
 use tx_spelling::VersionBytes;
 use tx_types::Ts;
 

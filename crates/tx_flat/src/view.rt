@@ -9,7 +9,7 @@ use crate::searches::{FlatHistory, are_past, head_at};
 use std::alloc::Global;
 use tx_cells::{Above, commits_above};
 use tx_plan::{LockHead, TxnView};
-use tx_spelling::{SpeltKey, VersionBytes};
+use tx_spelling::{EncodedKey, VersionBytes};
 use tx_types::{Fault, Ts};
 
 // Whether a ceiling is below a start and a commit.
@@ -58,7 +58,7 @@ impl FlatCells {
     pub(crate) fn is_past(
         &self,
         alloc: Global,
-        key: &SpeltKey<'_>,
+        key: &EncodedKey<'_>,
         start: Ts,
         commit: Ts,
     ) -> Result<bool, Fault>

@@ -14,9 +14,9 @@ use crate::next_key::{Record, next_front};
 use std::alloc::Global;
 use std::collections::btree_map::{Iter, Range};
 use tx_cells::Sees;
-use tx_encoded::{LockBytes, WriteBytes, lock_head_of};
 use tx_plan::{LockHead, LockWalk, ReadView, ReadWalk};
-use tx_spelling::{KeyBytes, SpeltKey, VersionBytes};
+use tx_records::{LockBytes, WriteBytes, lock_head_of};
+use tx_spelling::{EncodedKey, KeyBytes, VersionBytes};
 use tx_types::{Fault, Key, LockInfo, Ts};
 
 /// A key and its lock, in the maps.
@@ -145,7 +145,7 @@ impl<'a> ReadWalk for FlatReads<'a> {
     }
 
     fn lock_info(&self, alloc: Global, key: &Key) -> Result<Option<LockInfo>, Fault> {
-        let spelt = SpeltKey::new(alloc, key)?;
+        let spelt = EncodedKey::new(alloc, key)?;
         self.cells.lock_info(alloc, &spelt)
     }
 }
@@ -173,7 +173,7 @@ impl<'a> LockWalk for FlatLocks<'a> {
     }
 
     fn lock_info(&self, alloc: Global, key: &Key) -> Result<Option<LockInfo>, Fault> {
-        let spelt = SpeltKey::new(alloc, key)?;
+        let spelt = EncodedKey::new(alloc, key)?;
         self.cells.lock_info(alloc, &spelt)
     }
 }

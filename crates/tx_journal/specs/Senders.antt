@@ -16,7 +16,7 @@ IsHeld bounds b = (n : ℕ) × (n ≤ length bounds) × Holds bounds n b
 
 -- A way to the regions between which these keys lie: it takes each request that a region holds, and
 -- an answer is to the request that was sent.
-pub record IsWay {S : Type 0} (bounds : List Key) (fits : S → Asked → Type 0) (sends : S → Asked → Reached → S
+pub record IsSender {S : Type 0} (bounds : List Key) (fits : S → Asked → Type 0) (sends : S → Asked → Reached → S
     → Type 0) (keys_between : S → List Key) : Type 0 where
   pub takes : (a : S) (q : Asked) → IsHeld bounds q.body → fits a q
   pub answers : (a b : S) (q : Asked) (g : Given) → sends a q (Ok g) b → g.request ≡ q

@@ -23,7 +23,7 @@ use Rattle.tx_transaction.specs.declared.state.Miss.{Miss}
 use Rattle.tx_transaction.specs.declared.state.Miss.TheVariants as miss
 use Rattle.tx_transaction.specs.Sessions.{SessionState, scan_of, after_read}
 use Rattle.tx_transaction.specs.Returns.{read}
-use Rattle.tx_journal.specs.Senders.{Reached, IsWay}
+use Rattle.tx_journal.specs.Senders.{Reached, IsSender}
 use Rattle.tx_client.specs.Learns.{response_by, response_of, Learns}
 use Rattle.tx_client.specs.Walks.{Walk, asks, grows, ends, then_walk, Sends, look_part, part_by, part_walk, enough, scan_after, scan_from, scan_walk, lesser, greater}
 use Rattle.tx_client.specs.Facts.{WasAnswered, RespondsSo}
@@ -393,7 +393,7 @@ module _ {S : Type 0} (sends : S → Asked → Reached → S → Type 0) (bounds
       (scan_from from to limit bound bs) sent)
 
 pub sees_whole : {S : Type 0} (bounds : List Key) (fits : S → Asked → Type 0) (sends : S → Asked → Reached → S
-    → Type 0) (keys_between : S → List Key) → AreRising bounds → IsWay bounds fits sends keys_between
+    → Type 0) (keys_between : S → List Key) → AreRising bounds → IsSender bounds fits sends keys_between
     → SeesWhole bounds sends
 sees_whole bounds fits sends keys_between rising way old new a b s after from to limit rows h sent begins run =
     scans sends bounds (λ x y q g did. way.answers x y q g did) h run new begins b after s.start from to limit rows from

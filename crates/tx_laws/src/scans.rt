@@ -1,6 +1,6 @@
 //! The rows of a session's scan over all regions.
 ghost use Rattle.tx_types.specs.Keys.{AreRising};
-ghost use Rattle.tx_journal.specs.Senders.{IsWay};
+ghost use Rattle.tx_journal.specs.Senders.{IsSender};
 ghost use Rattle.tx_laws.specs.Scans.{SeesWhole};
 
 use tx_journal::{JournalId, Reply, Request, Sender};
@@ -10,5 +10,5 @@ use tx_journal::{JournalId, Reply, Request, Sender};
 /// rows so far, join without a gap. It is so over each way that `Session::scan` takes, which says
 /// that its requests went so; that the keys between regions rise, `bounds` of the way says.
 pub fn scans_see_whole<J: JournalId, S: Sender<Request<J>, Reply<J>>>()
-    ensures { AreRising J.bounds → IsWay J.bounds S.fits S.sends S.keys_between → SeesWhole J.bounds S.sends }
+    ensures { AreRising J.bounds → IsSender J.bounds S.fits S.sends S.keys_between → SeesWhole J.bounds S.sends }
 {}

@@ -1,4 +1,4 @@
-use tx_timeline::Timeline;
+use tx_nested::Timeline;
 use tx_types::Ts;
 
 // A timeline in which each of these timestamps holds its number, put in one after the other.

@@ -7,7 +7,7 @@ use Rattle.tx_types.specs.declared.value.Value.{Value}
 use Rattle.tx_types.specs.declared.write.CommitRec.{CommitRec}
 use Rattle.tx_types.specs.declared.write.WriteRec.{WriteRec}
 use Rattle.tx_types.specs.declared.write.WriteRec.TheVariants.{Commit, Rollback}
-use Rattle.tx_timeline.specs.Indexes.{stays, goes_below}
+use Rattle.tx_nested.specs.Indexes.{stays, goes_below}
 use Rattle.tx_cells.specs.Heads.{keeps_apart}
 use Rattle.tx_cells.specs.Drops.{Records, ValuesGo, DropsValue}
 use Rattle.tx_cells.proofs.Dropping.{none_gone, same_gone, same_after, gone_bare, gone_apart}

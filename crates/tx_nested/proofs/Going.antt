@@ -3,7 +3,7 @@ use Rattle.std.proofs.Common.{◌≡◌, ◌≢◌, ◌⊎◌, ◌↔◌, ℕ, �
 use Rattle.std.specs.Prelude.{option_map}
 use Rattle.std.proofs.lemmas.Bool.{cases_Bool, cases_lt, lt-ltb, le-ltb, eq-eqb, eqb-true}
 use Rattle.tx_types.specs.declared.write.WriteRec.{WriteRec}
-use Rattle.tx_timeline.specs.Indexes.{stays, goes_below}
+use Rattle.tx_nested.specs.Indexes.{stays, goes_below}
 use Rattle.tx_plan.specs.cases.Collect.{keeps}
 use Rattle.tx_plan.proofs.Collects.{keeps_above}
 use Rattle.tx_cells.specs.Contents.{OnKey, cells_of, write_of}

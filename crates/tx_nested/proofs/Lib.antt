@@ -8,3 +8,9 @@ mod NestedRows
 mod NestedCollects
 -- The records below a safe point go one after the other, from the newest on.
 mod DropSteps
+-- Entries by their indexes.
+mod Rising
+-- Look-ups by indexes.
+mod Finding
+-- What a change leaves.
+mod Changing

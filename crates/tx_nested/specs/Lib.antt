@@ -1,1 +1,3 @@
 pub mod Nested
+pub mod Indexes
+pub mod Seen

@@ -8,12 +8,12 @@ ghost use Rattle.tx_cells.specs.Contents.{cells_of};
 ghost use Rattle.tx_cells.specs.Afterwards.{after, after_left};
 
 use crate::key::KeyFamilies;
+use crate::timeline::Timeline;
 use std::alloc::Global;
-use tx_encoded::{
+use tx_plan::{KeyChange, Left};
+use tx_records::{
     WriteBytes, commit_record, lock_with_min, lock_with_ttl, marked_record, rollback_record,
 };
-use tx_plan::{KeyChange, Left};
-use tx_timeline::Timeline;
 use tx_types::{Fault, Ts};
 
 /// Leaves the rollback of the transaction that started then. `OutOfMemory` leaves the records as

@@ -10,7 +10,7 @@ use std::alloc::Global;
 use std::collections::BTreeMap;
 use tx_cells::Changes;
 use tx_plan::{KeyChange, NewLock, Prewrite};
-use tx_spelling::SpeltKey;
+use tx_spelling::EncodedKey;
 use tx_types::{Fault, Ts};
 
 impl Changes for NestedCells {
@@ -23,7 +23,7 @@ impl Changes for NestedCells {
     fn put_lock(
         &mut self,
         alloc: Global,
-        key: &SpeltKey<'_>,
+        key: &EncodedKey<'_>,
         body: &Prewrite,
         new: NewLock,
         number: u64,
@@ -43,7 +43,7 @@ impl Changes for NestedCells {
     fn apply(
         &mut self,
         alloc: Global,
-        key: &SpeltKey<'_>,
+        key: &EncodedKey<'_>,
         change: KeyChange,
         number: u64,
     ) -> Result<(), Fault> {

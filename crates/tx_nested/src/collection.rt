@@ -8,9 +8,9 @@ ghost use Rattle.tx_cells.specs.Contents.{cells_of};
 ghost use Rattle.tx_cells.specs.Heads.{record_kind};
 
 use crate::key::KeyFamilies;
-use tx_encoded::{WriteBytes, kind_of};
+use crate::timeline::Timeline;
 use tx_plan::{KeyCollection, KeyRecords, RecordKind, collect_key};
-use tx_timeline::Timeline;
+use tx_records::{WriteBytes, kind_of};
 use tx_types::Ts;
 
 /// What collection asks of the record nearest to the bound, at it or below.

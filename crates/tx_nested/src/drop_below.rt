@@ -3,16 +3,16 @@ ghost use Rattle.std.specs.Prelude.{◌≡◌, ℕ, true, false, cond, None};
 ghost use Rattle.std.specs.BTreeMap as tree;
 ghost use Rattle.std.specs.Ordering.{nat_cmp};
 ghost use Rattle.tx_plan.specs.cases.Collect.{kept};
-ghost use Rattle.tx_timeline.specs.Indexes.{goes_below};
+ghost use Rattle.tx_nested.specs.Indexes.{goes_below};
 ghost use Rattle.tx_cells.specs.Contents.{cells_of, nothing_held};
 ghost use Rattle.tx_cells.specs.Afterwards.{Collected};
 ghost use Rattle.tx_cells.specs.Drops.{ValuesGo, DropsValue};
 
 use crate::key::KeyFamilies;
+use crate::timeline::Timeline;
 use std::collections::BTreeMap;
-use tx_encoded::WriteBytes;
 use tx_plan::KeyCollection;
-use tx_timeline::Timeline;
+use tx_records::WriteBytes;
 use tx_types::{Ts, Value};
 
 /// Drops the value that the record at a timestamp keeps apart.

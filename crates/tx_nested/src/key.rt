@@ -3,10 +3,10 @@ ghost use Rattle.std.specs.BTreeMap as tree;
 ghost use Rattle.std.specs.Ordering.{nat_cmp};
 ghost use Rattle.tx_cells.specs.Contents.{IsWhole};
 
+use crate::timeline::Timeline;
 use std::alloc::Global;
 use std::collections::BTreeMap;
-use tx_encoded::{LockBytes, WriteBytes};
-use tx_timeline::Timeline;
+use tx_records::{LockBytes, WriteBytes};
 use tx_types::{Ts, Value};
 
 /// The lock record of a key, its write records by timestamp, which mostly come in that order, and

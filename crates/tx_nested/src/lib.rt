@@ -18,8 +18,11 @@ mod put_lock;
 mod read;
 mod searches;
 mod sees;
+mod timeline;
 mod view;
 mod walks;
+
+pub use timeline::Timeline;
 
 /// The families of a region, nested.
 #[derive(Drop)]

@@ -6,8 +6,8 @@ ghost use Rattle.tx_cells.specs.Afterwards.{put_on};
 
 use crate::key::KeyFamilies;
 use std::alloc::Global;
-use tx_encoded::{apart, lock_bytes};
 use tx_plan::{NewLock, Prewrite};
+use tx_records::{apart, lock_bytes};
 use tx_types::Fault;
 
 impl KeyFamilies {

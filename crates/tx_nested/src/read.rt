@@ -9,8 +9,8 @@ use crate::key::KeyFamilies;
 use crate::searches::NestedHistory;
 use std::alloc::Global;
 use tx_cells::{SeenRecord, seen_at};
-use tx_encoded::{WriteBytes, seen_in};
 use tx_plan::ReadView;
+use tx_records::{WriteBytes, seen_in};
 use tx_types::{Fault, Ts, Value};
 
 impl KeyFamilies {

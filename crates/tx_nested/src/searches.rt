@@ -4,10 +4,10 @@ ghost use Rattle.std.specs.BTreeMap as tree;
 ghost use Rattle.std.specs.Ordering.{nat_cmp};
 ghost use Rattle.tx_cells.specs.Heads.{write_head};
 
+use crate::timeline::Timeline;
 use tx_cells::History;
-use tx_encoded::{WriteBytes, head_of};
 use tx_plan::RecordHead;
-use tx_timeline::Timeline;
+use tx_records::{WriteBytes, head_of};
 use tx_types::Ts;
 
 /// What is asked of the record at this timestamp.

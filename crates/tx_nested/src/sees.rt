@@ -6,14 +6,14 @@ use tx_cells::{KeyVersions, Sees, sum};
 use tx_plan::{
     Answer, Dropped, Infos, ReadView, Scan, TxnView, first_below, infos_below, scan_walk,
 };
-use tx_spelling::SpeltKey;
+use tx_spelling::EncodedKey;
 use tx_types::{Fault, Items, LockInfo, Ts};
 
 impl Sees for NestedCells {
     fn view(
         &self,
         alloc: Global,
-        key: &SpeltKey<'_>,
+        key: &EncodedKey<'_>,
         start: Ts,
         commit: Ts,
     ) -> Result<TxnView, Fault> {
@@ -24,7 +24,7 @@ impl Sees for NestedCells {
         }
     }
 
-    fn read(&self, alloc: Global, key: &SpeltKey<'_>, at: Ts) -> Result<ReadView, Fault> {
+    fn read(&self, alloc: Global, key: &EncodedKey<'_>, at: Ts) -> Result<ReadView, Fault> {
         match self.keys.get(key.bytes()) {
             Some(on_key) => on_key.read(alloc, at),
             None => Ok(ReadView {
@@ -34,7 +34,7 @@ impl Sees for NestedCells {
         }
     }
 
-    fn lock_info(&self, alloc: Global, key: &SpeltKey<'_>) -> Result<Option<LockInfo>, Fault> {
+    fn lock_info(&self, alloc: Global, key: &EncodedKey<'_>) -> Result<Option<LockInfo>, Fault> {
         match self.keys.get(key.bytes()) {
             Some(on_key) => on_key.lock_info(alloc, key.key()),
             None => Ok(None),
@@ -66,7 +66,7 @@ impl Sees for NestedCells {
         Ok(Dropped { records, values })
     }
 
-    fn cells(&self, alloc: Global, key: &SpeltKey<'_>) -> Result<KeyVersions, Fault> {
+    fn cells(&self, alloc: Global, key: &EncodedKey<'_>) -> Result<KeyVersions, Fault> {
         match self.keys.get(key.bytes()) {
             Some(on_key) => on_key.copy(alloc),
             None => Ok(KeyVersions {
@@ -77,7 +77,7 @@ impl Sees for NestedCells {
         }
     }
 
-    fn number(&self, key: &SpeltKey<'_>) -> u64 {
+    fn number(&self, key: &EncodedKey<'_>) -> u64 {
         match self.keys.get(key.bytes()) {
             Some(on_key) => on_key.number,
             None => 0,

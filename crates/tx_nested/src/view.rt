@@ -7,8 +7,8 @@ ghost use Rattle.tx_cells.specs.Heads.{lock_head};
 use crate::key::KeyFamilies;
 use crate::searches::{NestedHistory, head_at};
 use tx_cells::{Above, commits_above};
-use tx_encoded::lock_head_of;
 use tx_plan::{LockHead, TxnView};
+use tx_records::lock_head_of;
 use tx_types::Ts;
 
 /// What is seen of a key of which nothing is held.

@@ -10,7 +10,7 @@ use std::alloc::Global;
 use std::collections::btree_map::{Iter, Range};
 use tx_cells::Sees;
 use tx_plan::{LockHead, LockWalk, ReadView, ReadWalk};
-use tx_spelling::{KeyBytes, SpeltKey};
+use tx_spelling::{EncodedKey, KeyBytes};
 use tx_types::{Fault, Key, LockInfo, Ts};
 
 /// A walk over keys, rising.
@@ -37,7 +37,7 @@ impl<'a> ReadWalk for NestedReads<'a> {
     }
 
     fn lock_info(&self, alloc: Global, key: &Key) -> Result<Option<LockInfo>, Fault> {
-        let spelt = SpeltKey::new(alloc, key)?;
+        let spelt = EncodedKey::new(alloc, key)?;
         self.cells.lock_info(alloc, &spelt)
     }
 }
@@ -67,7 +67,7 @@ impl<'a> LockWalk for NestedLocks<'a> {
     }
 
     fn lock_info(&self, alloc: Global, key: &Key) -> Result<Option<LockInfo>, Fault> {
-        let spelt = SpeltKey::new(alloc, key)?;
+        let spelt = EncodedKey::new(alloc, key)?;
         self.cells.lock_info(alloc, &spelt)
     }
 }

@@ -11,7 +11,7 @@ use Rattle.tx_journal.specs.Known.{Known}
 use Rattle.tx_journal.specs.Replies.{Asked, Given}
 use Rattle.tx_transaction.specs.declared.state.Response.{Response}
 use Rattle.tx_transaction.specs.declared.state.Response.TheVariants as response
-use Rattle.tx_journal.specs.Senders.{Reached, IsHeld, IsWay}
+use Rattle.tx_journal.specs.Senders.{Reached, IsHeld, IsSender}
 use Rattle.tx_client.specs.Learns.{response_by, response_of, Learns}
 use Rattle.tx_client.specs.Walks.{Walk, asks, grows, ends, Sends}
 use Rattle.tx_steps.specs.declared.delivery.Delivery.TheVariants as deliveries
@@ -36,7 +36,7 @@ by_delivery bounds (Some deliveries.Repeated) a b q g (inr p) = p.again.request
 by_delivery bounds (Some (deliveries.Held name)) a b q g p = p.request
 
 pub is_way : (bounds : List Key)
-    → IsWay bounds (λ (a : NetworkParts) (q : Asked). IsHeld bounds q.body)
+    → IsSender bounds (λ (a : NetworkParts) (q : Asked). IsHeld bounds q.body)
     (λ (a : NetworkParts) q r b. Passes bounds a.delivery a q r b) (λ a. bounds)
 is_way bounds = record {
   takes = λ a q held. held;

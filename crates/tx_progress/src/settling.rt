@@ -1,5 +1,5 @@
 //! What a resolver comes to where nothing is lost or refused.
-ghost use Rattle.tx_journal.specs.Senders.{IsWay};
+ghost use Rattle.tx_journal.specs.Senders.{IsSender};
 ghost use Rattle.tx_progress.specs.Settling.{SettlesUnlessAlive, Settles};
 
 use tx_journal::{JournalId, Reply, Request, Sender};
@@ -10,6 +10,6 @@ use tx_journal::{JournalId, Reply, Request, Sender};
 /// above the read. It waits only where its transaction's async lock on its primary was shown, which
 /// does not let the read pass and whose own time is not over, as where a heartbeat has prolonged it.
 pub fn expired_locks_settle<J: JournalId, S: Sender<Request<J>, Reply<J>>>()
-    ensures unless_alive { IsWay J.bounds S.fits S.sends S.keys_between → SettlesUnlessAlive J.bounds S.sends }
-    ensures settles { IsWay J.bounds S.fits S.sends S.keys_between → Settles J.bounds S.sends }
+    ensures unless_alive { IsSender J.bounds S.fits S.sends S.keys_between → SettlesUnlessAlive J.bounds S.sends }
+    ensures settles { IsSender J.bounds S.fits S.sends S.keys_between → Settles J.bounds S.sends }
 {}

@@ -6,7 +6,7 @@ ghost use Rattle.tx_core.specs.Allowed.{AllowsRead};
 ghost use Rattle.tx_core.specs.Histories.{Begins};
 ghost use Rattle.tx_core.specs.Laws.{WasToldOf};
 ghost use Rattle.tx_core.specs.Worlds.{IsWorldRun};
-ghost use Rattle.tx_journal.specs.Senders.{IsWay};
+ghost use Rattle.tx_journal.specs.Senders.{IsSender};
 ghost use Rattle.tx_client.specs.Facts.{WasAnswered};
 ghost use Rattle.tx_reader.specs.Readers.{OnlySees, ReadsAt};
 
@@ -86,7 +86,7 @@ impl<J: JournalId> Reader<J> {
         key: &Key,
         sender: &mut S,
     ) -> Result<Answer, Miss>
-        requires way { IsWay J.bounds S.fits S.sends S.keys_between }
+        requires way { IsSender J.bounds S.fits S.sends S.keys_between }
         ensures at { self.new.at ≡ self.old.at }
         ensures seat { OnlySees self.old.seat self.new.seat }
         ensures run { IsWorldRun J.bounds self.new.seat.events }
@@ -126,7 +126,7 @@ impl<J: JournalId> Reader<J> {
         now: Ts,
         sender: &mut S,
     ) -> Result<bool, Miss>
-        requires way { IsWay J.bounds S.fits S.sends S.keys_between }
+        requires way { IsSender J.bounds S.fits S.sends S.keys_between }
         requires told { WasToldOf self.old.seat.events info.now }
         ensures at { self.new.at ≡ self.old.at }
         ensures seat { OnlySees self.old.seat self.new.seat }
@@ -144,7 +144,7 @@ impl<J: JournalId> Reader<J> {
         key: &Key,
         sender: &mut S,
     ) -> Result<Answer, Miss>
-        requires way { IsWay J.bounds S.fits S.sends S.keys_between }
+        requires way { IsSender J.bounds S.fits S.sends S.keys_between }
         ensures at { self.new.at ≡ self.old.at }
         ensures seat { OnlySees self.old.seat self.new.seat }
         ensures finds { IfOk result (ReadsAt self.new.seat.events self.old.at key.now) }

@@ -19,7 +19,7 @@ use Rattle.tx_core.specs.Worlds.{Holds}
 use Rattle.tx_core.proofs.seats.Answering.{left_on}
 use Rattle.tx_core.proofs.seats.Beginnings.{begins_more, extends_begins, extends_more}
 use Rattle.tx_core.proofs.seats.ReadMarks.{read_on}
-use Rattle.tx_later.specs.Noting.{turns}
+use Rattle.tx_core.specs.Noting.{turns}
 use Rattle.tx_journal.specs.Known.{Known, HasSeen, HasRecorded}
 use Rattle.tx_journal.specs.Replies.{Asked, Given}
 use Rattle.tx_journal.proofs.Calls.{seen_more}

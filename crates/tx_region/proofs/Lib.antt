@@ -12,9 +12,7 @@ pub mod Taking
 pub mod Applying
 -- How many of the keys between the regions lie at a key or below it.
 pub mod Routes
--- The first eight bytes of keys, as numbers, order keys as the keys are ordered.
+-- The fronts of the keys between the regions tell where a key lies.
 pub mod KeyFronts
--- The first eight bytes of a key spell its front.
-pub mod Groups
 -- What a try that stays in one place keeps.
 pub mod Attempts

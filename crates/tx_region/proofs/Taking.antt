@@ -24,8 +24,8 @@ use Rattle.tx_core.proofs.seats.ReadMarks.{region_within, read_drawn, taken_rais
 use Rattle.tx_core.proofs.seats.Recording.{may_take_from}
 use Rattle.tx_core.proofs.seats.Staying.{last_was, was_last_on}
 use Rattle.tx_core.proofs.seats.StaysAllowed.{allowed_on}
-use Rattle.tx_later.specs.Noting.{turns, IsNoted, NotesAll, Drops}
-use Rattle.tx_later.proofs.Noting.{turns_on, turns_took, noted_first, noted_on, noted_all}
+use Rattle.tx_core.specs.Noting.{turns, IsNoted, NotesAll, Drops}
+use Rattle.tx_core.proofs.going_on.Noting.{turns_on, turns_took, noted_first, noted_on, noted_all}
 use Rattle.tx_journal.specs.Known.{Known, HasSeen, HasRecorded}
 use Rattle.tx_journal.specs.Replies.{Asked, Given, Tells, IsGiven}
 use Rattle.tx_region.specs.Calls.{Executes, Counts}

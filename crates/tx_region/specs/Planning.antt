@@ -8,7 +8,7 @@ use Rattle.tx_plan.specs.Answers.{AnswersFrom}
 use Rattle.tx_core.specs.declared.event.Event.TheVariants.{Took}
 use Rattle.tx_core.specs.Histories.{History, last, left, Begins, WasLast}
 use Rattle.tx_core.specs.ReadMarks.{max_ts}
-use Rattle.tx_later.specs.Noting.{turns}
+use Rattle.tx_core.specs.Noting.{turns}
 use Rattle.tx_journal.specs.Known.{greatest_ts, HasSeen, HasRecorded}
 use Rattle.tx_journal.specs.Replies.{Asked, Given, Tells}
 use Rattle.tx_region.specs.Copies.{IsOfKey, key_in, SameKey, LooksLike, IsPlan, IsAbove}

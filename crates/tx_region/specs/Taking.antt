@@ -10,7 +10,7 @@ use Rattle.tx_plan.specs.Answers.{AnswersFrom}
 use Rattle.tx_core.specs.Histories.{History, last, left, Begins}
 use Rattle.tx_core.specs.ReadMarks.{max_ts}
 use Rattle.tx_core.specs.Recording.{Extends}
-use Rattle.tx_later.specs.Noting.{turns, IsNoted}
+use Rattle.tx_core.specs.Noting.{turns, IsNoted}
 use Rattle.tx_journal.specs.Known.{Known, greatest_ts, HasSeen}
 use Rattle.tx_journal.specs.Replies.{Given, Tells}
 

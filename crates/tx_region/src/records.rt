@@ -23,7 +23,7 @@ ghost use Rattle.tx_plan.specs.Views.{info_on};
 ghost use Rattle.tx_plan.specs.cases.Prewrite.{HasValue};
 ghost use Rattle.tx_cells.specs.Contents.{nothing_held};
 ghost use Rattle.tx_cells.specs.Copies.{Copies};
-ghost use Rattle.tx_later.specs.Noting.{NotesAll};
+ghost use Rattle.tx_core.specs.Noting.{NotesAll};
 ghost use Rattle.tx_journal.specs.Replies.{lock_in};
 ghost use Rattle.tx_region.specs.Regions.{region_of, HasSameNumbers};
 ghost use Rattle.tx_region.specs.Calls.{CarriesOut, Counts};
@@ -37,7 +37,7 @@ use std::mem::replace;
 use tx_cells::{Families, ShownKey};
 use tx_journal::AnswerWithLock;
 use tx_plan::{Answer, Body, KeyChange, Plan, PlannedAnswer, Prewrite};
-use tx_spelling::{KeyBytes, SpeltKey};
+use tx_spelling::{EncodedKey, KeyBytes};
 use tx_types::{Fault, Key, Mutation, Ts};
 
 /// What a command answered, and the timestamp that it read, if it read one.
@@ -125,13 +125,13 @@ impl<F: Families> Records<F> {
         ensures copies { IfOk result (λ copy. Copies ((region_of F.content self.now 0).cells key.now) copy) }
         ensures err { IfErr result (λ e. e ≡ Fault.OutOfMemory) }
     {
-        let key = SpeltKey::new(self.alloc, key)?;
+        let key = EncodedKey::new(self.alloc, key)?;
         let copy = self.families.cells(self.alloc, &key)?;
         ShownKey::new(self.alloc, copy)
     }
 
     // What a request of a transaction sees of its key.
-    fn txn_view(&self, key: &SpeltKey<'_>, start: Ts, commit: Ts) -> Result<KeyView, Fault>
+    fn txn_view(&self, key: &EncodedKey<'_>, start: Ts, commit: Ts) -> Result<KeyView, Fault>
         ensures ok { IfOk result (λ view. SeesTxn ((region_of F.content self.now 0).cells key.now) start commit view) }
         ensures err { IfErr result (λ e. e ≡ Fault.OutOfMemory) }
     {
@@ -140,7 +140,7 @@ impl<F: Families> Records<F> {
     }
 
     // What a prewrite sees of its key.
-    fn prewrite_view(&self, key: &SpeltKey<'_>, body: &Prewrite) -> Result<KeyView, Fault>
+    fn prewrite_view(&self, key: &EncodedKey<'_>, body: &Prewrite) -> Result<KeyView, Fault>
         ensures ok { IfOk result (λ view. SeesPrewrite ((region_of F.content self.now 0).cells key.now) body.now
             view) }
         ensures err { IfErr result (λ e. e ≡ Fault.OutOfMemory) }
@@ -151,7 +151,7 @@ impl<F: Families> Records<F> {
     }
 
     // Whether a read at its start finds a value, where it inserts.
-    fn has_value(&self, key: &SpeltKey<'_>, body: &Prewrite) -> Result<bool, Fault>
+    fn has_value(&self, key: &EncodedKey<'_>, body: &Prewrite) -> Result<bool, Fault>
         ensures ok { IfOk result (λ has. IsInsert body.now.mutation → IsTrue has
             ↔ HasValue ((region_of F.content self.now 0).cells key.now).write body.now.start) }
         ensures err { IfErr result (λ e. e ≡ Fault.OutOfMemory) }
@@ -163,7 +163,7 @@ impl<F: Families> Records<F> {
     }
 
     // Whether a read of the key at this timestamp finds a value.
-    fn finds_value(&self, key: &SpeltKey<'_>, at: Ts) -> Result<bool, Fault>
+    fn finds_value(&self, key: &EncodedKey<'_>, at: Ts) -> Result<bool, Fault>
         ensures ok { IfOk result (λ has. IsTrue has
             ↔ HasValue ((region_of F.content self.now 0).cells key.now).write at) }
         ensures err { IfErr result (λ e. e ≡ Fault.OutOfMemory) }
@@ -174,17 +174,17 @@ impl<F: Families> Records<F> {
 
     /// The key of a request of one key, spelt for all that is asked of it here.
     #[inline(always)]
-    pub(crate) fn spell<'a>(&self, body: &'a Body) -> Result<SpeltKey<'a>, Fault>
+    pub(crate) fn spell<'a>(&self, body: &'a Body) -> Result<EncodedKey<'a>, Fault>
         requires { IsOfKey body.now }
         ensures ok { IfOk result (λ key. key ≡ key_in body.now) }
         ensures err { IfErr result (λ e. e ≡ Fault.OutOfMemory) }
     {
-        SpeltKey::new(self.alloc, key_of(body))
+        EncodedKey::new(self.alloc, key_of(body))
     }
 
     /// What a request of one key sees of it.
     #[inline(always)]
-    pub(crate) fn view(&self, key: &SpeltKey<'_>, body: &Body) -> Result<KeyView, Fault>
+    pub(crate) fn view(&self, key: &EncodedKey<'_>, body: &Body) -> Result<KeyView, Fault>
         requires of_key { IsOfKey body.now }
         requires of { key.now ≡ key_in body.now }
         ensures ok { IfOk result (λ view. Sees (region_of F.content self.now 0).cells body.now view) }
@@ -210,7 +210,7 @@ impl<F: Families> Records<F> {
 
     // Whether a key, the safe point and the last collection stayed since these numbers were
     // copied, when so many requests were counted.
-    fn has_stayed(&self, key: &SpeltKey<'_>, copied: &RegionNumbers, taken: u64) -> bool
+    fn has_stayed(&self, key: &EncodedKey<'_>, copied: &RegionNumbers, taken: u64) -> bool
         requires { F.numbers self.now.families key.now ≤ self.now.taken }
         ensures { IsTrue result ↔ StayedKey (region_of F.content self.now 0)
             (F.numbers self.now.families key.now) copied.now taken }
@@ -242,7 +242,7 @@ impl<F: Families> Records<F> {
             (F.numbers self.now.families (key_in body.now)) copied.now taken }
         ensures bytes { IfSome result (λ bytes. bytes ≡ key_in body.now) }
     {
-        let key = SpeltKey::with_bytes(key_of(body), bytes);
+        let key = EncodedKey::with_bytes(key_of(body), bytes);
         if self.has_stayed(&key, copied, taken) {
             return Some(key.into_bytes());
         }
@@ -251,7 +251,7 @@ impl<F: Families> Records<F> {
 
     // The answer of a plan for this key, with what is told of the lock on it where the answer
     // names that.
-    fn fill_in(&self, key: &SpeltKey<'_>, answer: PlannedAnswer) -> Result<AnswerWithLock, Fault>
+    fn fill_in(&self, key: &EncodedKey<'_>, answer: PlannedAnswer) -> Result<AnswerWithLock, Fault>
         ensures answer { IfOk result (λ a. a ≡ answer_with
             (info_on ((region_of F.content self.now 0).cells key.now) key.now) answer) }
         ensures err { IfErr result (λ e. e ≡ Fault.OutOfMemory) }
@@ -276,7 +276,7 @@ impl<F: Families> Records<F> {
     }
 
     // Carries out the plan of a read.
-    fn make_read(&self, key: &SpeltKey<'_>, planned: &mut Plan) -> Result<Executed, Fault>
+    fn make_read(&self, key: &EncodedKey<'_>, planned: &mut Plan) -> Result<Executed, Fault>
         requires { planned.old.change ≡ KeyChange.Nothing }
         ensures ok { IfOk result (λ r. (n : ℕ) → CarriesOut (region_of F.content self.now n) key.now
             (changed ((region_of F.content self.now n).cells key.now) planned.old.change) planned.old r.answer r.read
@@ -293,7 +293,7 @@ impl<F: Families> Records<F> {
     // Puts the lock that the plan of a prewrite puts, if it puts one.
     fn put(
         &mut self,
-        key: &SpeltKey<'_>,
+        key: &EncodedKey<'_>,
         body: &Prewrite,
         change: KeyChange,
         number: u64,
@@ -321,7 +321,7 @@ impl<F: Families> Records<F> {
     // Carries out the plan of a prewrite. `OutOfMemory` leaves all as it was.
     fn make_prewrite(
         &mut self,
-        key: &SpeltKey<'_>,
+        key: &EncodedKey<'_>,
         body: &Prewrite,
         planned: &mut Plan,
     ) -> Result<Executed, Fault>
@@ -350,7 +350,7 @@ impl<F: Families> Records<F> {
     }
 
     // Carries out the plan of another request on its key. `OutOfMemory` leaves all as it was.
-    fn carry_out(&mut self, key: &SpeltKey<'_>, planned: &mut Plan) -> Result<Executed, Fault>
+    fn carry_out(&mut self, key: &EncodedKey<'_>, planned: &mut Plan) -> Result<Executed, Fault>
         requires applies { Applies ((region_of F.content self.old 0).cells key.now) planned.old.change }
         requires makes { Makes ((region_of F.content self.old 0).cells key.now) planned.old.change }
         ensures ok { IfOk result (λ r. (n : ℕ) → CarriesOut (region_of F.content self.old n) key.now
@@ -380,7 +380,7 @@ impl<F: Families> Records<F> {
     #[inline(always)]
     pub(crate) fn make(
         &mut self,
-        key: &SpeltKey<'_>,
+        key: &EncodedKey<'_>,
         body: &Body,
         planned: &mut Plan,
     ) -> Result<Executed, Fault>
@@ -433,7 +433,7 @@ impl<F: Families> Records<F> {
         ensures same_numbers { OnErr result (HasSameNumbers F.numbers self.old self.new) }
         ensures err { IfErr result (λ e. e ≡ Fault.OutOfMemory) }
     {
-        let key = SpeltKey::with_bytes(key_of(body), bytes);
+        let key = EncodedKey::with_bytes(key_of(body), bytes);
         self.make(&key, body, planned)
     }
 }

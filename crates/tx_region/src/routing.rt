@@ -4,7 +4,7 @@ ghost use Rattle.tx_types.specs.declared.fault.Fault.TheVariants.{OutOfMemory};
 ghost use Rattle.tx_plan.specs.declared.body.Body.TheVariants as request;
 ghost use Rattle.tx_core.specs.Worlds.{Holds, route};
 ghost use Rattle.tx_types.specs.Keys.{AreRising};
-ghost use Rattle.tx_region.specs.KeyFronts.{AreBytes, AreFronts, front};
+ghost use Rattle.tx_region.specs.KeyFronts.{AreFronts};
 
 use std::alloc::Global;
 use tx_plan::{Body, Scan, Target};
@@ -19,22 +19,6 @@ pub fn route(bounds: &[Key], key: &Key) -> usize
     bounds.partition_point(|bound| *bound <= *key)
 }
 
-// For proofs: each number of a slice of bytes is a byte.
-fn know_bytes(bytes: &[u8])
-    ensures { AreBytes bytes.now }
-{
-    let _ = bytes;
-}
-
-// The number that the first eight bytes of a key spell, where zeros stand behind them.
-fn front_of(key: &Key) -> u64
-    ensures value { result ≡ front key.now }
-    ensures bytes { AreBytes key.now }
-{
-    know_bytes(key.as_bytes());
-    u64::from_be_bytes(key.first_eight())
-}
-
 /// The fronts of the keys between the regions, by which `route_by` finds the region of a key.
 pub fn fronts(alloc: Global, bounds: &[Key]) -> Result<Vec<u64>, Fault>
     ensures ok { IfOk result (λ fronts. AreFronts bounds.now fronts.items) }
@@ -42,7 +26,7 @@ pub fn fronts(alloc: Global, bounds: &[Key]) -> Result<Vec<u64>, Fault>
 {
     let mut fronts = Vec::with_capacity(alloc, bounds.len())?;
     for index in 0..bounds.len() {
-        fronts.push_reserved(front_of(&bounds[index]));
+        fronts.push_reserved(bounds[index].front());
     }
     Ok(fronts)
 }
@@ -71,7 +55,7 @@ pub fn route_by(fronts: &[u64], bounds: &[Key], key: &Key) -> usize
     requires fronts { AreFronts bounds.now fronts.now }
     ensures { result ≡ route bounds.now key.now }
 {
-    let front = front_of(key);
+    let front = key.front();
     let index = fronts.partition_point(|other| *other < front);
     if is_past(fronts, index, front) && is_reached(fronts, index, front) {
         index

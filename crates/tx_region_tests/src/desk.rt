@@ -1,6 +1,6 @@
 //! A way to one region, on which a request may be planned of a copy while others are taken.
 ghost use Rattle.std.specs.Prelude.{◌≡◌, ◌≤◌, [], IfSome, length};
-ghost use Rattle.tx_journal.specs.Senders.{IsWay};
+ghost use Rattle.tx_journal.specs.Senders.{IsSender};
 
 use crate::table_tests::shown::{NOTHING, Short, answered};
 use std::alloc::Global;
@@ -73,7 +73,7 @@ impl<J: JournalId, F: Fresh> Desk<J, F> {
 
     /// Shows that an answer is to the request that was sent.
     pub fn show(&self)
-        ensures { IsWay J.bounds ⟦<Desk<J, F> as Sender<Request<J>, Reply<J>>>⟧.fits ⟦<Desk<J, F> as Sender<Request<J>, Reply<J>>>⟧.sends ⟦<Desk<J, F> as Sender<Request<J>, Reply<J>>>⟧.keys_between }
+        ensures { IsSender J.bounds ⟦<Desk<J, F> as Sender<Request<J>, Reply<J>>>⟧.fits ⟦<Desk<J, F> as Sender<Request<J>, Reply<J>>>⟧.sends ⟦<Desk<J, F> as Sender<Request<J>, Reply<J>>>⟧.keys_between }
     {
         let _ = self.way;
     }

@@ -11,7 +11,7 @@ ghost use Rattle.std.specs.Prelude.{◌≡◌, ◌≤◌, length, Contains, IfOk
 ghost use Rattle.tx_types.specs.declared.lock.LockInfo.{LockInfo as Info};
 ghost use Rattle.tx_core.specs.Laws.{WasToldOf};
 ghost use Rattle.tx_core.specs.Worlds.{IsWorldRun};
-ghost use Rattle.tx_journal.specs.Senders.{IsWay, LosesNothing};
+ghost use Rattle.tx_journal.specs.Senders.{IsSender, LosesNothing};
 ghost use Rattle.tx_client.specs.Walks.{Sends};
 ghost use Rattle.tx_resolve.specs.Collecting.{added, raised_by, listed_by, dropped_by, collected_by, raise_walk, raises_walk, list_walk, locks_walk, clear_walk, clears_walk, collect_walk, collects_walk, gc_walk};
 ghost use Rattle.tx_resolve.specs.Facts.{IsToRaise, IsToList, IsToDrop, IsToCollect};
@@ -115,7 +115,7 @@ fn raise<J: JournalId, S: Sender<Request<J>, Reply<J>>>(
     safe: Ts,
     sender: &mut S,
 ) -> Result<(), Fault>
-    requires way { IsWay J.bounds S.fits S.sends S.keys_between }
+    requires way { IsSender J.bounds S.fits S.sends S.keys_between }
     requires lossless { LosesNothing S.sends }
     requires run { IsWorldRun J.bounds seat.old.events }
     requires within { region ≤ length J.bounds }
@@ -132,7 +132,7 @@ fn raise_all<J: JournalId, S: Sender<Request<J>, Reply<J>>>(
     safe: Ts,
     sender: &mut S,
 ) -> Result<(), Fault>
-    requires way { IsWay J.bounds S.fits S.sends S.keys_between }
+    requires way { IsSender J.bounds S.fits S.sends S.keys_between }
     requires lossless { LosesNothing S.sends }
     requires run { IsWorldRun J.bounds seat.old.events }
     ensures sends { Sends S.sends J.bounds seat.old sender.old (raises_walk J.bounds safe) result sender.new seat.new }
@@ -151,7 +151,7 @@ fn list<J: JournalId, S: Sender<Request<J>, Reply<J>>>(
     safe: Ts,
     sender: &mut S,
 ) -> Result<Infos, Fault>
-    requires way { IsWay J.bounds S.fits S.sends S.keys_between }
+    requires way { IsSender J.bounds S.fits S.sends S.keys_between }
     requires lossless { LosesNothing S.sends }
     requires run { IsWorldRun J.bounds seat.old.events }
     requires within { region ≤ length J.bounds }
@@ -169,7 +169,7 @@ fn resolve_each<J: JournalId, S: Sender<Request<J>, Reply<J>>>(
     infos: &[LockInfo],
     sender: &mut S,
 ) -> Result<(), Fault>
-    requires way { IsWay J.bounds S.fits S.sends S.keys_between }
+    requires way { IsSender J.bounds S.fits S.sends S.keys_between }
     requires run { IsWorldRun J.bounds seat.old.events }
     requires told { (info : Info) → Contains infos.now info → WasToldOf seat.old.events info }
     ensures sends { Sends S.sends J.bounds seat.old sender.old (locks_walk infos.now) result sender.new seat.new }
@@ -188,7 +188,7 @@ fn clear<J: JournalId, S: Sender<Request<J>, Reply<J>>>(
     safe: Ts,
     sender: &mut S,
 ) -> Result<(), Fault>
-    requires way { IsWay J.bounds S.fits S.sends S.keys_between }
+    requires way { IsSender J.bounds S.fits S.sends S.keys_between }
     requires lossless { LosesNothing S.sends }
     requires run { IsWorldRun J.bounds seat.old.events }
     requires within { region ≤ length J.bounds }
@@ -205,7 +205,7 @@ fn clear_all<J: JournalId, S: Sender<Request<J>, Reply<J>>>(
     safe: Ts,
     sender: &mut S,
 ) -> Result<(), Fault>
-    requires way { IsWay J.bounds S.fits S.sends S.keys_between }
+    requires way { IsSender J.bounds S.fits S.sends S.keys_between }
     requires lossless { LosesNothing S.sends }
     requires run { IsWorldRun J.bounds seat.old.events }
     ensures sends { Sends S.sends J.bounds seat.old sender.old (clears_walk J.bounds safe) result sender.new seat.new }
@@ -225,7 +225,7 @@ fn collect<J: JournalId, S: Sender<Request<J>, Reply<J>>>(
     counts: Counts,
     sender: &mut S,
 ) -> Result<Counts, Fault>
-    requires way { IsWay J.bounds S.fits S.sends S.keys_between }
+    requires way { IsSender J.bounds S.fits S.sends S.keys_between }
     requires lossless { LosesNothing S.sends }
     requires run { IsWorldRun J.bounds seat.old.events }
     requires within { region ≤ length J.bounds }
@@ -243,7 +243,7 @@ fn collect_all<J: JournalId, S: Sender<Request<J>, Reply<J>>>(
     safe: Ts,
     sender: &mut S,
 ) -> Result<Counts, Fault>
-    requires way { IsWay J.bounds S.fits S.sends S.keys_between }
+    requires way { IsSender J.bounds S.fits S.sends S.keys_between }
     requires lossless { LosesNothing S.sends }
     requires run { IsWorldRun J.bounds seat.old.events }
     ensures { Sends S.sends J.bounds seat.old sender.old (collects_walk J.bounds safe) result sender.new seat.new }
@@ -267,7 +267,7 @@ pub fn gc<J: JournalId, S: Sender<Request<J>, Reply<J>>>(
     safe: Ts,
     sender: &mut S,
 ) -> Result<Counts, Fault>
-    requires way { IsWay J.bounds S.fits S.sends S.keys_between }
+    requires way { IsSender J.bounds S.fits S.sends S.keys_between }
     requires lossless { LosesNothing S.sends }
     ensures { Sends S.sends J.bounds seat.old sender.old (gc_walk J.bounds safe) result sender.new seat.new }
 {

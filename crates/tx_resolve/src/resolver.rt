@@ -5,7 +5,7 @@ ghost use Rattle.tx_machine.specs.Machine.{Done};
 ghost use Rattle.tx_core.specs.Allowed.{Allowed};
 ghost use Rattle.tx_core.specs.Decisions.{decided, HasTwoPhaseLock};
 ghost use Rattle.tx_core.specs.Laws.{WasToldOf};
-ghost use Rattle.tx_journal.specs.Senders.{IsWay};
+ghost use Rattle.tx_journal.specs.Senders.{IsSender};
 ghost use Rattle.tx_client.specs.Statuses.{Ends};
 ghost use Rattle.tx_client.specs.Walks.{Sends};
 ghost use Rattle.tx_resolve.specs.Resolving.{check_of, other_of, settle_of, primary_walk, settle_walk, other_walk, others_walk, after_forced, forced_walk, after_others, expired_walk, after_primary, resolve_walk};
@@ -61,7 +61,7 @@ fn ask_primary<J: JournalId, S: Sender<Request<J>, Reply<J>>>(
     forced: bool,
     sender: &mut S,
 ) -> Primary
-    requires way { IsWay J.bounds S.fits S.sends S.keys_between }
+    requires way { IsSender J.bounds S.fits S.sends S.keys_between }
     requires knows { Knows J.bounds seat.old.events met.now }
     requires two_phase { forced ≡ true → HasTwoPhaseLock seat.old.events met.now.start }
     ensures sends { Sends S.sends J.bounds seat.old sender.old (primary_walk met.now who.now forced) result sender.new
@@ -82,7 +82,7 @@ fn ask_other<J: JournalId, S: Sender<Request<J>, Reply<J>>>(
     key: &Key,
     sender: &mut S,
 ) -> Other
-    requires way { IsWay J.bounds S.fits S.sends S.keys_between }
+    requires way { IsSender J.bounds S.fits S.sends S.keys_between }
     requires knows { Knows J.bounds seat.old.events met.now }
     requires allowed { Allowed seat.old.events (other_of met.now.start key.now) }
     ensures sends { Sends S.sends J.bounds seat.old sender.old (other_walk met.now.start key.now) result sender.new
@@ -110,7 +110,7 @@ fn ask_others<J: JournalId, S: Sender<Request<J>, Reply<J>>>(
     primary: &LockInfo,
     sender: &mut S,
 ) -> Others
-    requires way { IsWay J.bounds S.fits S.sends S.keys_between }
+    requires way { IsSender J.bounds S.fits S.sends S.keys_between }
     requires knows { Knows J.bounds seat.old.events met.now }
     requires primary { IsPrimarysLock seat.old.events met.now.start primary.now }
     ensures sends { Sends S.sends J.bounds seat.old sender.old
@@ -135,7 +135,7 @@ fn settle<J: JournalId, S: Sender<Request<J>, Reply<J>>>(
     fate: &Fate,
     sender: &mut S,
 ) -> Status
-    requires way { IsWay J.bounds S.fits S.sends S.keys_between }
+    requires way { IsSender J.bounds S.fits S.sends S.keys_between }
     requires knows { Knows J.bounds seat.old.events met.now }
     requires decided { decided seat.old.events met.now.start ≡ Done fate.now }
     ensures sends { Sends S.sends J.bounds seat.old sender.old (settle_walk met.now fate.now) result sender.new
@@ -155,7 +155,7 @@ fn after_forced<J: JournalId, S: Sender<Request<J>, Reply<J>>>(
     primary: &Primary,
     sender: &mut S,
 ) -> Status
-    requires way { IsWay J.bounds S.fits S.sends S.keys_between }
+    requires way { IsSender J.bounds S.fits S.sends S.keys_between }
     requires knows { Knows J.bounds seat.old.events met.now }
     requires found { IsPrimary seat.old.events met.now.start primary.now }
     ensures sends { Sends S.sends J.bounds seat.old sender.old (after_forced met.now primary.now) result sender.new
@@ -176,7 +176,7 @@ fn force<J: JournalId, S: Sender<Request<J>, Reply<J>>>(
     who: &For,
     sender: &mut S,
 ) -> Status
-    requires way { IsWay J.bounds S.fits S.sends S.keys_between }
+    requires way { IsSender J.bounds S.fits S.sends S.keys_between }
     requires knows { Knows J.bounds seat.old.events met.now }
     requires two_phase { HasTwoPhaseLock seat.old.events met.now.start }
     ensures sends { Sends S.sends J.bounds seat.old sender.old (forced_walk met.now who.now) result sender.new
@@ -195,7 +195,7 @@ fn after_others<J: JournalId, S: Sender<Request<J>, Reply<J>>>(
     others: &Others,
     sender: &mut S,
 ) -> Status
-    requires way { IsWay J.bounds S.fits S.sends S.keys_between }
+    requires way { IsSender J.bounds S.fits S.sends S.keys_between }
     requires knows { Knows J.bounds seat.old.events met.now }
     requires found { IsOthers seat.old.events met.now.start others.now }
     ensures sends { Sends S.sends J.bounds seat.old sender.old (after_others met.now who.now others.now) result
@@ -217,7 +217,7 @@ fn pursue<J: JournalId, S: Sender<Request<J>, Reply<J>>>(
     primary: &LockInfo,
     sender: &mut S,
 ) -> Status
-    requires way { IsWay J.bounds S.fits S.sends S.keys_between }
+    requires way { IsSender J.bounds S.fits S.sends S.keys_between }
     requires knows { Knows J.bounds seat.old.events met.now }
     requires primary { IsPrimarysLock seat.old.events met.now.start primary.now }
     ensures sends { Sends S.sends J.bounds seat.old sender.old (expired_walk met.now who.now primary.now) result
@@ -236,7 +236,7 @@ fn after_primary<J: JournalId, S: Sender<Request<J>, Reply<J>>>(
     primary: &Primary,
     sender: &mut S,
 ) -> Status
-    requires way { IsWay J.bounds S.fits S.sends S.keys_between }
+    requires way { IsSender J.bounds S.fits S.sends S.keys_between }
     requires knows { Knows J.bounds seat.old.events met.now }
     requires found { IsPrimary seat.old.events met.now.start primary.now }
     ensures sends { Sends S.sends J.bounds seat.old sender.old (after_primary met.now who.now primary.now) result
@@ -257,7 +257,7 @@ pub(crate) fn resolve_for<J: JournalId, S: Sender<Request<J>, Reply<J>>>(
     who: &For,
     sender: &mut S,
 ) -> Status
-    requires way { IsWay J.bounds S.fits S.sends S.keys_between }
+    requires way { IsSender J.bounds S.fits S.sends S.keys_between }
     requires knows { Knows J.bounds seat.old.events met.now }
     ensures sends { Sends S.sends J.bounds seat.old sender.old (resolve_walk met.now who.now) result sender.new
         seat.new }
@@ -281,7 +281,7 @@ pub fn resolve<J: JournalId, S: Sender<Request<J>, Reply<J>>>(
     now: Ts,
     sender: &mut S,
 ) -> Resolved<J>
-    requires way { IsWay J.bounds S.fits S.sends S.keys_between }
+    requires way { IsSender J.bounds S.fits S.sends S.keys_between }
     requires told { WasToldOf seat.old.events met.now }
     ensures start { result.start ≡ met.now.start }
     ensures sends { Sends S.sends J.bounds seat.old sender.old (resolve_walk met.now (For.Reader reader now))

@@ -14,7 +14,7 @@ use Rattle.tx_core.specs.Worlds.{IsWorldRun}
 use Rattle.tx_core.proofs.seats.Beginnings.{begins_all}
 use Rattle.tx_journal.specs.Known.{Known}
 use Rattle.tx_journal.specs.Replies.{Asked, Given}
-use Rattle.tx_journal.specs.Senders.{Reached, IsWay}
+use Rattle.tx_journal.specs.Senders.{Reached, IsSender}
 use Rattle.tx_transaction.specs.declared.state.Response.{Response}
 use Rattle.tx_transaction.specs.declared.state.Response.TheVariants as response
 use Rattle.tx_transaction.specs.declared.state.Miss.{Miss}
@@ -65,7 +65,7 @@ module _ (bounds : List Key) (h : History) (run : IsWorldRun bounds h) (s : Sess
   seen_by entered same a was = tt
 
 module _ {S : Type 0} (bounds : List Key) (fits : S → Asked → Type 0) (sends : S → Asked → Reached → S → Type 0)
-    (keys_between : S → List Key) (way : IsWay bounds fits sends keys_between) (k new : Known) (a b : S)
+    (keys_between : S → List Key) (way : IsSender bounds fits sends keys_between) (k new : Known) (a b : S)
     (s after : SessionState) (key : Key) (r : Answer) where
   module _ (entered : Option Mutation) (same : (h : History) (found : Option Value) → Finds None h s.start key found
       → Finds entered h s.start key found) where
@@ -124,7 +124,7 @@ module _ {S : Type 0} (bounds : List Key) (fits : S → Asked → Type 0) (sends
 
 -- what a session's scan finds
 pub scan_finds : {S : Type 0} (bounds : List Key) (fits : S → Asked → Type 0) (sends : S → Asked → Reached → S → Type 0)
-    (keys_between : S → List Key) → AreRising bounds → IsWay bounds fits sends keys_between
+    (keys_between : S → List Key) → AreRising bounds → IsSender bounds fits sends keys_between
     → (k new : Known) (a b : S) (s after : SessionState) (from to : Key) (limit : ℕ) (r : Answer)
     → IsWorldRun bounds new.events → Sends sends bounds k a (scan_walk s bounds from to limit) (after, Ok r) b new
     → AnswersScan new.events s.start from to limit r
@@ -136,7 +136,7 @@ scan_finds bounds fits sends keys_between rising way k new a b s after from to l
 -- ---- the calls of a session that runs: it began at this start, and its model is this
 
 module _ {S : Type 0} (bounds : List Key) (fits : S → Asked → Type 0) (sends : S → Asked → Reached → S → Type 0)
-    (keys_between : S → List Key) (way : IsWay bounds fits sends keys_between) (old view new : Seated) (start : ℕ)
+    (keys_between : S → List Key) (way : IsSender bounds fits sends keys_between) (old view new : Seated) (start : ℕ)
     (view_is : old ≡ view) (start_is : old.state.start ≡ start) (a b : S) where
   pub if_get_finds : (key : Key) (r : Result Answer Miss)
       → Sends sends bounds old.seat a (get_walk old.state key) (new.state, r) b new.seat

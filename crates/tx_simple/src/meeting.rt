@@ -1,6 +1,6 @@
 //! A lock that a session met, resolved for it.
 ghost use Rattle.std.specs.Prelude.{◌≡◌};
-ghost use Rattle.tx_journal.specs.Senders.{IsWay};
+ghost use Rattle.tx_journal.specs.Senders.{IsSender};
 ghost use Rattle.tx_simple.specs.Meeting.{Resolves};
 ghost use Rattle.tx_simple.specs.Updates.{Follows, GoesOn};
 
@@ -20,7 +20,7 @@ pub fn resolve_met<J: JournalId, S: Sender<Request<J>, Reply<J>>>(
     now: Ts,
     sender: &mut S,
 ) -> Resolved<J>
-    requires way { IsWay J.bounds S.fits S.sends S.keys_between }
+    requires way { IsSender J.bounds S.fits S.sends S.keys_between }
     ensures start { result.start ≡ met.info.start }
     ensures sends { Resolves S.sends J.bounds seat.old sender.old met reader now result.status sender.new seat.new }
     ensures told { result.events ≡ seat.new.events }
@@ -45,7 +45,7 @@ pub(crate) fn clear_met<J: JournalId, S: Sender<Request<J>, Reply<J>>>(
     resolver: &mut Seat<J>,
     sender: &mut S,
 ) -> Result<Status, Stop>
-    requires way { IsWay J.bounds S.fits S.sends S.keys_between }
+    requires way { IsSender J.bounds S.fits S.sends S.keys_between }
     ensures session { Follows session.old session.new }
     ensures buffer { session.new.state.buffer ≡ session.old.state.buffer }
     ensures resolver { GoesOn resolver.old resolver.new }

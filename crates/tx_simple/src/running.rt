@@ -3,7 +3,7 @@ ghost use Rattle.std.specs.Prelude.{◌≡◌, true, false, Some, OnOk, OnErr, I
 ghost use Rattle.tx_types.specs.declared.mutation.Mutation.TheVariants as mutation;
 ghost use Rattle.tx_transaction.specs.Buffers.{touched, put_over, inserted, locked, buffered};
 ghost use Rattle.tx_transaction.specs.Sessions.{is_declared, can_commit, can_abort};
-ghost use Rattle.tx_journal.specs.Senders.{IsWay};
+ghost use Rattle.tx_journal.specs.Senders.{IsSender};
 ghost use Rattle.tx_simple.specs.Reads.{AnswersRead, AnswersScan};
 ghost use Rattle.tx_simple.specs.Updates.{Follows, GoesOn};
 
@@ -51,14 +51,14 @@ pub(crate) struct Running<'a, J: JournalId, S: Sender<Request<J>, Reply<J>>, B: 
 
 impl<'a, J: JournalId, S: Sender<Request<J>, Reply<J>>, B: Begun> Model for Running<'a, J, S, B> {
     ghost use Rattle.tx_client.specs.Calls.{Seated};
-    ghost use Rattle.tx_journal.specs.Senders.{IsWay};
+    ghost use Rattle.tx_journal.specs.Senders.{IsSender};
     ghost use Rattle.tx_simple.specs.Updates.{Follows, GoesOn};
 
     ghost Value = { Seated };
 
     ghost view = { λ t. t.session };
 
-    ghost invariant = { λ t. IsWay J.bounds S.fits S.sends S.keys_between
+    ghost invariant = { λ t. IsSender J.bounds S.fits S.sends S.keys_between
         × Follows B.session t.session × GoesOn B.resolver t.resolver };
 }
 
@@ -81,7 +81,7 @@ impl<'a, J: JournalId, S: Sender<Request<J>, Reply<J>>, B: Begun> Running<'a, J,
         resolver: Seat<J>,
         sender: &'a mut S,
     ) -> Running<'a, J, S, B>
-        requires way { IsWay J.bounds S.fits S.sends S.keys_between }
+        requires way { IsSender J.bounds S.fits S.sends S.keys_between }
         requires session { session ≡ B.session }
         requires resolver { resolver ≡ B.resolver }
         ensures { result ≡ session }

@@ -1,7 +1,7 @@
 //! A work in one transaction: one try of an update.
 ghost use Rattle.std.specs.Prelude.{◌≡◌, true, false, [], OnOk, IfOk, IfErr};
 ghost use Rattle.tx_transaction.specs.Sessions.{is_declared, has_primary};
-ghost use Rattle.tx_journal.specs.Senders.{IsWay};
+ghost use Rattle.tx_journal.specs.Senders.{IsSender};
 ghost use Rattle.tx_simple.specs.Updates.{GoesOn, Follows, Writes, Wrote, Works};
 ghost use Rattle.tx_simple.specs.Endings.{EndsOver, IsUnended};
 
@@ -34,7 +34,7 @@ fn applied<J: JournalId, S: Sender<Request<J>, Reply<J>>, W: Work, B: Begun>(
     work: &mut W,
     sender: &mut S,
 ) -> Applied<J, W::Out, W::Err>
-    requires way { IsWay J.bounds S.fits S.sends S.keys_between }
+    requires way { IsSender J.bounds S.fits S.sends S.keys_between }
     requires open { is_declared session.state ≡ false }
     requires session { session ≡ B.session }
     requires resolver { resolver ≡ B.resolver }
@@ -57,7 +57,7 @@ fn apply<J: JournalId, S: Sender<Request<J>, Reply<J>>, W: Work>(
     work: &mut W,
     sender: &mut S,
 ) -> Applied<J, W::Out, W::Err>
-    requires way { IsWay J.bounds S.fits S.sends S.keys_between }
+    requires way { IsSender J.bounds S.fits S.sends S.keys_between }
     requires open { is_declared session.state ≡ false }
     ensures session { Follows session result.0 }
     ensures resolver { GoesOn resolver result.1 }
@@ -73,7 +73,7 @@ fn carried<J: JournalId, S: Sender<Request<J>, Reply<J>>, B: Begun>(
     resolver: Seat<J>,
     sender: &mut S,
 ) -> Done<J>
-    requires way { IsWay J.bounds S.fits S.sends S.keys_between }
+    requires way { IsSender J.bounds S.fits S.sends S.keys_between }
     requires session { session ≡ B.session }
     requires resolver { resolver ≡ B.resolver }
     ensures session { Follows B.session result.0 }
@@ -92,7 +92,7 @@ fn carry<J: JournalId, S: Sender<Request<J>, Reply<J>>>(
     resolver: Seat<J>,
     sender: &mut S,
 ) -> Done<J>
-    requires way { IsWay J.bounds S.fits S.sends S.keys_between }
+    requires way { IsSender J.bounds S.fits S.sends S.keys_between }
     ensures session { Follows session result.0 }
     ensures resolver { GoesOn resolver result.1 }
 {
@@ -107,7 +107,7 @@ fn write<J: JournalId, S: Sender<Request<J>, Reply<J>>>(
     terms: &Terms,
     sender: &mut S,
 ) -> Done<J>
-    requires way { IsWay J.bounds S.fits S.sends S.keys_between }
+    requires way { IsSender J.bounds S.fits S.sends S.keys_between }
     requires open { is_declared session.state ≡ false }
     ensures session { Writes session result.0 }
     ensures resolver { GoesOn resolver result.1 }
@@ -132,7 +132,7 @@ fn run<J: JournalId, S: Sender<Request<J>, Reply<J>>, W: Work>(
     work: &mut W,
     sender: &mut S,
 ) -> Ran<J, W::Out, W::Err>
-    requires way { IsWay J.bounds S.fits S.sends S.keys_between }
+    requires way { IsSender J.bounds S.fits S.sends S.keys_between }
     requires open { is_declared session.state ≡ false }
     requires empty { session.state.buffer ≡ [] }
     ensures session { Writes session result.0 }
@@ -157,7 +157,7 @@ pub(crate) fn try_once<J: JournalId, S: Sender<Request<J>, Reply<J>>, W: Work>(
     work: &mut W,
     sender: &mut S,
 ) -> Result<Ended<J, W::Out, W::Err>, Unended<J, W::Err>>
-    requires way { IsWay J.bounds S.fits S.sends S.keys_between }
+    requires way { IsSender J.bounds S.fits S.sends S.keys_between }
     ensures ended { IfOk result (λ e. EndsOver W.does J.bounds terms.now seats work.old 0 e work.new) }
     ensures unended { IfErr result (λ u. IsUnended W.does J.bounds terms.now seats work.old 0 u work.new) }
 {

@@ -1,6 +1,6 @@
 //! A transaction from its begin to its end, in one call.
 ghost use Rattle.std.specs.Prelude.{ℕ, ◌≡◌, ◌≤◌, IfOk, IfErr};
-ghost use Rattle.tx_journal.specs.Senders.{IsWay};
+ghost use Rattle.tx_journal.specs.Senders.{IsSender};
 ghost use Rattle.tx_simple.specs.Endings.{EndsOver, IsUnended};
 
 use crate::ending::{Ended, Seats, Unended};
@@ -62,7 +62,7 @@ pub fn update<J: JournalId, S: Sender<Request<J>, Reply<J>>, W: Work>(
     work: &mut W,
     sender: &mut S,
 ) -> Result<Ended<J, W::Out, W::Err>, Unended<J, W::Err>>
-    requires way { IsWay J.bounds S.fits S.sends S.keys_between }
+    requires way { IsSender J.bounds S.fits S.sends S.keys_between }
     ensures ended { IfOk result
         (λ e. (n : ℕ) × (n ≤ again) × EndsOver W.does J.bounds terms seats work.old n e work.new) }
     ensures unended { IfErr result

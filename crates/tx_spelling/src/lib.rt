@@ -3,10 +3,10 @@
 #![tactic(auto)]
 
 mod byte_order;
+mod encoded_key;
 mod spelling;
-mod spelt_key;
 mod version;
 
+pub use encoded_key::EncodedKey;
 pub use spelling::{KeyBytes, MAX_ENCODED_REST, ROOM};
-pub use spelt_key::SpeltKey;
 pub use version::VersionBytes;

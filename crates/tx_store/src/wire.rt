@@ -1,5 +1,5 @@
 //! A way to the regions of a store, for sessions and resolvers.
-ghost use Rattle.tx_journal.specs.Senders.{IsWay, LosesNothing};
+ghost use Rattle.tx_journal.specs.Senders.{IsSender, LosesNothing};
 
 use crate::store::Store;
 use std::sync::Wait;
@@ -24,7 +24,7 @@ impl<'a, J: JournalId, F: Families + Drop, R: Wait> Wire<'a, J, F, R> {
     /// For proofs: it takes what some region holds, a reply is to the request that was sent, and
     /// none is lost. It does nothing when it runs.
     pub fn show(&self)
-        ensures way { IsWay J.bounds
+        ensures way { IsSender J.bounds
             ⟦<Wire<'a, J, F, R> as Sender<Request<J>, Reply<J>>>⟧.fits
             ⟦<Wire<'a, J, F, R> as Sender<Request<J>, Reply<J>>>⟧.sends
             ⟦<Wire<'a, J, F, R> as Sender<Request<J>, Reply<J>>>⟧.keys_between }

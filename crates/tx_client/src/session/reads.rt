@@ -5,7 +5,7 @@ ghost use Rattle.tx_core.specs.Allowed.{Allowed};
 ghost use Rattle.tx_transaction.specs.declared.state.Miss.TheVariants as miss;
 ghost use Rattle.tx_client.specs.declared.part.ScanPart.TheVariants as part;
 ghost use Rattle.tx_transaction.specs.Sessions.{read_of};
-ghost use Rattle.tx_journal.specs.Senders.{IsHeld, IsWay};
+ghost use Rattle.tx_journal.specs.Senders.{IsHeld, IsSender};
 ghost use Rattle.tx_client.specs.Rooms.{HasRoom, IsScan, HasUpto};
 ghost use Rattle.tx_client.specs.Walks.{Sends, look_walk, get_walk, part_walk, look_part, part_by, scan_walk, part_of, low_of, high_of, enough, lesser, greater};
 
@@ -26,7 +26,7 @@ impl<J: JournalId> Session<J> {
         body: Body,
         sender: &mut S,
     ) -> Result<Answer, Miss>
-        requires way { IsWay J.bounds S.fits S.sends S.keys_between }
+        requires way { IsSender J.bounds S.fits S.sends S.keys_between }
         requires held { IsHeld J.bounds body }
         requires allowed { Allowed self.old.seat.events body }
         ensures sends { Sends S.sends J.bounds self.old.seat sender.old (look_walk self.old.state body) (
@@ -45,7 +45,7 @@ impl<J: JournalId> Session<J> {
         key: &Key,
         sender: &mut S,
     ) -> Result<Answer, Miss>
-        requires way { IsWay J.bounds S.fits S.sends S.keys_between }
+        requires way { IsSender J.bounds S.fits S.sends S.keys_between }
         ensures { (result ≡ Err miss.Fault) × (self.new ≡ self.old) × (sender.new ≡ sender.old)
             ⊎ Sends S.sends J.bounds self.old.seat sender.old
             (look_walk self.old.state (read_of self.old.state key.now)) (
@@ -66,7 +66,7 @@ impl<J: JournalId> Session<J> {
         key: &Key,
         sender: &mut S,
     ) -> Result<Answer, Miss>
-        requires way { IsWay J.bounds S.fits S.sends S.keys_between }
+        requires way { IsSender J.bounds S.fits S.sends S.keys_between }
         ensures { Sends S.sends J.bounds self.old.seat sender.old (get_walk self.old.state key.now) (
           self.new.state,
           result,
@@ -212,7 +212,7 @@ impl<J: JournalId> Session<J> {
         rows: KeyValues,
         sender: &mut S,
     ) -> ScanPart
-        requires way { IsWay J.bounds S.fits S.sends S.keys_between }
+        requires way { IsSender J.bounds S.fits S.sends S.keys_between }
         requires held { IsHeld J.bounds body }
         requires allowed { Allowed self.old.seat.events body }
         requires left { IsScan (limit - length rows) body }
@@ -238,7 +238,7 @@ impl<J: JournalId> Session<J> {
         rows: KeyValues,
         sender: &mut S,
     ) -> ScanPart
-        requires way { IsWay J.bounds S.fits S.sends S.keys_between }
+        requires way { IsSender J.bounds S.fits S.sends S.keys_between }
         requires within { n ≤ length J.bounds }
         ensures { Sends S.sends J.bounds self.old.seat sender.old
             (part_walk self.old.state (greater from.now (low_of from.now J.bounds n)) (high_of to.now J.bounds n) limit
@@ -264,7 +264,7 @@ impl<J: JournalId> Session<J> {
         limit: u32,
         sender: &mut S,
     ) -> Result<Answer, Miss>
-        requires way { IsWay J.bounds S.fits S.sends S.keys_between }
+        requires way { IsSender J.bounds S.fits S.sends S.keys_between }
         ensures { Sends S.sends J.bounds self.old.seat sender.old
             (scan_walk self.old.state J.bounds from.now to.now limit) (
               self.new.state,

@@ -11,7 +11,7 @@ use tx_plan::{
     BatchRollback, Commit, Dropped, KeyChange, Plan, Prewrite, plan_batch_rollback, plan_commit,
     plan_prewrite,
 };
-use tx_spelling::SpeltKey;
+use tx_spelling::EncodedKey;
 use tx_types::{Fault, Key, Mode, Mutation, Secondaries, Ts, Value};
 
 /// What values are cut from.
@@ -37,7 +37,7 @@ fn body(alloc: Global, key: Key, start: u64, mutation: Mutation) -> Result<Prewr
 fn put_lock<F: Families>(
     alloc: Global,
     families: &mut F,
-    key: &SpeltKey<'_>,
+    key: &EncodedKey<'_>,
     body: &Prewrite,
     change: KeyChange,
 ) -> Result<bool, Fault>
@@ -63,7 +63,7 @@ fn change_of(planned: Plan) -> KeyChange
 }
 
 fn locks<F: Families>(alloc: Global, families: &mut F, body: &Prewrite) -> Result<bool, Fault> {
-    let key = SpeltKey::new(alloc, &body.key)?;
+    let key = EncodedKey::new(alloc, &body.key)?;
     let view = families.view(alloc, &key, body.start, body.start)?;
     let loaded = Ts::new(1_000_000);
     let planned = plan_prewrite(&view, false, Ts::ZERO, loaded, Ts::ZERO, body);
@@ -99,7 +99,7 @@ pub fn put<F: Families>(
 }
 
 fn settles<F: Families>(alloc: Global, families: &mut F, body: &Commit) -> Result<bool, Fault> {
-    let key = SpeltKey::new(alloc, &body.key)?;
+    let key = EncodedKey::new(alloc, &body.key)?;
     let view = families.view(alloc, &key, body.start, body.commit)?;
     let change = change_of(plan_commit(&view, Ts::ZERO, body));
     families.apply(alloc, &key, change, 1)?;
@@ -128,7 +128,7 @@ fn aborts<F: Families>(
     families: &mut F,
     body: &BatchRollback,
 ) -> Result<(bool, bool), Fault> {
-    let key = SpeltKey::new(alloc, &body.key)?;
+    let key = EncodedKey::new(alloc, &body.key)?;
     let view = families.view(alloc, &key, body.start, body.start)?;
     let change = change_of(plan_batch_rollback(&view, Ts::ZERO, body));
     families.apply(alloc, &key, change, 1)?;

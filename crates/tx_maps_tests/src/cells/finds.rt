@@ -3,7 +3,7 @@ use crate::cells::steps::{At, Range, Record};
 use std::alloc::Global;
 use tx_cells::{Families, KeyVersions};
 use tx_plan::{Answer, Infos, LockHead, ReadView, RecordHead, Scan, Starts};
-use tx_spelling::SpeltKey;
+use tx_spelling::EncodedKey;
 use tx_types::{Fault, Key, LockInfo, Ts};
 
 /// Whether a read sees a value of so many bytes, or none.
@@ -14,7 +14,7 @@ pub fn read<F: Families>(
     bytes: Option<usize>,
 ) -> Result<bool, Fault> {
     let key = Key::new(alloc, &[at.0])?;
-    let spelt = SpeltKey::new(alloc, &key)?;
+    let spelt = EncodedKey::new(alloc, &key)?;
     let view = families.read(alloc, &spelt, Ts::new(at.1))?;
     let right = bytes_of(&view) == bytes;
     drop(view);
@@ -49,7 +49,7 @@ pub fn stands<F: Families>(
     counts: (usize, usize),
 ) -> Result<bool, Fault> {
     let key = Key::new(alloc, &[lock.0])?;
-    let spelt = SpeltKey::new(alloc, &key)?;
+    let spelt = EncodedKey::new(alloc, &key)?;
     let copy = families.cells(alloc, &spelt)?;
     let right = is_copy(&copy, lock.1, counts);
     drop(copy);
@@ -78,7 +78,7 @@ pub fn met<F: Families>(
     record: Record,
 ) -> Result<bool, Fault> {
     let key = Key::new(alloc, &[at.0])?;
-    let spelt = SpeltKey::new(alloc, &key)?;
+    let spelt = EncodedKey::new(alloc, &key)?;
     let view = families.view(alloc, &spelt, Ts::ZERO, Ts::new(at.1))?;
     Ok(record_of(view.at_commit) == record)
 }
@@ -92,7 +92,7 @@ fn is_info(info: LockInfo, start: u64, min: u64) -> bool {
 /// Whether a lock with this start and this minimum is told of on a key.
 pub fn told<F: Families>(alloc: Global, families: &F, lock: At, min: u64) -> Result<bool, Fault> {
     let key = Key::new(alloc, &[lock.0])?;
-    let spelt = SpeltKey::new(alloc, &key)?;
+    let spelt = EncodedKey::new(alloc, &key)?;
     match families.lock_info(alloc, &spelt)? {
         Some(info) => Ok(is_info(info, lock.1, min)),
         None => Ok(false),

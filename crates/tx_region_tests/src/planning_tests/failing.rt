@@ -6,7 +6,7 @@ use std::alloc::Global;
 use std::sync::atomic::{AtomicU64, Ordering};
 use tx_cells::{Changes, Families, Fresh, Holds, KeyVersions, Sees};
 use tx_plan::{Answer, Dropped, Infos, KeyChange, NewLock, Prewrite, ReadView, Scan, TxnView};
-use tx_spelling::SpeltKey;
+use tx_spelling::EncodedKey;
 use tx_types::{Fault, LockInfo, Ts};
 
 /// Families whose Nth call that may be refused memory is, and no other.
@@ -38,7 +38,7 @@ impl<F: Fresh, const N: u64> Sees for Failing<F, N> {
     fn view(
         &self,
         alloc: Global,
-        key: &SpeltKey<'_>,
+        key: &EncodedKey<'_>,
         start: Ts,
         commit: Ts,
     ) -> Result<TxnView, Fault> {
@@ -46,12 +46,12 @@ impl<F: Fresh, const N: u64> Sees for Failing<F, N> {
         self.cells.view(alloc, key, start, commit)
     }
 
-    fn read(&self, alloc: Global, key: &SpeltKey<'_>, at: Ts) -> Result<ReadView, Fault> {
+    fn read(&self, alloc: Global, key: &EncodedKey<'_>, at: Ts) -> Result<ReadView, Fault> {
         self.count()?;
         self.cells.read(alloc, key, at)
     }
 
-    fn lock_info(&self, alloc: Global, key: &SpeltKey<'_>) -> Result<Option<LockInfo>, Fault> {
+    fn lock_info(&self, alloc: Global, key: &EncodedKey<'_>) -> Result<Option<LockInfo>, Fault> {
         self.count()?;
         self.cells.lock_info(alloc, key)
     }
@@ -76,12 +76,12 @@ impl<F: Fresh, const N: u64> Sees for Failing<F, N> {
         self.cells.count_below(alloc, safe)
     }
 
-    fn cells(&self, alloc: Global, key: &SpeltKey<'_>) -> Result<KeyVersions, Fault> {
+    fn cells(&self, alloc: Global, key: &EncodedKey<'_>) -> Result<KeyVersions, Fault> {
         self.count()?;
         self.cells.cells(alloc, key)
     }
 
-    fn number(&self, key: &SpeltKey<'_>) -> u64 {
+    fn number(&self, key: &EncodedKey<'_>) -> u64 {
         self.cells.number(key)
     }
 }
@@ -94,7 +94,7 @@ impl<F: Fresh, const N: u64> Changes for Failing<F, N> {
     fn put_lock(
         &mut self,
         alloc: Global,
-        key: &SpeltKey<'_>,
+        key: &EncodedKey<'_>,
         body: &Prewrite,
         new: NewLock,
         number: u64,
@@ -106,7 +106,7 @@ impl<F: Fresh, const N: u64> Changes for Failing<F, N> {
     fn apply(
         &mut self,
         alloc: Global,
-        key: &SpeltKey<'_>,
+        key: &EncodedKey<'_>,
         change: KeyChange,
         number: u64,
     ) -> Result<(), Fault> {

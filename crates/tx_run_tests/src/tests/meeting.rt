@@ -11,7 +11,7 @@ use tx_nested::NestedCells;
 use tx_plan::{Answer, Dropped, Infos, KeyChange, NewLock, Prewrite, ReadView, Scan, TxnView};
 use tx_run::{Makes, Settings, run_script};
 use tx_sched::Open;
-use tx_spelling::SpeltKey;
+use tx_spelling::EncodedKey;
 use tx_text::Broken;
 use tx_types::{Fault, Key, LockInfo, Ts};
 
@@ -96,7 +96,7 @@ impl Sees for Meeting {
     fn view(
         &self,
         alloc: Global,
-        key: &SpeltKey<'_>,
+        key: &EncodedKey<'_>,
         start: Ts,
         commit: Ts,
     ) -> Result<TxnView, Fault> {
@@ -104,11 +104,11 @@ impl Sees for Meeting {
         self.cells.view(alloc, key, start, commit)
     }
 
-    fn read(&self, alloc: Global, key: &SpeltKey<'_>, at: Ts) -> Result<ReadView, Fault> {
+    fn read(&self, alloc: Global, key: &EncodedKey<'_>, at: Ts) -> Result<ReadView, Fault> {
         self.cells.read(alloc, key, at)
     }
 
-    fn lock_info(&self, alloc: Global, key: &SpeltKey<'_>) -> Result<Option<LockInfo>, Fault> {
+    fn lock_info(&self, alloc: Global, key: &EncodedKey<'_>) -> Result<Option<LockInfo>, Fault> {
         self.cells.lock_info(alloc, key)
     }
 
@@ -128,11 +128,11 @@ impl Sees for Meeting {
         self.cells.count_below(alloc, safe)
     }
 
-    fn cells(&self, alloc: Global, key: &SpeltKey<'_>) -> Result<KeyVersions, Fault> {
+    fn cells(&self, alloc: Global, key: &EncodedKey<'_>) -> Result<KeyVersions, Fault> {
         self.cells.cells(alloc, key)
     }
 
-    fn number(&self, key: &SpeltKey<'_>) -> u64 {
+    fn number(&self, key: &EncodedKey<'_>) -> u64 {
         self.cells.number(key)
     }
 }
@@ -145,7 +145,7 @@ impl Changes for Meeting {
     fn put_lock(
         &mut self,
         alloc: Global,
-        key: &SpeltKey<'_>,
+        key: &EncodedKey<'_>,
         body: &Prewrite,
         new: NewLock,
         number: u64,
@@ -156,7 +156,7 @@ impl Changes for Meeting {
     fn apply(
         &mut self,
         alloc: Global,
-        key: &SpeltKey<'_>,
+        key: &EncodedKey<'_>,
         change: KeyChange,
         number: u64,
     ) -> Result<(), Fault> {

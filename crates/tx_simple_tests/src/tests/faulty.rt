@@ -1,5 +1,5 @@
 //! A way to the regions of a store with one fault.
-ghost use Rattle.tx_journal.specs.Senders.{IsWay};
+ghost use Rattle.tx_journal.specs.Senders.{IsSender};
 
 use std::mem::replace;
 use std::sync::Wait;
@@ -47,7 +47,7 @@ impl<'a, J: JournalId, R: Wait> Faulty<'a, J, R> {
 
     /// For proofs: it is a way. It does nothing when it runs.
     pub fn show(&self)
-        ensures { IsWay J.bounds ⟦<Faulty<'a, J, R> as Sender<Request<J>, Reply<J>>>⟧.fits ⟦<Faulty<'a, J, R> as Sender<Request<J>, Reply<J>>>⟧.sends ⟦<Faulty<'a, J, R> as Sender<Request<J>, Reply<J>>>⟧.keys_between }
+        ensures { IsSender J.bounds ⟦<Faulty<'a, J, R> as Sender<Request<J>, Reply<J>>>⟧.fits ⟦<Faulty<'a, J, R> as Sender<Request<J>, Reply<J>>>⟧.sends ⟦<Faulty<'a, J, R> as Sender<Request<J>, Reply<J>>>⟧.keys_between }
     {
         let _ = self.spared;
     }

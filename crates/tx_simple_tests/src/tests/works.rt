@@ -1,5 +1,5 @@
 //! What the updates of these tests do.
-ghost use Rattle.tx_journal.specs.Senders.{IsWay};
+ghost use Rattle.tx_journal.specs.Senders.{IsSender};
 
 use std::alloc::Global;
 use std::sync::Wait;
@@ -172,7 +172,7 @@ pub fn run<J: JournalId, S: Sender<Request<J>, Reply<J>>, W: Work>(
     work: &mut W,
     sender: &mut S,
 ) -> Option<((&'static str, &'static str), Seats<J>)>
-    requires way { IsWay J.bounds S.fits S.sends S.keys_between }
+    requires way { IsSender J.bounds S.fits S.sends S.keys_between }
 {
     let terms = Terms {
         mode: how.0,

@@ -10,7 +10,7 @@ use std::thread::yield_now;
 use tx_cells::{Changes, Families, Holds, KeyVersions, Sees};
 use tx_nested::NestedCells;
 use tx_plan::{Answer, Dropped, Infos, KeyChange, NewLock, Prewrite, ReadView, Scan, TxnView};
-use tx_spelling::SpeltKey;
+use tx_spelling::EncodedKey;
 use tx_types::{Fault, Key, LockInfo, Ts};
 
 /// The first look-ups of `a` and `b`, each of which looks for the other.
@@ -110,7 +110,7 @@ impl Sees for Meeting {
     fn view(
         &self,
         alloc: Global,
-        key: &SpeltKey<'_>,
+        key: &EncodedKey<'_>,
         start: Ts,
         commit: Ts,
     ) -> Result<TxnView, Fault> {
@@ -118,11 +118,11 @@ impl Sees for Meeting {
         self.cells.view(alloc, key, start, commit)
     }
 
-    fn read(&self, alloc: Global, key: &SpeltKey<'_>, at: Ts) -> Result<ReadView, Fault> {
+    fn read(&self, alloc: Global, key: &EncodedKey<'_>, at: Ts) -> Result<ReadView, Fault> {
         self.cells.read(alloc, key, at)
     }
 
-    fn lock_info(&self, alloc: Global, key: &SpeltKey<'_>) -> Result<Option<LockInfo>, Fault> {
+    fn lock_info(&self, alloc: Global, key: &EncodedKey<'_>) -> Result<Option<LockInfo>, Fault> {
         self.cells.lock_info(alloc, key)
     }
 
@@ -142,11 +142,11 @@ impl Sees for Meeting {
         self.cells.count_below(alloc, safe)
     }
 
-    fn cells(&self, alloc: Global, key: &SpeltKey<'_>) -> Result<KeyVersions, Fault> {
+    fn cells(&self, alloc: Global, key: &EncodedKey<'_>) -> Result<KeyVersions, Fault> {
         self.cells.cells(alloc, key)
     }
 
-    fn number(&self, key: &SpeltKey<'_>) -> u64 {
+    fn number(&self, key: &EncodedKey<'_>) -> u64 {
         self.cells.number(key)
     }
 }
@@ -159,7 +159,7 @@ impl Changes for Meeting {
     fn put_lock(
         &mut self,
         alloc: Global,
-        key: &SpeltKey<'_>,
+        key: &EncodedKey<'_>,
         body: &Prewrite,
         new: NewLock,
         number: u64,
@@ -170,7 +170,7 @@ impl Changes for Meeting {
     fn apply(
         &mut self,
         alloc: Global,
-        key: &SpeltKey<'_>,
+        key: &EncodedKey<'_>,
         change: KeyChange,
         number: u64,
     ) -> Result<(), Fault> {

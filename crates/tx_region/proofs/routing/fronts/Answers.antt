@@ -18,9 +18,9 @@ loop-index-preserved c =
     let n = c.loop-index.index in
     let bounds = c.args.bounds.now in
     let items = c.loop-index.fronts.items in
-    let f = c.front_of.result in
+    let f = c.front.result in
     let bound = c.index-bounds-index.result in
-    let next = λ (d : Key). subst (λ b. Tells b f) (c.index-bounds-index.is ∙ get_or_default bounds n bound d c.loop-index-test.true) (front_tells bound f c.front_of.ensures.value c.front_of.ensures.bytes) in
+    let next = λ (d : Key). subst (λ b. Tells b f) (c.index-bounds-index.is ∙ get_or_default bounds n bound d c.loop-index-test.true) (front_tells bound f c.front.ensures.value c.front.ensures.bytes) in
     record {
       made = omega (arith, kept.made, c.push_reserved.ensures.len);
       room = omega (arith, kept.room, c.push_reserved.ensures.capacity);

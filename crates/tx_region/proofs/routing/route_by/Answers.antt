@@ -9,8 +9,8 @@ returns-then-is_reached c =
     let n = c.partition_point-index.result in
     let count = c.requires.fronts.0 in
     let upto = c.partition_point-index.ensures.bound in
-    let is = c.front_of-front.ensures.value in
-    let bytes = c.front_of-front.ensures.bytes in
+    let is = c.front-front.ensures.value in
+    let bytes = c.front-front.ensures.bytes in
     sym (between bounds c.requires.rising k n (omega (arith, upto, count)) (
     λ d some. (c.requires.fronts.1 (n - 1) d (omega (arith, upto, count, some)) k bytes).1 (omega (arith, is, c.if-is_reached.ensures refl some))
     ) (λ d within. (c.requires.fronts.1 n d within k bytes).0 (omega (arith, is, c.if-is_past.ensures refl (omega (arith, within, count))))))

@@ -4,7 +4,7 @@ use Rattle.std.specs.Ordering.{nat_cmp}
 use Rattle.tx_types.specs.declared.write.WriteRec.{WriteRec}
 use Rattle.tx_cells.specs.Contents.{OnKey, cells_of}
 use Rattle.tx_cells.specs.Afterwards.{Collected}
-use Rattle.tx_timeline.specs.Indexes.{goes_below}
+use Rattle.tx_nested.specs.Indexes.{goes_below}
 use Rattle.tx_nested.specs.Nested.{held}
 use Rattle.tx_cells.proofs.Facts.{stays_whole}
 use Rattle.tx_cells.proofs.Maps.{same_maps}

@@ -1,8 +1,0 @@
--- The index of a timestamp holds what is found at it.
-use Rattle.std.proofs.Common.{◌∙◌}
-use Rattle.tx_timeline.proofs.Finding.{held_is}
-use Rattle.tx_timeline.proofs.Timeline.get.Goals as goal
-
-pub returns : goal.returns
-returns g c = c.value_in.ensures
-    ∙ held_is c.args.self.now.entries c.args.at c.index.result c.index.ensures.ordered c.index.ensures.index
