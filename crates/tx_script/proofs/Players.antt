@@ -1,5 +1,5 @@
 -- A player's next line: it goes on by it, or stays where it was.
-use Rattle.std.proofs.Common.{◌≡◌, ◌≤◌, ◌+◌, ℕ, suc, List, [], ◌∷◌, ◌++◌, length, Result, Ok, Err, refl, sym, ap, subst, ◌∙◌, append-nil, arith}
+use Rattle.std.proofs.Common.{◌≡◌, ◌<◌, ◌≤◌, ◌+◌, ℕ, suc, List, [], ◌∷◌, ◌++◌, length, Result, Ok, Err, OnErr, refl, sym, ap, subst, ◌∙◌, append-nil, arith}
 use Rattle.serde_json.specs.Data.{Items}
 use Rattle.tx_types.specs.declared.fault.Cause.{Cause}
 use Rattle.tx_types.specs.declared.key.Key.{Key}
@@ -16,6 +16,11 @@ use Rattle.tx_script.specs.Loops.{Kept}
 use Rattle.tx_script.specs.Players.{PlayerState, after, SoFar, HasPlayed, IsPlayer, EndWellWith}
 use Rattle.tx_script.proofs.Scripts.{so_next}
 use Rattle.tx_script.proofs.AllTelling.{is_play}
+
+-- what is so after any refusal
+pub on_err_any : {T E : Type 0} (P : Type 0) (r : Result T E) → P → OnErr r P
+on_err_any P (Ok v) p = tt
+on_err_any P (Err e) p = p
 
 module _ (bounds : List Key) where
   -- it has played nothing

@@ -243,6 +243,9 @@ module _ (bounds : List Key) where
       abbrev stop : TurnedBy bounds (λ refused. line_turn bounds refused (number + 1) line) (Err why) e next
       stop = exactly number e next c _ goes le
 
+      stayed : next.network.newest ≡ e.network.newest
+      stayed = ap (λ (s : EngineState). s.network.history) stop.0
+
       abbrev last : Played
       last = faulted (engine_state e) (number + 1) why
 
@@ -264,7 +267,7 @@ module _ (bounds : List Key) where
         soon.told ++ [],
         after x.done last,
         fault_plays,
-        sym stop.0,
+        sym stayed,
         subst (Appends old new'') (sym (render_more x.done (
           number + 1,
           fault_words why,
@@ -284,7 +287,7 @@ module _ (bounds : List Key) where
         more,
         sym (append-nil all),
         fault_plays,
-        subst (Begins e.network.newest) (sym stop.0) (begins_all e.network.newest),
+        subst (Begins e.network.newest) (sym stayed) (begins_all e.network.newest),
         appends,
         render_more x.done (number + 1, fault_words why) ∙ is,
         whole,
@@ -300,7 +303,7 @@ module _ (bounds : List Key) where
           (ap (λ t. render x.done ++ t) (sym (take-append-drop part.0 text)) ∙ sym
           (append_assoc (render x.done) (take part.0 text) (drop part.0 text))) (inl is)
       breaks_fault b new' (inr kept) =
-          subst (λ h. BreaksAt bounds all b h old new') (sym stop.0) (breaks all (line
+          subst (λ h. BreaksAt bounds all b h old new') (sym stayed) (breaks all (line
           ∷ rest) old new number e x b new' kept (before_too number e next c _ goes le))
 
       -- after its line

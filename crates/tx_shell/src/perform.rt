@@ -1,8 +1,6 @@
 //! What each command does with its input.
 use crate::asked::Invocation;
-use crate::cells::{
-    converse_over, explain_over, run_over, simulate_checked_over, simulate_over,
-};
+use crate::cells::{converse_over, explain_over, run_over, simulate_checked_over, simulate_over};
 use crate::generated::generate_script;
 use crate::stats::stats_of;
 use crate::watching::Watching;
