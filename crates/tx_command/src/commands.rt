@@ -1,5 +1,6 @@
 //! The commands of the program, and what a command line asks for.
 use crate::cells::{CellsKind, cells_of, cells_option};
+use crate::generated::{GenerateOptions, generate, generate_options};
 use crate::help;
 use clap::builder::ValueParser;
 use clap::{Arg, ArgAction, ArgMatches, Command, Error};
@@ -20,6 +21,8 @@ pub enum CommandTask {
     SimulateSteps,
     /// Simulate, and show the run.
     Explain(ExplainOptions),
+    /// Write a script by chance.
+    Generate(GenerateOptions),
     /// By so many workers; what is out of date for so many ticks is collected meanwhile.
     Run(usize, Option<u64>),
     Check,
@@ -85,6 +88,7 @@ fn task_of(name: &str, asked: &ArgMatches<'_>) -> CommandTask {
             svg: asked.get_flag("svg"),
             all: asked.get_flag("all"),
         }),
+        "generate" => CommandTask::Generate(generate_options(asked)),
         "explain" => CommandTask::Explain(ExplainOptions {
             svg: asked.get_flag("svg"),
         }),
@@ -275,6 +279,7 @@ fn program<'a>(alloc: Global) -> Result<Command<'a>, Error> {
         .subcommand_required(true)
         .subcommand(simulate(alloc)?)?
         .subcommand(explain(alloc)?)?
+        .subcommand(generate(alloc)?)?
         .subcommand(run(alloc)?)?
         .subcommand(check(alloc)?)?
         .subcommand(import(alloc)?)?

@@ -164,7 +164,7 @@ pub(crate) fn form_of(task: CommandTask, number: u64, word: &str) -> Option<Form
         CommandTask::Check | CommandTask::CheckWithReason | CommandTask::CheckAll(_) => {
             machine_form(word)
         }
-        CommandTask::Import(_) => None,
+        CommandTask::Generate(_) | CommandTask::Import(_) => None,
     }
 }
 

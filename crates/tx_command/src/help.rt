@@ -5,6 +5,7 @@ pub(crate) static ABOUT: &str = "The transaction layer of a key-value store, in 
 pub(crate) static EXAMPLES: &str = "Examples:
   txkv simulate commit_then_read.script     Run a script of sessions
   txkv explain push.script                  Show the run of a script, a column a session
+  txkv generate --seed 7                    Write a script by chance, with requests that are lost or late
   txkv run --workers 4 transfers.run        Run the sessions of a script side by side, on threads
   txkv check commit_then_read.trace         Check a trace of machine steps
   txkv import history.jsonl                 Judge a history of any store
@@ -19,7 +20,8 @@ Status: 0 well, 2 a fault of the input or the command line, 3 the verdict no, 4 
 pub(crate) static SIMULATE_ABOUT: &str =
     "Run a script of sessions in one thread, and write one reply line a step";
 
-pub(crate) static SIMULATE_HELP: &str =
+/// The steps of a script, and how it is run.
+pub static SIMULATE_HELP: &str =
     r#"A script has one step a line, each a JSON array; s names a session, D is a delivery:
   ["regions",[key,..]]            Line 1 alone: the keys between the regions
   ["begin",s]                     Begins a transaction at a new timestamp
@@ -44,6 +46,7 @@ A delivery is nothing, or "lose", "lose-reply", "repeat", or "hold",name
 Each reply is the number of the line and the step's words; docs/SCRIPT.md has all replies, refusals and causes.
 With --check, a script that ended without a fault is followed by the machine's steps of its run, in the form of txkv check.
 With --steps, those steps are all that is written, but for the line of a fault.
+Typed at a terminal, a fault is told and the next line read in its place; help and :keys answer questions.
 
 Examples:
   txkv simulate commit_then_read.script         One transaction and a reader
@@ -62,6 +65,19 @@ A refusal has its reason on a line of its own. docs/EXPLAIN.md has all forms.
 Examples:
   txkv explain push.script                    A reader that need not wait, step by step
   txkv explain --svg push.script > push.svg   The same as a drawing"#;
+
+pub(crate) static GENERATE_ABOUT: &str =
+    "Write a script by chance, in which requests are lost, repeated, held and late";
+
+pub(crate) static GENERATE_HELP: &str =
+    r#"The script ends well in simulate: each line was tried before it was written, and the next one thought of by its reply.
+Sessions read, scan, put, insert, delete, lock and commit keys a, b, .. in both ways, resolve what is in their way, stop,
+and are told of what arrives late; old versions are collected. The same options give the same script.
+
+Examples:
+  txkv generate --seed 7 | txkv simulate --check   A run by chance, and that it was one of the machine
+  txkv generate --seed 7 | txkv explain            The same, shown
+  txkv generate --seed 7 --keys 1 --faults 40      Much strife, and many requests lost"#;
 
 pub(crate) static RUN_ABOUT: &str = "Run the sessions of a script side by side, on several threads";
 
@@ -134,7 +150,7 @@ Examples:
 pub(crate) static REFUSALS_ABOUT: &str = "Tell what each refusal means, E1 to E17";
 
 /// The refusals, a line each.
-pub(crate) static REFUSALS: &str =
+pub static REFUSALS: &str =
     r#"A refusal is the reply of its line, and the script goes on; with E16 it ends. Behind the number stands what is in brackets:
   E1   KeyIsLocked        Another transaction's lock stands in the way [the lock's key, start, primary, minimum and mode]
   E2   WriteConflict      A newer committed record of another transaction stands on the key [its start and commit]

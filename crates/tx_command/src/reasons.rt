@@ -30,6 +30,7 @@ fn command_of(task: CommandTask) -> &'static str {
         CommandTask::Simulate | CommandTask::SimulateChecked | CommandTask::SimulateSteps =>
             "simulate",
         CommandTask::Explain(_) => "explain",
+        CommandTask::Generate(_) => "generate",
         CommandTask::Run(..) => "run",
         CommandTask::Check | CommandTask::CheckWithReason | CommandTask::CheckAll(_) => "check",
         CommandTask::Import(_) => "import",

@@ -21,10 +21,11 @@ pub enum Display {
 
 /// What is shown while a job is done.
 pub fn shown_at(job: CommandLine<'_>, terminals: Terminals) -> Display {
-    if terminals.input && terminals.output && job.file.is_none() {
-        return Display::Prompts;
-    }
+    let is_typed = terminals.input && terminals.output && job.file.is_none();
     match job.task {
+        // It reads nothing.
+        CommandTask::Generate(_) => Display::Nothing,
+        _ if is_typed => Display::Prompts,
         CommandTask::Run(..)
         | CommandTask::Check
         | CommandTask::CheckWithReason

@@ -8,8 +8,8 @@ use tx_command::{
 };
 use tx_text::{Broken, End};
 
-// The words of a command line, the first of which is the program as a shell names it.
-fn words_of(alloc: Global, line: &str) -> Result<Vec<String>, Fail> {
+/// The words of a command line, the first of which is the program as a shell names it.
+pub(crate) fn words_of(alloc: Global, line: &str) -> Result<Vec<String>, Fail> {
     let mut words = Vec::new(alloc);
     words.push("/usr/local/bin/txkv".to_string(alloc)?)?;
     for word in line.split(' ') {
@@ -129,7 +129,7 @@ const TRY_HELP: &str = "\n\nFor more information, try '--help'.\n";
 static FAULTS: [(&str, &str); 19] = [
     (
         "",
-        "error: 'txkv' requires a subcommand but one was not provided\n  [subcommands: simulate, explain, run, check, import, refusals, completions, help]\n\nUsage: txkv <COMMAND>",
+        "error: 'txkv' requires a subcommand but one was not provided\n  [subcommands: simulate, explain, generate, run, check, import, refusals, completions, help]\n\nUsage: txkv <COMMAND>",
     ),
     (
         "simulat",
@@ -229,6 +229,7 @@ Usage: txkv <COMMAND>
 Commands:
   simulate     Run a script of sessions in one thread, and write one reply line a step
   explain      Run a script as simulate does, and show its run: a column a session, a line a step
+  generate     Write a script by chance, in which requests are lost, repeated, held and late
   run          Run the sessions of a script side by side, on several threads
   check        Check a trace: is it a run of the machine that commits each transaction in one step?
   import       Judge a history of any store: is it snapshot isolation?

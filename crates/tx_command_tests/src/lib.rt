@@ -4,6 +4,8 @@
 #[cfg(test)]
 mod command_lines;
 #[cfg(test)]
+mod generated;
+#[cfg(test)]
 mod sentences;
 #[cfg(test)]
 mod shown;

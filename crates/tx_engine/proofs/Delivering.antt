@@ -117,6 +117,7 @@ module _ (bounds : List Key) (name : List ℕ) where
   step_delivered old new system_seat names slots (Err c) (network, halts) =
       rested bounds old new (ap (λ (d : NetworkParts). d.regions) network) (ap (λ (d : NetworkParts). d.newest) network)
       (ap (λ (d : NetworkParts). d.trace) network) system_seat slots _ (
-        ap (λ (d : NetworkParts). d.newest) network,
+        λ i. engine_with (network_state (network i)) (known_ticks (system_seat i)) (λ q. name_at (names i) q)
+            (map slot_of (slots i)),
         λ later. halts later old.system_seat.ticks (λ q. name_at old.names q) (map slot_of old.slots),
       )

@@ -87,17 +87,19 @@ back ps qs rs k x there lent is = put ps qs rs k x lent is ∙ set_here ps k x t
 module _ (bounds : List Key) where
   -- a turn that is not allowed
   pub turn_stops : (t : List Bool → EngineState → Transition) (old new : Held) (c : Cause)
-      → new.network.regions ≡ old.network.regions → new.network.newest ≡ old.network.newest
-      → new.network.trace ≡ old.network.trace → new.system_seat ≡ old.system_seat → new.slots ≡ old.slots
-      → ((later : List Bool) → t later (engine_state old) ≡ stops c)
+      → new.network ≡ old.network → new.system_seat ≡ old.system_seat → new.names ≡ old.names
+      → new.slots ≡ old.slots → ((later : List Bool) → t later (engine_state old) ≡ stops c)
       → Goes bounds old new (TurnedBy bounds t (Err c) old new)
-  turn_stops t old new c regions newest trace system_seat slots halts =
-      rested bounds old new regions newest trace system_seat slots _ (newest, halts)
+  turn_stops t old new c network system_seat names slots halts =
+      let same : engine_state new ≡ engine_state old =
+      λ i. engine_with (network_state (network i)) (known_ticks (system_seat i)) (λ q. name_at (names i) q)
+      (map slot_of (slots i)) in
+      rested bounds old new (ap (λ (d : NetworkParts). d.regions) network) (ap (λ (d : NetworkParts). d.newest) network)
+      (ap (λ (d : NetworkParts). d.trace) network) system_seat slots _ (same, halts)
 
   -- a step that is not allowed
-  pub step_stops : (old new : Held) (what : Step Text) (c : Cause) → new.network.regions ≡ old.network.regions
-      → new.network.newest ≡ old.network.newest → new.network.trace ≡ old.network.trace
-      → new.system_seat ≡ old.system_seat → new.slots ≡ old.slots
+  pub step_stops : (old new : Held) (what : Step Text) (c : Cause) → new.network ≡ old.network
+      → new.system_seat ≡ old.system_seat → new.names ≡ old.names → new.slots ≡ old.slots
       → ((later : List Bool) → turn bounds later what (engine_state old) ≡ stops c)
       → Goes bounds old new (Turned bounds what (Err c) old new)
   step_stops old new what c = turn_stops (λ refused engine. turn bounds refused what engine) old new c
@@ -246,8 +248,7 @@ module _ (bounds : List Key) where
       step_acted new t lent lends placed system_seat names f (Err c) (same, network, halts) =
           let is : new.slots ≡ old.slots = back old.slots lent new.slots k (Live s) there lends
           (placed ∙ ap (λ x. slice_set lent k (Live x)) same) in
-          turn_stops (in_name name f) old new c (ap (λ (d : NetworkParts). d.regions) network)
-          (ap (λ (d : NetworkParts). d.newest) network) (ap (λ (d : NetworkParts). d.trace) network) system_seat is
+          turn_stops (in_name name f) old new c network system_seat names is
           (λ later. ap (λ o. in_session o (λ j y. f later (engine_state old) j y)) (is_live k named s there) ∙ halts
           later old.system_seat.ticks (λ q. name_at old.names q) (map slot_of old.slots) k)
 
@@ -283,14 +284,19 @@ module _ (bounds : List Key) where
 
       -- it has none yet
       pub step_unfinished : (new : Held) (t : Seated) (lent : List Kept) → lent ≡ slice_set old.slots k Lent
-          → new.slots ≡ slice_set lent k (Live t) → new.system_seat ≡ old.system_seat → finish_of s.state ≡ None
-          → Acts s.seat t.seat old.network new.network (new.network.newest ≡ old.network.newest)
+          → new.slots ≡ slice_set lent k (Live t) → new.system_seat ≡ old.system_seat → new.names ≡ old.names
+          → finish_of s.state ≡ None → t.state ≡ s.state
+          → Acts s.seat t.seat old.network new.network (network_state new.network ≡ network_state old.network)
           → Goes bounds old new (Turned bounds (step.Act name op.Finish) (Err cause.Order) old new)
-      step_unfinished new t lent lends placed system_seat ends act =
-          acted old new k (Live s) (Live t) there (put old.slots lent new.slots k (Live t) lends placed) system_seat
-          s.seat t.seat refl refl bounds _ _ act
+      step_unfinished new t lent lends placed system_seat names ends state act =
+          let is : new.slots ≡ slice_set old.slots k (Live t) = put old.slots lent new.slots k (Live t) lends placed in
+          let slots : map slot_of new.slots ≡ map slot_of old.slots =
+          ap (map slot_of) is ∙ (map-set slot_of old.slots k (Live t) ∙ (ap
+          (λ y. slice_set (map slot_of old.slots) k (session y)) state ∙ set_here (map slot_of old.slots) k
+          (session s.state) lives_there)) in
+          acted old new k (Live s) (Live t) there is system_seat s.seat t.seat refl refl bounds _ _ act
           (λ x. (
-            x,
+            λ i. engine_with (x i) (known_ticks (system_seat i)) (λ q. name_at (names i) q) (slots i),
             λ later. ap (λ l. in_session l (λ j y. finishes later (engine_state old) j y name))
                 (is_live k named s there) ∙ ap (finishes_by later (engine_state old) k s.state name) ends,
           ))
@@ -425,16 +431,15 @@ first_more Lent ps n never = first_after (first_free (map slot_of ps)) n
 module _ (bounds : List Key) (old : Held) (name : List ℕ) (k : ℕ) (named : name_at old.names name
     ≡ Some k) (ready : AllSeated bounds 1 old) where
   stays : (new : Held) (x y : Kept) → slice_get old.slots k ≡ Some x → ((s : Seated) → x ≡ Live s → ⊥)
-      → new.slots ≡ slice_set old.slots k y → new.system_seat ≡ old.system_seat
+      → new.slots ≡ slice_set old.slots k y → new.system_seat ≡ old.system_seat → new.names ≡ old.names
       → (f : SessionTurn) (r : Result ScriptReply Cause)
       → (r ≡ Err cause.Name) × (y ≡ x) × (new.network ≡ old.network)
       → Goes bounds old new (TurnedBy bounds (in_name bounds name f) r old new)
-  stays new x y there never placed system_seat f r (refused, same, network) =
+  stays new x y there never placed system_seat names f r (refused, same, network) =
       let is : new.slots ≡ old.slots = placed ∙ ap (slice_set old.slots k) same ∙ set_here old.slots k x there in
       subst (λ (o : Result ScriptReply Cause). Goes bounds old new (TurnedBy bounds (in_name bounds name f) o old new))
       (sym refused)
-      (turn_stops bounds (in_name bounds name f) old new cause.Name (ap (λ (d : NetworkParts). d.regions) network)
-      (ap (λ (d : NetworkParts). d.newest) network) (ap (λ (d : NetworkParts). d.trace) network) system_seat is
+      (turn_stops bounds (in_name bounds name f) old new cause.Name network system_seat names is
       (act_stops bounds old name f (not_live bounds old name k named x there never ready)))
 
   pub step_in : (new : Held) (x y : Kept) → slice_get old.slots k ≡ Some x → new.slots ≡ slice_set old.slots k y
@@ -446,6 +451,6 @@ module _ (bounds : List Key) (old : Held) (name : List ℕ) (k : ℕ) (named : n
       step_acted bounds old name k s named there ready new t lent refl (placed ∙ ap (slice_set old.slots k) lives ∙ sym
       (put old.slots lent (slice_set lent k (Live t)) k (Live t) refl refl)) system_seat names f r did
   step_in new (Free s) y there placed system_seat names f r stopped =
-      stays new (Free s) y there (λ live e. absurd (cc e)) placed system_seat f r stopped
+      stays new (Free s) y there (λ live e. absurd (cc e)) placed system_seat names f r stopped
   step_in new Lent y there placed system_seat names f r stopped =
-      stays new Lent y there (λ live e. absurd (cc e)) placed system_seat f r stopped
+      stays new Lent y there (λ live e. absurd (cc e)) placed system_seat names f r stopped

@@ -200,8 +200,7 @@ module _ (bounds : List Key) (now : ℕ) where
       step_resolved new t lent lends placed names (Err c) (same, system_seat, network, halts) =
           let is : new.slots ≡ old.slots = back old.slots lent new.slots k (Live s) there lends
           (placed ∙ ap (λ x. slice_set lent k (Live x)) same) in
-          step_stops bounds old new (step.Act name (op.Resolve now)) c (ap (λ (d : NetworkParts). d.regions) network)
-          (ap (λ (d : NetworkParts). d.newest) network) (ap (λ (d : NetworkParts). d.trace) network) system_seat is
+          step_stops bounds old new (step.Act name (op.Resolve now)) c network system_seat names is
           (λ later. ap (λ o. in_session o (λ j y. resolves bounds later (engine_state old) j y now))
           (is_live bounds old name k named s there) ∙ halts later (engine_state old) k)
 

@@ -237,12 +237,12 @@ pub record Inspected (bounds : List Key) (key : List ℕ) (reply : ScriptReply) 
       (engine_with (network_state to) ticks names slots))
 
 -- a turn went on from the engine state that the engine held to the one that it then holds, or it
--- stopped
+-- stopped and changed nothing
 abbrev pub TurnedBy : List Key → (List Bool → EngineState → Transition) → Result ScriptReply Cause → Held → Held
     → Type 0
 TurnedBy bounds turn (Ok reply) old new = GoesTo bounds (λ refused. turn refused (engine_state old)) reply
     (engine_state new)
-TurnedBy bounds turn (Err cause) old new = (new.network.newest ≡ old.network.newest)
+TurnedBy bounds turn (Err cause) old new = (engine_state new ≡ engine_state old)
     × ((later : List Bool) → turn later (engine_state old) ≡ stops cause)
 
 -- a step did

@@ -163,7 +163,8 @@ pub(crate) fn finish_at<J: JournalId, F: Families>(
         × Acts session.seat r.1 network.old network.new (network_state network.new
         ≡ with_events (network_state network.old) (events.Answered session.state.start r.0 ∷ network.old.newest))) }
     ensures open_yet { IfErr result (λ s. (finish_of session.state ≡ None) × (s.state ≡ session.state)
-        × Acts session.seat s.seat network.old network.new (network.new.newest ≡ network.old.newest)) }
+        × Acts session.seat s.seat network.old network.new (network_state network.new
+        ≡ network_state network.old)) }
 {
     session.learn_told(network.newest());
     let start = session.start();

@@ -13,6 +13,8 @@ pub mod LineTurns
 -- The loop over the lines: under the condition that no more events came than the engine made, what
 -- is written is of a play.
 pub mod Scripts
+-- A player's next line: it goes on by it, or stays where it was.
+pub mod Players
 -- The replies of a script, by what was found of each line.
 pub mod Lines
 -- When all has settled, the condition holds: nobody else acted.

@@ -26,6 +26,7 @@ use Rattle.tx_engine.specs.Openings.{IsOpening}
 use Rattle.tx_engine.proofs.AllGrow.{leads_begin}
 use Rattle.tx_engine.proofs.Keeping.{all_fewer}
 use Rattle.tx_script.specs.Play.{line_turn, Played, before, ending, faulted, Plays, render}
+use Rattle.tx_script.specs.Players.{after, SoFar}
 use Rattle.tx_script.specs.Loops.{Kept, EndsAt, BreaksAt}
 use Rattle.tx_script.proofs.OnePlay.{line_grows}
 
@@ -37,10 +38,6 @@ pub if_any_err : {T E : Type 0} {P : E → Type 0} (r : Result T E) → ((e : E)
 if_any_err (Ok v) f = tt
 if_any_err (Err e) f = f e
 
--- what is played after these replies
-abbrev pub after : List (ℕ × Items) → Played → Played
-after done p = record { replies = done ++ p.replies; history = p.history; ended = p.ended }
-
 pub render-append : (xs ys : List (ℕ × Items)) → render (xs ++ ys) ≡ render xs ++ render ys
 render-append [] ys = refl
 render-append (x ∷ xs) ys = ap (λ l. reply_text x ++ l) (render-append xs ys) ∙ sym
@@ -51,13 +48,6 @@ pub render_more : (done : List (ℕ × Items)) (r : ℕ × Items) → render (do
 render_more done r = render-append done (r ∷ []) ∙ ap (λ t. render done ++ t) (append-nil (reply_text r))
 
 module _ (bounds : List Key) where
-  -- the first lines have led to the engine's engine state, with these replies
-  pub record SoFar (lines : List (List ℕ)) (done : List (ℕ × Items)) (number : ℕ) (e : Held) : Type 0 where
-    pub told : List Bool
-    pub goes_on : (later : List Bool) (more : List (List ℕ)) (p : Played)
-        → Plays bounds (engine_state e) number later more p
-        → Plays bounds (opening MAX_LIVE_SESSIONS) 0 (told ++ later) (lines ++ more) (after done p)
-
   -- what is counted before each line
   pub record Counts (number : ℕ) (e : Held) : Type 0 where
     pub size : length e.slots ≡ MAX_LIVE_SESSIONS
@@ -72,7 +62,7 @@ module _ (bounds : List Key) where
     pub done : List (ℕ × Items)
     pub split : all ≡ lines ++ ahead
     pub wrote : Appends old new (render done)
-    pub so_far : length e.network.newest ≤ own e → SoFar lines done number e
+    pub so_far : length e.network.newest ≤ own e → SoFar bounds lines done number e
 
   pub at_first : (e : Held) (all : List (List ℕ)) (old : Option (List ℕ)) → IsOpening e
       → length e.slots ≡ MAX_LIVE_SESSIONS → PlaysOn all all old old 0 e
@@ -111,6 +101,48 @@ module _ (bounds : List Key) where
   lead_to next reply later Goes Stops here (shows network key more) (copy, is, leads) =
       (copy, is, lead_to next reply later Goes Stops here (more copy) leads)
   lead_to next reply later Goes Stops here (stops c) leads = absurd leads
+
+  -- a line that goes on: what it leads to has been led to
+  module _ (lines : List (List ℕ)) (done : List (ℕ × Items)) (line : List ℕ) (number : ℕ) (e next : Held)
+      (reply : ScriptReply) where
+    together : (p : Played) → after done (before (number + 1, reply_words reply) p)
+        ≡ after (done ++ (number + 1, reply_words reply) ∷ []) p
+    together p = λ i. record {
+      replies = sym (append_assoc done ((number + 1, reply_words reply) ∷ []) p.replies) i;
+      history = p.history;
+      ended = p.ended;
+    }
+
+    pub so_next : SoFar bounds lines done number e
+        → GoesTo bounds (λ refused. line_turn bounds refused (number + 1) line (engine_state e)) reply
+        (engine_state next)
+        → SoFar bounds (lines ++ line ∷ []) (done ++ (number + 1, reply_words reply) ∷ []) (number + 1) next
+    so_next soon follows = record {
+      told = soon.told ++ follows.0;
+      goes_on = λ later more p plays.
+          (let here : Plays bounds (engine_state e) number (follows.0 ++ later) (line ∷ more) (before (
+            number + 1,
+            reply_words reply,
+          ) p) = lead_to (engine_state next) reply later _ _ (
+            p,
+            plays,
+            refl,
+          ) (line_turn bounds (follows.0 ++ later) (number
+          + 1) line (engine_state e)) (follows.1 later) in
+          subst (λ (q : Played). Plays bounds (opening MAX_LIVE_SESSIONS) 0 ((soon.told ++ follows.0)
+          ++ later) ((lines ++ line ∷ []) ++ more) q) (together p)
+          (subst (λ bits. Plays bounds (opening MAX_LIVE_SESSIONS) 0 bits ((lines ++ line ∷ [])
+          ++ more) (after done (before (
+            number + 1,
+            reply_words reply,
+          ) p))) (sym (append_assoc soon.told follows.0 later))
+          (subst (λ ls. Plays bounds (opening MAX_LIVE_SESSIONS) 0 (soon.told
+          ++ (follows.0 ++ later)) ls (after done (before (
+            number + 1,
+            reply_words reply,
+          ) p))) (sym (append_assoc lines (line ∷ []) more))
+          (soon.goes_on (follows.0 ++ later) (line ∷ more) (before (number + 1, reply_words reply) p) here))));
+    }
 
   -- ---- before the next line
 
@@ -205,11 +237,14 @@ module _ (bounds : List Key) where
     -- a fault
     module _ (why : Cause) (goes : Goes bounds e next (TurnedBy bounds (λ refused. line_turn bounds refused (number
         + 1) line) (Err why) e next)) (le : length next.network.newest ≤ own next) where
-      abbrev soon : SoFar x.lines x.done number e
+      abbrev soon : SoFar bounds x.lines x.done number e
       soon = x.so_far (before_too number e next c _ goes le)
 
       abbrev stop : TurnedBy bounds (λ refused. line_turn bounds refused (number + 1) line) (Err why) e next
       stop = exactly number e next c _ goes le
+
+      stayed : next.network.newest ≡ e.network.newest
+      stayed = ap (λ (s : EngineState). s.network.history) stop.0
 
       abbrev last : Played
       last = faulted (engine_state e) (number + 1) why
@@ -232,7 +267,7 @@ module _ (bounds : List Key) where
         soon.told ++ [],
         after x.done last,
         fault_plays,
-        sym stop.0,
+        sym stayed,
         subst (Appends old new'') (sym (render_more x.done (
           number + 1,
           fault_words why,
@@ -252,7 +287,7 @@ module _ (bounds : List Key) where
         more,
         sym (append-nil all),
         fault_plays,
-        subst (Begins e.network.newest) (sym stop.0) (begins_all e.network.newest),
+        subst (Begins e.network.newest) (sym stayed) (begins_all e.network.newest),
         appends,
         render_more x.done (number + 1, fault_words why) ∙ is,
         whole,
@@ -268,7 +303,7 @@ module _ (bounds : List Key) where
           (ap (λ t. render x.done ++ t) (sym (take-append-drop part.0 text)) ∙ sym
           (append_assoc (render x.done) (take part.0 text) (drop part.0 text))) (inl is)
       breaks_fault b new' (inr kept) =
-          subst (λ h. BreaksAt bounds all b h old new') (sym stop.0) (breaks all (line
+          subst (λ h. BreaksAt bounds all b h old new') (sym stayed) (breaks all (line
           ∷ rest) old new number e x b new' kept (before_too number e next c _ goes le))
 
       -- after its line
@@ -289,44 +324,9 @@ module _ (bounds : List Key) where
       abbrev played : List (List ℕ)
       played = x.lines ++ line ∷ []
 
-      together : (p : Played) → after x.done (before (number + 1, reply_words reply) p) ≡ after told p
-      together p = λ i. record {
-        replies = sym (append_assoc x.done ((number + 1, reply_words reply) ∷ []) p.replies) i;
-        history = p.history;
-        ended = p.ended;
-      }
-
-      soon_after : length next.network.newest ≤ own next → SoFar played told (number + 1) next
-      soon_after le =
-          let soon = x.so_far (before_too number e next c _ goes le) in
-          let follows : GoesTo bounds (λ refused. line_turn bounds refused (number
-          + 1) line (engine_state e)) reply (engine_state next) = exactly number e next c _ goes le in
-          record {
-            told = soon.told ++ follows.0;
-            goes_on = λ later more p plays.
-                (let here : Plays bounds (engine_state e) number (follows.0 ++ later) (line ∷ more) (before (
-                  number + 1,
-                  reply_words reply,
-                ) p) = lead_to (engine_state next) reply later _ _ (
-                  p,
-                  plays,
-                  refl,
-                ) (line_turn bounds (follows.0 ++ later) (number
-                + 1) line (engine_state e)) (follows.1 later) in
-                subst (λ (q : Played). Plays bounds (opening MAX_LIVE_SESSIONS) 0 ((soon.told ++ follows.0)
-                ++ later) (played ++ more) q) (together p)
-                (subst (λ bits. Plays bounds (opening MAX_LIVE_SESSIONS) 0 bits (played
-                ++ more) (after x.done (before (
-                  number + 1,
-                  reply_words reply,
-                ) p))) (sym (append_assoc soon.told follows.0 later))
-                (subst (λ ls. Plays bounds (opening MAX_LIVE_SESSIONS) 0 (soon.told
-                ++ (follows.0 ++ later)) ls (after x.done (before (
-                  number + 1,
-                  reply_words reply,
-                ) p))) (sym (append_assoc x.lines (line ∷ []) more))
-                (soon.goes_on (follows.0 ++ later) (line ∷ more) (before (number + 1, reply_words reply) p) here))));
-          }
+      soon_after : length next.network.newest ≤ own next → SoFar bounds played told (number + 1) next
+      soon_after le = so_next x.lines x.done line number e next reply
+          (x.so_far (before_too number e next c _ goes le)) (exactly number e next c _ goes le)
 
       split_more : all ≡ played ++ rest
       split_more = x.split ∙ sym (append_assoc x.lines (line ∷ []) rest)

@@ -1,3 +1,4 @@
 pub mod Play
+pub mod Players
 pub mod Checked
 pub mod Loops

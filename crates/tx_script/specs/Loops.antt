@@ -44,7 +44,7 @@ FoundTurned bounds number found.Line line (turned.Goes reply) old new =
     TurnedBy bounds (λ refused. line_turn bounds refused number line) (Ok reply) old new
 FoundTurned bounds number found.Line line (turned.Stops c) old new =
     TurnedBy bounds (λ refused. line_turn bounds refused number line) (Err c) old new
-FoundTurned bounds number found.Long line t old new = new.network.newest ≡ old.network.newest
+FoundTurned bounds number found.Long line t old new = engine_state new ≡ engine_state old
 FoundTurned bounds number found.End line t old new = new.network.newest ≡ old.network.newest
 
 -- what may come of a line, by what was found of it

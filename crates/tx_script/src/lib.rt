@@ -12,9 +12,11 @@
 mod checked;
 mod line;
 mod opening;
+mod player;
 mod script;
 
-pub use opening::{simulate, simulate_checked};
+pub use opening::{bounds_in, simulate, simulate_checked};
+pub use player::Player;
 pub use tx_cells::{Makes, Plain};
 pub use tx_check::{check, check_with_reason};
 pub use tx_text::{Broken, End};

@@ -77,8 +77,8 @@ fn play_said<J: JournalId, F: Families>(
     Ok(play_step(engine, said.step(Program::Simulate)))
 }
 
-// Plays the line of this number.
-fn play_line<J: JournalId, F: Families>(
+/// Plays the line of this number.
+pub(crate) fn play_line<J: JournalId, F: Families>(
     alloc: Global,
     engine: &mut Engine<J, F>,
     number: u64,

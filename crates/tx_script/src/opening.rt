@@ -1,9 +1,11 @@
 //! A script from its first byte to its last.
-ghost use Rattle.std.specs.Prelude.{◌≡◌, ◌<◌, ◌+◌, ℕ, List, All, length, vec_len, IfOk, IfErr, IfSome};
+ghost use Rattle.std.specs.Prelude.{◌≡◌, ◌<◌, ◌≤◌, ◌+◌, ℕ, List, [], ◌∷◌, All, length, vec_len, IfOk, IfErr, IfSome};
 ghost use Rattle.tx_types.specs.declared.limits.TheConstants as limits;
 ghost use Rattle.tx_cells.specs.Contents.{nothing_held};
 ghost use Rattle.tx_types.specs.Keys.{AreRising};
 ghost use Rattle.tx_text.specs.Lines.{lines_of};
+ghost use Rattle.tx_engine.specs.Slots.{AllSeated};
+ghost use Rattle.tx_engine.specs.Openings.{IsOpening};
 ghost use Rattle.tx_evidence.specs.Lines.{bounds_of};
 ghost use Rattle.tx_script.specs.Play.{EndsScript, BreaksScript};
 ghost use Rattle.tx_script.specs.Checked.{EndsChecked, BreaksChecked};
@@ -14,22 +16,20 @@ use std::alloc::Global;
 use std::io::{BufRead, Write};
 use std::marker::Brand;
 use tx_cells::{Families, Makes, make_families};
-use tx_engine::engine_of;
+use tx_engine::{Engine, engine_of};
 use tx_journal::{JournalId, Opened};
 use tx_steps::Line;
 use tx_text::{Broken, End, Found, Parts, read_line};
 use tx_types::Key;
 use tx_types::limits::MAX_LIVE_SESSIONS;
 
-// The keys between the regions: line 1 says them, or there is one region.
-fn bounds_at(alloc: Global, first: Found, line: &[u8]) -> Result<Vec<Key>, Broken>
-    ensures bounds { IfOk result (λ bounds. bounds.items ≡ first_bounds first line.now) }
+/// The keys between the regions of a script with this first line, which has no newline: it says
+/// them, or there is one region. `Memory` where a growth was refused.
+pub fn bounds_in(alloc: Global, line: &[u8]) -> Result<Vec<Key>, Broken>
+    ensures bounds { IfOk result (λ bounds. bounds.items ≡ bounds_of (line.now ∷ [])) }
     ensures rising { IfOk result (λ bounds. AreRising bounds.items) }
     ensures few { IfOk result (λ bounds. length bounds.items < limits.MAX_REGIONS) }
 {
-    if first != Found::Line {
-        return Ok(Vec::new(alloc));
-    }
     let mut parts = Parts::new();
     match Line::read(alloc, 1, line, &mut parts)? {
         Err(_) => Ok(Vec::new(alloc)),
@@ -39,6 +39,42 @@ fn bounds_at(alloc: Global, first: Found, line: &[u8]) -> Result<Vec<Key>, Broke
             Ok(Some(bounds)) => Ok(bounds),
         },
     }
+}
+
+// The keys between the regions, by what was found of line 1.
+fn bounds_at(alloc: Global, first: Found, line: &[u8]) -> Result<Vec<Key>, Broken>
+    ensures bounds { IfOk result (λ bounds. bounds.items ≡ first_bounds first line.now) }
+    ensures rising { IfOk result (λ bounds. AreRising bounds.items) }
+    ensures few { IfOk result (λ bounds. length bounds.items < limits.MAX_REGIONS) }
+{
+    match first {
+        Found::Line => bounds_in(alloc, line),
+        Found::Long | Found::End => Ok(Vec::new(alloc)),
+    }
+}
+
+/// An engine over a journal that was opened, and has no other user.
+pub(crate) fn engine_over<J: JournalId, F: Families + Drop>(
+    alloc: Global,
+    opened: Opened,
+    families: Vec<F>,
+) -> Result<Engine<J, F>, Broken>
+    requires named { (opened.table ≡ J.table) × (opened.bounds ≡ J.bounds) × (opened.seats ≡ J.seats) }
+    requires few { vec_len families ≡ length opened.bounds + 1 }
+    requires seats { opened.seats ≡ length opened.bounds + 2 + limits.MAX_LIVE_SESSIONS }
+    requires empty { All (λ f. F.content f ≡ (λ k. nothing_held)) families.items }
+    ensures opening { IfOk result IsOpening }
+    ensures slots { IfOk result (λ e. length e.slots ≡ limits.MAX_LIVE_SESSIONS) }
+    ensures ready { IfOk result (λ e. (n : ℕ) → n ≤ 4294967296 → AllSeated J.bounds n e) }
+    ensures seats { IfOk result (λ _. J.seats ≡ length J.bounds + 2 + limits.MAX_LIVE_SESSIONS) }
+{
+    let Ok((journal, seats)) = opened.named::<J>(alloc) else {
+        return Err(Broken::Memory);
+    };
+    let Ok(engine) = engine_of(alloc, journal, seats, families) else {
+        return Err(Broken::Memory);
+    };
+    Ok(engine)
 }
 
 // Plays a script over a journal that was opened, and has no other user.
@@ -63,12 +99,7 @@ fn over<J: JournalId, F: Families + Drop, R: BufRead, W: Write>(
         → Ahead first line.old.items (R.remaining reader.old) lines
         → BreaksAsked checks opened.bounds why lines (W.contents writer.old) (W.contents writer.new)) }
 {
-    let Ok((journal, seats)) = opened.named::<J>(alloc) else {
-        return Err(Broken::Memory);
-    };
-    let Ok(engine) = engine_of(alloc, journal, seats, families) else {
-        return Err(Broken::Memory);
-    };
+    let engine = engine_over::<J, F>(alloc, opened, families)?;
     if checks {
         check_over(alloc, engine, reader, writer, first, line)
     } else {

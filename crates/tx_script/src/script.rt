@@ -66,9 +66,9 @@ fn play_lines<J: JournalId, F: Families, R: BufRead, W: Write>(
     }
 }
 
-// Ends the play: nobody else acted, so that what is newest is no more than was made here, and a run
-// of the protocol. The machine's steps of it, where they were kept.
-fn close<J: JournalId, F: Families + Drop>(engine: Engine<J, F>) -> Option<Trace>
+/// Ends the play: nobody else acted, so that what is newest is no more than was made here, and a run
+/// of the protocol. The machine's steps of it, where they were kept.
+pub(crate) fn close<J: JournalId, F: Families + Drop>(engine: Engine<J, F>) -> Option<Trace>
     requires kept { Kept J.bounds engine }
     requires seats { J.seats ≡ length J.bounds + 2 + limits.MAX_LIVE_SESSIONS }
     ensures came { length engine.network.newest ≤ own engine }

@@ -80,7 +80,9 @@ where
     };
     let mut writer = Noting::new(alloc, Shared::new(&shared));
     let ended = perform(rt, asked, &mut reader, &mut writer);
-    explain(asked, writer.faults(), &reader);
+    if !asked.is_talk() {
+        explain(asked, writer.faults(), &reader);
+    }
     if reader.inner().is_cut_off() {
         return Err(Broken::Output);
     }

@@ -10,6 +10,7 @@ use tx_nested::NestedCells;
 use tx_run::{Plain, RunResult, Settings, run_script};
 use tx_sched::Gate;
 use tx_script::{Broken, End, simulate, simulate_checked};
+use tx_terminal::converse;
 
 /// `txkv simulate`.
 pub(crate) fn simulate_over<B: BufRead, W: Write>(
@@ -21,6 +22,19 @@ pub(crate) fn simulate_over<B: BufRead, W: Write>(
     match cells {
         CellsKind::Flat => simulate::<FlatCells, _, _, _>(alloc, &Plain, reader, writer),
         CellsKind::Nested => simulate::<NestedCells, _, _, _>(alloc, &Plain, reader, writer),
+    }
+}
+
+/// `txkv simulate` at a terminal.
+pub(crate) fn converse_over<B: BufRead, W: Write>(
+    host: HostRuntime,
+    cells: CellsKind,
+    reader: &mut B,
+    writer: &mut W,
+) -> Result<End, Broken> {
+    match cells {
+        CellsKind::Flat => converse::<FlatCells, _, _>(host, reader, writer),
+        CellsKind::Nested => converse::<NestedCells, _, _>(host, reader, writer),
     }
 }
 

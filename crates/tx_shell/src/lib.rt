@@ -7,6 +7,7 @@ mod answer;
 mod asked;
 mod cells;
 mod failing;
+mod generated;
 mod perform;
 mod program;
 mod stats;

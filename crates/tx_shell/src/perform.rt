@@ -1,6 +1,7 @@
 //! What each command does with its input.
 use crate::asked::Invocation;
-use crate::cells::{explain_over, run_over, simulate_checked_over, simulate_over};
+use crate::cells::{converse_over, explain_over, run_over, simulate_checked_over, simulate_over};
+use crate::generated::generate_script;
 use crate::stats::stats_of;
 use crate::watching::Watching;
 use std::io::{BufRead, Write};
@@ -98,6 +99,9 @@ where
     let alloc = rt.alloc();
     let cells = asked.job.cells;
     match asked.job.task {
+        CommandTask::Simulate if asked.is_talk() => {
+            converse_over(asked.host, cells, reader, writer)
+        },
         CommandTask::Simulate => simulate_over(alloc, cells, reader, writer),
         CommandTask::SimulateChecked => simulate_checked_over(alloc, cells, reader, writer),
         CommandTask::SimulateSteps => {
@@ -111,6 +115,7 @@ where
             };
             explain_over(alloc, cells, form, reader, writer)
         }
+        CommandTask::Generate(told) => generate_script(alloc, told, writer),
         CommandTask::Check | CommandTask::Import(_) => check(alloc, reader, writer),
         CommandTask::CheckWithReason => check_with_reason(alloc, reader, writer),
         CommandTask::CheckAll(has_reasons) => check_all(alloc, has_reasons, reader, writer),

@@ -7,7 +7,7 @@ use Rattle.tx_transaction.specs.Sessions.{SessionState, finish_of}
 use Rattle.tx_trace.specs.Traces.{Noted}
 use Rattle.tx_network.specs.Networks.{NetworkParts, GoesOnWith, NetworkState, network_state, with_events}
 use Rattle.tx_engine.specs.Slots.{Acts}
-use Rattle.tx_engine.proofs.Acting.{acts_so, recorded_acts, heard_acts}
+use Rattle.tx_engine.proofs.Acting.{recorded_acts, heard_acts}
 use Rattle.tx_network.proofs.Tracing.{kept_same}
 use Rattle.tx_engine.proofs.acts.finish_at.Goals as goal
 
@@ -68,11 +68,9 @@ returns-in-Err-clause-open_yet g c =
     d.held) c.newest.ensures.same)
     (ap (λ (x : Seated). x.seat) open_yet.1) (kept_same from.trace to.trace
     (ap (λ (d : NetworkParts). d.trace) c.set_newest-in-Err.ensures ∙ ap (λ (d : NetworkParts).
-    d.trace) c.newest.ensures.same)) in
-    let told = acts_so old.seat m.seat from to _ (to.newest
-    ≡ from.newest) acts (λ x. ap (λ (s : NetworkState). s.history) x) in (
+    d.trace) c.newest.ensures.same)) in (
       subst (λ (s : SessionState). finish_of s ≡ None) c.learn_told.ensures.state open_yet.0,
       ap (λ (x : Seated). x.state) (c.tell-in-Err.ensures.same ∙ open_yet.1) ∙ c.learn_told.ensures.state,
-      subst (λ (x : Seated). Acts old.seat x.seat from to (to.newest
-          ≡ from.newest)) (sym c.tell-in-Err.ensures.same) told,
+      subst (λ (x : Seated). Acts old.seat x.seat from to (network_state to
+          ≡ network_state from)) (sym c.tell-in-Err.ensures.same) acts,
     )

@@ -1,69 +1,30 @@
-use Rattle.std.proofs.Common.{◌+◌, Bool, List, length, sym, ap, subst, arith}
+use Rattle.std.proofs.Common.{◌+◌, ℕ, Bool, List, sym, subst, arith}
 use Rattle.std.proofs.KnownBytes.{Keeps-refl}
 use Rattle.tx_types.specs.declared.key.Key.{Key}
 use Rattle.tx_types.specs.declared.limits.TheConstants.{MAX_LINES}
+use Rattle.tx_text.specs.declared.end.Broken.{Broken}
 use Rattle.tx_script.specs.Play.{EndsLines, BreaksLines}
 use Rattle.tx_script.specs.Checked.{EndsCheckedLines, BreaksCheckedLines}
-use Rattle.tx_script.specs.Loops.{EndsAsked, BreaksAsked}
-use Rattle.tx_engine.proofs.Dealt.{dealt_all}
+use Rattle.tx_script.specs.Loops.{Ahead, EndsAsked, BreaksAsked}
+use Rattle.tx_script.proofs.Scripts.{if_any_err}
 use Rattle.tx_script.proofs.Ending.{then_ok, then_err}
 use Rattle.tx_script.proofs.Checking.{breaks_first_asked}
 use Rattle.tx_script.proofs.opening.over.Goals as goal
 
-pub returns-in_default-clause-breaks : goal.returns-in_default-clause-breaks
-returns-in_default-clause-breaks g c lines a = breaks_first_asked c.args.checks c.args.opened.bounds _ lines
-    (g.W.Write.contents c.args.writer.now) _ (Keeps-refl _)
-
-pub returns-in_default-engine_of-clause-breaks : goal.returns-in_default-engine_of-clause-breaks
-returns-in_default-engine_of-clause-breaks g c lines a =
-    breaks_first_asked c.args.checks c.args.opened.bounds _ lines (g.W.Write.contents c.args.writer.now) _
-    (Keeps-refl _)
-
-pub engine_of-requires-clause-dealt : goal.engine_of-requires-clause-dealt
-engine_of-requires-clause-dealt g c = dealt_all c.in-Ok.seats.items g.J.JournalId.seats (omega (
-  arith,
-  c.in-Ok.ensures.count,
-  c.in-Ok.seats.ok.0,
-)) c.in-Ok.ensures.seats
-
-pub check_over-requires-clause-slots : goal.check_over-requires-clause-slots
-check_over-requires-clause-slots g c = omega (
-  arith,
-  c.in-Ok-engine_of.ensures.size,
-  c.in-Ok.ensures.count,
-  c.in-Ok.seats.ok.0,
-  c.requires.named.2,
-  ap length c.requires.named.1,
-  c.requires.seats,
-)
+pub returns-in_err-engine-clause-breaks : goal.returns-in_err-engine-clause-breaks
+returns-in_err-engine-clause-breaks g c =
+    let old = g.W.Write.contents c.args.writer.now in
+    let first : (why : Broken) (lines : List (List ℕ))
+    → Ahead c.args.first c.args.line.now.items (g.R.Read.remaining c.args.reader.now) lines
+    → BreaksAsked c.args.checks c.args.opened.bounds why lines old old =
+    λ why lines a. breaks_first_asked c.args.checks c.args.opened.bounds why lines old old (Keeps-refl old) in
+    if_any_err _ first
 
 pub check_over-requires-clause-ready : goal.check_over-requires-clause-ready
-check_over-requires-clause-ready g c = c.in-Ok-engine_of.ensures.ready (MAX_LINES + 1) (omega arith)
-
-pub check_over-requires-clause-seats : goal.check_over-requires-clause-seats
-check_over-requires-clause-seats g c = omega (arith, c.requires.named.2, ap length c.requires.named.1, c.requires.seats)
-
-pub simulate_over-requires-clause-slots : goal.simulate_over-requires-clause-slots
-simulate_over-requires-clause-slots g c = omega (
-  arith,
-  c.in-Ok-engine_of.ensures.size,
-  c.in-Ok.ensures.count,
-  c.in-Ok.seats.ok.0,
-  c.requires.named.2,
-  ap length c.requires.named.1,
-  c.requires.seats,
-)
+check_over-requires-clause-ready g c = c.in_ok-engine.ensures.ready (MAX_LINES + 1) (omega arith)
 
 pub simulate_over-requires-clause-ready : goal.simulate_over-requires-clause-ready
-simulate_over-requires-clause-ready g c = c.in-Ok-engine_of.ensures.ready (MAX_LINES + 1) (omega arith)
-
-pub simulate_over-requires-clause-seats : goal.simulate_over-requires-clause-seats
-simulate_over-requires-clause-seats g c = omega (
-  arith,
-  c.requires.named.2,
-  ap length c.requires.named.1,
-  c.requires.seats,
-)
+simulate_over-requires-clause-ready g c = c.in_ok-engine.ensures.ready (MAX_LINES + 1) (omega arith)
 
 pub returns-then-checks-clause-ends : goal.returns-then-checks-clause-ends
 returns-then-checks-clause-ends g c = then_ok _ _ c.check_over.result c.check_over.ensures.ends

@@ -19,7 +19,7 @@ returns-then-not-is_name g c =
     let old = c.args.self.now in
     let bad : not (is_name name) ≡ true = search rules in
     record {
-      goes = step_stops bounds old old (step.Begin name) cause.Name refl refl refl refl refl
+      goes = step_stops bounds old old (step.Begin name) cause.Name refl refl refl refl
           (begin_unnamed bounds old name bad);
     }
 
@@ -39,7 +39,7 @@ returns-then-contains_key g c =
     ap is_some (named s.names name) ∙ sym c.if-contains_key.ensures in
     record {
       goes = subst (λ (o : Held). Goes bounds o o (Turned bounds (step.Begin name) (Err cause.Name) o o))
-          c.self.view_is (step_stops bounds old old (step.Begin name) cause.Name refl refl refl refl refl
+          c.self.view_is (step_stops bounds old old (step.Begin name) cause.Name refl refl refl refl
           (begin_taken bounds old name right taken));
     }
 
@@ -61,7 +61,7 @@ returns-in_default g c =
     sym (c.in_default.ensures.first ∙ ap (λ ps. first_free (map slot_of ps)) c.deref.ensures.value) in
     record {
       goes = subst (λ (o : Held). Goes bounds o o (Turned bounds (step.Begin name) (Err cause.Sessions) o o))
-          c.self.view_is (step_stops bounds old old (step.Begin name) cause.Sessions refl refl refl refl refl
+          c.self.view_is (step_stops bounds old old (step.Begin name) cause.Sessions refl refl refl refl
           (begin_full bounds old name right unnamed full));
     }
 

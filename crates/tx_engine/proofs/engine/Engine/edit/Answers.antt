@@ -28,7 +28,7 @@ returns-in_default g c =
     c.in_default.ensures.none old refl (sym c.deref.ensures.value) ready in
     record {
       goes = subst (λ (o : Held). Goes bounds o o (TurnedBy bounds (in_name bounds name f) (Err cause.Name) o o))
-          c.self.view_is (turn_stops bounds (in_name bounds name f) old old cause.Name refl refl refl refl refl
+          c.self.view_is (turn_stops bounds (in_name bounds name f) old old cause.Name refl refl refl refl
           (act_stops bounds old name f none));
     }
 

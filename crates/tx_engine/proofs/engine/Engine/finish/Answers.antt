@@ -31,7 +31,7 @@ returns-in_default g c =
     record {
       goes = subst (λ (o : Held). Goes bounds o new
           (Turned bounds (step.Act name op.Finish) (Err cause.Name) o new)) c.self.view_is
-          (step_stops bounds old new (step.Act name op.Finish) cause.Name refl refl refl refl none.0
+          (step_stops bounds old new (step.Act name op.Finish) cause.Name refl refl refl none.0
           (finish_stops bounds old name (none.1 old refl refl ready)));
     }
 
@@ -95,5 +95,5 @@ returns-in-Err g c =
       goes = subst (λ (o : Held). Goes bounds o new (Turned bounds (step.Act name op.Finish) (Err cause.Order) o new))
           c.self.view_is
           (step_unfinished bounds old name k live at there ready new c.in-Err.session c.lend.new.slots.items
-          c.in-Some.ensures.lent.1 c.swap_slot-in-Err.ensures.after refl none.0 none.2);
+          c.in-Some.ensures.lent.1 c.swap_slot-in-Err.ensures.after refl refl none.0 none.1 none.2);
     }

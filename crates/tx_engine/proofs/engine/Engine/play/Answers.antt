@@ -16,4 +16,4 @@ returns-in-Seed g c =
       | inl seed ↦ ap (λ s. turn bounds later (asked s) (engine_state old)) seed.2
       | inr transfer ↦ ap (λ s. turn bounds later (asked s) (engine_state old)) transfer.2
     ] in
-    record { goes = step_stops bounds old old (asked c.args.step.now) cause.Form refl refl refl refl refl halts }
+    record { goes = step_stops bounds old old (asked c.args.step.now) cause.Form refl refl refl refl halts }

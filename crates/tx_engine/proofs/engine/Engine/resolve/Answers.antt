@@ -30,7 +30,7 @@ returns-in_default g c =
     record {
       goes = subst (λ (o : Held). Goes bounds o new (Turned bounds (step.Act name (op.Resolve c.args.now))
           (Err cause.Name) o new)) c.self.view_is (step_stops bounds old new (step.Act name (op.Resolve c.args.now))
-          cause.Name refl refl refl refl none.0 (resolve_stops bounds c.args.now old name (none.1 old refl refl ready)));
+          cause.Name refl refl refl none.0 (resolve_stops bounds c.args.now old name (none.1 old refl refl ready)));
     }
 
 pub returns : goal.returns

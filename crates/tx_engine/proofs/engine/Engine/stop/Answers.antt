@@ -31,7 +31,7 @@ returns-in_default g c =
     record {
       goes = subst (λ (o : Held). Goes bounds o new
           (Turned bounds (step.Act name op.Stop) (Err cause.Name) o new)) c.self.view_is
-          (step_stops bounds old new (step.Act name op.Stop) cause.Name refl refl refl refl none.0
+          (step_stops bounds old new (step.Act name op.Stop) cause.Name refl refl refl none.0
           (stop_stops bounds old name (none.1 old refl refl ready)));
     }
 

@@ -12,7 +12,7 @@ returns-then-ticks-eq0 g c =
     let bounds = g.J.JournalId.bounds in
     let old = c.args.self.now in
     record {
-      goes = step_stops bounds old old (step.Tick c.args.ticks) cause.Form refl refl refl refl refl
+      goes = step_stops bounds old old (step.Tick c.args.ticks) cause.Form refl refl refl refl
           (tick_stops bounds old c.args.ticks c.if-ticks-eq0.true);
     }
 

@@ -1,7 +1,7 @@
 use Rattle.std.proofs.Common.{ap, sym, ◌∙◌, option_map}
 use Rattle.tx_steps.specs.Lines.{data_of}
 use Rattle.tx_steps.proofs.RisingBounds.{fits}
-use Rattle.tx_script.proofs.opening.bounds_at.Goals as goal
+use Rattle.tx_script.proofs.opening.bounds_in.Goals as goal
 
 pub returns-clause-rising : goal.returns-clause-rising
 returns-clause-rising c = (fits (data_of c.in-Ok.said) c.in-Ok-Some.bounds.items

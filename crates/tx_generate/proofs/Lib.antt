@@ -1,0 +1,2 @@
+-- A text that grows by a line.
+pub mod Growth

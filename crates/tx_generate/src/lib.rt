@@ -1,0 +1,22 @@
+//! Scripts by chance: `generate` writes one for `simulate`, with lost, repeated, held and late
+//! requests, stopped sessions, resolvers, collections, inserts, and commits in two phases and
+//! asynchronous ones.
+//!
+//! It plays the script while it thinks of it: each line is tried on an engine, and the next one is
+//! thought of by whoever knows the replies so far. A line that is a fault is no line of the script.
+//! So the script ends well, by contract, and the same settings give the same script.
+#![tactic(auto)]
+
+mod author;
+mod dice;
+mod generate;
+mod script;
+mod session;
+mod settings;
+mod text;
+mod word;
+
+pub use generate::generate;
+pub use settings::{MAX_LETTERS, ModeChoice, Settings};
+pub use tx_cells::{Makes, Plain};
+pub use tx_text::{Broken, End};

@@ -1,0 +1,120 @@
+//! A player: lines are tried one after another, and one that is a fault leaves it as it was.
+ghost use Rattle.std.specs.Prelude.{◌≡◌, ◌+◌, ◌≤◌, ℕ, List, [], ◌∷◌, ◌++◌, All, vec_len, length, IfOk, OnOk, OnErr};
+ghost use Rattle.serde_json.specs.Data.{Items};
+ghost use Rattle.tx_types.specs.declared.limits.TheConstants as limits;
+ghost use Rattle.tx_cells.specs.Contents.{nothing_held};
+ghost use Rattle.tx_reply.specs.Replies.{reply_words};
+ghost use Rattle.tx_script.specs.Players.{PlayerState, HasPlayed, IsPlayer, EndWellWith};
+
+use crate::line::play_line;
+use crate::opening::engine_over;
+use crate::script::close;
+use std::alloc::Global;
+use std::marker::Model;
+use tx_cells::Families;
+use tx_engine::Engine;
+use tx_journal::{JournalId, Opened};
+use tx_reply::ScriptReply;
+use tx_text::Broken;
+use tx_types::Cause;
+
+/// How many lines a player may try: its seats have numbers for no more.
+const MAX_TRIES: u64 = 4_294_967_295;
+
+/// Plays a script line by line, as `simulate` does, for who has the next line only when the reply
+/// to the last one is known. Its view is its engine, how many lines it has played, and how many
+/// more it may try.
+pub struct Player<J: JournalId, F: Families> {
+    engine: Engine<J, F>,
+    number: u64,
+    left: u64,
+}
+
+impl<J: JournalId, F: Families> Model for Player<J, F> {
+    ghost use Rattle.tx_script.specs.Players.{PlayerState};
+
+    ghost Value = { PlayerState };
+
+    ghost view = { λ p. record { engine = p.engine; number = p.number; left = p.left } };
+}
+
+impl<J: JournalId, F: Families + Drop> Drop for Player<J, F> {
+    fn drop(self) {
+        let Player {
+            engine: _,
+            number: _,
+            left: _,
+        } = self;
+    }
+}
+
+impl<J: JournalId, F: Families + Drop> Player<J, F> {
+    /// A player over a journal that was opened and has no other user, and over empty families, one
+    /// for each region: it has played no line. `Memory` where a growth was refused.
+    pub fn new(alloc: Global, opened: Opened, families: Vec<F>) -> Result<Player<J, F>, Broken>
+        requires named { (opened.table ≡ J.table) × (opened.bounds ≡ J.bounds) × (opened.seats ≡ J.seats) }
+        requires few { vec_len families ≡ length opened.bounds + 1 }
+        requires seats { opened.seats ≡ length opened.bounds + 2 + limits.MAX_LIVE_SESSIONS }
+        requires empty { All (λ f. F.content f ≡ (λ k. nothing_held)) families.items }
+        ensures { IfOk result (λ p. HasPlayed J.bounds [] [] p) }
+    {
+        let engine = engine_over::<J, F>(alloc, opened, families)?;
+        Ok(Player {
+            engine,
+            number: 0,
+            left: MAX_TRIES,
+        })
+    }
+
+    /// How many lines it has played.
+    pub fn number(&self) -> u64
+        ensures { result ≡ self.now.number }
+    {
+        self.number
+    }
+
+    /// Tries a line, without its newline, as the next of its script: its reply, or the cause why it
+    /// is a fault, after which the player has played what it had before. `Lines` also where it has
+    /// tried 4,294,967,295. `Memory` where a growth was refused outside of a step's own calls.
+    pub fn play(&mut self, alloc: Global, line: &[u8]) -> Result<Result<ScriptReply, Cause>, Broken>
+        requires { IsPlayer J.bounds self.old }
+        ensures player { IsPlayer J.bounds self.new }
+        // It has played one line more, with this reply.
+        ensures plays { IfOk result (λ said. IfOk said (λ reply. (lines : List (List ℕ)) (done : List (ℕ × Items))
+            → HasPlayed J.bounds lines done self.old → HasPlayed J.bounds (lines ++ line.now ∷ [])
+            (done ++ (self.new.number, reply_words reply) ∷ []) self.new)) }
+        // A fault, or want of memory: it has played the same.
+        ensures stays { IfOk result (λ said. OnErr said ((lines : List (List ℕ)) (done : List (ℕ × Items))
+            → HasPlayed J.bounds lines done self.old → HasPlayed J.bounds lines done self.new)) }
+        ensures breaks { OnErr result ((lines : List (List ℕ)) (done : List (ℕ × Items))
+            → HasPlayed J.bounds lines done self.old → HasPlayed J.bounds lines done self.new) }
+    {
+        if self.left == 0 {
+            return Ok(Err(Cause::Lines));
+        }
+        self.left -= 1;
+        match play_line(alloc, &mut self.engine, self.number + 1, line)? {
+            Ok(reply) => {
+                self.number += 1;
+                Ok(Ok(reply))
+            }
+            Err(cause) => Ok(Err(cause)),
+        }
+    }
+
+    /// The player is done with: nobody else has acted, so what it has played is a script that ends
+    /// well.
+    pub fn end(self)
+        requires player { IsPlayer J.bounds self }
+        requires seats { J.seats ≡ length J.bounds + 2 + limits.MAX_LIVE_SESSIONS }
+        ensures { (lines : List (List ℕ)) (done : List (ℕ × Items)) → HasPlayed J.bounds lines done self
+            → EndWellWith J.bounds lines done }
+    {
+        let Player {
+            engine,
+            number: _,
+            left: _,
+        } = self;
+        drop(close(engine));
+    }
+}
