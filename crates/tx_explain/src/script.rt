@@ -5,18 +5,18 @@ ghost use Rattle.tx_text.specs.Lines.{lines_of as lines_in};
 ghost use Rattle.tx_text.specs.Faults.{fault_words};
 ghost use Rattle.tx_text.specs.Members.{reply_text};
 ghost use Rattle.tx_evidence.specs.Lines.{bounds_of};
-ghost use Rattle.tx_script.specs.Play.{Played, IsPlay, render};
+ghost use Rattle.tx_script.specs.Play.{Played, IsPlay};
 ghost use Rattle.tx_played.specs.Played.{counts_of};
-ghost use Rattle.tx_explain.specs.Explained.{Explains};
+ghost use Rattle.tx_explain.specs.Explained.{Explains, HasNumbers, written_of};
 
 use std::alloc::Global;
 use std::io::{BufRead, ErrorKind, Write};
 use tx_cells::{Families, Makes};
 use tx_drawing::svg_of;
 use tx_picture::text_of;
-use tx_played::{Watched, keys_of, lines_of, put_in, turns_of};
-use tx_script::{Broken, End, simulate};
-use tx_sheet::sheet_of;
+use tx_played::{Watched, keys_of, lines_of, places_of, put_in, turns_of};
+use tx_script::{Broken, End, simulate, simulate_numbered};
+use tx_sheet::{Sheet, put_machine, sheet_of};
 use tx_text::{finish, put_fault, send};
 use tx_types::{Cause, Key};
 
@@ -27,6 +27,14 @@ pub enum PictureForm {
     Text,
     /// An SVG.
     Drawing,
+}
+
+/// What a picture shows, and how.
+#[derive(Clone, Copy, Debug, PartialEq, Eq)]
+pub struct PictureOptions {
+    pub form: PictureForm,
+    /// Whether with the machine's steps, each at the line that made it.
+    pub machine: bool,
 }
 
 // Reads all that is left.
@@ -44,26 +52,44 @@ fn read_all<R: BufRead>(alloc: Global, reader: &mut R) -> Result<Vec<u8>, Broken
     }
 }
 
-// Plays a script: how it ended, and the text of its replies.
+// Plays a script: how it ended, and the text of its replies, with the machine's steps behind them
+// where those are asked for.
 fn play<F: Families + Drop, M: Makes<F>>(
     alloc: Global,
     make: &M,
+    machine: bool,
     script: &[u8],
 ) -> Result<(End, Vec<u8>), Broken>
-    ensures { IfOk result (λ played. (refused : List Bool) × (p : Played)
+    ensures { IfOk result (λ played. (refused : List Bool) × (p : Played) × (numbers : List ℕ)
         × IsPlay (bounds_of (lines_in script.now)) refused (lines_in script.now) p
-        × (played.1.items ≡ render p.replies) × (played.0 ≡ p.ended)) }
+        × (played.1.items ≡ written_of machine p numbers) × (played.0 ≡ p.ended)
+        × HasNumbers machine (bounds_of (lines_in script.now)) refused (lines_in script.now) p numbers) }
 {
     let mut written = Vec::new(alloc);
     let mut reader = script;
-    let end = simulate::<F, M, _, _>(alloc, make, &mut reader, &mut written)?;
+    let end = if machine {
+        simulate_numbered::<F, M, _, _>(alloc, make, &mut reader, &mut written)?
+    } else {
+        simulate::<F, M, _, _>(alloc, make, &mut reader, &mut written)?
+    };
     Ok((end, written))
+}
+
+// Puts the machine's steps into a sheet, by the lines that stand behind the replies.
+fn put_steps(
+    alloc: Global,
+    sheet: &mut Sheet,
+    counts: &[usize],
+    lines: &[&[u8]],
+) -> Result<(), Broken> {
+    let places = places_of(alloc, counts)?;
+    put_machine(alloc, sheet, places.as_slice(), lines)
 }
 
 // The picture of a script that was played, by the text of its replies.
 fn picture(
     alloc: Global,
-    form: PictureForm,
+    options: PictureOptions,
     keys: &[Key],
     lines: &[&[u8]],
     watched: &Watched,
@@ -73,8 +99,16 @@ fn picture(
 {
     let replies = lines_of(alloc, written)?;
     let turns = turns_of(alloc, lines, watched.counts.as_slice(), replies.as_slice())?;
-    let sheet = sheet_of(alloc, keys, turns.as_slice())?;
-    match form {
+    let mut sheet = sheet_of(alloc, keys, turns.as_slice())?;
+    if options.machine {
+        put_steps(
+            alloc,
+            &mut sheet,
+            watched.counts.as_slice(),
+            replies.as_slice(),
+        )?;
+    }
+    match options.form {
         PictureForm::Text => Ok(text_of(alloc, &sheet)?),
         PictureForm::Drawing => Ok(svg_of(alloc, &sheet)?),
     }
@@ -110,7 +144,7 @@ fn refuse<W: Write>(alloc: Global, writer: &mut W, number: u64) -> Result<End, B
 pub fn explain<F: Families + Drop, M: Makes<F>, R: BufRead, W: Write>(
     alloc: Global,
     make: &M,
-    form: PictureForm,
+    options: PictureOptions,
     reader: &mut R,
     writer: &mut W,
 ) -> Result<End, Broken>
@@ -127,10 +161,10 @@ pub fn explain<F: Families + Drop, M: Makes<F>, R: BufRead, W: Write>(
         Ok(watched) => watched,
         Err(number) => return refuse(alloc, writer, number),
     };
-    let (end, written) = play::<F, M>(alloc, make, watched.text.as_slice())?;
+    let (end, written) = play::<F, M>(alloc, make, options.machine, watched.text.as_slice())?;
     let shown = picture(
         alloc,
-        form,
+        options,
         keys.as_slice(),
         lines.as_slice(),
         &watched,

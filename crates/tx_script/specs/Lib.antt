@@ -1,3 +1,4 @@
 pub mod Play
 pub mod Checked
 pub mod Loops
+pub mod Numbered
