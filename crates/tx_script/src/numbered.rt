@@ -1,6 +1,6 @@
 //! The machine's steps of a script's run, each beside the number of the line during which it was
 //! taken.
-ghost use Rattle.std.specs.Prelude.{◌≡◌, ◌++◌, ◌∷◌, [], reverse, map, length, option_map, OnOk, IfErr, IfSome};
+ghost use Rattle.std.specs.Prelude.{◌≡◌, ◌++◌, ◌∷◌, [], reverse, map, option_map, OnOk, IfErr, IfSome};
 ghost use Rattle.std.specs.List.{concat, zip};
 ghost use Rattle.std.specs.Io.KnownBytes.{Appends};
 ghost use Rattle.tx_core.specs.Histories.{History};
@@ -24,12 +24,14 @@ use tx_trace::Trace;
 pub(crate) fn note_line(numbers: &mut Option<Vec<u64>>, number: u64, made: Option<usize>)
     ensures { NotesLine number made (option_map (λ v. v.items) numbers.old) (option_map (λ v. v.items) numbers.new) }
 {
-    let is_noted = match (&mut *numbers, made) {
-        (Some(each), Some(count)) => each.resize(count, number).is_ok(),
-        _ => false,
-    };
-    if !is_noted {
+    let Some(count) = made else {
         *numbers = None;
+        return;
+    };
+    if let Some(each) = numbers {
+        if each.resize(count, number).is_err() {
+            *numbers = None;
+        }
     }
 }
 
@@ -40,16 +42,15 @@ fn write_each<W: Write>(
     numbers: &[u64],
     steps: &[Step],
 ) -> Result<(), Broken>
-    requires many { length numbers.now ≡ length steps.now }
     ensures all { OnOk result (Appends (W.contents writer.old) (W.contents writer.new)
         (concat (map beside_text (zip numbers.now steps.now)))) }
     ensures part { IfErr result (λ why. AppendsBegun why (W.contents writer.old) (W.contents writer.new)
         (map beside_text (zip numbers.now steps.now))) }
 {
     let mut text = Vec::new(alloc);
-    'steps: for (index, step) in steps.iter().enumerate() {
+    'steps: for (number, step) in numbers.iter().zip(steps) {
         text.clear();
-        put_step_beside(&mut text, numbers[index], step)?;
+        put_step_beside(&mut text, *number, step)?;
         send(writer, text.as_slice())?;
     }
     Ok(())
@@ -63,7 +64,6 @@ fn write_run<W: Write>(
     steps: &[Step],
 ) -> Result<(), Broken>
     requires run { IsRun (reverse steps.now) }
-    requires many { length numbers.now ≡ length steps.now }
     ensures all { OnOk result (Appends (W.contents writer.old) (W.contents writer.new)
         (concat (map beside_text (zip numbers.now steps.now) ++ line_text (words Verdict.Yes) ∷ []))) }
     ensures part { IfErr result (λ why. AppendsBegun why (W.contents writer.old) (W.contents writer.new)
@@ -82,7 +82,6 @@ fn write_kept<W: Write>(
     numbers: Option<Vec<u64>>,
 ) -> Result<(), Broken>
     requires run { IfSome trace (λ t. IsRun t.steps) }
-    requires many { IfSome numbers (λ ns. IfSome trace (λ t. length ns.items ≡ length t.steps)) }
     ensures all { OnOk result ((h : History) → AreOf h trace → TellsNumbers End.Well h
         (option_map (λ v. v.items) numbers) (W.contents writer.old) (W.contents writer.new)) }
     ensures part { IfErr result (λ why. (h : History) → AreOf h trace → BeginsNumbers why h
@@ -105,7 +104,6 @@ pub(crate) fn write_numbered<W: Write>(
     numbers: Option<Vec<u64>>,
 ) -> Result<(), Broken>
     requires run { IfSome trace (λ t. IsRun t.steps) }
-    requires many { end ≡ End.Well → IfSome numbers (λ ns. IfSome trace (λ t. length ns.items ≡ length t.steps)) }
     ensures all { OnOk result ((h : History) → AreOf h trace → TellsNumbers end h
         (option_map (λ v. v.items) numbers) (W.contents writer.old) (W.contents writer.new)) }
     ensures part { IfErr result (λ why. (end ≡ End.Well) × ((h : History) → AreOf h trace → BeginsNumbers why h

@@ -1,5 +1,5 @@
 //! The lines of a script, one after another, and then the count that shows that nobody else acted.
-ghost use Rattle.std.specs.Prelude.{◌≡◌, ◌≤◌, ◌+◌, ℕ, List, [], length, IfOk, IfErr, IfSome};
+ghost use Rattle.std.specs.Prelude.{◌≡◌, ◌≤◌, ◌+◌, ℕ, List, [], length, option_map, IfOk, IfErr, IfSome};
 ghost use Rattle.tx_types.specs.declared.limits.TheConstants as limits;
 ghost use Rattle.tx_core.specs.Worlds.{IsWorldRun};
 ghost use Rattle.tx_engine.specs.Slots.{AllSeated, own};
@@ -37,7 +37,7 @@ fn play_lines<J: JournalId, F: Families, R: BufRead, W: Write>(
     requires opening { IsOpening engine.old }
     requires slots { length engine.old.slots ≡ limits.MAX_LIVE_SESSIONS }
     requires ready { AllSeated J.bounds (limits.MAX_LINES + 1) engine.old }
-    requires none { IfSome numbers.old (λ ns. ns.items ≡ []) }
+    requires none { IfSome (option_map (λ v. v.items) numbers.old) (λ ns. ns ≡ []) }
     ensures kept { Kept J.bounds engine.new }
     ensures traced { length engine.new.network.newest ≤ own engine.new → IsTraced engine.old.network
         → IsTraced engine.new.network }
@@ -50,8 +50,8 @@ fn play_lines<J: JournalId, F: Families, R: BufRead, W: Write>(
     ensures numbered { IfOk result (λ end. end ≡ End.Well → length engine.new.network.newest ≤ own engine.new
         → IsWorldRun J.bounds engine.new.network.newest → IsTraced engine.old.network → (lines : List (List ℕ))
         → Ahead first line.old.items (R.remaining reader.old) lines
-        → IfSome numbers.new (λ ns. NumberedAt J.bounds lines ns.items engine.new.network.newest
-        (W.contents writer.old) (W.contents writer.new))) }
+        → IfSome (option_map (λ v. v.items) numbers.new) (λ ns. NumberedAt J.bounds lines ns
+        engine.new.network.newest (W.contents writer.old) (W.contents writer.new))) }
 {
     let mut text = Vec::with_capacity(alloc, REFUSAL_BYTES)?;
     let mut number = 0;
