@@ -1,16 +1,15 @@
 -- What `explain` plays and writes.
-use Rattle.std.specs.Prelude.{◌≡◌, ◌⊎◌, ◌≤◌, ◌<◌, ◌++◌, ℕ, List, Bool, true, false, length, Option}
+use Rattle.std.specs.Prelude.{◌≡◌, ◌⊎◌, ◌≤◌, ◌<◌, ℕ, List, Bool, length, Option}
 use Rattle.std.specs.Io.KnownBytes.{Appends}
 use Rattle.tx_types.specs.declared.fault.Cause.TheVariants as cause
 use Rattle.tx_types.specs.declared.key.Key.{Key}
 use Rattle.tx_types.specs.declared.limits.TheConstants.{MAX_LINES}
 use Rattle.tx_text.specs.declared.end.End.{End}
-use Rattle.tx_text.specs.declared.end.End.TheVariants.{Well, Faulted}
+use Rattle.tx_text.specs.declared.end.End.TheVariants.{Faulted}
 use Rattle.tx_text.specs.Faults.{fault_words}
 use Rattle.tx_text.specs.Members.{reply_text}
 use Rattle.tx_evidence.specs.Lines.{bounds_of}
-use Rattle.tx_script.specs.Play.{Played, IsPlay, render}
-use Rattle.tx_script.specs.Numbered.{AreNumbers, numbers_told}
+use Rattle.tx_script.specs.Play.{Played, IsPlay}
 use Rattle.tx_played.specs.Played.{put_in, IsShowable}
 
 -- With the lines that show these keys there are more than a script may have: the fault of a line is
@@ -18,17 +17,6 @@ use Rattle.tx_played.specs.Played.{put_in, IsShowable}
 abbrev pub Refuses : List Key → List (List ℕ) → Option (List ℕ) → Option (List ℕ) → End → Type 0
 Refuses keys lines old new ended = (MAX_LINES < length (put_in keys lines))
     × ((number : ℕ) × Appends old new (reply_text (number, fault_words cause.Lines))) × (ended ≡ Faulted)
-
--- what stood written of a play, with its steps beside these numbers where they were asked for
-abbrev pub written_of : Bool → Played → List ℕ → List ℕ
-written_of false p numbers = render p.replies
-written_of true p numbers = render p.replies ++ numbers_told p.ended numbers p.history
-
--- where they were asked for, of a play that ended well, these are the numbers of the lines during
--- which its steps were taken
-abbrev pub HasNumbers : Bool → List Key → List Bool → List (List ℕ) → Played → List ℕ → Type 0
-HasNumbers machine bounds refused lines p numbers = machine ≡ true → p.ended ≡ Well
-    → AreNumbers bounds refused lines p numbers
 
 -- The script with these lines put in was played to its end, and one text was written. That the
 -- replies to its own lines are those of `simulate` is a law.

@@ -1,13 +1,16 @@
 //! A script from its first byte to the picture of its run.
-ghost use Rattle.std.specs.Prelude.{◌≡◌, ◌≢◌, ℕ, List, Bool, map, IfOk, IfErr, IfSome};
+ghost use Rattle.std.specs.Prelude.{◌≡◌, ◌≢◌, ◌≤◌, ◌++◌, ℕ, List, Bool, length, map, IfOk, IfErr, IfSome};
 ghost use Rattle.std.specs.Io.KnownBytes.{Appends, Keeps};
 ghost use Rattle.tx_text.specs.Lines.{lines_of as lines_in};
 ghost use Rattle.tx_text.specs.Faults.{fault_words};
 ghost use Rattle.tx_text.specs.Members.{reply_text};
 ghost use Rattle.tx_evidence.specs.Lines.{bounds_of};
-ghost use Rattle.tx_script.specs.Play.{Played, IsPlay};
-ghost use Rattle.tx_played.specs.Played.{counts_of};
-ghost use Rattle.tx_explain.specs.Explained.{Explains, HasNumbers, written_of};
+ghost use Rattle.tx_script.specs.Play.{Played, IsPlay, render};
+ghost use Rattle.tx_script.specs.Numbered.{AreNumbers, numbers_told};
+ghost use Rattle.tx_played.specs.Played.{counts_of, put_in as put_in_lines};
+ghost use Rattle.tx_types.specs.declared.key.Key.{Key};
+ghost use Rattle.tx_types.specs.declared.limits.TheConstants as limits;
+ghost use Rattle.tx_explain.specs.Explained.{Explains};
 
 use std::alloc::Global;
 use std::io::{BufRead, ErrorKind, Write};
@@ -52,27 +55,54 @@ fn read_all<R: BufRead>(alloc: Global, reader: &mut R) -> Result<Vec<u8>, Broken
     }
 }
 
-// Plays a script: how it ended, and the text of its replies, with the machine's steps behind them
-// where those are asked for.
+// Plays a script: how it ended, and the text of its replies.
+fn play_plain<F: Families + Drop, M: Makes<F>>(
+    alloc: Global,
+    make: &M,
+    script: &[u8],
+) -> Result<(End, Vec<u8>), Broken>
+    ensures { IfOk result (λ played. (refused : List Bool) × (p : Played)
+        × IsPlay (bounds_of (lines_in script.now)) refused (lines_in script.now) p
+        × (played.1.items ≡ render p.replies) × (played.0 ≡ p.ended)) }
+{
+    let mut written = Vec::new(alloc);
+    let mut reader = script;
+    let end = simulate::<F, M, _, _>(alloc, make, &mut reader, &mut written)?;
+    Ok((end, written))
+}
+
+// The same, with the machine's steps behind the replies, each beside the number of its line.
+fn play_numbered<F: Families + Drop, M: Makes<F>>(
+    alloc: Global,
+    make: &M,
+    script: &[u8],
+) -> Result<(End, Vec<u8>), Broken>
+    ensures { IfOk result (λ played. (refused : List Bool) × (p : Played) × (numbers : List ℕ)
+        × IsPlay (bounds_of (lines_in script.now)) refused (lines_in script.now) p
+        × (played.1.items ≡ render p.replies ++ numbers_told p.ended numbers p.history) × (played.0 ≡ p.ended)
+        × (p.ended ≡ End.Well → AreNumbers (bounds_of (lines_in script.now)) refused (lines_in script.now) p numbers)) }
+{
+    let mut written = Vec::new(alloc);
+    let mut reader = script;
+    let end = simulate_numbered::<F, M, _, _>(alloc, make, &mut reader, &mut written)?;
+    Ok((end, written))
+}
+
+// Plays a script, with the machine's steps where those are shown.
 fn play<F: Families + Drop, M: Makes<F>>(
     alloc: Global,
     make: &M,
     machine: bool,
     script: &[u8],
 ) -> Result<(End, Vec<u8>), Broken>
-    ensures { IfOk result (λ played. (refused : List Bool) × (p : Played) × (numbers : List ℕ)
-        × IsPlay (bounds_of (lines_in script.now)) refused (lines_in script.now) p
-        × (played.1.items ≡ written_of machine p numbers) × (played.0 ≡ p.ended)
-        × HasNumbers machine (bounds_of (lines_in script.now)) refused (lines_in script.now) p numbers) }
+    ensures { IfOk result (λ played. (refused : List Bool) × (p : Played)
+        × IsPlay (bounds_of (lines_in script.now)) refused (lines_in script.now) p × (played.0 ≡ p.ended)) }
 {
-    let mut written = Vec::new(alloc);
-    let mut reader = script;
-    let end = if machine {
-        simulate_numbered::<F, M, _, _>(alloc, make, &mut reader, &mut written)?
+    if machine {
+        play_numbered::<F, M>(alloc, make, script)
     } else {
-        simulate::<F, M, _, _>(alloc, make, &mut reader, &mut written)?
-    };
-    Ok((end, written))
+        play_plain::<F, M>(alloc, make, script)
+    }
 }
 
 // Puts the machine's steps into a sheet, by the lines that stand behind the replies.
@@ -81,7 +111,10 @@ fn put_steps(
     sheet: &mut Sheet,
     counts: &[usize],
     lines: &[&[u8]],
-) -> Result<(), Broken> {
+) -> Result<(), Broken>
+    requires { (keys : List Key) × (own : List (List ℕ)) × (counts.now ≡ counts_of keys own)
+        × (length (put_in_lines keys own) ≤ limits.MAX_LINES) }
+{
     let places = places_of(alloc, counts)?;
     put_machine(alloc, sheet, places.as_slice(), lines)
 }
@@ -95,7 +128,8 @@ fn picture(
     watched: &Watched,
     written: &[u8],
 ) -> Result<String, Broken>
-    requires { watched.now.counts.items ≡ counts_of keys.now (map (λ line. line.now) lines.now) }
+    requires counts { watched.now.counts.items ≡ counts_of keys.now (map (λ line. line.now) lines.now) }
+    requires few { length (put_in_lines keys.now (map (λ line. line.now) lines.now)) ≤ limits.MAX_LINES }
 {
     let replies = lines_of(alloc, written)?;
     let turns = turns_of(alloc, lines, watched.counts.as_slice(), replies.as_slice())?;

@@ -87,7 +87,10 @@ fn write_kept<W: Write>(
     ensures part { IfErr result (λ why. (h : History) → AreOf h trace → BeginsNumbers why h
         (option_map (λ v. v.items) numbers) (W.contents writer.old) (W.contents writer.new)) }
 {
-    let (Some(trace), Some(numbers)) = (trace, numbers) else {
+    let Some(trace) = trace else {
+        return Err(Broken::Memory);
+    };
+    let Some(numbers) = numbers else {
         return Err(Broken::Memory);
     };
     write_run(alloc, writer, numbers.as_slice(), trace.steps())

@@ -1,5 +1,5 @@
 //! The machine's steps, each at the row of the line that made it.
-use crate::reply::put_rows;
+use crate::reply::put_row;
 use crate::row::{Row, Sheet};
 use crate::words::{put_number, put_shown};
 use serde_json::Value;
@@ -84,6 +84,17 @@ fn put_changes(out: &mut String, entries: &[Value]) -> Result<(), AllocError> {
     Ok(())
 }
 
+// Appends the rows of a scan.
+fn put_rows(out: &mut String, rows: &[Value]) -> Result<(), AllocError> {
+    if rows.is_empty() {
+        return out.push_str(" no rows");
+    }
+    'rows: for row in rows {
+        put_row(out, row)?;
+    }
+    Ok(())
+}
+
 // The list at this place behind the word of a step.
 fn list_at<'a>(step: MachineStep<'a>, place: usize) -> &'a [Value] {
     match step.rest.get(place) {
@@ -116,7 +127,7 @@ fn put_machine_step(out: &mut String, step: MachineStep<'_>) -> Result<(), Alloc
             put_named(out, "scan ", step, 1)?;
             put_named(out, " ", step, 2)?;
             put_named(out, " at ", step, 0)?;
-            out.push_str(": ")?;
+            out.push(':')?;
             put_rows(out, list_at(step, 4))
         }
         "answer" => {

@@ -73,8 +73,8 @@ fn put_members(out: &mut String, members: &[Value]) -> Result<(), AllocError> {
     Ok(())
 }
 
-// Appends a row: its key and its value.
-fn put_row(out: &mut String, row: &Value) -> Result<(), AllocError> {
+/// Appends a row: its key and its value.
+pub(crate) fn put_row(out: &mut String, row: &Value) -> Result<(), AllocError> {
     let Some(members) = row.as_array() else {
         return Ok(());
     };
@@ -87,8 +87,8 @@ fn put_row(out: &mut String, row: &Value) -> Result<(), AllocError> {
     Ok(())
 }
 
-/// Appends what a scan found.
-pub(crate) fn put_rows(out: &mut String, rows: &[Value]) -> Result<(), AllocError> {
+// Appends what a scan found.
+fn put_rows(out: &mut String, rows: &[Value]) -> Result<(), AllocError> {
     if rows.is_empty() {
         return out.push_str("= no rows");
     }
