@@ -4,9 +4,7 @@ use crate::label::{label_of, machine_words};
 use crate::layout::{LEFT, Layout, row_height};
 use crate::locks::Bars;
 use crate::markup::{at, put_words};
-use crate::rows::{
-    HeldBox, put_dot_and_label, put_machine, put_reads, put_reason, put_sending,
-};
+use crate::rows::{HeldBox, put_dot_and_label, put_machine, put_reads, put_reason, put_sending};
 use std::alloc::{AllocError, Global};
 use tx_sheet::{Row, RowKind, Sheet, put_number};
 

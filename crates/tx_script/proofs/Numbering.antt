@@ -1,5 +1,6 @@
 -- The numbers of the lines during which steps were taken, from line to line.
-use Rattle.std.proofs.Common.{◌≡◌, ◌≤◌, ◌<◌, ◌⊎◌, inl, inr, ◌+◌, ◌-◌, ℕ, suc, Bool, List, [], ◌∷◌, ◌++◌, length, take, get_or, replicate, Option, Some, None, IfSome, option_map, Ok, refl, sym, ap, subst, ◌∙◌, append_assoc, append-nil, arith, length-append}
+use Rattle.std.proofs.Common.{◌≡◌, ◌≤◌, ◌<◌, ◌⊎◌, inl, inr, ◌+◌, ◌-◌, ℕ, suc, Bool, List, [], ◌∷◌, ◌++◌, length, take, get_or, Option, Some, None, IfSome, option_map, Ok, refl, sym, ap, subst, ◌∙◌, append_assoc, append-nil, arith, length-append}
+use Rattle.std.specs.Prelude.{replicate}
 use Rattle.std.proofs.lemmas.Bool.{cases_lt}
 use Rattle.std.proofs.lemmas.List.{take-append-le, take_all, get_or_append_left, get_or-append-add, get_or-replicate, length-replicate}
 use Rattle.std.specs.Io.KnownBytes.{Appends, Keeps}
@@ -55,8 +56,8 @@ pub fewer_steps : (l h : History) → Begins l h → length (shadow l) ≤ lengt
 fewer_steps l [] b = omega (arith, ap (λ (x : History). length (shadow x)) b)
 fewer_steps l (e ∷ h) b =
     elim b [
-        inl same ↦ omega (arith, ap (λ (x : History). length (shadow x)) same)
-        | inr more ↦ omega (arith, fewer_steps l h more, one_more e h)
+      | inl same ↦ omega (arith, ap (λ (x : History). length (shadow x)) same)
+      | inr more ↦ omega (arith, fewer_steps l h more, one_more e h)
     ]
 
 -- as many steps are kept as there are
@@ -64,9 +65,9 @@ pub counted : (trace : Option Noted) (count : ℕ) (bounds : List Key) (h : Hist
     → Some count ≡ option_map (λ (t : Noted). length t.steps) trace
     → IfSome trace (λ t. (bounds : List Key) → IsWorldRun bounds h → Traces h t) → IsWorldRun bounds h
     → count ≡ length (shadow h)
-counted None count bounds h is traced run = absurd (cc)
+counted None count bounds h is traced run = absurd (cc (is))
 counted (Some t) count bounds h is traced run =
-    let same : count ≡ length t.steps = cc in
+    let same : count ≡ length t.steps = cc (is) in
     same ∙ ap length (traced bounds run).0.shadows
 
 -- ---- numbers
@@ -128,15 +129,15 @@ module _ (bounds : List Key) where
     pub line : number ≡ earlier + 1
     pub within : earlier < length lines
     pub first : Played
-    pub then : Played
+    pub last : Played
     pub plays_first : (later : List Bool)
         → Plays bounds (opening MAX_LIVE_SESSIONS) 0 (told ++ later) (take earlier lines) first
-    pub plays_then : (later : List Bool)
-        → Plays bounds (opening MAX_LIVE_SESSIONS) 0 (told ++ later) (take number lines) then
+    pub plays_last : (later : List Bool)
+        → Plays bounds (opening MAX_LIVE_SESSIONS) 0 (told ++ later) (take number lines) last
     pub begins_first : Begins first.history h
-    pub begins_then : Begins then.history h
+    pub begins_last : Begins last.history h
     pub not_yet : steps_in first ≤ place
-    pub by_then : place < steps_in then
+    pub by_then : place < steps_in last
 
   -- before each line: these lines are ahead, the others have been played, and their steps have
   -- these numbers
@@ -226,11 +227,11 @@ module _ (bounds : List Key) where
         line = x.line;
         within = omega (arith, x.within, length-append lines (line ∷ []));
         first = x.first;
-        then = x.then;
+        last = x.last;
         plays_first = earlier_plays x.earlier x.first (omega (arith, x.within)) x.plays_first;
-        plays_then = earlier_plays n x.then (omega (arith, x.within, x.line)) x.plays_then;
+        plays_last = earlier_plays n x.last (omega (arith, x.within, x.line)) x.plays_last;
         begins_first = begins_more x.first.history e.network.newest next.network.newest x.begins_first line_grew;
-        begins_then = begins_more x.then.history e.network.newest next.network.newest x.begins_then line_grew;
+        begins_last = begins_more x.last.history e.network.newest next.network.newest x.begins_last line_grew;
         not_yet = x.not_yet;
         by_then = x.by_then;
       }
@@ -257,11 +258,11 @@ module _ (bounds : List Key) where
           line = refl;
           within = omega (arith, count, length-append lines (line ∷ []));
           first = alone done e;
-          then = alone (done ++ said ∷ []) next;
+          last = alone (done ++ said ∷ []) next;
           plays_first = earlier_plays number (alone done e) (omega (arith, count)) alone_before;
-          plays_then = whole;
+          plays_last = whole;
           begins_first = line_grew;
-          begins_then = begins_all next.network.newest;
+          begins_last = begins_all next.network.newest;
           not_yet = past;
           by_then = within;
         }
@@ -279,14 +280,14 @@ module _ (bounds : List Key) where
       placed_on : (place : ℕ) → place < length filled_here → Placed (x.told ++ follows.0) (x.lines ++ line ∷ [])
           next.network.newest place (get_or filled_here place 0)
       placed_on place within = elim (cases_lt place (length numbers)) [
-          inl before ↦ subst (Placed (x.told ++ follows.0) (x.lines ++ line ∷ []) next.network.newest place)
-              (sym (filled_old numbers count (number + 1) few place before))
-              (placed_before x.told x.lines x.done x.led place (get_or numbers place 0) (x.placed place before))
-          | inr after ↦ subst (Placed (x.told ++ follows.0) (x.lines ++ line ∷ []) next.network.newest place)
-              (sym (filled_new numbers count (number + 1) few place after
-              (omega (arith, within, filled_length numbers count (number + 1) few))))
-              (placed_here x.told x.lines x.done x.led x.count place (omega (arith, after, x.many))
-              (omega (arith, within, counts, filled_length numbers count (number + 1) few)))
+        | inl before ↦ subst (Placed (x.told ++ follows.0) (x.lines ++ line ∷ []) next.network.newest place)
+            (sym (filled_old numbers count (number + 1) few place before))
+            (placed_before x.told x.lines x.done x.led place (get_or numbers place 0) (x.placed place before))
+        | inr after ↦ subst (Placed (x.told ++ follows.0) (x.lines ++ line ∷ []) next.network.newest place)
+            (sym (filled_new numbers count (number + 1) few place after
+            (omega (arith, within, filled_length numbers count (number + 1) few))))
+            (placed_here x.told x.lines x.done x.led x.count place (omega (arith, after, x.many))
+            (omega (arith, within, counts, filled_length numbers count (number + 1) few)))
       ]
 
       pub numbers_on : (new' : Option (List ℕ)) → Appends new new' (reply_text (number + 1, reply_words reply))
@@ -316,11 +317,11 @@ module _ (bounds : List Key) where
     line = x.line;
     within = x.within;
     before = x.first;
-    after = x.then;
+    after = x.last;
     plays_before = is_play bounds (told ++ []) (take x.earlier lines) x.first (x.plays_first [])
         (run_beginning bounds x.first.history h run x.begins_first);
-    plays_after = is_play bounds (told ++ []) (take number lines) x.then (x.plays_then [])
-        (run_beginning bounds x.then.history h run x.begins_then);
+    plays_after = is_play bounds (told ++ []) (take number lines) x.last (x.plays_last [])
+        (run_beginning bounds x.last.history h run x.begins_last);
     not_yet = x.not_yet;
     by_then = x.by_then;
   }

@@ -64,7 +64,9 @@ pub(crate) fn explain_over<B: BufRead, W: Write>(
 ) -> Result<End, Broken> {
     match cells {
         CellsKind::Flat => explain::<FlatCells, _, _, _>(alloc, &Plain, options, reader, writer),
-        CellsKind::Nested => explain::<NestedCells, _, _, _>(alloc, &Plain, options, reader, writer),
+        CellsKind::Nested => explain::<NestedCells, _, _, _>(
+            alloc, &Plain, options, reader, writer,
+        ),
     }
 }
 

@@ -21,8 +21,8 @@ returns-in_default c =
     let is : as_array (view c.args.value.now) ≡ Some (items_view members) =
     rw c.in_ok-as_array.was at (sym c.as_array.ensures) in
     elim c.in_default.branch [
-        | in_default-via-then-as_slice-lt2 w ↦ none_here (view c.args.value.now) members c.as_slice.result.now is
-            c.as_slice.ensures.value (inl (omega (arith, ltb-true, ltb-false)))
-        | in_default-via-else-as_slice-lt2+else-this-lt3 w ↦ none_here (view c.args.value.now) members
-            c.as_slice.result.now is c.as_slice.ensures.value (inr (omega (arith, ltb-true, ltb-false)))
+      | in_default-via-then-as_slice-lt2 w ↦ none_here (view c.args.value.now) members c.as_slice.result.now is
+          c.as_slice.ensures.value (inl (omega (arith, ltb-true, ltb-false)))
+      | in_default-via-else-as_slice-lt2+else-this-lt3 w ↦ none_here (view c.args.value.now) members
+          c.as_slice.result.now is c.as_slice.ensures.value (inr (omega (arith, ltb-true, ltb-false)))
     ]

@@ -25,9 +25,11 @@ write_numbered-requires g c =
     let traced : IsTraced c.keep_trace.new.self.network =
     traced_first c.keep_trace.ensures.0 c.args.engine c.keep_trace.new.self c.keep_trace.ensures.2
     c.requires.opening c.keep_trace.ensures.1 in
-    are_run g.J.JournalId.bounds c.play_lines-ended.new.engine c.close-trace.ensures.came
-    c.close-trace.ensures.run c.close-trace.result c.close-trace.ensures.trace
-    (λ le. c.play_lines-ended.ensures.traced le traced)
+    record {
+      run = are_run g.J.JournalId.bounds c.play_lines-ended.new.engine c.close-trace.ensures.came
+          c.close-trace.ensures.run c.close-trace.result c.close-trace.ensures.trace
+          (λ le. c.play_lines-ended.ensures.traced le traced);
+    }
 
 pub returns-in_err-end-clause-breaks : goal.returns-in_err-end-clause-breaks
 returns-in_err-end-clause-breaks g c =
