@@ -3,11 +3,13 @@
 //! played as `txkv run --workers 2` does) or a trace (`NAME.trace`, checked as `txkv check` does);
 //! what it writes is shown in the file of its name with `.out` added. Scripts and runs are played
 //! over both families, and the run of a script is shown as `NAME.script.text`, of four as
-//! `NAME.script.svg` too. Many small ones stand in `scripts.rows`, `checked.rows` (played as `txkv
-//! simulate --check` does), `traces.rows`, `histories.rows` (judged as `txkv import` does, and the
-//! trace of each yes is checked), `ordered.rows` (the same with `--sessions --strict`) and `all.rows`
-//! (with `--all`), each with what it writes. The picture of a history (`NAME.history`, drawn as
-//! `txkv import --svg` does) is shown as `NAME.history.svg`.
+//! `NAME.script.svg` too; with the machine's steps as `NAME.script.machine.text`, of one as
+//! `NAME.script.machine.svg`. Many small ones stand in `scripts.rows`, `checked.rows` (played as
+//! `txkv simulate --check` does), `numbered.rows` (the same, with the number of its line beside each
+//! step), `traces.rows`, `histories.rows` (judged as `txkv import` does, and the trace of each yes
+//! is checked), `ordered.rows` (the same with `--sessions --strict`) and `all.rows` (with `--all`),
+//! each with what it writes. The picture of a history (`NAME.history`, drawn as `txkv import --svg`
+//! does) is shown as `NAME.history.svg`.
 #![tactic(auto)]
 
 mod rows;
@@ -22,13 +24,13 @@ use std::thread::Threads;
 use tx_answers::{CycleForm, ImportEnd, ImportOptions, import};
 use tx_cells::Fresh;
 use tx_check::{check, check_with_reason};
-use tx_explain::{PictureForm, explain};
+use tx_explain::{PictureForm, PictureOptions, explain};
 use tx_flat::FlatCells;
 use tx_nested::NestedCells;
 use tx_recording::Orders;
 use tx_run::{Plain, Settings, run_script};
 use tx_sched::Open;
-use tx_script::{simulate, simulate_checked};
+use tx_script::{simulate, simulate_checked, simulate_numbered};
 use tx_text::End;
 
 const SCRIPTS: [&str; 20] = [
@@ -61,6 +63,8 @@ const DRAWN: [&str; 4] = [
     "signs_of_markup.script",
 ];
 
+const DRAWN_WITH_STEPS: [&str; 1] = ["falls_back.script"];
+
 const HISTORIES: [&str; 2] = ["markup_in_keys.history", "read_committed.history"];
 
 const RUNS: [&str; 1] = ["transfers.run"];
@@ -81,6 +85,8 @@ enum Kind {
     Checked,
     /// The same over nested maps.
     CheckedNested,
+    /// A script with its steps, each beside the number of its line.
+    Numbered,
     Trace,
     /// A trace with the reason of a no.
     Reason,
@@ -118,6 +124,12 @@ fn plays<F: Fresh>(alloc: Global, text: &[u8], written: &mut Vec<u8>) -> Option<
 fn checks<F: Fresh>(alloc: Global, text: &[u8], written: &mut Vec<u8>) -> Option<End> {
     let mut reader = text;
     simulate_checked::<F, _, _, _>(alloc, &Plain, &mut reader, written).ok()
+}
+
+// The same with the number of its line beside each step.
+fn numbers<F: Fresh>(alloc: Global, text: &[u8], written: &mut Vec<u8>) -> Option<End> {
+    let mut reader = text;
+    simulate_numbered::<F, _, _, _>(alloc, &Plain, &mut reader, written).ok()
 }
 
 /// A verdict by its line, with no order, and nothing more.
@@ -199,6 +211,7 @@ impl Kind {
             Kind::Nested => plays::<NestedCells>(alloc, text, written),
             Kind::Checked => checks::<FlatCells>(alloc, text, written),
             Kind::CheckedNested => checks::<NestedCells>(alloc, text, written),
+            Kind::Numbered => numbers::<FlatCells>(alloc, text, written),
             Kind::Trace => check(alloc, &mut reader, written).ok(),
             Kind::Reason => check_with_reason(alloc, &mut reader, written).ok(),
             Kind::History => judges(alloc, ONE_LINE, text, written),
@@ -242,18 +255,30 @@ fn is_shown(rt: &HostRuntime, name: &str, kind: Kind) -> Result<bool> {
     Ok(ended == Some(end_of(shown.as_slice())) && written.as_slice() == shown.as_slice())
 }
 
-// Whether the run of a script is shown as the file beside it shows it: `NAME.text`, `NAME.svg`.
-fn is_explained(rt: &HostRuntime, name: &str, form: PictureForm) -> Result<bool> {
+// The end of the name of the file that shows a picture.
+fn ending_of(options: PictureOptions) -> &'static str {
+    match (options.form, options.machine) {
+        (PictureForm::Text, false) => "text",
+        (PictureForm::Text, true) => "machine.text",
+        (PictureForm::Drawing, false) => "svg",
+        (PictureForm::Drawing, true) => "machine.svg",
+    }
+}
+
+// Whether the run of a script is shown as the file beside it shows it.
+fn is_explained(rt: &HostRuntime, name: &str, options: PictureOptions) -> Result<bool> {
     let script = fs::read(rt, name)?;
-    let end = match form {
-        PictureForm::Text => "text",
-        PictureForm::Drawing => "svg",
-    };
-    let path = format!(in rt.alloc(); "{name}.{end}")?;
+    let path = format!(in rt.alloc(); "{name}.{}", ending_of(options))?;
     let shown = fs::read(rt, path)?;
     let mut written = Vec::new(rt.alloc());
     let mut reader = script.as_slice();
-    let ended = explain::<FlatCells, _, _, _>(rt.alloc(), &Plain, form, &mut reader, &mut written);
+    let ended = explain::<FlatCells, _, _, _>(
+        rt.alloc(),
+        &Plain,
+        options,
+        &mut reader,
+        &mut written,
+    );
     Ok(ended.is_ok() && written.as_slice() == shown.as_slice())
 }
 
@@ -265,6 +290,22 @@ fn is_drawn(rt: &HostRuntime, name: &str) -> Result<bool> {
     let mut written = Vec::new(rt.alloc());
     let ended = Kind::DrawnHistory.run(rt, history.as_slice(), &mut written);
     Ok(ended == Some(End::No) && written.as_slice() == shown.as_slice())
+}
+
+// Whether the runs of scripts are shown as the files beside them show them.
+fn tell_explained(
+    rt: &HostRuntime,
+    names: &[&str],
+    form: PictureForm,
+    machine: bool,
+    how: &str,
+) -> Result<()> {
+    let options = PictureOptions { form, machine };
+    for name in names {
+        let shown = is_explained(rt, name, options)?;
+        println!(rt; "{name}, {how}: {}", verdict(shown))?;
+    }
+    Ok(())
 }
 
 // Whether a script for workers, of whom there are two, writes over these families what the file
@@ -310,14 +351,11 @@ fn main(rt: HostRuntime) -> Result<()> {
         let shown = is_shown(&rt, name, Kind::Script)? && is_shown(&rt, name, Kind::Nested)?;
         println!(rt; "{name}: {}", verdict(shown))?;
     }
-    for name in SCRIPTS {
-        let shown = is_explained(&rt, name, PictureForm::Text)?;
-        println!(rt; "{name}, explained: {}", verdict(shown))?;
-    }
-    for name in DRAWN {
-        let shown = is_explained(&rt, name, PictureForm::Drawing)?;
-        println!(rt; "{name}, drawn: {}", verdict(shown))?;
-    }
+    let (text, drawing) = (PictureForm::Text, PictureForm::Drawing);
+    tell_explained(&rt, &SCRIPTS, text, false, "explained")?;
+    tell_explained(&rt, &SCRIPTS, text, true, "explained with steps")?;
+    tell_explained(&rt, &DRAWN, drawing, false, "drawn")?;
+    tell_explained(&rt, &DRAWN_WITH_STEPS, drawing, true, "drawn with steps")?;
     for name in HISTORIES {
         let shown = is_drawn(&rt, name)?;
         println!(rt; "{name}, drawn: {}", verdict(shown))?;
@@ -339,6 +377,8 @@ fn main(rt: HostRuntime) -> Result<()> {
     println!(rt; "checked.rows, over flat maps: {flat} as shown")?;
     let nested = count_shown(&rt, "checked.rows", Kind::CheckedNested)?;
     println!(rt; "checked.rows, over nested maps: {nested} as shown")?;
+    let numbered = count_shown(&rt, "numbered.rows", Kind::Numbered)?;
+    println!(rt; "numbered.rows: {numbered} as shown")?;
     let traces = count_shown(&rt, "traces.rows", Kind::Trace)?;
     println!(rt; "traces.rows: {traces} as shown")?;
     let reasons = count_shown(&rt, "reasons.rows", Kind::Reason)?;

@@ -8,7 +8,7 @@ use Rattle.tx_types.specs.declared.fault.Cause.TheVariants.{Json, Long}
 use Rattle.tx_machine.specs.declared.step.Step.{Step}
 use Rattle.tx_text.specs.Lines.{max_line, max_lines}
 use Rattle.tx_text.specs.Parts.{json_of, count}
-use Rattle.tx_check.specs.MachineSteps.{step_of, step_of_items}
+use Rattle.tx_check.specs.MachineSteps.{step_alone, step_of, step_of_items}
 use Rattle.tx_check.specs.Check.{step_of_form, step_of_json, step_in}
 
 module _ (number : ℕ) (line : List ℕ) (short : length line ≤ max_line) (early : number ≤ max_lines) where
@@ -29,8 +29,8 @@ too_long number line long = rw (lt-ltb max_line (length line) long) refl
 
 module _ (d : Data) (many : (items : Items) → as_array d ≡ Some items → 7 < count items) where
   -- say no step of a machine
-  pub no_step_of : step_of d ≡ None
-  no_step_of = by_items (as_array d) refl
+  pub no_step_alone : step_alone d ≡ None
+  no_step_alone = by_items (as_array d) refl
     where
       none : (items : Items) → 7 < count items → step_of_items items ≡ None
       none no_items more = absurd (omega (arith, more))

@@ -144,6 +144,18 @@ step_of_items (item word (item at (item from (item to (item limit (item rows no_
     six_of word at from to limit rows
 step_of_items _ = None
 
+-- the step that a value says by itself
+abbrev pub step_alone : Data → Option Step
+step_alone d = option_and_then step_of_items (as_array d)
+
+-- `[n,step]`: a step beside the number of the script's line during which it was taken
+abbrev pub step_beside_items : Items → Option Step
+step_beside_items (item n (item d no_items)) = option_and_then (λ _. step_alone d) (number_of n)
+step_beside_items _ = None
+
+abbrev pub step_beside : Data → Option Step
+step_beside d = option_and_then step_beside_items (as_array d)
+
 -- the step that a value says, where it is one
 abbrev pub step_of : Data → Option Step
-step_of d = option_and_then step_of_items (as_array d)
+step_of d = if is_some (step_alone d) then step_alone d else step_beside d

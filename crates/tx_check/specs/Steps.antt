@@ -62,3 +62,8 @@ step_fields (Answer t end) = item (number (unsigned t)) (fate_words end)
 -- the line of a step
 abbrev pub step_text : Step → List ℕ
 step_text step = line_text (item (string (step_word step)) (step_fields step))
+
+-- the line of a step beside the number of the script's line during which it was taken
+abbrev pub beside_text : ℕ × Step → List ℕ
+beside_text s = line_text (item (number (unsigned s.0))
+    (item (array (item (string (step_word s.1)) (step_fields s.1))) no_items))

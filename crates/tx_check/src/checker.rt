@@ -1,10 +1,9 @@
 //! Checking a trace: each line is read as a step and made by the machine, and one line is written,
 //! with the verdict, and where it is asked for and the verdict is no one more, with the reason.
-ghost use Rattle.std.specs.Prelude.{◌≡◌, ◌≤◌, ℕ, List, ◌++◌, length, OnOk, OnErr, IfOk, IfErr, IfSome};
+ghost use Rattle.std.specs.Prelude.{◌≡◌, ◌≤◌, ℕ, List, ◌++◌, length, option_map, option_and_then, OnOk, OnErr, IfOk, IfErr, IfSome};
 ghost use Rattle.std.specs.Io.KnownBytes.{Appends};
 ghost use Rattle.serde_json.specs.View.{view};
-ghost use Rattle.tx_text.specs.Parts.{parts_items};
-ghost use Rattle.tx_check.specs.MachineSteps.{step_of, step_of_items};
+ghost use Rattle.tx_check.specs.MachineSteps.{step_alone, step_beside, step_of};
 ghost use Rattle.tx_check.specs.Check.{step_of_form, step_in, IsVerdict, Ends, Breaks, end_of, EndsWithReason, BreaksWithReason};
 ghost use Rattle.tx_check.specs.Turns.{Turns, verdict_of};
 ghost use Rattle.tx_machine.specs.declared.step.Step.{Step};
@@ -20,7 +19,7 @@ use std::alloc::Global;
 use std::io::{BufRead, Write};
 use tx_machine::{Machine, Refused, Step};
 use tx_text::{
-    Broken, End, Found, Part, Parts, Scanned, finish, parts_of, read_line, scanned_with_rows, send,
+    Broken, End, Found, Parts, Scanned, finish, parts_of, read_line, scanned_with_rows, send,
     value_of,
 };
 use tx_types::Cause;
@@ -174,14 +173,30 @@ pub(crate) fn next<R: BufRead>(
     }
 }
 
-// The step that these members say, or that they say none.
-fn members_step(alloc: Global, members: &[Part<'_>]) -> Result<Result<Step, Cause>, Broken>
-    ensures { IfOk result (λ found. found ≡ step_of_form (step_of_items (parts_items members.now))) }
+// The step that a value says by itself, where it says one.
+fn alone_step(alloc: Global, value: &Value) -> Result<Option<Step>, Broken>
+    ensures { IfOk result (λ found. found ≡ step_alone (view value.now)) }
 {
-    match machine_step(alloc, members) {
-        Ok(step) => Ok(Ok(step)),
-        Err(UnreadStep::Form) => Ok(Err(Cause::Form)),
+    let Some(parts) = parts_of(value) else {
+        return Ok(None);
+    };
+    match machine_step(alloc, parts.as_slice()) {
+        Ok(step) => Ok(Some(step)),
+        Err(UnreadStep::Form) => Ok(None),
         Err(UnreadStep::Memory) => Err(Broken::Memory),
+    }
+}
+
+// What stands beside the number of a script's line, where a value is both.
+fn behind_number(value: &Value) -> Option<&Value>
+    ensures { step_beside (view value.now) ≡ option_and_then step_alone (option_map (λ d. view d.now) result) }
+{
+    match value.as_array()?.as_slice() {
+        [number, step] => {
+            number.as_u64()?;
+            Some(step)
+        }
+        _ => None,
     }
 }
 
@@ -189,9 +204,15 @@ fn members_step(alloc: Global, members: &[Part<'_>]) -> Result<Result<Step, Caus
 fn value_step(alloc: Global, value: &Value) -> Result<Result<Step, Cause>, Broken>
     ensures { IfOk result (λ found. found ≡ step_of_form (step_of (view value.now))) }
 {
-    match parts_of(value) {
+    if let Some(step) = alone_step(alloc, value)? {
+        return Ok(Ok(step));
+    }
+    let Some(behind) = behind_number(value) else {
+        return Ok(Err(Cause::Form));
+    };
+    match alone_step(alloc, behind)? {
+        Some(step) => Ok(Ok(step)),
         None => Ok(Err(Cause::Form)),
-        Some(parts) => members_step(alloc, parts.as_slice()),
     }
 }
 
@@ -211,7 +232,11 @@ pub(crate) fn line_step(
     }
     let mut parts = Parts::new();
     match scanned_with_rows(alloc, line, &mut parts) {
-        Some(Scanned::Plain) => return members_step(alloc, parts.as_slice()),
+        Some(Scanned::Plain) => {
+            if let Ok(step) = machine_step(alloc, parts.as_slice()) {
+                return Ok(Ok(step));
+            }
+        }
         Some(Scanned::Listed(rows)) => {
             if let Ok(step) = listed_step(alloc, parts.as_slice(), rows.as_slice()) {
                 return Ok(Ok(step));

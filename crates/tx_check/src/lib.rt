@@ -19,5 +19,5 @@ mod writers;
 
 pub use all::check_all;
 pub use checker::{check, check_with_reason};
-pub use step_line::put_step;
+pub use step_line::{put_step, put_step_beside};
 pub use words::{Verdict, verdict_line};

@@ -2,12 +2,12 @@
 ghost use Rattle.std.specs.Prelude.{◌≡◌, ◌++◌, ◌∷◌, OnOk};
 ghost use Rattle.serde_json.specs.Data.{string};
 ghost use Rattle.serde_json.specs.Written.{compact_text};
-ghost use Rattle.tx_check.specs.Steps.{change_data, fate_words, found_data, mutation_words, step_fields, step_text, step_word};
+ghost use Rattle.tx_check.specs.Steps.{beside_text, change_data, fate_words, found_data, mutation_words, step_fields, step_text, step_word};
 ghost use Rattle.tx_text.specs.Texts.{members_text};
 
 use std::alloc::AllocError;
 use tx_machine::{ScanRead, Step};
-use tx_text::{Entries, Rows, put_list, put_number, put_stamped, put_string, put_text};
+use tx_text::{Entries, Rows, put_digits, put_list, put_number, put_stamped, put_string, put_text};
 use tx_types::{Change, Fate, Mutation, Ts, Value};
 
 // What is done to a key, each word with a comma before it.
@@ -137,4 +137,17 @@ pub fn put_step(out: &mut Vec<u8>, step: &Step) -> Result<(), AllocError>
     out.extend_from_slice(word_of(step))?;
     put_fields(out, step)?;
     out.extend_from_slice(b"]\n")
+}
+
+/// Appends the line of a step beside the number of the script's line during which it was taken,
+/// with its newline.
+pub fn put_step_beside(out: &mut Vec<u8>, number: u64, step: &Step) -> Result<(), AllocError>
+    ensures { OnOk result (out.new.items ≡ out.old.items ++ beside_text (number, step.now)) }
+{
+    out.extend_from_slice(b"[")?;
+    put_digits(out, number)?;
+    out.extend_from_slice(b",[")?;
+    out.extend_from_slice(word_of(step))?;
+    put_fields(out, step)?;
+    out.extend_from_slice(b"]]\n")
 }

@@ -19,6 +19,8 @@ pub enum CommandTask {
     SimulateChecked,
     /// Simulate, and tell the machine's steps alone.
     SimulateSteps,
+    /// Simulate, and tell the machine's steps alone, each beside the number of its line.
+    SimulateBeside,
     /// Simulate, and show the run.
     Explain(ExplainOptions),
     /// Write a script by chance.
@@ -39,6 +41,8 @@ pub enum CommandTask {
 pub struct ExplainOptions {
     /// Whether as a drawing, in place of text.
     pub svg: bool,
+    /// Whether with the machine's steps.
+    pub machine: bool,
 }
 
 /// What is asked of a history, beside whether its reads and writes are snapshot isolation.
@@ -78,6 +82,7 @@ fn task_of(name: &str, asked: &ArgMatches<'_>) -> CommandTask {
             asked.get_one::<u64>("gc-life-time"),
         ),
         "simulate" if asked.get_flag("check") => CommandTask::SimulateChecked,
+        "simulate" if asked.get_flag("beside") => CommandTask::SimulateBeside,
         "simulate" if asked.get_flag("steps") => CommandTask::SimulateSteps,
         "simulate" => CommandTask::Simulate,
         "import" => CommandTask::Import(ImportOptions {
@@ -91,6 +96,7 @@ fn task_of(name: &str, asked: &ArgMatches<'_>) -> CommandTask {
         "generate" => CommandTask::Generate(generate_options(asked)),
         "explain" => CommandTask::Explain(ExplainOptions {
             svg: asked.get_flag("svg"),
+            machine: asked.get_flag("machine"),
         }),
         _ if asked.get_flag("all") => CommandTask::CheckAll(asked.get_flag("why")),
         _ if asked.get_flag("why") => CommandTask::CheckWithReason,
@@ -156,11 +162,17 @@ fn simulate<'a>(alloc: Global) -> Result<Command<'a>, Error> {
         .action(ArgAction::SetTrue)
         .help("Writes the machine's steps of the run alone, as a trace for txkv check")
         .conflicts_with("check")?;
+    let beside = Arg::new(alloc, "beside")
+        .long("beside")
+        .action(ArgAction::SetTrue)
+        .help("With --steps, writes each step beside the number of the line that made it")
+        .requires_arg("steps")?;
     let command = Command::new(alloc, "simulate")
         .about(help::SIMULATE_ABOUT)
         .after_help(help::SIMULATE_HELP)
         .arg(checked)?
         .arg(steps)?
+        .arg(beside)?
         .arg(cells_option(alloc))?
         .arg(file(alloc))?;
     Ok(command)
@@ -171,10 +183,15 @@ fn explain<'a>(alloc: Global) -> Result<Command<'a>, Error> {
         .long("svg")
         .action(ArgAction::SetTrue)
         .help("Writes a drawing in place of text, an SVG: time goes down, requests are arrows");
+    let machine = Arg::new(alloc, "machine")
+        .long("machine")
+        .action(ArgAction::SetTrue)
+        .help("Shows with each line the machine's steps that it made, as where a commit happened");
     let command = Command::new(alloc, "explain")
         .about(help::EXPLAIN_ABOUT)
         .after_help(help::EXPLAIN_HELP)
         .arg(svg)?
+        .arg(machine)?
         .arg(cells_option(alloc))?
         .arg(file(alloc))?;
     Ok(command)

@@ -150,6 +150,7 @@ pub(crate) fn form_of(task: CommandTask, number: u64, word: &str) -> Option<Form
         CommandTask::Simulate
         | CommandTask::SimulateChecked
         | CommandTask::SimulateSteps
+        | CommandTask::SimulateBeside
         | CommandTask::Explain(_) => regions_form(word, number)
             .or_else(|| action_form(word))
             .or_else(|| request_form(word))

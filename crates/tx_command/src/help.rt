@@ -45,7 +45,8 @@ A delivery is nothing, or "lose", "lose-reply", "repeat", or "hold",name
 
 Each reply is the number of the line and the step's words; docs/SCRIPT.md has all replies, refusals and causes.
 With --check, a script that ended without a fault is followed by the machine's steps of its run, in the form of txkv check.
-With --steps, those steps are all that is written, but for the line of a fault.
+With --steps, those steps are all that is written, but for the line of a fault; with --beside as [n,step], n the line
+that made it, which txkv check reads as well.
 Typed at a terminal, a fault is told and the next line read in its place; help and :keys answer questions.
 
 Examples:
@@ -60,11 +61,13 @@ pub(crate) static EXPLAIN_ABOUT: &str =
 
 pub(crate) static EXPLAIN_HELP: &str =
     r#"Beside each step and its reply stands what changed of each key: its lock, and write records that came (+) and went (-).
-A refusal has its reason on a line of its own. docs/EXPLAIN.md has all forms.
+A refusal has its reason on a line of its own. With --machine a line that made steps of the machine has these below it.
+docs/EXPLAIN.md has all forms.
 
 Examples:
   txkv explain push.script                    A reader that need not wait, step by step
-  txkv explain --svg push.script > push.svg   The same as a drawing"#;
+  txkv explain --svg push.script > push.svg   The same as a drawing
+  txkv explain --machine falls_back.script    The line at which each transaction was declared and decided"#;
 
 pub(crate) static GENERATE_ABOUT: &str =
     "Write a script by chance, in which requests are lost, repeated, held and late";

@@ -27,8 +27,10 @@ fn word_of(cause: Cause) -> &'static str {
 // The command that a task is.
 fn command_of(task: CommandTask) -> &'static str {
     match task {
-        CommandTask::Simulate | CommandTask::SimulateChecked | CommandTask::SimulateSteps =>
-            "simulate",
+        CommandTask::Simulate
+        | CommandTask::SimulateChecked
+        | CommandTask::SimulateSteps
+        | CommandTask::SimulateBeside => "simulate",
         CommandTask::Explain(_) => "explain",
         CommandTask::Generate(_) => "generate",
         CommandTask::Run(..) => "run",

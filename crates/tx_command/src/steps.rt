@@ -1,5 +1,6 @@
-//! The machine's steps among the lines that a checked script writes.
+//! The machine's steps among the lines that a script writes with them.
 use crate::faults::fault_in;
+use memchr::memchr;
 use std::io;
 use std::io::Write;
 
@@ -21,11 +22,21 @@ impl<W> Steps<W> {
     }
 }
 
-// Whether a line is handed on, by how it begins: replies begin with a number, steps with a word,
-// and so does a verdict.
+// Whether a line is a step beside a number: a reply has a word behind its number.
+fn is_numbered_step(line: &[u8]) -> bool {
+    match memchr(b',', line) {
+        Some(comma) => line[comma..].starts_with(b",["),
+        None => false,
+    }
+}
+
+// Whether a line is handed on, by how it begins: replies begin with a number, steps with a word, or
+// a number before their own bracket, and a verdict begins with a word.
 fn is_handed_on(line: &[u8]) -> bool {
-    let is_step = line.starts_with(b"[\"") && !line.starts_with(b"[\"check\"");
-    is_step || fault_in(line).is_some()
+    if line.starts_with(b"[\"") {
+        return !line.starts_with(b"[\"check\"");
+    }
+    is_numbered_step(line) || fault_in(line).is_some()
 }
 
 impl<W: Write> Write for Steps<W> {

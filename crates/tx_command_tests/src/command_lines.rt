@@ -21,7 +21,7 @@ pub(crate) fn words_of(alloc: Global, line: &str) -> Result<Vec<String>, Fail> {
 }
 
 // Command lines, the tasks that they ask for, and the files that those read.
-static JOBS: [(&str, CommandTask, Option<&str>); 19] = [
+static JOBS: [(&str, CommandTask, Option<&str>); 21] = [
     ("simulate", CommandTask::Simulate, None),
     ("simulate -", CommandTask::Simulate, None),
     ("simulate a.script", CommandTask::Simulate, Some("a.script")),
@@ -33,18 +33,37 @@ static JOBS: [(&str, CommandTask, Option<&str>); 19] = [
     ),
     ("simulate --steps a", CommandTask::SimulateSteps, Some("a")),
     (
+        "simulate --beside --steps a",
+        CommandTask::SimulateBeside,
+        Some("a"),
+    ),
+    (
         "simulate -- --check",
         CommandTask::Simulate,
         Some("--check"),
     ),
     (
         "explain a.script",
-        CommandTask::Explain(ExplainOptions { svg: false }),
+        CommandTask::Explain(ExplainOptions {
+            svg: false,
+            machine: false,
+        }),
         Some("a.script"),
     ),
     (
         "explain --svg",
-        CommandTask::Explain(ExplainOptions { svg: true }),
+        CommandTask::Explain(ExplainOptions {
+            svg: true,
+            machine: false,
+        }),
+        None,
+    ),
+    (
+        "explain --machine --svg",
+        CommandTask::Explain(ExplainOptions {
+            svg: true,
+            machine: true,
+        }),
         None,
     ),
     ("check", CommandTask::Check, None),
@@ -254,6 +273,7 @@ Arguments:
 Options:
       --check         Writes the machine's steps of the run after its replies, and that they are one
       --steps         Writes the machine's steps of the run alone, as a trace for txkv check
+      --beside        With --steps, writes each step beside the number of the line that made it
       --cells <KIND>  How the regions keep what they hold; the replies are the same [default: flat] [possible values: flat, nested]
   -h, --help          Print help
 

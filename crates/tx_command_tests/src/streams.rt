@@ -248,12 +248,14 @@ impl Write for Sips {
     }
 }
 
-static CHECKED: [&str; 6] = [
+static CHECKED: [&str; 8] = [
     "[1,\"start\",1]\n",
     "[2,\"outcome\",\"read-only\"]\n",
     "[\"draw\",1]\n",
     "[\"begin\",1]\n",
+    "[2,[\"draw\",2]]\n",
     "[\"check\",\"yes\"]\n",
+    "[2,\"rows\",[[\"a\",\"x\"]]]\n",
     "[3,\"E16\",\"order\"]\n",
 ];
 
@@ -268,7 +270,7 @@ fn steps_are_told_alone(rt: HostRuntime) -> Result<(), Fail> {
             steps.write_all(line.as_bytes())?;
         }
         steps.flush()?;
-        let wanted = "[\"draw\",1]\n[\"begin\",1]\n[3,\"E16\",\"order\"]\n";
+        let wanted = "[\"draw\",1]\n[\"begin\",1]\n[2,[\"draw\",2]]\n[3,\"E16\",\"order\"]\n";
         assert_eq!(rt;
             sips.text.as_slice(),
             wanted.as_bytes(),

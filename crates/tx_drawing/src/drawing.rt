@@ -1,10 +1,10 @@
 //! A sheet as a drawing.
 use crate::frame::put_frame;
-use crate::label::label_of;
+use crate::label::{label_of, machine_words};
 use crate::layout::{LEFT, Layout, row_height};
 use crate::locks::Bars;
 use crate::markup::{at, put_words};
-use crate::rows::{HeldBox, put_dot_and_label, put_reads, put_reason, put_sending};
+use crate::rows::{HeldBox, put_dot_and_label, put_machine, put_reads, put_reason, put_sending};
 use std::alloc::{AllocError, Global};
 use tx_sheet::{Row, RowKind, Sheet, put_number};
 
@@ -86,6 +86,15 @@ impl Drawing {
         put_reason(&mut self.over, at(begins, y), row.reason.as_str())
     }
 
+    // The machine's steps at a row.
+    fn put_machine(&mut self, y: usize, row: &Row) -> Result<(), AllocError> {
+        let Some(column) = self.layout.machine else {
+            return Ok(());
+        };
+        let words = machine_words(self.alloc, row)?;
+        put_machine(&mut self.over, at(column.line, y), words.as_str())
+    }
+
     // A line that is no step.
     fn put_other(&mut self, y: usize, row: &Row, label: &str) -> Result<(), AllocError> {
         put_words(&mut self.over, "reason", at(LEFT, y), label)?;
@@ -96,6 +105,7 @@ impl Drawing {
     fn put_row(&mut self, place: usize, row: &Row, label: &str) -> Result<(), AllocError> {
         let y = row_height(place);
         self.put_number(y, (place as u64).saturating_add(1))?;
+        self.put_machine(y, row)?;
         match row.kind {
             RowKind::Regions => Ok(()),
             RowKind::Step => self.put_step(y, row, label),

@@ -130,6 +130,14 @@ fn put_keys(out: &mut String, layout: &Layout, sheet: &Sheet) -> Result<(), Allo
     Ok(())
 }
 
+// Appends the column of the machine's steps, where some are shown.
+fn put_machine(out: &mut String, layout: &Layout) -> Result<(), AllocError> {
+    match layout.machine {
+        Some(column) => put_column(out, layout.height, ("key", "life"), column, "(machine)"),
+        None => Ok(()),
+    }
+}
+
 /// Appends what stands around the rows of a sheet.
 pub(crate) fn put_frame(
     out: &mut String,
@@ -139,5 +147,6 @@ pub(crate) fn put_frame(
     put_opening(out, layout)?;
     put_bands(out, layout, sheet.keys.as_slice())?;
     put_sessions(out, layout, sheet)?;
-    put_keys(out, layout, sheet)
+    put_keys(out, layout, sheet)?;
+    put_machine(out, layout)
 }

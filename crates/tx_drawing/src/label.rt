@@ -5,6 +5,15 @@ use tx_sheet::{KeyRead, Kind, Row, SeenLock, SeenRecord, places, put_first, put_
 /// The most places that the words over a step take.
 const MAX_LABEL: usize = 33;
 
+// Appends words, the beginning of longer ones.
+fn put_cut(out: &mut String, words: &str) -> Result<(), AllocError> {
+    if places(words) <= MAX_LABEL {
+        return out.push_str(words);
+    }
+    put_first(out, words, MAX_LABEL - 1)?;
+    out.push('\u{2026}')
+}
+
 /// A step and its reply, the beginning of what is longer.
 pub(crate) fn label_of(alloc: Global, row: &Row) -> Result<String, AllocError> {
     let mut whole = String::from_str(alloc, row.step.as_str())?;
@@ -12,13 +21,21 @@ pub(crate) fn label_of(alloc: Global, row: &Row) -> Result<String, AllocError> {
         whole.push_str(" \u{2192} ")?;
         whole.push_str(row.answer.as_str())?;
     }
-    if places(whole.as_str()) <= MAX_LABEL {
-        return Ok(whole);
-    }
     let mut label = String::new(alloc);
-    put_first(&mut label, whole.as_str(), MAX_LABEL - 1)?;
-    label.push('\u{2026}')?;
+    put_cut(&mut label, whole.as_str())?;
     Ok(label)
+}
+
+/// The machine's steps at a row, of each the beginning of what is longer.
+pub(crate) fn machine_words(alloc: Global, row: &Row) -> Result<String, AllocError> {
+    let mut words = String::new(alloc);
+    'steps: for step in &row.machine {
+        if !words.is_empty() {
+            words.push_str("; ")?;
+        }
+        put_cut(&mut words, step.as_str())?;
+    }
+    Ok(words)
 }
 
 /// What a lock will do, whose it is by start, and its minimum.

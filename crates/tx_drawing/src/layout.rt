@@ -1,5 +1,5 @@
 //! Where the rows and columns of a drawing stand, in its units.
-use crate::label::{lock_words, read_words, record_words};
+use crate::label::{lock_words, machine_words, read_words, record_words};
 use std::alloc::{AllocError, Global};
 use tx_sheet::{Change, KeyRead, Row, RowKind, Sheet, places, shown};
 
@@ -39,6 +39,8 @@ pub(crate) struct Layout {
     /// The column of steps of no session, where there are some.
     pub system: Option<Column>,
     pub keys: Vec<Column>,
+    /// The column of the machine's steps, where some are shown.
+    pub machine: Option<Column>,
     pub width: usize,
     pub height: usize,
 }
@@ -196,6 +198,28 @@ fn key_columns(
     Ok((columns, begins))
 }
 
+// The places of the widest words of the machine's steps at a row.
+fn machine_width(alloc: Global, rows: &[Row]) -> Result<usize, AllocError> {
+    let mut widest = 0;
+    'rows: for row in rows {
+        let words = machine_words(alloc, row)?;
+        widest = places(words.as_str()).max(widest);
+    }
+    Ok(widest)
+}
+
+// The column of the machine's steps, where some are shown.
+fn machine_column(
+    alloc: Global,
+    sheet: &Sheet,
+    begins: usize,
+) -> Result<Option<Column>, AllocError> {
+    match machine_width(alloc, sheet.rows.as_slice())? {
+        0 => Ok(None),
+        widest => Ok(Some(key_column(begins, widest.max(8)))),
+    }
+}
+
 impl Layout {
     /// Where the columns of a sheet stand, whose steps have these words.
     pub fn of(alloc: Global, sheet: &Sheet, labels: &[String]) -> Result<Layout, AllocError> {
@@ -207,10 +231,16 @@ impl Layout {
         };
         let widths = key_widths(alloc, sheet)?;
         let (keys, end) = key_columns(alloc, widths.as_slice(), end.saturating_add(20))?;
+        let machine = machine_column(alloc, sheet, end.saturating_add(20))?;
+        let end = match machine {
+            Some(column) => column.ends(),
+            None => end,
+        };
         let mut layout = Layout {
             sessions,
             system,
             keys,
+            machine,
             width: end.saturating_add(10),
             height: row_height(sheet.rows.len()).saturating_add(6),
         };

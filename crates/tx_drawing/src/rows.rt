@@ -47,6 +47,15 @@ pub(crate) fn put_reason(out: &mut String, place: Point, reason: &str) -> Result
     put_words(out, "reason", place.down(13), reason)
 }
 
+/// Appends the machine's steps at a row, in their column.
+pub(crate) fn put_machine(out: &mut String, mark: Point, words: &str) -> Result<(), AllocError> {
+    if words.is_empty() {
+        return Ok(());
+    }
+    put_dot(out, "dot", mark, 3)?;
+    put_words(out, "seen", mark.right(10).down(3), words)
+}
+
 // Appends a request that is lost on its way.
 fn put_lost(out: &mut String, place: Point) -> Result<(), AllocError> {
     let end = place.right(36);

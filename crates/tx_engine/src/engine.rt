@@ -1,6 +1,6 @@
 //! An engine in one thread: slots with seats and sessions, names that point to slots, a seat for
 //! what no session does, and the network.
-ghost use Rattle.std.specs.Prelude.{◌≡◌, ◌+◌, length, ℕ, List, [], Some, None, OnOk, OnErr, bytes_eq};
+ghost use Rattle.std.specs.Prelude.{◌≡◌, ◌+◌, length, ℕ, List, [], Some, None, OnOk, OnErr, option_map, bytes_eq};
 ghost use Rattle.std.specs.Map.{update};
 ghost use Rattle.std.specs.BTreeMap.{get_by_text};
 ghost use Rattle.tx_engine.specs.Slots.{Held, Goes, AllSeated, Settled, Turned, TurnedBy};
@@ -331,6 +331,13 @@ impl<J: JournalId, F: Families> Engine<J, F> {
             ≡ record self.old { network = record self.old.network { trace = Some t } }) }
     {
         self.direct.network.keep_trace(self.alloc);
+    }
+
+    /// How many steps of the machine are kept so far: none where memory for one was refused.
+    pub fn count_steps(&self) -> Option<usize>
+        ensures { result ≡ option_map (λ (t : Noted). length t.steps) self.now.network.trace }
+    {
+        self.direct.network.count_steps()
     }
 
     /// The steps of the machine that were kept: none where memory for one was refused.

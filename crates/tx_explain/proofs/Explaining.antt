@@ -10,7 +10,7 @@ use Rattle.tx_text.specs.Faults.{fault_words}
 use Rattle.tx_text.specs.Members.{reply_text}
 use Rattle.tx_text.specs.Lines.{lines_of}
 use Rattle.tx_evidence.specs.Lines.{bounds_of}
-use Rattle.tx_script.specs.Play.{Played, IsPlay, render}
+use Rattle.tx_script.specs.Play.{Played, IsPlay}
 use Rattle.tx_played.specs.Played.{put_in, IsShowable}
 use Rattle.tx_explain.specs.Explained.{Refuses, Shows, Explains}
 
@@ -21,12 +21,12 @@ bounds_same keys (line ∷ lines) = refl
 
 module _ (keys : List Key) (input : List ℕ) (lines : List (List ℕ)) (showable : IsShowable keys)
     (are : lines ≡ lines_of input) where
-  pub shown : (script text : List ℕ) (old new : Option (List ℕ)) (end : End) (written : List ℕ)
+  pub shown : (script text : List ℕ) (old new : Option (List ℕ)) (end : End)
       → lines_of script ≡ put_in keys lines → length (put_in keys lines) ≤ MAX_LINES
       → (refused : List Bool) × (p : Played) × IsPlay (bounds_of (lines_of script)) refused (lines_of script) p
-      × (written ≡ render p.replies) × (end ≡ p.ended)
+      × (end ≡ p.ended)
       → Appends old new text → Explains (lines_of input) old new end
-  shown script text old new end written is few (refused, p, play, said, ends) appends =
+  shown script text old new end is few (refused, p, play, ends) appends =
       subst (λ ls. Explains ls old new end) are (
         keys,
         showable,

@@ -1,12 +1,15 @@
 //! A script from its first byte to the picture of its run.
-ghost use Rattle.std.specs.Prelude.{◌≡◌, ◌≢◌, ℕ, List, Bool, map, IfOk, IfErr, IfSome};
+ghost use Rattle.std.specs.Prelude.{◌≡◌, ◌≢◌, ◌≤◌, ◌++◌, ℕ, List, Bool, length, map, IfOk, IfErr, IfSome};
 ghost use Rattle.std.specs.Io.KnownBytes.{Appends, Keeps};
 ghost use Rattle.tx_text.specs.Lines.{lines_of as lines_in};
 ghost use Rattle.tx_text.specs.Faults.{fault_words};
 ghost use Rattle.tx_text.specs.Members.{reply_text};
 ghost use Rattle.tx_evidence.specs.Lines.{bounds_of};
 ghost use Rattle.tx_script.specs.Play.{Played, IsPlay, render};
-ghost use Rattle.tx_played.specs.Played.{counts_of};
+ghost use Rattle.tx_script.specs.Numbered.{AreNumbers, numbers_told};
+ghost use Rattle.tx_played.specs.Played.{counts_of, put_in as put_in_lines};
+ghost use Rattle.tx_types.specs.declared.key.Key.{Key};
+ghost use Rattle.tx_types.specs.declared.limits.TheConstants as limits;
 ghost use Rattle.tx_explain.specs.Explained.{Explains};
 
 use std::alloc::Global;
@@ -14,9 +17,9 @@ use std::io::{BufRead, ErrorKind, Write};
 use tx_cells::{Families, Makes};
 use tx_drawing::svg_of;
 use tx_picture::text_of;
-use tx_played::{Watched, keys_of, lines_of, put_in, turns_of};
-use tx_script::{Broken, End, simulate};
-use tx_sheet::sheet_of;
+use tx_played::{Watched, keys_of, lines_of, places_of, put_in, turns_of};
+use tx_script::{Broken, End, simulate, simulate_numbered};
+use tx_sheet::{Sheet, put_machine, sheet_of};
 use tx_text::{finish, put_fault, send};
 use tx_types::{Cause, Key};
 
@@ -27,6 +30,14 @@ pub enum PictureForm {
     Text,
     /// An SVG.
     Drawing,
+}
+
+/// What a picture shows, and how.
+#[derive(Clone, Copy, Debug, PartialEq, Eq)]
+pub struct PictureOptions {
+    pub form: PictureForm,
+    /// Whether with the machine's steps, each at the line that made it.
+    pub machine: bool,
 }
 
 // Reads all that is left.
@@ -45,7 +56,7 @@ fn read_all<R: BufRead>(alloc: Global, reader: &mut R) -> Result<Vec<u8>, Broken
 }
 
 // Plays a script: how it ended, and the text of its replies.
-fn play<F: Families + Drop, M: Makes<F>>(
+fn play_plain<F: Families + Drop, M: Makes<F>>(
     alloc: Global,
     make: &M,
     script: &[u8],
@@ -60,21 +71,78 @@ fn play<F: Families + Drop, M: Makes<F>>(
     Ok((end, written))
 }
 
+// The same, with the machine's steps behind the replies, each beside the number of its line.
+fn play_numbered<F: Families + Drop, M: Makes<F>>(
+    alloc: Global,
+    make: &M,
+    script: &[u8],
+) -> Result<(End, Vec<u8>), Broken>
+    ensures { IfOk result (λ played. (refused : List Bool) × (p : Played) × (numbers : List ℕ)
+        × IsPlay (bounds_of (lines_in script.now)) refused (lines_in script.now) p
+        × (played.1.items ≡ render p.replies ++ numbers_told p.ended numbers p.history) × (played.0 ≡ p.ended)
+        × (p.ended ≡ End.Well → AreNumbers (bounds_of (lines_in script.now)) refused (lines_in script.now) p numbers)) }
+{
+    let mut written = Vec::new(alloc);
+    let mut reader = script;
+    let end = simulate_numbered::<F, M, _, _>(alloc, make, &mut reader, &mut written)?;
+    Ok((end, written))
+}
+
+// Plays a script, with the machine's steps where those are shown.
+fn play<F: Families + Drop, M: Makes<F>>(
+    alloc: Global,
+    make: &M,
+    machine: bool,
+    script: &[u8],
+) -> Result<(End, Vec<u8>), Broken>
+    ensures { IfOk result (λ played. (refused : List Bool) × (p : Played)
+        × IsPlay (bounds_of (lines_in script.now)) refused (lines_in script.now) p × (played.0 ≡ p.ended)) }
+{
+    if machine {
+        play_numbered::<F, M>(alloc, make, script)
+    } else {
+        play_plain::<F, M>(alloc, make, script)
+    }
+}
+
+// Puts the machine's steps into a sheet, by the lines that stand behind the replies.
+fn put_steps(
+    alloc: Global,
+    sheet: &mut Sheet,
+    counts: &[usize],
+    lines: &[&[u8]],
+) -> Result<(), Broken>
+    requires { (keys : List Key) × (own : List (List ℕ)) × (counts.now ≡ counts_of keys own)
+        × (length (put_in_lines keys own) ≤ limits.MAX_LINES) }
+{
+    let places = places_of(alloc, counts)?;
+    put_machine(alloc, sheet, places.as_slice(), lines)
+}
+
 // The picture of a script that was played, by the text of its replies.
 fn picture(
     alloc: Global,
-    form: PictureForm,
+    options: PictureOptions,
     keys: &[Key],
     lines: &[&[u8]],
     watched: &Watched,
     written: &[u8],
 ) -> Result<String, Broken>
-    requires { watched.now.counts.items ≡ counts_of keys.now (map (λ line. line.now) lines.now) }
+    requires counts { watched.now.counts.items ≡ counts_of keys.now (map (λ line. line.now) lines.now) }
+    requires few { length (put_in_lines keys.now (map (λ line. line.now) lines.now)) ≤ limits.MAX_LINES }
 {
     let replies = lines_of(alloc, written)?;
     let turns = turns_of(alloc, lines, watched.counts.as_slice(), replies.as_slice())?;
-    let sheet = sheet_of(alloc, keys, turns.as_slice())?;
-    match form {
+    let mut sheet = sheet_of(alloc, keys, turns.as_slice())?;
+    if options.machine {
+        put_steps(
+            alloc,
+            &mut sheet,
+            watched.counts.as_slice(),
+            replies.as_slice(),
+        )?;
+    }
+    match options.form {
         PictureForm::Text => Ok(text_of(alloc, &sheet)?),
         PictureForm::Drawing => Ok(svg_of(alloc, &sheet)?),
     }
@@ -110,7 +178,7 @@ fn refuse<W: Write>(alloc: Global, writer: &mut W, number: u64) -> Result<End, B
 pub fn explain<F: Families + Drop, M: Makes<F>, R: BufRead, W: Write>(
     alloc: Global,
     make: &M,
-    form: PictureForm,
+    options: PictureOptions,
     reader: &mut R,
     writer: &mut W,
 ) -> Result<End, Broken>
@@ -127,10 +195,10 @@ pub fn explain<F: Families + Drop, M: Makes<F>, R: BufRead, W: Write>(
         Ok(watched) => watched,
         Err(number) => return refuse(alloc, writer, number),
     };
-    let (end, written) = play::<F, M>(alloc, make, watched.text.as_slice())?;
+    let (end, written) = play::<F, M>(alloc, make, options.machine, watched.text.as_slice())?;
     let shown = picture(
         alloc,
-        form,
+        options,
         keys.as_slice(),
         lines.as_slice(),
         &watched,

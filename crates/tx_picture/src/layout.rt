@@ -159,6 +159,21 @@ fn put_reason(out: &mut String, indent: usize, reason: &str) -> Result<(), Alloc
     out.push('\n')
 }
 
+// Appends the machine's steps, under the entry and its reason.
+fn put_machine(out: &mut String, indent: usize, steps: &[String]) -> Result<(), AllocError> {
+    if steps.is_empty() {
+        return Ok(());
+    }
+    put_spaces(out, indent.saturating_add(6))?;
+    let mut before = "* ";
+    'steps: for step in steps {
+        out.push_str(before)?;
+        out.push_str(step.as_str())?;
+        before = "; ";
+    }
+    out.push('\n')
+}
+
 // What stands around the rows.
 #[derive(Clone, Copy)]
 struct Frame<'a> {
@@ -185,7 +200,8 @@ impl Frame<'_> {
         let changes = words_of(alloc, self.keys, row.changes.as_slice())?;
         put_changes(out, end, self.total, changes.as_str())?;
         out.push('\n')?;
-        put_reason(out, indent, row.reason.as_str())
+        put_reason(out, indent, row.reason.as_str())?;
+        put_machine(out, indent, row.machine.as_slice())
     }
 }
 

@@ -1,5 +1,5 @@
 -- A script with lines put in that show keys, and its replies taken apart again.
-use Rattle.std.specs.Prelude.{◌≡◌, ◌≢◌, ◌≤◌, ℕ, List, [], ◌∷◌, ◌++◌, Bool, true, false, All, map, flat_map, length, take, drop, slice_index_or, ◌+◌, codes, Option, Some, None, Result, Ok, Err, if◌then◌else◌}
+use Rattle.std.specs.Prelude.{◌≡◌, ◌≢◌, ◌≤◌, ◌<◌, ◌-◌, ℕ, List, [], ◌∷◌, ◌++◌, Bool, true, false, All, map, flat_map, length, take, drop, get_or, slice_get, slice_index_or, ◌+◌, codes, Option, Some, None, Result, Ok, Err, if◌then◌else◌}
 use Rattle.std.specs.Str.{is_utf8}
 use Rattle.serde_json.specs.Data.{Data, no_items, item, string, array}
 use Rattle.serde_json.specs.Written.{compact_text}
@@ -75,6 +75,16 @@ put_in keys (line ∷ lines) = line ∷ (behind keys line ++ put_in keys lines)
 -- how many lines are put in behind each
 abbrev pub counts_of : List Key → List (List ℕ) → List ℕ
 counts_of keys lines = map (λ line. length (behind keys line)) lines
+
+-- the numbers of a script's own lines once so many are put in behind each, from this number on
+abbrev pub places_from : ℕ → List ℕ → List ℕ
+places_from place [] = []
+places_from place (count ∷ counts) = place ∷ places_from (place + (count + 1)) counts
+
+-- each of a script's lines stands, among lines that are counted from 1, at its place
+abbrev pub StandAt : List (List ℕ) → List (List ℕ) → List ℕ → Type 0
+StandAt played lines places = (length places ≡ length lines) × ((i : ℕ) → i < length lines
+    → slice_get played (get_or places i 0 - 1) ≡ slice_get lines i)
 
 -- the text of lines, each with a newline
 abbrev pub text_of_lines : List (List ℕ) → List ℕ

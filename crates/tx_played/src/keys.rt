@@ -1,5 +1,6 @@
 //! The keys that a script names.
 ghost use Rattle.std.specs.Prelude.{IfOk, OnOk};
+ghost use Rattle.tx_types.specs.Keys.{AreRising};
 ghost use Rattle.tx_played.specs.Played.{IsShowable};
 
 use crate::said::key_named;
@@ -10,7 +11,8 @@ use tx_types::{Key, is_key};
 
 // Puts a key among rising ones, unless it is there.
 fn put_key(alloc: Global, keys: &mut Vec<Key>, text: &str) -> Result<(), Broken>
-    ensures { OnOk result (IsShowable keys.old.items → IsShowable keys.new.items) }
+    ensures showable { OnOk result (IsShowable keys.old.items → IsShowable keys.new.items) }
+    ensures rising { OnOk result (AreRising keys.old.items → AreRising keys.new.items) }
 {
     let Ok(key) = Key::new(alloc, text.as_bytes()) else {
         return Err(Broken::Memory);
@@ -23,7 +25,8 @@ fn put_key(alloc: Global, keys: &mut Vec<Key>, text: &str) -> Result<(), Broken>
 
 // Puts the key that a line names among rising ones.
 fn put_named(alloc: Global, keys: &mut Vec<Key>, line: &[u8]) -> Result<(), Broken>
-    ensures { OnOk result (IsShowable keys.old.items → IsShowable keys.new.items) }
+    ensures showable { OnOk result (IsShowable keys.old.items → IsShowable keys.new.items) }
+    ensures rising { OnOk result (AreRising keys.old.items → AreRising keys.new.items) }
 {
     let mut parts = Parts::new();
     let Ok(said) = Line::read(alloc, 1, line, &mut parts)? else {
@@ -40,7 +43,8 @@ fn put_named(alloc: Global, keys: &mut Vec<Key>, line: &[u8]) -> Result<(), Brok
 
 /// The keys that lines name, each once, in order.
 pub fn keys_of(alloc: Global, lines: &[&[u8]]) -> Result<Vec<Key>, Broken>
-    ensures { IfOk result (λ keys. IsShowable keys.items) }
+    ensures showable { IfOk result (λ keys. IsShowable keys.items) }
+    ensures rising { IfOk result (λ keys. AreRising keys.items) }
 {
     let mut keys = Vec::new(alloc);
     'lines: for line in lines {

@@ -4,12 +4,14 @@
 
 mod keys;
 mod lines;
+mod places;
 mod said;
 mod turns;
 mod watched;
 
 pub use keys::keys_of;
 pub use lines::lines_of;
+pub use places::places_of;
 pub use said::{key_named, sends};
 pub use turns::{Turn, turns_of};
 pub use watched::{Watched, put_in};

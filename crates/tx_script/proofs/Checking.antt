@@ -1,6 +1,6 @@
 -- A script that is checked: the steps that were kept are those of its run, which are a
 -- run of the machine.
-use Rattle.std.proofs.Common.{◌≡◌, ◌≤◌, inl, inr, ◌+◌, ℕ, Bool, true, false, List, [], length, Option, Some, None, IfSome, sym, ap, subst, ◌∙◌}
+use Rattle.std.proofs.Common.{◌≡◌, ◌≤◌, inl, inr, ◌+◌, ℕ, List, [], length, Option, Some, None, IfSome, sym, ap, subst, ◌∙◌}
 use Rattle.std.specs.Io.KnownBytes.{Appends, Keeps}
 use Rattle.std.proofs.KnownBytes.{Appends-trans}
 use Rattle.tx_types.specs.declared.key.Key.{Key}
@@ -20,15 +20,18 @@ use Rattle.tx_network.specs.Networks.{IsTraced}
 use Rattle.tx_engine.specs.Slots.{Held, own, AllSeated, Settled}
 use Rattle.tx_engine.specs.Openings.{IsOpening}
 use Rattle.tx_script.specs.Checked.{IsBegun, step_lines, steps_told, EndsCheckedLines, BreaksCheckedLines}
+use Rattle.tx_script.specs.declared.asked.Asked.{Asked}
+use Rattle.tx_script.specs.declared.asked.Asked.TheVariants.{Replies, Steps, NumberedSteps}
 use Rattle.tx_script.specs.Loops.{Kept, EndsAt, AreOf, AppendsBegun, BreaksAsked}
 use Rattle.tx_script.proofs.AllTelling.{is_play}
 use Rattle.tx_script.proofs.Ending.{all_came, breaks_first, if_some}
 
 -- broken off before the first line
-pub breaks_first_asked : (checks : Bool) (bounds : List Key) (why : Broken) (lines : List (List ℕ))
-    (old new : Option (List ℕ)) → Keeps old new → BreaksAsked checks bounds why lines old new
-breaks_first_asked false bounds why lines old new kept = breaks_first bounds why lines old new kept
-breaks_first_asked true bounds why lines old new kept = inl (breaks_first bounds why lines old new kept)
+pub breaks_first_asked : (asked : Asked) (bounds : List Key) (why : Broken) (lines : List (List ℕ))
+    (old new : Option (List ℕ)) → Keeps old new → BreaksAsked asked bounds why lines old new
+breaks_first_asked Replies bounds why lines old new kept = breaks_first bounds why lines old new kept
+breaks_first_asked Steps bounds why lines old new kept = inl (breaks_first bounds why lines old new kept)
+breaks_first_asked NumberedSteps bounds why lines old new kept = inl (breaks_first bounds why lines old new kept)
 
 -- ---- what is kept changes nothing else
 

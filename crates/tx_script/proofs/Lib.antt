@@ -24,3 +24,9 @@ pub mod Begun
 -- A script that is checked: the steps that were kept are those of its run, which are a
 -- run of the machine.
 pub mod Checking
+-- The numbers of the lines during which steps were taken, from line to line.
+pub mod Numbering
+-- The numbers of steps in the loop over the lines, by what was found of each.
+pub mod NumberedLines
+-- What was written of a script whose steps stand beside the numbers of its lines, in the end.
+pub mod NumberedEnds

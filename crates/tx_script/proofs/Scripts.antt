@@ -89,7 +89,7 @@ module _ (bounds : List Key) where
   }
 
   -- a turn that goes on to an engine state leads to what is played from there
-  lead_to : (next : EngineState) (reply : ScriptReply) (later : List Bool) (Goes : EngineState → ScriptReply → List Bool
+  pub lead_to : (next : EngineState) (reply : ScriptReply) (later : List Bool) (Goes : EngineState → ScriptReply → List Bool
       → Type 0) (Stops : Cause → Type 0) → Goes next reply later → (t : Transition)
       → Leads bounds (λ n said left. (n ≡ next) × (said ≡ reply) × (left ≡ later)) (λ c. ⊥) t
       → Leads bounds Goes Stops t

@@ -2,3 +2,4 @@ pub mod Play
 pub mod Players
 pub mod Checked
 pub mod Loops
+pub mod Numbered

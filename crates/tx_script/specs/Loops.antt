@@ -1,6 +1,7 @@
 -- Where the loop over the lines stands. Only this crate's own clauses cite it.
-use Rattle.std.specs.Prelude.{◌≡◌, ◌⊎◌, ◌<◌, ◌≤◌, ℕ, List, [], ◌∷◌, ◌++◌, Bool, true, false, length, Option, Some, IfSome, Result, Ok, Err}
-use Rattle.std.specs.Io.KnownBytes.{Appends}
+use Rattle.std.specs.Prelude.{◌≡◌, ◌⊎◌, ◌<◌, ◌≤◌, ◌-◌, ℕ, List, [], ◌∷◌, ◌++◌, Bool, length, take, replicate, Option, Some, None, IfSome, Result, Ok, Err}
+use Rattle.std.specs.List.{concat}
+use Rattle.std.specs.Io.KnownBytes.{Appends, Keeps}
 use Rattle.tx_types.specs.declared.fault.Cause.{Cause}
 use Rattle.tx_types.specs.declared.fault.Cause.TheVariants as cause
 use Rattle.tx_types.specs.declared.key.Key.{Key}
@@ -11,6 +12,8 @@ use Rattle.tx_trace.specs.Traces.{Noted}
 use Rattle.tx_text.specs.declared.end.Broken.{Broken}
 use Rattle.tx_text.specs.declared.end.Broken.TheVariants.{Output}
 use Rattle.tx_text.specs.declared.end.End.{End}
+use Rattle.tx_text.specs.declared.end.End.TheVariants.{Well, Faulted}
+use Rattle.tx_text.specs.declared.end.End.TheVariants as ended
 use Rattle.tx_text.specs.declared.lines.Found.{Found}
 use Rattle.tx_text.specs.declared.lines.Found.TheVariants as found
 use Rattle.tx_reply.specs.declared.reply.ScriptReply.{ScriptReply}
@@ -22,6 +25,9 @@ use Rattle.tx_script.specs.declared.line.Turned.TheVariants as turned
 use Rattle.tx_evidence.specs.Lines.{bounds_at}
 use Rattle.tx_script.specs.Play.{line_turn, Played, Plays, render, EndsLines, BreaksLines}
 use Rattle.tx_script.specs.Checked.{IsBegun, EndsCheckedLines, BreaksCheckedLines}
+use Rattle.tx_script.specs.Numbered.{AreNumbers, numbered_lines, EndsNumberedLines, BreaksNumberedLines}
+use Rattle.tx_script.specs.declared.asked.Asked.{Asked}
+use Rattle.tx_script.specs.declared.asked.Asked.TheVariants.{Replies, Steps, NumberedSteps}
 use Rattle.tx_steps.specs.Lines.{data_said}
 
 -- these lines come next, by what was found of the first of them
@@ -76,6 +82,22 @@ module _ (bounds : List Key) (lines : List (List ℕ)) where
       × Appends old new written
       × (render p.replies ≡ written ++ more) × ((why ≡ Output) ⊎ (more ≡ []))
 
+  -- The same, with the numbers of the lines during which the steps of these events were taken.
+  pub record NumberedAt (numbers : List ℕ) (h : History) (old new : Option (List ℕ)) : Type 0 where
+    pub refused : List Bool
+    pub played : Played
+    pub plays : Plays bounds (opening MAX_LIVE_SESSIONS) 0 refused lines played
+    pub history : played.history ≡ h
+    pub wrote : Appends old new (render played.replies)
+    pub ended : played.ended ≡ Well
+    pub are : AreNumbers bounds refused lines played numbers
+
+-- The numbers of the steps' lines go on: so many steps there are, and those that came are of this
+-- line. Or no numbers are kept any more.
+abbrev pub NotesLine : ℕ → Option ℕ → Option (List ℕ) → Option (List ℕ) → Type 0
+NotesLine number made old new = IfSome new (λ ns. (before : List ℕ) × (count : ℕ) × (old ≡ Some before)
+    × (made ≡ Some count) × (ns ≡ take count before ++ replicate (count - length before) number))
+
 -- ---- what follows the replies
 
 -- the steps that were kept, where they were, are those that are read off the history
@@ -86,12 +108,26 @@ AreOf h trace = IfSome trace (λ t. t.steps ≡ shadow h)
 abbrev pub AppendsBegun : Broken → Option (List ℕ) → Option (List ℕ) → List (List ℕ) → Type 0
 AppendsBegun why old new lines = (written : List ℕ) × IsBegun why lines written × Appends old new written
 
--- lines were played to their end, and checked where that was asked
-abbrev pub EndsAsked : Bool → List Key → List (List ℕ) → Option (List ℕ) → Option (List ℕ) → End → Type 0
-EndsAsked false bounds lines old new ended = EndsLines bounds lines old new ended
-EndsAsked true bounds lines old new ended = EndsCheckedLines bounds lines old new ended
+-- what was written behind the replies of a script that ended so, by the numbers that were kept
+abbrev pub TellsNumbers : End → History → Option (List ℕ) → Option (List ℕ) → Option (List ℕ) → Type 0
+TellsNumbers Well h (Some numbers) old new = Appends old new (concat (numbered_lines numbers h))
+TellsNumbers Well h None old new = ⊥
+TellsNumbers Faulted h numbers old new = Appends old new []
+TellsNumbers ended.No h numbers old new = Appends old new []
+
+-- a beginning of it was, of a script that ended well
+abbrev pub BeginsNumbers : Broken → History → Option (List ℕ) → Option (List ℕ) → Option (List ℕ) → Type 0
+BeginsNumbers why h (Some numbers) old new = AppendsBegun why old new (numbered_lines numbers h)
+BeginsNumbers why h None old new = Keeps old new
+
+-- lines were played to their end, with their steps where those were asked for
+abbrev pub EndsAsked : Asked → List Key → List (List ℕ) → Option (List ℕ) → Option (List ℕ) → End → Type 0
+EndsAsked Replies bounds lines old new ended = EndsLines bounds lines old new ended
+EndsAsked Steps bounds lines old new ended = EndsCheckedLines bounds lines old new ended
+EndsAsked NumberedSteps bounds lines old new ended = EndsNumberedLines bounds lines old new ended
 
 -- they were broken off
-abbrev pub BreaksAsked : Bool → List Key → Broken → List (List ℕ) → Option (List ℕ) → Option (List ℕ) → Type 0
-BreaksAsked false bounds why lines old new = BreaksLines bounds why lines old new
-BreaksAsked true bounds why lines old new = BreaksCheckedLines bounds why lines old new
+abbrev pub BreaksAsked : Asked → List Key → Broken → List (List ℕ) → Option (List ℕ) → Option (List ℕ) → Type 0
+BreaksAsked Replies bounds why lines old new = BreaksLines bounds why lines old new
+BreaksAsked Steps bounds why lines old new = BreaksCheckedLines bounds why lines old new
+BreaksAsked NumberedSteps bounds why lines old new = BreaksNumberedLines bounds why lines old new

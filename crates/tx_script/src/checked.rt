@@ -45,8 +45,12 @@ fn judge(alloc: Global, steps: &[Step]) -> Result<Verdict, Broken>
     }
 }
 
-// Writes what the checker says.
-fn write_verdict<W: Write>(alloc: Global, writer: &mut W, steps: &[Step]) -> Result<(), Broken>
+/// Writes what the checker says.
+pub(crate) fn write_verdict<W: Write>(
+    alloc: Global,
+    writer: &mut W,
+    steps: &[Step],
+) -> Result<(), Broken>
     requires run { IsRun (reverse steps.now) }
     ensures all { OnOk result (Appends (W.contents writer.old) (W.contents writer.new)
         (line_text (words Verdict.Yes))) }

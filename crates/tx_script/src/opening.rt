@@ -9,9 +9,11 @@ ghost use Rattle.tx_engine.specs.Openings.{IsOpening};
 ghost use Rattle.tx_evidence.specs.Lines.{bounds_of};
 ghost use Rattle.tx_script.specs.Play.{EndsScript, BreaksScript};
 ghost use Rattle.tx_script.specs.Checked.{EndsChecked, BreaksChecked};
+ghost use Rattle.tx_script.specs.Numbered.{EndsNumbered, BreaksNumbered};
 ghost use Rattle.tx_script.specs.Loops.{Ahead, first_bounds, EndsAsked, BreaksAsked};
 
-use crate::script::{check_over, simulate_over};
+use crate::asked::Asked;
+use crate::script::{check_over, number_over, simulate_over};
 use std::alloc::Global;
 use std::io::{BufRead, Write};
 use std::marker::Brand;
@@ -77,7 +79,7 @@ pub(crate) fn engine_over<J: JournalId, F: Families + Drop>(
     Ok(engine)
 }
 
-// Plays a script over a journal that was opened, and has no other user.
+// Plays a script over a journal that was opened, and has no other user, and writes what is asked.
 fn over<J: JournalId, F: Families + Drop, R: BufRead, W: Write>(
     alloc: Global,
     opened: Opened,
@@ -86,7 +88,7 @@ fn over<J: JournalId, F: Families + Drop, R: BufRead, W: Write>(
     writer: &mut W,
     first: Found,
     line: &mut Vec<u8>,
-    checks: bool,
+    asked: Asked,
 ) -> Result<End, Broken>
     requires named { (opened.table ≡ J.table) × (opened.bounds ≡ J.bounds) × (opened.seats ≡ J.seats) }
     requires few { vec_len families ≡ length opened.bounds + 1 }
@@ -94,32 +96,32 @@ fn over<J: JournalId, F: Families + Drop, R: BufRead, W: Write>(
     requires empty { All (λ f. F.content f ≡ (λ k. nothing_held)) families.items }
     ensures ends { IfOk result (λ end. (lines : List (List ℕ))
         → Ahead first line.old.items (R.remaining reader.old) lines
-        → EndsAsked checks opened.bounds lines (W.contents writer.old) (W.contents writer.new) end) }
+        → EndsAsked asked opened.bounds lines (W.contents writer.old) (W.contents writer.new) end) }
     ensures breaks { IfErr result (λ why. (lines : List (List ℕ))
         → Ahead first line.old.items (R.remaining reader.old) lines
-        → BreaksAsked checks opened.bounds why lines (W.contents writer.old) (W.contents writer.new)) }
+        → BreaksAsked asked opened.bounds why lines (W.contents writer.old) (W.contents writer.new)) }
 {
     let engine = engine_over::<J, F>(alloc, opened, families)?;
-    if checks {
-        check_over(alloc, engine, reader, writer, first, line)
-    } else {
-        simulate_over(alloc, engine, reader, writer, first, line)
+    match asked {
+        Asked::Replies => simulate_over(alloc, engine, reader, writer, first, line),
+        Asked::Steps => check_over(alloc, engine, reader, writer, first, line),
+        Asked::NumberedSteps => number_over(alloc, engine, reader, writer, first, line),
     }
 }
 
-// Plays a script, and checks it where that is asked.
+// Plays a script, and writes what is asked.
 fn play<F: Families + Drop, M: Makes<F>, R: BufRead, W: Write>(
     alloc: Global,
     make: &M,
     reader: &mut R,
     writer: &mut W,
-    checks: bool,
+    asked: Asked,
 ) -> Result<End, Broken>
     ensures ends { IfOk result (λ end. IfSome (R.remaining reader.old)
-        (λ input. EndsAsked checks (bounds_of (lines_of input)) (lines_of input) (W.contents writer.old)
+        (λ input. EndsAsked asked (bounds_of (lines_of input)) (lines_of input) (W.contents writer.old)
         (W.contents writer.new) end)) }
     ensures breaks { IfErr result (λ why. IfSome (R.remaining reader.old)
-        (λ input. BreaksAsked checks (bounds_of (lines_of input)) why (lines_of input) (W.contents writer.old)
+        (λ input. BreaksAsked asked (bounds_of (lines_of input)) why (lines_of input) (W.contents writer.old)
         (W.contents writer.new))) }
 {
     let mut line = Vec::new(alloc);
@@ -132,7 +134,7 @@ fn play<F: Families + Drop, M: Makes<F>, R: BufRead, W: Write>(
         return Err(Broken::Memory);
     };
     over::<Brand, F, R, W>(
-        alloc, opened, families, reader, writer, first, &mut line, checks,
+        alloc, opened, families, reader, writer, first, &mut line, asked,
     )
 }
 
@@ -157,7 +159,7 @@ pub fn simulate<F: Families + Drop, M: Makes<F>, R: BufRead, W: Write>(
     ensures breaks { IfErr result (λ why. IfSome (R.remaining reader.old)
         (λ input. BreaksScript why input (W.contents writer.old) (W.contents writer.new))) }
 {
-    play::<F, M, R, W>(alloc, make, reader, writer, false)
+    play::<F, M, R, W>(alloc, make, reader, writer, Asked::Replies)
 }
 
 /// Plays a script as `simulate` does, and checks it: where it ended well, the steps of the machine
@@ -181,5 +183,28 @@ pub fn simulate_checked<F: Families + Drop, M: Makes<F>, R: BufRead, W: Write>(
     ensures breaks { IfErr result (λ why. IfSome (R.remaining reader.old)
         (λ input. BreaksChecked why input (W.contents writer.old) (W.contents writer.new))) }
 {
-    play::<F, M, R, W>(alloc, make, reader, writer, true)
+    play::<F, M, R, W>(alloc, make, reader, writer, Asked::Steps)
+}
+
+/// Plays a script as `simulate_checked` does, and writes each of the machine's steps beside the
+/// number of the line during which it was taken.
+///
+/// It is broken off as `simulate_checked` is, with `Memory` also where the numbers could not be
+/// kept for want of it.
+pub fn simulate_numbered<F: Families + Drop, M: Makes<F>, R: BufRead, W: Write>(
+    alloc: Global,
+    make: &M,
+    reader: &mut R,
+    writer: &mut W,
+) -> Result<End, Broken>
+    // Not broken off, it has written the replies of what the script means, where it ended well the
+    // same steps in the same order as `simulate_checked`, each beside the number of its line, and
+    // nothing else.
+    ensures ends { IfOk result (λ end. IfSome (R.remaining reader.old)
+        (λ input. EndsNumbered input (W.contents writer.old) (W.contents writer.new) end)) }
+    // Broken off, it has written a beginning of that: whole lines, unless a write failed.
+    ensures breaks { IfErr result (λ why. IfSome (R.remaining reader.old)
+        (λ input. BreaksNumbered why input (W.contents writer.old) (W.contents writer.new))) }
+{
+    play::<F, M, R, W>(alloc, make, reader, writer, Asked::NumberedSteps)
 }

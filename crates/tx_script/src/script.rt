@@ -1,5 +1,5 @@
 //! The lines of a script, one after another, and then the count that shows that nobody else acted.
-ghost use Rattle.std.specs.Prelude.{◌≡◌, ◌≤◌, ◌+◌, ℕ, List, length, IfOk, IfErr};
+ghost use Rattle.std.specs.Prelude.{◌≡◌, ◌≤◌, ◌+◌, ℕ, List, [], length, option_map, IfOk, IfErr, IfSome};
 ghost use Rattle.tx_types.specs.declared.limits.TheConstants as limits;
 ghost use Rattle.tx_core.specs.Worlds.{IsWorldRun};
 ghost use Rattle.tx_engine.specs.Slots.{AllSeated, own};
@@ -7,10 +7,12 @@ ghost use Rattle.tx_engine.specs.Openings.{IsOpening};
 ghost use Rattle.tx_network.specs.Networks.{IsTraced};
 ghost use Rattle.tx_script.specs.Play.{EndsLines, BreaksLines};
 ghost use Rattle.tx_script.specs.Checked.{EndsCheckedLines, BreaksCheckedLines};
-ghost use Rattle.tx_script.specs.Loops.{Ahead, Kept, EndsAt, BreaksAt};
+ghost use Rattle.tx_script.specs.Numbered.{EndsNumberedLines, BreaksNumberedLines};
+ghost use Rattle.tx_script.specs.Loops.{Ahead, Kept, EndsAt, BreaksAt, NumberedAt};
 
 use crate::checked::write_rest;
 use crate::line::{Turned, play_found, write_fault, write_reply};
+use crate::numbered::{note_line, write_numbered};
 use std::alloc::Global;
 use std::io::{BufRead, Write};
 use tx_cells::Families;
@@ -21,7 +23,8 @@ use tx_text::{Broken, End, Found, finish, read_line};
 use tx_trace::Trace;
 use tx_types::limits::MAX_LINES;
 
-// Plays the lines that come next, one after another: the first is in `line`, as it was found.
+// Plays the lines that come next, one after another: the first is in `line`, as it was found. Where
+// that is asked, notes of each step that is kept the number of its line.
 fn play_lines<J: JournalId, F: Families, R: BufRead, W: Write>(
     alloc: Global,
     engine: &mut Engine<J, F>,
@@ -29,10 +32,12 @@ fn play_lines<J: JournalId, F: Families, R: BufRead, W: Write>(
     writer: &mut W,
     first: Found,
     line: &mut Vec<u8>,
+    numbers: &mut Option<Vec<u64>>,
 ) -> Result<End, Broken>
     requires opening { IsOpening engine.old }
     requires slots { length engine.old.slots ≡ limits.MAX_LIVE_SESSIONS }
     requires ready { AllSeated J.bounds (limits.MAX_LINES + 1) engine.old }
+    requires none { IfSome (option_map (λ v. v.items) numbers.old) (λ ns. ns ≡ []) }
     ensures kept { Kept J.bounds engine.new }
     ensures traced { length engine.new.network.newest ≤ own engine.new → IsTraced engine.old.network
         → IsTraced engine.new.network }
@@ -42,6 +47,11 @@ fn play_lines<J: JournalId, F: Families, R: BufRead, W: Write>(
     ensures breaks { IfErr result (λ why. length engine.new.network.newest ≤ own engine.new → (lines : List (List ℕ))
         → Ahead first line.old.items (R.remaining reader.old) lines
         → BreaksAt J.bounds lines why engine.new.network.newest (W.contents writer.old) (W.contents writer.new)) }
+    ensures numbered { IfOk result (λ end. end ≡ End.Well → length engine.new.network.newest ≤ own engine.new
+        → IsWorldRun J.bounds engine.new.network.newest → IsTraced engine.old.network → (lines : List (List ℕ))
+        → Ahead first line.old.items (R.remaining reader.old) lines
+        → IfSome (option_map (λ v. v.items) numbers.new) (λ ns. NumberedAt J.bounds lines ns
+        engine.new.network.newest (W.contents writer.old) (W.contents writer.new))) }
 {
     let mut text = Vec::with_capacity(alloc, REFUSAL_BYTES)?;
     let mut number = 0;
@@ -54,6 +64,7 @@ fn play_lines<J: JournalId, F: Families, R: BufRead, W: Write>(
             }
             Turned::Goes(reply) => {
                 number += 1;
+                note_line(numbers, number, engine.count_steps());
                 write_reply(writer, &mut text, number, &reply)?;
             }
             Turned::Stops(cause) => {
@@ -105,7 +116,16 @@ pub(crate) fn simulate_over<J: JournalId, F: Families + Drop, R: BufRead, W: Wri
         → BreaksLines J.bounds why lines (W.contents writer.old) (W.contents writer.new)) }
 {
     let mut engine = engine;
-    let end = play_lines(alloc, &mut engine, reader, writer, first, line);
+    let mut numbers = None;
+    let end = play_lines(
+        alloc,
+        &mut engine,
+        reader,
+        writer,
+        first,
+        line,
+        &mut numbers,
+    );
     drop(close(engine));
     end
 }
@@ -133,9 +153,56 @@ pub(crate) fn check_over<J: JournalId, F: Families + Drop, R: BufRead, W: Write>
 {
     let mut engine = engine;
     engine.keep_trace();
-    let ended = play_lines(alloc, &mut engine, reader, writer, first, line);
+    let mut numbers = None;
+    let ended = play_lines(
+        alloc,
+        &mut engine,
+        reader,
+        writer,
+        first,
+        line,
+        &mut numbers,
+    );
     let trace = close(engine);
     let end = ended?;
     write_rest(alloc, writer, end, trace)?;
+    Ok(end)
+}
+
+/// The same, each step beside the number of the line during which it was taken.
+pub(crate) fn number_over<J: JournalId, F: Families + Drop, R: BufRead, W: Write>(
+    alloc: Global,
+    engine: Engine<J, F>,
+    reader: &mut R,
+    writer: &mut W,
+    first: Found,
+    line: &mut Vec<u8>,
+) -> Result<End, Broken>
+    requires opening { IsOpening engine }
+    requires slots { length engine.slots ≡ limits.MAX_LIVE_SESSIONS }
+    requires ready { AllSeated J.bounds (limits.MAX_LINES + 1) engine }
+    requires seats { J.seats ≡ length J.bounds + 2 + limits.MAX_LIVE_SESSIONS }
+    ensures ends { IfOk result (λ end. (lines : List (List ℕ))
+        → Ahead first line.old.items (R.remaining reader.old) lines
+        → EndsNumberedLines J.bounds lines (W.contents writer.old) (W.contents writer.new) end) }
+    ensures breaks { IfErr result (λ why. (lines : List (List ℕ))
+        → Ahead first line.old.items (R.remaining reader.old) lines
+        → BreaksNumberedLines J.bounds why lines (W.contents writer.old) (W.contents writer.new)) }
+{
+    let mut engine = engine;
+    engine.keep_trace();
+    let mut numbers = Some(Vec::new(alloc));
+    let ended = play_lines(
+        alloc,
+        &mut engine,
+        reader,
+        writer,
+        first,
+        line,
+        &mut numbers,
+    );
+    let trace = close(engine);
+    let end = ended?;
+    write_numbered(alloc, writer, end, trace, numbers)?;
     Ok(end)
 }

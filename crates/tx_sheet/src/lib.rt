@@ -4,6 +4,7 @@
 #![tactic(auto)]
 
 mod change;
+mod machine;
 mod reads;
 mod reason;
 mod reply;
@@ -15,6 +16,7 @@ mod walk;
 mod words;
 
 pub use change::is_same_lock;
+pub use machine::put_machine;
 pub use row::{Change, KeyColumn, KeyRead, Row, RowKind, Sending, Session, Sheet};
 pub use seen::{Kind, SeenLock, SeenRecord};
 pub use sheet::sheet_of;

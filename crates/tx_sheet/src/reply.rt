@@ -73,8 +73,8 @@ fn put_members(out: &mut String, members: &[Value]) -> Result<(), AllocError> {
     Ok(())
 }
 
-// Appends a row: its key and its value.
-fn put_row(out: &mut String, row: &Value) -> Result<(), AllocError> {
+/// Appends a row: its key and its value.
+pub(crate) fn put_row(out: &mut String, row: &Value) -> Result<(), AllocError> {
     let Some(members) = row.as_array() else {
         return Ok(());
     };

@@ -70,6 +70,8 @@ pub struct Row {
     /// What it read of keys that its session has not in its buffer.
     pub reads: Vec<KeyRead>,
     pub changes: Vec<Change>,
+    /// The steps of the machine that were taken during it, where those are shown.
+    pub machine: Vec<String>,
 }
 
 impl Row {

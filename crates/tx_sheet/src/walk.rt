@@ -136,6 +136,7 @@ fn empty_row(alloc: Global) -> Row {
         meets_lock: false,
         reads: Vec::new(alloc),
         changes: Vec::new(alloc),
+        machine: Vec::new(alloc),
     }
 }
 

@@ -4,12 +4,12 @@ use std::io::{BufRead, Write};
 use std::sync::Wait;
 use std::thread::Threads;
 use tx_command::CellsKind;
-use tx_explain::{PictureForm, explain};
+use tx_explain::{PictureOptions, explain};
 use tx_flat::FlatCells;
 use tx_nested::NestedCells;
 use tx_run::{Plain, RunResult, Settings, run_script};
 use tx_sched::Gate;
-use tx_script::{Broken, End, simulate, simulate_checked};
+use tx_script::{Broken, End, simulate, simulate_checked, simulate_numbered};
 use tx_terminal::converse;
 
 /// `txkv simulate`.
@@ -53,17 +53,34 @@ pub(crate) fn simulate_checked_over<B: BufRead, W: Write>(
     }
 }
 
-/// `txkv explain`.
-pub(crate) fn explain_over<B: BufRead, W: Write>(
+/// `txkv simulate --steps --beside`.
+pub(crate) fn simulate_numbered_over<B: BufRead, W: Write>(
     alloc: Global,
     cells: CellsKind,
-    form: PictureForm,
     reader: &mut B,
     writer: &mut W,
 ) -> Result<End, Broken> {
     match cells {
-        CellsKind::Flat => explain::<FlatCells, _, _, _>(alloc, &Plain, form, reader, writer),
-        CellsKind::Nested => explain::<NestedCells, _, _, _>(alloc, &Plain, form, reader, writer),
+        CellsKind::Flat => simulate_numbered::<FlatCells, _, _, _>(alloc, &Plain, reader, writer),
+        CellsKind::Nested => simulate_numbered::<NestedCells, _, _, _>(
+            alloc, &Plain, reader, writer,
+        ),
+    }
+}
+
+/// `txkv explain`.
+pub(crate) fn explain_over<B: BufRead, W: Write>(
+    alloc: Global,
+    cells: CellsKind,
+    options: PictureOptions,
+    reader: &mut B,
+    writer: &mut W,
+) -> Result<End, Broken> {
+    match cells {
+        CellsKind::Flat => explain::<FlatCells, _, _, _>(alloc, &Plain, options, reader, writer),
+        CellsKind::Nested => explain::<NestedCells, _, _, _>(
+            alloc, &Plain, options, reader, writer,
+        ),
     }
 }
 

@@ -1,6 +1,9 @@
 //! What each command does with its input.
 use crate::asked::Invocation;
-use crate::cells::{converse_over, explain_over, run_over, simulate_checked_over, simulate_over};
+use crate::cells::{
+    converse_over, explain_over, run_over, simulate_checked_over, simulate_numbered_over,
+    simulate_over,
+};
 use crate::generated::generate_script;
 use crate::stats::stats_of;
 use crate::watching::Watching;
@@ -10,8 +13,8 @@ use std::thread::Threads;
 use std::time::{Duration, Instant};
 use tx_answers::{Answered, CycleForm, ImportEnd, ImportOptions, import};
 use tx_check::{check, check_all, check_with_reason};
-use tx_command::{CommandEnd, CommandTask, Steps};
-use tx_explain::PictureForm;
+use tx_command::{CommandEnd, CommandTask, ExplainOptions, Steps};
+use tx_explain::{PictureForm, PictureOptions};
 use tx_recording::Orders;
 use tx_run::{RunResult, Settings};
 use tx_text::{Broken, End};
@@ -84,6 +87,18 @@ fn judge<I: BufRead, O: Write>(
     })
 }
 
+// What is asked of a picture.
+fn picture_asked(told: ExplainOptions) -> PictureOptions {
+    PictureOptions {
+        form: if told.svg {
+            PictureForm::Drawing
+        } else {
+            PictureForm::Text
+        },
+        machine: told.machine,
+    }
+}
+
 // Plays or checks what is asked over these streams, but for histories.
 fn play<R, I, O>(
     rt: &R,
@@ -107,13 +122,11 @@ where
         CommandTask::SimulateSteps => {
             simulate_checked_over(alloc, cells, reader, &mut Steps::new(writer))
         }
+        CommandTask::SimulateBeside => {
+            simulate_numbered_over(alloc, cells, reader, &mut Steps::new(writer))
+        }
         CommandTask::Explain(told) => {
-            let form = if told.svg {
-                PictureForm::Drawing
-            } else {
-                PictureForm::Text
-            };
-            explain_over(alloc, cells, form, reader, writer)
+            explain_over(alloc, cells, picture_asked(told), reader, writer)
         }
         CommandTask::Generate(told) => generate_script(alloc, told, writer),
         CommandTask::Check | CommandTask::Import(_) => check(alloc, reader, writer),

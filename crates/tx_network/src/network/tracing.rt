@@ -1,6 +1,6 @@
 //! The machine's steps of what happens, where they are kept. Where memory for one is refused, they
 //! are kept no more.
-ghost use Rattle.std.specs.Prelude.{◌≡◌, [], Option, Some, None, is_some};
+ghost use Rattle.std.specs.Prelude.{◌≡◌, [], Option, Some, None, is_some, option_map, length};
 ghost use Rattle.tx_core.specs.declared.event.Event.TheVariants as events;
 ghost use Rattle.tx_network.specs.Networks.{GoesOnWith, NotesDrawn, NotesTaken};
 ghost use Rattle.tx_trace.specs.Traces.{Noted, Traces};
@@ -85,6 +85,16 @@ impl<J: JournalId, F: Families> Network<J, F> {
         ensures { result ≡ is_some self.now.trace }
     {
         self.trace.is_some()
+    }
+
+    /// How many are kept so far.
+    pub fn count_steps(&self) -> Option<usize>
+        ensures { result ≡ option_map (λ (t : Noted). length t.steps) self.now.trace }
+    {
+        match &self.trace {
+            Some(trace) => Some(trace.steps().len()),
+            None => None,
+        }
     }
 
     /// The steps, which are kept no more.

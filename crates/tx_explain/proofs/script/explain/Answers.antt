@@ -20,8 +20,8 @@ returns-clause-ends g c =
     let few = subst (λ r. IfOk r (λ (w : Watched). length (put_in keys lines) ≤ MAX_LINES)) c.in-Ok.is
     c.in_ok-watched.ensures.few in
     if_some (λ input. c.in_ok-text.text.items ≡ input) _ _ (λ input is.
-    shown keys input lines (subst IsShowable (sym c.as_slice-3.ensures.value) c.in_ok-keys.ensures)
+    shown keys input lines (subst IsShowable (sym c.as_slice-3.ensures.value) c.in_ok-keys.ensures.showable)
     (ap (map now) c.as_slice-4.ensures.value ∙ c.in_ok-lines.ensures.lines
     ∙ ap lines_of (c.as_slice.ensures.value ∙ is))
-    c.as_slice-5.result.now _ _ _ _ _ (ap lines_of c.as_slice-5.ensures.value ∙ text) few c.in_ok-end.ensures
+    c.as_slice-5.result.now _ _ _ _ (ap lines_of c.as_slice-5.ensures.value ∙ text) few c.in_ok-end.ensures
     c.in_ok-write_all.ensures.all) c.in_ok-text.ensures

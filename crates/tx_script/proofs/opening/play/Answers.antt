@@ -12,22 +12,22 @@ use Rattle.tx_script.proofs.opening.play.Goals as goal
 
 pub returns-in_err-first-clause-breaks : goal.returns-in_err-first-clause-breaks
 returns-in_err-first-clause-breaks g c = if_any_err _ (λ why. any_some _ (g.R.Read.remaining c.args.reader.now)
-    (λ input. breaks_first_asked c.args.checks (bounds_of (lines_of input)) why (lines_of input)
+    (λ input. breaks_first_asked c.args.asked (bounds_of (lines_of input)) why (lines_of input)
     (g.W.Write.contents c.args.writer.now) _ (Keeps-refl _)))
 
 pub returns-in_err-bounds-clause-breaks : goal.returns-in_err-bounds-clause-breaks
 returns-in_err-bounds-clause-breaks g c = if_any_err _ (λ why. any_some _ (g.R.Read.remaining c.args.reader.now)
-    (λ input. breaks_first_asked c.args.checks (bounds_of (lines_of input)) why (lines_of input)
+    (λ input. breaks_first_asked c.args.asked (bounds_of (lines_of input)) why (lines_of input)
     (g.W.Write.contents c.args.writer.now) _ (Keeps-refl _)))
 
 pub returns-in_default-clause-breaks : goal.returns-in_default-clause-breaks
 returns-in_default-clause-breaks g c = any_some _ (g.R.Read.remaining c.args.reader.now)
-    (λ input. breaks_first_asked c.args.checks (bounds_of (lines_of input)) _ (lines_of input)
+    (λ input. breaks_first_asked c.args.asked (bounds_of (lines_of input)) _ (lines_of input)
     (g.W.Write.contents c.args.writer.now) _ (Keeps-refl _))
 
 pub returns-in_default-new-clause-breaks : goal.returns-in_default-new-clause-breaks
 returns-in_default-new-clause-breaks g c = any_some _ (g.R.Read.remaining c.args.reader.now)
-    (λ input. breaks_first_asked c.args.checks (bounds_of (lines_of input)) _ (lines_of input)
+    (λ input. breaks_first_asked c.args.asked (bounds_of (lines_of input)) _ (lines_of input)
     (g.W.Write.contents c.args.writer.now) _ (Keeps-refl _))
 
 pub over-requires-clause-named : goal.over-requires-clause-named
@@ -45,7 +45,7 @@ returns-clause-ends g c =
     then_ok _ _ c.over.result c.over.ensures.ends
     (λ end h. if_some _ _ (g.R.Read.remaining c.args.reader.now)
     (λ input reads. (let ahead = reads_ahead c.in_ok-first.first line input left reads in
-    subst (λ (bounds : List Key). EndsAsked c.args.checks bounds (lines_of input) old new end)
+    subst (λ (bounds : List Key). EndsAsked c.args.asked bounds (lines_of input) old new end)
     (said ∙ bounds_ahead c.in_ok-first.first line left (lines_of input) ahead) (h (lines_of input) ahead)))
     c.in_ok-first.ensures.reads)
 
@@ -61,6 +61,6 @@ returns-clause-breaks g c =
     then_err _ _ c.over.result c.over.ensures.breaks
     (λ why h. if_some _ _ (g.R.Read.remaining c.args.reader.now)
     (λ input reads. (let ahead = reads_ahead c.in_ok-first.first line input left reads in
-    subst (λ (bounds : List Key). BreaksAsked c.args.checks bounds why (lines_of input) old new)
+    subst (λ (bounds : List Key). BreaksAsked c.args.asked bounds why (lines_of input) old new)
     (said ∙ bounds_ahead c.in_ok-first.first line left (lines_of input) ahead) (h (lines_of input) ahead)))
     c.in_ok-first.ensures.reads)

@@ -1,4 +1,4 @@
-use Rattle.std.proofs.Common.{◌≤◌, ◌+◌, length, sym, subst, arith}
+use Rattle.std.proofs.Common.{◌≤◌, ◌+◌, length, option_map, sym, subst, arith}
 use Rattle.std.proofs.KnownBytes.{Keeps-refl}
 use Rattle.tx_types.specs.declared.limits.TheConstants.{MAX_LINES}
 use Rattle.tx_text.specs.declared.end.Broken.{Broken}
@@ -8,6 +8,7 @@ use Rattle.tx_script.specs.declared.line.Turned.TheVariants as turned
 use Rattle.tx_script.specs.Loops.{FoundTurned, FitsFound, Kept}
 use Rattle.tx_script.proofs.Scripts.{counts_first, kept, ready, still, kept_after, traced_on, if_err_is, if_any_err}
 use Rattle.tx_script.proofs.Lines.{AllBreak, on_first, break_before, end_well, end_broken, fault_ends, fault_breaks, fault_breaks_last, reply_breaks, read_breaks, on_next}
+use Rattle.tx_script.proofs.NumberedLines.{numbers_first, numbers_next, numbers_end}
 use Rattle.tx_script.proofs.script.play_lines.Goals as goal
 
 pub returns-in_err-text-clause-kept : goal.returns-in_err-text-clause-kept
@@ -40,6 +41,9 @@ lines-init g c =
           (g.R.Read.remaining c.args.reader.now) (g.W.Write.contents c.args.writer.now) c.args.engine.now
           c.requires.opening c.requires.slots,
       λ le first. first,
+      λ first. numbers_first g.J.JournalId.bounds c.args.first c.args.line.now.items
+          (g.R.Read.remaining c.args.reader.now) (g.W.Write.contents c.args.writer.now) c.args.engine.now
+          (option_map (λ v. v.items) c.args.numbers.now) c.requires.opening c.requires.slots c.requires.none,
     )
 
 pub play_found-requires : goal.play_found-requires
@@ -125,6 +129,25 @@ returns-in-End-clause-ends g c =
     (g.W.Write.contents c.args.writer.now) c.lines.found c.lines.line.items (g.R.Read.remaining c.lines.reader)
     (g.W.Write.contents c.lines.writer) c.lines.number c.lines.engine c.lines.invariant.2 c.play_found.new.engine
     c.lines.invariant.0 goes fits (g.W.Write.contents c.finish.new.writer) c.finish.ensures.kept le
+
+pub returns-in-End-clause-numbered : goal.returns-in-End-clause-numbered
+returns-in-End-clause-numbered g c =
+    let goes : Goes g.J.JournalId.bounds c.lines.engine c.play_found.new.engine
+    (FoundTurned g.J.JournalId.bounds (c.lines.number
+    + 1) c.lines.found c.lines.line.items turned.End c.lines.engine c.play_found.new.engine) = subst
+    (λ l. Goes g.J.JournalId.bounds c.lines.engine c.play_found.new.engine
+    (FoundTurned g.J.JournalId.bounds (c.lines.number
+    + 1) c.lines.found l turned.End c.lines.engine c.play_found.new.engine)) c.as_slice.ensures.value
+    (rw c.in-End.is at c.in_ok-play_found.ensures.goes) in
+    let fits : FitsFound c.lines.found turned.End = rw c.in-End.is at c.in_ok-play_found.ensures.fits in
+    λ well le run first. numbers_end g.J.JournalId.bounds c.args.first c.args.line.now.items
+    (g.R.Read.remaining c.args.reader.now) (g.W.Write.contents c.args.writer.now) c.lines.found c.lines.line.items
+    (g.R.Read.remaining c.lines.reader) (g.W.Write.contents c.lines.writer) c.lines.number c.lines.engine
+    c.play_found.new.engine c.lines.invariant.0 goes fits (g.W.Write.contents c.finish.new.writer) c.finish.ensures.kept
+    (option_map (λ v. v.items) c.lines.numbers) (c.lines.invariant.4 first) le run
+
+pub returns-in-Stops-clause-numbered : goal.returns-in-Stops-clause-numbered
+returns-in-Stops-clause-numbered g c = λ well. absurd (cc (well))
 
 pub returns-in_err-write_reply-in-Goes-clause-kept : goal.returns-in_err-write_reply-in-Goes-clause-kept
 returns-in_err-write_reply-in-Goes-clause-kept g c =
@@ -309,6 +332,17 @@ lines-preserved g c =
           (g.R.Read.remaining c.read_line.new.reader) c.in_ok-found.ensures.reads,
       λ le. traced_on g.J.JournalId.bounds c.lines.number c.lines.engine c.play_found.new.engine c.lines.invariant.0 _
           goes le c.args.engine.now.network c.lines.invariant.3,
+      λ first. numbers_next g.J.JournalId.bounds c.args.first c.args.line.now.items
+          (g.R.Read.remaining c.args.reader.now) (g.W.Write.contents c.args.writer.now) c.lines.found c.lines.line.items
+          (g.R.Read.remaining c.lines.reader) (g.W.Write.contents c.lines.writer) c.lines.number c.lines.engine
+          c.play_found.new.engine c.lines.invariant.0 c.in-Goes.reply goes fits (g.W.Write.contents
+          c.write_reply.new.writer) c.in_ok-write_reply-in-Goes.ensures.all
+          (λ le. traced_on g.J.JournalId.bounds c.lines.number c.lines.engine c.play_found.new.engine
+          c.lines.invariant.0 _ goes le c.args.engine.now.network c.lines.invariant.3 first)
+          c.in_ok-found.found c.read_line.new.line.items (g.R.Read.remaining c.read_line.new.reader)
+          c.in_ok-found.ensures.reads c.count_steps.result c.count_steps.ensures
+          (option_map (λ v. v.items) c.lines.numbers) (option_map (λ v. v.items) c.note_line.new.numbers)
+          c.note_line.ensures (c.lines.invariant.4 first),
     )
 
 pub returns-in_err-finish-in-End-clause-traced : goal.returns-in_err-finish-in-End-clause-traced
