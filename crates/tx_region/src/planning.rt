@@ -5,7 +5,6 @@ ghost use Rattle.tx_region.specs.Attempts.{IsRead};
 ghost use Rattle.tx_region.specs.Copies.{IsOfKey, key_in, LooksLike, IsPlan};
 
 use crate::copy::{KeyView, Loaded, RegionNumbers};
-use std::mem::replace;
 use tx_plan::{
     Body, Plan, ReadView, plan_batch_rollback, plan_check_secondary_locks, plan_check_txn_status,
     plan_commit, plan_get, plan_prewrite, plan_resolve_lock, plan_txn_heart_beat,
@@ -125,6 +124,20 @@ fn plan_seen(view: &KeyView, numbers: &RegionNumbers, loaded: &Loaded, body: &Bo
     }
 }
 
+// What a read sees, taken out of a copy.
+fn take_read(view: &mut KeyView) -> ReadView
+    requires { (cells : Cells) × ((at : ℕ) × SeesRead cells at view.old) }
+    ensures { view.old ≡ seen.Read result }
+{
+    match view {
+        KeyView::Read(seen) => ReadView {
+            lock: seen.lock,
+            value: seen.value.take(),
+        },
+        KeyView::Prewrite { .. } | KeyView::Txn(_) => unreachable!(),
+    }
+}
+
 /// As `plan`, of a copy that stays where it is; only what a read sees is taken out of it.
 pub(crate) fn plan_on(
     view: &mut KeyView,
@@ -138,13 +151,7 @@ pub(crate) fn plan_on(
         → IsPlan loaded.now.mark region loaded.now.last body.now result }
 {
     match body {
-        Body::Get(_) => {
-            let empty = KeyView::Read(ReadView {
-                lock: None,
-                value: None,
-            });
-            plan(replace(view, empty), numbers, loaded, body)
-        }
+        Body::Get(body) => plan_get(take_read(view), numbers.safe, loaded.last, body),
         _ => plan_seen(view, numbers, loaded, body),
     }
 }
