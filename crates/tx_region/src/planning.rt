@@ -1,8 +1,9 @@
 //! Any plan of a copy.
-ghost use Rattle.std.specs.Prelude.{◌≡◌, ◌<◌, ◌↔◌, IsTrue};
-ghost use Rattle.tx_plan.specs.Cells.{Region};
+ghost use Rattle.std.specs.Prelude.{◌≡◌, ◌<◌, ◌↔◌, ℕ, IsTrue};
+ghost use Rattle.tx_plan.specs.Cells.{Cells, Region};
 ghost use Rattle.tx_region.specs.Attempts.{IsRead};
-ghost use Rattle.tx_region.specs.Copies.{IsOfKey, key_in, LooksLike, IsPlan};
+ghost use Rattle.tx_region.specs.Copies.{IsOfKey, key_in, SeesRead, LooksLike, IsPlan};
+ghost use Rattle.tx_region.specs.declared.copy.KeyView.TheVariants.{Read};
 
 use crate::copy::{KeyView, Loaded, RegionNumbers};
 use tx_plan::{
@@ -127,14 +128,14 @@ fn plan_seen(view: &KeyView, numbers: &RegionNumbers, loaded: &Loaded, body: &Bo
 // What a read sees, taken out of a copy.
 fn take_read(view: &mut KeyView) -> ReadView
     requires { (cells : Cells) × ((at : ℕ) × SeesRead cells at view.old) }
-    ensures { view.old ≡ seen.Read result }
+    ensures { view.old ≡ Read result }
 {
-    match view {
-        KeyView::Read(seen) => ReadView {
-            lock: seen.lock,
-            value: seen.value.take(),
-        },
-        KeyView::Prewrite { .. } | KeyView::Txn(_) => unreachable!(),
+    let KeyView::Read(seen) = view else {
+        unreachable!()
+    };
+    ReadView {
+        lock: seen.lock,
+        value: seen.value.take(),
     }
 }
 

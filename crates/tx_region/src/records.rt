@@ -131,12 +131,7 @@ impl<F: Families> Records<F> {
     }
 
     // Leaves what a read sees of its key at a place.
-    fn read_view_into(
-        &self,
-        key: &SpeltKey<'_>,
-        at: Ts,
-        place: &mut KeyView,
-    ) -> Result<(), Fault>
+    fn read_view_into(&self, key: &SpeltKey<'_>, at: Ts, place: &mut KeyView) -> Result<(), Fault>
         ensures ok { OnOk result (SeesRead ((region_of F.content self.now 0).cells key.now) at place.new) }
         ensures err { IfErr result (λ e. e ≡ Fault.OutOfMemory) }
     {
