@@ -38,7 +38,7 @@ returns-clause-copy g c =
     let knows : Knows q.by s.seat.events last = knows_loads bounds old.seat old.events q.by q.body last mark s.seat.events loads in
     let here = left s.seat.events n in
     let looks : LooksLike here q.body c.view_into.new.place c.numbers-attempt-inside.result = record {
-      sees = subst (λ (r : Region). Sees r.cells q.body c.view_into.new.place) c.self.invariant.left (subst (λ (b : Body). Sees (region_of content s.records 0).cells b c.view_into.new.place) c.body-2.ensures.body c.view_into.ensures.ok);
+      sees = subst (λ (r : Region). Sees r.cells q.body c.view_into.new.place) c.self.invariant.left (subst (λ (b : Body). Sees (region_of content s.records 0).cells b c.view_into.new.place) c.body-2.ensures.body c.in_ok-view_into.ensures.ok);
       safe = c.numbers-attempt-inside.ensures.0 ∙ ap (λ (r : Region). r.safe) c.self.invariant.left;
       collected = c.numbers-attempt-inside.ensures.1 ∙ ap (λ (r : Region). r.collected) c.self.invariant.left;
     } in
