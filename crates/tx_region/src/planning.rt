@@ -90,6 +90,7 @@ pub(crate) fn plan(view: KeyView, numbers: &RegionNumbers, loaded: &Loaded, body
 }
 
 // As `plan`, of a copy for a request of a transaction, which stays where it is.
+#[inline(always)]
 fn plan_seen(view: &KeyView, numbers: &RegionNumbers, loaded: &Loaded, body: &Body) -> Plan
     requires room { (loaded.now.last < u64.MAX) × (loaded.now.mark < u64.MAX) }
     requires seen { (region : Region) × LooksLike region body.now view.now numbers.now }
@@ -140,6 +141,7 @@ fn take_read(view: &mut KeyView) -> ReadView
 }
 
 /// As `plan`, of a copy that stays where it is; only what a read sees is taken out of it.
+#[inline(always)]
 pub(crate) fn plan_on(
     view: &mut KeyView,
     numbers: &RegionNumbers,
