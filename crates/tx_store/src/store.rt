@@ -251,12 +251,16 @@ impl<J: JournalId, F: Families + Drop> Store<J, F> {
     fn take_at<R: Wait>(&self, rt: &R, index: usize, request: Request<J>) -> Reply<J>
         requires index { index ≤ length J.bounds }
         requires holds { Holds J.bounds index request.body }
-        ensures { result.request ≡ request }
+        ensures request { result.request ≡ request }
+        ensures given { IsGiven J.bounds result }
     {
         for _ in rt.forever() {
             let mut region = self.locked(rt, index);
             if is_at(&*region, index) {
-                return region.take(request);
+                let reply = region.take(request);
+                // For proofs: what a reply tells.
+                let _ = reply.answer();
+                return reply;
             }
         }
         unreachable!()
@@ -269,7 +273,8 @@ impl<J: JournalId, F: Families + Drop> Store<J, F> {
         requires index { index ≤ length J.bounds }
         requires holds { Holds J.bounds index request.body }
         requires of_key { IsOfKey request.body }
-        ensures { result.request ≡ request }
+        ensures request { result.request ≡ request }
+        ensures given { IsGiven J.bounds result }
     {
         let mut attempt = Attempt::new(SeatNo::new(0));
         for _try in 0..TRIES {
@@ -284,19 +289,6 @@ impl<J: JournalId, F: Families + Drop> Store<J, F> {
         self.take_at(rt, index, request)
     }
 
-    // Answers a request in the region that holds it.
-    fn hand<R: Wait>(&self, rt: &R, request: Request<J>) -> Reply<J>
-        requires { IsHeld J.bounds request.body }
-        ensures { result.request ≡ request }
-    {
-        let index = self.index_of(request.body());
-        if is_of_key(request.body()) {
-            self.run_at(rt, index, request)
-        } else {
-            self.take_at(rt, index, request)
-        }
-    }
-
     /// Hands a request to the region that holds what it speaks of, once no other call has that
     /// region. The reply tells who answered, and after what. An answer is that of this request, by
     /// an event that comes after all that the sender had seen: no old one is handed out again.
@@ -306,9 +298,11 @@ impl<J: JournalId, F: Families + Drop> Store<J, F> {
         ensures given { IsGiven J.bounds result }
         ensures answered { IfSome result.answer (IsAnswered J.bounds request result.events) }
     {
-        let reply = self.hand(rt, request);
-        // For proofs: what a reply tells.
-        let _ = reply.answer();
-        reply
+        let index = self.index_of(request.body());
+        if is_of_key(request.body()) {
+            self.run_at(rt, index, request)
+        } else {
+            self.take_at(rt, index, request)
+        }
     }
 }

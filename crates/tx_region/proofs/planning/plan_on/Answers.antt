@@ -1,6 +1,5 @@
 use Rattle.std.proofs.Common.{sym, subst}
 use Rattle.tx_plan.specs.declared.body.Body.{Body}
-use Rattle.tx_plan.specs.declared.body.Body.TheVariants.{Get}
 use Rattle.tx_region.specs.declared.copy.KeyView.{KeyView}
 use Rattle.tx_region.specs.Copies.{LooksLike, IsPlan}
 use Rattle.tx_region.proofs.Copies.{get_plan}
