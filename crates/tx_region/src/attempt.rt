@@ -2,12 +2,11 @@
 ghost use Rattle.std.specs.Prelude.{◌≡◌, None, IsSomeAnd};
 ghost use Rattle.tx_region.specs.Planning.{IsCopyFor, IsPlanFor};
 
-use crate::copy::{KeyView, Loaded, RegionNumbers};
+use crate::copy::{KeyView, Loaded, RegionNumbers, no_view};
 use crate::planning::plan_on;
 use std::marker::Model;
 use tx_core::SeatNo;
 use tx_journal::{AnswerWithLock, JournalId, Request, Told};
-use tx_plan::ReadView;
 use tx_spelling::KeyBytes;
 use tx_types::Ts;
 
@@ -67,14 +66,6 @@ impl<J: JournalId> Model for Attempt<J> {
     } };
 
     ghost invariant = { λ a. IfSome a.seen (λ s. AreOf s.told a.region a.numbers a.taken a.loaded) };
-}
-
-// What is seen of a key by nobody.
-fn no_view() -> KeyView {
-    KeyView::Read(ReadView {
-        lock: None,
-        value: None,
-    })
 }
 
 impl<J: JournalId> Attempt<J> {

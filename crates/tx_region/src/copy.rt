@@ -13,6 +13,14 @@ pub enum KeyView {
     Txn(TxnView),
 }
 
+/// What is seen before anybody looks: a read that found nothing.
+pub(crate) fn no_view() -> KeyView {
+    KeyView::Read(ReadView {
+        lock: None,
+        value: None,
+    })
+}
+
 /// The safe point of a region, and the safe point of its last collection.
 #[derive(Clone, Copy, Debug)]
 pub struct RegionNumbers {

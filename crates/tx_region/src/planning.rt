@@ -1,11 +1,11 @@
 //! Any plan of a copy.
-ghost use Rattle.std.specs.Prelude.{◌≡◌, ◌<◌, ◌↔◌, IsTrue};
-ghost use Rattle.tx_plan.specs.Cells.{Region};
+ghost use Rattle.std.specs.Prelude.{◌≡◌, ◌<◌, ◌↔◌, ℕ, IsTrue};
+ghost use Rattle.tx_plan.specs.Cells.{Cells, Region};
 ghost use Rattle.tx_region.specs.Attempts.{IsRead};
-ghost use Rattle.tx_region.specs.Copies.{IsOfKey, key_in, LooksLike, IsPlan};
+ghost use Rattle.tx_region.specs.Copies.{IsOfKey, key_in, SeesRead, LooksLike, IsPlan};
+ghost use Rattle.tx_region.specs.declared.copy.KeyView.TheVariants.{Read};
 
 use crate::copy::{KeyView, Loaded, RegionNumbers};
-use std::mem::replace;
 use tx_plan::{
     Body, Plan, ReadView, plan_batch_rollback, plan_check_secondary_locks, plan_check_txn_status,
     plan_commit, plan_get, plan_prewrite, plan_resolve_lock, plan_txn_heart_beat,
@@ -90,6 +90,7 @@ pub(crate) fn plan(view: KeyView, numbers: &RegionNumbers, loaded: &Loaded, body
 }
 
 // As `plan`, of a copy for a request of a transaction, which stays where it is.
+#[inline(always)]
 fn plan_seen(view: &KeyView, numbers: &RegionNumbers, loaded: &Loaded, body: &Body) -> Plan
     requires room { (loaded.now.last < u64.MAX) × (loaded.now.mark < u64.MAX) }
     requires seen { (region : Region) × LooksLike region body.now view.now numbers.now }
@@ -125,7 +126,22 @@ fn plan_seen(view: &KeyView, numbers: &RegionNumbers, loaded: &Loaded, body: &Bo
     }
 }
 
+// What a read sees, taken out of a copy.
+fn take_read(view: &mut KeyView) -> ReadView
+    requires { (cells : Cells) × ((at : ℕ) × SeesRead cells at view.old) }
+    ensures { view.old ≡ Read result }
+{
+    let KeyView::Read(seen) = view else {
+        unreachable!()
+    };
+    ReadView {
+        lock: seen.lock,
+        value: seen.value.take(),
+    }
+}
+
 /// As `plan`, of a copy that stays where it is; only what a read sees is taken out of it.
+#[inline(always)]
 pub(crate) fn plan_on(
     view: &mut KeyView,
     numbers: &RegionNumbers,
@@ -138,13 +154,7 @@ pub(crate) fn plan_on(
         → IsPlan loaded.now.mark region loaded.now.last body.now result }
 {
     match body {
-        Body::Get(_) => {
-            let empty = KeyView::Read(ReadView {
-                lock: None,
-                value: None,
-            });
-            plan(replace(view, empty), numbers, loaded, body)
-        }
+        Body::Get(body) => plan_get(take_read(view), numbers.safe, loaded.last, body),
         _ => plan_seen(view, numbers, loaded, body),
     }
 }

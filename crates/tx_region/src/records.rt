@@ -27,10 +27,10 @@ ghost use Rattle.tx_core.specs.Noting.{NotesAll};
 ghost use Rattle.tx_journal.specs.Replies.{lock_in};
 ghost use Rattle.tx_region.specs.Regions.{region_of, HasSameNumbers};
 ghost use Rattle.tx_region.specs.Calls.{CarriesOut, Counts};
-ghost use Rattle.tx_region.specs.Copies.{IsOfKey, key_in, Sees, SeesTxn, SeesPrewrite, made, MayMake};
+ghost use Rattle.tx_region.specs.Copies.{IsOfKey, key_in, Sees, SeesRead, SeesTxn, SeesPrewrite, made, MayMake};
 ghost use Rattle.tx_region.specs.Planning.{StayedKey};
 
-use crate::copy::{KeyView, RegionNumbers};
+use crate::copy::{KeyView, RegionNumbers, no_view};
 use crate::planning::key_of;
 use std::alloc::Global;
 use std::mem::replace;
@@ -130,24 +130,46 @@ impl<F: Families> Records<F> {
         ShownKey::new(self.alloc, copy)
     }
 
-    // What a request of a transaction sees of its key.
-    fn txn_view(&self, key: &EncodedKey<'_>, start: Ts, commit: Ts) -> Result<KeyView, Fault>
-        ensures ok { IfOk result (λ view. SeesTxn ((region_of F.content self.now 0).cells key.now) start commit view) }
+    // Leaves what a read sees of its key at a place.
+    fn read_view_into(&self, key: &EncodedKey<'_>, at: Ts, place: &mut KeyView) -> Result<(), Fault>
+        ensures ok { OnOk result (SeesRead ((region_of F.content self.now 0).cells key.now) at place.new) }
+        ensures err { IfErr result (λ e. e ≡ Fault.OutOfMemory) }
+    {
+        let view = self.families.read(self.alloc, key, at)?;
+        *place = KeyView::Read(view);
+        Ok(())
+    }
+
+    // Leaves what a request of a transaction sees of its key at a place.
+    fn txn_view_into(
+        &self,
+        key: &EncodedKey<'_>,
+        start: Ts,
+        commit: Ts,
+        place: &mut KeyView,
+    ) -> Result<(), Fault>
+        ensures ok { OnOk result (SeesTxn ((region_of F.content self.now 0).cells key.now) start commit place.new) }
         ensures err { IfErr result (λ e. e ≡ Fault.OutOfMemory) }
     {
         let view = self.families.view(self.alloc, key, start, commit)?;
-        Ok(KeyView::Txn(view))
+        *place = KeyView::Txn(view);
+        Ok(())
     }
 
-    // What a prewrite sees of its key.
-    fn prewrite_view(&self, key: &EncodedKey<'_>, body: &Prewrite) -> Result<KeyView, Fault>
-        ensures ok { IfOk result (λ view. SeesPrewrite ((region_of F.content self.now 0).cells key.now) body.now
-            view) }
+    // Leaves what a prewrite sees of its key at a place.
+    fn prewrite_view_into(
+        &self,
+        key: &EncodedKey<'_>,
+        body: &Prewrite,
+        place: &mut KeyView,
+    ) -> Result<(), Fault>
+        ensures ok { OnOk result (SeesPrewrite ((region_of F.content self.now 0).cells key.now) body.now place.new) }
         ensures err { IfErr result (λ e. e ≡ Fault.OutOfMemory) }
     {
         let view = self.families.view(self.alloc, key, body.start, body.start)?;
         let has_value = self.has_value(key, body)?;
-        Ok(KeyView::Prewrite { view, has_value })
+        *place = KeyView::Prewrite { view, has_value };
+        Ok(())
     }
 
     // Whether a read at its start finds a value, where it inserts.
@@ -182,6 +204,36 @@ impl<F: Families> Records<F> {
         EncodedKey::new(self.alloc, key_of(body))
     }
 
+    /// Leaves what a request of one key sees of it at a place.
+    #[inline(always)]
+    pub(crate) fn view_into(
+        &self,
+        key: &EncodedKey<'_>,
+        body: &Body,
+        place: &mut KeyView,
+    ) -> Result<(), Fault>
+        requires of_key { IsOfKey body.now }
+        requires of { key.now ≡ key_in body.now }
+        ensures ok { OnOk result (Sees (region_of F.content self.now 0).cells body.now place.new) }
+        ensures err { IfErr result (λ e. e ≡ Fault.OutOfMemory) }
+    {
+        match body {
+            Body::Get(body) => self.read_view_into(key, body.at, place),
+            Body::Prewrite(body) => self.prewrite_view_into(key, body.asked(), place),
+            Body::Commit(body) => self.txn_view_into(key, body.start, body.commit, place),
+            Body::BatchRollback(body) => self.txn_view_into(key, body.start, body.start, place),
+            Body::TxnHeartBeat(body) => self.txn_view_into(key, body.start, body.start, place),
+            Body::CheckTxnStatus(body) => self.txn_view_into(key, body.start, body.start, place),
+            Body::CheckSecondaryLocks(body) => {
+                self.txn_view_into(key, body.start, body.start, place)
+            }
+            Body::ResolveLock(body) => self.txn_view_into(key, body.start, body.commit(), place),
+            Body::Scan(_) | Body::RaiseSafe(_) | Body::LocksBelow(_) | Body::Collect(_) => {
+                unreachable!()
+            }
+        }
+    }
+
     /// What a request of one key sees of it.
     #[inline(always)]
     pub(crate) fn view(&self, key: &EncodedKey<'_>, body: &Body) -> Result<KeyView, Fault>
@@ -190,22 +242,9 @@ impl<F: Families> Records<F> {
         ensures ok { IfOk result (λ view. Sees (region_of F.content self.now 0).cells body.now view) }
         ensures err { IfErr result (λ e. e ≡ Fault.OutOfMemory) }
     {
-        match body {
-            Body::Get(body) => {
-                let view = self.families.read(self.alloc, key, body.at)?;
-                Ok(KeyView::Read(view))
-            }
-            Body::Prewrite(body) => self.prewrite_view(key, body.asked()),
-            Body::Commit(body) => self.txn_view(key, body.start, body.commit),
-            Body::BatchRollback(body) => self.txn_view(key, body.start, body.start),
-            Body::TxnHeartBeat(body) => self.txn_view(key, body.start, body.start),
-            Body::CheckTxnStatus(body) => self.txn_view(key, body.start, body.start),
-            Body::CheckSecondaryLocks(body) => self.txn_view(key, body.start, body.start),
-            Body::ResolveLock(body) => self.txn_view(key, body.start, body.commit()),
-            Body::Scan(_) | Body::RaiseSafe(_) | Body::LocksBelow(_) | Body::Collect(_) => {
-                unreachable!()
-            }
-        }
+        let mut view = no_view();
+        self.view_into(key, body, &mut view)?;
+        Ok(view)
     }
 
     // Whether a key, the safe point and the last collection stayed since these numbers were

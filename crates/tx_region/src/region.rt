@@ -282,6 +282,15 @@ fn note_done<J: JournalId>(
     seat.tell()
 }
 
+// Drops what is at a place, if something is. Mostly nothing is, and then nothing is written.
+fn forget<T: Drop>(place: &mut Option<T>)
+    ensures { place.new ≡ None }
+{
+    if place.is_some() {
+        *place = None;
+    }
+}
+
 impl<J: JournalId, F: Families> Region<J, F> {
     /// A region in which nothing happened, with the next seat of its journal.
     pub fn new(alloc: Global, journal: Journal<J>, seat: Seat<J>, families: F) -> Region<J, F>
@@ -511,16 +520,15 @@ impl<J: JournalId, F: Families> Region<J, F> {
         ensures empty { OnOk result ((attempt.new.plan ≡ None) × (attempt.new.answer ≡ None)) }
         ensures err { IfErr result (λ e. e ≡ Fault.OutOfMemory) }
     {
-        attempt.seen = None;
-        attempt.planned = None;
-        attempt.answer = None;
-        let loaded = self.load(request);
+        forget(&mut attempt.seen);
+        forget(&mut attempt.planned);
+        forget(&mut attempt.answer);
+        attempt.loaded = self.load(request);
         let key = self.records.spell(request.body())?;
-        let view = self.records.view(&key, request.body())?;
+        self.records
+            .view_into(&key, request.body(), &mut attempt.view)?;
         let bytes = key.into_bytes();
         let told = self.seat.tell();
-        attempt.loaded = loaded;
-        attempt.view = view;
         attempt.region = self.seat.number();
         attempt.numbers = self.records.numbers();
         attempt.taken = self.records.taken;

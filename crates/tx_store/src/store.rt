@@ -23,9 +23,18 @@ use tx_journal::{Journal, JournalId, Opened, Reply, Request, Seat, Told};
 use tx_region::{Attempt, Region, fronts, is_of_key, route_by};
 use tx_types::{Fault, Key};
 
-/// How often a call looks whether the lock of a region is free before it sleeps. A region has its
-/// lock for about a microsecond at a time, and a thread that sleeps wakes far later.
-const LOOKS: u32 = 256;
+/// How often a call looks whether the lock of a region is free before it sleeps. A thread that
+/// sleeps wakes far later.
+const LOOKS: u32 = 16;
+
+/// How many pauses a call makes before its first look, some two microseconds. Each look takes the
+/// lock's line of memory away from the call that has the region, which has it for about half a
+/// microsecond at a time, and mostly takes it again at once for the same request.
+const FIRST_PAUSES: u32 = 32;
+
+/// How many pauses there are at most between two looks. They double from look to look, so that a
+/// region which many want is left to one of them for some requests in a row.
+const MOST_PAUSES: u32 = 512;
 
 /// How often a request is planned outside the lock of its region.
 const TRIES: u32 = 3;
@@ -52,6 +61,13 @@ pub struct Store<J: JournalId, F: Families> {
     ghost few: { length J.bounds < 1024 },
     ghost tell: { AreFronts J.bounds fronts.items },
     ghost each: { vec_len regions ≡ length J.bounds + 1 },
+}
+
+// Lets some time go by.
+fn pause(pauses: u32) {
+    for _ in 0..pauses {
+        spin_loop();
+    }
 }
 
 // Whether a region is the one of this index.
@@ -166,10 +182,14 @@ impl<J: JournalId, F: Families + Drop> Store<J, F> {
         requires { index ≤ length J.bounds }
     {
         let region = &self.regions[index].region;
+        let mut pauses = FIRST_PAUSES;
         for _ in 0..LOOKS {
-            spin_loop();
+            pause(pauses);
             if let Some(region) = region.try_lock() {
                 return region;
+            }
+            if pauses < MOST_PAUSES {
+                pauses *= 2;
             }
         }
         region.lock(rt)
@@ -231,12 +251,16 @@ impl<J: JournalId, F: Families + Drop> Store<J, F> {
     fn take_at<R: Wait>(&self, rt: &R, index: usize, request: Request<J>) -> Reply<J>
         requires index { index ≤ length J.bounds }
         requires holds { Holds J.bounds index request.body }
-        ensures { result.request ≡ request }
+        ensures request { result.request ≡ request }
+        ensures given { IsGiven J.bounds result }
     {
         for _ in rt.forever() {
             let mut region = self.locked(rt, index);
             if is_at(&*region, index) {
-                return region.take(request);
+                let reply = region.take(request);
+                // For proofs: what a reply tells.
+                let _ = reply.answer();
+                return reply;
             }
         }
         unreachable!()
@@ -249,7 +273,8 @@ impl<J: JournalId, F: Families + Drop> Store<J, F> {
         requires index { index ≤ length J.bounds }
         requires holds { Holds J.bounds index request.body }
         requires of_key { IsOfKey request.body }
-        ensures { result.request ≡ request }
+        ensures request { result.request ≡ request }
+        ensures given { IsGiven J.bounds result }
     {
         let mut attempt = Attempt::new(SeatNo::new(0));
         for _try in 0..TRIES {
@@ -264,19 +289,6 @@ impl<J: JournalId, F: Families + Drop> Store<J, F> {
         self.take_at(rt, index, request)
     }
 
-    // Answers a request in the region that holds it.
-    fn hand<R: Wait>(&self, rt: &R, request: Request<J>) -> Reply<J>
-        requires { IsHeld J.bounds request.body }
-        ensures { result.request ≡ request }
-    {
-        let index = self.index_of(request.body());
-        if is_of_key(request.body()) {
-            self.run_at(rt, index, request)
-        } else {
-            self.take_at(rt, index, request)
-        }
-    }
-
     /// Hands a request to the region that holds what it speaks of, once no other call has that
     /// region. The reply tells who answered, and after what. An answer is that of this request, by
     /// an event that comes after all that the sender had seen: no old one is handed out again.
@@ -286,9 +298,11 @@ impl<J: JournalId, F: Families + Drop> Store<J, F> {
         ensures given { IsGiven J.bounds result }
         ensures answered { IfSome result.answer (IsAnswered J.bounds request result.events) }
     {
-        let reply = self.hand(rt, request);
-        // For proofs: what a reply tells.
-        let _ = reply.answer();
-        reply
+        let index = self.index_of(request.body());
+        if is_of_key(request.body()) {
+            self.run_at(rt, index, request)
+        } else {
+            self.take_at(rt, index, request)
+        }
     }
 }
