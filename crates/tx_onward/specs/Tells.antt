@@ -3,8 +3,8 @@
 -- edge's second transaction put there: that is why the order of its writes is known.
 use Rattle.std.specs.Prelude.{ℕ, ◌+◌, ◌==◌, Bool, true, false, ◌&&◌, ◌||◌, cond, List, [], ◌∷◌, length, nat_le, Option, Some, None, slice_get}
 use Rattle.std.specs.List.{list_any}
-use Rattle.tx_history.specs.declared.anomaly.Anomaly.{Anomaly}
-use Rattle.tx_history.specs.declared.anomaly.Anomaly.TheVariants.{G0}
+use Rattle.tx_verdict.specs.declared.anomaly.Anomaly.{Anomaly}
+use Rattle.tx_verdict.specs.declared.anomaly.Anomaly.TheVariants.{G0}
 use Rattle.tx_recording.specs.declared.recording.Outcome.{Outcome}
 use Rattle.tx_recording.specs.declared.recording.Outcome.TheVariants.{Ok, Fail, Info}
 use Rattle.tx_recording.specs.declared.recording.Act.{Act}

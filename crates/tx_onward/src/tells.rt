@@ -3,9 +3,8 @@ ghost use Rattle.std.specs.Prelude.{◌≡◌, slice_get, Option};
 ghost use Rattle.tx_recording.specs.Recordings.{IsRecording, transaction_at, ops_of as ops_in};
 ghost use Rattle.tx_onward.specs.Tells.{is_ok as is_ok_outcome, is_value, puts_value, sees_one, read_by, sees_in, sees_second, sees_first, is_on, is_dirty, is_named, tells};
 
-use tx_history::Anomaly;
 use tx_recording::{Act, Op, Recording, Span};
-use tx_verdict::{Beside, Cycle, CycleStep, Verdict};
+use tx_verdict::{Anomaly, Beside, Cycle, CycleStep, Verdict};
 
 // Whether an act puts a value.
 fn is_value(act: Act, value: u32) -> bool
