@@ -1,12 +1,30 @@
 //! Which puts come first of those that nobody knows the place of.
 ghost use Rattle.std.specs.Prelude.{◌≡◌};
 
+use crate::apart::{add_apart, puts_by_txn};
 use crate::greedy::ranks_of;
 use crate::wide::{are_within, wide_edges};
 use std::alloc::{AllocError, Global};
 use tx_chains::{Extras, Plan, Put, first_member, first_put, last_put, number, put_at};
-use tx_order::{Unordered, order};
+use tx_order::{Edge, Unordered, order};
 use tx_verdict::Versions;
+
+// The places of so many nodes in an order of a graph, or these where it has none.
+fn places_in(
+    alloc: Global,
+    nodes: u32,
+    edges: &mut Vec<Edge>,
+    places: Vec<usize>,
+) -> Result<Vec<usize>, AllocError> {
+    if !are_within(edges.as_slice(), nodes) {
+        return Ok(places);
+    }
+    match order(alloc, nodes, edges) {
+        Ok(better) => Ok(better),
+        Err(Unordered::Cycle(_)) => Ok(places),
+        Err(Unordered::Memory) => Err(AllocError),
+    }
+}
 
 /// What follows from all that holds in each order of the puts that nobody knows the place of.
 #[derive(Drop)]
@@ -133,7 +151,10 @@ pub(crate) fn hint_of(
     }
     match order(alloc, nodes, &mut wide) {
         Ok(places) => {
-            let ranks = ranks_of(alloc, wide.as_slice(), nodes, puts, extras, txns, keys)?;
+            let by_txn = puts_by_txn(alloc, puts, extras, txns)?;
+            add_apart(&mut wide, &by_txn, puts, txns)?;
+            let places = places_in(alloc, nodes, &mut wide, places)?;
+            let ranks = ranks_of(alloc, wide.as_slice(), nodes, puts, &by_txn, txns, keys)?;
             let mut guesses = Vec::new(alloc);
             guesses.push(ranks)?;
             guesses.push(every_other(alloc, places.as_slice(), 1, txns)?)?;

@@ -1,9 +1,10 @@
 //! An order in which of two that put into a key, of which nobody knows the order, one has committed
 //! when the other starts.
 
+use crate::apart::key_at;
 use crate::lists::Lists;
 use std::alloc::{AllocError, Global};
-use tx_chains::{Extras, Put, number, put_at};
+use tx_chains::{Put, number, put_at};
 use tx_order::Edge;
 
 // How many of those that wait for a key are looked at when it is free.
@@ -18,7 +19,7 @@ struct Graph<'a> {
     by_node: Lists,
     puts: &'a [Put],
     // those puts of each transaction
-    by_txn: Lists,
+    by_txn: &'a Lists,
 }
 
 // What is taken of a graph, a node after all that its edges come from.
@@ -46,22 +47,6 @@ fn edges_by_node(alloc: Global, edges: &[Edge], nodes: u32) -> Result<Lists, All
         by_node.push(edges[i].from as usize, number(i));
     }
     Ok(by_node)
-}
-
-// The puts of each transaction into keys of which nobody knows the order.
-fn puts_by_txn(
-    alloc: Global,
-    puts: &[Put],
-    extras: &Extras,
-    txns: u32,
-) -> Result<Lists, AllocError> {
-    let mut by_txn = Lists::new(alloc, txns as usize, puts.len())?;
-    for i in 0..puts.len() {
-        if extras.is_open(puts[i].key) {
-            by_txn.push(puts[i].txn as usize, number(i));
-        }
-    }
-    Ok(by_txn)
 }
 
 // By node, how many edges lead to it.
@@ -96,18 +81,12 @@ impl Graph<'_> {
         }
     }
 
-    // The put at a place.
-    fn key_of(&self, place: u32) -> Option<u32> {
-        let put = self.puts.get(place as usize)?;
-        Some(put.key)
-    }
-
     // A key that a transaction puts into, and another one holds.
     fn held_by(&self, held: &[bool], txn: u32) -> Option<u32> {
         let mut at = self.by_txn.first(txn as usize);
         for _ in 0..self.puts.len() {
             let place = at?;
-            let key = self.key_of(place)?;
+            let key = key_at(self.puts, place)?;
             if held.get(key as usize) == Some(&true) {
                 return Some(key);
             }
@@ -198,7 +177,7 @@ impl Taken {
             let Some(place) = at else {
                 return Ok(());
             };
-            if let Some(key) = graph.key_of(place) {
+            if let Some(key) = key_at(graph.puts, place) {
                 put_at(self.held.as_mut_slice(), key as usize, held);
                 if !held {
                     self.wake(key)?;
@@ -252,7 +231,7 @@ pub(crate) fn ranks_of(
     edges: &[Edge],
     nodes: u32,
     puts: &[Put],
-    extras: &Extras,
+    by_txn: &Lists,
     txns: u32,
     keys: u32,
 ) -> Result<Vec<usize>, AllocError> {
@@ -261,7 +240,7 @@ pub(crate) fn ranks_of(
         edges,
         by_node: edges_by_node(alloc, edges, nodes)?,
         puts,
-        by_txn: puts_by_txn(alloc, puts, extras, txns)?,
+        by_txn,
     };
     let mut taken = Taken::new(alloc, count_edges(alloc, edges, nodes)?, txns, keys)?;
     taken.add_first(&graph)?;

@@ -3,6 +3,7 @@
 //! so.
 #![tactic(auto)]
 
+mod apart;
 mod attempt;
 mod first;
 mod greedy;
