@@ -82,9 +82,9 @@ pub done : (options : ImportOptions) (h : History) (told after : List Bool) (tex
     → IsAllOf options h more new
 done options h told after text more end new is_first left v (vs, s) l verdict (one, o, e) ends noted same =
     let none : TellsNoMore h.recording vs v = λ t told_of.
-        let is : get_or told t false ≡ (get_or told t false || tells h.recording v t) =
-            subst (λ bs. get_or bs t false ≡ (get_or told t false || tells h.recording v t)) same (noted t) in
-        sym (s.told_of t) ∙ is ∙ ap (λ b. get_or told t false || b) told_of ∙ or_true (get_or told t false)
+    let is : get_or told t false ≡ (get_or told t false || tells h.recording v t) =
+    subst (λ bs. get_or bs t false ≡ (get_or told t false || tells h.recording v t)) same (noted t) in
+    sym (s.told_of t) ∙ is ∙ ap (λ b. get_or told t false || b) told_of ∙ or_true (get_or told t false)
     in (v, vs, s.next, is_next s l verdict, none, said_with v one more s o e, end_so v new s ends)
 
 -- one that tells of one more is followed by what comes of what is left then
@@ -96,24 +96,30 @@ pub more_so : (options : ImportOptions) (h : History) (told after : List Bool) (
     → ((t : ℕ) → get_or after t false ≡ (get_or told t false || tells h.recording v t))
     → ((t : ℕ) × (tells h.recording v t ≡ true) × (get_or told t false ≡ false)) → length after ≡ length told
     → SoFar options h after more new false
-more_so options h told after text more end new is_first left v (vs, s) l verdict (one, o, e) ends noted (t, tells_of, f) count =
-    (v ∷ vs, record {
-      next = (s.next, is_next s l verdict, (t, tells_of, sym (s.told_of t) ∙ f));
-      told_of = λ u. noted u ∙ ap (λ b. b || tells h.recording v u) (s.told_of u);
-      count = count ∙ s.count;
-      said = said_with v one more s o e;
-      first = refl;
-      ends = end_so v new s ends;
-    })
+more_so options h told after text more end new is_first left v (vs, s) l verdict (one, o, e) ends noted (t, tells_of, f) count = (
+  v ∷ vs,
+  record {
+    next = (s.next, is_next s l verdict, (t, tells_of, sym (s.told_of t) ∙ f));
+    told_of = λ u. noted u ∙ ap (λ b. b || tells h.recording v u) (s.told_of u);
+    count = count ∙ s.count;
+    said = said_with v one more s o e;
+    first = refl;
+    ends = end_so v new s ends;
+  },
+)
 
 -- before the first verdict
-pub nothing_told : (options : ImportOptions) (h : History) (told : List Bool) (end : ImportEnd)
-    → ((t : ℕ) → get_or told t false ≡ false) → length told ≡ txns_of h.recording → SoFar options h told [] end true
-nothing_told options h told end none count = ([], record {
-  next = tt;
-  told_of = none;
-  count = count;
-  said = refl;
-  first = refl;
-  ends = tt;
-})
+pub nothing_told : (options : ImportOptions) (h : History) (told : List Bool) (text : List ℕ) (end : ImportEnd)
+    → ((t : ℕ) → get_or told t false ≡ false) → length told ≡ txns_of h.recording → text ≡ []
+    → SoFar options h told text end true
+nothing_told options h told text end none count empty = (
+  [],
+  record {
+    next = tt;
+    told_of = none;
+    count = count;
+    said = empty;
+    first = refl;
+    ends = tt;
+  },
+)
