@@ -17,8 +17,8 @@ verdicts-preserved c =
     c.in_ok-left.ensures.left) c.in_ok-verdict.ensures c.in_ok-put_one.ensures.text c.in_ok-put_one.ensures.end
     c.note_all-is_more.ensures.told (c.note_all-is_more.ensures.one c.if-not-is_more.false) c.note_all-is_more.ensures.count
 
-pub returns : goal.returns
-returns c =
+pub returns-then-not-is_more : goal.returns-then-not-is_more
+returns-then-not-is_more c =
     done c.args.options c.args.history.now c.verdicts.told.items c.note_all-is_more.new.told.items
     c.verdicts.answer.text.items c.put_one.new.answer.text.items c.verdicts.answer.end c.put_one.new.answer.end
     c.verdicts.is_first c.in_ok-left.left c.in_ok-verdict.verdict c.verdicts.invariant
@@ -26,5 +26,5 @@ returns c =
     c.in_ok-left.ensures.left) c.in_ok-verdict.ensures c.in_ok-put_one.ensures.text c.in_ok-put_one.ensures.end
     c.note_all-is_more.ensures.told (c.note_all-is_more.ensures.none c.if-not-is_more.true)
 
-pub note_all-requires-clause-count : goal.note_all-requires-clause-count
-note_all-requires-clause-count c = c.verdicts.invariant.1.count
+pub note_all-is_more-requires-clause-count : goal.note_all-is_more-requires-clause-count
+note_all-is_more-requires-clause-count c = c.verdicts.invariant.1.count
