@@ -2,12 +2,12 @@
 use Rattle.std.proofs.Common.{◌≡◌, ℕ, Bool, true, false, List, [], ◌∷◌, ◌++◌, length, get_or, refl, sym, ap, subst, ◌∙◌}
 use Rattle.std.specs.Prelude.{IsTrue, cond, ◌||◌}
 use Rattle.tx_recording.specs.declared.recording.Recording.{Recording}
-use Rattle.tx_recording.specs.Recordings.{txns_of}
+use Rattle.tx_recording.specs.Recordings.{txns_of, transaction_at}
 use Rattle.tx_verdict.specs.declared.verdict.Verdict.{Verdict}
 use Rattle.tx_verdict.specs.Verdicts.{IsVerdict}
 use Rattle.tx_import.specs.declared.reader.History.{History}
 use Rattle.tx_onward.specs.Tells.{tells, told_by}
-use Rattle.tx_onward.specs.Left.{IsLeft}
+use Rattle.tx_onward.specs.Left.{without, IsLeft}
 use Rattle.tx_answers.specs.declared.answer.ImportOptions.{ImportOptions}
 use Rattle.tx_answers.specs.declared.answer.ImportEnd.{ImportEnd}
 use Rattle.tx_answers.specs.Texts.{end_of}
@@ -31,9 +31,9 @@ abbrev pub SoFar : ImportOptions → History → List Bool → List ℕ → Impo
 SoFar options h told text end is_first = (vs : List Verdict) × IsSoFar options h told text end is_first vs
 
 -- what is left is what those before it have left
-pub left_by : {r left : Recording} {f g : ℕ → Bool} → ((t : ℕ) → f t ≡ g t) → IsLeft r f left → IsLeft r g left
-left_by same l = record {
-  transactions = λ t h. rw sym (same t) (l.transactions t h);
+pub left_by : (r left : Recording) (f g : ℕ → Bool) → ((t : ℕ) → f t ≡ g t) → IsLeft r f left → IsLeft r g left
+left_by r left f g same l = record {
+  transactions = λ t h. subst (λ b. transaction_at left t ≡ without b (transaction_at r t)) (same t) (l.transactions t h);
   count = l.count;
   ops = l.ops;
   elements = l.elements;
@@ -48,11 +48,12 @@ ends_with [] v end e = refl
 ends_with (w ∷ ws) v end e = e
 
 -- a verdict that is of what is left
-pub is_next : {options : ImportOptions} {h : History} {told : List Bool} {text : List ℕ} {end : ImportEnd} {is_first : Bool}
-    {vs : List Verdict} {left : Recording} {v : Verdict} → IsSoFar options h told text end is_first vs
+pub is_next : (options : ImportOptions) (h : History) (told : List Bool) (text : List ℕ) (end : ImportEnd) (is_first : Bool)
+    (vs : List Verdict) (left : Recording) (v : Verdict) → IsSoFar options h told text end is_first vs
     → IsLeft h.recording (λ t. get_or told t false) left → IsVerdict left options.orders v
     → IsNext h.recording options.orders vs v
-is_next {left = left} s l v = (left, left_by s.told_of l, v)
+is_next options h told text end is_first vs left v s l verdict =
+    (left, left_by h.recording left (λ t. get_or told t false) (told_by h.recording vs) s.told_of l, verdict)
 
 or_true : (b : Bool) → (b || true) ≡ true
 or_true true = refl
@@ -82,10 +83,10 @@ pub done : (options : ImportOptions) (h : History) (told after : List Bool) (tex
     → IsAllOf options h more new
 done options h told after text more end new is_first left v (vs, s) l verdict (one, o, e) ends noted same =
     let none : TellsNoMore h.recording vs v = λ t told_of.
-        let is : get_or told t false ≡ (get_or told t false || tells h.recording v t) =
-            subst (λ bs. get_or bs t false ≡ (get_or told t false || tells h.recording v t)) same (noted t) in
-        sym (s.told_of t) ∙ is ∙ ap (λ b. get_or told t false || b) told_of ∙ or_true (get_or told t false)
-    in (v, vs, s.next, is_next s l verdict, none, said_with v one more s o e, end_so v new s ends)
+    let is : get_or told t false ≡ (get_or told t false || tells h.recording v t) =
+    subst (λ bs. get_or bs t false ≡ (get_or told t false || tells h.recording v t)) same (noted t) in
+    sym (s.told_of t) ∙ is ∙ ap (λ b. get_or told t false || b) told_of ∙ or_true (get_or told t false)
+    in (v, vs, s.next, is_next options h told text end is_first vs left v s l verdict, none, said_with v one more s o e, end_so v new s ends)
 
 -- one that tells of one more is followed by what comes of what is left then
 pub more_so : (options : ImportOptions) (h : History) (told after : List Bool) (text more : List ℕ) (end new : ImportEnd)
@@ -96,24 +97,30 @@ pub more_so : (options : ImportOptions) (h : History) (told after : List Bool) (
     → ((t : ℕ) → get_or after t false ≡ (get_or told t false || tells h.recording v t))
     → ((t : ℕ) × (tells h.recording v t ≡ true) × (get_or told t false ≡ false)) → length after ≡ length told
     → SoFar options h after more new false
-more_so options h told after text more end new is_first left v (vs, s) l verdict (one, o, e) ends noted (t, tells_of, f) count =
-    (v ∷ vs, record {
-      next = (s.next, is_next s l verdict, (t, tells_of, sym (s.told_of t) ∙ f));
-      told_of = λ u. noted u ∙ ap (λ b. b || tells h.recording v u) (s.told_of u);
-      count = count ∙ s.count;
-      said = said_with v one more s o e;
-      first = refl;
-      ends = end_so v new s ends;
-    })
+more_so options h told after text more end new is_first left v (vs, s) l verdict (one, o, e) ends noted (t, tells_of, f) count = (
+  v ∷ vs,
+  record {
+    next = (s.next, is_next options h told text end is_first vs left v s l verdict, (t, tells_of, sym (s.told_of t) ∙ f));
+    told_of = λ u. noted u ∙ ap (λ b. b || tells h.recording v u) (s.told_of u);
+    count = count ∙ s.count;
+    said = said_with v one more s o e;
+    first = refl;
+    ends = end_so v new s ends;
+  },
+)
 
 -- before the first verdict
-pub nothing_told : (options : ImportOptions) (h : History) (told : List Bool) (end : ImportEnd)
-    → ((t : ℕ) → get_or told t false ≡ false) → length told ≡ txns_of h.recording → SoFar options h told [] end true
-nothing_told options h told end none count = ([], record {
-  next = tt;
-  told_of = none;
-  count = count;
-  said = refl;
-  first = refl;
-  ends = tt;
-})
+pub nothing_told : (options : ImportOptions) (h : History) (told : List Bool) (text : List ℕ) (end : ImportEnd)
+    → ((t : ℕ) → get_or told t false ≡ false) → length told ≡ txns_of h.recording → text ≡ []
+    → SoFar options h told text end true
+nothing_told options h told text end none count empty = (
+  [],
+  record {
+    next = tt;
+    told_of = none;
+    count = count;
+    said = empty;
+    first = refl;
+    ends = tt;
+  },
+)

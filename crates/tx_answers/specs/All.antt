@@ -31,10 +31,6 @@ AreNext r orders (v ∷ vs) = AreNext r orders vs × IsNext r orders vs v × Tel
 
 -- ---- what is written
 
-abbrev pub is_yes : Verdict → Bool
-is_yes (verdict.Yes t) = true
-is_yes _ = false
-
 abbrev pub is_none : List Verdict → Bool
 is_none [] = true
 is_none (v ∷ vs) = false

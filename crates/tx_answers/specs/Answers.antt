@@ -1,5 +1,5 @@
 -- What is answered of the lines of a history.
-use Rattle.std.specs.Prelude.{◌≡◌, ◌⊎◌, ℕ, List, [], Option, if◌then◌else◌}
+use Rattle.std.specs.Prelude.{◌≡◌, ◌⊎◌, ℕ, Bool, true, false, List, [], Option}
 use Rattle.std.specs.Io.KnownBytes.{Appends}
 use Rattle.tx_text.specs.declared.end.Broken.{Broken}
 use Rattle.tx_text.specs.declared.end.Broken.TheVariants.{Output}
@@ -23,9 +23,13 @@ abbrev pub IsOne : ImportOptions → History → List ℕ → ImportEnd → Type
 IsOne options h text end = (v : Verdict) × IsVerdict h.recording options.orders v × IsTextOf options h v text
     × (end ≡ end_of v)
 
--- what is said of a history: a verdict, or where that is asked for all to the end
+-- what is said of a history: all to the end, or a verdict
+abbrev pub IsSaidTo : Bool → ImportOptions → History → List ℕ → ImportEnd → Type 0
+IsSaidTo true options h text end = IsAllOf options h text end
+IsSaidTo false options h text end = IsOne options h text end
+
 abbrev pub IsSaid : ImportOptions → History → List ℕ → ImportEnd → Type 0
-IsSaid options h text end = if options.all then IsAllOf options h text end else IsOne options h text end
+IsSaid options h text end = IsSaidTo options.all options h text end
 
 -- the recording of the lines, and what is said of it
 abbrev pub IsJudged : ImportOptions → List (List ℕ) → List ℕ → ImportEnd → Type 0

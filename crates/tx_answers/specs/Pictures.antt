@@ -47,9 +47,11 @@ piece_at h steps i = piece_text h i (i == length steps - 1) (step_at steps i)
 abbrev pub last_word : List CycleStep → List ℕ
 last_word steps = edge_word (step_at steps (length steps - 1)).edge
 
+-- a cycle of this name, by its edges
+abbrev pub picture_of : History → List ℕ → List CycleStep → List ℕ
+picture_of h name steps = head_text name (length steps) (most_of (λ i. reach_at h (step_at steps i)) (length steps))
+    ++ (each_of (piece_at h steps) (length steps) ++ end_text (length steps) (last_word steps))
+
 -- a cycle
 abbrev pub picture_text : History → Cycle → List ℕ
-picture_text h c = head_text (cycle_word c) (length c.steps.items)
-    (most_of (λ i. reach_at h (step_at c.steps.items i)) (length c.steps.items))
-    ++ (each_of (piece_at h c.steps.items) (length c.steps.items)
-    ++ end_text (length c.steps.items) (last_word c.steps.items))
+picture_text h c = picture_of h (cycle_word c) c.steps.items

@@ -1,25 +1,37 @@
 //! Judging a history to its end: what a no tells of is taken out, and what is left is judged again.
-ghost use Rattle.std.specs.Prelude.{◌≡◌, ◌++◌, cond, IfOk, OnOk, List, ℕ};
-ghost use Rattle.tx_recording.specs.Recordings.{IsRecording};
+ghost use Rattle.std.specs.Prelude.{◌≡◌, ◌<◌, ◌++◌, ◌||◌, [], cond, true, false, length, slice_index_or, IfOk, OnOk, List, ℕ};
+ghost use Rattle.tx_recording.specs.Recordings.{IsRecording, txns_of};
+ghost use Rattle.tx_onward.specs.Tells.{tells};
+ghost use Rattle.tx_onward.specs.Untold.{untold};
 ghost use Rattle.tx_answers.specs.Texts.{end_of as end_of_verdict};
-ghost use Rattle.tx_answers.specs.All.{is_yes, IsOneOf, IsAllOf};
+ghost use Rattle.tx_answers.specs.All.{IsOneOf, IsAllOf};
 
 use crate::answer::{Answer, ImportEnd, ImportOptions, answer_text, end_of};
 use crate::sentences::sentences;
-use std::alloc::Global;
+use std::alloc::{AllocError, Global};
 use tx_import::History;
 use tx_judge::judge;
 use tx_onward::{left_of, note};
+use tx_recording::Recording;
 use tx_text::Broken;
 use tx_verdict::Verdict;
 
-// Whether a verdict is a yes.
-fn is_yes(verdict: &Verdict) -> bool
-    ensures { result ≡ is_yes verdict.now }
+// What is written of a verdict that stands behind a no: nothing of a yes.
+fn later_text(
+    alloc: Global,
+    options: ImportOptions,
+    history: &History,
+    verdict: &Verdict,
+) -> Result<Vec<u8>, Broken>
+    requires { IsRecording history.now.recording }
+    ensures { IfOk result (λ text. IsOneOf options history.now false verdict.now text.items) }
 {
     match verdict {
-        Verdict::Yes(_) => true,
-        Verdict::No(_) | Verdict::Fact(_) | Verdict::Open(_) | Verdict::Twice(..) => false,
+        Verdict::Yes(_) => Ok(Vec::new(alloc)),
+        Verdict::No(_) => answer_text(alloc, options, history, verdict),
+        Verdict::Fact(_) => answer_text(alloc, options, history, verdict),
+        Verdict::Open(_) => answer_text(alloc, options, history, verdict),
+        Verdict::Twice(..) => answer_text(alloc, options, history, verdict),
     }
 }
 
@@ -34,10 +46,18 @@ fn one_text(
     requires { IsRecording history.now.recording }
     ensures { IfOk result (λ text. IsOneOf options history.now is_first verdict.now text.items) }
 {
-    if !is_first && is_yes(verdict) {
-        return Ok(Vec::new(alloc));
+    if is_first {
+        answer_text(alloc, options, history, verdict)
+    } else {
+        later_text(alloc, options, history, verdict)
     }
-    answer_text(alloc, options, history, verdict)
+}
+
+// How all of it ends: as the first verdict does.
+fn end_with(is_first: bool, end: ImportEnd, verdict: &Verdict) -> ImportEnd
+    ensures { result ≡ cond is_first (end_of_verdict verdict.now) end }
+{
+    if is_first { end_of(verdict) } else { end }
 }
 
 // Adds what is written of a verdict, and why it is one.
@@ -52,24 +72,48 @@ fn put_one(
     requires { IsRecording history.now.recording }
     ensures text { OnOk result ((one : List ℕ) × IsOneOf options history.now is_first verdict.now one
         × (answer.new.text.items ≡ answer.old.text.items ++ one)) }
-    ensures end { OnOk result (answer.new.end ≡ answer.old.end) }
+    ensures end { OnOk result (answer.new.end ≡ cond is_first (end_of_verdict verdict.now) answer.old.end) }
 {
     let text = one_text(alloc, options, history, is_first, verdict)?;
     let why = sentences(alloc, history, verdict)?;
     answer.text.extend_from_slice(text.as_slice())?;
     answer.why.extend_from_slice(why.as_slice())?;
+    answer.end = end_with(is_first, answer.end, verdict);
     Ok(())
 }
 
-// How all of it ends: as the first verdict does.
-fn end_with(is_first: bool, answer: &Answer, verdict: &Verdict) -> ImportEnd
-    ensures { result ≡ cond is_first (end_of_verdict verdict.now) answer.now.end }
+// Nothing is written yet.
+fn no_answer(alloc: Global) -> Answer
+    ensures { result.text.items ≡ [] }
 {
-    if is_first {
-        end_of(verdict)
-    } else {
-        answer.end
+    Answer {
+        text: Vec::new(alloc),
+        end: ImportEnd::Yes,
+        why: Vec::new(alloc),
     }
+}
+
+// Nobody is told of yet.
+fn nobody(alloc: Global, recording: &Recording) -> Result<Vec<bool>, AllocError>
+    ensures count { IfOk result (λ told. length told.items ≡ txns_of recording.now) }
+    ensures none { IfOk result (λ told. (t : ℕ) → slice_index_or told.items t false ≡ false) }
+{
+    vec![in alloc; false; recording.transactions.len()]
+}
+
+// Notes of whom a verdict tells. Whether one of them was not told of before.
+fn note_all(told: &mut Vec<bool>, recording: &Recording, verdict: &Verdict) -> bool
+    requires recording { IsRecording recording.now }
+    requires count { length told.old.items ≡ txns_of recording.now }
+    ensures count { length told.new.items ≡ length told.old.items }
+    ensures told { (t : ℕ) → slice_index_or told.new.items t false
+        ≡ (slice_index_or told.old.items t false || tells recording.now verdict.now t) }
+    ensures more { result ≡ true → untold told.new.items < untold told.old.items }
+    ensures one { result ≡ true → (t : ℕ) × (tells recording.now verdict.now t ≡ true)
+        × (slice_index_or told.old.items t false ≡ false) }
+    ensures none { result ≡ false → told.new.items ≡ told.old.items }
+{
+    note(told.as_mut_slice(), recording, verdict)
 }
 
 /// What is said of a history that was read: each no in turn, each of what those before have left.
@@ -81,20 +125,15 @@ pub(crate) fn judged_to_end(
     requires { IsRecording history.now.recording }
     ensures { IfOk result (λ answer. IsAllOf options history.now answer.text.items answer.end) }
 {
-    let recording = &history.recording;
-    let mut told = vec![in alloc; false; recording.transactions.len()]?;
-    let mut answer = Answer {
-        text: Vec::new(alloc),
-        end: ImportEnd::Yes,
-        why: Vec::new(alloc),
-    };
+    let mut told = nobody(alloc, &history.recording)?;
+    let mut answer = no_answer(alloc);
     let mut is_first = true;
     'verdicts: loop {
-        let left = left_of(alloc, recording, told.as_slice())?;
+        let left = left_of(alloc, &history.recording, told.as_slice())?;
         let verdict = judge(alloc, &left, options.orders)?;
         put_one(alloc, &mut answer, options, history, is_first, &verdict)?;
-        answer.end = end_with(is_first, &answer, &verdict);
-        if !note(told.as_mut_slice(), recording, &verdict) {
+        let is_more = note_all(&mut told, &history.recording, &verdict);
+        if !is_more {
             return Ok(answer);
         }
         is_first = false;

@@ -1,8 +1,10 @@
 //! A cycle, drawn as a picture.
-ghost use Rattle.std.specs.Prelude.{◌≡◌, ◌++◌, length, OnOk, IfOk};
+ghost use Rattle.std.specs.Prelude.{◌≡◌, ◌<◌, ◌++◌, length, OnOk, IfOk};
 ghost use Rattle.tx_verdict.specs.Steps.{step_at};
 ghost use Rattle.tx_answers.specs.Traces.{each_of};
-ghost use Rattle.tx_answers.specs.Pictures.{id_text, told_text, sense_text, reach_at, most_of, piece_text, piece_at, last_word, picture_text};
+ghost use Rattle.tx_answers.specs.Pictures.{id_text, told_text, sense_text, reach_at, most_of, piece_text, piece_at, last_word, picture_of, picture_text};
+ghost use Rattle.tx_answers.specs.Words.{cycle_word as word_of_cycle};
+ghost use Rattle.tx_ring.specs.Rings.{head_text, end_text};
 
 use crate::drawing::label;
 use crate::words::{cycle_word, edge_word, put_id};
@@ -114,6 +116,21 @@ fn put_piece(
     )
 }
 
+// Appends the box of the transaction at a place, and the edge that leaves it.
+fn put_piece_at(
+    alloc: Global,
+    out: &mut Vec<u8>,
+    history: &History,
+    steps: &[CycleStep],
+    place: usize,
+) -> Result<(), AllocError>
+    requires { place < length steps.now }
+    ensures { OnOk result (out.new.items ≡ out.old.items ++ piece_at history.now steps.now place) }
+{
+    let is_last = place == steps.len() - 1;
+    put_piece(alloc, out, history, place, is_last, steps[place])
+}
+
 // Appends the boxes of all transactions.
 fn put_pieces(
     alloc: Global,
@@ -125,8 +142,7 @@ fn put_pieces(
         ++ each_of (piece_at history.now steps.now) (length steps.now)) }
 {
     for i in 0..steps.len() {
-        let is_last = i == steps.len() - 1;
-        put_piece(alloc, out, history, i, is_last, steps[i])?;
+        put_piece_at(alloc, out, history, steps, i)?;
     }
     Ok(())
 }
@@ -141,6 +157,37 @@ fn last_kind(steps: &[CycleStep]) -> &'static str
     edge_word(steps[steps.len() - 1].edge)
 }
 
+// Appends the head of the picture of a cycle of so many edges, whose words reach so far.
+fn put_title(out: &mut Vec<u8>, cycle: &Cycle, count: usize, reach: usize) -> Result<(), AllocError>
+    ensures { OnOk result (out.new.items ≡ out.old.items ++ head_text (word_of_cycle cycle.now) count reach) }
+{
+    put_head(out, cycle_word(cycle), count, reach)
+}
+
+// Appends the last edge, and the end.
+fn put_last(out: &mut Vec<u8>, steps: &[CycleStep]) -> Result<(), AllocError>
+    ensures { OnOk result (out.new.items ≡ out.old.items ++ end_text (length steps.now) (last_word steps.now)) }
+{
+    put_end(out, steps.len(), last_kind(steps))
+}
+
+// A cycle of these edges as an SVG.
+fn picture_of(
+    alloc: Global,
+    history: &History,
+    cycle: &Cycle,
+    steps: &[CycleStep],
+) -> Result<Vec<u8>, AllocError>
+    ensures { IfOk result (λ text. text.items ≡ picture_of history.now (word_of_cycle cycle.now) steps.now) }
+{
+    let reach = reach_over(alloc, history, steps)?;
+    let mut out = Vec::new(alloc);
+    put_title(&mut out, cycle, steps.len(), reach)?;
+    put_pieces(alloc, &mut out, history, steps)?;
+    put_last(&mut out, steps)?;
+    Ok(out)
+}
+
 /// A cycle as an SVG.
 pub(crate) fn picture(
     alloc: Global,
@@ -149,11 +196,5 @@ pub(crate) fn picture(
 ) -> Result<Vec<u8>, AllocError>
     ensures { IfOk result (λ text. text.items ≡ picture_text history.now cycle.now) }
 {
-    let steps = cycle.steps.as_slice();
-    let reach = reach_over(alloc, history, steps)?;
-    let mut out = Vec::new(alloc);
-    put_head(&mut out, cycle_word(cycle), steps.len(), reach)?;
-    put_pieces(alloc, &mut out, history, steps)?;
-    put_end(&mut out, steps.len(), last_kind(steps))?;
-    Ok(out)
+    picture_of(alloc, history, cycle, cycle.steps.as_slice())
 }

@@ -113,14 +113,14 @@ next f first told after more false t n h fresh_so same_so =
 
 -- all are noted
 pub all_noted : (f : ℕ → Bool) (first told : List Bool) (more : Bool) (n : ℕ) → IsNoted f first told more n
-    → n ≡ length told → ((u : ℕ) → n ≤ u → f u ≡ false)
+    → length first ≤ n → ((u : ℕ) → length first ≤ u → f u ≡ false)
     → (u : ℕ) → get_or told u false ≡ (get_or first u false || f u)
-all_noted f first told more n is e past u =
+all_noted f first told more n is long past u =
     elim (cases_lt u n) [
       | inl less ↦ is.below u less
       | inr le ↦
-          let long : length told ≤ u = subst (λ m. m ≤ u) e le in
-          let here : get_or told u false ≡ false = get_or_past told u false long in
-          let there : get_or first u false ≡ false = get_or_past first u false (subst (λ m. m ≤ u) is.count long) in
-          here ∙ sym (ap (λ b. b || f u) there ∙ past u le)
+          let behind : length first ≤ u = omega (arith, long, le) in
+          let here : get_or told u false ≡ false = get_or_past told u false (subst (λ m. m ≤ u) (sym is.count) behind) in
+          let there : get_or first u false ≡ false = get_or_past first u false behind in
+          here ∙ sym (ap (λ b. b || f u) there ∙ past u behind)
     ]
