@@ -212,15 +212,20 @@ joined_more before old new replies after jobs output are joins = record {
 -- what was gathered stays so as more is known
 pub gathered_on : (l h : History) → Begins l h → (firsts : List ℕ) (replies : List LineReply) (jobs : List Output)
     → AreGathered firsts l replies jobs → AreGathered firsts h replies jobs
-gathered_on l h begins firsts replies jobs (before, named, quiet, joined) = (before, named, quiet, record {
-  learnt = λ k d lt. let was = joined.learnt k d lt in
-      record {
-        kept = was.kept;
-        tells = was.tells;
-        knows = begins_more (get_or jobs k d).log.told l h was.knows begins;
-      };
-  all = joined.all;
-})
+gathered_on l h begins firsts replies jobs (before, named, quiet, joined) = (
+  before,
+  named,
+  quiet,
+  record {
+    learnt = λ k d lt. let was = joined.learnt k d lt in
+        record {
+          kept = was.kept;
+          tells = was.tells;
+          knows = begins_more (get_or jobs k d).log.told l h was.knows begins;
+        };
+    all = joined.all;
+  },
+)
 
 -- the first of those that are left goes behind those that went
 pub one_goes : {T : Type 0} (all went left rest : List T) (output : T) → all ≡ went ++ left → left ≡ output ∷ rest

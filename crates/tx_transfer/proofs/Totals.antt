@@ -184,6 +184,7 @@ module _ (bounds : List Key) (at : ℕ) where
         rows_at h begins run = subst (λ (l : List KeyValue).
             AreRowsOf (is_scanned from top MAX_SCAN_ROWS l) (λ k found. Sees (table_of (shadow h)).row k at found) l) same
             (page_rows (table_of (shadow h)).row from page (is.sees h begins run))
+
         inside : IsTrue (key_le from last.key) × IsTrue (key_lt last.key top)
         inside = between_both from top last.key
             (last_within (λ k found. Sees (table_of (shadow known)).row k at found) from top MAX_SCAN_ROWS front last

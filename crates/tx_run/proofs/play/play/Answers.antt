@@ -7,7 +7,7 @@ use Rattle.tx_run.specs.Jobs.{AreGathered, ComesOf}
 use Rattle.tx_run.specs.Reading.{opening_of}
 use Rattle.tx_run.specs.Tells.{TellsLine}
 use Rattle.tx_run.specs.LineNumbers.{numbers_in}
-use Rattle.tx_run.proofs.Gathering.{faults}
+use Rattle.tx_run.proofs.Gathering.{faults, gathered_on}
 use Rattle.tx_run.proofs.play.play.Goals as goal
 
 pub returns-clause-comes : goal.returns-clause-comes
@@ -20,8 +20,10 @@ returns-clause-comes g c =
     subst (λ (h : History). ComesOf firsts (numbers_in c.args.script.sessions.items) h c.gather.new.replies)
     (sym (c.unnamed.ensures.1 ∙ c.tell-told.ensures.told)) (
       c.in-Ok-work.outputs.items,
-      subst (λ (f : List ℕ). AreGathered f c.gather.new.seat.events c.gather.new.replies c.in-Ok-work.outputs.items)
-          numbers c.in_ok-faulted.ensures.comes,
+      gathered_on c.gather.new.seat.events c.in_ok-total.seat.events c.in_ok-total.ensures.knows firsts
+          c.gather.new.replies c.in-Ok-work.outputs.items
+          (subst (λ (f : List ℕ). AreGathered f c.gather.new.seat.events c.gather.new.replies
+          c.in-Ok-work.outputs.items) numbers c.in_ok-faulted.ensures.comes),
       c.in-Ok-work.ensures.answered,
     )
 
@@ -39,8 +41,8 @@ returns-clause-tells g c =
     let xs = c.gather.new.replies in
     let told = c.unnamed.ensures.1 ∙ c.tell-told.ensures.told in
     subst (λ (h : History). All (TellsLine source c.unnamed.result.bounds h) xs) (sym told)
-    (subst (λ (b : List Key). All (TellsLine source b c.gather.new.seat.events) xs) (sym c.unnamed.ensures.0)
-    c.in_ok-faulted.ensures.tells)
+    (subst (λ (b : List Key). All (TellsLine source b c.in_ok-total.seat.events) xs) (sym c.unnamed.ensures.0)
+    c.in_ok-total.ensures.tells)
 
 pub returns-clause-faulted : goal.returns-clause-faulted
 returns-clause-faulted g c =
