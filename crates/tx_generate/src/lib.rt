@@ -16,7 +16,7 @@ mod text;
 mod word;
 mod writing;
 
-pub use writing::generate;
 pub use settings::{MAX_LETTERS, ModeChoice, Settings};
 pub use tx_cells::{Makes, Plain};
 pub use tx_text::{Broken, End};
+pub use writing::generate;
