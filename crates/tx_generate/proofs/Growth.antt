@@ -68,9 +68,11 @@ module _ (bounds : List Key) where
 pub ends_none : EndsWell []
 ends_none = (
   [],
-  [],
-  ending (opening MAX_LIVE_SESSIONS),
-  is_play [] [] [] (ending (opening MAX_LIVE_SESSIONS)) refl tt,
-  refl,
-  refl,
+  (
+    [],
+    ending (opening MAX_LIVE_SESSIONS),
+    is_play [] [] [] (ending (opening MAX_LIVE_SESSIONS)) refl tt,
+    refl,
+    refl,
+  ),
 )

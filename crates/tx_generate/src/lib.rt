@@ -9,14 +9,14 @@
 
 mod author;
 mod dice;
-mod generate;
 mod script;
 mod session;
 mod settings;
 mod text;
 mod word;
+mod writing;
 
-pub use generate::generate;
 pub use settings::{MAX_LETTERS, ModeChoice, Settings};
 pub use tx_cells::{Makes, Plain};
 pub use tx_text::{Broken, End};
+pub use writing::generate;

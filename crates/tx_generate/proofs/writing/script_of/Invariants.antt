@@ -1,4 +1,4 @@
-use Rattle.tx_generate.proofs.generate.script_of.Given as goal
+use Rattle.tx_generate.proofs.writing.script_of.Given as goal
 
 -- the journal that was just opened
 abbrev pub ghosts-script_over : goal.ghosts-script_over
