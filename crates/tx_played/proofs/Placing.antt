@@ -18,18 +18,34 @@ weighs keys (line ∷ lines) = omega (
   length-append (behind keys line) (put_in keys lines),
 )
 
+-- the next count, and those behind it
+split_at : (counts : List ℕ) (i : ℕ) → i < length counts → drop i counts ≡ get_or counts i 0 ∷ drop (i + 1) counts
+split_at counts i within = rw (add-one i) (drop-cons counts i 0 within)
+
 -- one more place
 pub place_more : (done counts : List ℕ) (i place : ℕ) (all : List ℕ) → i < length counts
     → done ++ places_from place (drop i counts) ≡ all
     → (done ++ place ∷ []) ++ places_from (place + (get_or counts i 0 + 1)) (drop (i + 1) counts) ≡ all
 place_more done counts i place all within is =
     append_assoc done (place ∷ []) (places_from (place + (get_or counts i 0 + 1)) (drop (i + 1) counts))
-    ∙ ap (λ cs. done ++ places_from place cs) (rw add-one (sym (drop-cons counts i 0 within))) ∙ is
+    ∙ ap (λ cs. done ++ places_from place cs) (sym (split_at counts i within)) ∙ is
 
 pub weight_more : (counts : List ℕ) (i : ℕ) → i < length counts
     → weight (drop i counts) ≡ (get_or counts i 0 + 1) + weight (drop (i + 1) counts)
 unfolding weight
-weight_more counts i within = ap weight (drop-cons counts i 0 within) ∙ rw add-one refl
+weight_more counts i within = ap weight (split_at counts i within)
+
+drop_none : (counts : List ℕ) (i : ℕ) → length counts ≤ i → drop i counts ≡ []
+drop_none [] zero past = refl
+drop_none [] (suc i) past = refl
+drop_none (count ∷ counts) zero past = absurd (omega arith)
+drop_none (count ∷ counts) (suc i) past = drop_none counts i (omega arith)
+
+-- there is none more
+pub all_places : (places counts : List ℕ) (i place : ℕ) (all : List ℕ) → length counts ≤ i
+    → places ++ places_from place (drop i counts) ≡ all → places ≡ all
+all_places places counts i place all past is = sym (append-nil places)
+    ∙ ap (λ cs. places ++ places_from place cs) (sym (drop_none counts i past)) ∙ is
 
 places_length : (place : ℕ) (counts : List ℕ) → length (places_from place counts) ≡ length counts
 places_length place [] = refl

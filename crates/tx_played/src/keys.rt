@@ -17,7 +17,7 @@ fn put_key(alloc: Global, keys: &mut Vec<Key>, text: &str) -> Result<(), Broken>
     let Ok(key) = Key::new(alloc, text.as_bytes()) else {
         return Err(Broken::Memory);
     };
-    if let Err(at) = keys.binary_search(&key) {
+    if let Err(at) = keys.as_slice().binary_search(&key) {
         keys.insert(at, key)?;
     }
     Ok(())

@@ -34,3 +34,27 @@ none_begun why h (Some ns) old = appends_none why old old (numbered_lines ns h) 
 pub returns-in_default-clause-part : goal.returns-in_default-clause-part
 returns-in_default-clause-part g c = λ h of. none_begun _ h (option_map (λ v. v.items) c.args.numbers)
     (g.W.Write.contents c.args.writer.now)
+
+pub returns-clause-all : goal.returns-clause-all
+returns-clause-all g c =
+    let old = g.W.Write.contents c.args.writer.now in
+    let new = g.W.Write.contents c.write_run.new.writer in
+    then_ok _ _ c.write_run.result c.write_run.ensures.all
+    (λ done all h of. rw c.in-Some-numbers.is
+    (subst (λ (steps : List Step). Appends old new (concat (map beside_text (zip c.in-Some-numbers.numbers.items steps)
+    ++ line_text (words Yes) ∷ [])))
+    (steps_are c.args.trace c.in-Some.trace c.steps.result.now h c.in-Some.is c.steps.ensures of)
+    (subst (λ (ns : List ℕ). Appends old new (concat (map beside_text (zip ns c.steps.result.now)
+    ++ line_text (words Yes) ∷ []))) c.as_slice.ensures.value all)))
+
+pub returns-clause-part : goal.returns-clause-part
+returns-clause-part g c =
+    let old = g.W.Write.contents c.args.writer.now in
+    let new = g.W.Write.contents c.write_run.new.writer in
+    then_err _ _ c.write_run.result c.write_run.ensures.part
+    (λ why begun h of. rw c.in-Some-numbers.is
+    (subst (λ (steps : List Step). AppendsBegun why old new (map beside_text (zip c.in-Some-numbers.numbers.items steps)
+    ++ line_text (words Yes) ∷ []))
+    (steps_are c.args.trace c.in-Some.trace c.steps.result.now h c.in-Some.is c.steps.ensures of)
+    (subst (λ (ns : List ℕ). AppendsBegun why old new (map beside_text (zip ns c.steps.result.now)
+    ++ line_text (words Yes) ∷ [])) c.as_slice.ensures.value begun)))
