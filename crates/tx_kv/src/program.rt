@@ -92,7 +92,11 @@ fn run_each<J: JournalId + Send + Sync, R: Threads + Wait + Sync, P: Program<R>>
     program: &P,
     jobs: Vec<Job<J>>,
 ) -> Result<Vec<P::Out>, Fault> {
-    Ok(map_vec(rt, jobs, &|job| run_one(rt, alloc, store, live, program, job))?)
+    Ok(map_vec(
+        rt,
+        jobs,
+        &|job| run_one(rt, alloc, store, live, program, job),
+    )?)
 }
 
 // Runs a program over a journal that was opened.

@@ -100,7 +100,7 @@ fn rows_from<J: JournalId, S: Sender<Request<J>, Reply<J>>>(
 {
     let top = greatest(alloc)?;
     let mut rows = pages(alloc, reader, from, &top, sender)?;
-    if *from > top {
+    if top < *from {
         return Ok(rows);
     }
     let answered = reader.get(&top, sender);

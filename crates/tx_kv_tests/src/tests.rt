@@ -5,8 +5,10 @@ mod ranges;
 
 use std::sync::Wait;
 use std::test::Fail;
-use tx_kv::{Client, Failure, Fault, JournalId, Key, NotUpdated, Outcome, Program, Stop};
-use tx_kv::{Ts, Tx, Unopened, Value, Work, with_store};
+use tx_kv::{
+    Client, Failure, Fault, JournalId, Key, NotUpdated, Outcome, Program, Stop, Ts, Tx, Unopened,
+    Value, Work, with_store,
+};
 
 /// Puts a byte on the key `a`; refuses 0.
 #[derive(Drop)]
@@ -18,6 +20,7 @@ struct Zero;
 
 impl Work for Put {
     type Out = u8;
+
     type Err = Zero;
 
     fn apply<T: Tx>(&mut self, tx: &mut T) -> Result<u8, Failure<Zero>> {
@@ -74,6 +77,7 @@ fn told<J: JournalId, R: Wait>(client: &mut Client<'_, J, R>) -> Option<[Option<
 
 impl<R: Wait> Program<R> for Story {
     type Out = usize;
+
     type Answer = bool;
 
     fn run<J: JournalId>(&self, client: &mut Client<'_, J, R>) -> usize {

@@ -24,11 +24,11 @@ not_below j k lt = elim (cases_Bool (key_le j k)) [
 
 -- what is not at or below a key lies above it
 above : (j k : Key) → key_le j k ≡ false → IsTrue (key_lt k j)
-above j k no = elim (ordered j k) [
-  | inl lt ↦ absurd (let yes : key_le j k ≡ true = lt_le j k lt in cc (yes, no))
+above j k other = elim (ordered j k) [
+  | inl lt ↦ absurd (let yes : key_le j k ≡ true = lt_le j k lt in cc (yes, other))
   | inr more ↦ elim more [
     | inl same ↦ absurd (let yes : key_le j k ≡ true = subst (λ x. IsTrue (key_le x k)) (sym same) (le_itself k) in
-        cc (yes, no))
+        cc (yes, other))
     | inr lt ↦ lt
   ]
 ]
@@ -39,7 +39,7 @@ part_le [] from to = le_itself to
 part_le (b ∷ bs) from to = elim (cases_Bool (key_lt from b && key_lt b to)) [
   | inl is ↦ rw is (le_trans (part_end bs from b) b to (part_le bs from b)
       (lt_le b to (and_parts (key_lt from b) (key_lt b to) is).1))
-  | inr no ↦ rw no (part_le bs from to)
+  | inr other ↦ rw other (part_le bs from to)
 ]
 
 -- and above the first
@@ -47,7 +47,7 @@ pub part_above : (bs : List Key) (from to : Key) → IsTrue (key_lt from to) →
 part_above [] from to lt = lt
 part_above (b ∷ bs) from to lt = elim (cases_Bool (key_lt from b && key_lt b to)) [
   | inl is ↦ rw is (part_above bs from b (and_parts (key_lt from b) (key_lt b to) is).0)
-  | inr no ↦ rw no (part_above bs from to lt)
+  | inr other ↦ rw other (part_above bs from to lt)
 ]
 
 one_more : (k b : Key) (bs : List Key) → route (b ∷ bs) k ≡ cond (key_le b k) 1 0 + route bs k
@@ -70,11 +70,11 @@ same_region (b ∷ bs) from to k le lt = elim (cases_Bool (key_lt from b && key_
   | inl is ↦ (let here : IsTrue (key_lt k (part_end bs from b)) = rw is at lt in
       next b bs from k (both b from k (and_parts (key_lt from b) (key_lt b to) is).0
       (lt_then_le k (part_end bs from b) b here (part_le bs from b))) (same_region bs from b k le here))
-  | inr no ↦ (let here : IsTrue (key_lt k (part_end bs from to)) = rw no at lt in
+  | inr other ↦ (let here : IsTrue (key_lt k (part_end bs from to)) = rw other at lt in
       next b bs from k (elim (cases_Bool (key_le b from)) [
         | inl below ↦ (let there : key_le b k ≡ true = le_trans b from k below le in there ∙ sym below)
-        | inr not ↦ (let up : key_lt from b ≡ true = above b from not in
-            let past : key_lt b to ≡ false = rw up at no in
+        | inr past_it ↦ (let up : key_lt from b ≡ true = above b from past_it in
+            let past : key_lt b to ≡ false = rw up at other in
             both b from k up (lt_then_le k to b (lt_then_le k (part_end bs from to) to here (part_le bs from to))
             (not_lt b to past)))
       ]) (same_region bs from to k le here))

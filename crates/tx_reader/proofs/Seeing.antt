@@ -162,12 +162,14 @@ pub held_of : (bounds : List Key) (read : Read) → IsOfOneRegion bounds read �
     → IsHeld bounds b
 held_of bounds (OfKey key) one at (body.Get b) is = held_at bounds b.key
 held_of bounds (OfKey key) one at b is = absurd is
-held_of bounds (Part from to limit) one at (body.Scan b) (low, high, most, time) = (
-  route bounds from,
-  (held_at bounds from).1,
-  λ k inside. one k
-      (subst (λ y. IsTrue (is_between from y k)) high (subst (λ x. IsTrue (is_between x b.to k)) low inside)),
-)
+held_of bounds (Part from to limit) one at (body.Scan b) (low, high, most, time) =
+    let (n, le, there) = held_at bounds from in (
+      n,
+      le,
+      λ k inside. one k
+          (subst (λ y. IsTrue (is_between from y k)) high (subst (λ x. IsTrue (is_between x b.to k)) low inside))
+          ∙ there,
+    )
 held_of bounds (Part from to limit) one at b is = absurd is
 
 -- what an answer to a read finds is what the machine sees

@@ -20,7 +20,11 @@ fn part_end<'k>(bounds: &'k [Key], from: &Key, to: &'k Key) -> &'k Key
     match bounds {
         [] => to,
         [bound, rest @ ..] => {
-            let end = if *from < *bound && *bound < *to { bound } else { to };
+            let end = if *from < *bound && *bound < *to {
+                bound
+            } else {
+                to
+            };
             part_end(rest, from, end)
         }
     }

@@ -265,8 +265,10 @@ module _ (tells : Key → Option Value → Type 0) where
           | inl t ↦ subst (λ i. IsTrue (key_lt j i)) t.1 (between_both low top j (h.within j a.0 a.1)).1
           | inr t ↦ absurd (let none : None ≡ Some b.0 = rw t.0 at b.1 in cc (none))
         ]
+
         value_top : value_in (xs ++ row_with top v ∷ []) top ≡ Some v
         value_top = value_behind xs (row_with top v ∷ []) top nothing_there ∙ own_value (row_with top v) []
+
         value_below : (k : Key) → IsTrue (key_lt k top) → value_in (xs ++ row_with top v ∷ []) k ≡ value_in xs k
         value_below k below = elim (has_or (value_in xs k)) [
           | inl there ↦ value_first xs (row_with top v ∷ []) k there.0 there.1 ∙ sym there.1
@@ -276,6 +278,7 @@ module _ (tells : Key → Option Value → Type 0) where
                 | inr t ↦ (let nothing : None ≡ Some w = rw t.0 at e in cc (nothing))
               ]) ∙ sym none)
         ]
+
         inside_of : (k : Key) (w : Value) → value_in (xs ++ row_with top v ∷ []) k ≡ Some w → IsTrue (upto k)
         inside_of k w e = elim (has_or (value_in xs k)) [
           | inl there ↦ (let both = between_both low top k (h.within k there.0 there.1) in

@@ -107,10 +107,10 @@ module _ (bounds : List Key) (entries : Entries) (known : History) (start : ℕ)
     within = λ k v e. absurd (let both = between_both from top k (h.within k v e) in
         lt_itself from (le_lt from k from both.0 (lt_trans k top from both.1 above)));
     each = λ k inside. absurd (
-      let both = and_split (key_le from k) (key_le k greatest) inside in
-      let below : IsTrue (key_le k top) = subst (λ t. IsTrue (key_le k t)) (sym is) both.1 in
-      lt_itself top (lt_then_le top from top above (le_trans from k top both.0 below))
-    );
+        let both = and_split (key_le from k) (key_le k greatest) inside in
+        let below : IsTrue (key_le k top) = subst (λ t. IsTrue (key_le k t)) (sym is) both.1 in
+        lt_itself top (lt_then_le top from top above (le_trans from k top both.0 below))
+        );
   }
 
 -- ---- what was entered
@@ -139,6 +139,7 @@ entered_found entries h start from to low high low_is high_is changes same old n
     ends : ◌≡◌ {A = Key × Option Key} (low, high) (begin_of from, to)
     ends = subst (λ (x : Key). ◌≡◌ {A = Key × Option Key} (low, high) (x, to)) low_is
         (subst (λ (y : Option Key). ◌≡◌ {A = Key × Option Key} (low, high) (low, y)) high_is refl)
+
     told : (k : Key) → IsTrue (is_in_range (Some low) high k)
         → value_in new k ≡ over (buffered entries k) (value_in old k)
     told k inside = entered.each k inside

@@ -86,11 +86,7 @@ fn know_bytes(bytes: &[u8])
 
 impl KeyRange {
     /// The range from a key, or from the least, and up to a key, or to the greatest.
-    pub fn new(
-        alloc: Global,
-        from: Option<Key>,
-        to: Option<Key>,
-    ) -> Result<KeyRange, Fault>
+    pub fn new(alloc: Global, from: Option<Key>, to: Option<Key>) -> Result<KeyRange, Fault>
         ensures { IfOk result (λ range. (range.from ≡ begin_of from) × (range.to ≡ to)) }
     {
         let from = match from {

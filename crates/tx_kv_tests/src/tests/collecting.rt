@@ -10,7 +10,9 @@ use tx_kv::{Client, JournalId, Key, Program, Stop, Ts, with_store};
 struct Story;
 
 // What is dropped, what is seen after that, and whether what was before is refused.
-fn dropped<J: JournalId, R: Wait>(client: &mut Client<'_, J, R>) -> Option<(u64, Option<u8>, bool)> {
+fn dropped<J: JournalId, R: Wait>(
+    client: &mut Client<'_, J, R>,
+) -> Option<(u64, Option<u8>, bool)> {
     drop(client.update(&mut Put(1)).ok()?);
     let one = client.timestamp().ok()?;
     drop(client.update(&mut Put(2)).ok()?);
@@ -21,11 +23,16 @@ fn dropped<J: JournalId, R: Wait>(client: &mut Client<'_, J, R>) -> Option<(u64,
     }
     let collected = client.collect(Ts::new(u64::MAX)).ok()?;
     let refused = matches!(byte_at(client, one), Err(Stop::BelowSafePoint));
-    Some((collected.dropped.records, byte_at(client, two).ok()?, refused))
+    Some((
+        collected.dropped.records,
+        byte_at(client, two).ok()?,
+        refused,
+    ))
 }
 
 impl<R: Wait> Program<R> for Story {
     type Out = ();
+
     type Answer = Option<(u64, Option<u8>, bool)>;
 
     fn run<J: JournalId>(&self, client: &mut Client<'_, J, R>) {
@@ -91,6 +98,7 @@ fn take<J: JournalId, R: Wait>(held: &Held, client: &mut Client<'_, J, R>) -> Op
 
 impl<R: Wait> Program<R> for Held {
     type Out = Option<u8>;
+
     type Answer = Option<[u8; 3]>;
 
     fn begin<J: JournalId>(&mut self, client: &mut Client<'_, J, R>) {

@@ -9,6 +9,7 @@ struct Hello;
 
 impl Work for Hello {
     type Out = ();
+
     type Err = ();
 
     fn apply<T: Tx>(&mut self, tx: &mut T) -> Result<(), Failure<()>> {
@@ -24,6 +25,7 @@ struct Greet;
 
 impl<R: Wait> Program<R> for Greet {
     type Out = bool;
+
     type Answer = usize;
 
     fn run<J: JournalId>(&self, client: &mut Client<'_, J, R>) -> bool {

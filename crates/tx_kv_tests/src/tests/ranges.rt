@@ -1,8 +1,10 @@
 //! Ranges of more rows than a page has: with what was entered over them, and as they were before.
 use std::sync::Wait;
 use std::test::Fail;
-use tx_kv::{Client, Failure, JournalId, Key, KeyValues, Mode, Program};
-use tx_kv::{Stop, Terms, Ts, Tx, Value, Work, with_store};
+use tx_kv::{
+    Client, Failure, JournalId, Key, KeyValues, Mode, Program, Stop, Terms, Ts, Tx, Value, Work,
+    with_store,
+};
 
 // How many rows one transaction puts.
 const ROWS: u16 = 600;
@@ -25,6 +27,7 @@ struct Fill(u16);
 
 impl Work for Fill {
     type Out = ();
+
     type Err = ();
 
     fn apply<T: Tx>(&mut self, tx: &mut T) -> Result<(), Failure<()>> {
@@ -45,6 +48,7 @@ fn count(rows: &KeyValues) -> usize {
 
 impl Work for Look {
     type Out = [usize; 6];
+
     type Err = ();
 
     fn apply<T: Tx>(&mut self, tx: &mut T) -> Result<[usize; 6], Failure<()>> {
@@ -85,6 +89,7 @@ struct Story;
 
 impl<R: Wait> Program<R> for Story {
     type Out = ();
+
     type Answer = Option<([usize; 6], [usize; 4])>;
 
     fn run<J: JournalId>(&self, client: &mut Client<'_, J, R>) {
