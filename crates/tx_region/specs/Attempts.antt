@@ -1,5 +1,5 @@
 -- One try of a request, which stays in one place: its copy, the plan of that, and the answer.
-use Rattle.std.specs.Prelude.{◌≡◌, ◌⊎◌, ℕ, List, Option, Some, None}
+use Rattle.std.specs.Prelude.{ℕ, List, Option, Some, None}
 use Rattle.tx_types.specs.declared.key.Key.{Key}
 use Rattle.tx_plan.specs.declared.answer.Answer.{Answer}
 use Rattle.tx_plan.specs.declared.body.Body.{Body}
@@ -10,9 +10,6 @@ use Rattle.tx_journal.specs.Replies.{Asked}
 use Rattle.tx_region.specs.Planning.{Copied, PlanOf, CarriesPlan, ComesOf}
 use Rattle.tx_region.specs.declared.applied.Applied.{Applied}
 use Rattle.tx_region.specs.declared.applied.Applied.TheVariants.{Done, Stale}
-use Rattle.tx_region.specs.declared.copy.KeyView.{KeyView}
-use Rattle.tx_region.specs.declared.copy.Loaded.{Loaded}
-use Rattle.tx_region.specs.declared.copy.RegionNumbers.{RegionNumbers}
 
 -- a try: the copy, if it was made, the plan of that, if it was planned, and the answer
 pub record Tried : Type 0 where

@@ -30,7 +30,7 @@ ghost use Rattle.tx_region.specs.Calls.{CarriesOut, Counts};
 ghost use Rattle.tx_region.specs.Copies.{IsOfKey, key_in, Sees, SeesRead, SeesTxn, SeesPrewrite, made, MayMake};
 ghost use Rattle.tx_region.specs.Planning.{StayedKey};
 
-use crate::copy::{KeyView, RegionNumbers, no_view};
+use crate::copy::{KeyView, RegionNumbers};
 use crate::planning::key_of;
 use std::alloc::Global;
 use std::mem::replace;
@@ -128,6 +128,26 @@ impl<F: Families> Records<F> {
         let key = EncodedKey::new(self.alloc, key)?;
         let copy = self.families.cells(self.alloc, &key)?;
         ShownKey::new(self.alloc, copy)
+    }
+
+    // What a request of a transaction sees of its key.
+    fn txn_view(&self, key: &SpeltKey<'_>, start: Ts, commit: Ts) -> Result<KeyView, Fault>
+        ensures ok { IfOk result (λ view. SeesTxn ((region_of F.content self.now 0).cells key.now) start commit view) }
+        ensures err { IfErr result (λ e. e ≡ Fault.OutOfMemory) }
+    {
+        let view = self.families.view(self.alloc, key, start, commit)?;
+        Ok(KeyView::Txn(view))
+    }
+
+    // What a prewrite sees of its key.
+    fn prewrite_view(&self, key: &SpeltKey<'_>, body: &Prewrite) -> Result<KeyView, Fault>
+        ensures ok { IfOk result (λ view. SeesPrewrite ((region_of F.content self.now 0).cells key.now) body.now
+            view) }
+        ensures err { IfErr result (λ e. e ≡ Fault.OutOfMemory) }
+    {
+        let view = self.families.view(self.alloc, key, body.start, body.start)?;
+        let has_value = self.has_value(key, body)?;
+        Ok(KeyView::Prewrite { view, has_value })
     }
 
     // Leaves what a read sees of its key at a place.
@@ -242,9 +262,22 @@ impl<F: Families> Records<F> {
         ensures ok { IfOk result (λ view. Sees (region_of F.content self.now 0).cells body.now view) }
         ensures err { IfErr result (λ e. e ≡ Fault.OutOfMemory) }
     {
-        let mut view = no_view();
-        self.view_into(key, body, &mut view)?;
-        Ok(view)
+        match body {
+            Body::Get(body) => {
+                let view = self.families.read(self.alloc, key, body.at)?;
+                Ok(KeyView::Read(view))
+            }
+            Body::Prewrite(body) => self.prewrite_view(key, body.asked()),
+            Body::Commit(body) => self.txn_view(key, body.start, body.commit),
+            Body::BatchRollback(body) => self.txn_view(key, body.start, body.start),
+            Body::TxnHeartBeat(body) => self.txn_view(key, body.start, body.start),
+            Body::CheckTxnStatus(body) => self.txn_view(key, body.start, body.start),
+            Body::CheckSecondaryLocks(body) => self.txn_view(key, body.start, body.start),
+            Body::ResolveLock(body) => self.txn_view(key, body.start, body.commit()),
+            Body::Scan(_) | Body::RaiseSafe(_) | Body::LocksBelow(_) | Body::Collect(_) => {
+                unreachable!()
+            }
+        }
     }
 
     // Whether a key, the safe point and the last collection stayed since these numbers were
