@@ -146,7 +146,9 @@ pub fn played<J: JournalId, F: Families + Drop, M: Makes<F>>(
     requires six { J.seats ≡ 6 }
 {
     let families = make.make(alloc).ok()?;
-    let (journal, mut seats) = opened.named::<J>(alloc).ok()?;
+    let Ok((journal, mut seats)) = opened.named::<J>(alloc) else {
+        return None;
+    };
     let of = seats.swap_remove(0);
     let seat = seats.swap_remove(0);
     let resolver = seats.swap_remove(0);
