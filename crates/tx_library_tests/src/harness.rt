@@ -240,6 +240,19 @@ fn harness_over<'a, J: JournalId, R: Wait>(
     })
 }
 
+fn play_over<J: JournalId, R: Wait>(
+    rt: &R,
+    alloc: Global,
+    store: &Store<J, NestedCells>,
+    seats: Vec<Seat<J>>,
+    steps: &[Step],
+) -> Option<Tally> {
+    let mut harness = harness_over(rt, alloc, store, seats)?;
+    let played = harness.play(steps);
+    drop(harness);
+    Some(played)
+}
+
 fn play<J: JournalId, R: Wait>(
     rt: &R,
     alloc: Global,
@@ -250,11 +263,9 @@ fn play<J: JournalId, R: Wait>(
     requires three { length J.bounds ≡ 2 }
 {
     let (store, seats) = open::<J, NestedCells, Plain>(alloc, opened, &Plain, 3)?;
-    let mut harness = harness_over(rt, alloc, &store, seats)?;
-    let played = harness.play(steps);
-    drop(harness);
+    let played = play_over(rt, alloc, &store, seats, steps);
     drop(store);
-    Some(played)
+    played
 }
 
 // The keys between the regions.

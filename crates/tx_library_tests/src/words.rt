@@ -3,7 +3,7 @@ use crate::calls::Came;
 use tx_client::{Miss, Response, Status, WaitCause};
 use tx_core::{Answer, Outcome, UnknownCause};
 use tx_resolve::Counts;
-use tx_types::{Fault, KeyValues};
+use tx_types::{Fault, KeyValues, Ts};
 
 /// What a call answers, in short: a word and a number.
 pub type Short = (&'static str, u64);
@@ -106,13 +106,28 @@ pub fn by_fault(fault: Fault) -> Short {
     }
 }
 
+// What a call comes to that gives nothing.
+fn by_change(response: Result<(), Fault>) -> Short {
+    match response {
+        Ok(()) => OK,
+        Err(fault) => by_fault(fault),
+    }
+}
+
+// What a call comes to that draws a timestamp.
+fn by_draw(response: Result<Ts, Fault>) -> Short {
+    match response {
+        Ok(drawn) => ("drawn", drawn.get()),
+        Err(fault) => by_fault(fault),
+    }
+}
+
 /// What a call comes to.
 pub fn by_call(came: Came) -> Short {
     match came {
         Came::Order => ORDER,
-        Came::Changed(Ok(())) => OK,
-        Came::Drawn(Ok(commit)) => ("drawn", commit.get()),
-        Came::Changed(Err(fault)) | Came::Drawn(Err(fault)) => by_fault(fault),
+        Came::Changed(response) => by_change(response),
+        Came::Drawn(response) => by_draw(response),
         Came::Answered(response) => by_phase(response),
     }
 }

@@ -8,6 +8,7 @@ use crate::table_tests::shown::{Short, Word, answered, is};
 use std::alloc::Global;
 use tx_cells::{Families, Makes};
 use tx_client::{Miss, Session};
+use tx_core::Answer;
 use tx_journal::{JournalId, Opened, Seat};
 
 /// Which session, how its request is handled, what it does, and what it hears. Sessions have their
@@ -29,11 +30,19 @@ struct Seats<J: JournalId> {
     sessions: Vec<Session<J>>,
 }
 
+// What is heard of a request.
+fn heard_reply(response: Result<Option<Answer>, Miss>) -> Short {
+    match response {
+        Ok(Some(answer)) => answered(Ok(answer)),
+        Ok(None) | Err(Miss::Lost) => SILENT,
+        Err(Miss::Fault) => (Word::Refused, 0, 0),
+    }
+}
+
 // What is heard of a call.
 fn heard(came: Came) -> Short {
     match came {
-        Came::Answered(Ok(Some(answer))) => answered(Ok(answer)),
-        Came::Answered(Err(Miss::Fault)) => (Word::Refused, 0, 0),
+        Came::Answered(response) => heard_reply(response),
         other => {
             drop(other);
             SILENT
@@ -137,7 +146,9 @@ pub fn played<J: JournalId, F: Families + Drop, M: Makes<F>>(
     requires six { J.seats ≡ 6 }
 {
     let families = make.make(alloc).ok()?;
-    let (journal, mut seats) = opened.named::<J>(alloc).ok()?;
+    let Ok((journal, mut seats)) = opened.named::<J>(alloc) else {
+        return None;
+    };
     let of = seats.swap_remove(0);
     let seat = seats.swap_remove(0);
     let resolver = seats.swap_remove(0);

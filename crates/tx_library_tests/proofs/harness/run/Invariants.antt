@@ -2,4 +2,4 @@ use Rattle.tx_library_tests.proofs.harness.run.Given as goal
 
 -- the journal that was just opened
 abbrev pub ghosts-play : goal.ghosts-play
-ghosts-play a = record { table = a.opened.table; bounds = a.opened.bounds; seats = a.opened.seats }
+ghosts-play g a = record { table = a.opened.table; bounds = a.opened.bounds; seats = a.opened.seats }
