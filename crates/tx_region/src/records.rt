@@ -131,7 +131,7 @@ impl<F: Families> Records<F> {
     }
 
     // What a request of a transaction sees of its key.
-    fn txn_view(&self, key: &SpeltKey<'_>, start: Ts, commit: Ts) -> Result<KeyView, Fault>
+    fn txn_view(&self, key: &EncodedKey<'_>, start: Ts, commit: Ts) -> Result<KeyView, Fault>
         ensures ok { IfOk result (λ view. SeesTxn ((region_of F.content self.now 0).cells key.now) start commit view) }
         ensures err { IfErr result (λ e. e ≡ Fault.OutOfMemory) }
     {
@@ -140,7 +140,7 @@ impl<F: Families> Records<F> {
     }
 
     // What a prewrite sees of its key.
-    fn prewrite_view(&self, key: &SpeltKey<'_>, body: &Prewrite) -> Result<KeyView, Fault>
+    fn prewrite_view(&self, key: &EncodedKey<'_>, body: &Prewrite) -> Result<KeyView, Fault>
         ensures ok { IfOk result (λ view. SeesPrewrite ((region_of F.content self.now 0).cells key.now) body.now
             view) }
         ensures err { IfErr result (λ e. e ≡ Fault.OutOfMemory) }
