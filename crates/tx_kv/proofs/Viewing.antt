@@ -66,8 +66,8 @@ above_top bounds old known at from top is above rows h = record {
   within = λ k v e. absurd (let both = between_both from top k (h.within k v e) in
       lt_itself from (le_lt from k from both.0 (lt_trans k top from both.1 above)));
   each = λ k inside. absurd (
-    let both = and_split (key_le from k) (key_le k greatest) inside in
-    let below : IsTrue (key_le k top) = subst (λ t. IsTrue (key_le k t)) (sym is) both.1 in
-    lt_itself top (lt_then_le top from top above (le_trans from k top both.0 below))
-  );
+      let both = and_split (key_le from k) (key_le k greatest) inside in
+      let below : IsTrue (key_le k top) = subst (λ t. IsTrue (key_le k t)) (sym is) both.1 in
+      lt_itself top (lt_then_le top from top above (le_trans from k top both.0 below))
+      );
 }
