@@ -7,8 +7,8 @@ use tx_kv::{Client, Failure, JournalId, Key, Program, Stop, Tx, Value, Work, wit
 
 // The key of an account: two lie in each of the regions.
 fn key_of<T: Tx>(tx: &T, account: u8) -> Result<Key, Stop> {
-    const NAMES: [&[u8]; 4] = [b"ann", b"bob", b"sue", b"tom"];
-    Ok(Key::new(tx.alloc(), NAMES[usize::from(account) % 4])?)
+    let name = [b"ann", b"bob", b"sue", b"tom"][usize::from(account) % 4];
+    Ok(Key::new(tx.alloc(), name)?)
 }
 
 // What an account has: at first 100.
@@ -84,7 +84,6 @@ impl<R: Wait> Program<R> for Bank {
 }
 
 fn main(rt: HostRuntime) -> anyhow::Result<()> {
-    let total = with_store(&rt, rt.alloc(), &[b"m"], 2, Bank)?;
-    println!(rt; "4 accounts, {} in all", total.unwrap_or(0))?;
-    Ok(())
+    let total = with_store(&rt, rt.alloc(), &[b"m"], 2, Bank)?.unwrap_or(0);
+    Ok(println!(rt; "4 accounts, {total} in all")?)
 }

@@ -1,4 +1,3 @@
 pub mod Bounds
 pub mod Clients
 pub mod Telling
-pub mod Views

@@ -2,7 +2,6 @@
 ghost use Rattle.std.specs.Prelude.{◌≡◌};
 ghost use Rattle.tx_kv.specs.Clients.{Updates};
 
-use crate::live::Live;
 use crate::updated::{NotUpdated, Updated, told_of};
 use std::alloc::Global;
 use std::marker::Model;
@@ -12,7 +11,7 @@ use tx_journal::JournalId;
 use tx_nested::NestedCells;
 use tx_simple::{Seats, Work, update};
 use tx_store::{Store, Wire};
-use tx_types::{Mode, Ts};
+use tx_types::Mode;
 
 /// How long the locks of a client live, in ticks, where it does not say.
 const TTL: u32 = 1_000;
@@ -27,7 +26,6 @@ pub struct Client<'a, J: JournalId, R: Wait> {
     pub(crate) rt: &'a R,
     pub(crate) alloc: Global,
     pub(crate) store: &'a Store<J, NestedCells>,
-    pub(crate) live: &'a Live,
     number: usize,
     /// They are there between two calls.
     pub(crate) seats: Option<Seats<J>>,
@@ -52,7 +50,6 @@ impl<'a, J: JournalId, R: Wait> Client<'a, J, R> {
         rt: &'a R,
         alloc: Global,
         store: &'a Store<J, NestedCells>,
-        live: &'a Live,
         number: usize,
         seats: Seats<J>,
     ) -> Client<'a, J, R>
@@ -62,7 +59,6 @@ impl<'a, J: JournalId, R: Wait> Client<'a, J, R> {
             rt,
             alloc,
             store,
-            live,
             number,
             seats: Some(seats),
             terms: Terms {
@@ -82,16 +78,6 @@ impl<'a, J: JournalId, R: Wait> Client<'a, J, R> {
     /// Where it takes memory.
     pub fn alloc(&self) -> Global {
         self.alloc
-    }
-
-    /// It reads at this timestamp or above until it leaves.
-    pub(crate) fn enter(&self, at: Ts) {
-        self.live.enter(self.number, at);
-    }
-
-    /// It reads nowhere.
-    pub(crate) fn leave(&self) {
-        self.live.leave(self.number);
     }
 
     /// It is to write under these terms, and to try a transaction again so often.
@@ -126,16 +112,14 @@ impl<'a, J: JournalId, R: Wait> Client<'a, J, R> {
     pub fn update<W: Work>(&mut self, work: &mut W) -> Result<Updated<W::Out>, NotUpdated<W::Err>>
         ensures { Updates W.does J.bounds self.old work.old result self.new work.new }
     {
-        let Some(mut seats) = self.seats.take() else {
+        let Some(seats) = self.seats.take() else {
             unreachable!()
         };
-        self.enter(seats.resolves.last());
         let mut wire = Wire::new(self.rt, self.store);
         wire.show();
         let came = update(self.alloc, seats, self.terms, self.again, work, &mut wire);
         let (told, seats) = told_of(came);
         self.seats = Some(seats);
-        self.leave();
         told
     }
 }

@@ -4,7 +4,6 @@ ghost use Rattle.tx_cells.specs.Contents.{nothing_held};
 ghost use Rattle.tx_nested.specs.Nested.{nested_content};
 
 use crate::client::Client;
-use crate::live::Live;
 use crate::opening::{journal, store};
 use crate::unopened::Unopened;
 use std::alloc::Global;
@@ -74,12 +73,11 @@ fn run_one<J: JournalId, R: Wait, P: Program<R>>(
     rt: &R,
     alloc: Global,
     store: &Store<J, NestedCells>,
-    live: &Live,
     program: &P,
     job: Job<J>,
 ) -> P::Out {
     let Job { number, seats } = job;
-    let mut client = Client::new(rt, alloc, store, live, number, seats);
+    let mut client = Client::new(rt, alloc, store, number, seats);
     program.run(&mut client)
 }
 
@@ -88,15 +86,10 @@ fn run_each<J: JournalId + Send + Sync, R: Threads + Wait + Sync, P: Program<R>>
     rt: &R,
     alloc: Global,
     store: &Store<J, NestedCells>,
-    live: &Live,
     program: &P,
     jobs: Vec<Job<J>>,
 ) -> Result<Vec<P::Out>, Fault> {
-    Ok(map_vec(
-        rt,
-        jobs,
-        &|job| run_one(rt, alloc, store, live, program, job),
-    )?)
+    Ok(map_vec(rt, jobs, &|job| run_one(rt, alloc, store, program, job))?)
 }
 
 // Runs a program over a journal that was opened.
@@ -116,10 +109,9 @@ fn run_over<J: JournalId + Send + Sync, R: Threads + Wait + Sync, P: Program<R>>
         return Err(Unopened::TooMany);
     };
     let jobs = jobs(alloc, pairs)?;
-    let live = Live::new(alloc, jobs.len().saturating_add(1))?;
-    let mut client = Client::new(rt, alloc, &store, &live, jobs.len(), first);
+    let mut client = Client::new(rt, alloc, &store, jobs.len(), first);
     program.begin(&mut client);
-    let outs = run_each(rt, alloc, &store, &live, &program, jobs)?;
+    let outs = run_each(rt, alloc, &store, &program, jobs)?;
     let answer = program.end(&mut client, outs);
     drop(client);
     Ok(answer)

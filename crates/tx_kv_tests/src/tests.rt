@@ -1,5 +1,4 @@
 //! A store that is opened, written, and read as it was before.
-mod collecting;
 mod first;
 mod ranges;
 
@@ -39,7 +38,7 @@ fn byte_at<J: JournalId, R: Wait>(
     at: Ts,
 ) -> Result<Option<u8>, Stop> {
     let key = Key::new(client.alloc(), b"a")?;
-    let found = client.view_at(at).get(&key)?;
+    let found = client.get_at(at, &key)?;
     Ok(found.and_then(|value| value.as_bytes().first().copied()))
 }
 

@@ -1,6 +1,6 @@
 use Rattle.std.proofs.Common.{◌≡◌}
 use Rattle.tx_reader.specs.Readers.{OnlySees}
-use Rattle.tx_reader.proofs.reader.Reader.look_past.Given as goal
+use Rattle.tx_reader.proofs.reader.Reader.get.Given as goal
 
 -- it reads at the same timestamp, and its seat has only seen what others did
 abbrev pub invariant-loop : goal.invariant-loop
