@@ -17,13 +17,13 @@ trait Sender<Q, R> {
 
 // A region that is refused memory for each answer, what it last replied, and the last request.
 #[derive(Drop)]
-struct Post<J: JournalId> {
+struct Refuser<J: JournalId> {
     region: Seat<J>,
     newest: Told<J>,
     held: Option<Request<J>>,
 }
 
-impl<J: JournalId> Sender<Request<J>, Reply<J>> for Post<J> {
+impl<J: JournalId> Sender<Request<J>, Reply<J>> for Refuser<J> {
     fn send(&mut self, mut request: Request<J>) -> Option<Reply<J>> {
         let copy = request.clone(&self.region).ok();
         drop(replace(&mut self.held, copy));
@@ -70,7 +70,7 @@ fn told_of<J: JournalId>(reply: Reply<J>) -> Told<J> {
 #[derive(Drop)]
 struct Engine<J: JournalId> {
     session: Session<J>,
-    post: Post<J>,
+    refuser: Refuser<J>,
 }
 
 impl<J: JournalId> Engine<J> {
@@ -78,7 +78,7 @@ impl<J: JournalId> Engine<J> {
         let newest = region.tell();
         Engine {
             session: Session { seat: session },
-            post: Post {
+            refuser: Refuser {
                 region,
                 newest,
                 held: None,
@@ -87,7 +87,7 @@ impl<J: JournalId> Engine<J> {
     }
 
     fn get(&mut self) -> bool {
-        self.session.get::<Post<J>>(&mut self.post) && self.post.held.is_some()
+        self.session.get::<Refuser<J>>(&mut self.refuser) && self.refuser.held.is_some()
     }
 }
 
