@@ -35,7 +35,7 @@ module _ (bounds : List Key) (number : ℕ) (line : List ℕ) (e next : Held) wh
   end_same : (f : Found) → FitsFound f turned.End → FoundTurned bounds number f line turned.End e next
       → next.network.newest ≡ e.network.newest
   end_same found.Line fits same = absurd fits
-  end_same found.Long fits same = same
+  end_same found.Long fits same = absurd (cc (fits))
   end_same found.End fits same = same
 
 reply_ahead : (f : Found) (line : List ℕ) (left : Option (List ℕ)) (ahead : List (List ℕ)) (reply : ScriptReply)
